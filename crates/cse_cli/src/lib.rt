@@ -1,0 +1,13 @@
+//! The program's command line over the world outside: `run` takes the words, the streams, the door and the benches,
+//! and answers with the status. Beside it stand the adapters that make these of the real devices. An adapter counts
+//! the errors of its device and tells nothing of what the device gave or took.
+#![tactic(auto)]
+
+mod adapters;
+mod command;
+
+pub use adapters::{StdIn, StdOut, SystemClock, words};
+pub use command::run;
+
+#[cfg(test)]
+mod tests;

@@ -1,0 +1,11 @@
+//! What serves connections. So far it has what each of its threads is handed: a bench.
+#![tactic(auto)]
+
+use m2m_io::{Clock, Link};
+
+/// What one worker works with: a clock to tell the time, and a link to the neighbours.
+#[derive(Debug, Drop)]
+pub struct Bench<C: Clock, L: Link> {
+    pub clock: C,
+    pub link: L,
+}

@@ -1,0 +1,2 @@
+mod ClockLemmas
+pub mod ToldLemmas

@@ -1,0 +1,10 @@
+pub mod Clock
+pub mod Conn
+pub mod Counts
+pub mod Door
+pub mod Link
+pub mod LinkFault
+pub mod Sink
+pub mod Source
+pub mod Status
+pub mod Told

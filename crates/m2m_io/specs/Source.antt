@@ -1,0 +1,17 @@
+-- A source of bytes in memory.
+use Rattle.std.specs.Prelude.{ℕ, ◌+◌, min, List, length, Option, None, Some, slice_get}
+use Rattle.m2m_io.specs.Counts.{Calls}
+
+-- the bytes that are left, the most that each read gives, in order of the calls, and the calls so far
+pub record Feed : Type 0 where
+  pub left : List ℕ
+  pub cuts : List ℕ
+  pub calls : Calls
+
+-- how many bytes the read after these calls gives where there is room for so many: as many as are left, and at
+-- most its cut, where it has one
+abbrev pub count_of : Feed → ℕ → ℕ
+count_of feed room = elim (slice_get feed.cuts feed.calls.made) [
+  | None ↦ min room (length feed.left)
+  | Some cut ↦ min cut (min room (length feed.left))
+]

@@ -1,0 +1,114 @@
+//! A connection in memory.
+ghost use Rattle.std.specs.Prelude.{◌≡◌, ◌<◌, ◌≤◌, ◌++◌, ◌||◌, ◌&&◌, Some, false, length, is_err, is_ok, IfOk, OnOk, OnErr, if◌then◌else◌};
+ghost use Rattle.std.specs.Io.{ReadsAtMost};
+ghost use Rattle.std.specs.Io.KnownBytes.{ReadConsumes, Appends};
+ghost use Rattle.std.specs.Str.{bytes_eq};
+ghost use Rattle.m2m_io.specs.Counts.{Rose, fails_next, after_call, after_fault};
+ghost use Rattle.m2m_io.specs.Source.{count_of};
+ghost use Rattle.m2m_io.specs.Told.{AppendsPrefix};
+
+use crate::{Failed, MemSink, MemSource, Sink, Source};
+use std::marker::Model;
+use std::sync::Arc;
+use std::sync::atomic::{AtomicU64, Ordering};
+
+/// A connection in memory, for doors: it is read from a source and written to a sink, and reports when what was
+/// written is what was expected.
+#[derive(Drop)]
+pub struct MemConn {
+    input: MemSource,
+    out: MemSink,
+    expected: Vec<u8>,
+    right: Arc<AtomicU64>,
+    was_right: bool,
+}
+
+impl Model for MemConn {
+    ghost use Rattle.m2m_io.specs.Conn.{Talk};
+
+    ghost Value = { Talk };
+
+    ghost view = { λ c. record {
+      input = c.input;
+      out = c.out;
+      expected = c.expected.items;
+      was_right = c.was_right;
+    } };
+}
+
+impl MemConn {
+    /// A connection that adds one to `right` at the first put that leaves just the bytes `expected` in `out`.
+    pub fn new(input: MemSource, out: MemSink, expected: Vec<u8>, right: Arc<AtomicU64>) -> Self
+        ensures input { result.input ≡ input }
+        ensures out { result.out ≡ out }
+        ensures expected { result.expected ≡ expected.items }
+        ensures was_right { result.was_right ≡ false }
+    {
+        MemConn {
+            input,
+            out,
+            expected,
+            right,
+            was_right: false,
+        }
+    }
+}
+
+impl Source for MemConn {
+    ghost left = { λ c. Some c.input.left };
+
+    ghost faults = { λ c. c.input.calls.faults };
+
+    fn read(&mut self, buf: &mut [u8]) -> Result<usize, Failed>
+        requires room { 0 < length buf.old }
+        ensures bound { ReadsAtMost result buf.new }
+        ensures bytes { ReadConsumes (Some self.old.input.left) (Some self.new.input.left) result buf.new }
+        ensures count { self.old.input.calls.faults ≤ self.new.input.calls.faults }
+        ensures cause { OnErr result (Rose self.old.input.calls.faults self.new.input.calls.faults) }
+
+        // It is read as its input is, and nothing else of it changes.
+        ensures variant { is_err result ≡ fails_next self.old.input.calls }
+        ensures given { IfOk result (λ n. n ≡ count_of self.old.input (length buf.old)) }
+        ensures same { self.new ≡ record self.old {
+          input = record {
+            left = self.new.input.left;
+            cuts = self.old.input.cuts;
+            calls = if is_ok result then after_call self.old.input.calls else after_fault self.old.input.calls;
+          };
+        } }
+    {
+        self.input.read(buf)
+    }
+}
+
+impl Sink for MemConn {
+    ghost written = { λ c. Some c.out.written };
+
+    ghost faults = { λ c. c.out.calls.faults };
+
+    fn put(&mut self, bytes: &[u8]) -> Result<(), Failed>
+        ensures ok { OnOk result (Appends (Some self.old.out.written) (Some self.new.out.written) bytes.now) }
+        ensures err { OnErr result
+            (AppendsPrefix (Some self.old.out.written) (Some self.new.out.written) bytes.now) }
+        ensures count { self.old.out.calls.faults ≤ self.new.out.calls.faults }
+        ensures cause { OnErr result (Rose self.old.out.calls.faults self.new.out.calls.faults) }
+
+        // It is written as its sink is, and was right from the first put on that left just what was expected.
+        ensures fails { OnOk result (fails_next self.old.out.calls ≡ false) }
+        ensures whole { self.new.out.written
+            ≡ (if is_ok result then self.old.out.written ++ bytes.now else self.old.out.written) }
+        ensures calls { self.new.out.calls
+            ≡ (if is_ok result then after_call self.old.out.calls else after_fault self.old.out.calls) }
+        ensures right { self.new.was_right
+            ≡ (self.old.was_right || (is_ok result && bytes_eq self.new.out.written self.old.expected)) }
+        ensures input { self.new.input ≡ self.old.input }
+        ensures expected { self.new.expected ≡ self.old.expected }
+    {
+        self.out.put(bytes)?;
+        if !self.was_right && self.out.written() == self.expected.as_slice() {
+            self.was_right = true;
+            self.right.fetch_add(1, Ordering::SeqCst);
+        }
+        Ok(())
+    }
+}

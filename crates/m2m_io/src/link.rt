@@ -1,0 +1,314 @@
+//! What carries a request to a neighbour and brings its answer.
+ghost use Rattle.std.specs.Prelude.{◌≡◌, ◌≤◌, ◌++◌, ◌∷◌, [], ℕ, List, Option, None, Some, false, true, map, OnOk, OnErr, IfOk, IsErr, IsErrOf, IsNone, if◌then◌else◌};
+ghost use Rattle.std.specs.Option.{option_map};
+ghost use Rattle.m2m_io.specs.declared.fault.LinkFault.TheVariants.{Failed as failed, OutOfMemory as starved};
+ghost use Rattle.m2m_io.specs.Counts.{Rose, is_exact, no_calls};
+ghost use Rattle.m2m_io.specs.Link.{Exchange, TellsExchange, Answers, TakesAnswer, fails_next_exchange, told_after, calls_after};
+
+use crate::LinkFault;
+use crate::calls::Calls;
+use std::alloc::{AllocError, Global};
+use std::collections::VecDeque;
+use std::marker::Model;
+
+/// What carries a request to a neighbour and brings its answer.
+pub trait Link {
+    /// The exchanges made so far, in order, where the link tells them.
+    ghost exchanges: { Self → Option (List Exchange) };
+
+    /// How often the link has failed. The count stops at 2^64 - 1.
+    ghost faults: { Self → ℕ };
+
+    /// Sends the bytes of a request to a host, which stands as `host:port`, and appends the bytes of the answer
+    /// to `reply`. After a fault `reply` is as it was.
+    fn exchange(
+        &mut self,
+        alloc: Global,
+        host: &[u8],
+        request: &[u8],
+        reply: &mut Vec<u8>,
+    ) -> Result<(), LinkFault>
+        ensures ok { OnOk result (Answers (exchanges self.old) (exchanges self.new)
+            host.now request.now reply.old.items reply.new.items) }
+        ensures err { OnErr result (reply.new.items ≡ reply.old.items) }
+        ensures fails { IsErrOf result failed → TellsExchange (exchanges self.old) (exchanges self.new)
+            (record { host = host.now; request = request.now; answer = None }) }
+        ensures memory { IsErrOf result starved → IsNone (exchanges self.new) }
+        ensures count { faults self.old ≤ faults self.new }
+        ensures cause { IsErrOf result failed → Rose (faults self.old) (faults self.new) };
+}
+
+/// One exchange that a link in memory has made.
+#[derive(Debug, Drop)]
+pub struct Exchanged {
+    host: Vec<u8>,
+    request: Vec<u8>,
+    answer: Option<Vec<u8>>,
+}
+
+impl Model for Exchanged {
+    ghost use Rattle.std.specs.Option.{option_map};
+    ghost use Rattle.m2m_io.specs.Link.{Exchange};
+
+    ghost Value = { Exchange };
+
+    ghost view = { λ e. record {
+      host = e.host.items;
+      request = e.request.items;
+      answer = option_map (λ a. a.items) e.answer;
+    } };
+}
+
+impl Exchanged {
+    fn new(
+        alloc: Global,
+        host: &[u8],
+        request: &[u8],
+        answer: Option<&[u8]>,
+    ) -> Result<Self, AllocError>
+        ensures { IfOk result (λ e. e ≡ record {
+          host = host.now;
+          request = request.now;
+          answer = option_map (λ a. a.now) answer.entry;
+        }) }
+    {
+        let host = Vec::from_slice(alloc, host)?;
+        let request = Vec::from_slice(alloc, request)?;
+        let answer = match answer {
+            None => None,
+            Some(bytes) => Some(Vec::from_slice(alloc, bytes)?),
+        };
+        Ok(Exchanged {
+            host,
+            request,
+            answer,
+        })
+    }
+
+    /// The host and port that were asked, as `host:port`.
+    pub fn host(&self) -> &[u8]
+        ensures { result.now ≡ self.now.host }
+    {
+        &self.host
+    }
+
+    /// The bytes of the request.
+    pub fn request(&self) -> &[u8]
+        ensures { result.now ≡ self.now.request }
+    {
+        &self.request
+    }
+
+    /// The bytes of the answer, or `None` where the exchange failed.
+    pub fn answer(&self) -> Option<&[u8]>
+        ensures { option_map (λ a. a.now) result ≡ self.now.answer }
+    {
+        match &self.answer {
+            None => None,
+            Some(bytes) => Some(bytes),
+        }
+    }
+}
+
+/// A link in memory. It gives its answers in order, and tells its exchanges until memory runs out in one of them
+/// or it has had 2^64 - 1 calls.
+#[derive(Debug, Drop)]
+pub struct MemLink {
+    answers: VecDeque<Vec<u8>>,
+    told: Option<Vec<Exchanged>>,
+    calls: Calls,
+}
+
+impl Model for MemLink {
+    ghost use Rattle.std.specs.Prelude.{map};
+    ghost use Rattle.std.specs.Option.{option_map};
+    ghost use Rattle.m2m_io.specs.Link.{Wire};
+
+    ghost Value = { Wire };
+
+    ghost view = { λ s. record {
+      answers = map (λ a. a.items) s.answers.items;
+      told = option_map (λ t. t.items) s.told;
+      calls = s.calls;
+    } };
+}
+
+/// Puts one more exchange behind those that are told, if any are; after want of memory none are.
+fn tell(
+    alloc: Global,
+    told: &mut Option<Vec<Exchanged>>,
+    host: &[u8],
+    request: &[u8],
+    answer: Option<&[u8]>,
+) -> Result<(), AllocError>
+    ensures ok { OnOk result (option_map (λ t. t.items) told.new ≡ option_map (λ t. t.items ++ record {
+      host = host.now;
+      request = request.now;
+      answer = option_map (λ a. a.now) answer.entry;
+    } ∷ []) told.old) }
+    ensures err { OnErr result (IsNone told.new) }
+{
+    let Some(list) = told else {
+        return Ok(());
+    };
+    match keep(alloc, list, host, request, answer) {
+        Ok(()) => Ok(()),
+        Err(e) => {
+            *told = None;
+            Err(e)
+        }
+    }
+}
+
+fn keep(
+    alloc: Global,
+    list: &mut Vec<Exchanged>,
+    host: &[u8],
+    request: &[u8],
+    answer: Option<&[u8]>,
+) -> Result<(), AllocError>
+    ensures { OnOk result (list.new.items ≡ list.old.items ++ record {
+      host = host.now;
+      request = request.now;
+      answer = option_map (λ a. a.now) answer.entry;
+    } ∷ []) }
+{
+    let exchanged = Exchanged::new(alloc, host, request, answer)?;
+    list.push(exchanged)?;
+    Ok(())
+}
+
+/// Appends an answer to the reply, and tells the exchange. After want of memory the reply is as it was.
+fn hand_over(
+    alloc: Global,
+    told: &mut Option<Vec<Exchanged>>,
+    host: &[u8],
+    request: &[u8],
+    answer: &[u8],
+    reply: &mut Vec<u8>,
+) -> Result<(), AllocError>
+    ensures told { OnOk result (option_map (λ t. t.items) told.new ≡ option_map (λ t. t.items ++ record {
+      host = host.now;
+      request = request.now;
+      answer = Some answer.now;
+    } ∷ []) told.old) }
+    ensures reply { OnOk result (reply.new.items ≡ reply.old.items ++ answer.now) }
+    ensures err { OnErr result (reply.new.items ≡ reply.old.items) }
+{
+    let start = reply.len();
+    reply.extend_from_slice(answer)?;
+    if let Err(e) = tell(alloc, told, host, request, Some(answer)) {
+        reply.truncate(start);
+        return Err(e);
+    }
+    Ok(())
+}
+
+impl MemLink {
+    /// A link that gives these answers, one at each exchange that isn't to fail. The exchanges whose numbers,
+    /// from 1, are in `fails` fail, and so does each one when no answer is left.
+    pub fn new(answers: Vec<Vec<u8>>, fails: Vec<u64>) -> Self
+        ensures answers { result.answers ≡ map (λ a. a.items) answers.items }
+        ensures told { result.told ≡ Some [] }
+        ensures calls { result.calls ≡ no_calls fails.items }
+    {
+        let alloc = *answers.allocator();
+        MemLink {
+            answers: VecDeque::from_vec(answers),
+            told: Some(Vec::new(alloc)),
+            calls: Calls::new(fails),
+        }
+    }
+
+    /// The exchanges made so far, in order, or `None` where they aren't told any more.
+    pub fn exchanges(&self) -> Option<&[Exchanged]>
+        ensures { option_map (λ t. t.now) result ≡ self.now.told }
+    {
+        match &self.told {
+            None => None,
+            Some(list) => Some(list),
+        }
+    }
+
+    /// Stops telling where the calls can't be counted any more.
+    fn hush(&mut self)
+        ensures { self.new ≡ record self.old {
+          told = if is_exact self.old.calls.made then self.old.told else None;
+        } }
+    {
+        if self.calls.made() == u64::MAX {
+            self.told = None;
+        }
+    }
+
+    /// An exchange that fails, or whose record finds no memory.
+    fn fail(&mut self, alloc: Global, host: &[u8], request: &[u8]) -> Result<(), LinkFault>
+        ensures never { IsErr result }
+        ensures told { IsErrOf result failed → self.new.told ≡ told_after self.old
+            (record { host = host.now; request = request.now; answer = None }) }
+        ensures memory { IsErrOf result starved → IsNone self.new.told }
+        ensures kept { self.new.answers ≡ self.old.answers }
+        ensures calls { self.new.calls ≡ calls_after self.old.calls result }
+        ensures count { self.old.calls.faults ≤ self.new.calls.faults }
+        ensures cause { IsErrOf result failed → Rose self.old.calls.faults self.new.calls.faults }
+    {
+        if let Err(_) = tell(alloc, &mut self.told, host, request, None) {
+            self.calls.count();
+            return Err(LinkFault::OutOfMemory);
+        }
+        self.calls.count_fault();
+        self.hush();
+        Err(LinkFault::Failed)
+    }
+}
+
+impl Link for MemLink {
+    ghost use Rattle.m2m_io.specs.Link.{Wire};
+
+    ghost exchanges = { λ s. s.told };
+
+    ghost faults = { λ s. s.calls.faults };
+
+    fn exchange(
+        &mut self,
+        alloc: Global,
+        host: &[u8],
+        request: &[u8],
+        reply: &mut Vec<u8>,
+    ) -> Result<(), LinkFault>
+        ensures ok { OnOk result
+            (Answers self.old.told self.new.told host.now request.now reply.old.items reply.new.items) }
+        ensures err { OnErr result (reply.new.items ≡ reply.old.items) }
+        ensures fails { IsErrOf result failed → TellsExchange self.old.told self.new.told
+            (record { host = host.now; request = request.now; answer = None }) }
+        ensures memory { IsErrOf result starved → IsNone self.new.told }
+        ensures count { self.old.calls.faults ≤ self.new.calls.faults }
+        ensures cause { IsErrOf result failed → Rose self.old.calls.faults self.new.calls.faults }
+
+        // An exchange that is answered takes the first answer; one that isn't takes none.
+        ensures answered { OnOk result
+            (TakesAnswer self.old self.new host.now request.now reply.old.items reply.new.items) }
+        ensures ready { OnOk result (fails_next_exchange self.old ≡ false) }
+        ensures due { IsErrOf result failed → fails_next_exchange self.old ≡ true }
+        ensures told { IsErrOf result failed → self.new.told ≡ told_after self.old
+            (record { host = host.now; request = request.now; answer = None }) }
+        ensures kept { OnErr result (self.new.answers ≡ self.old.answers) }
+        ensures calls { self.new.calls ≡ calls_after self.old.calls result }
+    {
+        if self.calls.is_next_to_fail() {
+            return self.fail(alloc, host, request);
+        }
+        let Some(answer) = self.answers.front() else {
+            return self.fail(alloc, host, request);
+        };
+        if let Err(_) = hand_over(alloc, &mut self.told, host, request, answer, reply) {
+            self.told = None;
+            self.calls.count();
+            return Err(LinkFault::OutOfMemory);
+        }
+        let _ = self.answers.pop_front();
+        self.calls.count();
+        self.hush();
+        Ok(())
+    }
+}

@@ -1,0 +1,94 @@
+//! Where bytes go to.
+ghost use Rattle.std.specs.Prelude.{◌≡◌, ◌≤◌, ◌++◌, ℕ, List, Option, Some, false, is_ok, OnOk, OnErr, if◌then◌else◌};
+ghost use Rattle.std.specs.Io.KnownBytes.{Appends};
+ghost use Rattle.m2m_io.specs.Counts.{Rose, no_calls, fails_next, after_call, after_fault};
+ghost use Rattle.m2m_io.specs.Told.{AppendsPrefix};
+
+use crate::Failed;
+use crate::calls::Calls;
+use std::marker::Model;
+
+/// A stream of bytes that is written at its end.
+pub trait Sink {
+    /// The bytes that were written, where the sink tells them.
+    ghost written: { Self → Option (List ℕ) };
+
+    /// How often the sink has failed. The count stops at 2^64 - 1.
+    ghost faults: { Self → ℕ };
+
+    /// Writes all the bytes. A call that failed wrote a prefix of them; a device that takes none of what is
+    /// left of them has failed.
+    fn put(&mut self, bytes: &[u8]) -> Result<(), Failed>
+        ensures ok { OnOk result (Appends (written self.old) (written self.new) bytes.now) }
+        ensures err { OnErr result (AppendsPrefix (written self.old) (written self.new) bytes.now) }
+        ensures count { faults self.old ≤ faults self.new }
+        ensures cause { OnErr result (Rose (faults self.old) (faults self.new)) };
+}
+
+/// A sink in memory. It fails at the calls that are to fail, and where the growth that a call needs is refused;
+/// then nothing was written.
+#[derive(Debug, Drop)]
+pub struct MemSink {
+    out: Vec<u8>,
+    calls: Calls,
+}
+
+impl Model for MemSink {
+    ghost use Rattle.m2m_io.specs.Sink.{Tape};
+
+    ghost Value = { Tape };
+
+    ghost view = { λ s. record { written = s.out.items; calls = s.calls } };
+}
+
+impl MemSink {
+    /// A sink that writes behind the bytes of `out`. The calls whose numbers, from 1, are in `fails` fail.
+    pub fn new(out: Vec<u8>, fails: Vec<u64>) -> Self
+        ensures written { result.written ≡ out.items }
+        ensures calls { result.calls ≡ no_calls fails.items }
+    {
+        MemSink {
+            out,
+            calls: Calls::new(fails),
+        }
+    }
+
+    /// The bytes that were written, with those that it began with.
+    pub fn written(&self) -> &[u8]
+        ensures { result.now ≡ self.now.written }
+    {
+        &self.out
+    }
+}
+
+impl Sink for MemSink {
+    ghost written = { λ s. Some s.written };
+
+    ghost faults = { λ s. s.calls.faults };
+
+    fn put(&mut self, bytes: &[u8]) -> Result<(), Failed>
+        ensures ok { OnOk result (Appends (Some self.old.written) (Some self.new.written) bytes.now) }
+        ensures err { OnErr result
+            (AppendsPrefix (Some self.old.written) (Some self.new.written) bytes.now) }
+        ensures count { self.old.calls.faults ≤ self.new.calls.faults }
+        ensures cause { OnErr result (Rose self.old.calls.faults self.new.calls.faults) }
+
+        // A call that is to fail fails, and one that failed wrote nothing.
+        ensures fails { OnOk result (fails_next self.old.calls ≡ false) }
+        ensures whole { self.new.written
+            ≡ (if is_ok result then self.old.written ++ bytes.now else self.old.written) }
+        ensures calls { self.new.calls
+            ≡ (if is_ok result then after_call self.old.calls else after_fault self.old.calls) }
+    {
+        if self.calls.is_next_to_fail() {
+            self.calls.count_fault();
+            return Err(Failed);
+        }
+        if let Err(_) = self.out.extend_from_slice(bytes) {
+            self.calls.count_fault();
+            return Err(Failed);
+        }
+        self.calls.count();
+        Ok(())
+    }
+}
