@@ -1,0 +1,11 @@
+pub mod AttributeLemmas
+pub mod CalendarLemmas
+pub mod DayLemmas
+pub mod LookupLemmas
+pub mod OperationLemmas
+pub mod StampLemmas
+pub mod StampReadingLemmas
+pub mod StatusLemmas
+pub mod StepLemmas
+pub mod TypeLemmas
+pub mod UrlLemmas

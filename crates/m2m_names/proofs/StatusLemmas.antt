@@ -1,0 +1,102 @@
+-- The table of status codes, and the numbers outside it.
+use Rattle.std.proofs.Common.{◌≡◌, ℕ, ◌∙◌, sym, ap, subst, Bool, true, false, ◌&&◌, ◌||◌, not, cond, List, [], ◌∷◌, Option, Some, None, refl, IsTrue, eqb}
+use Rattle.std.specs.List.{list_any, find}
+use Rattle.std.specs.Int.{is_in_range}
+use Rattle.std.specs.Option.{option_or}
+use Rattle.std.proofs.Props.{props}
+use mathlib.Core.HLevel.{is_prop→PathP}
+use Rattle.m2m_names.proofs.LookupLemmas.{same_key}
+use Rattle.m2m_names.specs.StatusNumbers.{is_other}
+use Rattle.m2m_names.specs.declared.codes.OtherNumber.{OtherNumber}
+use Rattle.m2m_names.specs.declared.codes.Rsc.{Rsc}
+use Rattle.m2m_names.specs.declared.codes.Rsc.TheVariants.{Ok as Fine, Created, Deleted, Updated, BadRequest, NotFound, NotAllowed, RequestTimeout, NoPrivilege, Conflict, BadChild, Internal, NotImplemented, NotReachable, NotSubscribable, NonBlocking, NotAcceptable, TooManyMembers, WrongMember, Other}
+use Rattle.m2m_names.specs.StatusCodes.{rsc_row, named_codes, named_code, other_code, rsc_of_number}
+
+none_step : {X : Type 0} (x : X) (here rest : Bool) (found : Option X) → (rest ≡ false → found ≡ None) → (here || rest) ≡ false → cond here (Some x) found ≡ None
+none_step x true rest found later e = let h : true ≡ false = e in cc
+none_step x false rest found later e = later e
+
+-- where no element passes, none is found
+find_none : {X : Type 0} (p : X → Bool) (xs : List X) → list_any p xs ≡ false → find p xs ≡ None
+find_none p [] e = refl
+find_none p (x ∷ xs) e = none_step x (p x) (list_any p xs) (find p xs) (find_none p xs) e
+
+any_step : {X : Type 0} (x : X) (here rest : Bool) (found : Option X) → (found ≡ None → rest ≡ false) → cond here (Some x) found ≡ None → (here || rest) ≡ false
+any_step x true rest found later e = let h : Some x ≡ None = e in cc
+any_step x false rest found later e = later e
+
+-- and the other way round
+any_none : {X : Type 0} (p : X → Bool) (xs : List X) → find p xs ≡ None → list_any p xs ≡ false
+any_none p [] e = refl
+any_none p (x ∷ xs) e = any_step x (p x) (list_any p xs) (find p xs) (any_none p xs) e
+
+both : (a b : Bool) → a ≡ true → b ≡ false → (a && not b) ≡ true
+both true false p q = refl
+both true true p q = sym q
+both false b p q = p
+
+range_of : (a b : Bool) → (a && not b) ≡ true → a ≡ true
+range_of true b e = refl
+range_of false b e = e
+
+unnamed_of : (a b : Bool) → (a && not b) ≡ true → b ≡ false
+unnamed_of true true e = sym e
+unnamed_of true false e = refl
+unnamed_of false b e = let h : false ≡ true = e in cc
+
+-- a number of four digits that no code with a name has is another number
+pub other_where : (n : ℕ) → is_in_range 1000 9999 n ≡ true → named_code n ≡ None → IsTrue (is_other n)
+other_where n range none = both _ _ range (any_none (λ r. eqb (rsc_row r).number n) named_codes none)
+
+-- and such a number has no code with a name
+pub unnamed_where : (n : ℕ) → IsTrue (is_other n) → named_code n ≡ None
+unnamed_where n other = find_none (λ r. eqb (rsc_row r).number n) named_codes (unnamed_of (is_in_range 1000 9999 n) _ other)
+
+-- there is one value for each other number
+pub same_other : (a b : OtherNumber) → a.number ≡ b.number → a ≡ b
+same_other a b p =
+    λ i. record {
+      number = p i;
+      outside = is_prop→PathP (λ j. IsTrue (is_other (p j))) (λ j. hlevel props) a.outside b.outside i;
+    }
+
+pub other_code-true : (n : ℕ) (b : Bool) (known : IsTrue b → IsTrue (is_other n)) (o : OtherNumber) → o.number ≡ n → b ≡ true → other_code n b known ≡ Some (Other o)
+other_code-true n true known o same e = ap (λ x. Some (Other x)) (same_other _ o (sym same))
+other_code-true n false known o same e = let h : false ≡ true = e in cc
+
+other_code-false : (n : ℕ) (b : Bool) (known : IsTrue b → IsTrue (is_other n)) → b ≡ false → other_code n b known ≡ None
+other_code-false n true known e = let h : true ≡ false = e in cc
+other_code-false n false known e = refl
+
+-- an other number is found as such
+pub other_again : (o : OtherNumber) (n : ℕ) → o.number ≡ n → named_code n ≡ None → rsc_of_number n ≡ Some (Other o)
+other_again o n same none =
+    let P : Option Rsc → Type 0 = λ found. option_or found (other_code n (is_other n) (λ h. h)) ≡ Some (Other o) in
+    subst P (sym none) (other_code-true n (is_other n) (λ h. h) o same (ap is_other (sym same) ∙ o.outside))
+
+-- each status code is found at its number
+pub rsc_again : (r : Rsc) → rsc_of_number (rsc_row r).number ≡ Some r
+rsc_again Fine = refl
+rsc_again Created = refl
+rsc_again Deleted = refl
+rsc_again Updated = refl
+rsc_again BadRequest = refl
+rsc_again NotFound = refl
+rsc_again NotAllowed = refl
+rsc_again RequestTimeout = refl
+rsc_again NoPrivilege = refl
+rsc_again Conflict = refl
+rsc_again BadChild = refl
+rsc_again Internal = refl
+rsc_again NotImplemented = refl
+rsc_again NotReachable = refl
+rsc_again NotSubscribable = refl
+rsc_again NonBlocking = refl
+rsc_again NotAcceptable = refl
+rsc_again TooManyMembers = refl
+rsc_again WrongMember = refl
+rsc_again (Other o) = other_again o o.number refl (unnamed_where o.number o.outside)
+
+-- status codes with one number are one status code
+pub same_rsc : (a b : Rsc) → (rsc_row a).number ≡ (rsc_row b).number → a ≡ b
+same_rsc = same_key (λ r. (rsc_row r).number) rsc_of_number rsc_again

@@ -1,0 +1,11 @@
+pub mod Attributes
+pub mod Calendar
+pub mod Operations
+pub mod StampReading
+pub mod Stamps
+pub mod StatusCodes
+pub mod StatusNumbers
+pub mod Steps
+pub mod Types
+pub mod UrlReading
+pub mod Urls

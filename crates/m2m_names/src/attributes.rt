@@ -1,0 +1,185 @@
+//! The attributes of resources.
+ghost use Rattle.std.specs.Prelude.{◌≡◌, ◌≢◌, IfSome, IfNone, IsTrue, Some, map};
+ghost use Rattle.m2m_names.specs.declared.attributes.Attr.{Attr};
+ghost use Rattle.m2m_names.specs.Attributes.{attr_short, attr_of_short, all_attrs, are_in_byte_order};
+
+/// An attribute of a resource, named by its short name (TS-0004, 8.2.3).
+///
+/// The variants stand, and are ordered, in byte order of their short names, as the keys of an
+/// object in canonical JSON are.
+#[derive(Clone, Copy, Debug, PartialEq, Eq, PartialOrd, Ord)]
+pub enum Attr {
+    Aa,
+    Acpi,
+    Aei,
+    Api,
+    Apn,
+    At,
+    Cb,
+    Cbs,
+    Cnf,
+    Cni,
+    Cnm,
+    Con,
+    Cr,
+    Cs,
+    Csi,
+    Cst,
+    Csy,
+    Ct,
+    Enc,
+    Et,
+    Gn,
+    Lbl,
+    Lnk,
+    Lt,
+    Macp,
+    Mbs,
+    Mia,
+    Mid,
+    Mni,
+    Mnm,
+    Mt,
+    Mtv,
+    Nct,
+    Nu,
+    Pi,
+    Poa,
+    Pv,
+    Pvs,
+    Ri,
+    Rn,
+    Rr,
+    Srt,
+    Srv,
+    St,
+    Su,
+    Ty,
+}
+
+const ALL: [Attr; 46] = [
+    Attr::Aa,
+    Attr::Acpi,
+    Attr::Aei,
+    Attr::Api,
+    Attr::Apn,
+    Attr::At,
+    Attr::Cb,
+    Attr::Cbs,
+    Attr::Cnf,
+    Attr::Cni,
+    Attr::Cnm,
+    Attr::Con,
+    Attr::Cr,
+    Attr::Cs,
+    Attr::Csi,
+    Attr::Cst,
+    Attr::Csy,
+    Attr::Ct,
+    Attr::Enc,
+    Attr::Et,
+    Attr::Gn,
+    Attr::Lbl,
+    Attr::Lnk,
+    Attr::Lt,
+    Attr::Macp,
+    Attr::Mbs,
+    Attr::Mia,
+    Attr::Mid,
+    Attr::Mni,
+    Attr::Mnm,
+    Attr::Mt,
+    Attr::Mtv,
+    Attr::Nct,
+    Attr::Nu,
+    Attr::Pi,
+    Attr::Poa,
+    Attr::Pv,
+    Attr::Pvs,
+    Attr::Ri,
+    Attr::Rn,
+    Attr::Rr,
+    Attr::Srt,
+    Attr::Srv,
+    Attr::St,
+    Attr::Su,
+    Attr::Ty,
+];
+
+impl Attr {
+    /// The attribute that `ALL` has at a short name.
+    fn find(text: &str) -> Option<Attr>
+        ensures { result ≡ attr_of_short text.now }
+    {
+        ALL.iter().copied().find(|a| a.short() == text)
+    }
+
+    /// The attribute of a short name.
+    pub fn from_short(text: &str) -> Option<Attr>
+        ensures value { result ≡ attr_of_short text.now }
+        ensures found { IfSome result (λ a. attr_short a ≡ text.now) }
+        ensures none { IfNone result ((a : Attr) → attr_short a ≢ text.now) }
+    {
+        Attr::find(text)
+    }
+
+    /// Its short name.
+    pub fn short(self) -> &'static str
+        ensures value { result.now ≡ attr_short self }
+        ensures back { attr_of_short result.now ≡ Some self }
+    {
+        match self {
+            Attr::Aa => "aa",
+            Attr::Acpi => "acpi",
+            Attr::Aei => "aei",
+            Attr::Api => "api",
+            Attr::Apn => "apn",
+            Attr::At => "at",
+            Attr::Cb => "cb",
+            Attr::Cbs => "cbs",
+            Attr::Cnf => "cnf",
+            Attr::Cni => "cni",
+            Attr::Cnm => "cnm",
+            Attr::Con => "con",
+            Attr::Cr => "cr",
+            Attr::Cs => "cs",
+            Attr::Csi => "csi",
+            Attr::Cst => "cst",
+            Attr::Csy => "csy",
+            Attr::Ct => "ct",
+            Attr::Enc => "enc",
+            Attr::Et => "et",
+            Attr::Gn => "gn",
+            Attr::Lbl => "lbl",
+            Attr::Lnk => "lnk",
+            Attr::Lt => "lt",
+            Attr::Macp => "macp",
+            Attr::Mbs => "mbs",
+            Attr::Mia => "mia",
+            Attr::Mid => "mid",
+            Attr::Mni => "mni",
+            Attr::Mnm => "mnm",
+            Attr::Mt => "mt",
+            Attr::Mtv => "mtv",
+            Attr::Nct => "nct",
+            Attr::Nu => "nu",
+            Attr::Pi => "pi",
+            Attr::Poa => "poa",
+            Attr::Pv => "pv",
+            Attr::Pvs => "pvs",
+            Attr::Ri => "ri",
+            Attr::Rn => "rn",
+            Attr::Rr => "rr",
+            Attr::Srt => "srt",
+            Attr::Srv => "srv",
+            Attr::St => "st",
+            Attr::Su => "su",
+            Attr::Ty => "ty",
+        }
+    }
+}
+
+/// The table of attributes stands in byte order of the short names, and has each name once.
+pub fn attributes_stand_in_byte_order()
+    ensures { IsTrue (are_in_byte_order (map attr_short all_attrs)) }
+{}

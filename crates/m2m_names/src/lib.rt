@@ -1,0 +1,26 @@
+//! The names and numbers of oneM2M: operations with their bits, resource types with the children
+//! that they take, response status codes with their HTTP status, the short names of attributes,
+//! timestamps, and the URLs of points of access.
+//!
+//! Callers see four enums that can be copied, and the readers and writers of the two texts. Each
+//! table stands once in the code and once in `specs/`, where a row is found by its variant
+//! (`op_row`, `ty_row`, `rsc_row`, `attr_short`) and a variant by its number or name
+//! (`op_of_number`, `ty_of_number`, `rsc_of_number`, `attr_of_short`); a reader answers `None`
+//! exactly outside its table or grammar. Nothing here takes memory, and callers owe nothing.
+#![tactic(auto)]
+
+mod attributes;
+mod codes;
+mod operations;
+mod stamps;
+#[cfg(test)]
+mod tests;
+mod types;
+mod urls;
+
+pub use attributes::{Attr, attributes_stand_in_byte_order};
+pub use codes::{OtherNumber, Rsc};
+pub use operations::{DISCOVERY, Op};
+pub use stamps::{read_stamp, write_stamp};
+pub use types::Ty;
+pub use urls::{UrlParts, read_url};
