@@ -1,0 +1,4 @@
+use Rattle.m2m_value.proofs.size.+digits_len.Given as goal
+
+abbrev pub decreases-digits_len : goal.decreases-digits_len
+decreases-digits_len l = l.n

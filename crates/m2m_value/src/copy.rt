@@ -1,0 +1,58 @@
+// Copies, written out since a derived clone of a type that holds itself says nothing of the result.
+ghost use Rattle.std.specs.Prelude.{◌≡◌, IfOk};
+
+use crate::text::Text;
+use crate::value::{Items, Members, Node, Val};
+use std::alloc::{AllocError as OutOfMemory, Global};
+
+impl Val {
+    /// An equal value.
+    pub fn copy(&self, alloc: Global) -> Result<Val, OutOfMemory>
+        ensures { IfOk result (λ v. v ≡ self.now) }
+    {
+        copied(alloc, self)
+    }
+}
+
+#[cycle(copy)]
+fn copied(alloc: Global, value: &Val) -> Result<Val, OutOfMemory>
+    ensures { IfOk result (λ v. v ≡ value.now) }
+{
+    match &value.node {
+        Node::Null => Ok(Val::of(Node::Null)),
+        Node::Bool(b) => Ok(Val::of(Node::Bool(*b))),
+        Node::Num(n) => Ok(Val::of(Node::Num(*n))),
+        Node::Text(text) => Ok(Val::of(Node::Text(text.copy(alloc)?))),
+        Node::List(items) => Ok(Val::of(Node::List(copied_items(alloc, items)?))),
+        Node::Obj(members) => Ok(Val::of(Node::Obj(copied_members(alloc, members)?))),
+    }
+}
+
+#[cycle(copy)]
+fn copied_items(alloc: Global, items: &Items) -> Result<Items, OutOfMemory>
+    ensures { IfOk result (λ i. i ≡ items.now) }
+{
+    let mut values = Vec::with_capacity(alloc, items.values.len())?;
+    for value in &items.values {
+        values.push(copied(alloc, value)?)?;
+    }
+    Ok(Items::of(values))
+}
+
+#[cycle(copy)]
+fn copied_members(alloc: Global, members: &Members) -> Result<Members, OutOfMemory>
+    ensures { IfOk result (λ m. m ≡ members.now) }
+{
+    let mut entries = Vec::with_capacity(alloc, members.entries.len())?;
+    for member in &members.entries {
+        entries.push(copied_member(alloc, member)?)?;
+    }
+    Ok(Members::of(entries))
+}
+
+#[cycle(copy)]
+fn copied_member(alloc: Global, member: &(Text, Val)) -> Result<(Text, Val), OutOfMemory>
+    ensures { IfOk result (λ m. m ≡ member.now) }
+{
+    Ok((member.0.copy(alloc)?, copied(alloc, &member.1)?))
+}

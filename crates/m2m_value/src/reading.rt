@@ -1,0 +1,79 @@
+// From bytes to a value, over what `serde_json` keeps.
+ghost use Rattle.std.specs.Prelude.{◌≡◌, ◌≤◌, IfOk, IsUtf8, string_bytes};
+ghost use Rattle.serde_json.specs.View.{view, number_view, items_view, members_view};
+ghost use Rattle.m2m_value.specs.Data.{depth, elements_of, pairs_of};
+ghost use Rattle.m2m_value.specs.Node.{HaveTextKeys};
+ghost use Rattle.m2m_value.specs.Reading.{whole_of, value_of, elements_in, pairs_in, reading, Answers};
+
+use crate::fault::ValFault;
+use crate::text::Text;
+use crate::value::{Items, Members, Node, Val};
+use serde_json::{Map, Number, Value};
+use std::alloc::Global;
+
+/// The value that the bytes spell, at most 127 deep. Of members with one key the last stays. Of
+/// faults in numbers the first is told: lists in order, members in the order of their keys.
+pub fn read(alloc: Global, bytes: &[u8]) -> Result<Val, ValFault>
+    ensures value { Answers (λ v. v) result (reading bytes.now) }
+    ensures nests { IfOk result (λ v. depth v ≤ 127) }
+{
+    match Value::from_slice(alloc, bytes) {
+        Ok(value) => kept(alloc, value),
+        Err(e) if !e.is_memory() => Err(ValFault::NotJson),
+        Err(_) => Err(ValFault::OutOfMemory),
+    }
+}
+
+#[cycle(kept)]
+fn kept(alloc: Global, value: Value) -> Result<Val, ValFault>
+    ensures { Answers (λ v. v) result (value_of (view value)) }
+{
+    match value {
+        Value::Null => Ok(Val::of(Node::Null)),
+        Value::Bool(b) => Ok(Val::of(Node::Bool(b))),
+        Value::Number(n) => Ok(Val::of(Node::Num(whole(n)?))),
+        Value::String(s) => Ok(Val::of(Node::Text(text(s)))),
+        Value::Array(items) => Ok(Val::of(Node::List(kept_items(alloc, items)?))),
+        Value::Object(members) => Ok(Val::of(Node::Obj(kept_members(alloc, members)?))),
+    }
+}
+
+fn whole(n: Number) -> Result<i64, ValFault>
+    ensures { Answers (λ z. z) result (whole_of (number_view n)) }
+{
+    match n.as_i64() {
+        Some(z) => Ok(z),
+        None if n.is_u64() => Err(ValFault::TooWide),
+        None => Err(ValFault::Fraction),
+    }
+}
+
+fn text(s: String) -> Text
+    ensures value { result ≡ string_bytes s }
+    ensures utf8 { IsUtf8 (string_bytes s) }
+{
+    Text::of(s.into_bytes())
+}
+
+#[cycle(kept)]
+fn kept_items(alloc: Global, items: Vec<Value>) -> Result<Items, ValFault>
+    ensures { Answers elements_of result (elements_in (items_view items.items)) }
+{
+    let mut values = Vec::with_capacity(alloc, items.len())?;
+    for item in items {
+        values.push(kept(alloc, item)?)?;
+    }
+    Ok(Items::of(values))
+}
+
+#[cycle(kept)]
+fn kept_members(alloc: Global, members: Map<String, Value>) -> Result<Members, ValFault>
+    ensures value { Answers pairs_of result (pairs_in (members_view members.entries)) }
+    ensures texts { IfOk result HaveTextKeys }
+{
+    let mut entries = Vec::with_capacity(alloc, members.len())?;
+    for (key, member) in members {
+        entries.push((text(key), kept(alloc, member)?))?;
+    }
+    Ok(Members::of(entries))
+}

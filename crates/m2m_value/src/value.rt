@@ -1,0 +1,342 @@
+// JSON values, and how they are made and taken apart.
+ghost use Rattle.std.specs.Prelude.{◌≡◌};
+ghost use Rattle.std.specs.Cmp.Lexicographic.{slice_cmp};
+ghost use Rattle.std.specs.Ordering.{nat_cmp};
+
+use crate::text::Text;
+use std::alloc::{AllocError as OutOfMemory, Global};
+use std::cmp::Ordering;
+use std::marker::Model;
+
+/// A JSON value (RFC 8259) whose numbers are whole and have 64 bits with their sign. Its texts and
+/// keys are UTF-8. Clauses see it as `Data`.
+#[cycle(value)]
+#[derive(Debug, Drop)]
+pub struct Val {
+    pub(crate) node: Node,
+}
+
+/// The top of a value, to be matched on.
+#[cycle(value)]
+#[derive(Debug, Drop)]
+pub enum Node {
+    Null,
+    Bool(bool),
+    Num(i64),
+    Text(Text),
+    List(Items),
+    Obj(Members),
+}
+
+/// A list of values. Clauses see it as the list of their `Data`.
+#[cycle(value)]
+#[derive(Debug, Drop)]
+pub struct Items {
+    pub(crate) values: Vec<Val>,
+}
+
+/// The members of an object, whose keys are distinct and in the order of their bytes. Clauses see
+/// it as the list of its entries, each a key and the value's `Data`.
+#[cycle(value)]
+#[derive(Debug, Drop)]
+pub struct Members {
+    pub(crate) entries: Vec<(Text, Val)>,
+}
+
+impl Model for Val {
+    ghost use Rattle.std.specs.Prelude.{◌*◌, ◌+◌};
+    ghost use Rattle.m2m_value.specs.Data.{Data, depth};
+    ghost use Rattle.m2m_value.specs.Code.{data_code};
+
+    ghost Value = { Data };
+
+    ghost coded = { data_code };
+
+    ghost use Rattle.m2m_value.specs.Node.{data_of, IsJsonNode};
+
+    ghost view = { λ a. data_of a.node };
+
+    ghost invariant = { λ a. IsJsonNode a.node };
+
+    ghost size = { λ d. 2 * depth d };
+
+    ghost use Rattle.m2m_value.specs.Falls.{node_falls};
+
+    ghost size_decreases = { λ a h. node_falls a.node };
+}
+
+impl Model for Items {
+    ghost use Rattle.std.specs.Prelude.{◌*◌, ◌+◌, List};
+    ghost use Rattle.m2m_value.specs.Data.{Data, elements_depth, elements_of};
+    ghost use Rattle.m2m_value.specs.Code.{data_code};
+    ghost use Rattle.std.specs.Coded.{coded_list};
+
+    ghost Value = { List Data };
+
+    ghost coded = { coded_list data_code };
+
+    ghost view = { λ a. a.values.items };
+
+    ghost size = { λ ds. 2 * elements_depth (elements_of ds) + 1 };
+
+    ghost use Rattle.std.proofs.Common.{arith};
+    ghost use Rattle.m2m_value.specs.Falls.{elements_fall};
+
+    ghost size_decreases = { λ a h. omega (arith, elements_fall a.values.items) };
+}
+
+impl Model for Members {
+    ghost use Rattle.std.specs.Prelude.{◌*◌, ◌+◌, List};
+    ghost use Rattle.m2m_value.specs.Data.{Data, Entry, pairs_depth, pairs_of};
+    ghost use Rattle.m2m_value.specs.Code.{entry_code};
+    ghost use Rattle.std.specs.Coded.{coded_list};
+
+    ghost Value = { List Entry };
+
+    ghost coded = { coded_list entry_code };
+
+    ghost use Rattle.m2m_value.specs.Node.{AreSorted};
+
+    ghost view = { λ a. a.entries.items };
+
+    ghost invariant = { λ a. AreSorted a.entries.items };
+
+    ghost size = { λ es. 2 * pairs_depth (pairs_of es) + 1 };
+
+    ghost use Rattle.m2m_value.specs.Falls.{members_fall};
+
+    ghost size_decreases = { λ a h. members_fall a };
+}
+
+impl Val {
+    ghost use Rattle.std.specs.Prelude.{◌≡◌, ◌↔◌, IsTrue, IfSome, IsUtf8, option_map};
+    ghost use Rattle.m2m_value.specs.Data as plain;
+    ghost use Rattle.m2m_value.specs.Data.{elements_of, pairs_of};
+    ghost use Rattle.m2m_value.specs.Node.{data_of, HaveTextKeys, IsJsonNode};
+    ghost use Rattle.m2m_value.specs.View.{as_boolean, as_number, as_text, as_list, as_object};
+
+    /// The value of which this is the top. Its text, or its keys, are UTF-8.
+    pub fn of(node: Node) -> Val
+        requires { IsJsonNode node }
+        ensures { result ≡ data_of node }
+    {
+        Val { node }
+    }
+
+    pub fn null() -> Val
+        ensures { result ≡ plain.null }
+    {
+        Val::of(Node::Null)
+    }
+
+    pub fn of_bool(b: bool) -> Val
+        ensures { result ≡ plain.boolean b }
+    {
+        Val::of(Node::Bool(b))
+    }
+
+    pub fn of_num(n: i64) -> Val
+        ensures { result ≡ plain.number n }
+    {
+        Val::of(Node::Num(n))
+    }
+
+    pub fn of_text(text: Text) -> Val
+        requires { IsUtf8 text }
+        ensures { result ≡ plain.text text }
+    {
+        Val::of(Node::Text(text))
+    }
+
+    pub fn of_list(items: Items) -> Val
+        ensures { result ≡ plain.list (elements_of items) }
+    {
+        Val::of(Node::List(items))
+    }
+
+    pub fn of_obj(members: Members) -> Val
+        requires { HaveTextKeys members }
+        ensures { result ≡ plain.object (pairs_of members) }
+    {
+        Val::of(Node::Obj(members))
+    }
+
+    /// The top, to be matched on.
+    pub fn node(&self) -> &Node
+        ensures top { data_of result.now ≡ self.now }
+        ensures keeps { IsJsonNode result.now }
+    {
+        &self.node
+    }
+
+    /// The top, with all below it; nothing is copied.
+    pub fn into_node(self) -> Node
+        ensures top { data_of result ≡ self }
+        ensures keeps { IsJsonNode result }
+    {
+        self.node
+    }
+
+    pub fn is_null(&self) -> bool
+        ensures { IsTrue result ↔ (self.now ≡ plain.null) }
+    {
+        matches!(self.node, Node::Null)
+    }
+
+    pub fn as_bool(&self) -> Option<bool>
+        ensures { result ≡ as_boolean self.now }
+    {
+        if let Node::Bool(b) = &self.node {
+            Some(*b)
+        } else {
+            None
+        }
+    }
+
+    pub fn as_num(&self) -> Option<i64>
+        ensures { result ≡ as_number self.now }
+    {
+        if let Node::Num(n) = &self.node {
+            Some(*n)
+        } else {
+            None
+        }
+    }
+
+    pub fn as_text(&self) -> Option<&Text>
+        ensures value { option_map (λ t. t.now) result ≡ as_text self.now }
+        ensures utf8 { IfSome result (λ t. IsUtf8 t.now) }
+    {
+        if let Node::Text(text) = &self.node {
+            Some(text)
+        } else {
+            None
+        }
+    }
+
+    pub fn as_list(&self) -> Option<&Items>
+        ensures { option_map (λ i. i.now) result ≡ as_list self.now }
+    {
+        if let Node::List(items) = &self.node {
+            Some(items)
+        } else {
+            None
+        }
+    }
+
+    pub fn as_obj(&self) -> Option<&Members>
+        ensures value { option_map (λ m. m.now) result ≡ as_object self.now }
+        ensures texts { IfSome result (λ m. HaveTextKeys m.now) }
+    {
+        if let Node::Obj(members) = &self.node {
+            Some(members)
+        } else {
+            None
+        }
+    }
+}
+
+impl Items {
+    /// Takes no memory.
+    pub fn of(values: Vec<Val>) -> Items
+        ensures { result ≡ values.items }
+    {
+        Items { values }
+    }
+
+    pub fn into_vec(self) -> Vec<Val>
+        ensures { result.items ≡ self }
+    {
+        self.values
+    }
+
+    pub fn entries(&self) -> &[Val]
+        ensures { result.now ≡ self.now }
+    {
+        &self.values
+    }
+}
+
+impl Members {
+    ghost use Rattle.std.specs.Prelude.{◌≡◌, [], IfOk, IfErr, OnOk, OnErr, IsUtf8, option_map};
+    ghost use Rattle.std.specs.BTreeMap.{insert_entry};
+    ghost use Rattle.std.specs.Cmp.Lexicographic.{slice_cmp};
+    ghost use Rattle.std.specs.Ordering.{nat_cmp};
+    ghost use Rattle.m2m_value.specs.Node.{AreSorted, HaveTextKeys};
+    ghost use Rattle.m2m_value.specs.View.{member_of, IsPlaceOf, IsGapFor};
+
+    /// Takes no memory. The keys are distinct and in the order of their bytes.
+    pub fn of(entries: Vec<(Text, Val)>) -> Members
+        requires { AreSorted entries.items }
+        ensures { result ≡ entries.items }
+    {
+        Members { entries }
+    }
+
+    pub fn into_vec(self) -> Vec<(Text, Val)>
+        ensures entries { result.items ≡ self }
+        ensures sorted { AreSorted self }
+    {
+        self.entries
+    }
+
+    pub fn entries(&self) -> &[(Text, Val)]
+        ensures all { result.now ≡ self.now }
+        ensures sorted { AreSorted self.now }
+    {
+        &self.entries
+    }
+
+    /// No member, without memory.
+    pub fn new(alloc: Global) -> Members
+        ensures { result ≡ [] }
+    {
+        Members {
+            entries: Vec::new(alloc),
+        }
+    }
+
+    /// The value at the key, found by halving.
+    pub fn get(&self, key: &[u8]) -> Option<&Val>
+        ensures { option_map (λ v. v.now) result ≡ member_of key.now self.now }
+    {
+        match self.place_of(key) {
+            Ok(place) => Some(&self.entries[place].1),
+            Err(_) => None,
+        }
+    }
+
+    /// Puts the value at the key, in place of the one that is there, if any. The entries behind a
+    /// new key move up by one.
+    pub fn put(&mut self, key: Text, value: Val) -> Result<(), OutOfMemory>
+        ensures ok { OnOk result
+            (self.new ≡ insert_entry (slice_cmp nat_cmp) self.old key value) }
+        ensures err { OnErr result (self.new ≡ self.old) }
+        ensures texts { OnOk result
+            (HaveTextKeys self.old → IsUtf8 key → HaveTextKeys self.new) }
+    {
+        match self.place_of(key.entries()) {
+            Ok(place) => {
+                self.entries[place].1 = value;
+                Ok(())
+            }
+            Err(place) => Ok(self.entries.insert(place, (key, value))?),
+        }
+    }
+
+    // Where the key is, or where it would go.
+    fn place_of(&self, key: &[u8]) -> Result<usize, usize>
+        ensures found { IfOk result (IsPlaceOf key.now self.now) }
+        ensures absent { IfErr result (IsGapFor key.now self.now) }
+        ensures sorted { AreSorted self.now }
+    {
+        self.entries.binary_search_by(|entry| key_order(entry, key))
+    }
+}
+
+// How the entry's key and the key stand in the order of bytes.
+fn key_order(entry: &(Text, Val), key: &[u8]) -> Ordering
+    ensures { result ≡ slice_cmp nat_cmp entry.now.0 key.now }
+{
+    entry.0.entries().cmp(key)
+}
