@@ -1,6 +1,6 @@
 //! The names and numbers of oneM2M: operations with their bits, resource types with the children
 //! that they take, response status codes with their HTTP status, the short names of attributes,
-//! timestamps, and the URLs of points of access.
+//! timestamps, the URLs of points of access, and the forms of names, resource ids and originators.
 //!
 //! Callers see four enums that can be copied, and the readers and writers of the two texts. Each
 //! table stands once in the code and once in `specs/`, where a row is found by its variant
@@ -11,6 +11,7 @@
 
 mod attributes;
 mod codes;
+mod name;
 mod operations;
 mod stamps;
 #[cfg(test)]
@@ -20,6 +21,7 @@ mod urls;
 
 pub use attributes::{Attr, attributes_stand_in_byte_order};
 pub use codes::{OtherNumber, Rsc};
+pub use name::{is_free_name, is_name, is_originator, is_resource_id};
 pub use operations::{DISCOVERY, Op};
 pub use stamps::{read_stamp, write_stamp};
 pub use types::Ty;

@@ -243,3 +243,48 @@ fn urls_have_limits(rt: HostRuntime) {
     assert_eq!(rt; read_url(&text[..512]), Some(UrlParts { host_end: 17 }));
     assert_eq!(rt; read_url(&text[..513]), None);
 }
+
+#[test]
+fn names_and_originators_have_their_forms(rt: HostRuntime) {
+    let longest = "a123456789-123456789_123456789.123456789~123456789-123456789-123";
+    let rows = [
+        ("", false, false, false, false),
+        ("cse-in", true, true, false, true),
+        (longest, true, true, false, true),
+        (
+            "a123456789-123456789_123456789.123456789~123456789-123456789-1234",
+            false,
+            false,
+            false,
+            true,
+        ),
+        ("a b", false, false, false, false),
+        ("a/b", false, false, false, true),
+        ("caf\u{e9}", false, false, false, false),
+        ("la", true, false, false, true),
+        ("ol", true, false, false, true),
+        ("fopt", true, false, false, true),
+        ("pcu", true, false, false, true),
+        ("-", true, false, false, true),
+        ("~", true, false, false, true),
+        ("_", true, false, false, true),
+        (".", true, false, false, true),
+        ("..", true, false, false, true),
+        ("...", true, true, false, true),
+        ("cnt7", true, true, true, true),
+        ("cntA07", true, true, true, true),
+        ("cnt", true, true, false, true),
+        ("cnt7x", true, true, false, true),
+        ("/id-in/C*", false, false, false, true),
+    ];
+    for (text, name, free, id, originator) in rows {
+        let bytes = text.as_bytes();
+        assert_eq!(rt; is_name(bytes), name, "{text}");
+        assert_eq!(rt; is_free_name(bytes), free, "{text}");
+        assert_eq!(rt; is_resource_id(bytes), id, "{text}");
+        assert_eq!(rt; is_originator(bytes), originator, "{text}");
+    }
+    assert!(rt; is_originator(&[b'!'; 256]));
+    assert!(rt; !is_originator(&[b'!'; 257]));
+    assert!(rt; !is_originator(&[127]));
+}

@@ -1,0 +1,47 @@
+-- Names, resource ids and originators as texts.
+use Rattle.std.specs.Prelude.{ℕ, ◌==◌, nat_eq, nat_lt, nat_le, Bool, not, ◌&&◌, ◌||◌, List, [], ◌∷◌, length, drop, codes}
+use Rattle.std.specs.List.{list_all, list_any, starts_with}
+use Rattle.std.specs.Char.{is_ascii_alphanumeric, is_ascii_digit, is_ascii_graphic}
+use Rattle.std.specs.Str.{bytes_eq}
+use Rattle.m2m_names.specs.Types.{ty_row, all_types}
+
+-- a length from 1 to the greatest
+abbrev pub is_filled : ℕ → List ℕ → Bool
+is_filled most text = nat_lt 0 (length text) && nat_le (length text) most
+
+-- an unreserved character of a URI (RFC 3986, 2.3)
+abbrev pub is_unreserved : ℕ → Bool
+is_unreserved byte = is_ascii_alphanumeric byte || list_any (λ mark. mark == byte) (codes "-._~")
+
+-- a name of a resource: 1 to 64 unreserved characters (TS-0001, 9.6.1.3; the length is the profile's)
+abbrev pub is_name : List ℕ → Bool
+is_name text = is_filled 64 text && list_all is_unreserved text
+
+-- the names of virtual resources (TS-0001, 9.6): the newest and the oldest instance, the fan-out point, the poll point
+abbrev pub virtual_names : List (List ℕ)
+virtual_names = codes "la" ∷ codes "ol" ∷ codes "fopt" ∷ codes "pcu" ∷ []
+
+-- the texts that stand for a part of an address (TS-0009, 6.2.2; RFC 3986, 5.2.4)
+abbrev pub address_marks : List (List ℕ)
+address_marks = codes "-" ∷ codes "~" ∷ codes "_" ∷ codes "." ∷ codes ".." ∷ []
+
+-- one of these texts
+abbrev pub is_one_of : List (List ℕ) → List ℕ → Bool
+is_one_of texts text = list_any (bytes_eq text) texts
+
+-- a name that a resource may be given: it addresses nothing else
+abbrev pub is_free_name : List ℕ → Bool
+is_free_name text = is_name text && not (is_one_of virtual_names text || is_one_of address_marks text)
+
+-- a word and then at least one digit
+abbrev pub is_numbered : List ℕ → List ℕ → Bool
+is_numbered word text = starts_with nat_eq text word
+    && nat_lt (length word) (length text) && list_all is_ascii_digit (drop (length word) text)
+
+-- a text in the form of a resource id: the short word of a type and digits
+abbrev pub is_resource_id : List ℕ → Bool
+is_resource_id text = list_any (λ ty. is_numbered (ty_row ty).word text) all_types
+
+-- an originator: 1 to 256 printable ASCII characters without a space (TS-0004, 6.3.3)
+abbrev pub is_originator : List ℕ → Bool
+is_originator text = is_filled 256 text && list_all is_ascii_graphic text

@@ -1,0 +1,88 @@
+//! Names, resource ids and originators as texts.
+ghost use Rattle.std.specs.Prelude.{◌≡◌};
+ghost use Rattle.std.specs.List.{list_all};
+ghost use Rattle.std.specs.Char as chars;
+ghost use Rattle.m2m_names.specs.Name as spec;
+ghost use Rattle.m2m_names.specs.Name.{virtual_names, address_marks};
+
+use crate::Ty;
+
+/// Whether the text has 1 to `most` bytes.
+fn is_filled(text: &[u8], most: usize) -> bool
+    ensures { result ≡ spec.is_filled most text.now }
+{
+    0 < text.len() && text.len() <= most
+}
+
+/// Whether the text is a name: 1 to 64 letters, digits, `-`, `.`, `_` and `~` (TS-0001, 9.6.1.3;
+/// the length is the profile's).
+pub fn is_name(text: &[u8]) -> bool
+    ensures { result ≡ spec.is_name text.now }
+{
+    is_filled(text, 64) && are_unreserved(text)
+}
+
+fn are_unreserved(text: &[u8]) -> bool
+    ensures { result ≡ list_all spec.is_unreserved text.now }
+{
+    text.iter().all(|byte| is_unreserved(*byte))
+}
+
+fn is_unreserved(byte: u8) -> bool
+    ensures { result ≡ spec.is_unreserved byte }
+{
+    byte.is_ascii_alphanumeric() || b"-._~".contains(&byte)
+}
+
+/// Whether a resource may be given this name: it addresses nothing else, as `la` does.
+pub fn is_free_name(text: &[u8]) -> bool
+    ensures { result ≡ spec.is_free_name text.now }
+{
+    is_name(text) && !(is_virtual(text) || is_mark(text))
+}
+
+fn is_virtual(text: &[u8]) -> bool
+    ensures { result ≡ spec.is_one_of virtual_names text.now }
+{
+    matches!(text, b"la" | b"ol" | b"fopt" | b"pcu")
+}
+
+fn is_mark(text: &[u8]) -> bool
+    ensures { result ≡ spec.is_one_of address_marks text.now }
+{
+    matches!(text, b"-" | b"~" | b"_" | b"." | b"..")
+}
+
+/// Whether the text has the form of a resource id: the short word of a type and digits.
+pub fn is_resource_id(text: &[u8]) -> bool
+    ensures { result ≡ spec.is_resource_id text.now }
+{
+    Ty::ALL
+        .iter()
+        .any(|ty| is_numbered(text, ty.word().as_bytes()))
+}
+
+fn is_numbered(text: &[u8], word: &[u8]) -> bool
+    ensures { result ≡ spec.is_numbered word.now text.now }
+{
+    text.starts_with(word) && word.len() < text.len() && are_digits(&text[word.len()..])
+}
+
+fn are_digits(text: &[u8]) -> bool
+    ensures { result ≡ list_all chars.is_ascii_digit text.now }
+{
+    text.iter().all(|byte| byte.is_ascii_digit())
+}
+
+/// Whether the text is an originator: 1 to 256 printable ASCII characters without a space (TS-0004, 6.3.3).
+pub fn is_originator(text: &[u8]) -> bool
+    ensures { result ≡ spec.is_originator text.now }
+{
+    is_filled(text, 256) && are_graphic(text)
+}
+
+fn are_graphic(text: &[u8]) -> bool
+    ensures { result ≡ list_all chars.is_ascii_graphic text.now }
+{
+    text.iter().all(|byte| byte.is_ascii_graphic())
+}
