@@ -1,0 +1,85 @@
+-- What a call answers, by the one list of frames that begin the stream.
+use Rattle.std.proofs.Common.{◌≡◌, ◌≢◌, ℕ, List, [], ◌∷◌, ◌++◌, Option, None, Some, Result, Ok, Err, refl, sym, ap, subst, ◌∙◌, arith, append_assoc}
+use Rattle.std.specs.Io.KnownBytes.{IsAtEnd}
+use Rattle.http_frames.specs.declared.frame.Side.{Side}
+use Rattle.http_frames.specs.declared.frame.Frame.{Frame}
+use Rattle.http_frames.specs.declared.frame.Next.{Next}
+use Rattle.http_frames.specs.declared.frame.Next.TheVariants.{Message, End}
+use Rattle.http_frames.specs.declared.fault.FrameFault.{FrameFault}
+use Rattle.http_frames.specs.declared.fault.FrameFault.TheVariants.{NoFrame, ReadFault, OutOfMemory}
+use Rattle.http_frames.specs.Stream.{BeginsWith, HasNoFrame, Frames}
+use Rattle.http_frames.specs.Inbox.{Reads, Gives, HoldsNoFrame, IfMessage, UnlessMessage, Answers, GivesNext, stream_of}
+use Rattle.http_frames.proofs.FrameLemmas.{BeginsWith_unique, BeginsWith-append}
+use Rattle.http_frames.proofs.LookLemmas.{some_bytes}
+use Rattle.http_frames.proofs.InboxLemmas.{none_within}
+
+-- what was read moved from the source to those held
+same_stream : (s t held now : List ℕ) → (r : Reads (Some s) (Some t) held now) → held ++ s ≡ now ++ t
+same_stream s t held now r =
+    ap (λ v. held ++ v) r.consumed ∙ sym (append_assoc held r.read t) ∙ ap (λ v. v ++ t) (sym r.held_is)
+
+some_append : (xs ys : List ℕ) → xs ≢ [] → xs ++ ys ≢ []
+some_append [] ys some e = some refl
+some_append (x ∷ xs) ys some e = cc
+
+after_message : (side : Side) (stream now : List ℕ) (frame : Frame) (frames : List Frame) (tail : List ℕ)
+    → BeginsWith side stream frame now → Frames side stream frames tail
+    → (later : List Frame) × (frames ≡ frame ∷ later) × Frames side now later tail
+after_message side stream now frame [] tail begins f =
+    absurd (f.1 frame now (subst (λ (v : List ℕ). BeginsWith side v frame now) f.0 begins))
+after_message side stream now frame (g ∷ gs) tail begins f =
+    let same = BeginsWith_unique side stream frame g now f.0 begins f.1 in
+    (gs, sym (ap (λ h. h ∷ gs) same.0), subst (λ (v : List ℕ). Frames side v gs tail) (sym same.1) f.2)
+
+-- a stream that begins with no frame has none
+no_frames : (side : Side) (stream : List ℕ) (frames : List Frame) (tail : List ℕ) → HasNoFrame side stream
+    → Frames side stream frames tail → (frames ≡ []) × (tail ≡ stream)
+no_frames side stream [] tail none f = (refl, sym f.0)
+no_frames side stream (g ∷ gs) tail none f = absurd (none g f.0 f.1)
+
+nothing_begins : (side : Side) → HasNoFrame side []
+nothing_begins side = none_within side [] 1 (some_bytes side []) (omega arith)
+
+-- the answer by what it says of the bytes held and left
+answers_told : (side : Side) (result : Result Next FrameFault) (s t held now : List ℕ)
+    → IfMessage result (Gives side (Some s) (Some t) held now) → UnlessMessage result (Reads (Some s) (Some t) held now)
+    → (result ≡ Ok End → (now ≡ []) × IsAtEnd (Some t)) → (result ≡ Err NoFrame → HoldsNoFrame side now (Some t))
+    → (frames : List Frame) (tail : List ℕ) → Frames side (held ++ s) frames tail
+    → Answers side result frames tail (Some (now ++ t))
+answers_told side (Ok (Message frame)) s t held now message kept end none frames tail f =
+    let stream = same_stream s t held message.all message.reads in
+    let begins = BeginsWith-append side message.all frame now t message.begins in
+    after_message side (held ++ s) (now ++ t) frame frames tail
+    (subst (λ (v : List ℕ). BeginsWith side v frame (now ++ t)) (sym stream) begins) f
+answers_told side (Ok End) s t held now message kept end none frames tail f =
+    let ended = end refl in
+    let empty : held ++ s ≡ [] = same_stream s t held now kept ∙ (λ i. ended.0 i ++ ended.1 i) in
+    let all = no_frames side (held ++ s) frames tail (subst (λ (v : List ℕ). HasNoFrame side v) (sym empty) (nothing_begins side)) f in
+    (all.0, all.1 ∙ empty)
+answers_told side (Err NoFrame) s t held now message kept end none frames tail f =
+    let here = none refl in
+    let stream = same_stream s t held now kept in
+    let all = no_frames side (held ++ s) frames tail (subst (λ (v : List ℕ). HasNoFrame side v) (sym stream) here.none_left) f in
+    (all.0, λ e. some_append now t here.some (sym stream ∙ sym all.1 ∙ e))
+answers_told side (Err ReadFault) s t held now message kept end none frames tail f =
+    subst (λ (v : List ℕ). Frames side v frames tail) (same_stream s t held now kept) f
+answers_told side (Err OutOfMemory) s t held now message kept end none frames tail f =
+    subst (λ (v : List ℕ). Frames side v frames tail) (same_stream s t held now kept) f
+
+-- where the source told what it had left, it still does
+still_told : (side : Side) (result : Result Next FrameFault) (s held now : List ℕ)
+    → IfMessage result (Gives side (Some s) None held now) → UnlessMessage result (Reads (Some s) None held now) → ⊥
+still_told side (Ok (Message frame)) s held now message kept = message.reads.consumed
+still_told side (Ok End) s held now message kept = kept.consumed
+still_told side (Err NoFrame) s held now message kept = kept.consumed
+still_told side (Err ReadFault) s held now message kept = kept.consumed
+still_told side (Err OutOfMemory) s held now message kept = kept.consumed
+
+pub gives_next : (side : Side) (result : Result Next FrameFault) (left rest : Option (List ℕ)) (held now : List ℕ)
+    → IfMessage result (Gives side left rest held now) → UnlessMessage result (Reads left rest held now)
+    → (result ≡ Ok End → (now ≡ []) × IsAtEnd rest) → (result ≡ Err NoFrame → HoldsNoFrame side now rest)
+    → GivesNext side (stream_of held left) result (stream_of now rest)
+gives_next side result None rest held now message kept end none = tt
+gives_next side result (Some s) None held now message kept end none = absurd (still_told side result s held now message kept)
+gives_next side result (Some s) (Some t) held now message kept end none =
+    answers_told side result s t held now message kept end none

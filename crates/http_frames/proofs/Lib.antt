@@ -1,0 +1,8 @@
+mod AnswerLemmas
+mod BodyLemmas
+mod FrameLemmas
+mod HeadLemmas
+mod InboxLemmas
+mod LinesLemmas
+mod LookLemmas
+mod TextLemmas

@@ -1,0 +1,123 @@
+-- What the offsets that a look at the bytes answers say of them.
+use Rattle.std.specs.Prelude.{◌≡◌, ℕ, ◌<◌, ◌≤◌, List, ◌++◌, length, take, map, slice_range, Option, Some, None, ⊤}
+use Rattle.httparse.specs.declared.spans.HeaderSpan.{HeaderSpan}
+use Rattle.httparse.specs.Spans.{header_bytes, span_bytes, IsWithin, IsSectionWithin}
+use Rattle.http_frames.specs.declared.frame.Side.{Side}
+use Rattle.http_frames.specs.declared.frame.Start.{Start}
+use Rattle.http_frames.specs.declared.frame.Start.TheVariants as start
+use Rattle.http_frames.specs.declared.frame.Frame.{Frame}
+use Rattle.http_frames.specs.declared.head.StartSpans.{StartSpans}
+use Rattle.http_frames.specs.declared.head.StartSpans.TheVariants.{Ask, Answer}
+use Rattle.http_frames.specs.declared.head.HeadSpans.{HeadSpans}
+use Rattle.http_frames.specs.declared.head.HeadLook.{HeadLook}
+use Rattle.http_frames.specs.declared.head.HeadLook.TheVariants.{Whole, NotYet, Never}
+use Rattle.http_frames.specs.declared.look.FrameSpans.{FrameSpans}
+use Rattle.http_frames.specs.declared.look.Look.{Look}
+use Rattle.http_frames.specs.declared.look.Look.TheVariants as look
+use Rattle.http_frames.specs.Lines.{Line}
+use Rattle.http_frames.specs.Body.{Framing, counted, refused, CarriesBody}
+use Rattle.http_frames.specs.Frame.{IsHead, IsFrame}
+
+-- a length as what it says of the body
+abbrev pub framing_as : Option ℕ → Framing
+framing_as (Some n) = counted n
+framing_as None = refused
+
+-- no bytes carry a body within the limit
+pub record CarriesNoBody (limit : ℕ) (framing : Framing) : Type 0 where
+  pub none : (carried body : List ℕ) → ¬ (CarriesBody limit framing carried body)
+
+-- what the spans of a start line cover
+abbrev pub start_at : List ℕ → StartSpans → Start
+start_at bytes (Ask method target minor) = start.Ask (span_bytes bytes method) (span_bytes bytes target) minor
+start_at bytes (Answer status minor) = start.Answer status minor
+
+-- they lie in the first n bytes
+abbrev pub IsStartWithin : ℕ → StartSpans → Type 0
+IsStartWithin n (Ask method target minor) = IsWithin n method × IsWithin n target
+IsStartWithin n (Answer status minor) = ⊤
+
+-- what the first count headers cover
+abbrev pub lines_at : List ℕ → List HeaderSpan → ℕ → List Line
+lines_at bytes headers count = map (header_bytes bytes) (take count headers)
+
+-- A head stands at the front of the bytes, and the spans cover its parts.
+pub record IsHeadAt (side : Side) (bytes : List ℕ) (headers : List HeaderSpan) (head : HeadSpans) : Type 0 where
+  pub is_head : IsHead side (take head.len bytes) (start_at bytes head.start) (lines_at bytes headers head.lines)
+  pub start_fits : IsStartWithin head.len head.start
+  pub lines_fit : IsSectionWithin bytes headers head.len head.lines
+
+-- no head stands at the front
+pub record HasNoHead (side : Side) (bytes : List ℕ) : Type 0 where
+  pub none : (text rest : List ℕ) (start : Start) (lines : List Line)
+      → IsHead side text start lines → ¬ (bytes ≡ text ++ rest)
+
+-- whatever follows, a head at the front has more than so many lines
+pub record HeadExceeds (side : Side) (room : ℕ) (bytes : List ℕ) : Type 0 where
+  pub exceeds : (more text rest : List ℕ) (start : Start) (lines : List Line)
+      → IsHead side text start lines → bytes ++ more ≡ text ++ rest → room < length lines
+
+-- P of the spans, if there is a whole head
+abbrev pub IfWhole : HeadLook → (HeadSpans → Type 0) → Type 0
+IfWhole (Whole head) P = P head
+IfWhole NotYet P = ⊤
+IfWhole Never P = ⊤
+
+-- P, if there is none so far
+abbrev pub OnNotYet : HeadLook → Type 0 → Type 0
+OnNotYet (Whole head) P = ⊤
+OnNotYet NotYet P = P
+OnNotYet Never P = ⊤
+
+-- P, if none can be there
+abbrev pub OnNever : HeadLook → Type 0 → Type 0
+OnNever (Whole head) P = ⊤
+OnNever NotYet P = ⊤
+OnNever Never P = P
+
+-- what the spans of a frame cover
+abbrev pub frame_at : List ℕ → List HeaderSpan → FrameSpans → Frame
+frame_at bytes headers spans = record {
+  start = start_at bytes spans.start;
+  lines = lines_at bytes headers spans.lines;
+  body = slice_range bytes spans.body spans.end;
+}
+
+-- The spans lie in the bytes.
+pub record AreWithin (bytes : List ℕ) (headers : List HeaderSpan) (spans : FrameSpans) : Type 0 where
+  pub start_fits : IsStartWithin spans.body spans.start
+  pub lines_fit : IsSectionWithin bytes headers spans.body spans.lines
+  pub ordered : spans.body ≤ spans.end
+  pub end_fits : spans.end ≤ length bytes
+
+-- A frame stands at the front of the bytes, and the spans cover its parts.
+pub record IsFrameAt (side : Side) (bytes : List ℕ) (headers : List HeaderSpan) (spans : FrameSpans) : Type 0 where
+  pub is_frame : IsFrame side (take spans.end bytes) (frame_at bytes headers spans)
+  pub within : AreWithin bytes headers spans
+
+-- whatever follows, a frame at the front has at least so many bytes
+pub record NeedsBytes (side : Side) (bytes : List ℕ) (need : ℕ) : Type 0 where
+  pub at_least : (more text rest : List ℕ) (frame : Frame)
+      → IsFrame side text frame → bytes ++ more ≡ text ++ rest → need ≤ length text
+
+-- whatever follows, no frame stands at the front
+pub record CanNotBegin (side : Side) (bytes : List ℕ) : Type 0 where
+  pub none : (more text rest : List ℕ) (frame : Frame) → IsFrame side text frame → ¬ (bytes ++ more ≡ text ++ rest)
+
+-- P of the spans, if there is a whole frame
+abbrev pub IfWholeFrame : Look → (FrameSpans → Type 0) → Type 0
+IfWholeFrame (look.Whole spans) P = P spans
+IfWholeFrame (look.Short need) P = ⊤
+IfWholeFrame look.Never P = ⊤
+
+-- P of the number of bytes that a frame has at least, if there is none so far
+abbrev pub IfShort : Look → (ℕ → Type 0) → Type 0
+IfShort (look.Whole spans) P = ⊤
+IfShort (look.Short need) P = P need
+IfShort look.Never P = ⊤
+
+-- P, if none can be there
+abbrev pub OnNeverFrame : Look → Type 0 → Type 0
+OnNeverFrame (look.Whole spans) P = ⊤
+OnNeverFrame (look.Short need) P = ⊤
+OnNeverFrame look.Never P = P

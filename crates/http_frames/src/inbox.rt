@@ -1,0 +1,222 @@
+//! Frames, one after another, out of what a source gives.
+ghost use Rattle.std.specs.Prelude.{◌≡◌, ◌≢◌, ◌+◌, ◌<◌, ◌≤◌, [], false, true, None, Some, Ok, Err, IfOk, IfSome, OnOk, OnErr, length, drop};
+ghost use Rattle.std.specs.Io.KnownBytes.{IsAtEnd};
+ghost use Rattle.m2m_io.specs.Counts.{Rose};
+ghost use Rattle.http_frames.specs.Stream.{HasFrame, HasNoFrame, Frames};
+ghost use Rattle.http_frames.specs.Spans.{IsFrameAt, AreWithin, frame_at};
+ghost use Rattle.http_frames.specs.Inbox.{Reads, Gives, HoldsNoFrame, IfMessage, UnlessMessage, is_refusal, most_held, TakesNext};
+ghost use Rattle.http_frames.specs.Settled.{IfSettled, OnSettledEnd, OnSettledNever, IsNoFrame};
+
+use crate::held::Held;
+use crate::look::{FrameSpans, LINES_LIMIT, Look, look_for_frame};
+use crate::parts::frame_of;
+use crate::{Frame, FrameFault, Next, Side};
+use httparse::spans::{EMPTY_HEADER_SPAN, HeaderSpan};
+use m2m_io::Source;
+use m2m_value::OutOfMemory;
+use std::alloc::{AllocError, Global};
+use std::marker::Model;
+
+/// What stands at the front of a stream, once that is settled.
+#[derive(Clone, Copy)]
+enum Settled {
+    Whole(FrameSpans),
+    End,
+    Never,
+}
+
+/// What is settled once nothing comes any more, and the bytes held are no whole frame.
+fn settled_at_end(held: &Held) -> Settled
+    ensures end { result ≡ Settled.End → held.now ≡ [] }
+    ensures never { result ≡ Settled.Never → held.now ≢ [] }
+    ensures either { IsNoFrame result }
+{
+    if held.bytes().is_empty() {
+        Settled::End
+    } else {
+        Settled::Never
+    }
+}
+
+/// Reads until it is settled what stands at the front of the stream: only while the bytes held are no whole frame.
+/// Where a frame's lines are is written to `headers`.
+fn settle<S: Source>(
+    held: &mut Held,
+    src: &mut S,
+    side: Side,
+    headers: &mut [HeaderSpan],
+) -> Result<Settled, FrameFault>
+    requires { length headers.old ≡ 64 }
+    ensures reads { Reads (S.left src.old) (S.left src.new) held.old held.new }
+    ensures whole { IfSettled result (IsFrameAt side held.new headers.new) }
+    ensures end { OnSettledEnd result (held.new ≡ []) }
+    ensures at_end { OnSettledEnd result (IsAtEnd (S.left src.new)) }
+    ensures never { OnSettledNever result (HoldsNoFrame side held.new (S.left src.new)) }
+    ensures waiting { OnErr result (HasNoFrame side held.new) }
+    ensures ready { HasFrame side held.old → src.new ≡ src.old }
+    ensures short { IfSettled result
+        (λ spans. HasNoFrame side held.old → length held.new < spans.end + 4096) }
+    ensures small { length held.old < most_held side → length held.new < most_held side }
+    ensures faults { S.faults src.old ≤ S.faults src.new }
+    ensures cause { result ≡ Err FrameFault.ReadFault → Rose (S.faults src.old) (S.faults src.new) }
+    ensures other { result ≢ Err FrameFault.NoFrame }
+{
+    'reads: loop {
+        match look_for_frame(side, held.bytes(), headers) {
+            Look::Whole(spans) => return Ok(Settled::Whole(spans)),
+            Look::Never => return Ok(Settled::Never),
+            Look::Short(need) => {
+                if !held.fill(src, need)? {
+                    return Ok(settled_at_end(held));
+                }
+            }
+        }
+    }
+}
+
+/// Takes the frame that the spans cover off the front.
+fn take_frame(
+    held: &mut Held,
+    alloc: Global,
+    headers: &[HeaderSpan],
+    spans: FrameSpans,
+) -> Result<Frame, AllocError>
+    requires { AreWithin held.old headers.now spans }
+    ensures frame { IfOk result (λ frame. frame ≡ frame_at held.old headers.now spans) }
+    ensures ok { OnOk result (held.new ≡ drop spans.end held.old) }
+    ensures err { OnErr result (held.new ≡ held.old) }
+{
+    let frame = frame_of(alloc, held.bytes(), headers, spans)?;
+    held.skip(spans.end);
+    Ok(frame)
+}
+
+/// Reads what stands next.
+fn read_next<S: Source>(
+    held: &mut Held,
+    alloc: Global,
+    src: &mut S,
+    side: Side,
+) -> Result<Next, FrameFault>
+    ensures message { IfMessage result
+        (Gives side (S.left src.old) (S.left src.new) held.old held.new) }
+    ensures kept { UnlessMessage result (Reads (S.left src.old) (S.left src.new) held.old held.new) }
+    ensures end { result ≡ Ok Next.End → (held.new ≡ []) × IsAtEnd (S.left src.new) }
+    ensures no_frame { result ≡ Err FrameFault.NoFrame → HoldsNoFrame side held.new (S.left src.new) }
+    ensures waiting { result ≡ Err FrameFault.ReadFault → HasNoFrame side held.new }
+    ensures ready { HasFrame side held.old → src.new ≡ src.old }
+    ensures short { HasNoFrame side held.old → IfMessage result (λ frame. length held.new < 4096) }
+    ensures small { length held.old < most_held side → length held.new < most_held side }
+    ensures faults { S.faults src.old ≤ S.faults src.new }
+    ensures cause { result ≡ Err FrameFault.ReadFault → Rose (S.faults src.old) (S.faults src.new) }
+{
+    let mut headers = [EMPTY_HEADER_SPAN; LINES_LIMIT];
+    match settle(held, src, side, &mut headers)? {
+        Settled::Whole(spans) => Ok(Next::Message(take_frame(held, alloc, &headers, spans)?)),
+        Settled::End => Ok(Next::End),
+        Settled::Never => Err(FrameFault::NoFrame),
+    }
+}
+
+fn is_refusal(next: &Result<Next, FrameFault>) -> bool
+    ensures { result ≡ is_refusal next.now }
+{
+    matches!(next, Err(FrameFault::NoFrame))
+}
+
+/// The bytes of a stream that were read and are not yet given in a frame.
+#[derive(Debug, Drop)]
+pub struct Inbox {
+    held: Held,
+    refused: bool,
+}
+
+impl Model for Inbox {
+    ghost use Rattle.http_frames.specs.Inbox.{Intake};
+
+    ghost Value = { Intake };
+
+    ghost view = { λ i. record { held = i.held; refused = i.refused } };
+}
+
+impl Inbox {
+    /// An inbox that holds nothing. It has room for a head, so that reads need memory only for long bodies.
+    pub fn new(alloc: Global) -> Result<Inbox, OutOfMemory>
+        ensures held { IfOk result (λ inbox. inbox.held ≡ []) }
+        ensures refused { IfOk result (λ inbox. inbox.refused ≡ false) }
+    {
+        Ok(Inbox {
+            held: Held::new(alloc)?,
+            refused: false,
+        })
+    }
+
+    fn next<S: Source>(
+        &mut self,
+        alloc: Global,
+        src: &mut S,
+        side: Side,
+    ) -> Result<Next, FrameFault>
+        ensures message { IfMessage result
+            (Gives side (S.left src.old) (S.left src.new) self.old.held self.new.held) }
+        ensures kept { UnlessMessage result
+            (Reads (S.left src.old) (S.left src.new) self.old.held self.new.held) }
+        ensures end { result ≡ Ok Next.End → (self.new.held ≡ []) × IsAtEnd (S.left src.new) }
+        ensures no_frame { self.old.refused ≡ false → result ≡ Err FrameFault.NoFrame
+            → HoldsNoFrame side self.new.held (S.left src.new) }
+        ensures refused { self.new.refused ≡ is_refusal result }
+        ensures over { self.old.refused ≡ true → result ≡ Err FrameFault.NoFrame }
+        ensures over_still { self.old.refused ≡ true → (self.new ≡ self.old) × (src.new ≡ src.old) }
+        ensures waiting { result ≡ Err FrameFault.ReadFault → HasNoFrame side self.new.held }
+        ensures ready { HasFrame side self.old.held → src.new ≡ src.old }
+        ensures short { HasNoFrame side self.old.held
+            → IfMessage result (λ frame. length self.new.held < 4096) }
+        ensures small { length self.old.held < most_held side
+            → length self.new.held < most_held side }
+        ensures faults { S.faults src.old ≤ S.faults src.new }
+        ensures cause { result ≡ Err FrameFault.ReadFault → Rose (S.faults src.old) (S.faults src.new) }
+    {
+        if self.refused {
+            return Err(FrameFault::NoFrame);
+        }
+        let next = read_next(&mut self.held, alloc, src, side);
+        self.refused = is_refusal(&next);
+        next
+    }
+
+    /// The next request of the stream, which is the bytes held and then those that the source has left. It reads at
+    /// most 4,096 bytes at a time, and only while the bytes held are no whole request. After `NoFrame` each call
+    /// answers it; after another fault the next call goes on where this one stopped.
+    pub fn next_request<S: Source>(
+        &mut self,
+        alloc: Global,
+        src: &mut S,
+    ) -> Result<Next, FrameFault>
+        ensures next { TakesNext Side.Request (S.left src.old) (S.left src.new) self.old self.new result }
+
+        // The source stays as it is where a request is held, and after NoFrame the inbox too.
+        ensures ready { HasFrame Side.Request self.old.held → src.new ≡ src.old }
+        ensures over { self.old.refused ≡ true → (self.new ≡ self.old) × (src.new ≡ src.old) }
+
+        // ReadFault comes only where the source failed in this call.
+        ensures count { S.faults src.old ≤ S.faults src.new }
+        ensures cause { result ≡ Err FrameFault.ReadFault → Rose (S.faults src.old) (S.faults src.new) }
+    {
+        self.next(alloc, src, Side::Request)
+    }
+
+    /// The next reply of the stream, as `next_request` has the next request.
+    pub fn next_reply<S: Source>(&mut self, alloc: Global, src: &mut S) -> Result<Next, FrameFault>
+        ensures next { TakesNext Side.Reply (S.left src.old) (S.left src.new) self.old self.new result }
+
+        // The source stays as it is where a reply is held, and after NoFrame the inbox too.
+        ensures ready { HasFrame Side.Reply self.old.held → src.new ≡ src.old }
+        ensures over { self.old.refused ≡ true → (self.new ≡ self.old) × (src.new ≡ src.old) }
+
+        // ReadFault comes only where the source failed in this call.
+        ensures count { S.faults src.old ≤ S.faults src.new }
+        ensures cause { result ≡ Err FrameFault.ReadFault → Rose (S.faults src.old) (S.faults src.new) }
+    {
+        self.next(alloc, src, Side::Reply)
+    }
+}

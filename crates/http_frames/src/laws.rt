@@ -1,0 +1,18 @@
+//! Laws of the definition.
+ghost use Rattle.http_frames.specs.Stream.{FramesAreUnique, NoFrameBeginsAnother};
+ghost use Rattle.http_frames.specs.Text.{WrittenIsRead};
+
+/// A stream has one list of frames that stand at its front, and one rest behind them.
+pub fn frames_are_unique()
+    ensures { FramesAreUnique }
+{}
+
+/// The bytes of a frame tell where it ends, whatever follows.
+pub fn no_frame_begins_another()
+    ensures { NoFrameBeginsAnother }
+{}
+
+/// The text of a frame of the grammar and within the limits is read as that frame.
+pub fn what_is_written_is_read()
+    ensures { WrittenIsRead }
+{}

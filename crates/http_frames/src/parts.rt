@@ -1,0 +1,70 @@
+//! A frame out of the spans of its parts.
+ghost use Rattle.std.specs.Prelude.{◌≡◌, All, IfOk, length, map};
+ghost use Rattle.httparse.specs.Spans.{IsWithin, IsHeaderWithin, header_bytes, span_bytes};
+ghost use Rattle.http_frames.specs.Spans.{IsStartWithin, AreWithin, frame_at, start_at};
+
+use crate::head::StartSpans;
+use crate::look::FrameSpans;
+use crate::{Frame, Lines, Start};
+use httparse::spans::{HeaderSpan, Span};
+use m2m_value::Text;
+use std::alloc::{AllocError, Global};
+
+/// The text that a span covers.
+fn text_of(alloc: Global, bytes: &[u8], span: Span) -> Result<Text, AllocError>
+    requires { IsWithin (length bytes.now) span }
+    ensures { IfOk result (λ text. text ≡ span_bytes bytes.now span) }
+{
+    Ok(Text::of(Vec::from_slice(alloc, span.of(bytes))?))
+}
+
+fn start_of(alloc: Global, bytes: &[u8], start: StartSpans) -> Result<Start, AllocError>
+    requires { IsStartWithin (length bytes.now) start }
+    ensures { IfOk result (λ begin. begin ≡ start_at bytes.now start) }
+{
+    Ok(match start {
+        StartSpans::Ask {
+            method,
+            target,
+            minor,
+        } => Start::Ask {
+            method: text_of(alloc, bytes, method)?,
+            target: text_of(alloc, bytes, target)?,
+            minor,
+        },
+        StartSpans::Answer { status, minor } => Start::Answer { status, minor },
+    })
+}
+
+fn lines_of(alloc: Global, bytes: &[u8], headers: &[HeaderSpan]) -> Result<Lines, AllocError>
+    requires { All (IsHeaderWithin (length bytes.now)) headers.now }
+    ensures { IfOk result (λ lines. lines ≡ map (header_bytes bytes.now) headers.now) }
+{
+    let mut lines = Vec::with_capacity(alloc, headers.len())?;
+    for header in headers {
+        let name = text_of(alloc, bytes, header.name)?;
+        lines.push((name, text_of(alloc, bytes, header.value)?))?;
+    }
+    Ok(Lines::of(lines))
+}
+
+/// The frame that the spans cover.
+pub(crate) fn frame_of(
+    alloc: Global,
+    bytes: &[u8],
+    headers: &[HeaderSpan],
+    spans: FrameSpans,
+) -> Result<Frame, AllocError>
+    requires { AreWithin bytes.now headers.now spans }
+    ensures { IfOk result (λ frame. frame ≡ frame_at bytes.now headers.now spans) }
+{
+    let body = Span {
+        start: spans.body,
+        end: spans.end,
+    };
+    Ok(Frame {
+        start: start_of(alloc, bytes, spans.start)?,
+        lines: lines_of(alloc, bytes, &headers[..spans.lines])?,
+        body: text_of(alloc, bytes, body)?,
+    })
+}
