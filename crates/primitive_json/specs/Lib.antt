@@ -1,0 +1,5 @@
+pub mod Bounds
+pub mod Filters
+pub mod Notes
+pub mod Replies
+pub mod Requests
