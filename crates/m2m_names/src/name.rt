@@ -1,5 +1,6 @@
 //! Names, resource ids and originators as texts.
-ghost use Rattle.std.specs.Prelude.{◌≡◌};
+ghost use Rattle.std.specs.Prelude.{◌≡◌, IsUtf8};
+ghost use Rattle.std.specs.Bool.{OnTrue};
 ghost use Rattle.std.specs.List.{list_all};
 ghost use Rattle.std.specs.Char as chars;
 ghost use Rattle.m2m_names.specs.Name as spec;
@@ -16,8 +17,10 @@ fn is_filled(text: &[u8], most: usize) -> bool
 
 /// Whether the text is a name: 1 to 64 letters, digits, `-`, `.`, `_` and `~` (TS-0001, 9.6.1.3;
 /// the length is the profile's).
+#[tactic(auto, using(crate::proofs::NameLemmas::unreserved_is_utf8))]
 pub fn is_name(text: &[u8]) -> bool
-    ensures { result ≡ spec.is_name text.now }
+    ensures value { result ≡ spec.is_name text.now }
+    ensures utf8 { OnTrue result (IsUtf8 text.now) }
 {
     is_filled(text, 64) && are_unreserved(text)
 }
@@ -36,7 +39,8 @@ fn is_unreserved(byte: u8) -> bool
 
 /// Whether a resource may be given this name: it addresses nothing else, as `la` does.
 pub fn is_free_name(text: &[u8]) -> bool
-    ensures { result ≡ spec.is_free_name text.now }
+    ensures value { result ≡ spec.is_free_name text.now }
+    ensures utf8 { OnTrue result (IsUtf8 text.now) }
 {
     is_name(text) && !(is_virtual(text) || is_mark(text))
 }
@@ -75,8 +79,10 @@ fn are_digits(text: &[u8]) -> bool
 }
 
 /// Whether the text is an originator: 1 to 256 printable ASCII characters without a space (TS-0004, 6.3.3).
+#[tactic(auto, using(crate::proofs::NameLemmas::graphic_is_utf8))]
 pub fn is_originator(text: &[u8]) -> bool
-    ensures { result ≡ spec.is_originator text.now }
+    ensures value { result ≡ spec.is_originator text.now }
+    ensures utf8 { OnTrue result (IsUtf8 text.now) }
 {
     is_filled(text, 256) && are_graphic(text)
 }

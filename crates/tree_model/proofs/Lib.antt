@@ -1,0 +1,9 @@
+pub mod AttributeLemmas
+pub mod TreeLemmas
+pub mod GrowthLemmas
+pub mod PlaceLemmas
+pub mod KeptLemmas
+pub mod SweepLemmas
+pub mod TextLemmas
+pub mod ShownLemmas
+pub mod LiveLemmas

@@ -1,0 +1,19 @@
+use Rattle.std.proofs.Common.{◌≡◌, List, sym, ◌∙◌, subst}
+use Rattle.tree_model.specs.Attributes.{Row, AreInOrder, HoldsRow, LacksRow}
+use Rattle.tree_model.proofs.AttributeLemmas.{set-HoldsRow, insert-LacksRow, in_order-with_value}
+use Rattle.tree_model.proofs.attrs.put.Goals as goal
+
+pub returns-in-Ok-clause-ok : goal.returns-in-Ok-clause-ok
+returns-in-Ok-clause-ok c =
+    let held : HoldsRow c.args.attr c.args.rows.now.items c.in-Ok.at = subst (λ (rows : List Row). HoldsRow c.args.attr rows c.in-Ok.at) c.deref.ensures.value c.in-Ok.ensures in
+    set-HoldsRow c.args.attr c.args.value c.args.rows.now.items c.in-Ok.at held
+
+pub returns-in-Ok-clause-order : goal.returns-in-Ok-clause-order
+returns-in-Ok-clause-order c =
+    let held : HoldsRow c.args.attr c.args.rows.now.items c.in-Ok.at = subst (λ (rows : List Row). HoldsRow c.args.attr rows c.in-Ok.at) c.deref.ensures.value c.in-Ok.ensures in
+    subst AreInOrder (sym (set-HoldsRow c.args.attr c.args.value c.args.rows.now.items c.in-Ok.at held)) (in_order-with_value c.args.attr c.args.value c.args.rows.now.items c.requires)
+
+pub returns-in_ok-insert-in-Err-clause-order : goal.returns-in_ok-insert-in-Err-clause-order
+returns-in_ok-insert-in-Err-clause-order c =
+    let lacked : LacksRow c.args.attr c.args.rows.now.items c.in-Err.at = subst (λ (rows : List Row). LacksRow c.args.attr rows c.in-Err.at) c.deref.ensures.value c.in-Err.ensures in
+    subst AreInOrder (sym (c.in_ok-insert-in-Err.ensures.items ∙ insert-LacksRow c.args.attr c.args.value c.args.rows.now.items c.in-Err.at lacked)) (in_order-with_value c.args.attr c.args.value c.args.rows.now.items c.requires)

@@ -1,0 +1,7 @@
+use Rattle.std.proofs.Common.{◌≡◌, take, map}
+use Rattle.m2m_names.specs.Types.{all_types}
+use Rattle.tree_model.specs.Shown.{shown_ty}
+use Rattle.tree_model.proofs.showing.all_numbers.Given as goal
+
+abbrev pub invariant-loop-ty : goal.invariant-loop-ty
+invariant-loop-ty l = record { told : l.numbers.items ≡ map shown_ty (take l.ty-index l.ty-items); all : l.ty-items ≡ all_types }

@@ -1,0 +1,7 @@
+pub mod Attributes
+pub mod Codes
+pub mod Home
+pub mod Parts
+pub mod Resource
+pub mod Shown
+pub mod Tree

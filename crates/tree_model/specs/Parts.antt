@@ -1,0 +1,16 @@
+-- A resource by what the code keeps.
+use Rattle.tree_model.specs.Resource.{ResourceData}
+use Rattle.tree_model.specs.declared.resource.Resource.TheInside.{Inside}
+
+abbrev pub whole : Inside → ResourceData
+whole r = record {
+  number = r.number;
+  ty = r.ty;
+  name = r.name;
+  parent = r.parent;
+  owner = r.owner;
+  ct = r.moments.ct;
+  lt = r.moments.lt;
+  et = r.moments.et;
+  attrs = r.attrs;
+}

@@ -1,0 +1,48 @@
+-- A resource (TS-0001, 9.6).
+use Rattle.std.specs.Prelude.{◌≡◌, ℕ, ◌^◌, ◌<◌, ◌≤◌, ◌==◌, List, [], ◌++◌, Bool, Option, None, if◌then◌else◌, IsUtf8, refl}
+use Rattle.std.specs.Fmt.{decimal}
+use Rattle.m2m_names.specs.Stamps.{last_moment}
+use Rattle.m2m_names.specs.Types.{ty_row}
+use Rattle.m2m_names.specs.declared.attributes.Attr.TheVariants.{Aei}
+use Rattle.m2m_names.specs.declared.types.Ty.{Ty}
+use Rattle.m2m_names.specs.declared.types.Ty.TheVariants.{Ae}
+use Rattle.tree_model.specs.Attributes.{Row, text_at}
+
+-- `number` is never used again, and `parent` is that of the parent, or 0 for the CSEBase; `ct`,
+-- `lt` and `et` are moments of creation, last change and expiry, in seconds since 1970
+pub record ResourceData : Type 0 where
+  pub number : ℕ
+  pub ty : Ty
+  pub name : List ℕ
+  pub parent : ℕ
+  pub owner : List ℕ
+  pub ct : ℕ
+  pub lt : ℕ
+  pub et : ℕ
+  pub attrs : List Row
+
+-- the type is that type
+abbrev pub is_ty : Ty → Ty → Bool
+is_ty a b = (ty_row a).number == (ty_row b).number
+
+-- it has this number
+abbrev pub has_number : ℕ → ResourceData → Bool
+has_number n r = r.number == n
+
+-- its resource identifier: the short word of its type, and its number
+abbrev pub id_of : ResourceData → List ℕ
+id_of r = (ty_row r.ty).word ++ decimal r.number
+
+-- the AE-ID of an application entity (TS-0001, 7.1.2)
+abbrev pub ae_id : ResourceData → Option (List ℕ)
+ae_id r = if is_ty r.ty Ae then text_at Aei r.attrs else None
+
+-- texts are UTF-8, numbers are counts, and moments end with the year 9999
+pub record IsResource (r : ResourceData) : Type 0 where
+  pub name : IsUtf8 r.name
+  pub owner : IsUtf8 r.owner
+  pub number : r.number < 2 ^ 63
+  pub parent : r.parent < 2 ^ 63
+  pub ct : r.ct ≤ last_moment
+  pub lt : r.lt ≤ last_moment
+  pub et : r.et ≤ last_moment

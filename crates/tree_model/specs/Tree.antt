@@ -1,0 +1,193 @@
+-- A tree of resources: the list of them in order of creation (TS-0001, 9.6).
+use Rattle.std.specs.Prelude.{◌≡◌, ◌<◌, map, slice_index_or, slice_set, ℕ, ◌+◌, ◌==◌, nat_le, nat_lt, min, List, [], ◌∷◌, ◌++◌, length, filter, find, reverse, sum_by, Bool, true, false, not, ◌&&◌, ◌||◌, if◌then◌else◌, Option, Some, None, option_map, unwrap_or}
+use Rattle.std.specs.List.{list_all, list_any}
+use Rattle.std.specs.List.Sorted.{IsStrictlySortedBy}
+use Rattle.std.specs.Option.{option_map_or}
+use Rattle.std.specs.Ordering.{nat_cmp}
+use Rattle.std.specs.Str.{bytes_eq}
+use Rattle.m2m_names.specs.Types.{does_take}
+use Rattle.m2m_names.specs.declared.attributes.Attr.TheVariants.{Mia, Cs}
+use Rattle.m2m_names.specs.declared.types.Ty.{Ty}
+use Rattle.m2m_names.specs.declared.types.Ty.TheVariants.{CseBase, ContentInstance}
+use Rattle.tree_model.specs.Attributes.{count_at}
+use Rattle.tree_model.specs.Resource.{ResourceData, is_ty, has_number, ae_id}
+
+-- ---- what stands in a list
+
+-- the resource of a number
+abbrev pub at : ℕ → List ResourceData → Option ResourceData
+at n nodes = find (has_number n) nodes
+
+-- whether there is one
+abbrev pub has : ℕ → List ResourceData → Bool
+has n nodes = list_any (has_number n) nodes
+
+-- it has this parent
+abbrev pub is_under : ℕ → ResourceData → Bool
+is_under parent r = r.parent == parent
+
+-- the children of a resource, in order of creation
+abbrev pub children_of : ℕ → List ResourceData → List ResourceData
+children_of parent nodes = filter (is_under parent) nodes
+
+-- it is a content instance of this container
+abbrev pub is_instance : ℕ → ResourceData → Bool
+is_instance container r = is_under container r && is_ty r.ty ContentInstance
+
+-- the content instances of a container, oldest first (TS-0001, 9.6.6)
+abbrev pub instances_of : ℕ → List ResourceData → List ResourceData
+instances_of container nodes = filter (is_instance container) nodes
+
+-- the size of an instance in bytes, and of all the instances of a container
+abbrev pub size_of : ResourceData → ℕ
+size_of r = unwrap_or (count_at Cs r.attrs) 0
+
+abbrev pub sizes_of : ℕ → List ResourceData → ℕ
+sizes_of container nodes = sum_by size_of (instances_of container nodes)
+
+-- it is the child of this name
+abbrev pub is_child : ℕ → List ℕ → ResourceData → Bool
+is_child parent name r = is_under parent r && bytes_eq r.name name
+
+-- the number of the child of a name
+abbrev pub child_of : ℕ → List ℕ → List ResourceData → Option ℕ
+child_of parent name nodes = option_map (λ r. r.number) (find (is_child parent name) nodes)
+
+-- the resource, its parent, and so on up to the CSEBase, found from the newest to the oldest
+abbrev pub line_from : ℕ → List ResourceData → List ResourceData
+line_from n [] = []
+line_from n (r ∷ older) =
+    if has_number n r then r ∷ line_from r.parent older else line_from n older
+
+abbrev pub line_of : ℕ → List ResourceData → List ResourceData
+line_of n nodes = line_from n (reverse nodes)
+
+-- how deep a resource stands: the CSEBase at 1
+abbrev pub depth : ℕ → List ResourceData → ℕ
+depth n nodes = length (line_of n nodes)
+
+-- ---- changes
+
+-- the resource takes the place of the one of its number
+abbrev pub replaced : ResourceData → List ResourceData → List ResourceData
+replaced r [] = []
+replaced r (s ∷ nodes) = if has_number r.number s then r ∷ nodes else s ∷ replaced r nodes
+
+-- a resource stays where it isn't picked and its parent stayed
+abbrev pub stays : (ResourceData → Bool) → List ResourceData → ResourceData → Bool
+stays picks stayed r = not (picks r) && ((r.parent == 0) || has r.parent stayed)
+
+-- in order of creation, after those that stayed
+abbrev pub staying : (ResourceData → Bool) → List ResourceData → List ResourceData → List ResourceData
+staying picks stayed [] = []
+staying picks stayed (r ∷ nodes) =
+    if stays picks stayed r
+    then r ∷ staying picks (stayed ++ r ∷ []) nodes
+    else staying picks stayed nodes
+
+-- what stays where these are removed, with all that stands below them
+abbrev pub without : (ResourceData → Bool) → List ResourceData → List ResourceData
+without picks nodes = staying picks [] nodes
+
+-- the reader's own words for it: no resource of its line is picked
+abbrev pub is_spared : (ResourceData → Bool) → List ResourceData → ℕ → Bool
+is_spared picks nodes n = not (list_any picks (line_of n nodes))
+
+-- ---- which resources are live
+
+-- when an instance of the container reaches the greatest age that this one allows
+abbrev pub age_end : Option ResourceData → ResourceData → Option ℕ
+age_end container r =
+    option_map (λ age. r.ct + age) (option_map_or (λ c. count_at Mia c.attrs) container None)
+
+-- the lesser of a number and another, where there is one
+abbrev pub lesser : ℕ → Option ℕ → ℕ
+lesser n other = option_map_or (λ m. min n m) other n
+
+-- the moment at which a resource with this parent is due; the CSEBase has none (TS-0001,
+-- 9.6.1.3.2)
+abbrev pub due_under : Option ResourceData → ResourceData → Option ℕ
+due_under parent r =
+    if is_ty r.ty CseBase then None
+    else (if is_ty r.ty ContentInstance then Some (lesser r.et (age_end parent r)) else Some r.et)
+
+abbrev pub due : List ResourceData → ResourceData → Option ℕ
+due nodes r = due_under (at r.parent nodes) r
+
+abbrev pub is_due : List ResourceData → ℕ → ResourceData → Bool
+is_due nodes moment r = option_map_or (λ at. nat_le at moment) (due nodes r) false
+
+-- the resources that are live at a moment: neither they nor what they stand under is due
+abbrev pub live : ℕ → List ResourceData → List ResourceData
+live moment nodes = without (is_due nodes moment) nodes
+
+-- ---- which lists are trees
+
+-- every number is below this one
+abbrev pub are_below : ℕ → List ResourceData → Bool
+are_below n nodes = list_all (λ s. nat_lt s.number n) nodes
+
+-- it is the first resource, the CSEBase
+abbrev pub is_root : List ResourceData → ResourceData → Bool
+is_root [] r = is_ty r.ty CseBase && (r.parent == 0) && nat_lt 0 r.number
+is_root (s ∷ nodes) r = false
+
+-- its parent is there, or it is the first resource
+abbrev pub is_placed : List ResourceData → ResourceData → Bool
+is_placed nodes r = has r.parent nodes || is_root nodes r
+
+-- a child has the name
+abbrev pub has_child : ℕ → List ℕ → List ResourceData → Bool
+has_child parent name nodes = list_any (is_child parent name) nodes
+
+-- both are given, and they are one
+abbrev pub same_text : Option (List ℕ) → Option (List ℕ) → Bool
+same_text (Some a) (Some b) = bytes_eq a b
+same_text (Some a) None = false
+same_text None (Some b) = false
+same_text None None = false
+
+-- an application entity has this AE-ID
+abbrev pub has_ae_id : Option (List ℕ) → List ResourceData → Bool
+has_ae_id aei nodes = list_any (λ s. same_text (ae_id s) aei) nodes
+
+-- what may come next: its number is new, its parent is there, and its name and AE-ID are free
+abbrev pub fits : List ResourceData → ResourceData → Bool
+fits nodes r =
+    are_below r.number nodes && is_placed nodes r
+    && not (has_child r.parent r.name nodes) && not (has_ae_id (ae_id r) nodes)
+
+-- its parent, where it has one, takes its type (TS-0001, 9.6)
+abbrev pub is_taken : List ResourceData → ResourceData → Bool
+is_taken nodes r = option_map_or (λ p. does_take p.ty r.ty) (at r.parent nodes) true
+
+abbrev pub fits_in : List ResourceData → ResourceData → Bool
+fits_in nodes r = fits nodes r && is_taken nodes r
+
+-- each resource could come after those before it
+abbrev pub grows : (List ResourceData → ResourceData → Bool) → List ResourceData → List ResourceData → Bool
+grows may before [] = true
+grows may before (r ∷ nodes) = may before r && grows may (before ++ r ∷ []) nodes
+
+-- one CSEBase first, numbers ascend, each other resource has its parent before it, and names of
+-- siblings and AE-IDs differ: what every tree keeps
+abbrev pub is_tree : List ResourceData → Bool
+is_tree nodes = grows fits [] nodes
+
+-- besides, each resource stands under a type that takes it
+abbrev pub is_well_formed : List ResourceData → Bool
+is_well_formed nodes = grows fits_in [] nodes
+
+-- what a replacement leaves as it was
+abbrev pub standing : ResourceData → Ty × List ℕ × ℕ × Option (List ℕ)
+standing r = (r.ty, r.name, r.parent, ae_id r)
+
+-- numbers ascend
+abbrev pub AreAscending : List ResourceData → Type 0
+AreAscending nodes = IsStrictlySortedBy nat_cmp (map (λ (r : ResourceData). r.number) nodes)
+
+-- the resource of the number stands at this place
+pub record StandsAt (n : ℕ) (nodes : List ResourceData) (i : ℕ) : Type 0 where
+  pub within : i < length nodes
+  pub found : (d : ResourceData) → at n nodes ≡ Some (slice_index_or nodes i d)
+  pub written : (r : ResourceData) → r.number ≡ n → replaced r nodes ≡ slice_set nodes i r

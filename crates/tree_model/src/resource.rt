@@ -1,0 +1,241 @@
+// A resource, and a change of one.
+ghost use Rattle.std.specs.Prelude.{◌≡◌, ◌<◌, ◌≤◌, ◌^◌, IfOk, OnOk, OnErr, IsUtf8, option_map};
+ghost use Rattle.m2m_names.specs.Stamps.{last_moment};
+ghost use Rattle.tree_model.specs.Attributes.{with_value, without_value};
+ghost use Rattle.tree_model.specs.Resource.{ResourceData, is_ty, ae_id, id_of};
+
+use crate::attrs::{AttrSet, Attrs};
+use m2m_names::{Attr, Ty};
+use m2m_value::{Text, Val};
+use std::alloc::{AllocError as OutOfMemory, Global};
+use std::marker::Model;
+
+/// The moments of a resource: of its creation, of its last change and of its expiry, in seconds
+/// since 1970.
+#[derive(Clone, Copy, Debug, PartialEq, Eq)]
+pub struct Moments {
+    pub ct: u64,
+    pub lt: u64,
+    pub et: u64,
+}
+
+/// A resource (TS-0001, 9.6).
+#[derive(Drop)]
+pub struct Resource {
+    number: u64,
+    ty: Ty,
+    name: Text,
+    parent: u64,
+    owner: Text,
+    moments: Moments,
+    attrs: Attrs,
+}
+
+impl Model for Resource {
+    ghost use Rattle.tree_model.specs.Resource.{ResourceData};
+    ghost use Rattle.tree_model.specs.Codes.{resource_code};
+
+    ghost Value = { ResourceData };
+
+    ghost coded = { resource_code };
+
+    ghost use Rattle.tree_model.specs.Parts.{whole};
+    ghost use Rattle.tree_model.specs.Resource.{IsResource};
+
+    ghost view = { whole };
+
+    ghost invariant = { λ r. IsResource (whole r) };
+}
+
+impl Resource {
+    /// A resource of its number, type, name, parent (0 for the CSEBase), owner, moments and
+    /// attributes.
+    pub fn of(
+        number: u64,
+        ty: Ty,
+        name: Text,
+        parent: u64,
+        owner: Text,
+        moments: Moments,
+        attrs: Attrs,
+    ) -> Resource
+        requires name { IsUtf8 name }
+        requires owner { IsUtf8 owner }
+        requires number { number < 2 ^ 63 }
+        requires parent { parent < 2 ^ 63 }
+        requires ct { moments.ct ≤ last_moment }
+        requires lt { moments.lt ≤ last_moment }
+        requires et { moments.et ≤ last_moment }
+        ensures { result ≡ record {
+          number = number;
+          ty = ty;
+          name = name;
+          parent = parent;
+          owner = owner;
+          ct = moments.ct;
+          lt = moments.lt;
+          et = moments.et;
+          attrs = attrs;
+        } }
+    {
+        Resource {
+            number,
+            ty,
+            name,
+            parent,
+            owner,
+            moments,
+            attrs,
+        }
+    }
+
+    pub fn number(&self) -> u64
+        ensures value { result ≡ self.now.number }
+        ensures count { result < 2 ^ 63 }
+    {
+        self.number
+    }
+
+    pub fn ty(&self) -> Ty
+        ensures { result ≡ self.now.ty }
+    {
+        self.ty
+    }
+
+    /// Whether it is of this type.
+    pub fn is(&self, ty: Ty) -> bool
+        ensures { result ≡ is_ty self.now.ty ty }
+    {
+        self.ty.number() == ty.number()
+    }
+
+    pub fn name(&self) -> &Text
+        ensures value { result.now ≡ self.now.name }
+        ensures utf8 { IsUtf8 result.now }
+    {
+        &self.name
+    }
+
+    /// The number of its parent; 0 for the CSEBase.
+    pub fn parent(&self) -> u64
+        ensures value { result ≡ self.now.parent }
+        ensures count { result < 2 ^ 63 }
+    {
+        self.parent
+    }
+
+    /// The originator of its creation; of an AE its AE-ID.
+    pub fn owner(&self) -> &Text
+        ensures value { result.now ≡ self.now.owner }
+        ensures utf8 { IsUtf8 result.now }
+    {
+        &self.owner
+    }
+
+    /// When it was created, in seconds since 1970.
+    pub fn ct(&self) -> u64
+        ensures value { result ≡ self.now.ct }
+        ensures last { result ≤ last_moment }
+    {
+        self.moments.ct
+    }
+
+    /// When it was last changed, in seconds since 1970.
+    pub fn lt(&self) -> u64
+        ensures value { result ≡ self.now.lt }
+        ensures last { result ≤ last_moment }
+    {
+        self.moments.lt
+    }
+
+    /// When it expires, in seconds since 1970. The CSEBase never does, whatever stands here.
+    pub fn et(&self) -> u64
+        ensures value { result ≡ self.now.et }
+        ensures last { result ≤ last_moment }
+    {
+        self.moments.et
+    }
+
+    pub fn attrs(&self) -> &Attrs
+        ensures { result.now ≡ self.now.attrs }
+    {
+        &self.attrs
+    }
+
+    /// The AE-ID of an application entity (TS-0001, 7.1.2).
+    pub fn ae_id(&self) -> Option<&Text>
+        ensures { option_map (λ t. t.now) result ≡ ae_id self.now }
+    {
+        if self.is(Ty::Ae) {
+            self.attrs.text(Attr::Aei)
+        } else {
+            None
+        }
+    }
+
+    /// Its resource identifier: the short word of its type, and its number.
+    pub fn id(&self, alloc: Global) -> Result<Text, OutOfMemory>
+        ensures value { IfOk result (λ t. t ≡ id_of self.now) }
+        ensures utf8 { IfOk result (λ t. IsUtf8 t) }
+    {
+        let id = format!(in alloc; "{}{}", self.ty.word(), self.number)?;
+        Ok(Text::of(id.into_bytes()))
+    }
+
+    /// It was last changed at this moment.
+    pub fn set_lt(&mut self, moment: u64)
+        requires { moment ≤ last_moment }
+        ensures { self.new ≡ record self.old { lt = moment } }
+    {
+        self.moments.lt = moment;
+    }
+
+    /// It expires at this moment.
+    pub fn set_et(&mut self, moment: u64)
+        requires { moment ≤ last_moment }
+        ensures { self.new ≡ record self.old { et = moment } }
+    {
+        self.moments.et = moment;
+    }
+
+    /// Gives an attribute a value. It takes memory only where the attribute has none.
+    pub fn set(&mut self, attr: Attr, value: Val) -> Result<(), OutOfMemory>
+        ensures ok { OnOk result (self.new ≡ record self.old { attrs = with_value attr value self.old.attrs }) }
+        ensures err { OnErr result (self.new ≡ self.old) }
+    {
+        self.attrs.set(attr, value)
+    }
+
+    /// Takes the value of an attribute away, where it has one.
+    pub fn clear(&mut self, attr: Attr)
+        ensures { self.new ≡ record self.old { attrs = without_value attr self.old.attrs } }
+    {
+        self.attrs.clear(attr)
+    }
+
+    /// An equal resource.
+    pub fn copy(&self, alloc: Global) -> Result<Resource, OutOfMemory>
+        ensures { IfOk result (λ r. r ≡ self.now) }
+    {
+        let name = self.name.copy(alloc)?;
+        let owner = self.owner.copy(alloc)?;
+        Ok(Resource {
+            number: self.number,
+            ty: self.ty,
+            name,
+            parent: self.parent,
+            owner,
+            moments: self.moments,
+            attrs: self.attrs.copy(alloc)?,
+        })
+    }
+}
+
+/// What happened to a resource.
+#[derive(Drop)]
+pub enum Change {
+    Created(Resource),
+    /// The state before, the state after, and the attributes that the request named.
+    Updated(Resource, Resource, AttrSet),
+    Deleted(Resource),
+}
