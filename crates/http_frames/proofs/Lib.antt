@@ -1,8 +1,8 @@
-mod AnswerLemmas
-mod BodyLemmas
-mod FrameLemmas
-mod HeadLemmas
-mod InboxLemmas
-mod LinesLemmas
-mod LookLemmas
-mod TextLemmas
+pub mod AnswerLemmas
+pub mod BodyLemmas
+pub mod FrameLemmas
+pub mod HeadLemmas
+pub mod InboxLemmas
+pub mod LinesLemmas
+pub mod LookLemmas
+pub mod TextLemmas

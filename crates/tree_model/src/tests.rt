@@ -5,7 +5,7 @@ use crate::{
     may_replace, over, stands_in,
 };
 use m2m_names::{Attr, Ty};
-use m2m_value::{Items, Text, Val, write};
+use m2m_value::{Items, Text, Val, read, write};
 use std::alloc::Global;
 use std::marker::Brand;
 use std::sync::ledger::{Blank, Ledger};
@@ -39,23 +39,38 @@ fn resource(alloc: Global, row: Row) -> Result<Resource, OutOfMemory> {
     ))
 }
 
-// The one value that each type of the samples has.
-fn value(alloc: Global, row: Row) -> Result<Option<(Attr, Val)>, OutOfMemory> {
+fn rules(alloc: Global, json: &[u8]) -> Result<Val, OutOfMemory> {
+    match read(alloc, json) {
+        Ok(value) => Ok(value),
+        Err(_) => Err(OutOfMemory),
+    }
+}
+
+// The values that each type of the samples has; a policy's are those of the administrator's.
+fn values(alloc: Global, row: Row) -> Result<Vec<(Attr, Val)>, OutOfMemory> {
+    let mut values = Vec::new(alloc);
     match row.1 {
         Ty::CseBase => {
             let mut ids = Vec::new(alloc);
             ids.push(Val::of_text(text(alloc, b"acp2")?))?;
-            Ok(Some((Attr::Acpi, Val::of_list(Items::of(ids)))))
+            values.push((Attr::Acpi, Val::of_list(Items::of(ids))))?;
         }
-        Ty::ContentInstance => Ok(Some((Attr::Cs, Val::of_num(row.0 as i64)))),
-        _ => Ok(None),
+        Ty::AccessControlPolicy => {
+            let own = rules(alloc, br#"{"acr":[{"acor":["CAdmin"],"acop":63}]}"#)?;
+            let others = br#"{"acr":[{"acor":["CAdmin"],"acop":63},{"acor":["all"],"acop":1}]}"#;
+            values.push((Attr::Pvs, own))?;
+            values.push((Attr::Pv, rules(alloc, others)?))?;
+        }
+        Ty::ContentInstance => values.push((Attr::Cs, Val::of_num(row.0 as i64)))?,
+        _ => (),
     }
+    Ok(values)
 }
 
 // Whether it was put in.
 fn grow(alloc: Global, tree: &mut ListTree, row: Row) -> Result<bool, OutOfMemory> {
     let mut resource = resource(alloc, row)?;
-    if let Some((attr, value)) = value(alloc, row)? {
+    for (attr, value) in values(alloc, row)? {
         resource.set(attr, value)?;
     }
     Ok(may_insert(tree, &resource) && tree.insert(resource).is_ok())
@@ -159,7 +174,7 @@ fn shows_attributes(rt: HostRuntime) -> Result<(), OutOfMemory> {
         ),
         (
             2,
-            br#"{"m2m:acp":{"ct":"20231114T221320","et":"99991231T235959","lt":"20231114T221320","pi":"cb1","ri":"acp2","rn":"acpAdmin","ty":1}}"#,
+            br#"{"m2m:acp":{"ct":"20231114T221320","et":"99991231T235959","lt":"20231114T221320","pi":"cb1","pv":{"acr":[{"acop":63,"acor":["CAdmin"]},{"acop":1,"acor":["all"]}]},"pvs":{"acr":[{"acop":63,"acor":["CAdmin"]}]},"ri":"acp2","rn":"acpAdmin","ty":1}}"#,
         ),
         (
             6,

@@ -1,0 +1,252 @@
+-- What an originator sees keeps its rights.
+use Rattle.std.specs.Prelude.{codes, nat_eq, nat_lt}
+use Rattle.std.proofs.Common.{◌≡◌, ℕ, ◌<◌, List, [], ◌∷◌, ◌++◌, map, length, Bool, true, false, cond, Option, Some, None, option_map, option_to_list, inl, inr, refl, sym, ap, ◌∙◌, subst, arith, append_assoc, length-append}
+use Rattle.std.proofs.lemmas.Bool.{cases_Bool, lt-ltb, ltb-true, false_from_ne_true, or_left, or_right, and_from, cond-true}
+use Rattle.std.proofs.lemmas.Nat.{or_lt}
+use Rattle.std.proofs.lemmas.Nat.Bits.{bit_at_or, bit_at-zero, same_from_bits}
+use Rattle.std.proofs.lemmas.Option.{same_Some}
+use Rattle.std.proofs.lemmas.Slice.Eq.{bytes_eq-Decides}
+use Rattle.std.specs.List.{cons_option, filter_map, find, starts_with}
+use Rattle.std.specs.Option.{option_and_then, option_map_or}
+use Rattle.std.specs.Prelude.{ℤ, pos, negsuc}
+use Rattle.m2m_names.specs.declared.attributes.Attr.{Attr}
+use Rattle.m2m_names.specs.declared.attributes.Attr.TheVariants.{Acpi, Aei, Csi, Macp, Poa, Pv, Pvs}
+use Rattle.m2m_names.specs.declared.types.Ty.TheVariants.{RemoteCse}
+use Rattle.m2m_value.specs.Data.{Data, text, list, elements_of}
+use Rattle.tree_model.specs.Attributes.{Row, is_attr, value_of}
+use Rattle.tree_model.specs.Home.{HomeData}
+use Rattle.tree_model.specs.Resource.{ResourceData, is_ty, ae_id}
+use Rattle.tree_model.specs.Tree.{at, child_of, is_child}
+use Rattle.tree_model.proofs.AttributeLemmas.{is_attr-same}
+use Rattle.tree_model.proofs.TreeLemmas.{at-map}
+use Rattle.policy_eval.specs.Originators.{full_form, own_lead, is_same}
+use Rattle.policy_eval.specs.Rules.{texts_of, member_at, number_at, sum_of_bits, rule_of, rules_in, elements_in}
+use Rattle.policy_eval.specs.Rights.{is_among, with_rule, with_rules, bits_by, grants, relinks, fan_grants}
+use Rattle.policy_eval.specs.Seen.{is_url, first_url, seen_points, retrieve_bit, discovery_bit, may, fills, is_filled_in, may_use, is_one_of, shape_attrs, found_attrs, limit_attrs, size_attrs, member_attrs, Shows, is_shown, plain_rules, seen_rules, seen_value, another, seen_owner, seen, seen_list}
+use Rattle.policy_eval.proofs.SightLemmas.{GiveSame, same_itself, same_from_by, KeepsRights, grants-map, relinks-map, fan_grants-map}
+
+-- ---- values
+
+-- a row of another attribute changes nothing
+skipped : (a b : Attr) (o : Option Data) (rows : List Row) → is_attr a b ≡ false → value_of a (cons_option (option_map (λ (d : Data). (b, d)) o) rows) ≡ value_of a rows
+skipped a b None rows other = refl
+skipped a b (Some d) rows other = rw other refl
+
+pub value-shown : (h : Attr → Data → Option Data) (a : Attr) (k : Data → Data) → ((d : Data) → h a d ≡ Some (k d)) → (rows : List Row) → value_of a (filter_map (λ (row : Row). option_map (λ (d : Data). (row.0, d)) (h row.0 row.1)) rows) ≡ option_map k (value_of a rows)
+value-shown h a k shown [] = refl
+value-shown h a k shown (row ∷ rows) = elim (cases_Bool (is_attr a row.0)) [
+  | inl t ↦
+      let here : h row.0 row.1 ≡ Some (k row.1) = subst (λ (b : Attr). h b row.1 ≡ Some (k row.1)) (is_attr-same a row.0 t) (shown row.1) in
+      rw here (rw t refl)
+  | inr f ↦ skipped a row.0 (h row.0 row.1) _ f ∙ value-shown h a k shown rows ∙ rw f refl
+]
+
+itself : {X : Type 0} (x : Option X) → option_map (λ (d : X). d) x ≡ x
+itself None = refl
+itself (Some d) = refl
+
+-- ---- rules
+
+sum_below : (z : ℤ) → sum_of_bits z < 64
+sum_below (pos n) = elim (cases_Bool (nat_lt n 64)) [
+  | inl t ↦ rw t (ltb-true n 64 t)
+  | inr f ↦ rw f (omega arith)
+]
+sum_below (negsuc n) = omega arith
+
+rule_below : (d : Data) → (rule_of d).bits < 64
+rule_below d = by_number (number_at (codes "acop") d)
+  where
+    by_number : (z : Option ℤ) → option_map_or sum_of_bits z 0 < 64
+    by_number None = omega arith
+    by_number (Some z) = sum_below z
+
+with_below : (home : HomeData) (o : List ℕ) (a : ℕ) (ds : List Data) → a < 64 → with_rules home o a (map rule_of ds) < 64
+with_below home o a [] small = small
+with_below home o a (d ∷ ds) small = with_below home o (with_rule home o a (rule_of d)) ds (elim (cases_Bool (is_among home o (rule_of d).subjects)) [
+  | inl t ↦ rw t (or_lt 6 a (rule_of d).bits small (rule_below d))
+  | inr f ↦ rw f small
+])
+
+pub bits_below : (home : HomeData) (o : List ℕ) (d : Option Data) → bits_by home o (rules_in d) < 64
+bits_below home o d = with_below home o 0 (elements_in (option_and_then (member_at (codes "acr")) d)) (omega arith)
+
+plain_bits : (home : HomeData) (o : List ℕ) (n : ℕ) → n < 64 → bits_by home o (rules_in (Some (plain_rules n))) ≡ n
+plain_bits home o n small = rw (lt-ltb n 64 small) (same_from_bits _ _ (λ i. omega (arith, bit_at_or 0 n i, bit_at-zero i)))
+
+seen_same : (home : HomeData) (o : List ℕ) (d : Data) → GiveSame home o (rules_in (Some (seen_rules home o d))) (rules_in (Some d))
+seen_same home o d = same_from_by home o _ _ (plain_bits home o _ (bits_below home o (Some d)))
+
+shown_or : (s : Bool) (x y : Data) → cond s (Some x) (Some y) ≡ Some (cond s x y)
+shown_or true x y = refl
+shown_or false x y = refl
+
+policy_same : (home : HomeData) (o : List ℕ) (s : Bool) (v : Option Data) → GiveSame home o (rules_in (option_map (λ d. cond s d (seen_rules home o d)) v)) (rules_in v)
+policy_same home o s None = same_itself home o _
+policy_same home o true (Some d) = same_itself home o _
+policy_same home o false (Some d) = seen_same home o d
+
+-- ---- owners
+
+-- a longer text has a longer full form
+full_form-more : (home : HomeData) (o more : List ℕ) → starts_with nat_eq (o ++ more) (47 ∷ []) ≡ starts_with nat_eq o (47 ∷ []) → full_form home (o ++ more) ≡ full_form home o ++ more
+full_form-more home o more same = rw same (elim (cases_Bool (starts_with nat_eq o (47 ∷ []))) [
+  | inl t ↦ rw t refl
+  | inr f ↦ rw f (ap (λ t. 47 ∷ t) (sym (append_assoc (own_lead home) o more)))
+])
+
+pub another_apart : (home : HomeData) (o : List ℕ) → is_same home o (another o) ≡ false
+another_apart home o = false_from_ne_true _ (λ same.
+    let e : full_form home o ≡ full_form home o ++ 32 ∷ [] = (bytes_eq-Decides (full_form home o) (full_form home (another o))).0 same ∙ full_form-more home o (32 ∷ []) (front o) in
+    absurd (omega (arith, ap length e, length-append (full_form home o) (32 ∷ []))))
+  where
+    front : (o : List ℕ) → starts_with nat_eq (o ++ 32 ∷ []) (47 ∷ []) ≡ starts_with nat_eq o (47 ∷ [])
+    front [] = refl
+    front (x ∷ xs) = refl
+
+same_with_itself : (home : HomeData) (o : List ℕ) → is_same home o o ≡ true
+same_with_itself home o = (bytes_eq-Decides (full_form home o) (full_form home o)).1 refl
+
+owner_seen : (home : HomeData) (o : List ℕ) (r : ResourceData) → is_same home o (seen_owner home o r) ≡ is_same home o r.owner
+owner_seen home o r = elim (cases_Bool (is_same home o r.owner)) [
+  | inl t ↦ rw t (same_with_itself home o)
+  | inr f ↦ rw f (another_apart home o)
+]
+
+-- ---- the list as the originator sees it
+
+kept_value : (home : HomeData) (nodes : List ResourceData) (o : List ℕ) (r : ResourceData) (a : Attr) → ((d : Data) → seen_value home nodes o r a d ≡ Some d) → value_of a (seen home nodes o r).attrs ≡ value_of a r.attrs
+kept_value home nodes o r a shown = value-shown (seen_value home nodes o r) a (λ d. d) shown r.attrs ∙ itself _
+
+pub seen_keeps : (home : HomeData) (nodes : List ResourceData) (o : List ℕ) → KeepsRights home o (seen home nodes o)
+seen_keeps home nodes o = record {
+  number = λ r. refl;
+  ty = λ r. refl;
+  parent = λ r. refl;
+  acpi = λ r. ap elements_in (kept_value home nodes o r Acpi (λ d. refl));
+  macp = λ r. ap elements_in (kept_value home nodes o r Macp (λ d. refl));
+  registree = λ r. rw (kept_value home nodes o r Aei (λ d. refl), kept_value home nodes o r Csi (λ d. refl)) refl;
+  owner = λ r. owner_seen home o r;
+  pv = λ r. rw (value-shown (seen_value home nodes o r) Pv (λ d. cond (is_shown home nodes o r Pv) d (seen_rules home o d)) (λ d. shown_or _ d _) r.attrs) (policy_same home o _ (value_of Pv r.attrs));
+  pvs = λ r. rw (value-shown (seen_value home nodes o r) Pvs (λ d. cond (is_shown home nodes o r Pvs) d (seen_rules home o d)) (λ d. shown_or _ d _) r.attrs) (policy_same home o _ (value_of Pvs r.attrs));
+}
+
+find-map : (g : ResourceData → ResourceData) (p : ResourceData → Bool) → ((r : ResourceData) → p (g r) ≡ p r) → (nodes : List ResourceData) → find p (map g nodes) ≡ option_map g (find p nodes)
+find-map g p same [] = refl
+find-map g p same (r ∷ nodes) = rw (same r) (elim (cases_Bool (p r)) [
+  | inl t ↦ rw t refl
+  | inr f ↦ rw f (find-map g p same nodes)
+])
+
+number_kept : (g : ResourceData → ResourceData) → ((r : ResourceData) → (g r).number ≡ r.number) → (x : Option ResourceData) → option_map (λ (r : ResourceData). r.number) (option_map g x) ≡ option_map (λ (r : ResourceData). r.number) x
+number_kept g same None = refl
+number_kept g same (Some r) = ap (λ n. Some n) (same r)
+
+pub at-seen : (home : HomeData) (nodes : List ResourceData) (o : List ℕ) (n : ℕ) → at n (seen_list home nodes o) ≡ option_map (seen home nodes o) (at n nodes)
+at-seen home nodes o n = at-map (seen home nodes o) (λ r. refl) n nodes
+
+pub child-seen : (home : HomeData) (nodes : List ResourceData) (o : List ℕ) (parent : ℕ) (name : List ℕ) → child_of parent name (seen_list home nodes o) ≡ child_of parent name nodes
+child-seen home nodes o parent name =
+    ap (option_map (λ (r : ResourceData). r.number)) (find-map (seen home nodes o) (is_child parent name) (λ r. refl) nodes)
+    ∙ number_kept (seen home nodes o) (λ r. refl) (find (is_child parent name) nodes)
+
+pub ae_id-seen : (home : HomeData) (nodes : List ResourceData) (o : List ℕ) (r : ResourceData) → ae_id (seen home nodes o r) ≡ ae_id r
+ae_id-seen home nodes o r = rw (kept_value home nodes o r Aei (λ d. refl)) refl
+
+pub grants-seen : (home : HomeData) (nodes : List ResourceData) (o : List ℕ) (bit n : ℕ) → grants home (seen_list home nodes o) o bit n ≡ grants home nodes o bit n
+grants-seen home nodes o bit n = grants-map home o (seen home nodes o) (seen_keeps home nodes o) nodes bit n
+
+pub relinks-seen : (home : HomeData) (nodes : List ResourceData) (o : List ℕ) (n : ℕ) → relinks home (seen_list home nodes o) o n ≡ relinks home nodes o n
+relinks-seen home nodes o n = relinks-map home o (seen home nodes o) (seen_keeps home nodes o) nodes n
+
+pub fan_grants-seen : (home : HomeData) (nodes : List ResourceData) (o : List ℕ) (bit n : ℕ) → fan_grants home (seen_list home nodes o) o bit n ≡ fan_grants home nodes o bit n
+fan_grants-seen home nodes o bit n = fan_grants-map home o (seen home nodes o) (seen_keeps home nodes o) nodes bit n
+
+-- ---- what is shown of a resource
+
+shown_kept : (home : HomeData) (nodes : List ResourceData) (o : List ℕ) (r : ResourceData) (a : Attr) → is_shown home nodes o r a ≡ true → value_of a (seen home nodes o r).attrs ≡ value_of a r.attrs
+shown_kept home nodes o r a shown = kept_value home nodes o r a (λ d. rw shown refl)
+
+shape_shown : (home : HomeData) (nodes : List ResourceData) (o : List ℕ) (r : ResourceData) (a : Attr) → is_one_of shape_attrs a ≡ true → is_shown home nodes o r a ≡ true
+shape_shown home nodes o r a one = or_left _ _ (or_left _ _ (or_left _ _ (or_left _ _ (or_left _ _ one))))
+
+retrieve_shown : (home : HomeData) (nodes : List ResourceData) (o : List ℕ) (r : ResourceData) (a : Attr) → may home nodes o retrieve_bit r ≡ true → is_shown home nodes o r a ≡ true
+retrieve_shown home nodes o r a right = or_left _ _ (or_left _ _ (or_left _ _ (or_left _ _ (or_right _ _ right))))
+
+found_shown : (home : HomeData) (nodes : List ResourceData) (o : List ℕ) (r : ResourceData) (a : Attr) → may home nodes o discovery_bit r ≡ true → is_one_of found_attrs a ≡ true → is_shown home nodes o r a ≡ true
+found_shown home nodes o r a right one = or_left _ _ (or_left _ _ (or_left _ _ (or_right _ _ (and_from _ _ right one))))
+
+limits_shown : (home : HomeData) (nodes : List ResourceData) (o : List ℕ) (r : ResourceData) (a : Attr) → fills home nodes o r ≡ true → is_one_of limit_attrs a ≡ true → is_shown home nodes o r a ≡ true
+limits_shown home nodes o r a right one = or_left _ _ (or_left _ _ (or_right _ _ (and_from _ _ right one)))
+
+size_shown : (home : HomeData) (nodes : List ResourceData) (o : List ℕ) (r : ResourceData) (a : Attr) → is_filled_in home nodes o r ≡ true → is_one_of size_attrs a ≡ true → is_shown home nodes o r a ≡ true
+size_shown home nodes o r a right one = or_left _ _ (or_right _ _ (and_from _ _ right one))
+
+members_shown : (home : HomeData) (nodes : List ResourceData) (o : List ℕ) (r : ResourceData) (a : Attr) → may_use home nodes o r ≡ true → is_one_of member_attrs a ≡ true → is_shown home nodes o r a ≡ true
+members_shown home nodes o r a right one = or_right _ _ (and_from _ _ right one)
+
+rows_kept : (h : Row → Option Row) → ((row : Row) → h row ≡ Some row) → (rows : List Row) → filter_map h rows ≡ rows
+rows_kept h kept [] = refl
+rows_kept h kept (row ∷ rows) = rw (kept row) (ap (λ (rest : List Row). row ∷ rest) (rows_kept h kept rows))
+
+hidden_row : (h : Attr → Data → Option Data) (a : Attr) → ((d : Data) → h a d ≡ None) → (rows : List Row) → value_of a (filter_map (λ (row : Row). option_map (λ (d : Data). (row.0, d)) (h row.0 row.1)) rows) ≡ None
+hidden_row h a none [] = refl
+hidden_row h a none (row ∷ rows) = elim (cases_Bool (is_attr a row.0)) [
+  | inl t ↦
+      let here : h row.0 row.1 ≡ None = subst (λ (b : Attr). h b row.1 ≡ None) (is_attr-same a row.0 t) (none row.1) in
+      rw here (hidden_row h a none rows)
+  | inr f ↦ skipped a row.0 (h row.0 row.1) _ f ∙ hidden_row h a none rows
+]
+
+find_passes : (p : List ℕ → Bool) (xs : List (List ℕ)) (x : List ℕ) → find p xs ≡ Some x → p x ≡ true
+find_passes p [] x found = cc
+find_passes p (y ∷ ys) x found = elim (cases_Bool (p y)) [
+  | inl t ↦ (let here : Some y ≡ Some x = rw t at found in subst (λ z. p z ≡ true) (same_Some y x here) t)
+  | inr f ↦ find_passes p ys x (rw f at found)
+]
+
+-- the first URL of what is seen of points of access is their first URL
+one_point : (x : Option (List ℕ)) → ((u : List ℕ) → x ≡ Some u → is_url u ≡ true) → first_url (Some (list (elements_of (map text (option_to_list x))))) ≡ x
+one_point None passes = refl
+one_point (Some u) passes = rw (passes u refl) refl
+
+points_same : (s : Bool) (v : Option Data) → first_url (option_map (λ d. cond s d (seen_points d)) v) ≡ first_url v
+points_same s None = refl
+points_same true (Some d) = refl
+points_same false (Some d) = one_point (first_url (Some d)) (find_passes is_url (texts_of (elements_in (Some d))))
+
+way_shown : (home : HomeData) (nodes : List ResourceData) (o : List ℕ) (r : ResourceData) → is_ty r.ty RemoteCse ≡ true → first_url (value_of Poa (seen home nodes o r).attrs) ≡ first_url (value_of Poa r.attrs)
+way_shown home nodes o r remote =
+    ap first_url (value-shown (seen_value home nodes o r) Poa (λ d. cond (is_shown home nodes o r Poa) d (seen_points d)) (λ d. rw remote (shown_or (is_shown home nodes o r Poa) d (seen_points d))) r.attrs)
+    ∙ points_same (is_shown home nodes o r Poa) (value_of Poa r.attrs)
+
+pub seen_shows : (home : HomeData) (nodes : List ResourceData) (o : List ℕ) (r : ResourceData) → Shows home nodes o r (seen home nodes o r)
+seen_shows home nodes o r = record {
+  number = refl;
+  ty = refl;
+  name = refl;
+  parent = refl;
+  owned = owner_seen home o r;
+  shape = λ a one. shown_kept home nodes o r a (shape_shown home nodes o r a one);
+  pv = ((seen_keeps home nodes o).pv r).bits 0;
+  pvs = ((seen_keeps home nodes o).pvs r).bits 0;
+  way = way_shown home nodes o r;
+  retrieved = λ right. (rows_kept _ (λ row. rw (retrieve_shown home nodes o r row.0 right) refl) r.attrs, rw right refl, rw right refl, rw right refl);
+  found = λ right. (λ a one. shown_kept home nodes o r a (found_shown home nodes o r a right one), found_ct right, found_lt right);
+  filled = λ right a one. shown_kept home nodes o r a (limits_shown home nodes o r a right one);
+  inside = λ right. (λ a one. shown_kept home nodes o r a (size_shown home nodes o r a right one), inside_ct right, inside_et right);
+  used = λ right a one. shown_kept home nodes o r a (members_shown home nodes o r a right one);
+  hidden = λ a hides other away. hidden_row (seen_value home nodes o r) a (λ d. rw (hides, other, away) refl) r.attrs;
+}
+  where
+    found_ct : may home nodes o discovery_bit r ≡ true → (seen home nodes o r).ct ≡ r.ct
+    found_ct right = cond-true _ r.ct 0 (or_left _ _ (or_right _ _ right))
+
+    found_lt : may home nodes o discovery_bit r ≡ true → (seen home nodes o r).lt ≡ r.lt
+    found_lt right = cond-true _ r.lt 0 (or_right _ _ right)
+
+    inside_ct : is_filled_in home nodes o r ≡ true → (seen home nodes o r).ct ≡ r.ct
+    inside_ct right = cond-true _ r.ct 0 (or_right _ _ right)
+
+    inside_et : is_filled_in home nodes o r ≡ true → (seen home nodes o r).et ≡ r.et
+    inside_et right = cond-true _ r.et _ (or_right _ _ right)

@@ -1,0 +1,9 @@
+use Rattle.std.proofs.Common.{◌≡◌, drop}
+use Rattle.std.specs.List.{list_any}
+use Rattle.policy_eval.specs.Originators.{does_name}
+use Rattle.policy_eval.specs.Rules.{texts_of}
+use Rattle.policy_eval.proofs.rights.is_named.Given as goal
+
+abbrev pub invariant-loop-entry : goal.invariant-loop-entry
+invariant-loop-entry l =
+    list_any (does_name l.home l.o) (texts_of (drop l.entry-index l.entries)) ≡ list_any (does_name l.home l.o) (texts_of l.entries)

@@ -1,0 +1,6 @@
+pub mod Originators
+pub mod Rules
+pub mod Rights
+pub mod Forms
+pub mod Laws
+pub mod Seen

@@ -1,0 +1,37 @@
+-- Originators, and the entries of a rule that name them.
+use Rattle.std.specs.Prelude.{ℕ, ◌-◌, nat_eq, Bool, ◌&&◌, ◌||◌, List, ◌++◌, length, take, codes, if◌then◌else◌}
+use Rattle.std.specs.List.{starts_with, ends_with}
+use Rattle.std.specs.Str.{bytes_eq}
+use Rattle.tree_model.specs.Home.{HomeData}
+
+-- what the full forms of this CSE's own begin with, behind `/`: its CSE-ID and `/`
+abbrev pub own_lead : HomeData → List ℕ
+own_lead home = home.csi ++ codes "/"
+
+-- the full form of an originator: itself where it begins with `/`, else it stands behind own CSE-ID
+-- (TS-0001, 7.2)
+abbrev pub full_form : HomeData → List ℕ → List ℕ
+full_form home text =
+    if starts_with nat_eq text (codes "/") then text else codes "/" ++ (own_lead home ++ text)
+
+-- two texts name one originator
+abbrev pub is_same : HomeData → List ℕ → List ℕ → Bool
+is_same home a b = bytes_eq (full_form home a) (full_form home b)
+
+-- what stands before the last byte
+abbrev pub stem_of : List ℕ → List ℕ
+stem_of text = take (length text - 1) text
+
+-- the full form of a text stands at the front of the originator's
+abbrev pub is_front : HomeData → List ℕ → List ℕ → Bool
+is_front home o text = starts_with nat_eq (full_form home o) (full_form home text)
+
+-- the entry ends in `*`, and what stands before it is the front of the originator's full form
+abbrev pub fits_pattern : HomeData → List ℕ → List ℕ → Bool
+fits_pattern home o entry = ends_with nat_eq entry (codes "*") && is_front home o (stem_of entry)
+
+-- an entry of `acor` names the originator (TS-0001, 9.6.2.1)
+abbrev pub does_name : HomeData → List ℕ → List ℕ → Bool
+does_name home o entry =
+    bytes_eq entry (codes "all") || bytes_eq entry (codes "*")
+    || is_same home o entry || fits_pattern home o entry

@@ -1,0 +1,56 @@
+-- What an originator may do.
+use Rattle.std.specs.Prelude.{ℕ, ◌==◌, Bool, List, bit_and, bit_or, false, if◌then◌else◌}
+use Rattle.std.specs.List.{fold, list_any}
+use Rattle.std.specs.Option.{option_map_or}
+use Rattle.tree_model.specs.Home.{HomeData}
+use Rattle.tree_model.specs.Resource.{ResourceData}
+use Rattle.tree_model.specs.Tree.{at}
+use Rattle.policy_eval.specs.Originators.{is_same, does_name}
+use Rattle.policy_eval.specs.Rules.{Subjects, named, only, Rule, rules_of, fan_rules, link_rules}
+
+-- the originator is one of these
+abbrev pub is_among : HomeData → List ℕ → Subjects → Bool
+is_among home o (named entries) = list_any (does_name home o) entries
+is_among home o (only text) = is_same home o text
+
+-- these bits and those of a rule that is for the originator
+abbrev pub with_rule : HomeData → List ℕ → ℕ → Rule → ℕ
+with_rule home o bits rule =
+    if is_among home o rule.subjects then bit_or bits rule.bits else bits
+
+-- these bits and those of all rules that are for the originator
+abbrev pub with_rules : HomeData → List ℕ → ℕ → List Rule → ℕ
+with_rules home o bits rules = fold (with_rule home o) bits rules
+
+-- the bits that the originator has by rules: the union over those that are for it
+abbrev pub bits_by : HomeData → List ℕ → List Rule → ℕ
+bits_by home o rules = with_rules home o 0 rules
+
+-- all bits that are wanted are among those that are had
+abbrev pub has_bits : ℕ → ℕ → Bool
+has_bits had wanted = bit_and had wanted == wanted
+
+-- whether rules give the originator these bits
+abbrev pub do_give : HomeData → List ℕ → ℕ → List Rule → Bool
+do_give home o wanted rules = has_bits (bits_by home o rules) wanted
+
+-- whether the rules of the resource of a number do; nobody has a right on what isn't there
+abbrev pub gives_at : (ResourceData → List Rule) → HomeData → List ResourceData → List ℕ → ℕ → ℕ → Bool
+gives_at rules home nodes o wanted n =
+    option_map_or (λ r. do_give home o wanted (rules r)) (at n nodes) false
+
+-- the originator may do this to the resource of the number
+abbrev pub grants : HomeData → List ResourceData → List ℕ → ℕ → ℕ → Bool
+grants home nodes o wanted n = gives_at (rules_of nodes) home nodes o wanted n
+
+-- the bit of UPDATE in `acop`
+abbrev pub update_bit : ℕ
+update_bit = 4
+
+-- the originator may change its `acpi`
+abbrev pub relinks : HomeData → List ResourceData → List ℕ → ℕ → Bool
+relinks home nodes o n = gives_at (link_rules nodes) home nodes o update_bit n
+
+-- the originator may do this through the group of the number
+abbrev pub fan_grants : HomeData → List ResourceData → List ℕ → ℕ → ℕ → Bool
+fan_grants home nodes o wanted n = gives_at (fan_rules nodes) home nodes o wanted n

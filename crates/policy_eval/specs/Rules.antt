@@ -1,0 +1,157 @@
+-- The rules of a resource.
+use Rattle.std.specs.Prelude.{ℕ, ◌+◌, ◌*◌, ◌-◌, ◌^◌, nat_eq, nat_lt, ℤ, pos, negsuc, Bool, ◌&&◌, List, [], ◌∷◌, length, map, drop, codes, Option, Some, None, option_and_then, unwrap_or, if◌then◌else◌}
+use Rattle.std.specs.Char.{is_ascii_digit}
+use Rattle.std.specs.List.{filter_map, flat_map, starts_with}
+use Rattle.std.specs.Option.{option_map_or}
+use Rattle.m2m_names.specs.declared.attributes.Attr.{Attr}
+use Rattle.m2m_names.specs.declared.attributes.Attr.TheVariants.{Acpi, Aei, Csi, Macp, Pv, Pvs}
+use Rattle.m2m_names.specs.declared.types.Ty.TheVariants.{AccessControlPolicy, Ae, ContentInstance, PollingChannel, RemoteCse}
+use Rattle.m2m_value.specs.Data.{Data}
+use Rattle.m2m_value.specs.View.{as_list, as_number, as_object, as_text, member_of}
+use Rattle.tree_model.specs.Attributes.{value_of, text_at}
+use Rattle.tree_model.specs.Resource.{ResourceData, is_ty}
+use Rattle.tree_model.specs.Tree.{at}
+
+-- ---- rules as they are written
+
+-- whom a rule is for: the originators that its entries name, or the one of a full form
+pub data Subjects : Type 0 where
+  named : List (List ℕ) → Subjects
+  only : List ℕ → Subjects
+
+-- an access control rule: whom it is for, and the sum of the bits that it gives (TS-0001, 9.6.2.1)
+pub record Rule : Type 0 where
+  pub subjects : Subjects
+  pub bits : ℕ
+
+abbrev pub rule_for : Subjects → ℕ → Rule
+rule_for subjects bits = record { subjects = subjects; bits = bits }
+
+-- all six bits: CREATE 1, RETRIEVE 2, UPDATE 4, DELETE 8, NOTIFY 16, DISCOVERY 32 (TS-0001, 9.6.2.1.2)
+abbrev pub all_bits : ℕ
+all_bits = 63
+
+-- a sum of the six bits; a number that is none gives nothing
+abbrev pub sum_of_bits : ℤ → ℕ
+sum_of_bits (pos n) = if nat_lt n 64 then n else 0
+sum_of_bits (negsuc n) = 0
+
+-- the member of an object
+abbrev pub member_at : List ℕ → Data → Option Data
+member_at key d = option_and_then (member_of key) (as_object d)
+
+abbrev pub number_at : List ℕ → Data → Option ℤ
+number_at key d = option_and_then as_number (member_at key d)
+
+-- the elements of a list; of what is no list none
+abbrev pub elements_in : Option Data → List Data
+elements_in d = unwrap_or (option_and_then as_list d) []
+
+-- the texts among values
+abbrev pub texts_of : List Data → List (List ℕ)
+texts_of ds = filter_map as_text ds
+
+-- a rule as it is written: its `acor` and its `acop` (TS-0004, 7.4.2)
+abbrev pub rule_of : Data → Rule
+rule_of d =
+    rule_for (named (texts_of (elements_in (member_at (codes "acor") d))))
+    (option_map_or sum_of_bits (number_at (codes "acop") d) 0)
+
+-- the rules of `pv` or `pvs`: its `acr`
+abbrev pub rules_in : Option Data → List Rule
+rules_in d = map rule_of (elements_in (option_and_then (member_at (codes "acr")) d))
+
+-- ---- the policies that a list of resource ids names
+
+-- the number with one more decimal digit, where it can be a resource's
+abbrev pub with_digit : ℕ → ℕ → Option ℕ
+with_digit n digit =
+    if is_ascii_digit digit && nat_lt (10 * n + (digit - 48)) (2 ^ 63)
+    then Some (10 * n + (digit - 48)) else None
+
+-- the number that decimal digits spell, after those already read
+abbrev pub number_from : ℕ → List ℕ → Option ℕ
+number_from n [] = Some n
+number_from n (digit ∷ digits) =
+    option_and_then (λ m. number_from m digits) (with_digit n digit)
+
+-- the number in the resource id of a policy, as 4 in `acp4`
+abbrev pub policy_number : List ℕ → Option ℕ
+policy_number id =
+    if starts_with nat_eq id (codes "acp") then number_from 0 (drop 3 id) else None
+
+-- the policy of a number
+abbrev pub policy_at : List ResourceData → ℕ → Option ResourceData
+policy_at nodes n =
+    option_and_then (λ (r : ResourceData). if is_ty r.ty AccessControlPolicy then Some r else None)
+    (at n nodes)
+
+-- the policy that an id names
+abbrev pub policy_named : List ResourceData → List ℕ → Option ResourceData
+policy_named nodes id = option_and_then (policy_at nodes) (policy_number id)
+
+abbrev pub policy_of : List ResourceData → Data → Option ResourceData
+policy_of nodes id = option_and_then (policy_named nodes) (as_text id)
+
+-- those policies of the list that ids name, in the order of the ids
+abbrev pub policies_of : List ResourceData → List Data → List ResourceData
+policies_of nodes ids = filter_map (policy_of nodes) ids
+
+-- their rules by one of their two lists, `pv` or `pvs`, joined
+abbrev pub joined : Attr → List ResourceData → List Data → List Rule
+joined attr nodes ids =
+    flat_map (λ (p : ResourceData). rules_in (value_of attr p.attrs)) (policies_of nodes ids)
+
+-- ---- the rules of a resource
+
+-- the ids that an attribute of it lists; an empty list is as good as none
+abbrev pub ids_at : Attr → ResourceData → List Data
+ids_at attr r = elements_in (value_of attr r.attrs)
+
+-- it lists at least one
+abbrev pub lists_ids : Attr → ResourceData → Bool
+lists_ids attr r = nat_lt 0 (length (ids_at attr r))
+
+-- the owner has every right
+abbrev pub owner_rules : ResourceData → List Rule
+owner_rules r = rule_for (only r.owner) all_bits ∷ []
+
+-- by `pv` or `pvs` of the policies that `acpi` names, or the owner's where it names none
+-- (TS-0001, 9.6.1.3.2)
+abbrev pub linked_rules : Attr → List ResourceData → ResourceData → List Rule
+linked_rules attr nodes r =
+    if lists_ids Acpi r then joined attr nodes (ids_at Acpi r) else owner_rules r
+
+-- the AE-ID or CSE-ID of an application entity or of a remote CSE
+abbrev pub registree : ResourceData → Option (List ℕ)
+registree r =
+    if is_ty r.ty Ae then text_at Aei r.attrs else
+    if is_ty r.ty RemoteCse then text_at Csi r.attrs else None
+
+-- a polling channel is its parent's alone (TS-0001, 9.6.21)
+abbrev pub channel_rules : ResourceData → List Rule
+channel_rules parent =
+    option_map_or (λ id. rule_for (only id) all_bits ∷ []) (registree parent) []
+
+-- the rules of what stands above it, where something does
+abbrev pub rules_above : (ResourceData → List Rule) → List ResourceData → ResourceData → List Rule
+rules_above rules nodes r = option_map_or rules (at r.parent nodes) []
+
+-- the rules by which a resource is judged (TS-0001, 9.6.2): a policy's are its own `pvs`, a content
+-- instance's those of its container, a channel's that of its parent
+abbrev pub rules_of : List ResourceData → ResourceData → List Rule
+rules_of nodes r =
+    if is_ty r.ty AccessControlPolicy then rules_in (value_of Pvs r.attrs) else
+    if is_ty r.ty ContentInstance then rules_above (linked_rules Pv nodes) nodes r else
+    if is_ty r.ty PollingChannel then rules_above channel_rules nodes r else linked_rules Pv nodes r
+
+-- the rules by which a fan-out to a group is judged: by `macp`, where it names any, else the group's
+-- own (TS-0001, 9.6.13)
+abbrev pub fan_rules : List ResourceData → ResourceData → List Rule
+fan_rules nodes group =
+    if lists_ids Macp group then joined Pv nodes (ids_at Macp group) else rules_of nodes group
+
+-- the rules by which a change of `acpi` is judged: by `pvs` of the policies that it names as it
+-- stands
+abbrev pub link_rules : List ResourceData → ResourceData → List Rule
+link_rules nodes r = linked_rules Pvs nodes r

@@ -1,0 +1,205 @@
+-- What an originator sees of a list of resources: the list with what it may not see cut out.
+use Rattle.std.specs.Prelude.{◌≡◌, ℕ, pos, nat_lt, Bool, true, false, ◌&&◌, ◌||◌, List, [], ◌∷◌, ◌++◌, map, codes, Option, Some, None, option_map, option_to_list, unwrap_or, find, is_some, if◌then◌else◌}
+use Rattle.std.specs.List.{filter_map, list_any}
+use Rattle.std.specs.Option.{option_map_or}
+use Rattle.m2m_names.specs.declared.attributes.Attr.{Attr}
+use Rattle.m2m_names.specs.declared.attributes.Attr.TheVariants.{Acpi, Aei, Cs, Csi, Csy, Lbl, Macp, Mbs, Mia, Mid, Mni, Mnm, Mt, Poa, Pv, Pvs, St}
+use Rattle.m2m_names.specs.declared.types.Ty.TheVariants.{Container, ContentInstance, Group, RemoteCse}
+use Rattle.m2m_names.specs.UrlReading.{host_end_at}
+use Rattle.m2m_value.specs.Data.{Data, list, number, object, text, elements_of, pairs_of}
+use Rattle.tree_model.specs.Attributes.{Row, is_attr, value_of}
+use Rattle.tree_model.specs.Home.{HomeData}
+use Rattle.tree_model.specs.Resource.{ResourceData, is_ty}
+use Rattle.tree_model.specs.Tree.{at, due}
+use Rattle.policy_eval.specs.Originators.{is_same}
+use Rattle.policy_eval.specs.Rules.{rules_in, rules_of, fan_rules, texts_of, elements_in}
+use Rattle.policy_eval.specs.Rights.{bits_by, has_bits}
+
+-- ---- rights of the originator, by what they show
+
+-- the bits of the operations in `acop` (TS-0001, 9.6.2.1.2)
+abbrev pub create_bit : ℕ
+create_bit = 1
+
+abbrev pub retrieve_bit : ℕ
+retrieve_bit = 2
+
+abbrev pub discovery_bit : ℕ
+discovery_bit = 32
+
+-- it has this bit on the resource
+abbrev pub may : HomeData → List ResourceData → List ℕ → ℕ → ResourceData → Bool
+may home nodes o bit r = has_bits (bits_by home o (rules_of nodes r)) bit
+
+-- it may add to the resource or change it, so that it can learn the resource's limits
+abbrev pub may_fill : HomeData → List ResourceData → List ℕ → ResourceData → Bool
+may_fill home nodes o r = may home nodes o create_bit r || may home nodes o 4 r
+
+-- a container that it may fill
+abbrev pub fills : HomeData → List ResourceData → List ℕ → ResourceData → Bool
+fills home nodes o r = is_ty r.ty Container && may_fill home nodes o r
+
+-- an instance of a container that it may fill
+abbrev pub is_filled_in : HomeData → List ResourceData → List ℕ → ResourceData → Bool
+is_filled_in home nodes o r =
+    is_ty r.ty ContentInstance && option_map_or (fills home nodes o) (at r.parent nodes) false
+
+-- a group that it may change, or fan out to
+abbrev pub may_use : HomeData → List ResourceData → List ℕ → ResourceData → Bool
+may_use home nodes o r =
+    is_ty r.ty Group
+    && (may home nodes o 4 r || nat_lt 0 (bits_by home o (fan_rules nodes r)))
+
+-- ---- what is shown of a resource
+
+-- one of these attributes
+abbrev pub is_one_of : List Attr → Attr → Bool
+is_one_of attrs a = list_any (is_attr a) attrs
+
+-- attributes by which a resource is judged, named or reached
+abbrev pub shape_attrs : List Attr
+shape_attrs = Acpi ∷ Macp ∷ Aei ∷ Csi ∷ []
+
+-- what discovery may tell of it
+abbrev pub found_attrs : List Attr
+found_attrs = Lbl ∷ St ∷ Cs ∷ []
+
+-- the limits of a container, and how often it was filled
+abbrev pub limit_attrs : List Attr
+limit_attrs = Mni ∷ Mbs ∷ Mia ∷ St ∷ []
+
+-- the size of an instance
+abbrev pub size_attrs : List Attr
+size_attrs = Cs ∷ []
+
+-- the members of a group
+abbrev pub member_attrs : List Attr
+member_attrs = Mid ∷ Mnm ∷ Mt ∷ Csy ∷ []
+
+-- the value of an attribute is shown
+abbrev pub is_shown : HomeData → List ResourceData → List ℕ → ResourceData → Attr → Bool
+is_shown home nodes o r a =
+    is_one_of shape_attrs a
+    || may home nodes o retrieve_bit r
+    || (may home nodes o discovery_bit r && is_one_of found_attrs a)
+    || (fills home nodes o r && is_one_of limit_attrs a)
+    || (is_filled_in home nodes o r && is_one_of size_attrs a)
+    || (may_use home nodes o r && is_one_of member_attrs a)
+
+-- rules that give everyone these bits, as `pv` or `pvs` writes them
+abbrev pub plain_rules : ℕ → Data
+plain_rules bits =
+    object (pairs_of ((
+      codes "acr",
+      list (elements_of (object (pairs_of (
+          (codes "acop", number (pos bits)) ∷ (codes "acor", list (elements_of (text (codes "all") ∷ []))) ∷ [])) ∷ [])),
+    ) ∷ []))
+
+-- of the rules of a policy the originator sees what they give it
+abbrev pub seen_rules : HomeData → List ℕ → Data → Data
+seen_rules home o rules = plain_rules (bits_by home o (rules_in (Some rules)))
+
+-- a URL of a point of access (RFC 3986)
+abbrev pub is_url : List ℕ → Bool
+is_url address = is_some (host_end_at address)
+
+-- the first of the points of access that is a URL
+abbrev pub first_url : Option Data → Option (List ℕ)
+first_url points = find is_url (texts_of (elements_in points))
+
+-- of the points of access of a remote CSE the originator sees that one
+abbrev pub seen_points : Data → Data
+seen_points points = list (elements_of (map text (option_to_list (first_url (Some points)))))
+
+-- the points of access of a remote CSE
+abbrev pub is_way : ResourceData → Attr → Bool
+is_way r a = is_ty r.ty RemoteCse && is_attr a Poa
+
+-- what it sees of a value
+abbrev pub seen_value : HomeData → List ResourceData → List ℕ → ResourceData → Attr → Data → Option Data
+seen_value home nodes o r a d =
+    if is_shown home nodes o r a then Some d else
+    if is_one_of (Pv ∷ Pvs ∷ []) a then Some (seen_rules home o d) else
+    if is_way r a then Some (seen_points d) else None
+
+abbrev pub seen_row : HomeData → List ResourceData → List ℕ → ResourceData → Row → Option Row
+seen_row home nodes o r row =
+    option_map (λ d. (row.0, d)) (seen_value home nodes o r row.0 row.1)
+
+-- a text that is never the originator's full form
+abbrev pub another : List ℕ → List ℕ
+another o = o ++ codes " "
+
+-- whether it owns the resource
+abbrev pub seen_owner : HomeData → List ℕ → ResourceData → List ℕ
+seen_owner home o r = if is_same home o r.owner then o else another o
+
+-- its moments
+abbrev pub seen_ct : HomeData → List ResourceData → List ℕ → ResourceData → ℕ
+seen_ct home nodes o r =
+    if may home nodes o retrieve_bit r || may home nodes o discovery_bit r || is_filled_in home nodes o r
+    then r.ct else 0
+
+abbrev pub seen_lt : HomeData → List ResourceData → List ℕ → ResourceData → ℕ
+seen_lt home nodes o r =
+    if may home nodes o retrieve_bit r || may home nodes o discovery_bit r then r.lt else 0
+
+-- where the expiry is hidden, when it is due is seen
+abbrev pub seen_et : HomeData → List ResourceData → List ℕ → ResourceData → ℕ
+seen_et home nodes o r =
+    if may home nodes o retrieve_bit r || is_filled_in home nodes o r
+    then r.et else unwrap_or (due nodes r) 0
+
+-- the resource as the originator sees it
+abbrev pub seen : HomeData → List ResourceData → List ℕ → ResourceData → ResourceData
+seen home nodes o r = record {
+  number = r.number;
+  ty = r.ty;
+  name = r.name;
+  parent = r.parent;
+  owner = seen_owner home o r;
+  ct = seen_ct home nodes o r;
+  lt = seen_lt home nodes o r;
+  et = seen_et home nodes o r;
+  attrs = filter_map (seen_row home nodes o r) r.attrs;
+}
+
+-- the list as the originator sees it
+abbrev pub seen_list : HomeData → List ResourceData → List ℕ → List ResourceData
+seen_list home nodes o = map (seen home nodes o) nodes
+
+-- ---- the same, as a reader would say it
+
+-- these attributes have the same values
+abbrev pub Agree : List Attr → ResourceData → ResourceData → Type 0
+Agree attrs s r = (a : Attr) → is_one_of attrs a ≡ true → value_of a s.attrs ≡ value_of a r.attrs
+
+-- what a resource s, seen by the originator, shows of the resource r
+pub record Shows (home : HomeData) (nodes : List ResourceData) (o : List ℕ) (r s : ResourceData) : Type 0 where
+  -- always: where it stands, whether the originator owns it, by what it is judged, named and
+  -- reached, and what its rules give the originator
+  pub number : s.number ≡ r.number
+  pub ty : s.ty ≡ r.ty
+  pub name : s.name ≡ r.name
+  pub parent : s.parent ≡ r.parent
+  pub owned : is_same home o s.owner ≡ is_same home o r.owner
+  pub shape : Agree shape_attrs s r
+  pub pv : bits_by home o (rules_in (value_of Pv s.attrs)) ≡ bits_by home o (rules_in (value_of Pv r.attrs))
+  pub pvs : bits_by home o (rules_in (value_of Pvs s.attrs)) ≡ bits_by home o (rules_in (value_of Pvs r.attrs))
+  pub way : is_ty r.ty RemoteCse ≡ true →
+      first_url (value_of Poa s.attrs) ≡ first_url (value_of Poa r.attrs)
+  -- with RETRIEVE all but another owner's name
+  pub retrieved : may home nodes o retrieve_bit r ≡ true →
+      (s.attrs ≡ r.attrs) × (s.ct ≡ r.ct) × (s.lt ≡ r.lt) × (s.et ≡ r.et)
+  -- with DISCOVERY
+  pub found : may home nodes o discovery_bit r ≡ true →
+      Agree found_attrs s r × (s.ct ≡ r.ct) × (s.lt ≡ r.lt)
+  -- of a container that it may fill, and of its instances
+  pub filled : fills home nodes o r ≡ true → Agree limit_attrs s r
+  pub inside : is_filled_in home nodes o r ≡ true →
+      Agree size_attrs s r × (s.ct ≡ r.ct) × (s.et ≡ r.et)
+  -- of a group that it may use
+  pub used : may_use home nodes o r ≡ true → Agree member_attrs s r
+  -- nothing else
+  pub hidden : (a : Attr) → is_shown home nodes o r a ≡ false →
+      is_one_of (Pv ∷ Pvs ∷ []) a ≡ false → is_way r a ≡ false → value_of a s.attrs ≡ None

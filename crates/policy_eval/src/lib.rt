@@ -1,0 +1,23 @@
+//! Who may do what: the rights of an originator on the resources of a tree, by its access control
+//! policies (TS-0001, 9.6.2).
+//!
+//! Callers ask `granted` for an operation, `may_relink` for a change of `acpi`, and `fan_granted`
+//! for a fan-out to a group. Each answers exactly its definition over the plain list of resources
+//! and the home (`grants`, `relinks` and `fan_grants` of `specs/Rights`), takes no memory, and looks
+//! up the resource, the one that stands for it where it is a content instance or a polling channel,
+//! and each policy that is named. Callers owe that the tree has the resource, and that the
+//! originator is one. Full forms are compared without being built.
+//!
+//! Two laws over every list stand on functions without a body: a removal grants nothing to anyone,
+//! and the list as an originator sees it gives it the same resources and the same rights.
+#![tactic(auto)]
+
+mod laws;
+mod originators;
+mod policies;
+mod rights;
+#[cfg(test)]
+mod tests;
+
+pub use laws::{removal_grants_nothing, sight_keeps_rights};
+pub use rights::{fan_granted, granted, may_relink};

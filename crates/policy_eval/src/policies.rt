@@ -1,0 +1,148 @@
+// Rules and policies as resources keep them.
+ghost use Rattle.std.specs.Prelude.{◌≡◌, ◌<◌, ◌^◌, codes, map, option_map, IfSome};
+ghost use Rattle.std.specs.Option.{option_map_or};
+ghost use Rattle.policy_eval.specs.Rules as spec;
+
+use m2m_names::{Attr, Ty};
+use m2m_value::Val;
+use tree_model::{Resource, Tree};
+
+// The member of an object.
+fn member_at<'a>(value: &'a Val, key: &[u8]) -> Option<&'a Val>
+    ensures { option_map (λ v. v.now) result ≡ spec.member_at key.now value.now }
+{
+    value.as_obj()?.get(key)
+}
+
+// The elements of a list; of what is no list none.
+fn elements_in(value: Option<&Val>) -> &[Val]
+    ensures { result.now ≡ spec.elements_in (option_map (λ v. v.now) value.entry) }
+{
+    match value {
+        Some(value) => elements_of(value),
+        None => &[],
+    }
+}
+
+fn elements_of(value: &Val) -> &[Val]
+    ensures { result.now ≡ spec.elements_in (Some value.now) }
+{
+    match value.as_list() {
+        Some(items) => items.entries(),
+        None => &[],
+    }
+}
+
+/// The rules of `pv` or `pvs`, as they are written.
+pub fn rules_in(value: Option<&Val>) -> &[Val]
+    ensures { map spec.rule_of result.now ≡ spec.rules_in (option_map (λ v. v.now) value.entry) }
+{
+    match value {
+        Some(value) => elements_in(member_at(value, b"acr")),
+        None => &[],
+    }
+}
+
+/// The entries of a rule's `acor`.
+pub fn entries_of(rule: &Val) -> &[Val]
+    ensures { result.now ≡ spec.elements_in (spec.member_at (codes "acor") rule.now) }
+{
+    elements_in(member_at(rule, b"acor"))
+}
+
+/// The bits that a rule gives, by its `acop`.
+pub fn bits_of(rule: &Val) -> u32
+    ensures { result ≡ (spec.rule_of rule.now).bits }
+{
+    match number_at(rule, b"acop") {
+        Some(n) => sum_of_bits(n),
+        None => 0,
+    }
+}
+
+fn number_at(value: &Val, key: &[u8]) -> Option<i64>
+    ensures { result ≡ spec.number_at key.now value.now }
+{
+    member_at(value, key)?.as_num()
+}
+
+fn sum_of_bits(n: i64) -> u32
+    ensures { result ≡ spec.sum_of_bits n }
+{
+    if n < 0 || n > 63 { 0 } else { n as u32 }
+}
+
+fn with_digit(n: u64, digit: u8) -> Option<u64>
+    requires { n < 2 ^ 63 }
+    ensures value { result ≡ spec.with_digit n digit }
+    ensures bound { IfSome result (λ m. m < 2 ^ 63) }
+{
+    if !digit.is_ascii_digit() {
+        return None;
+    }
+    let number = 10 * u128::from(n) + u128::from(digit - b'0');
+    if number < 1 << 63 {
+        Some(number as u64)
+    } else {
+        None
+    }
+}
+
+fn number_in(digits: &[u8]) -> Option<u64>
+    ensures { result ≡ spec.number_from 0 digits.now }
+{
+    let mut number = 0;
+    for digit in digits {
+        number = with_digit(number, *digit)?;
+    }
+    Some(number)
+}
+
+// The number in the resource id of a policy.
+fn policy_number(id: &[u8]) -> Option<u64>
+    ensures { result ≡ spec.policy_number id.now }
+{
+    if id.starts_with(b"acp".as_slice()) {
+        number_in(&id[3..])
+    } else {
+        None
+    }
+}
+
+fn policy_at<T: Tree>(tree: &T, number: u64) -> Option<&Resource>
+    ensures { option_map (λ r. r.now) result ≡ spec.policy_at (T.nodes tree.now) number }
+{
+    let resource = tree.get(number)?;
+    if resource.is(Ty::AccessControlPolicy) {
+        Some(resource)
+    } else {
+        None
+    }
+}
+
+/// The policy that an id names: one look-up.
+pub fn policy_named<'a, T: Tree>(tree: &'a T, id: &Val) -> Option<&'a Resource>
+    ensures { option_map (λ r. r.now) result ≡ spec.policy_of (T.nodes tree.now) id.now }
+{
+    policy_at(tree, policy_number(id.as_text()?.entries())?)
+}
+
+/// The ids that an attribute of a resource lists.
+pub fn ids_at(attr: Attr, resource: &Resource) -> &[Val]
+    ensures { result.now ≡ spec.ids_at attr resource.now }
+{
+    elements_in(resource.attrs().get(attr))
+}
+
+/// The AE-ID or CSE-ID of an application entity or of a remote CSE.
+pub fn registree(resource: &Resource) -> Option<&[u8]>
+    ensures { option_map (λ t. t.now) result ≡ spec.registree resource.now }
+{
+    if resource.is(Ty::Ae) {
+        return Some(resource.attrs().text(Attr::Aei)?.entries());
+    }
+    if resource.is(Ty::RemoteCse) {
+        return Some(resource.attrs().text(Attr::Csi)?.entries());
+    }
+    None
+}

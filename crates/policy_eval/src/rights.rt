@@ -1,0 +1,174 @@
+//! The rights of an originator.
+ghost use Rattle.std.specs.Prelude.{◌≡◌, [], ◌∷◌, IsTrue, map};
+ghost use Rattle.m2m_names.specs.Name.{is_originator};
+ghost use Rattle.tree_model.specs.Tree.{has};
+ghost use Rattle.policy_eval.specs.Rules as spec_rules;
+ghost use Rattle.policy_eval.specs.Rules.{named, texts_of};
+ghost use Rattle.policy_eval.specs.Rights as spec;
+
+use crate::originators::{does_name, is_same};
+use crate::policies::{bits_of, entries_of, ids_at, policy_named, registree, rules_in};
+use m2m_names::{Attr, Op, Ty};
+use m2m_value::Val;
+use tree_model::{Home, Resource, Tree};
+
+const ALL_BITS: u32 = 63;
+
+// Whether an entry of `acor` names the originator.
+fn is_named(home: &Home, o: &[u8], entries: &[Val]) -> bool
+    ensures { result ≡ spec.is_among home.now o.now (named (texts_of entries.now)) }
+{
+    for entry in entries {
+        if let Some(text) = entry.as_text() {
+            if does_name(home, o, text.entries()) {
+                return true;
+            }
+        }
+    }
+    false
+}
+
+fn with_rule(home: &Home, o: &[u8], bits: u32, rule: &Val) -> u32
+    ensures { result ≡ spec.with_rule home.now o.now bits (spec_rules.rule_of rule.now) }
+{
+    if is_named(home, o, entries_of(rule)) {
+        bits | bits_of(rule)
+    } else {
+        bits
+    }
+}
+
+// The bits, and those that rules give the originator besides.
+fn with_rules(home: &Home, o: &[u8], bits: u32, rules: &[Val]) -> u32
+    ensures { result ≡ spec.with_rules home.now o.now bits (map spec_rules.rule_of rules.now) }
+{
+    let mut bits = bits;
+    for rule in rules {
+        bits = with_rule(home, o, bits, rule);
+    }
+    bits
+}
+
+// The bits that the policies which ids name give by one of their lists of spec_rules.
+fn joined<T: Tree>(tree: &T, home: &Home, o: &[u8], attr: Attr, ids: &[Val]) -> u32
+    ensures { result ≡ spec.bits_by home.now o.now (spec_rules.joined attr (T.nodes tree.now) ids.now) }
+{
+    let mut bits = 0;
+    for id in ids {
+        if let Some(policy) = policy_named(tree, id) {
+            bits = with_rules(home, o, bits, rules_in(policy.attrs().get(attr)));
+        }
+    }
+    bits
+}
+
+// All bits to one originator, and none to any other.
+fn only(home: &Home, o: &[u8], text: &[u8]) -> u32
+    ensures { result ≡ spec.bits_by home.now o.now
+        (spec_rules.rule_for (spec_rules.only text.now) spec_rules.all_bits ∷ []) }
+{
+    if is_same(home, o, text) { ALL_BITS } else { 0 }
+}
+
+// By one of the two lists of the policies that `acpi` names, or the owner's where it names none.
+fn linked<T: Tree>(tree: &T, home: &Home, o: &[u8], attr: Attr, resource: &Resource) -> u32
+    ensures { result ≡ spec.bits_by home.now o.now
+        (spec_rules.linked_rules attr (T.nodes tree.now) resource.now) }
+{
+    let ids = ids_at(Attr::Acpi, resource);
+    if ids.is_empty() {
+        only(home, o, resource.owner().entries())
+    } else {
+        joined(tree, home, o, attr, ids)
+    }
+}
+
+fn of_channel(home: &Home, o: &[u8], parent: &Resource) -> u32
+    ensures { result ≡ spec.bits_by home.now o.now (spec_rules.channel_rules parent.now) }
+{
+    match registree(parent) {
+        Some(id) => only(home, o, id),
+        None => 0,
+    }
+}
+
+// By the rules of the resource.
+fn bits<T: Tree>(tree: &T, home: &Home, o: &[u8], resource: &Resource) -> u32
+    ensures { result ≡ spec.bits_by home.now o.now (spec_rules.rules_of (T.nodes tree.now) resource.now) }
+{
+    if resource.is(Ty::AccessControlPolicy) {
+        return with_rules(home, o, 0, rules_in(resource.attrs().get(Attr::Pvs)));
+    }
+    if resource.is(Ty::ContentInstance) {
+        return match tree.get(resource.parent()) {
+            Some(container) => linked(tree, home, o, Attr::Pv, container),
+            None => 0,
+        };
+    }
+    if resource.is(Ty::PollingChannel) {
+        return match tree.get(resource.parent()) {
+            Some(parent) => of_channel(home, o, parent),
+            None => 0,
+        };
+    }
+    linked(tree, home, o, Attr::Pv, resource)
+}
+
+// By the rules of a fan-out to the group.
+fn fan_bits<T: Tree>(tree: &T, home: &Home, o: &[u8], group: &Resource) -> u32
+    ensures { result ≡ spec.bits_by home.now o.now (spec_rules.fan_rules (T.nodes tree.now) group.now) }
+{
+    let ids = ids_at(Attr::Macp, group);
+    if ids.is_empty() {
+        bits(tree, home, o, group)
+    } else {
+        joined(tree, home, o, Attr::Pv, ids)
+    }
+}
+
+fn has_bits(had: u32, wanted: u32) -> bool
+    ensures { result ≡ spec.has_bits had wanted }
+{
+    had & wanted == wanted
+}
+
+/// Whether the originator has all these bits of `acop` on the resource of the number, by its rules
+/// (TS-0001, 9.6.2). It takes no memory, and looks up the resource, its parent where that is
+/// judged in its place, and each policy that `acpi` names.
+pub fn granted<T: Tree>(tree: &T, home: &Home, o: &[u8], bit: u32, number: u64) -> bool
+    requires originator { IsTrue (is_originator o.now) }
+    requires resource { IsTrue (has number (T.nodes tree.now)) }
+    ensures { result ≡ spec.grants home.now (T.nodes tree.now) o.now bit number }
+{
+    match tree.get(number) {
+        Some(resource) => has_bits(bits(tree, home, o, resource), bit),
+        None => false,
+    }
+}
+
+/// Whether the originator may change `acpi` of the resource of the number: by UPDATE in `pvs` of
+/// the policies that it names as it stands, or as the owner where it names none.
+pub fn may_relink<T: Tree>(tree: &T, home: &Home, o: &[u8], number: u64) -> bool
+    requires originator { IsTrue (is_originator o.now) }
+    requires resource { IsTrue (has number (T.nodes tree.now)) }
+    ensures { result ≡ spec.relinks home.now (T.nodes tree.now) o.now number }
+{
+    match tree.get(number) {
+        Some(resource) => has_bits(linked(tree, home, o, Attr::Pvs, resource), Op::Update.bit()),
+        None => false,
+    }
+}
+
+/// Whether the originator has all these bits of `acop` for a fan-out to the group of the number: by
+/// `pv` of the policies that `macp` names, or by the rules of the group where it names none
+/// (TS-0001, 9.6.13).
+pub fn fan_granted<T: Tree>(tree: &T, home: &Home, o: &[u8], bit: u32, group: u64) -> bool
+    requires originator { IsTrue (is_originator o.now) }
+    requires resource { IsTrue (has group (T.nodes tree.now)) }
+    ensures { result ≡ spec.fan_grants home.now (T.nodes tree.now) o.now bit group }
+{
+    match tree.get(group) {
+        Some(resource) => has_bits(fan_bits(tree, home, o, resource), bit),
+        None => false,
+    }
+}
