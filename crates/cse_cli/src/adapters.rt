@@ -2,6 +2,7 @@
 ghost use Rattle.std.specs.Prelude.{◌≡◌, ◌<◌, ◌≤◌, None, length, take, IfOk, OnOk, OnErr};
 ghost use Rattle.std.specs.Io.KnownBytes.{Appends, Keeps};
 ghost use Rattle.m2m_io.specs.Counts.{Rose};
+ghost use Rattle.m2m_io.specs.Sides.{no_side};
 
 use m2m_io::{Clock, Failed, Sink, Source};
 use std::alloc::{AllocError, Global};
@@ -29,6 +30,8 @@ impl<R: Read> Source for StdIn<R> {
     ghost left = { λ s. R.remaining s.reader };
 
     ghost faults = { λ s. s.faults };
+
+    ghost kept_by_read = { λ _. no_side };
 
     fn read(&mut self, buf: &mut [u8]) -> Result<usize, Failed> {
         match self.reader.read(buf) {
@@ -81,6 +84,8 @@ impl<W: Write> Sink for StdOut<W> {
     ghost written = { λ s. W.contents s.writer };
 
     ghost faults = { λ s. s.faults };
+
+    ghost kept_by_put = { λ _. no_side };
 
     fn put(&mut self, bytes: &[u8]) -> Result<(), Failed> {
         let mut rest = bytes;

@@ -91,6 +91,7 @@ impl Held {
         ensures end { result ≡ Ok 0 → IsAtEnd (S.left src.new) }
         ensures err { OnErr result (self.new ≡ self.old) }
         ensures faults { S.faults src.old ≤ S.faults src.new }
+        ensures beside { S.kept_by_read src.new ≡ S.kept_by_read src.old }
         ensures cause { result ≡ Err FrameFault.ReadFault → Rose (S.faults src.old) (S.faults src.new) }
         ensures other { result ≢ Err FrameFault.NoFrame }
     {
@@ -109,6 +110,7 @@ impl Held {
         ensures ended { result ≡ Ok false → (length self.new < need) × IsAtEnd (S.left src.new) }
         ensures err { OnErr result (length self.new < need) }
         ensures faults { S.faults src.old ≤ S.faults src.new }
+        ensures beside { S.kept_by_read src.new ≡ S.kept_by_read src.old }
         ensures cause { result ≡ Err FrameFault.ReadFault → Rose (S.faults src.old) (S.faults src.new) }
         ensures other { result ≢ Err FrameFault.NoFrame }
     {

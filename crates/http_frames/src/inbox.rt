@@ -58,6 +58,7 @@ fn settle<S: Source>(
         (λ spans. HasNoFrame side held.old → length held.new < spans.end + 4096) }
     ensures small { length held.old < most_held side → length held.new < most_held side }
     ensures faults { S.faults src.old ≤ S.faults src.new }
+    ensures beside { S.kept_by_read src.new ≡ S.kept_by_read src.old }
     ensures cause { result ≡ Err FrameFault.ReadFault → Rose (S.faults src.old) (S.faults src.new) }
     ensures other { result ≢ Err FrameFault.NoFrame }
 {
@@ -108,6 +109,7 @@ fn read_next<S: Source>(
     ensures short { HasNoFrame side held.old → IfMessage result (λ frame. length held.new < 4096) }
     ensures small { length held.old < most_held side → length held.new < most_held side }
     ensures faults { S.faults src.old ≤ S.faults src.new }
+    ensures beside { S.kept_by_read src.new ≡ S.kept_by_read src.old }
     ensures cause { result ≡ Err FrameFault.ReadFault → Rose (S.faults src.old) (S.faults src.new) }
 {
     let mut headers = [EMPTY_HEADER_SPAN; LINES_LIMIT];
@@ -174,6 +176,7 @@ impl Inbox {
         ensures small { length self.old.held < most_held side
             → length self.new.held < most_held side }
         ensures faults { S.faults src.old ≤ S.faults src.new }
+        ensures beside { S.kept_by_read src.new ≡ S.kept_by_read src.old }
         ensures cause { result ≡ Err FrameFault.ReadFault → Rose (S.faults src.old) (S.faults src.new) }
     {
         if self.refused {
@@ -201,6 +204,9 @@ impl Inbox {
         // ReadFault comes only where the source failed in this call.
         ensures count { S.faults src.old ≤ S.faults src.new }
         ensures cause { result ≡ Err FrameFault.ReadFault → Rose (S.faults src.old) (S.faults src.new) }
+
+        // The side that is written, of a source that is a sink as well, stays as it is.
+        ensures beside { S.kept_by_read src.new ≡ S.kept_by_read src.old }
     {
         self.next(alloc, src, Side::Request)
     }
@@ -216,6 +222,9 @@ impl Inbox {
         // ReadFault comes only where the source failed in this call.
         ensures count { S.faults src.old ≤ S.faults src.new }
         ensures cause { result ≡ Err FrameFault.ReadFault → Rose (S.faults src.old) (S.faults src.new) }
+
+        // The side that is written, of a source that is a sink as well, stays as it is.
+        ensures beside { S.kept_by_read src.new ≡ S.kept_by_read src.old }
     {
         self.next(alloc, src, Side::Reply)
     }

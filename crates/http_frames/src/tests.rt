@@ -1,4 +1,5 @@
 ghost use Rattle.std.specs.Prelude.{◌<◌, None};
+ghost use Rattle.m2m_io.specs.Sides.{no_side};
 
 use super::*;
 use m2m_io::{Failed, MemSink, MemSource, Sink, Source};
@@ -294,6 +295,8 @@ impl Source for Narrow {
     ghost left = { λ _. None };
 
     ghost faults = { λ s. s.faults };
+
+    ghost kept_by_read = { λ _. no_side };
 
     fn read(&mut self, buf: &mut [u8]) -> Result<usize, Failed> {
         if buf.len() > 4_096 {

@@ -144,6 +144,9 @@ pub fn write_frame<O: Sink>(alloc: Global, frame: &Frame, sink: &mut O) -> Resul
     // WriteFault comes only where the sink failed in this call.
     ensures count { O.faults sink.old ≤ O.faults sink.new }
     ensures cause { result ≡ Err PutFault.WriteFault → Rose (O.faults sink.old) (O.faults sink.new) }
+
+    // The side that is read, of a sink that is a source as well, stays as it is.
+    ensures beside { O.kept_by_put sink.new ≡ O.kept_by_put sink.old }
 {
     let text = text_of(alloc, frame)?;
     sink.put(&text)?;

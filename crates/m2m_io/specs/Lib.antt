@@ -8,3 +8,4 @@ pub mod Sink
 pub mod Source
 pub mod Status
 pub mod Told
+pub mod Sides

@@ -1,10 +1,11 @@
 //! A connection in memory.
-ghost use Rattle.std.specs.Prelude.{◌≡◌, ◌<◌, ◌≤◌, ◌++◌, ◌||◌, ◌&&◌, Some, false, length, is_err, is_ok, IfOk, OnOk, OnErr, if◌then◌else◌};
+ghost use Rattle.std.specs.Prelude.{◌≡◌, ◌<◌, ◌≤◌, ◌++◌, ◌||◌, ◌&&◌, [], Some, false, length, is_err, is_ok, IfOk, OnOk, OnErr, if◌then◌else◌};
 ghost use Rattle.std.specs.Io.{ReadsAtMost};
 ghost use Rattle.std.specs.Io.KnownBytes.{ReadConsumes, Appends};
 ghost use Rattle.std.specs.Str.{bytes_eq};
 ghost use Rattle.m2m_io.specs.Counts.{Rose, fails_next, after_call, after_fault};
 ghost use Rattle.m2m_io.specs.Source.{count_of};
+ghost use Rattle.m2m_io.specs.Sides.{side_of};
 ghost use Rattle.m2m_io.specs.Told.{AppendsPrefix};
 
 use crate::{Failed, MemSink, MemSource, Sink, Source};
@@ -59,6 +60,8 @@ impl Source for MemConn {
 
     ghost faults = { λ c. c.input.calls.faults };
 
+    ghost kept_by_read = { λ c. side_of (Some c.out.written) c.out.calls.faults [] };
+
     fn read(&mut self, buf: &mut [u8]) -> Result<usize, Failed>
         requires room { 0 < length buf.old }
         ensures bound { ReadsAtMost result buf.new }
@@ -85,6 +88,8 @@ impl Sink for MemConn {
     ghost written = { λ c. Some c.out.written };
 
     ghost faults = { λ c. c.out.calls.faults };
+
+    ghost kept_by_put = { λ c. side_of (Some c.input.left) c.input.calls.faults [] };
 
     fn put(&mut self, bytes: &[u8]) -> Result<(), Failed>
         ensures ok { OnOk result (Appends (Some self.old.out.written) (Some self.new.out.written) bytes.now) }

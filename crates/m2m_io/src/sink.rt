@@ -2,6 +2,7 @@
 ghost use Rattle.std.specs.Prelude.{◌≡◌, ◌≤◌, ◌++◌, ℕ, List, Option, Some, false, is_ok, OnOk, OnErr, if◌then◌else◌};
 ghost use Rattle.std.specs.Io.KnownBytes.{Appends};
 ghost use Rattle.m2m_io.specs.Counts.{Rose, no_calls, fails_next, after_call, after_fault};
+ghost use Rattle.m2m_io.specs.Sides.{Side, no_side};
 ghost use Rattle.m2m_io.specs.Told.{AppendsPrefix};
 
 use crate::Failed;
@@ -16,13 +17,17 @@ pub trait Sink {
     /// How often the sink has failed. The count stops at 2^64 - 1.
     ghost faults: { Self → ℕ };
 
+    /// What a put leaves as it is: the side that is read, of an object that is a source as well.
+    ghost kept_by_put: { Self → Side };
+
     /// Writes all the bytes. A call that failed wrote a prefix of them; a device that takes none of what is
     /// left of them has failed.
     fn put(&mut self, bytes: &[u8]) -> Result<(), Failed>
         ensures ok { OnOk result (Appends (written self.old) (written self.new) bytes.now) }
         ensures err { OnErr result (AppendsPrefix (written self.old) (written self.new) bytes.now) }
         ensures count { faults self.old ≤ faults self.new }
-        ensures cause { OnErr result (Rose (faults self.old) (faults self.new)) };
+        ensures cause { OnErr result (Rose (faults self.old) (faults self.new)) }
+        ensures kept { kept_by_put self.new ≡ kept_by_put self.old };
 }
 
 /// A sink in memory. It fails at the calls that are to fail, and where the growth that a call needs is refused;
@@ -65,6 +70,8 @@ impl Sink for MemSink {
     ghost written = { λ s. Some s.written };
 
     ghost faults = { λ s. s.calls.faults };
+
+    ghost kept_by_put = { λ _. no_side };
 
     fn put(&mut self, bytes: &[u8]) -> Result<(), Failed>
         ensures ok { OnOk result (Appends (Some self.old.written) (Some self.new.written) bytes.now) }

@@ -3,6 +3,7 @@ ghost use Rattle.std.specs.Prelude.{◌≡◌, ◌<◌, ◌≤◌, ℕ, List, Op
 ghost use Rattle.std.specs.Io.{ReadsAtMost};
 ghost use Rattle.std.specs.Io.KnownBytes.{ReadConsumes};
 ghost use Rattle.m2m_io.specs.Counts.{Rose, no_calls, fails_next, after_call, after_fault};
+ghost use Rattle.m2m_io.specs.Sides.{Side, no_side};
 ghost use Rattle.m2m_io.specs.Source.{count_of};
 
 use crate::Failed;
@@ -17,6 +18,9 @@ pub trait Source {
     /// How often the source has failed. The count stops at 2^64 - 1.
     ghost faults: { Self → ℕ };
 
+    /// What a read leaves as it is: the side that is written, of an object that is a sink as well.
+    ghost kept_by_read: { Self → Side };
+
     /// Reads some bytes to the front of `buf` and answers how many; 0 only at the end. A read that failed took
     /// nothing.
     fn read(&mut self, buf: &mut [u8]) -> Result<usize, Failed>
@@ -24,7 +28,8 @@ pub trait Source {
         ensures bound { ReadsAtMost result buf.new }
         ensures bytes { ReadConsumes (left self.old) (left self.new) result buf.new }
         ensures count { faults self.old ≤ faults self.new }
-        ensures cause { OnErr result (Rose (faults self.old) (faults self.new)) };
+        ensures cause { OnErr result (Rose (faults self.old) (faults self.new)) }
+        ensures kept { kept_by_read self.new ≡ kept_by_read self.old };
 }
 
 /// A source in memory: its bytes, how many of them each read gives at most, and which reads fail.
@@ -97,6 +102,8 @@ impl Source for MemSource {
     ghost left = { λ s. Some s.left };
 
     ghost faults = { λ s. s.calls.faults };
+
+    ghost kept_by_read = { λ _. no_side };
 
     fn read(&mut self, buf: &mut [u8]) -> Result<usize, Failed>
         requires room { 0 < length buf.old }

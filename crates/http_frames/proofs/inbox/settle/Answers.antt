@@ -83,4 +83,5 @@ reads-preserved g c =
         least = c.in-Short.ensures.most;
       });
       faults = omega arith;
+      beside = c.fill.ensures.beside ∙ c.reads.invariant.beside;
     }

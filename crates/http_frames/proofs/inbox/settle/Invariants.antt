@@ -1,4 +1,4 @@
-use Rattle.std.proofs.Common.{◌+◌, ◌-◌, ◌≤◌, length}
+use Rattle.std.proofs.Common.{◌≡◌, ◌+◌, ◌-◌, ◌≤◌, length}
 use Rattle.http_frames.specs.Frame.{body_limit}
 use Rattle.http_frames.specs.Inbox.{Reads}
 use Rattle.http_frames.proofs.InboxLemmas.{IsFresh}
@@ -9,6 +9,7 @@ invariant-reads g l = record {
   reads : Reads (g.S.Source.left l.initial.src) (g.S.Source.left l.src) l.initial.held l.held;
   fresh : IsFresh l.side l.initial.held l.held l.initial.src l.src;
   faults : g.S.Source.faults l.initial.src ≤ g.S.Source.faults l.src;
+  beside : g.S.Source.kept_by_read l.src ≡ g.S.Source.kept_by_read l.initial.src;
 }
 
 abbrev pub decreases-reads : goal.decreases-reads

@@ -1,4 +1,4 @@
-use Rattle.std.proofs.Common.{◌+◌, ◌-◌, ◌<◌, ◌≤◌, length}
+use Rattle.std.proofs.Common.{◌≡◌, ◌+◌, ◌-◌, ◌<◌, ◌≤◌, length}
 use Rattle.http_frames.specs.Inbox.{Reads}
 use Rattle.http_frames.proofs.held.Held.fill.Given as goal
 
@@ -7,6 +7,7 @@ invariant-loop-self g l = record {
   reads : Reads (g.S.Source.left l.initial.src) (g.S.Source.left l.src) l.initial.self l.self;
   most : length l.self < l.need + 4096;
   faults : g.S.Source.faults l.initial.src ≤ g.S.Source.faults l.src;
+  beside : g.S.Source.kept_by_read l.src ≡ g.S.Source.kept_by_read l.initial.src;
 }
 
 abbrev pub decreases-loop-self : goal.decreases-loop-self
