@@ -1,0 +1,61 @@
+-- Runs and growth of lists of entries that are joined.
+use Rattle.std.proofs.Common.{◌≡◌, true, List, [], ◌∷◌, ◌++◌, map, refl, ap, ◌∙◌}
+use Rattle.std.specs.List.{filter, All}
+use Rattle.std.proofs.lemmas.List.{map-append}
+use Rattle.std.proofs.lemmas.List.Elements.{filter-append, All-head, All-tail}
+use Rattle.turn_desk.specs.Entries.{Entry, Marked, as_own, as_others, IsOwn, all_entries, own_entries}
+use Rattle.turn_desk.specs.Growth.{Asked, Grew}
+
+-- the own entries of two lists are those of the first and then those of the second
+pub own_entries-append : {E O : Type 0} (xs ys : List (Marked E O)) → own_entries (xs ++ ys) ≡ own_entries xs ++ own_entries ys
+own_entries-append xs ys =
+    rw (filter-append (λ m. m.own) xs ys) (map-append (λ m. m.entry) (filter (λ m. m.own) xs) (filter (λ m. m.own) ys))
+
+-- of others' entries none is own
+pub own_entries-others : {E O : Type 0} (es : List (Entry E O)) → own_entries (map as_others es) ≡ []
+own_entries-others [] = refl
+own_entries-others (e ∷ es) = own_entries-others es
+
+-- of others' entries and then one own, the one is own
+pub own_entries-asked : {E O : Type 0} (others : List (Entry E O)) (e : Entry E O)
+    → own_entries (map as_others others ++ as_own e ∷ []) ≡ e ∷ []
+own_entries-asked others e =
+    own_entries-append (map as_others others) (as_own e ∷ []) ∙ ap (λ es. es ++ e ∷ []) (own_entries-others others)
+
+-- where every entry is own, the own ones are all
+pub own_entries-all : {E O : Type 0} (xs : List (Marked E O)) → All IsOwn xs → own_entries xs ≡ all_entries xs
+own_entries-all [] own = refl
+own_entries-all (x ∷ xs) own =
+    let it : x.own ≡ true = All-head IsOwn x xs own in
+    rw it (ap (λ es. x.entry ∷ es) (own_entries-all xs (All-tail IsOwn x xs own)))
+
+-- What growth by nothing and growth in a row give of the own entries, from the two laws of a desk.
+module _ {S E O : Type 0} (grown : S → List (Marked E O) → S → Type 0) where
+  -- an answer is growth by that one own entry
+  pub Grew-asked : (before : S) (answer : Entry E O) (after : S) → Asked grown before answer after → Grew grown before (answer ∷ []) after
+  Grew-asked before answer after a = record {
+    more = map as_others a.others ++ as_own answer ∷ [];
+    grew = a.grew;
+    mine_only = own_entries-asked a.others answer;
+  }
+
+  module _ (nothing : (seat : S) → grown seat [] seat) where
+    -- a seat that did not ask yet
+    pub Grew-nothing : (seat : S) → Grew grown seat [] seat
+    Grew-nothing seat = record { more = []; grew = nothing seat; mine_only = refl }
+
+  module _ (on : (before between after : S) (more then : List (Marked E O)) → grown before more between → grown between then after → grown before (more ++ then) after) where
+    -- two growths in a row
+    pub Grew-append : (before between after : S) (es fs : List (Entry E O))
+        → Grew grown before es between → Grew grown between fs after → Grew grown before (es ++ fs) after
+    Grew-append before between after es fs first then = record {
+      more = first.more ++ then.more;
+      grew = on before between after first.more then.more first.grew then.grew;
+      mine_only = own_entries-append first.more then.more ∙ rw (first.mine_only, then.mine_only) refl;
+    }
+
+    -- growth, and then one question
+    pub Grew-ask : (before between after : S) (es : List (Entry E O)) (answer : Entry E O)
+        → Grew grown before es between → Asked grown between answer after → Grew grown before (es ++ answer ∷ []) after
+    Grew-ask before between after es answer first then =
+        Grew-append before between after es (answer ∷ []) first (Grew-asked between answer after then)
