@@ -1,10 +1,10 @@
 -- Runs and growth of lists of entries that are joined.
-use Rattle.std.proofs.Common.{◌≡◌, ℕ, true, List, [], ◌∷◌, ◌++◌, map, refl, ap, ◌∙◌}
+use Rattle.std.proofs.Common.{◌≡◌, ℕ, true, List, [], ◌∷◌, ◌++◌, map, refl, ap, sym, subst, ◌∙◌}
 use Rattle.std.specs.List.{filter, All}
 use Rattle.std.proofs.lemmas.List.{map-append}
 use Rattle.std.proofs.lemmas.List.Elements.{filter-append, All-head, All-tail}
-use Rattle.turn_desk.specs.Entries.{Entry, Marked, as_own, as_others, IsOwn, all_entries, own_entries}
-use Rattle.turn_desk.specs.Growth.{Asked, Grew, AsksAll}
+use Rattle.turn_desk.specs.Entries.{Entry, Marked, as_own, as_others, IsOwn, all_entries, own_entries, Runs}
+use Rattle.turn_desk.specs.Growth.{Asked, Grew, AsksAll, IsOwnRun}
 
 -- the own entries of two lists are those of the first and then those of the second
 pub own_entries-append : {E O : Type 0} (xs ys : List (Marked E O)) → own_entries (xs ++ ys) ≡ own_entries xs ++ own_entries ys
@@ -29,9 +29,14 @@ own_entries-all (x ∷ xs) own =
     let it : x.own ≡ true = All-head IsOwn x xs own in
     rw it (ap (λ es. x.entry ∷ es) (own_entries-all xs (All-tail IsOwn x xs own)))
 
+-- what an owner's seat grew by on its own is a run
+pub Grew-runs : {X E O : Type 0} (step : ℕ → E → X → O → X → Type 0) {before after : X} {mine : List (Entry E O)}
+    → Grew (IsOwnRun step) before mine after → Runs step before mine after
+Grew-runs step {before = before} {after = after} g =
+    subst (λ es. Runs step before es after) (sym (own_entries-all g.more g.grew.all_own) ∙ g.mine_only) g.grew.run
+
 -- What growth by nothing and growth in a row give of the own entries, from the two laws of a desk.
 module _ {S E O : Type 0} (grown : S → List (Marked E O) → S → Type 0) where
-
   -- an answer is growth by that one own entry
   pub Grew-asked : {before : S} {answer : Entry E O} {after : S} → Asked grown before answer after → Grew grown before (answer ∷ []) after
   Grew-asked {answer = answer} a = record {

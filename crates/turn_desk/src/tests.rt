@@ -1,5 +1,7 @@
-ghost use Rattle.std.specs.Prelude.{ℕ, IfOk, map};
-ghost use Rattle.turn_desk.specs.Growth.{AsksAll};
+ghost use Rattle.std.specs.Prelude.{ℕ, IfOk, [], ◌∷◌, map};
+ghost use Rattle.turn_desk.specs.Entries.{entry_of};
+ghost use Rattle.turn_desk.specs.Growth.{AsksAll, Grew};
+ghost use Rattle.turn_desk.specs.declared.tests.tank.Order.TheVariants.{Fill, Look};
 
 use super::*;
 use std::alloc::{AllocError, Global};
@@ -25,6 +27,23 @@ fn ask_all<D: Desk>(
         outcomes.push(desk.ask(seat, reading, event))?;
     }
     Ok(outcomes)
+}
+
+/// Fills the tank of any desk, and looks at it.
+fn fill_and_look<D: Desk<Event = Order, Outcome = Answer>>(
+    desk: &D,
+    seat: &mut D::Seat,
+    reading: u64,
+    litres: u64,
+) -> (Answer, Answer)
+    requires { D.seats desk.now seat.old }
+    ensures seats { D.seats desk.now seat.new }
+    ensures grew { Grew D.grown seat.old
+        (entry_of reading (Fill litres) result.0 ∷ entry_of reading Look result.1 ∷ []) seat.new }
+{
+    let filled = desk.ask(seat, reading, Order::Fill(Litres::new(litres)));
+    let looked = desk.ask(seat, reading, Order::Look);
+    (filled, looked)
 }
 
 /// The text of an answer.
@@ -54,6 +73,9 @@ fn one_tank_answers_in_order(rt: HostRuntime) -> Result<(), Fail> {
     for (answer, want) in outcomes.iter().zip(want) {
         assert_eq!(rt; text(alloc, answer)?.as_str(), want);
     }
+    let (filled, looked) = fill_and_look(&desk, &mut seat, 9, 5);
+    assert_eq!(rt; text(alloc, &filled)?.as_str(), "full");
+    assert_eq!(rt; text(alloc, &looked)?.as_str(), "100");
     assert_eq!(rt; seat.into_object().level(), 100);
     Ok(())
 }

@@ -84,9 +84,10 @@ impl Object for Tank {
     type Outcome = Answer;
 
     ghost step = { λ reading event before outcome after. elim event [
-      Fill more ↦ (before + more ≤ 100) × (after ≡ before + more) × (outcome ≡ Level after)
+      | Fill more ↦ (before + more ≤ 100) × (after ≡ before + more) × (outcome ≡ Level after)
           ⊎ (100 < before + more) × (after ≡ before) × (outcome ≡ Full)
-    | Look ↦ (after ≡ before) × (outcome ≡ Level before) ] };
+      | Look ↦ (after ≡ before) × (outcome ≡ Level before)
+    ] };
 
     fn turn(&mut self, _reading: u64, event: &Order) -> Answer {
         match event {

@@ -1,4 +1,4 @@
-use Rattle.std.proofs.Common.{ℕ, ◌++◌, ◌≡◌, length, map}
+use Rattle.std.proofs.Common.{map}
 use Rattle.turn_desk.specs.Growth.{AsksAll}
 use Rattle.turn_desk.proofs.tests.ask_all.Given as goal
 
