@@ -26,7 +26,7 @@ pub trait Desk {
         // Others may have asked before. The last entry is this question's, with this answer.
         ensures asked { Asked grown seat.old (entry_of reading event result) seat.new };
 
-    /// A seat that grows by nothing is the same seat.
+    /// Each seat grows by nothing to itself.
     ghost grown_by_nothing: { (seat : Self.Seat) → grown seat [] seat };
 
     /// Two growths in a row are one.
