@@ -1,5 +1,6 @@
 pub mod FormLemmas
 pub mod BitLemmas
 pub mod RemovalLemmas
-pub mod SightLemmas
+pub mod AlikeLemmas
 pub mod SeenLemmas
+pub mod DueLemmas

@@ -1,7 +1,7 @@
 -- What an originator sees keeps its rights.
 use Rattle.std.specs.Prelude.{codes, nat_eq, nat_lt}
 use Rattle.std.proofs.Common.{◌≡◌, ℕ, ◌<◌, List, [], ◌∷◌, ◌++◌, map, length, Bool, true, false, cond, Option, Some, None, option_map, option_to_list, inl, inr, refl, sym, ap, ◌∙◌, subst, arith, append_assoc, length-append}
-use Rattle.std.proofs.lemmas.Bool.{cases_Bool, lt-ltb, ltb-true, false_from_ne_true, or_left, or_right, and_from, cond-true}
+use Rattle.std.proofs.lemmas.Bool.{cases_Bool, lt-ltb, ltb-true, false_from_ne_true, or_left, or_right, or_from, and_from, cond-true, cond-false}
 use Rattle.std.proofs.lemmas.Nat.{or_lt}
 use Rattle.std.proofs.lemmas.Nat.Bits.{bit_at_or, bit_at-zero, same_from_bits}
 use Rattle.std.proofs.lemmas.Option.{same_Some}
@@ -22,8 +22,9 @@ use Rattle.tree_model.proofs.TreeLemmas.{at-map}
 use Rattle.policy_eval.specs.Originators.{full_form, own_lead, is_same}
 use Rattle.policy_eval.specs.Rules.{texts_of, member_at, number_at, sum_of_bits, rule_of, rules_in, elements_in}
 use Rattle.policy_eval.specs.Rights.{is_among, with_rule, with_rules, bits_by, grants, relinks, fan_grants}
-use Rattle.policy_eval.specs.Seen.{is_url, first_url, seen_points, retrieve_bit, discovery_bit, may, fills, is_filled_in, may_use, is_one_of, shape_attrs, found_attrs, limit_attrs, size_attrs, member_attrs, Shows, is_shown, plain_rules, seen_rules, seen_value, another, seen_owner, seen, seen_list}
-use Rattle.policy_eval.proofs.SightLemmas.{GiveSame, same_itself, same_from_by, KeepsRights, grants-map, relinks-map, fan_grants-map}
+use Rattle.policy_eval.specs.Alike.{is_one_of, shape_attrs, Alike, AreAlike}
+use Rattle.policy_eval.specs.Seen.{is_url, first_url, seen_points, retrieve_bit, discovery_bit, may, fills, is_filled_in, may_use, found_attrs, limit_attrs, size_attrs, member_attrs, Shows, is_shown, plain_rules, seen_rules, seen_value, another, seen_owner, seen, seen_list}
+use Rattle.policy_eval.proofs.AlikeLemmas.{GiveSame, same_itself, same_from_by, alike-map, child-alike, ae_id-alike, grants-alike, relinks-alike, fan_grants-alike}
 
 -- ---- values
 
@@ -118,57 +119,50 @@ owner_seen home o r = elim (cases_Bool (is_same home o r.owner)) [
 kept_value : (home : HomeData) (nodes : List ResourceData) (o : List ℕ) (r : ResourceData) (a : Attr) → ((d : Data) → seen_value home nodes o r a d ≡ Some d) → value_of a (seen home nodes o r).attrs ≡ value_of a r.attrs
 kept_value home nodes o r a shown = value-shown (seen_value home nodes o r) a (λ d. d) shown r.attrs ∙ itself _
 
-pub seen_keeps : (home : HomeData) (nodes : List ResourceData) (o : List ℕ) → KeepsRights home o (seen home nodes o)
-seen_keeps home nodes o = record {
-  number = λ r. refl;
-  ty = λ r. refl;
-  parent = λ r. refl;
-  acpi = λ r. ap elements_in (kept_value home nodes o r Acpi (λ d. refl));
-  macp = λ r. ap elements_in (kept_value home nodes o r Macp (λ d. refl));
-  registree = λ r. rw (kept_value home nodes o r Aei (λ d. refl), kept_value home nodes o r Csi (λ d. refl)) refl;
-  owner = λ r. owner_seen home o r;
-  pv = λ r. rw (value-shown (seen_value home nodes o r) Pv (λ d. cond (is_shown home nodes o r Pv) d (seen_rules home o d)) (λ d. shown_or _ d _) r.attrs) (policy_same home o _ (value_of Pv r.attrs));
-  pvs = λ r. rw (value-shown (seen_value home nodes o r) Pvs (λ d. cond (is_shown home nodes o r Pvs) d (seen_rules home o d)) (λ d. shown_or _ d _) r.attrs) (policy_same home o _ (value_of Pvs r.attrs));
-}
-
-find-map : (g : ResourceData → ResourceData) (p : ResourceData → Bool) → ((r : ResourceData) → p (g r) ≡ p r) → (nodes : List ResourceData) → find p (map g nodes) ≡ option_map g (find p nodes)
-find-map g p same [] = refl
-find-map g p same (r ∷ nodes) = rw (same r) (elim (cases_Bool (p r)) [
-  | inl t ↦ rw t refl
-  | inr f ↦ rw f (find-map g p same nodes)
-])
-
-number_kept : (g : ResourceData → ResourceData) → ((r : ResourceData) → (g r).number ≡ r.number) → (x : Option ResourceData) → option_map (λ (r : ResourceData). r.number) (option_map g x) ≡ option_map (λ (r : ResourceData). r.number) x
-number_kept g same None = refl
-number_kept g same (Some r) = ap (λ n. Some n) (same r)
-
-pub at-seen : (home : HomeData) (nodes : List ResourceData) (o : List ℕ) (n : ℕ) → at n (seen_list home nodes o) ≡ option_map (seen home nodes o) (at n nodes)
-at-seen home nodes o n = at-map (seen home nodes o) (λ r. refl) n nodes
-
-pub child-seen : (home : HomeData) (nodes : List ResourceData) (o : List ℕ) (parent : ℕ) (name : List ℕ) → child_of parent name (seen_list home nodes o) ≡ child_of parent name nodes
-child-seen home nodes o parent name =
-    ap (option_map (λ (r : ResourceData). r.number)) (find-map (seen home nodes o) (is_child parent name) (λ r. refl) nodes)
-    ∙ number_kept (seen home nodes o) (λ r. refl) (find (is_child parent name) nodes)
-
-pub ae_id-seen : (home : HomeData) (nodes : List ResourceData) (o : List ℕ) (r : ResourceData) → ae_id (seen home nodes o r) ≡ ae_id r
-ae_id-seen home nodes o r = rw (kept_value home nodes o r Aei (λ d. refl)) refl
-
-pub grants-seen : (home : HomeData) (nodes : List ResourceData) (o : List ℕ) (bit n : ℕ) → grants home (seen_list home nodes o) o bit n ≡ grants home nodes o bit n
-grants-seen home nodes o bit n = grants-map home o (seen home nodes o) (seen_keeps home nodes o) nodes bit n
-
-pub relinks-seen : (home : HomeData) (nodes : List ResourceData) (o : List ℕ) (n : ℕ) → relinks home (seen_list home nodes o) o n ≡ relinks home nodes o n
-relinks-seen home nodes o n = relinks-map home o (seen home nodes o) (seen_keeps home nodes o) nodes n
-
-pub fan_grants-seen : (home : HomeData) (nodes : List ResourceData) (o : List ℕ) (bit n : ℕ) → fan_grants home (seen_list home nodes o) o bit n ≡ fan_grants home nodes o bit n
-fan_grants-seen home nodes o bit n = fan_grants-map home o (seen home nodes o) (seen_keeps home nodes o) nodes bit n
-
--- ---- what is shown of a resource
-
 shown_kept : (home : HomeData) (nodes : List ResourceData) (o : List ℕ) (r : ResourceData) (a : Attr) → is_shown home nodes o r a ≡ true → value_of a (seen home nodes o r).attrs ≡ value_of a r.attrs
 shown_kept home nodes o r a shown = kept_value home nodes o r a (λ d. rw shown refl)
 
 shape_shown : (home : HomeData) (nodes : List ResourceData) (o : List ℕ) (r : ResourceData) (a : Attr) → is_one_of shape_attrs a ≡ true → is_shown home nodes o r a ≡ true
 shape_shown home nodes o r a one = or_left _ _ (or_left _ _ (or_left _ _ (or_left _ _ (or_left _ _ one))))
+
+-- what is seen of a resource is alike to it, and so is the list
+pub seen_alike : (home : HomeData) (nodes : List ResourceData) (o : List ℕ) (r : ResourceData) → Alike home o (seen home nodes o r) r
+seen_alike home nodes o r = record {
+  number = refl;
+  ty = refl;
+  name = refl;
+  parent = refl;
+  owned = owner_seen home o r;
+  shape = λ a one. shown_kept home nodes o r a (shape_shown home nodes o r a one);
+  pv = rw (value-shown (seen_value home nodes o r) Pv (λ d. cond (is_shown home nodes o r Pv) d (seen_rules home o d)) (λ d. shown_or _ d _) r.attrs) ((policy_same home o _ (value_of Pv r.attrs)).bits 0);
+  pvs = rw (value-shown (seen_value home nodes o r) Pvs (λ d. cond (is_shown home nodes o r Pvs) d (seen_rules home o d)) (λ d. shown_or _ d _) r.attrs) ((policy_same home o _ (value_of Pvs r.attrs)).bits 0);
+}
+
+pub seen_map_alike : (home : HomeData) (nodes : List ResourceData) (o : List ℕ) (rs : List ResourceData) → AreAlike home o (map (seen home nodes o) rs) rs
+seen_map_alike home nodes o rs = alike-map home o (seen home nodes o) (seen_alike home nodes o) rs
+
+pub seen_list_alike : (home : HomeData) (nodes : List ResourceData) (o : List ℕ) → AreAlike home o (seen_list home nodes o) nodes
+seen_list_alike home nodes o = seen_map_alike home nodes o nodes
+
+pub at-seen : (home : HomeData) (nodes : List ResourceData) (o : List ℕ) (n : ℕ) → at n (seen_list home nodes o) ≡ option_map (seen home nodes o) (at n nodes)
+at-seen home nodes o n = at-map (seen home nodes o) (λ r. refl) n nodes
+
+pub child-seen : (home : HomeData) (nodes : List ResourceData) (o : List ℕ) (parent : ℕ) (name : List ℕ) → child_of parent name (seen_list home nodes o) ≡ child_of parent name nodes
+child-seen home nodes o parent name = child-alike home o (seen_list home nodes o) nodes (seen_list_alike home nodes o) parent name
+
+pub ae_id-seen : (home : HomeData) (nodes : List ResourceData) (o : List ℕ) (r : ResourceData) → ae_id (seen home nodes o r) ≡ ae_id r
+ae_id-seen home nodes o r = ae_id-alike home o (seen home nodes o r) r (seen_alike home nodes o r)
+
+pub grants-seen : (home : HomeData) (nodes : List ResourceData) (o : List ℕ) (bit n : ℕ) → grants home (seen_list home nodes o) o bit n ≡ grants home nodes o bit n
+grants-seen home nodes o bit n = grants-alike home o (seen_list home nodes o) nodes (seen_list_alike home nodes o) bit n
+
+pub relinks-seen : (home : HomeData) (nodes : List ResourceData) (o : List ℕ) (n : ℕ) → relinks home (seen_list home nodes o) o n ≡ relinks home nodes o n
+relinks-seen home nodes o n = relinks-alike home o (seen_list home nodes o) nodes (seen_list_alike home nodes o) n
+
+pub fan_grants-seen : (home : HomeData) (nodes : List ResourceData) (o : List ℕ) (bit n : ℕ) → fan_grants home (seen_list home nodes o) o bit n ≡ fan_grants home nodes o bit n
+fan_grants-seen home nodes o bit n = fan_grants-alike home o (seen_list home nodes o) nodes (seen_list_alike home nodes o) bit n
+
+-- ---- what is shown of a resource
 
 retrieve_shown : (home : HomeData) (nodes : List ResourceData) (o : List ℕ) (r : ResourceData) (a : Attr) → may home nodes o retrieve_bit r ≡ true → is_shown home nodes o r a ≡ true
 retrieve_shown home nodes o r a right = or_left _ _ (or_left _ _ (or_left _ _ (or_left _ _ (or_right _ _ right))))
@@ -222,14 +216,7 @@ way_shown home nodes o r remote =
 
 pub seen_shows : (home : HomeData) (nodes : List ResourceData) (o : List ℕ) (r : ResourceData) → Shows home nodes o r (seen home nodes o r)
 seen_shows home nodes o r = record {
-  number = refl;
-  ty = refl;
-  name = refl;
-  parent = refl;
-  owned = owner_seen home o r;
-  shape = λ a one. shown_kept home nodes o r a (shape_shown home nodes o r a one);
-  pv = ((seen_keeps home nodes o).pv r).bits 0;
-  pvs = ((seen_keeps home nodes o).pvs r).bits 0;
+  always = seen_alike home nodes o r;
   way = way_shown home nodes o r;
   retrieved = λ right. (rows_kept _ (λ row. rw (retrieve_shown home nodes o r row.0 right) refl) r.attrs, rw right refl, rw right refl, rw right refl);
   found = λ right. (λ a one. shown_kept home nodes o r a (found_shown home nodes o r a right one), found_ct right, found_lt right);
@@ -237,6 +224,9 @@ seen_shows home nodes o r = record {
   inside = λ right. (λ a one. shown_kept home nodes o r a (size_shown home nodes o r a right one), inside_ct right, inside_et right);
   used = λ right a one. shown_kept home nodes o r a (members_shown home nodes o r a right one);
   hidden = λ a hides other away. hidden_row (seen_value home nodes o r) a (λ d. rw (hides, other, away) refl) r.attrs;
+  silent_ct = λ right tell never. cond-false _ r.ct 0 (or_from _ _ (or_from _ _ right tell) never);
+  silent_lt = λ right tell. cond-false _ r.lt 0 (or_from _ _ right tell);
+  silent_et = λ right never. cond-false _ r.et _ (or_from _ _ right never);
 }
   where
     found_ct : may home nodes o discovery_bit r ≡ true → (seen home nodes o r).ct ≡ r.ct

@@ -3,4 +3,5 @@ pub mod Rules
 pub mod Rights
 pub mod Forms
 pub mod Laws
+pub mod Alike
 pub mod Seen

@@ -1,9 +1,9 @@
 -- What an originator sees of a list of resources: the list with what it may not see cut out.
 use Rattle.std.specs.Prelude.{◌≡◌, ℕ, pos, nat_lt, Bool, true, false, ◌&&◌, ◌||◌, List, [], ◌∷◌, ◌++◌, map, codes, Option, Some, None, option_map, option_to_list, unwrap_or, find, is_some, if◌then◌else◌}
-use Rattle.std.specs.List.{filter_map, list_any}
+use Rattle.std.specs.List.{filter_map}
 use Rattle.std.specs.Option.{option_map_or}
 use Rattle.m2m_names.specs.declared.attributes.Attr.{Attr}
-use Rattle.m2m_names.specs.declared.attributes.Attr.TheVariants.{Acpi, Aei, Cs, Csi, Csy, Lbl, Macp, Mbs, Mia, Mid, Mni, Mnm, Mt, Poa, Pv, Pvs, St}
+use Rattle.m2m_names.specs.declared.attributes.Attr.TheVariants.{Cs, Csy, Lbl, Mbs, Mia, Mid, Mni, Mnm, Mt, Poa, Pv, Pvs, St}
 use Rattle.m2m_names.specs.declared.types.Ty.TheVariants.{Container, ContentInstance, Group, RemoteCse}
 use Rattle.m2m_names.specs.UrlReading.{host_end_at}
 use Rattle.m2m_value.specs.Data.{Data, list, number, object, text, elements_of, pairs_of}
@@ -14,6 +14,7 @@ use Rattle.tree_model.specs.Tree.{at, due}
 use Rattle.policy_eval.specs.Originators.{is_same}
 use Rattle.policy_eval.specs.Rules.{rules_in, rules_of, fan_rules, texts_of, elements_in}
 use Rattle.policy_eval.specs.Rights.{bits_by, has_bits}
+use Rattle.policy_eval.specs.Alike.{is_one_of, Agree, shape_attrs, Alike}
 
 -- ---- rights of the originator, by what they show
 
@@ -51,14 +52,6 @@ may_use home nodes o r =
     && (may home nodes o 4 r || nat_lt 0 (bits_by home o (fan_rules nodes r)))
 
 -- ---- what is shown of a resource
-
--- one of these attributes
-abbrev pub is_one_of : List Attr → Attr → Bool
-is_one_of attrs a = list_any (is_attr a) attrs
-
--- attributes by which a resource is judged, named or reached
-abbrev pub shape_attrs : List Attr
-shape_attrs = Acpi ∷ Macp ∷ Aei ∷ Csi ∷ []
 
 -- what discovery may tell of it
 abbrev pub found_attrs : List Attr
@@ -134,6 +127,10 @@ another o = o ++ codes " "
 abbrev pub seen_owner : HomeData → List ℕ → ResourceData → List ℕ
 seen_owner home o r = if is_same home o r.owner then o else another o
 
+-- the resource but for another owner's name
+abbrev pub with_seen_owner : HomeData → List ℕ → ResourceData → ResourceData
+with_seen_owner home o r = record r { owner = seen_owner home o r }
+
 -- its moments
 abbrev pub seen_ct : HomeData → List ResourceData → List ℕ → ResourceData → ℕ
 seen_ct home nodes o r =
@@ -170,22 +167,11 @@ seen_list home nodes o = map (seen home nodes o) nodes
 
 -- ---- the same, as a reader would say it
 
--- these attributes have the same values
-abbrev pub Agree : List Attr → ResourceData → ResourceData → Type 0
-Agree attrs s r = (a : Attr) → is_one_of attrs a ≡ true → value_of a s.attrs ≡ value_of a r.attrs
-
 -- what a resource s, seen by the originator, shows of the resource r
 pub record Shows (home : HomeData) (nodes : List ResourceData) (o : List ℕ) (r s : ResourceData) : Type 0 where
   -- always: where it stands, whether the originator owns it, by what it is judged, named and
   -- reached, and what its rules give the originator
-  pub number : s.number ≡ r.number
-  pub ty : s.ty ≡ r.ty
-  pub name : s.name ≡ r.name
-  pub parent : s.parent ≡ r.parent
-  pub owned : is_same home o s.owner ≡ is_same home o r.owner
-  pub shape : Agree shape_attrs s r
-  pub pv : bits_by home o (rules_in (value_of Pv s.attrs)) ≡ bits_by home o (rules_in (value_of Pv r.attrs))
-  pub pvs : bits_by home o (rules_in (value_of Pvs s.attrs)) ≡ bits_by home o (rules_in (value_of Pvs r.attrs))
+  pub always : Alike home o s r
   pub way : is_ty r.ty RemoteCse ≡ true →
       first_url (value_of Poa s.attrs) ≡ first_url (value_of Poa r.attrs)
   -- with RETRIEVE all but another owner's name
@@ -203,3 +189,10 @@ pub record Shows (home : HomeData) (nodes : List ResourceData) (o : List ℕ) (r
   -- nothing else
   pub hidden : (a : Attr) → is_shown home nodes o r a ≡ false →
       is_one_of (Pv ∷ Pvs ∷ []) a ≡ false → is_way r a ≡ false → value_of a s.attrs ≡ None
+  -- hidden moments are 0, but when it is due is seen
+  pub silent_ct : may home nodes o retrieve_bit r ≡ false → may home nodes o discovery_bit r ≡ false →
+      is_filled_in home nodes o r ≡ false → s.ct ≡ 0
+  pub silent_lt : may home nodes o retrieve_bit r ≡ false → may home nodes o discovery_bit r ≡ false →
+      s.lt ≡ 0
+  pub silent_et : may home nodes o retrieve_bit r ≡ false → is_filled_in home nodes o r ≡ false →
+      s.et ≡ unwrap_or (due nodes r) 0

@@ -1,11 +1,12 @@
 // Laws of rights, over every list.
-ghost use Rattle.std.specs.Prelude.{◌≡◌, List, ℕ, option_map};
+ghost use Rattle.std.specs.Prelude.{◌≡◌, List, ℕ, Some, IsTrue, map, option_map};
 ghost use Rattle.tree_model.specs.Home.{HomeData};
 ghost use Rattle.tree_model.specs.Resource.{ResourceData, ae_id};
-ghost use Rattle.tree_model.specs.Tree.{at, child_of};
+ghost use Rattle.tree_model.specs.Tree.{at, child_of, due, is_due, live, is_well_formed};
+ghost use Rattle.policy_eval.specs.Alike.{AreAlike};
 ghost use Rattle.policy_eval.specs.Laws.{IsNeverGained};
 ghost use Rattle.policy_eval.specs.Rights.{grants, relinks, fan_grants};
-ghost use Rattle.policy_eval.specs.Seen.{Shows, seen, seen_list};
+ghost use Rattle.policy_eval.specs.Seen.{Shows, retrieve_bit, seen, seen_list, with_seen_owner};
 
 /// A removal grants nothing to anyone, whatever goes: not that of a policy to those whose resource
 /// names it, nor to the owner of that resource.
@@ -36,4 +37,47 @@ pub fn sight_keeps_rights()
         relinks home (seen_list home nodes o) o n ≡ relinks home nodes o n }
     ensures fans { (home : HomeData) (nodes : List ResourceData) (o : List ℕ) (bit n : ℕ) →
         fan_grants home (seen_list home nodes o) o bit n ≡ fan_grants home nodes o bit n }
+{}
+
+/// On the list as an originator sees it each resource is due when it is due, so that the same
+/// resources are live at each moment, and the originator has the same rights on what is live. What
+/// it may then retrieve it sees whole, but for another owner's name.
+pub fn sight_keeps_what_is_live()
+    ensures due { (home : HomeData) (nodes : List ResourceData) (o : List ℕ) (r : ResourceData) →
+        IsTrue (is_well_formed nodes) → at r.number nodes ≡ Some r →
+        due (seen_list home nodes o) (seen home nodes o r) ≡ due nodes r }
+    ensures picks { (home : HomeData) (nodes : List ResourceData) (o : List ℕ) (moment : ℕ)
+        (r : ResourceData) → IsTrue (is_well_formed nodes) → at r.number nodes ≡ Some r →
+        is_due (seen_list home nodes o) moment (seen home nodes o r) ≡ is_due nodes moment r }
+    ensures live { (home : HomeData) (nodes : List ResourceData) (o : List ℕ) (moment : ℕ) →
+        IsTrue (is_well_formed nodes) →
+        live moment (seen_list home nodes o) ≡ map (seen home nodes o) (live moment nodes) }
+    ensures rights { (home : HomeData) (nodes : List ResourceData) (o : List ℕ)
+        (moment bit n : ℕ) → IsTrue (is_well_formed nodes) →
+        grants home (live moment (seen_list home nodes o)) o bit n
+        ≡ grants home (live moment nodes) o bit n }
+    ensures links { (home : HomeData) (nodes : List ResourceData) (o : List ℕ) (moment n : ℕ) →
+        IsTrue (is_well_formed nodes) →
+        relinks home (live moment (seen_list home nodes o)) o n
+        ≡ relinks home (live moment nodes) o n }
+    ensures fans { (home : HomeData) (nodes : List ResourceData) (o : List ℕ)
+        (moment bit n : ℕ) → IsTrue (is_well_formed nodes) →
+        fan_grants home (live moment (seen_list home nodes o)) o bit n
+        ≡ fan_grants home (live moment nodes) o bit n }
+    ensures retrieved { (home : HomeData) (nodes : List ResourceData) (o : List ℕ)
+        (moment n : ℕ) → IsTrue (is_well_formed nodes) →
+        IsTrue (grants home (live moment nodes) o retrieve_bit n) →
+        at n (live moment (seen_list home nodes o))
+        ≡ option_map (with_seen_owner home o) (at n (live moment nodes)) }
+{}
+
+/// An originator has the same rights on two lists that are alike for it, place by place.
+pub fn alike_lists_give_the_same_rights()
+    ensures rights { (home : HomeData) (o : List ℕ) (ss rs : List ResourceData) →
+        AreAlike home o ss rs → (bit n : ℕ) → grants home ss o bit n ≡ grants home rs o bit n }
+    ensures links { (home : HomeData) (o : List ℕ) (ss rs : List ResourceData) →
+        AreAlike home o ss rs → (n : ℕ) → relinks home ss o n ≡ relinks home rs o n }
+    ensures fans { (home : HomeData) (o : List ℕ) (ss rs : List ResourceData) →
+        AreAlike home o ss rs → (bit n : ℕ) →
+        fan_grants home ss o bit n ≡ fan_grants home rs o bit n }
 {}

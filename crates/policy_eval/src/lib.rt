@@ -8,8 +8,9 @@
 //! and each policy that is named. Callers owe that the tree has the resource, and that the
 //! originator is one. Full forms are compared without being built.
 //!
-//! Two laws over every list stand on functions without a body: a removal grants nothing to anyone,
-//! and the list as an originator sees it gives it the same resources and the same rights.
+//! Laws over every list stand on functions without a body: a removal grants nothing to anyone, lists
+//! that are alike for an originator give it the same rights, and the list as it sees it gives it the
+//! same resources and rights, at once and after the removal of what is due.
 #![tactic(auto)]
 
 mod laws;
@@ -19,5 +20,8 @@ mod rights;
 #[cfg(test)]
 mod tests;
 
-pub use laws::{removal_grants_nothing, sight_keeps_rights};
+pub use laws::{
+    alike_lists_give_the_same_rights, removal_grants_nothing, sight_keeps_rights,
+    sight_keeps_what_is_live,
+};
 pub use rights::{fan_granted, granted, may_relink};

@@ -1,0 +1,47 @@
+-- Resources and lists by which an originator is judged alike.
+use Rattle.std.specs.Prelude.{◌≡◌, ℕ, Bool, true, List, [], ◌∷◌, Option, Some, None}
+use Rattle.std.specs.List.{AllZip, list_any}
+use Rattle.m2m_names.specs.declared.attributes.Attr.{Attr}
+use Rattle.m2m_names.specs.declared.attributes.Attr.TheVariants.{Acpi, Aei, Csi, Macp, Pv, Pvs}
+use Rattle.tree_model.specs.Attributes.{is_attr, value_of}
+use Rattle.tree_model.specs.Home.{HomeData}
+use Rattle.tree_model.specs.Resource.{ResourceData}
+use Rattle.policy_eval.specs.Originators.{is_same}
+use Rattle.policy_eval.specs.Rules.{rules_in}
+use Rattle.policy_eval.specs.Rights.{bits_by}
+
+-- one of these attributes
+abbrev pub is_one_of : List Attr → Attr → Bool
+is_one_of attrs a = list_any (is_attr a) attrs
+
+-- these attributes have the same values
+abbrev pub Agree : List Attr → ResourceData → ResourceData → Type 0
+Agree attrs s r = (a : Attr) → is_one_of attrs a ≡ true → value_of a s.attrs ≡ value_of a r.attrs
+
+-- attributes by which a resource is judged, named or reached
+abbrev pub shape_attrs : List Attr
+shape_attrs = Acpi ∷ Macp ∷ Aei ∷ Csi ∷ []
+
+-- Two resources stand at one place, and the originator is judged alike by them: it owns both or
+-- neither, by what they are judged, named and reached is the same, and their rules give it the
+-- same bits (TS-0001, 9.6.2).
+pub record Alike (home : HomeData) (o : List ℕ) (s r : ResourceData) : Type 0 where
+  pub number : s.number ≡ r.number
+  pub ty : s.ty ≡ r.ty
+  pub name : s.name ≡ r.name
+  pub parent : s.parent ≡ r.parent
+  pub owned : is_same home o s.owner ≡ is_same home o r.owner
+  pub shape : Agree shape_attrs s r
+  pub pv : bits_by home o (rules_in (value_of Pv s.attrs)) ≡ bits_by home o (rules_in (value_of Pv r.attrs))
+  pub pvs : bits_by home o (rules_in (value_of Pvs s.attrs)) ≡ bits_by home o (rules_in (value_of Pvs r.attrs))
+
+-- two lists are alike, place by place
+abbrev pub AreAlike : HomeData → List ℕ → List ResourceData → List ResourceData → Type 0
+AreAlike home o ss rs = AllZip (Alike home o) ss rs
+
+-- two look-ups find alike resources, or both find none
+abbrev pub FindAlike : HomeData → List ℕ → Option ResourceData → Option ResourceData → Type 0
+FindAlike home o None None = Unit {0}
+FindAlike home o None (Some r) = ⊥
+FindAlike home o (Some s) None = ⊥
+FindAlike home o (Some s) (Some r) = Alike home o s r
