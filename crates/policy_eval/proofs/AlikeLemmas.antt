@@ -1,25 +1,23 @@
 -- Rights on lists by which an originator is judged alike, and changes that keep lists alike.
 use Rattle.std.specs.Prelude.{◌==◌}
-use Rattle.std.proofs.Common.{◌≡◌, ℕ, List, [], ◌∷◌, ◌++◌, map, Bool, true, false, cond, Option, Some, None, option_map, inl, inr, refl, sym, ap, ◌∙◌, arith}
+use Rattle.std.proofs.Common.{◌≡◌, ℕ, List, [], ◌∷◌, ◌++◌, map, Bool, true, false, cond, Option, Some, None, inl, inr, refl, sym, ap, ◌∙◌, arith}
 use Rattle.std.proofs.lemmas.Bool.{cases_Bool, and_parts}
 use Rattle.std.proofs.lemmas.List.Elements.{AllZip-push}
 use Rattle.std.proofs.lemmas.Nat.Bits.{bit_at_or, bit_at-zero, same_from_bits}
 use Rattle.std.specs.Int.RustNames.{bit_or}
 use Rattle.std.specs.List.{AllZip, cons_option, flat_map, list_all}
 use Rattle.std.specs.Option.{option_and_then, option_map_or}
-use Rattle.std.specs.Str.{bytes_eq}
 use Rattle.m2m_names.specs.declared.attributes.Attr.{Attr}
 use Rattle.m2m_names.specs.declared.attributes.Attr.TheVariants.{Acpi, Aei, Csi, Macp, Pv, Pvs}
 use Rattle.m2m_names.specs.declared.types.Ty.{Ty}
 use Rattle.m2m_names.specs.declared.types.Ty.TheVariants.{AccessControlPolicy, Ae, ContentInstance, PollingChannel, RemoteCse}
 use Rattle.m2m_value.specs.Data.{Data}
 use Rattle.m2m_value.specs.View.{as_text}
-use Rattle.tree_model.specs.Attributes.{value_of, text_at}
+use Rattle.tree_model.specs.Attributes.{value_of}
 use Rattle.tree_model.specs.Home.{HomeData}
 use Rattle.tree_model.specs.Resource.{ResourceData, is_ty, has_number, ae_id}
 use Rattle.tree_model.specs.Tree.{at, has, is_child, child_of, replaced, stays, staying, without}
 use Rattle.policy_eval.specs.Alike.{Alike, AreAlike, FindAlike}
-use Rattle.policy_eval.specs.Originators.{is_same}
 use Rattle.policy_eval.specs.Rules.{only, Rule, rule_for, all_bits, rules_in, policy_number, policy_at, policy_named, policy_of, policies_of, joined, elements_in, ids_at, lists_ids, registree, linked_rules, channel_rules, rules_of, fan_rules, link_rules}
 use Rattle.policy_eval.specs.Rights.{is_among, with_rule, with_rules, bits_by, do_give, update_bit, grants, relinks, fan_grants}
 use Rattle.policy_eval.proofs.BitLemmas.{with_rules-append}
@@ -94,6 +92,13 @@ module _ (R : ResourceData → ResourceData → Type 0) (number : (s r : Resourc
     pub without-zip : (ss rs : List ResourceData) → AllZip (λ s r. R s r × (p s ≡ q r)) ss rs → AllZip R (without p ss) (without q rs)
     without-zip ss rs zip = staying-zip ss rs zip [] [] tt
 
+-- a relation that is wider
+pub zip-wider : (R Q : ResourceData → ResourceData → Type 0) → ((s r : ResourceData) → R s r → Q s r) → (ss rs : List ResourceData) → AllZip R ss rs → AllZip Q ss rs
+zip-wider R Q wider [] [] zip = tt
+zip-wider R Q wider [] (r ∷ rs) zip = absurd zip
+zip-wider R Q wider (s ∷ ss) [] zip = absurd zip
+zip-wider R Q wider (s ∷ ss) (r ∷ rs) zip = (wider s r zip.0, zip-wider R Q wider ss rs zip.1)
+
 -- a list and its image
 pub zip-map : (R : ResourceData → ResourceData → Type 0) (g : ResourceData → ResourceData) (ok : ResourceData → Bool) → ((r : ResourceData) → ok r ≡ true → R (g r) r) → (rs : List ResourceData) → list_all ok rs ≡ true → AllZip R (map g rs) rs
 zip-map R g ok rel [] all = tt
@@ -124,6 +129,11 @@ module _ (home : HomeData) (o : List ℕ) where
 
   pub without-alike : (p q : ResourceData → Bool) (ss rs : List ResourceData) → AllZip (λ s r. Alike home o s r × (p s ≡ q r)) ss rs → AreAlike home o (without p ss) (without q rs)
   without-alike p q ss rs alike = without-zip (Alike home o) numbers (λ s r one. one.parent) p q ss rs alike
+
+  -- a removal by picks that ask only what is alike
+  pub removed-alike : (p q : ResourceData → Bool) → ((s r : ResourceData) → Alike home o s r → p s ≡ q r) → (ss rs : List ResourceData) → AreAlike home o ss rs → AreAlike home o (without p ss) (without q rs)
+  removed-alike p q pick ss rs alike =
+      without-alike p q ss rs (zip-wider (Alike home o) (λ s r. Alike home o s r × (p s ≡ q r)) (λ s r one. (one, pick s r one)) ss rs alike)
 
   pub alike-map : (g : ResourceData → ResourceData) → ((r : ResourceData) → Alike home o (g r) r) → (rs : List ResourceData) → AreAlike home o (map g rs) rs
   alike-map g alike [] = tt

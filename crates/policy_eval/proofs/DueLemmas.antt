@@ -15,13 +15,13 @@ use Rattle.m2m_value.specs.View.{as_number}
 use Rattle.tree_model.specs.Attributes.{count_of, value_of}
 use Rattle.tree_model.specs.Home.{HomeData}
 use Rattle.tree_model.specs.Resource.{ResourceData, is_ty, has_number}
-use Rattle.tree_model.specs.Tree.{at, due, due_under, lesser, age_end, is_due, live, without, are_below, fits, fits_in, is_taken, is_tree, is_well_formed}
+use Rattle.tree_model.specs.Tree.{at, due, due_under, lesser, is_due, live, are_below, fits, fits_in, is_taken, is_well_formed}
 use Rattle.tree_model.proofs.GrowthLemmas.{growth, next_above_parent, next_fits, tree_from_well_formed}
 use Rattle.tree_model.proofs.TreeLemmas.{at-append, at-map}
 use Rattle.policy_eval.specs.Alike.{AreAlike}
 use Rattle.policy_eval.specs.Rules.{Rule, linked_rules, rules_of}
 use Rattle.policy_eval.specs.Rights.{bits_by, has_bits, do_give, grants, relinks, fan_grants}
-use Rattle.policy_eval.specs.Seen.{retrieve_bit, discovery_bit, may, fills, is_filled_in, is_shown, is_way, seen_ct, seen_et, seen_owner, with_seen_owner, seen, seen_list}
+use Rattle.policy_eval.specs.Seen.{retrieve_bit, may, fills, is_filled_in, is_shown, is_way, seen_ct, seen_et, with_seen_owner, seen, seen_list}
 use Rattle.policy_eval.proofs.AlikeLemmas.{without-zip, zip-map, map_from_zip, grants-alike, relinks-alike, fan_grants-alike}
 use Rattle.policy_eval.proofs.RemovalLemmas.{keeps_without, grants_before}
 use Rattle.policy_eval.proofs.SeenLemmas.{at-seen, seen_map_alike, seen_shows}

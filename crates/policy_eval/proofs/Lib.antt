@@ -4,3 +4,5 @@ pub mod RemovalLemmas
 pub mod AlikeLemmas
 pub mod SeenLemmas
 pub mod DueLemmas
+pub mod NameLemmas
+pub mod EqualLemmas

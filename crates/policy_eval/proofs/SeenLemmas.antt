@@ -10,13 +10,13 @@ use Rattle.std.specs.List.{cons_option, filter_map, find, starts_with}
 use Rattle.std.specs.Option.{option_and_then, option_map_or}
 use Rattle.std.specs.Prelude.{ℤ, pos, negsuc}
 use Rattle.m2m_names.specs.declared.attributes.Attr.{Attr}
-use Rattle.m2m_names.specs.declared.attributes.Attr.TheVariants.{Acpi, Aei, Csi, Macp, Poa, Pv, Pvs}
+use Rattle.m2m_names.specs.declared.attributes.Attr.TheVariants.{Poa, Pv, Pvs}
 use Rattle.m2m_names.specs.declared.types.Ty.TheVariants.{RemoteCse}
 use Rattle.m2m_value.specs.Data.{Data, text, list, elements_of}
 use Rattle.tree_model.specs.Attributes.{Row, is_attr, value_of}
 use Rattle.tree_model.specs.Home.{HomeData}
 use Rattle.tree_model.specs.Resource.{ResourceData, is_ty, ae_id}
-use Rattle.tree_model.specs.Tree.{at, child_of, is_child}
+use Rattle.tree_model.specs.Tree.{at, child_of}
 use Rattle.tree_model.proofs.AttributeLemmas.{is_attr-same}
 use Rattle.tree_model.proofs.TreeLemmas.{at-map}
 use Rattle.policy_eval.specs.Originators.{full_form, own_lead, is_same}

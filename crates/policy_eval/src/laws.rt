@@ -1,10 +1,12 @@
 // Laws of rights, over every list.
-ghost use Rattle.std.specs.Prelude.{◌≡◌, List, ℕ, Some, IsTrue, map, option_map};
+ghost use Rattle.std.specs.Prelude.{◌≡◌, ◌<◌, ◌^◌, List, ℕ, Some, IsTrue, map, option_map};
 ghost use Rattle.tree_model.specs.Home.{HomeData};
-ghost use Rattle.tree_model.specs.Resource.{ResourceData, ae_id};
-ghost use Rattle.tree_model.specs.Tree.{at, child_of, due, is_due, live, is_well_formed};
+ghost use Rattle.m2m_names.specs.declared.types.Ty.TheVariants.{AccessControlPolicy};
+ghost use Rattle.tree_model.specs.Resource.{ResourceData, ae_id, id_of, is_ty};
+ghost use Rattle.tree_model.specs.Tree.{at, child_of, has, due, is_due, live, is_well_formed};
 ghost use Rattle.policy_eval.specs.Alike.{AreAlike};
 ghost use Rattle.policy_eval.specs.Laws.{IsNeverGained};
+ghost use Rattle.policy_eval.specs.Rules.{policy_named, policy_number};
 ghost use Rattle.policy_eval.specs.Rights.{grants, relinks, fan_grants};
 ghost use Rattle.policy_eval.specs.Seen.{Shows, retrieve_bit, seen, seen_list, with_seen_owner};
 
@@ -80,4 +82,24 @@ pub fn alike_lists_give_the_same_rights()
     ensures fans { (home : HomeData) (o : List ℕ) (ss rs : List ResourceData) →
         AreAlike home o ss rs → (bit n : ℕ) →
         fan_grants home ss o bit n ≡ fan_grants home rs o bit n }
+{}
+
+/// Two lists of which an originator sees the same have resources of the same numbers, and show it
+/// the same of each: what shows it the one resource shows it the other.
+pub fn equal_sights_show_the_same()
+    ensures numbers { (home : HomeData) (o : List ℕ) (xs ys : List ResourceData) →
+        seen_list home xs o ≡ seen_list home ys o → (n : ℕ) → has n xs ≡ has n ys }
+    ensures shown { (home : HomeData) (o : List ℕ) (xs ys : List ResourceData) →
+        seen_list home xs o ≡ seen_list home ys o → (n : ℕ) (r q s : ResourceData) →
+        at n xs ≡ Some r → at n ys ≡ Some q → Shows home xs o r s → Shows home ys o q s }
+{}
+
+/// The resource id of a policy spells its number, and so names it in every list that has it at that
+/// number.
+pub fn a_policy_is_named_by_its_id()
+    ensures number { (p : ResourceData) → IsTrue (is_ty p.ty AccessControlPolicy) →
+        p.number < 2 ^ 63 → policy_number (id_of p) ≡ Some p.number }
+    ensures named { (nodes : List ResourceData) (p : ResourceData) →
+        IsTrue (is_ty p.ty AccessControlPolicy) → p.number < 2 ^ 63 →
+        at p.number nodes ≡ Some p → policy_named nodes (id_of p) ≡ Some p }
 {}

@@ -10,7 +10,8 @@
 //!
 //! Laws over every list stand on functions without a body: a removal grants nothing to anyone, lists
 //! that are alike for an originator give it the same rights, and the list as it sees it gives it the
-//! same resources and rights, at once and after the removal of what is due.
+//! same resources and rights, at once and after the removal of what is due. Equal such lists show it
+//! the same, and a policy's resource id names that policy.
 #![tactic(auto)]
 
 mod laws;
@@ -21,7 +22,7 @@ mod rights;
 mod tests;
 
 pub use laws::{
-    alike_lists_give_the_same_rights, removal_grants_nothing, sight_keeps_rights,
-    sight_keeps_what_is_live,
+    a_policy_is_named_by_its_id, alike_lists_give_the_same_rights, equal_sights_show_the_same,
+    removal_grants_nothing, sight_keeps_rights, sight_keeps_what_is_live,
 };
 pub use rights::{fan_granted, granted, may_relink};

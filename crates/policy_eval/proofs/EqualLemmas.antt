@@ -1,0 +1,162 @@
+-- Lists of which an originator sees the same show it the same.
+use Rattle.std.specs.Prelude.{nat_lt}
+use Rattle.std.proofs.Common.{◌≡◌, ℕ, List, Bool, true, false, ◌&&◌, ◌||◌, Option, Some, None, option_map, refl, sym, ap, ◌∙◌}
+use Rattle.std.proofs.lemmas.Option.{same_Some}
+use Rattle.std.specs.Option.{option_map_or}
+use Rattle.m2m_names.specs.declared.attributes.Attr.{Attr}
+use Rattle.m2m_names.specs.declared.attributes.Attr.TheVariants.{Poa, Pv, Pvs}
+use Rattle.m2m_names.specs.declared.types.Ty.TheVariants.{Container, ContentInstance, Group, RemoteCse}
+use Rattle.tree_model.specs.Attributes.{value_of}
+use Rattle.tree_model.specs.Home.{HomeData}
+use Rattle.tree_model.specs.Resource.{ResourceData, is_ty}
+use Rattle.tree_model.specs.Tree.{at, has}
+use Rattle.tree_model.proofs.TreeLemmas.{has-map}
+use Rattle.policy_eval.specs.Alike.{Alike, is_one_of, shape_attrs}
+use Rattle.policy_eval.specs.Originators.{is_same}
+use Rattle.policy_eval.specs.Rules.{rules_in, fan_rules}
+use Rattle.policy_eval.specs.Rights.{bits_by, has_bits}
+use Rattle.policy_eval.specs.Seen.{create_bit, retrieve_bit, discovery_bit, may, fills, is_filled_in, may_use, found_attrs, limit_attrs, size_attrs, member_attrs, is_shown, is_way, first_url, seen, seen_list, Shows}
+use Rattle.policy_eval.proofs.AlikeLemmas.{rules-alike, fan_rules-alike}
+use Rattle.policy_eval.proofs.SeenLemmas.{at-seen, seen_alike, seen_list_alike, seen_shows}
+
+-- ---- what rights show is the same on the seen list
+
+module _ (home : HomeData) (o : List ℕ) where
+  pub may-seen : (bit : ℕ) (nodes : List ResourceData) (r : ResourceData) → may home (seen_list home nodes o) o bit (seen home nodes o r) ≡ may home nodes o bit r
+  may-seen bit nodes r =
+      ap (λ bits. has_bits bits bit) ((rules-alike home o (seen_list home nodes o) nodes (seen_list_alike home nodes o) (seen home nodes o r) r (seen_alike home nodes o r)).bits 0)
+
+  pub fills-seen : (nodes : List ResourceData) (r : ResourceData) → fills home (seen_list home nodes o) o (seen home nodes o r) ≡ fills home nodes o r
+  fills-seen nodes r =
+      ap (λ b. is_ty r.ty Container && (b || may home (seen_list home nodes o) o 4 (seen home nodes o r))) (may-seen create_bit nodes r)
+      ∙ ap (λ b. is_ty r.ty Container && (may home nodes o create_bit r || b)) (may-seen 4 nodes r)
+
+  pub is_filled_in-seen : (nodes : List ResourceData) (r : ResourceData) → is_filled_in home (seen_list home nodes o) o (seen home nodes o r) ≡ is_filled_in home nodes o r
+  is_filled_in-seen nodes r =
+      ap (λ (p : Option ResourceData). is_ty r.ty ContentInstance && option_map_or (fills home (seen_list home nodes o) o) p false) (at-seen home nodes o r.parent)
+      ∙ ap (λ b. is_ty r.ty ContentInstance && b) (above (at r.parent nodes))
+    where
+      above : (p : Option ResourceData) → option_map_or (fills home (seen_list home nodes o) o) (option_map (seen home nodes o) p) false ≡ option_map_or (fills home nodes o) p false
+      above None = refl
+      above (Some p) = fills-seen nodes p
+
+  pub may_use-seen : (nodes : List ResourceData) (r : ResourceData) → may_use home (seen_list home nodes o) o (seen home nodes o r) ≡ may_use home nodes o r
+  may_use-seen nodes r =
+      ap (λ b. is_ty r.ty Group && (b || nat_lt 0 (bits_by home o (fan_rules (seen_list home nodes o) (seen home nodes o r))))) (may-seen 4 nodes r)
+      ∙ ap (λ bits. is_ty r.ty Group && (may home nodes o 4 r || nat_lt 0 bits)) ((fan_rules-alike home o (seen_list home nodes o) nodes (seen_list_alike home nodes o) (seen home nodes o r) r (seen_alike home nodes o r)).bits 0)
+
+  -- an attribute is shown, by what the originator may do
+  abbrev shown_by : Attr → Bool → Bool → Bool → Bool → Bool → Bool
+  shown_by a retrieves finds fill inside uses =
+      is_one_of shape_attrs a || retrieves || (finds && is_one_of found_attrs a) || (fill && is_one_of limit_attrs a)
+      || (inside && is_one_of size_attrs a) || (uses && is_one_of member_attrs a)
+
+  pub is_shown-seen : (a : Attr) (nodes : List ResourceData) (r : ResourceData) → is_shown home (seen_list home nodes o) o (seen home nodes o r) a ≡ is_shown home nodes o r a
+  is_shown-seen a nodes r =
+      let ss = seen_list home nodes o in
+      let s = seen home nodes o r in
+      ap (λ b. shown_by a b (may home ss o discovery_bit s) (fills home ss o s) (is_filled_in home ss o s) (may_use home ss o s)) (may-seen retrieve_bit nodes r)
+      ∙ ap (λ b. shown_by a (may home nodes o retrieve_bit r) b (fills home ss o s) (is_filled_in home ss o s) (may_use home ss o s)) (may-seen discovery_bit nodes r)
+      ∙ ap (λ b. shown_by a (may home nodes o retrieve_bit r) (may home nodes o discovery_bit r) b (is_filled_in home ss o s) (may_use home ss o s)) (fills-seen nodes r)
+      ∙ ap (λ b. shown_by a (may home nodes o retrieve_bit r) (may home nodes o discovery_bit r) (fills home nodes o r) b (may_use home ss o s)) (is_filled_in-seen nodes r)
+      ∙ ap (λ b. shown_by a (may home nodes o retrieve_bit r) (may home nodes o discovery_bit r) (fills home nodes o r) (is_filled_in home nodes o r) b) (may_use-seen nodes r)
+
+-- ---- two lists of which the originator sees the same
+
+module _ (home : HomeData) (o : List ℕ) (xs ys : List ResourceData) (same : seen_list home xs o ≡ seen_list home ys o) where
+  module _ (r q : ResourceData) (e : seen home xs o r ≡ seen home ys o q) where
+    -- what is the same on the seen list is the same on both
+    pub same_by : (c : List ResourceData → ResourceData → Bool) → ((nodes : List ResourceData) (s : ResourceData) → c (seen_list home nodes o) (seen home nodes o s) ≡ c nodes s) → c xs r ≡ c ys q
+    same_by c factors =
+        sym (factors xs r) ∙ ap (λ (nodes : List ResourceData). c nodes (seen home xs o r)) same ∙ ap (c (seen_list home ys o)) e ∙ factors ys q
+
+    through : {X : Type 0} (f : ResourceData → X) → f (seen home xs o r) ≡ f r → f (seen home ys o q) ≡ f q → f r ≡ f q
+    through f left right = sym left ∙ ap f e ∙ right
+
+    retrieves : may home xs o retrieve_bit r ≡ may home ys o retrieve_bit q
+    retrieves = same_by (λ nodes s. may home nodes o retrieve_bit s) (may-seen home o retrieve_bit)
+
+    finds : may home xs o discovery_bit r ≡ may home ys o discovery_bit q
+    finds = same_by (λ nodes s. may home nodes o discovery_bit s) (may-seen home o discovery_bit)
+
+    filling : fills home xs o r ≡ fills home ys o q
+    filling = same_by (λ nodes s. fills home nodes o s) (fills-seen home o)
+
+    within : is_filled_in home xs o r ≡ is_filled_in home ys o q
+    within = same_by (λ nodes s. is_filled_in home nodes o s) (is_filled_in-seen home o)
+
+    using_it : may_use home xs o r ≡ may_use home ys o q
+    using_it = same_by (λ nodes s. may_use home nodes o s) (may_use-seen home o)
+
+    showing : (a : Attr) → is_shown home xs o r a ≡ is_shown home ys o q a
+    showing a = same_by (λ nodes s. is_shown home nodes o s a) (is_shown-seen home o a)
+
+    value_through : (a : Attr) → value_of a (seen home xs o r).attrs ≡ value_of a r.attrs → value_of a (seen home ys o q).attrs ≡ value_of a q.attrs → value_of a r.attrs ≡ value_of a q.attrs
+    value_through a left right = through (λ (x : ResourceData). value_of a x.attrs) left right
+
+    pub same_alike : (s : ResourceData) → Alike home o s r → Alike home o s q
+    same_alike s h =
+        let left = seen_alike home xs o r in
+        let right = seen_alike home ys o q in
+        record {
+          number = h.number ∙ ap (λ (x : ResourceData). x.number) e;
+          ty = h.ty ∙ ap (λ (x : ResourceData). x.ty) e;
+          name = h.name ∙ ap (λ (x : ResourceData). x.name) e;
+          parent = h.parent ∙ ap (λ (x : ResourceData). x.parent) e;
+          owned = h.owned ∙ through (λ (x : ResourceData). is_same home o x.owner) left.owned right.owned;
+          shape = λ a one. h.shape a one ∙ value_through a (left.shape a one) (right.shape a one);
+          pv = h.pv ∙ through (λ (x : ResourceData). bits_by home o (rules_in (value_of Pv x.attrs))) left.pv right.pv;
+          pvs = h.pvs ∙ through (λ (x : ResourceData). bits_by home o (rules_in (value_of Pvs x.attrs))) left.pvs right.pvs;
+        }
+
+    pub same_shows : (s : ResourceData) → Shows home xs o r s → Shows home ys o q s
+    same_shows s h =
+        let left = seen_shows home xs o r in
+        let right = seen_shows home ys o q in
+        record {
+          always = same_alike s h.always;
+          way = λ remote.
+              let was : is_ty r.ty RemoteCse ≡ true = ap (λ (x : ResourceData). is_ty x.ty RemoteCse) e ∙ remote in
+              h.way was ∙ through (λ (x : ResourceData). first_url (value_of Poa x.attrs)) (left.way was) (right.way remote);
+          retrieved = λ may_it.
+              let was = retrieves ∙ may_it in
+              let mine = h.retrieved was in
+              let l = left.retrieved was in
+              let t = right.retrieved may_it in
+              (mine.0 ∙ through (λ (x : ResourceData). x.attrs) l.0 t.0, mine.1 ∙ through (λ (x : ResourceData). x.ct) l.1 t.1, mine.2 ∙ through (λ (x : ResourceData). x.lt) l.2 t.2, mine.3 ∙ through (λ (x : ResourceData). x.et) l.3 t.3);
+          found = λ may_it.
+              let was = finds ∙ may_it in
+              let mine = h.found was in
+              let l = left.found was in
+              let t = right.found may_it in
+              (λ a one. mine.0 a one ∙ value_through a (l.0 a one) (t.0 a one), mine.1 ∙ through (λ (x : ResourceData). x.ct) l.1 t.1, mine.2 ∙ through (λ (x : ResourceData). x.lt) l.2 t.2);
+          filled = λ may_it a one.
+              let was = filling ∙ may_it in
+              h.filled was a one ∙ value_through a (left.filled was a one) (right.filled may_it a one);
+          inside = λ may_it.
+              let was = within ∙ may_it in
+              let mine = h.inside was in
+              let l = left.inside was in
+              let t = right.inside may_it in
+              (λ a one. mine.0 a one ∙ value_through a (l.0 a one) (t.0 a one), mine.1 ∙ through (λ (x : ResourceData). x.ct) l.1 t.1, mine.2 ∙ through (λ (x : ResourceData). x.et) l.2 t.2);
+          used = λ may_it a one.
+              let was = using_it ∙ may_it in
+              h.used was a one ∙ value_through a (left.used was a one) (right.used may_it a one);
+          hidden = λ a hides other away. h.hidden a (showing a ∙ hides) other (ap (λ (x : ResourceData). is_way x a) e ∙ away);
+          silent_ct = λ right_off tell never. h.silent_ct (retrieves ∙ right_off) (finds ∙ tell) (within ∙ never);
+          silent_lt = λ right_off tell. h.silent_lt (retrieves ∙ right_off) (finds ∙ tell);
+          silent_et = λ right_off never.
+              h.silent_et (retrieves ∙ right_off) (within ∙ never)
+              ∙ sym (left.silent_et (retrieves ∙ right_off) (within ∙ never))
+              ∙ ap (λ (x : ResourceData). x.et) e ∙ right.silent_et right_off never;
+        }
+
+  pub has-same : (n : ℕ) → has n xs ≡ has n ys
+  has-same n =
+      sym (has-map (seen home xs o) (λ r. refl) n xs) ∙ ap (has n) same ∙ has-map (seen home ys o) (λ r. refl) n ys
+
+  pub shows-same : (n : ℕ) (r q s : ResourceData) → at n xs ≡ Some r → at n ys ≡ Some q → Shows home xs o r s → Shows home ys o q s
+  shows-same n r q s here there shows =
+      let left : at n (seen_list home xs o) ≡ Some (seen home xs o r) = at-seen home xs o n ∙ ap (option_map (seen home xs o)) here in
+      let right : at n (seen_list home ys o) ≡ Some (seen home ys o q) = at-seen home ys o n ∙ ap (option_map (seen home ys o)) there in
+      same_shows r q (same_Some (seen home xs o r) (seen home ys o q) (sym left ∙ ap (at n) same ∙ right)) s shows
