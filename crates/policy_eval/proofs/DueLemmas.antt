@@ -102,7 +102,7 @@ instance_rules : (nodes : List ResourceData) (r p : ResourceData) → (ty_row r.
 instance_rules nodes r p number found = rw (number, found) refl
 
 module _ (home : HomeData) (nodes : List ResourceData) (o : List ℕ) (r p : ResourceData) (instance : is_ty r.ty ContentInstance ≡ true) (found : at r.parent nodes ≡ Some p) (container : is_ty p.ty Container ≡ true) where
-  same_may : (bit : ℕ) → may home nodes o bit r ≡ may home nodes o bit p
+  pub same_may : (bit : ℕ) → may home nodes o bit r ≡ may home nodes o bit p
   same_may bit =
       ap (λ (rules : List Rule). has_bits (bits_by home o rules) bit)
       (instance_rules nodes r p (number_of r.ty ContentInstance instance) found ∙ sym (container_rules nodes p (number_of p.ty Container container)))
@@ -202,6 +202,15 @@ module _ (home : HomeData) (nodes : List ResourceData) (o : List ℕ) where
   pub is_due-taken : (m : ℕ) (r : ResourceData) → is_taken nodes r ≡ true → is_due (seen_list home nodes o) m (seen home nodes o r) ≡ is_due nodes m r
   is_due-taken m r taken = ap (λ (d : Option ℕ). option_map_or (λ n. nat_le n m) d false) (due-taken r taken)
 
+  pub seen_whole : (r : ResourceData) → may home nodes o retrieve_bit r ≡ true → seen home nodes o r ≡ with_seen_owner home o r
+  seen_whole r right =
+      let whole = (seen_shows home nodes o r).retrieved right in
+      rw (whole.0, whole.1, whole.2, whole.3) refl
+
+  whole_at : (p : Option ResourceData) → ((r : ResourceData) → p ≡ Some r → may home nodes o retrieve_bit r ≡ true) → option_map (seen home nodes o) p ≡ option_map (with_seen_owner home o) p
+  whole_at None right = refl
+  whole_at (Some r) right = ap (λ (x : ResourceData). Some x) (seen_whole r (right r refl))
+
   module _ (well : is_well_formed nodes ≡ true) where
     pub due-seen : (r : ResourceData) → at r.number nodes ≡ Some r → due (seen_list home nodes o) (seen home nodes o r) ≡ due nodes r
     due-seen r found = due-taken r (found_passes (is_taken nodes) r.number nodes r (all_taken nodes well) found)
@@ -237,19 +246,13 @@ module _ (home : HomeData) (nodes : List ResourceData) (o : List ℕ) where
 
     -- ---- what may be retrieved is seen whole
 
-    seen_whole : (r : ResourceData) → may home nodes o retrieve_bit r ≡ true → seen home nodes o r ≡ with_seen_owner home o r
-    seen_whole r right =
-        let whole = (seen_shows home nodes o r).retrieved right in
-        rw (whole.0, whole.1, whole.2, whole.3) refl
-
-    whole_at : (p : Option ResourceData) → ((r : ResourceData) → p ≡ Some r → may home nodes o retrieve_bit r ≡ true) → option_map (seen home nodes o) p ≡ option_map (with_seen_owner home o) p
-    whole_at None right = refl
-    whole_at (Some r) right = ap (λ (x : ResourceData). Some x) (seen_whole r (right r refl))
-
-    pub retrieved-live : (m n : ℕ) → grants home (live m nodes) o retrieve_bit n ≡ true → at n (live m (seen_list home nodes o)) ≡ option_map (with_seen_owner home o) (at n (live m nodes))
-    retrieved-live m n right =
+    -- what may be done with what is live may be done with it in the whole list
+    pub live_may : (m n : ℕ) (r : ResourceData) → at n (live m nodes) ≡ Some r → grants home (live m nodes) o retrieve_bit n ≡ true → may home nodes o retrieve_bit r ≡ true
+    live_may m n r found right =
         let tree = tree_from_well_formed nodes well in
         let had : grants home nodes o retrieve_bit n ≡ true = grants_before home o retrieve_bit n (is_due nodes m) nodes tree right in
-        at-live m n ∙ whole_at (at n (live m nodes)) (λ r found.
         let there : at n nodes ≡ Some r = (keeps_without (is_due nodes m) nodes tree).found n r found in
-        sym (ap (λ (x : Option ResourceData). option_map_or (λ s. do_give home o retrieve_bit (rules_of nodes s)) x false) there) ∙ had)
+        sym (ap (λ (x : Option ResourceData). option_map_or (λ s. do_give home o retrieve_bit (rules_of nodes s)) x false) there) ∙ had
+
+    pub retrieved-live : (m n : ℕ) → grants home (live m nodes) o retrieve_bit n ≡ true → at n (live m (seen_list home nodes o)) ≡ option_map (with_seen_owner home o) (at n (live m nodes))
+    retrieved-live m n right = at-live m n ∙ whole_at (at n (live m nodes)) (λ r found. live_may m n r found right)

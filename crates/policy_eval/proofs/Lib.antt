@@ -6,3 +6,4 @@ pub mod SeenLemmas
 pub mod DueLemmas
 pub mod NameLemmas
 pub mod EqualLemmas
+pub mod RetrievedLemmas

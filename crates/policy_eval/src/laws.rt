@@ -3,6 +3,7 @@ ghost use Rattle.std.specs.Prelude.{◌≡◌, ◌<◌, ◌^◌, List, ℕ, Some
 ghost use Rattle.tree_model.specs.Home.{HomeData};
 ghost use Rattle.m2m_names.specs.declared.types.Ty.TheVariants.{AccessControlPolicy};
 ghost use Rattle.tree_model.specs.Resource.{ResourceData, ae_id, id_of, is_ty};
+ghost use Rattle.tree_model.specs.Shown.{attributes_of};
 ghost use Rattle.tree_model.specs.Tree.{at, child_of, has, due, is_due, live, is_well_formed};
 ghost use Rattle.policy_eval.specs.Alike.{AreAlike};
 ghost use Rattle.policy_eval.specs.Laws.{IsNeverGained};
@@ -43,7 +44,8 @@ pub fn sight_keeps_rights()
 
 /// On the list as an originator sees it each resource is due when it is due, so that the same
 /// resources are live at each moment, and the originator has the same rights on what is live. What
-/// it may then retrieve it sees whole, but for another owner's name.
+/// it may then retrieve it sees whole, but for another owner's name, and with the same attributes as
+/// they are shown, the count and the sizes of a container's instances among them.
 pub fn sight_keeps_what_is_live()
     ensures due { (home : HomeData) (nodes : List ResourceData) (o : List ℕ) (r : ResourceData) →
         IsTrue (is_well_formed nodes) → at r.number nodes ≡ Some r →
@@ -71,6 +73,12 @@ pub fn sight_keeps_what_is_live()
         IsTrue (grants home (live moment nodes) o retrieve_bit n) →
         at n (live moment (seen_list home nodes o))
         ≡ option_map (with_seen_owner home o) (at n (live moment nodes)) }
+    ensures attributes { (home : HomeData) (nodes : List ResourceData) (o : List ℕ)
+        (moment n : ℕ) (r : ResourceData) → IsTrue (is_well_formed nodes) →
+        at n (live moment nodes) ≡ Some r →
+        IsTrue (grants home (live moment nodes) o retrieve_bit n) →
+        attributes_of home (live moment (seen_list home nodes o)) (seen home nodes o r)
+        ≡ attributes_of home (live moment nodes) r }
 {}
 
 /// An originator has the same rights on two lists that are alike for it, place by place.

@@ -1,4 +1,5 @@
 use Rattle.policy_eval.proofs.DueLemmas.{due-seen, is_due-seen, live-seen, grants-live, relinks-live, fan_grants-live, retrieved-live}
+use Rattle.policy_eval.proofs.RetrievedLemmas.{attributes-live}
 use Rattle.policy_eval.proofs.laws.sight_keeps_what_is_live.Goals as goal
 
 pub returns-clause-due : goal.returns-clause-due
@@ -21,3 +22,6 @@ returns-clause-fans c = λ home nodes o moment bit n well. fan_grants-live home 
 
 pub returns-clause-retrieved : goal.returns-clause-retrieved
 returns-clause-retrieved c = λ home nodes o moment n well right. retrieved-live home nodes o well moment n right
+
+pub returns-clause-attributes : goal.returns-clause-attributes
+returns-clause-attributes c = λ home nodes o moment n r well found right. attributes-live home nodes o well moment n r found right
