@@ -1,4 +1,14 @@
 // The kinds of attribute values.
+ghost use Rattle.std.specs.Prelude.{◌≡◌};
+ghost use Rattle.attribute_rules.specs.Kinds.{has_kind};
+
+use crate::lists::{is_cse_ids, is_labels, is_points, is_target, is_texts};
+use crate::objects::{is_criteria, is_rules};
+use crate::values::{
+    is_bool, is_content, is_count, is_cse_id, is_label, is_member_type, is_name, is_one_of,
+    is_originator, is_stamp, is_text,
+};
+use m2m_value::Val;
 
 /// A kind of attribute values (TS-0004, 6.3 and 7.4).
 #[derive(Clone, Copy, Debug, PartialEq, Eq)]
@@ -35,4 +45,32 @@ pub enum Kind {
     MemberType,
     /// Any value but null.
     Content,
+}
+
+impl Kind {
+    /// Whether the value is of the kind.
+    pub fn has(self, value: &Val) -> bool
+        ensures { result ≡ has_kind self value.now }
+    {
+        match self {
+            Kind::Name => is_name(value),
+            Kind::Stamp => is_stamp(value),
+            Kind::Text => is_text(value),
+            Kind::Label => is_label(value),
+            Kind::Labels => is_labels(value),
+            Kind::Bool => is_bool(value),
+            Kind::Count => is_count(value),
+            Kind::OneOf(from, to) => is_one_of(from, to, value),
+            Kind::CseId => is_cse_id(value),
+            Kind::CseIds => is_cse_ids(value),
+            Kind::Originator => is_originator(value),
+            Kind::Policies => is_texts(value),
+            Kind::Points => is_points(value),
+            Kind::Target => is_target(value),
+            Kind::Rules => is_rules(value),
+            Kind::Criteria => is_criteria(value),
+            Kind::MemberType => is_member_type(value),
+            Kind::Content => is_content(value),
+        }
+    }
 }
