@@ -1,0 +1,4 @@
+pub mod Codes
+pub mod Entity
+pub mod Opening
+pub mod Sound

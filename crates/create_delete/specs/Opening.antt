@@ -1,0 +1,66 @@
+-- The entity that nothing has happened to yet.
+use Rattle.std.specs.Prelude.{ℕ, pos, List, [], ◌∷◌, codes}
+use Rattle.m2m_names.specs.Stamps.{last_moment}
+use Rattle.m2m_names.specs.declared.attributes.Attr.TheVariants.{Acpi, Pv, Pvs}
+use Rattle.m2m_names.specs.declared.types.Ty.TheVariants.{AccessControlPolicy, CseBase}
+use Rattle.m2m_value.specs.Data.{Data, number, text, list, object, elements_of, pairs_of}
+use Rattle.tree_model.specs.Home.{HomeData}
+use Rattle.tree_model.specs.Resource.{ResourceData}
+use Rattle.create_delete.specs.Entity.{EntityData, cut}
+
+-- a rule that gives one originator these bits, as it is written (TS-0001, 9.6.2.1)
+abbrev pub written_rule : List ℕ → ℕ → Data
+written_rule who bits =
+    object (pairs_of (
+      (codes "acop", number (pos bits)) ∷ (codes "acor", list (elements_of (text who ∷ []))) ∷ []))
+
+-- the value of `pv` or `pvs` that has these rules
+abbrev pub written_rules : List Data → Data
+written_rules rules = object (pairs_of ((codes "acr", list (elements_of rules)) ∷ []))
+
+-- the administrator may do all
+abbrev pub admin_rule : HomeData → Data
+admin_rule home = written_rule home.admin 63
+
+-- everyone may create
+abbrev pub entry_rule : Data
+entry_rule = written_rule (codes "all") 1
+
+-- the CSEBase, judged by the administrator's policy (TS-0001, 9.6.3)
+abbrev pub opening_base : HomeData → ℕ → ResourceData
+opening_base home moment = record {
+  number = 1;
+  ty = CseBase;
+  name = home.base;
+  parent = 0;
+  owner = home.admin;
+  ct = moment;
+  lt = moment;
+  et = last_moment;
+  attrs = (Acpi, list (elements_of (text (codes "acp2") ∷ []))) ∷ [];
+}
+
+-- the administrator's policy
+abbrev pub opening_policy : HomeData → ℕ → ResourceData
+opening_policy home moment = record {
+  number = 2;
+  ty = AccessControlPolicy;
+  name = codes "acpAdmin";
+  parent = 1;
+  owner = home.admin;
+  ct = moment;
+  lt = moment;
+  et = last_moment;
+  attrs =
+      (Pv, written_rules (admin_rule home ∷ entry_rule ∷ []))
+      ∷ (Pvs, written_rules (admin_rule home ∷ [])) ∷ [];
+}
+
+-- the entity as it opens
+abbrev pub opening : HomeData → ℕ → EntityData
+opening home reading = record {
+  home = home;
+  nodes = opening_base home (cut reading) ∷ opening_policy home (cut reading) ∷ [];
+  next = 3;
+  last = cut reading;
+}
