@@ -1,4 +1,5 @@
 pub mod Codes
 pub mod Entity
+pub mod Expiry
 pub mod Opening
 pub mod Sound

@@ -55,7 +55,7 @@ abbrev pub is_within_limits : List ResourceData → ResourceData → Bool
 is_within_limits nodes r =
     not (is_ty r.ty Container)
     || (is_within (count_at Mni r.attrs) (length (instances_of r.number nodes))
-        && is_within (count_at Mbs r.attrs) (sizes_of r.number nodes))
+    && is_within (count_at Mbs r.attrs) (sizes_of r.number nodes))
 
 -- ---- who stands once
 
@@ -93,6 +93,11 @@ abbrev pub has_one_channel : List ResourceData → ResourceData → Bool
 has_one_channel nodes r = nat_le (length (channels_of r.number nodes)) 1
 
 -- ---- soundness
+
+-- the first resource, the CSEBase, isn't picked
+abbrev pub spares_first : (ResourceData → Bool) → List ResourceData → Bool
+spares_first picks [] = true
+spares_first picks (r ∷ nodes) = not (picks r)
 
 -- what holds of an entity at every moment
 pub record IsSound (e : EntityData) : Type 0 where

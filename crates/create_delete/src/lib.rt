@@ -1,6 +1,25 @@
-//! The entity: its home, its tree of resources, its next number and its last moment.
+//! The entity: its home, its tree of resources, the number of the resource that is created next,
+//! and the moment of the last event; how it opens, and what each event finds of it.
+//!
+//! To callers an `Entity` is the record of these (`EntityData` of `specs/Entity`), its tree being
+//! the plain list of its resources, and it is sound at every moment (`IsSound` of `specs/Sound`).
+//! Its fields are public: whoever changes them in place owes that it is sound again. `Entity::open`
+//! gives exactly the opening entity. `sweep` brings the entity to the moment of an event, and
+//! removes what is due by then with all that stands below it; it takes memory only where something
+//! is due, and where memory runs out it leaves the entity as it was.
+//!
+//! Laws over every entity stand on functions without a body: an entity opens sound, and stays sound
+//! where something is removed.
 #![tactic(auto)]
 
 mod entity;
+mod laws;
+mod moments;
+mod opening;
+mod sweeping;
 
 pub use entity::Entity;
+pub use laws::{a_sound_entity_has_one_base, an_entity_stays_sound};
+pub use moments::moment_of;
+pub use std::alloc::AllocError as OutOfMemory;
+pub use sweeping::sweep;

@@ -1,0 +1,4 @@
+pub mod RemovalLemmas
+pub mod NumberLemmas
+pub mod SoundLemmas
+pub mod WrittenLemmas

@@ -1,0 +1,21 @@
+// The moment of an event.
+ghost use Rattle.std.specs.Prelude.{◌≡◌};
+ghost use Rattle.create_delete.specs.Entity as spec;
+
+// The last moment of an event, in seconds since 1970.
+const LAST_READING: u64 = 253_402_300_798;
+
+// What is taken of a clock's reading.
+pub(crate) fn cut(reading: u64) -> u64
+    ensures { result ≡ spec.cut reading }
+{
+    reading.min(LAST_READING)
+}
+
+/// The moment of an event, in seconds since 1970: the clock's reading, but at most a second before
+/// the last timestamp, and never before the moment of the last event.
+pub fn moment_of(last: u64, reading: u64) -> u64
+    ensures { result ≡ spec.moment_of last reading }
+{
+    last.max(cut(reading))
+}
