@@ -17,6 +17,8 @@ mod laws;
 mod moments;
 mod opening;
 mod sweeping;
+#[cfg(test)]
+mod tests;
 
 pub use entity::Entity;
 pub use laws::{a_sound_entity_has_one_base, an_entity_stays_sound};

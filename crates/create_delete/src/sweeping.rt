@@ -1,7 +1,7 @@
 // The expiry.
 ghost use Rattle.std.specs.Prelude.{◌≡◌, IfOk, OnOk, OnErr, IsTrue};
 ghost use Rattle.tree_model.specs.Resource.{has_number};
-ghost use Rattle.tree_model.specs.Tree.{is_tree, without};
+ghost use Rattle.tree_model.specs.Tree.{is_tree, live, without};
 ghost use Rattle.create_delete.specs.Entity.{swept};
 ghost use Rattle.create_delete.specs.Expiry.{due_numbers, has_one_of};
 
@@ -21,9 +21,19 @@ pub fn sweep<T: Tree>(
     ensures err { OnErr result (entity.new ≡ entity.old) }
 {
     let moment = moment_of(entity.last, reading);
-    let due = due_at(alloc, &entity.tree, moment)?;
-    remove_all(&mut entity.tree, &due);
+    expire(alloc, &mut entity.tree, moment)?;
     entity.last = moment;
+    Ok(())
+}
+
+// Removes what is due at a moment, with all that stands below it.
+pub(crate) fn expire<T: Tree>(alloc: Global, tree: &mut T, moment: u64) -> Result<(), OutOfMemory>
+    requires { IsTrue (is_tree (T.nodes tree.old)) }
+    ensures ok { OnOk result (T.nodes tree.new ≡ live moment (T.nodes tree.old)) }
+    ensures err { OnErr result (T.nodes tree.new ≡ T.nodes tree.old) }
+{
+    let due = due_at(alloc, tree, moment)?;
+    remove_all(tree, &due);
     Ok(())
 }
 
