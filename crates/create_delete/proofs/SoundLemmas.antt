@@ -1,6 +1,6 @@
 -- Soundness: of the entity as it opens, and of what a removal leaves.
 use Rattle.std.specs.Prelude.{◌==◌, nat_le, nat_lt, sum_by, min, max}
-use Rattle.std.proofs.Common.{◌≡◌, ℕ, ◌+◌, ◌-◌, ◌^◌, ◌<◌, ◌≤◌, List, [], ◌∷◌, ◌++◌, length, take, Bool, true, false, cond, not, ◌&&◌, ◌||◌, Option, Some, None, inl, inr, refl, sym, ap, ◌∙◌, subst, arith, bytes_eq}
+use Rattle.std.proofs.Common.{◌≡◌, ℕ, ◌+◌, ◌-◌, ◌^◌, ◌<◌, ◌≤◌, List, [], ◌∷◌, ◌++◌, length, take, Bool, true, false, cond, not, ◌&&◌, ◌||◌, Option, Some, None, if◌then◌else◌, inl, inr, refl, sym, ap, ◌∙◌, subst, arith, bytes_eq}
 use Rattle.std.proofs.lemmas.Bool.{cases_Bool, and_parts, and_from, or_cases, or_parts, or_from, or_left, or_right, not-true, not_from_false, leb-true, le-leb, ltb-true, both_ways, false_from_ne_true, eqb-true, eq-eqb}
 use Rattle.std.proofs.lemmas.List.{append-nil}
 use Rattle.std.proofs.lemmas.List.Elements.{filter-append}
@@ -12,14 +12,16 @@ use Rattle.m2m_names.specs.Types.{does_take}
 use Rattle.m2m_names.specs.declared.types.Ty.{Ty}
 use Rattle.m2m_names.specs.declared.types.Ty.TheVariants.{AccessControlPolicy, Ae, Container, ContentInstance, CseBase, Group, PollingChannel, RemoteCse, Subscription, AccessControlPolicyAnnc, AeAnnc, ContainerAnnc, ContentInstanceAnnc, GroupAnnc}
 use Rattle.tree_model.specs.Attributes.{count_at}
-use Rattle.tree_model.specs.Home.{HomeData}
+use Rattle.tree_model.specs.Home.{HomeData, IsHome, is_base_name, is_cse_type}
 use Rattle.tree_model.specs.Resource.{ResourceData, is_ty}
 use Rattle.tree_model.specs.Tree.{at, has, stays, staying, without, is_spared, depth, is_instance, instances_of, size_of, sizes_of, due_under, is_due, lesser, age_end, are_below, is_root, is_taken, fits_in, is_well_formed, is_tree}
 use Rattle.tree_model.proofs.TreeLemmas.{has_at, staying_all, staying_any, staying_unpicked}
 use Rattle.tree_model.proofs.GrowthLemmas.{growth, tree_from_well_formed, next_fits, root_parent, at-without}
 use Rattle.tree_model.proofs.KeptLemmas.{is_well_formed-without}
+use Rattle.m2m_names.specs.Name.{is_free_name, is_originator}
+use Rattle.attribute_rules.specs.Kinds.{are_kinds}
 use Rattle.create_delete.specs.Entity.{EntityData, last_reading, cut, moment_of, swept}
-use Rattle.create_delete.specs.Opening.{opening}
+use Rattle.create_delete.specs.Opening.{opening_base, opening_policy, opening_nodes, opening}
 use Rattle.create_delete.specs.Sound.{has_known_ids, has_size, is_shallow, greatest_depth, is_within, is_within_limits, begins_with_base, cse_id_of, own_cse_id, cse_ids, are_distinct, is_channel, channels_of, has_one_channel, spares_first, IsSound}
 use Rattle.create_delete.proofs.RemovalLemmas.{staying_length, staying_filter, staying_sum, no_deeper}
 
@@ -170,6 +172,7 @@ sound_left p e last sound spared small none =
       base = base_left p e.home e.nodes sound.tree spared sound.base;
       depth = all_left p is_shallow e.nodes (shallow_left p e.nodes tree) sound.depth;
       count = omega arith;
+      kinds = staying_all p are_kinds [] e.nodes sound.kinds;
       cses = cses_left p e.home e.nodes sound.cses;
       channels = all_left p has_one_channel e.nodes (channel_left p e.nodes) sound.channels;
       sizes = staying_all p has_size [] e.nodes sound.sizes;
@@ -207,8 +210,29 @@ sound_removed p e sound spared = sound_left p e e.last sound spared sound.last (
 cut_small : (reading : ℕ) → nat_le 253402300799 (cut reading) ≡ false
 cut_small reading = false_from_ne_true _ (λ t. let le : 253402300799 ≤ cut reading = leb-true 253402300799 (cut reading) t in omega arith)
 
-pub sound_opening : (home : HomeData) (reading : ℕ) → IsSound (opening home reading)
-sound_opening home reading = record {
+-- the place of the first that doesn't hold
+abbrev first_false : Bool → Bool → Bool → Bool → Bool → Option ℕ
+first_false a b c d e = if not a then Some 0 else if not b then Some 1 else if not c then Some 2 else if not d then Some 3 else if not e then Some 4 else None
+
+last_holds : (a b c d e : Bool) → first_false a b c d e ≡ None → e ≡ true
+last_holds false b c d e none = cc
+last_holds true false c d e none = cc
+last_holds true true false d e none = cc
+last_holds true true true false e none = cc
+last_holds true true true true false none = cc
+last_holds true true true true true none = refl
+
+admin_admitted : (home : HomeData) → IsHome home → is_originator home.admin ≡ true
+admin_admitted home is = last_holds (is_free_name home.sp) (is_free_name home.csi) (is_base_name home.base) (is_cse_type home.cst) (is_originator home.admin) is.admitted
+
+policy_kinds : (home : HomeData) (moment : ℕ) → is_originator home.admin ≡ true → are_kinds (opening_policy home moment) ≡ true
+policy_kinds home moment admitted = rw admitted refl
+
+opening_kinds : (home : HomeData) (moment : ℕ) → is_originator home.admin ≡ true → list_all are_kinds (opening_base home moment ∷ opening_policy home moment ∷ []) ≡ true
+opening_kinds home moment admitted = and_from (are_kinds (opening_base home moment)) _ refl (and_from (are_kinds (opening_policy home moment)) _ (policy_kinds home moment admitted) refl)
+
+pub sound_opening : (home : HomeData) (reading : ℕ) → IsHome home → IsSound (opening home reading)
+sound_opening home reading is = record {
   numbers = refl;
   next = omega arith;
   ids = refl;
@@ -216,6 +240,7 @@ sound_opening home reading = record {
   base = (bytes_eq-Decides home.base home.base).1 refl;
   depth = refl;
   count = omega arith;
+  kinds = opening_kinds home (cut reading) (admin_admitted home is);
   cses = refl;
   channels = refl;
   sizes = refl;
@@ -223,6 +248,13 @@ sound_opening home reading = record {
   last = omega arith;
   due = rw (cut_small reading) refl;
 }
+
+-- the same, of what stands for its parts
+pub sound_opened : (home : HomeData) (reading moment : ℕ) (nodes : List ResourceData) → IsHome home → moment ≡ cut reading → nodes ≡ opening_nodes home moment → IsSound (record { home = home; nodes = nodes; next = 3; last = moment })
+sound_opened home reading moment nodes is when stand =
+    let entity : List ResourceData → ℕ → EntityData = λ ns m. record { home = home; nodes = ns; next = 3; last = m } in
+    let same : entity nodes moment ≡ opening home reading = ap (λ (ns : List ResourceData). entity ns moment) stand ∙ ap (λ (m : ℕ). entity (opening_nodes home m) m) when in
+    subst IsSound (sym same) (sound_opening home reading is)
 
 -- ---- one CSEBase
 

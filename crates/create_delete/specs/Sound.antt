@@ -11,6 +11,7 @@ use Rattle.tree_model.specs.Attributes.{count_at, text_at}
 use Rattle.tree_model.specs.Home.{HomeData}
 use Rattle.tree_model.specs.Resource.{ResourceData, is_ty}
 use Rattle.tree_model.specs.Tree.{is_under, instances_of, size_of, sizes_of, depth, is_due, are_below, is_well_formed}
+use Rattle.attribute_rules.specs.Kinds.{are_kinds}
 use Rattle.policy_eval.specs.Rules.{policy_number, ids_at}
 use Rattle.create_delete.specs.Entity.{EntityData, last_reading}
 
@@ -110,6 +111,8 @@ pub record IsSound (e : EntityData) : Type 0 where
   pub base : IsTrue (begins_with_base e.home e.nodes)
   pub depth : IsTrue (list_all (is_shallow e.nodes) e.nodes)
   pub count : length e.nodes ≤ greatest_count
+  -- each resource keeps attributes of its type, with values of their kinds
+  pub kinds : IsTrue (list_all are_kinds e.nodes)
   -- CSE-IDs differ from each other and from the own one, and no resource has two polling channels
   pub cses : IsTrue (are_distinct (cse_ids e.home e.nodes))
   pub channels : IsTrue (list_all (has_one_channel e.nodes) e.nodes)

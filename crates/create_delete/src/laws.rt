@@ -1,7 +1,7 @@
 // What holds of every entity.
 ghost use Rattle.std.specs.Prelude.{◌≡◌, ℕ, List, Bool, IsTrue, filter, take};
 ghost use Rattle.m2m_names.specs.declared.types.Ty.TheVariants.{CseBase};
-ghost use Rattle.tree_model.specs.Home.{HomeData};
+ghost use Rattle.tree_model.specs.Home.{HomeData, IsHome};
 ghost use Rattle.tree_model.specs.Resource.{ResourceData, is_ty};
 ghost use Rattle.tree_model.specs.Tree.{without};
 ghost use Rattle.create_delete.specs.Entity.{EntityData, swept};
@@ -11,7 +11,7 @@ ghost use Rattle.create_delete.specs.Sound.{IsSound, spares_first};
 /// An entity opens sound, and stays sound: under the expiry, and where some resources are removed
 /// with all that stands below them, unless the CSEBase is.
 pub fn an_entity_stays_sound()
-    ensures opened { (home : HomeData) (reading : ℕ) → IsSound (opening home reading) }
+    ensures opened { (home : HomeData) (reading : ℕ) → IsHome home → IsSound (opening home reading) }
     ensures swept { (reading : ℕ) (e : EntityData) → IsSound e → IsSound (swept reading e) }
     ensures removed { (picks : ResourceData → Bool) (e : EntityData) → IsSound e
         → IsTrue (spares_first picks e.nodes) → IsSound (record e { nodes = without picks e.nodes }) }
