@@ -1,0 +1,4 @@
+pub mod CheckLemmas
+pub mod LawLemmas
+pub mod ReplyLemmas
+pub mod TargetLemmas

@@ -1,0 +1,43 @@
+-- Laws of the binding.
+use Rattle.std.specs.Prelude.{◌≡◌, Bool, IsTrue, Option, Some, None, IfSome}
+use Rattle.m2m_names.specs.Name.{is_name}
+use Rattle.m2m_names.specs.declared.operations.Op.TheVariants.{Retrieve}
+use Rattle.primitive_json.specs.Bounds.{is_request_id}
+use Rattle.primitive_json.specs.declared.request.RequestParts.{RequestParts}
+use Rattle.primitive_json.specs.declared.reply.ReplyParts.{ReplyParts}
+use Rattle.http_frames.specs.declared.frame.Frame.{Frame}
+use Rattle.http_frames.specs.Text.{frame_text}
+use Rattle.http_binding.specs.Headers.{is_local_originator}
+use Rattle.http_binding.specs.Binding.{Binds, echo_of}
+use Rattle.http_binding.specs.Replying.{reply_frame, reply_text}
+
+-- A frame binds to at most one request.
+abbrev pub BindsToOne : Type 0
+BindsToOne = (frame : Frame) (request other : RequestParts) → Binds frame request → Binds frame other → request ≡ other
+
+-- What a request says to which a frame binds: a Retrieve of a name by a named originator, and nothing else.
+pub record IsServed (request : RequestParts) : Type 0 where
+  pub op : request.op ≡ Retrieve
+  pub to : IsTrue (is_name request.to)
+  pub fr : request.fr ≢ None
+  pub originator : IfSome request.fr (λ o. IsTrue (is_local_originator o))
+  pub rqi : IsTrue (is_request_id request.rqi)
+  pub ty : request.ty ≡ None
+  pub pc : request.pc ≡ None
+  pub rqet : request.rqet ≡ None
+  pub rt : request.rt ≡ None
+  pub rcn : request.rcn ≡ None
+  pub fc : request.fc ≡ None
+  pub drt : request.drt ≡ None
+
+-- A frame binds to served requests alone.
+abbrev pub BindsToServed : Type 0
+BindsToServed = (frame : Frame) (request : RequestParts) → Binds frame request → IsServed request
+
+-- The reply to a frame that binds repeats the identifier of the request.
+abbrev pub EchoIsId : Type 0
+EchoIsId = (frame : Frame) (request : RequestParts) → Binds frame request → echo_of frame ≡ Some request.rqi
+
+-- The text of a reply is that of its frame.
+abbrev pub TextIsFrames : Type 0
+TextIsFrames = (reply : ReplyParts) (close : Bool) → reply_text reply close ≡ frame_text (reply_frame reply close)

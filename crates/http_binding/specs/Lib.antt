@@ -1,0 +1,4 @@
+pub mod Headers
+pub mod Binding
+pub mod Replying
+pub mod Laws

@@ -1,0 +1,22 @@
+//! Laws of the definitions.
+ghost use Rattle.http_binding.specs.Laws.{BindsToOne, BindsToServed, EchoIsId, TextIsFrames};
+
+/// A frame binds to at most one request.
+pub fn a_frame_binds_to_one_request()
+    ensures { BindsToOne }
+{}
+
+/// A frame binds to a Retrieve of a name by an originator of this entity, and to nothing else.
+pub fn a_frame_binds_to_served_requests()
+    ensures { BindsToServed }
+{}
+
+/// The identifier that is told of a frame that binds is the request's.
+pub fn the_echo_is_the_request_id()
+    ensures { EchoIsId }
+{}
+
+/// The text of a reply is that of its frame.
+pub fn a_reply_is_written_as_its_frame()
+    ensures { TextIsFrames }
+{}
