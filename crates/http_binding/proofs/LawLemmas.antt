@@ -1,5 +1,6 @@
 -- What is known of a frame that binds.
-use Rattle.std.proofs.Common.{◌≡◌, ◌≢◌, ℕ, Bool, true, false, not, ◌&&◌, ◌||◌, ltb, cond, nat_eq, List, [], ◌∷◌, ◌++◌, length, drop, codes, Option, Some, None, is_some, unwrap_or, Result, Ok, Err, IsTrue, IfSome, refl, sym, ap, subst, ◌∙◌}
+use Rattle.std.proofs.Common.{◌≡◌, ◌≢◌, ℕ, Bool, true, false, not, ◌&&◌, ◌||◌, ltb, cond, nat_eq, List, [], ◌∷◌, ◌++◌, length, drop, codes, Option, Some, None, is_some, unwrap_or, Result, Ok, Err, IsTrue, IfSome, inl, inr, refl, sym, ap, subst, ◌∙◌}
+use Rattle.std.specs.Prelude.{⊤}
 use Rattle.std.specs.List.{starts_with}
 use Rattle.std.specs.Result.{result_unwrap_or, is_ok}
 use Rattle.std.proofs.lemmas.Bool.{cases_Bool, and_parts, false≢true, true≢false}
@@ -21,22 +22,27 @@ bound_parts : (fault : Option BindFault) (made request : RequestParts) → unles
 bound_parts None made request h = (refl, ap (λ r. result_unwrap_or r made) h)
 bound_parts (Some fault) made request h = absurd (false≢true (ap is_ok h))
 
--- the first of tests that are all passed
-clear_first : (test : Bool) (fault : BindFault) (rest : List Check) → first_fault ((test, fault) ∷ rest) ≡ None → (test ≡ true) × (first_fault rest ≡ None)
-clear_first true fault rest h = (refl, h)
-clear_first false fault rest h = absurd (true≢false (ap is_some h))
+-- each test is passed
+abbrev AreClear : List Check → Type 0
+AreClear [] = ⊤
+AreClear (check ∷ checks) = (check.0 ≡ true) × AreClear checks
+
+are_clear : (checks : List Check) → first_fault checks ≡ None → AreClear checks
+are_clear [] h = tt
+are_clear ((true, fault) ∷ checks) h = (refl, are_clear checks h)
+are_clear ((false, fault) ∷ checks) h = absurd (true≢false (ap is_some h))
 
 -- what there is under a name of which the first value has to be there
 named_one : (text : List ℕ) → is_some (name_in text) ≡ true → is_name (unwrap_or (name_in text) []) ≡ true
 named_one text h =
     elim (cases_Bool (starts_with nat_eq text (codes "/") && is_name (drop 1 text))) [
-      | inl yes ↦ rw yes (and_parts (starts_with nat_eq text (codes "/")) _ yes).1
-      | inr no ↦ absurd (false≢true (rw no at h))
+      | inl found ↦ rw found (and_parts (starts_with nat_eq text (codes "/")) _ found).1
+      | inr none ↦ absurd (false≢true (rw none at h))
     ]
 
 lone_originator : (values : List (List ℕ)) → is_one_that is_origin_value values ≡ true → has_text (first_value values) ≡ true → IfSome (first_value values) (λ o. IsTrue (is_local_originator o)) × (first_value values ≢ None)
 lone_originator [] one there = absurd (false≢true there)
-lone_originator (value ∷ []) one there = (rw there at one, λ none. true≢false (ap is_some none))
+lone_originator (value ∷ []) one there = (rw there (rw there at one), λ none. true≢false (ap is_some none))
 lone_originator (value ∷ next ∷ values) one there = absurd (false≢true one)
 
 lone_request_id : (values : List (List ℕ)) → is_one_that is_request_id values ≡ true → is_some (first_value values) ≡ true → (is_request_id (unwrap_or (first_value values) []) ≡ true) × (lone_id values ≡ Some (unwrap_or (first_value values) []))
@@ -54,16 +60,13 @@ record Passes (frame : Frame) : Type 0 where
 
 passes : (frame : Frame) → first_fault (checks frame) ≡ None → Passes frame
 passes frame h =
-    let get = clear_first _ _ _ h in
-    let target = clear_first _ _ _ get.1 in
-    let origin = clear_first _ _ _ target.1 in
-    let id = clear_first _ _ _ origin.1 in
-    let expiry = clear_first _ _ _ id.1 in
-    let kind = clear_first _ _ _ expiry.1 in
-    let encoding = clear_first _ _ _ kind.1 in
-    let has_id = clear_first _ _ _ encoding.1 in
-    let has_origin = clear_first _ _ _ has_id.1 in
-    record { named = target.0; origin = origin.0; id = id.0; has_id = has_id.0; has_origin = has_origin.0 }
+    let all = are_clear (checks frame) h in record {
+      named = all.1.0;
+      origin = all.1.1.0;
+      id = all.1.1.1.0;
+      has_id = all.1.1.1.1.1.1.1.0;
+      has_origin = all.1.1.1.1.1.1.1.1.0;
+    }
 
 served : (frame : Frame) → Passes frame → IsServed (request_of frame)
 served frame p =

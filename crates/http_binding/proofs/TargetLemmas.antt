@@ -1,20 +1,26 @@
 -- A text of `/` and a name is a URI, whose path is the text itself.
-use Rattle.std.proofs.Common.{◌≡◌, ◌≢◌, ℕ, zero, suc, ◌+◌, ◌<◌, ◌≤◌, ◌==◌, ◌&&◌, ◌||◌, not, is_some, ltb, leb, Bool, true, false, IsTrue, List, [], ◌∷◌, length, get_or, take, drop, Option, Some, None, refl, sym, ap, ◌∙◌, subst, arith, inl, inr, take_all, le-ltb, ne_eqb}
-use Rattle.std.specs.List.{list_all}
-use Rattle.std.proofs.lemmas.Bool.{agree_below_at, and_parts, eqb-false, leb-true, not-true, false≢true, false_from_ne_true}
+use Rattle.std.proofs.Common.{◌≡◌, ◌≢◌, ℕ, zero, suc, ◌+◌, ◌<◌, ◌≤◌, ◌==◌, ◌&&◌, ◌||◌, not, is_some, ltb, leb, Bool, true, false, cond, List, [], ◌∷◌, length, codes, nat_eq, get_or, take, drop, Option, Some, None, refl, sym, ap, ◌∙◌, subst, arith, inl, inr, take_all, le-ltb, ne_eqb}
+use Rattle.std.specs.List.{list_all, starts_with}
+use Rattle.std.specs.Str.{IsUtf8}
+use Rattle.std.proofs.lemmas.Bool.{agree_below_at, and_parts, cases_Bool, eqb-true, eqb-false, leb-true, not-true, false≢true, false_from_ne_true}
 use Rattle.std.proofs.lemmas.Bool.Decides.{nat_tests}
 use Rattle.std.proofs.lemmas.List.Elements.{All-get_or}
 use Rattle.std.proofs.lemmas.List.Sums.{AllPass-from_list_all}
-use Rattle.std.proofs.lemmas.Str.{IsUtf8-from_ascii}
+use Rattle.std.proofs.lemmas.Str.{IsUtf8-from_ascii, IsUtf8-nil}
 use Rattle.std.proofs.lemmas.Str.Ascii.{IsAscii-from_reads}
 use Rattle.http_uri.specs.declared.uri.Uri.{Uri}
 use Rattle.http_uri.specs.ByteClasses.{is_path_byte, index_of, split_once_front}
-use Rattle.http_uri.specs.Grammar.{IsUriText, IsForm, IsPathAndQuery, without_fragment, path_of}
-use Rattle.http_uri.specs.Uri.{Spells, SpellsNone, uri_path, uri_data}
+use Rattle.http_uri.specs.Grammar.{IsUriText, IsForm, IsPathAndQuery, IsPathInput, without_fragment, path_of}
+use Rattle.http_uri.specs.Uri.{Spells, SpellsNone, uri_path, uri_scheme}
 use Rattle.http_uri.proofs.RunLemmas.{AllPass-from, index_of_is}
 use Rattle.http_uri.proofs.UriLemmas.{IsAuthority_first, cut_first}
 use Rattle.m2m_names.specs.Name.{is_name, is_filled, is_unreserved}
 use Rattle.http_binding.specs.Binding.{name_in}
+
+-- an empty text is UTF-8
+pub empty_is_utf8 : (bs : List ℕ) → length bs ≡ 0 → IsUtf8 bs
+empty_is_utf8 [] h = IsUtf8-nil
+empty_is_utf8 (b ∷ bs) h = absurd (omega arith)
 
 -- what a byte of a name is, as a test
 abbrev is_plain_byte : ℕ → Bool
@@ -69,7 +75,16 @@ plain_name name h =
 
 plain_text : (text : List ℕ) → is_some (name_in text) ≡ true → IsPlain text
 plain_text [] h = absurd (false≢true h)
-plain_text (b ∷ name) h = ?
+plain_text (b ∷ name) h =
+    let tests = starts_with nat_eq (b ∷ name) (codes "/") && is_name name in
+    let both : tests ≡ true = elim (cases_Bool tests) [ inl found ↦ found | inr none ↦ absurd (false≢true (rw none at h)) ] in
+    let parts = and_parts (starts_with nat_eq (b ∷ name) (codes "/")) (is_name name) both in
+    let first = and_parts (nat_eq 47 b) true parts.0 in
+    subst (λ a. IsPlain (a ∷ name)) (eqb-true 47 b first.0) (plain_name name parts.1)
+
+-- the path of a URI by its parts
+abbrev path_by : Option (List ℕ) → List ℕ → List ℕ
+path_by scheme kept = cond (not (length kept == 0) || is_some scheme) (path_of kept) []
 
 module _ (text : List ℕ) (p : IsPlain text) where
   no_mark : (c : ℕ) → ((k : ℕ) → k < length text → get_or text k 0 ≢ c) → index_of c text ≡ length text
@@ -97,11 +112,9 @@ module _ (text : List ℕ) (p : IsPlain text) where
   }
 
   spelled : IsUriText text None None text
-  spelled = (
-    omega (arith, p.short),
-    (inr p.first, record { start = inr (rw p.first refl); short = omega (arith, p.short); kept = rw whole is_path }),
-    sym whole,
-  )
+  spelled =
+      let input : IsPathInput text = record { start = inr (rw p.first refl); short = omega (arith, p.short); kept = rw whole is_path } in
+      (omega (arith, p.short), ((inr p.first, input), sym whole))
 
   only_form : (s a : Option (List ℕ)) (kept : List ℕ) → IsForm text s a kept → kept ≡ text
   only_form None None kept h = h.1 ∙ whole
@@ -109,11 +122,13 @@ module _ (text : List ℕ) (p : IsPlain text) where
   only_form (Some s) None kept h = absurd h
   only_form (Some s) (Some a) kept h = absurd (cut_first text s a kept h p.first)
 
-  own_path : (u : Uri) → Spells text u → uri_path u ≡ text
-  own_path u h =
-      let kept : uri_data u ≡ text = only_form _ _ _ h.1 in
+  path_is : (scheme : Option (List ℕ)) → path_by scheme text ≡ text
+  path_is scheme =
       let there : (length text == 0) ≡ false = ne_eqb (length text) 0 (omega (arith, p.some)) in
-      rw (kept, there, whole_path, there) refl
+      rw (there, whole_path, there) refl
+
+  own_path : (u : Uri) → Spells text u → uri_path u ≡ text
+  own_path u h = ap (path_by (uri_scheme u)) (only_form _ _ _ h.1) ∙ path_is (uri_scheme u)
 
 -- a text that isn't its own path as a URI names nothing
 pub other_path : (text : List ℕ) (u : Uri) → Spells text u → uri_path u ≢ text → is_some (name_in text) ≡ false

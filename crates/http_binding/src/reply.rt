@@ -58,6 +58,12 @@ fn push_number(
     push_line(alloc, lines, name, digits.as_bytes())
 }
 
+fn push_code(alloc: Global, lines: &mut Vec<Line>, code: u16) -> Result<(), OutOfMemory>
+    ensures { OnOk result (lines.new.items ≡ lines.old.items ++ (code_field, decimal code) ∷ []) }
+{
+    push_number(alloc, lines, "X-M2M-RSC", usize::from(code))
+}
+
 fn push_id(alloc: Global, lines: &mut Vec<Line>, id: &Option<Text>) -> Result<(), OutOfMemory>
     ensures { OnOk result (lines.new.items ≡ lines.old.items ++ id_lines id.now) }
 {
@@ -94,7 +100,7 @@ fn push_primitive(
     ensures { OnOk result (lines.new.items
         ≡ lines.old.items ++ ((code_field, decimal (rsc_row reply.now.rsc).number) ∷ id_lines reply.now.rqi)) }
 {
-    push_number(alloc, lines, "X-M2M-RSC", usize::from(reply.rsc.number()))?;
+    push_code(alloc, lines, reply.rsc.number())?;
     push_id(alloc, lines, &reply.rqi)
 }
 

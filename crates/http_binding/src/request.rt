@@ -1,5 +1,6 @@
 //! The request that a frame binds to.
-ghost use Rattle.std.specs.Prelude.{◌≡◌, ◌++◌, ◌⊎◌, [], ◌∷◌, None, Some, IfOk, IfSome, IsUtf8, is_some, unwrap_or, codes, bytes_eq, ⊤};
+ghost use Rattle.std.specs.Prelude.{◌≡◌, ◌++◌, ◌⊎◌, [], ◌∷◌, None, Some, IfOk, IfSome, IsUtf8, false, is_some, unwrap_or};
+ghost use Rattle.std.specs.Bool.{OnTrue, OnFalse};
 ghost use Rattle.std.specs.Option.{option_copied};
 ghost use Rattle.http_frames.specs.Lines.{values_named};
 ghost use Rattle.http_binding.specs.Headers as spec;
@@ -13,24 +14,28 @@ use http_uri::{Uri, UriError};
 use m2m_names::{Op, is_name, is_originator};
 use m2m_value::Text;
 use primitive_json::{Request, RequestParts, is_request_id};
-use std::alloc::Global;
+use std::alloc::{AllocError, Global};
 
 const ORIGIN: &[u8] = b"X-M2M-Origin";
+
 const ID: &[u8] = b"X-M2M-RI";
+
 const EXPIRY: &[u8] = b"X-M2M-RET";
+
 const TYPE: &[u8] = b"Content-Type";
+
 const ENCODING: &[u8] = b"Content-Encoding";
 
 /// What the lines say of the originator and of the request, where they do.
 #[derive(Clone, Copy)]
-struct Said<'a> {
+struct Saying<'a> {
     origin: Option<&'a [u8]>,
     id: Option<&'a [u8]>,
 }
 
 /// The originator and the request's identifier.
 #[derive(Clone, Copy)]
-struct Heard<'a> {
+struct Caller<'a> {
     origin: &'a [u8],
     id: &'a [u8],
 }
@@ -72,7 +77,7 @@ fn target(start: &Start) -> Result<&[u8], BindFault>
             method,
             target,
             minor: _,
-        } if method.entries() == b"GET" => Ok(target.entries()),
+        } if method.entries() == b"GET".as_slice() => Ok(target.entries()),
         _ => Err(BindFault::Method),
     }
 }
@@ -80,11 +85,23 @@ fn target(start: &Start) -> Result<&[u8], BindFault>
 /// The name that stands alone behind `/`.
 fn name_alone(text: &[u8]) -> Option<&[u8]>
     ensures value { option_copied result ≡ name_in text.now }
+    ensures utf8 { IfSome (option_copied result) IsUtf8 }
 {
     if text.starts_with(b"/") && is_name(&text[1..]) {
         Some(&text[1..])
     } else {
         None
+    }
+}
+
+/// Whether the target is a URI that is no more than its path. Where it isn't, no name stands alone in it.
+fn is_path(alloc: Global, target: &[u8]) -> Result<bool, OutOfMemory>
+    ensures { IfOk result (λ path. OnFalse path (is_some (name_in target.now) ≡ false)) }
+{
+    match Uri::from_bytes(alloc, target) {
+        Ok(uri) => Ok(uri.path().as_bytes() == target),
+        Err(UriError::Invalid(_)) => Ok(false),
+        Err(UriError::OutOfMemory) => Err(AllocError),
     }
 }
 
@@ -94,15 +111,12 @@ fn name_of(alloc: Global, target: &[u8]) -> Result<Text, BindFault>
     ensures value { IfOk result (λ name. name ≡ unwrap_or (name_in target.now) []) }
     ensures utf8 { IfOk result IsUtf8 }
 {
-    let uri = match Uri::from_bytes(alloc, target) {
-        Ok(uri) => uri,
-        Err(UriError::Invalid(_)) => return Err(BindFault::Target),
-        Err(UriError::OutOfMemory) => return Err(BindFault::OutOfMemory),
-    };
-    let path = uri.path().as_bytes();
-    match name_alone(path) {
-        Some(name) if path == target => Ok(text_of(alloc, name)?),
-        _ => Err(BindFault::Target),
+    if !is_path(alloc, target)? {
+        return Err(BindFault::Target);
+    }
+    match name_alone(target) {
+        Some(name) => Ok(text_of(alloc, name)?),
+        None => Err(BindFault::Target),
     }
 }
 
@@ -117,9 +131,18 @@ fn aim(alloc: Global, start: &Start) -> Result<Text, BindFault>
 }
 
 fn is_local_originator(text: &[u8]) -> bool
-    ensures { result ≡ spec.is_local_originator text.now }
+    ensures value { result ≡ spec.is_local_originator text.now }
+    ensures utf8 { OnTrue result (IsUtf8 text.now) }
 {
     is_originator(text) && !text.starts_with(b"/")
+}
+
+#[tactic(auto, using(crate::proofs::TargetLemmas::empty_is_utf8))]
+fn is_origin_value(value: &[u8]) -> bool
+    ensures value { result ≡ spec.is_origin_value value.now }
+    ensures utf8 { OnTrue result (IsUtf8 value.now) }
+{
+    value.is_empty() || is_local_originator(value)
 }
 
 /// The value of X-M2M-Origin, where the line is there.
@@ -130,7 +153,7 @@ fn origin(alloc: Global, lines: &Lines) -> Result<Option<&[u8]>, BindFault>
 {
     match lines.find(ORIGIN) {
         Found::Absent => Ok(None),
-        Found::One(value) if value.is_empty() || is_local_originator(value) => Ok(Some(value)),
+        Found::One(value) if is_origin_value(value) => Ok(Some(value)),
         Found::One(_) | Found::Repeated => Err(bad_header(alloc, ORIGIN)),
     }
 }
@@ -178,7 +201,7 @@ fn judge_others(alloc: Global, lines: &Lines) -> Result<(), BindFault>
 }
 
 /// What the lines say, if each is as it has to be.
-fn said(alloc: Global, lines: &Lines) -> Result<Said<'_>, BindFault>
+fn said(alloc: Global, lines: &Lines) -> Result<Saying<'_>, BindFault>
     ensures judged { Judges (header_checks lines.now) result }
     ensures origin { IfOk result (λ said. option_copied said.origin ≡ first_value (values_named origin_field lines.now)) }
     ensures id { IfOk result (λ said. option_copied said.id ≡ first_value (values_named id_field lines.now)) }
@@ -188,11 +211,11 @@ fn said(alloc: Global, lines: &Lines) -> Result<Said<'_>, BindFault>
     let origin = origin(alloc, lines)?;
     let id = id(alloc, lines)?;
     judge_others(alloc, lines)?;
-    Ok(Said { origin, id })
+    Ok(Saying { origin, id })
 }
 
 /// What has to be there.
-fn present<'a>(alloc: Global, said: Said<'a>) -> Result<Heard<'a>, BindFault>
+fn present<'a>(alloc: Global, said: Saying<'a>) -> Result<Caller<'a>, BindFault>
     ensures judged { Judges (presence_checks (option_copied said.entry.id) (option_copied said.entry.origin)) result }
     ensures origin { IfOk result (λ heard. option_copied said.entry.origin ≡ Some heard.origin.now) }
     ensures id { IfOk result (λ heard. option_copied said.entry.id ≡ Some heard.id.now) }
@@ -201,13 +224,13 @@ fn present<'a>(alloc: Global, said: Said<'a>) -> Result<Heard<'a>, BindFault>
         return Err(missing(alloc, ID));
     };
     match said.origin {
-        Some(origin) if !origin.is_empty() => Ok(Heard { origin, id }),
+        Some(origin) if !origin.is_empty() => Ok(Caller { origin, id }),
         _ => Err(missing(alloc, ORIGIN)),
     }
 }
 
 /// The originator and the identifier that the lines name.
-fn heard(alloc: Global, lines: &Lines) -> Result<Heard<'_>, BindFault>
+fn heard(alloc: Global, lines: &Lines) -> Result<Caller<'_>, BindFault>
     ensures judged { Judges (line_checks lines.now) result }
     ensures origin { IfOk result (λ heard. first_value (values_named origin_field lines.now) ≡ Some heard.origin.now) }
     ensures id { IfOk result (λ heard. first_value (values_named id_field lines.now) ≡ Some heard.id.now) }
@@ -219,10 +242,10 @@ fn heard(alloc: Global, lines: &Lines) -> Result<Heard<'_>, BindFault>
 }
 
 /// The Retrieve of a name.
-fn retrieve(alloc: Global, name: Text, heard: Heard<'_>) -> Result<Request, OutOfMemory>
+fn retrieve(alloc: Global, name: Text, heard: Caller<'_>) -> Result<Request, OutOfMemory>
     requires name { IsUtf8 name }
-    requires origin { IsUtf8 heard.entry.origin.now }
-    requires id { IsUtf8 heard.entry.id.now }
+    requires origin { IsUtf8 heard.origin.now }
+    requires id { IsUtf8 heard.id.now }
     ensures { IfOk result (λ request. request ≡ retrieve_of name (Some heard.entry.origin.now) heard.entry.id.now) }
 {
     Ok(Request::of(RequestParts {

@@ -60,10 +60,22 @@ fn bound(rt: &impl Abort, alloc: Global, start: &str, lines: &str) -> Result<Str
 #[test]
 fn a_get_of_a_name_is_a_retrieve(rt: HostRuntime) -> Result<(), Fail> {
     let rows = [
-        ("X-M2M-Origin: CAdmin\r\nX-M2M-RI: r1\r\n", "cse-in by CAdmin as r1"),
-        ("x-m2m-origin: CAdmin\r\nX-m2M-rI: r1\r\n", "cse-in by CAdmin as r1"),
-        ("X-M2M-RI: r1\r\nContent-Type: a\r\nX-M2M-RVI: 2a\r\nX-M2M-RVI: 3\r\nX-M2M-Origin: C\r\n", "cse-in by C as r1"),
-        ("X-M2M-RI: r1\r\nX-M2M-RI: r2\r\nX-M2M-Origin: C\r\n", "header X-M2M-RI"),
+        (
+            "X-M2M-Origin: CAdmin\r\nX-M2M-RI: r1\r\n",
+            "cse-in by CAdmin as r1",
+        ),
+        (
+            "x-m2m-origin: CAdmin\r\nX-m2M-rI: r1\r\n",
+            "cse-in by CAdmin as r1",
+        ),
+        (
+            "X-M2M-RI: r1\r\nContent-Type: a\r\nX-M2M-RVI: 2a\r\nX-M2M-RVI: 3\r\nX-M2M-Origin: C\r\n",
+            "cse-in by C as r1",
+        ),
+        (
+            "X-M2M-RI: r1\r\nX-M2M-RI: r2\r\nX-M2M-Origin: C\r\n",
+            "header X-M2M-RI",
+        ),
         ("X-M2M-RI: r1\r\nx-m2m-ri: r1\r\n", "header X-M2M-RI"),
         ("X-M2M-RI:\r\nX-M2M-Origin: C\r\n", "header X-M2M-RI"),
         ("X-M2M-RI: r 1\r\nX-M2M-Origin: C\r\n", "header X-M2M-RI"),
@@ -71,18 +83,46 @@ fn a_get_of_a_name_is_a_retrieve(rt: HostRuntime) -> Result<(), Fail> {
         ("X-M2M-RI: r1\r\n", "missing X-M2M-Origin"),
         ("X-M2M-Origin: C\r\n", "missing X-M2M-RI"),
         ("", "missing X-M2M-RI"),
-        ("X-M2M-RI: r1\r\nX-M2M-Origin: C 1\r\n", "header X-M2M-Origin"),
-        ("X-M2M-RI: r1\r\nX-M2M-Origin: /id-in/C1\r\n", "header X-M2M-Origin"),
-        ("X-M2M-Origin: C\r\nX-M2M-Origin: C\r\n", "header X-M2M-Origin"),
-        ("X-M2M-RET: 20301231T235959\r\nX-M2M-RI: r1\r\nX-M2M-Origin: C\r\n", "header X-M2M-RET"),
-        ("Content-Type: a\r\ncontent-type: a\r\nX-M2M-RI: r1\r\n", "header Content-Type"),
-        ("Content-Encoding: identity\r\nX-M2M-RI: r1\r\n", "header Content-Encoding"),
+        (
+            "X-M2M-RI: r1\r\nX-M2M-Origin: C 1\r\n",
+            "header X-M2M-Origin",
+        ),
+        (
+            "X-M2M-RI: r1\r\nX-M2M-Origin: /id-in/C1\r\n",
+            "header X-M2M-Origin",
+        ),
+        (
+            "X-M2M-Origin: C\r\nX-M2M-Origin: C\r\n",
+            "header X-M2M-Origin",
+        ),
+        (
+            "X-M2M-RET: 20301231T235959\r\nX-M2M-RI: r1\r\nX-M2M-Origin: C\r\n",
+            "header X-M2M-RET",
+        ),
+        (
+            "Content-Type: a\r\ncontent-type: a\r\nX-M2M-RI: r1\r\n",
+            "header Content-Type",
+        ),
+        (
+            "Content-Encoding: identity\r\nX-M2M-RI: r1\r\n",
+            "header Content-Encoding",
+        ),
         // The first of several faults, by the order of the table and not by that of the lines.
-        ("X-M2M-RET: 1\r\nX-M2M-RI: r1\r\nX-M2M-RI: r1\r\n", "header X-M2M-RI"),
-        ("X-M2M-RI: r 1\r\nX-M2M-Origin: C 1\r\n", "header X-M2M-Origin"),
+        (
+            "X-M2M-RET: 1\r\nX-M2M-RI: r1\r\nX-M2M-RI: r1\r\n",
+            "header X-M2M-RI",
+        ),
+        (
+            "X-M2M-RI: r 1\r\nX-M2M-Origin: C 1\r\n",
+            "header X-M2M-Origin",
+        ),
     ];
     for (lines, want) in rows {
-        assert_eq!(rt; bound(&rt, rt.alloc(), "GET /cse-in", lines)?.as_str(), want, "{lines:?}");
+        assert_eq!(rt;
+            bound(&rt, rt.alloc(), "GET /cse-in", lines)?.as_str(),
+            want,
+            "{lines:?}"
+        );
     }
     Ok(())
 }
@@ -99,7 +139,10 @@ fn an_originator_has_at_most_256_bytes(rt: HostRuntime) -> Result<(), Fail> {
         } else {
             format!(in alloc; "header X-M2M-Origin")?
         };
-        assert_eq!(rt; bound(&rt, alloc, "GET /cse-in", &lines)?.as_str(), want.as_str());
+        assert_eq!(rt;
+            bound(&rt, alloc, "GET /cse-in", &lines)?.as_str(),
+            want.as_str()
+        );
     }
     Ok(())
 }
@@ -126,7 +169,11 @@ fn a_target_is_a_slash_and_one_name(rt: HostRuntime) -> Result<(), Fail> {
     ];
     let lines = "X-M2M-Origin: C\r\nX-M2M-RI: 1\r\n";
     for (start, want) in rows {
-        assert_eq!(rt; bound(&rt, rt.alloc(), start, lines)?.as_str(), want, "{start:?}");
+        assert_eq!(rt;
+            bound(&rt, rt.alloc(), start, lines)?.as_str(),
+            want,
+            "{start:?}"
+        );
     }
     Ok(())
 }
@@ -200,7 +247,9 @@ fn each_status_code_has_its_status_line(rt: HostRuntime) -> Result<(), Fail> {
             panic!(rt; "no status code")
         };
         let told = reply_text(rt.alloc(), rsc, Some("r1"), None, false)?;
-        let want = format!(in rt.alloc(); "HTTP/1.1 {status}\r\nX-M2M-RSC: {number}\r\nX-M2M-RI: r1\r\nContent-Length: 0\r\n\r\n")?;
+        let want = format!(in rt.alloc();
+            "HTTP/1.1 {status}\r\nX-M2M-RSC: {number}\r\nX-M2M-RI: r1\r\nContent-Length: 0\r\n\r\n"
+        )?;
         assert_eq!(rt; show(told.written()), want.as_str());
     }
     Ok(())
@@ -209,7 +258,12 @@ fn each_status_code_has_its_status_line(rt: HostRuntime) -> Result<(), Fail> {
 #[test]
 fn a_reply_tells_its_length_in_bytes_and_its_end(rt: HostRuntime) -> Result<(), Fail> {
     let rows = [
-        (None, None, true, "X-M2M-RSC: 2000\r\nContent-Length: 0\r\nConnection: close\r\n\r\n"),
+        (
+            None,
+            None,
+            true,
+            "X-M2M-RSC: 2000\r\nContent-Length: 0\r\nConnection: close\r\n\r\n",
+        ),
         (
             None,
             Some("{ \"a\": \"é\" }"),
