@@ -12,7 +12,7 @@ pub use laws::{
     a_reply_is_written_as_its_frame, the_echo_is_the_request_id,
 };
 pub use reply::of_reply;
-pub use request::echo_id;
+pub use request::{echo_id, to_request};
 pub use std::alloc::AllocError as OutOfMemory;
 
 #[cfg(test)]

@@ -20,8 +20,8 @@ fn show_some(text: &Option<Text>) -> &str {
 }
 
 /// The request, or its fault, in words.
-fn words(alloc: Global, result: &Result<Request, BindFault>) -> Result<String, AllocError> {
-    match result {
+fn words(alloc: Global, answer: &Result<Request, BindFault>) -> Result<String, AllocError> {
+    match answer {
         Ok(request) => {
             let parts = request.parts();
             let to = show(parts.to.entries());
