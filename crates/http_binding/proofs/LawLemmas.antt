@@ -3,8 +3,8 @@ use Rattle.std.proofs.Common.{◌≡◌, ◌≢◌, ℕ, Bool, true, false, not,
 use Rattle.std.specs.Prelude.{⊤}
 use Rattle.std.specs.List.{starts_with}
 use Rattle.std.specs.Result.{result_unwrap_or, is_ok}
-use Rattle.std.proofs.lemmas.Bool.{cases_Bool, and_parts, false≢true, true≢false}
-use Rattle.m2m_names.specs.Name.{is_name}
+use Rattle.std.proofs.lemmas.Bool.{cases_Bool, and_parts, not-true, false≢true, true≢false}
+use Rattle.m2m_names.specs.Name.{is_name, is_originator}
 use Rattle.primitive_json.specs.Bounds.{is_request_id}
 use Rattle.primitive_json.specs.declared.request.RequestParts.{RequestParts}
 use Rattle.http_frames.specs.declared.frame.Frame.{Frame}
@@ -96,3 +96,11 @@ echo_is_id frame request h =
     let parts = bound_parts (first_fault (checks frame)) (request_of frame) request h in
     let p = passes frame parts.0 in
     (lone_request_id (values_named id_field frame.lines) p.id p.has_id).1 ∙ ap (λ r. Some r.rqi) parts.1
+
+-- an originator of this entity is one
+pub local_is_originator : (text : List ℕ) → is_local_originator text ≡ true → is_originator text ≡ true
+local_is_originator text h = (and_parts (is_originator text) _ h).0
+
+-- and doesn't begin with `/`
+pub local_is_plain : (text : List ℕ) → is_local_originator text ≡ true → starts_with nat_eq text (codes "/") ≡ false
+local_is_plain text h = not-true _ (and_parts (is_originator text) (not (starts_with nat_eq text (codes "/"))) h).1

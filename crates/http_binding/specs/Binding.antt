@@ -29,6 +29,13 @@ abbrev pub name_in : List ℕ → Option (List ℕ)
 name_in target =
     if starts_with nat_eq target (codes "/") && is_name (drop 1 target) then Some (drop 1 target) else None
 
+-- the originator and the identifier that the lines name: the first value under each name
+abbrev pub origin_of : List Line → Option (List ℕ)
+origin_of lines = first_value (values_named origin_field lines)
+
+abbrev pub id_of : List Line → Option (List ℕ)
+id_of lines = first_value (values_named id_field lines)
+
 -- a test of a frame, and the fault of a frame that fails it
 abbrev pub Check : Type 0
 Check = Bool × BindFault
@@ -68,9 +75,7 @@ presence_checks id origin = (is_some id, Missing id_field) ∷ (has_text origin,
 
 -- the tests of the lines
 abbrev pub line_checks : List Line → List Check
-line_checks lines =
-    header_checks lines
-    ++ presence_checks (first_value (values_named id_field lines)) (first_value (values_named origin_field lines))
+line_checks lines = header_checks lines ++ presence_checks (id_of lines) (origin_of lines)
 
 -- all tests of a frame, in their order
 abbrev pub checks : Frame → List Check
@@ -95,8 +100,7 @@ retrieve_of name originator id = record {
 -- the request of a frame that passes the tests
 abbrev pub request_of : Frame → RequestParts
 request_of frame =
-    retrieve_of (unwrap_or (name_in (target_of frame.start)) []) (first_value (values_named origin_field frame.lines))
-    (unwrap_or (first_value (values_named id_field frame.lines)) [])
+    retrieve_of (unwrap_or (name_in (target_of frame.start)) []) (origin_of frame.lines) (unwrap_or (id_of frame.lines) [])
 
 -- a request, unless there is a fault
 abbrev pub unless_fault : Option BindFault → RequestParts → Result RequestParts BindFault

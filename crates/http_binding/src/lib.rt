@@ -1,4 +1,10 @@
-//! The HTTP binding of oneM2M (TS-0009): the request that a frame binds to, and the frame of a reply.
+//! The HTTP binding of oneM2M (TS-0009), between frames and primitives: `to_request` gives the request
+//! that a frame binds to, or the first fault of the frame; `echo_id` the identifier that a reply to it
+//! repeats, also where it binds to none; `of_reply` the frame of a reply. So far a frame binds where it is
+//! a GET of `/` and one name, which is a Retrieve. Callers see the binding as a function of the frame
+//! (`binding`, its tests listed in their order by `checks`), and the bytes of a reply written out
+//! (`reply_text`). They answer a frame that binds to nothing themselves, and say whether the connection
+//! closes behind a reply.
 #![tactic(auto)]
 
 mod fault;

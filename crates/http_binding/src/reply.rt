@@ -3,7 +3,8 @@ ghost use Rattle.std.specs.Prelude.{◌≡◌, ◌++◌, ◌∷◌, [], IfOk, On
 ghost use Rattle.std.specs.Fmt.{decimal};
 ghost use Rattle.m2m_names.specs.StatusCodes.{rsc_row};
 ghost use Rattle.http_binding.specs.Headers.{code_field, length_field};
-ghost use Rattle.http_binding.specs.Replying.{body_of, id_lines, type_lines, close_lines, reply_lines, reply_frame};
+ghost use Rattle.http_binding.specs.Replying.{body_of, id_lines, type_lines, close_lines};
+ghost use Rattle.http_binding.specs.Replying.{reply_lines, reply_frame};
 
 use crate::OutOfMemory;
 use http_frames::{Frame, Lines, Start};
@@ -20,6 +21,7 @@ const MINOR: u8 = 1;
 /// A reply has at most so many lines.
 const MOST_LINES: usize = 5;
 
+/// The bytes of the body.
 fn body_text(alloc: Global, content: &Option<Val>) -> Result<Vec<u8>, OutOfMemory>
     ensures { IfOk result (λ bytes. bytes.items ≡ body_of content.now) }
 {
@@ -58,12 +60,14 @@ fn push_number(
     push_line(alloc, lines, name, digits.as_bytes())
 }
 
+/// Puts the line with the number of a status code behind the others.
 fn push_code(alloc: Global, lines: &mut Vec<Line>, code: u16) -> Result<(), OutOfMemory>
     ensures { OnOk result (lines.new.items ≡ lines.old.items ++ (code_field, decimal code) ∷ []) }
 {
     push_number(alloc, lines, "X-M2M-RSC", usize::from(code))
 }
 
+/// Puts the line with the request's identifier behind the others, where there is one.
 fn push_id(alloc: Global, lines: &mut Vec<Line>, id: &Option<Text>) -> Result<(), OutOfMemory>
     ensures { OnOk result (lines.new.items ≡ lines.old.items ++ id_lines id.now) }
 {
@@ -73,6 +77,7 @@ fn push_id(alloc: Global, lines: &mut Vec<Line>, id: &Option<Text>) -> Result<()
     }
 }
 
+/// Puts the line with the type of the content behind the others, where there is some.
 fn push_type(alloc: Global, lines: &mut Vec<Line>, content: &Option<Val>) -> Result<(), OutOfMemory>
     ensures { OnOk result (lines.new.items ≡ lines.old.items ++ type_lines content.now) }
 {
@@ -82,6 +87,7 @@ fn push_type(alloc: Global, lines: &mut Vec<Line>, content: &Option<Val>) -> Res
     }
 }
 
+/// Puts the line that says that the connection closes behind the others, where it does.
 fn push_close(alloc: Global, lines: &mut Vec<Line>, close: bool) -> Result<(), OutOfMemory>
     ensures { OnOk result (lines.new.items ≡ lines.old.items ++ close_lines close) }
 {
@@ -98,7 +104,8 @@ fn push_primitive(
     reply: &ReplyParts,
 ) -> Result<(), OutOfMemory>
     ensures { OnOk result (lines.new.items
-        ≡ lines.old.items ++ ((code_field, decimal (rsc_row reply.now.rsc).number) ∷ id_lines reply.now.rqi)) }
+        ≡ lines.old.items
+        ++ ((code_field, decimal (rsc_row reply.now.rsc).number) ∷ id_lines reply.now.rqi)) }
 {
     push_code(alloc, lines, reply.rsc.number())?;
     push_id(alloc, lines, &reply.rqi)

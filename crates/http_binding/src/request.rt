@@ -1,11 +1,14 @@
 //! The request that a frame binds to.
-ghost use Rattle.std.specs.Prelude.{◌≡◌, ◌++◌, ◌⊎◌, [], ◌∷◌, None, Some, IfOk, IfSome, IsUtf8, false, is_some, unwrap_or};
+ghost use Rattle.std.specs.Prelude.{◌≡◌, ◌⊎◌, [], ◌∷◌, Some, IfOk, IfSome, IsUtf8, false, is_some, unwrap_or};
 ghost use Rattle.std.specs.Bool.{OnTrue, OnFalse};
 ghost use Rattle.std.specs.Option.{option_copied};
 ghost use Rattle.http_frames.specs.Lines.{values_named};
 ghost use Rattle.http_binding.specs.Headers as spec;
-ghost use Rattle.http_binding.specs.Headers.{origin_field, id_field, first_value};
-ghost use Rattle.http_binding.specs.Binding.{is_get, target_of, name_in, start_checks, origin_check, id_check, expiry_check, type_check, encoding_check, header_checks, presence_checks, line_checks, retrieve_of, binding, echo_of, Answers, Judges};
+ghost use Rattle.http_binding.specs.Binding.{is_get, target_of, name_in, origin_of, id_of};
+ghost use Rattle.http_binding.specs.Binding.{start_checks, origin_check, id_check, expiry_check};
+ghost use Rattle.http_binding.specs.Binding.{type_check, encoding_check, header_checks};
+ghost use Rattle.http_binding.specs.Binding.{presence_checks, line_checks, retrieve_of, binding};
+ghost use Rattle.http_binding.specs.Binding.{echo_of, Answers, Judges};
 ghost use Rattle.http_binding.specs.declared.fault.BindFault.TheVariants as fault;
 
 use crate::{BindFault, OutOfMemory};
@@ -94,7 +97,8 @@ fn name_alone(text: &[u8]) -> Option<&[u8]>
     }
 }
 
-/// Whether the target is a URI that is no more than its path. Where it isn't, no name stands alone in it.
+/// Whether the target is a URI that is no more than its path. Where it isn't, no name stands alone
+/// in it.
 fn is_path(alloc: Global, target: &[u8]) -> Result<bool, OutOfMemory>
     ensures { IfOk result (λ path. OnFalse path (is_some (name_in target.now) ≡ false)) }
 {
@@ -148,7 +152,7 @@ fn is_origin_value(value: &[u8]) -> bool
 /// The value of X-M2M-Origin, where the line is there.
 fn origin(alloc: Global, lines: &Lines) -> Result<Option<&[u8]>, BindFault>
     ensures judged { Judges (origin_check lines.now ∷ []) result }
-    ensures value { IfOk result (λ value. option_copied value ≡ first_value (values_named origin_field lines.now)) }
+    ensures value { IfOk result (λ value. option_copied value ≡ origin_of lines.now) }
     ensures utf8 { IfOk result (λ value. IfSome (option_copied value) IsUtf8) }
 {
     match lines.find(ORIGIN) {
@@ -161,7 +165,7 @@ fn origin(alloc: Global, lines: &Lines) -> Result<Option<&[u8]>, BindFault>
 /// The value of X-M2M-RI, where the line is there.
 fn id(alloc: Global, lines: &Lines) -> Result<Option<&[u8]>, BindFault>
     ensures judged { Judges (id_check lines.now ∷ []) result }
-    ensures value { IfOk result (λ value. option_copied value ≡ first_value (values_named id_field lines.now)) }
+    ensures value { IfOk result (λ value. option_copied value ≡ id_of lines.now) }
     ensures utf8 { IfOk result (λ value. IfSome (option_copied value) IsUtf8) }
 {
     match lines.find(ID) {
@@ -172,8 +176,9 @@ fn id(alloc: Global, lines: &Lines) -> Result<Option<&[u8]>, BindFault>
 }
 
 /// No line has the name.
-fn none(alloc: Global, lines: &Lines, name: &[u8]) -> Result<(), BindFault>
-    ensures { Judges ((spec.is_absent (values_named name.now lines.now), fault.Header name.now) ∷ []) result }
+fn no_line(alloc: Global, lines: &Lines, name: &[u8]) -> Result<(), BindFault>
+    ensures { Judges
+        ((spec.is_absent (values_named name.now lines.now), fault.Header name.now) ∷ []) result }
 {
     match lines.find(name) {
         Found::Absent => Ok(()),
@@ -183,7 +188,9 @@ fn none(alloc: Global, lines: &Lines, name: &[u8]) -> Result<(), BindFault>
 
 /// At most one line has the name.
 fn at_most_one(alloc: Global, lines: &Lines, name: &[u8]) -> Result<(), BindFault>
-    ensures { Judges ((spec.is_one_that spec.is_any (values_named name.now lines.now), fault.Header name.now) ∷ []) result }
+    ensures { Judges
+        ((spec.is_one_that spec.is_any (values_named name.now lines.now), fault.Header name.now)
+        ∷ []) result }
 {
     match lines.find(name) {
         Found::Absent | Found::One(_) => Ok(()),
@@ -193,18 +200,19 @@ fn at_most_one(alloc: Global, lines: &Lines, name: &[u8]) -> Result<(), BindFaul
 
 /// The lines whose values aren't read.
 fn judge_others(alloc: Global, lines: &Lines) -> Result<(), BindFault>
-    ensures { Judges (expiry_check lines.now ∷ type_check lines.now ∷ encoding_check lines.now ∷ []) result }
+    ensures { Judges
+        (expiry_check lines.now ∷ type_check lines.now ∷ encoding_check lines.now ∷ []) result }
 {
-    none(alloc, lines, EXPIRY)?;
+    no_line(alloc, lines, EXPIRY)?;
     at_most_one(alloc, lines, TYPE)?;
-    none(alloc, lines, ENCODING)
+    no_line(alloc, lines, ENCODING)
 }
 
 /// What the lines say, if each is as it has to be.
 fn said(alloc: Global, lines: &Lines) -> Result<Saying<'_>, BindFault>
     ensures judged { Judges (header_checks lines.now) result }
-    ensures origin { IfOk result (λ said. option_copied said.origin ≡ first_value (values_named origin_field lines.now)) }
-    ensures id { IfOk result (λ said. option_copied said.id ≡ first_value (values_named id_field lines.now)) }
+    ensures origin { IfOk result (λ said. option_copied said.origin ≡ origin_of lines.now) }
+    ensures id { IfOk result (λ said. option_copied said.id ≡ id_of lines.now) }
     ensures origin_utf8 { IfOk result (λ said. IfSome (option_copied said.origin) IsUtf8) }
     ensures id_utf8 { IfOk result (λ said. IfSome (option_copied said.id) IsUtf8) }
 {
@@ -216,8 +224,10 @@ fn said(alloc: Global, lines: &Lines) -> Result<Saying<'_>, BindFault>
 
 /// What has to be there.
 fn present<'a>(alloc: Global, said: Saying<'a>) -> Result<Caller<'a>, BindFault>
-    ensures judged { Judges (presence_checks (option_copied said.entry.id) (option_copied said.entry.origin)) result }
-    ensures origin { IfOk result (λ heard. option_copied said.entry.origin ≡ Some heard.origin.now) }
+    ensures judged { Judges
+        (presence_checks (option_copied said.entry.id) (option_copied said.entry.origin)) result }
+    ensures origin { IfOk result
+        (λ heard. option_copied said.entry.origin ≡ Some heard.origin.now) }
     ensures id { IfOk result (λ heard. option_copied said.entry.id ≡ Some heard.id.now) }
 {
     let Some(id) = said.id else {
@@ -232,8 +242,8 @@ fn present<'a>(alloc: Global, said: Saying<'a>) -> Result<Caller<'a>, BindFault>
 /// The originator and the identifier that the lines name.
 fn heard(alloc: Global, lines: &Lines) -> Result<Caller<'_>, BindFault>
     ensures judged { Judges (line_checks lines.now) result }
-    ensures origin { IfOk result (λ heard. first_value (values_named origin_field lines.now) ≡ Some heard.origin.now) }
-    ensures id { IfOk result (λ heard. first_value (values_named id_field lines.now) ≡ Some heard.id.now) }
+    ensures origin { IfOk result (λ heard. origin_of lines.now ≡ Some heard.origin.now) }
+    ensures id { IfOk result (λ heard. id_of lines.now ≡ Some heard.id.now) }
     ensures origin_utf8 { IfOk result (λ heard. IsUtf8 heard.origin.now) }
     ensures id_utf8 { IfOk result (λ heard. IsUtf8 heard.id.now) }
 {
@@ -246,7 +256,8 @@ fn retrieve(alloc: Global, name: Text, heard: Caller<'_>) -> Result<Request, Out
     requires name { IsUtf8 name }
     requires origin { IsUtf8 heard.origin.now }
     requires id { IsUtf8 heard.id.now }
-    ensures { IfOk result (λ request. request ≡ retrieve_of name (Some heard.entry.origin.now) heard.entry.id.now) }
+    ensures { IfOk result
+        (λ request. request ≡ retrieve_of name (Some heard.entry.origin.now) heard.entry.id.now) }
 {
     Ok(Request::of(RequestParts {
         op: Op::Retrieve,
