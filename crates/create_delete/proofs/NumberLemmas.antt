@@ -1,6 +1,6 @@
 -- A removal by numbers: those of what is picked.
 use Rattle.std.specs.Prelude.{◌==◌, nat_lt}
-use Rattle.std.proofs.Common.{◌≡◌, ℕ, ◌<◌, ◌+◌, ◌≤◌, List, [], ◌∷◌, ◌++◌, map, length, drop, get_or, Bool, true, false, cond, not, ◌&&◌, ◌||◌, inl, inr, refl, sym, ap, ◌∙◌, subst, arith}
+use Rattle.std.proofs.Common.{◌≡◌, ℕ, ◌<◌, ◌+◌, ◌≤◌, List, [], ◌∷◌, ◌++◌, length, drop, get_or, Bool, true, false, cond, ◌||◌, inl, inr, refl, sym, ap, ◌∙◌, subst, arith}
 use Rattle.std.proofs.lemmas.Bool.{cases_Bool, and_parts, or_from, ltb-true, eq-eqb, ne_eqb}
 use Rattle.std.proofs.lemmas.List.{map-append, drop_more, drop_all}
 use Rattle.std.proofs.lemmas.List.Elements.{filter-append}
@@ -10,10 +10,9 @@ use Rattle.tree_model.specs.Resource.{ResourceData, has_number}
 use Rattle.tree_model.specs.Tree.{has, stays, staying, without, are_below, is_due, live, fits, is_tree}
 use Rattle.tree_model.proofs.GrowthLemmas.{growth, next_fits}
 use Rattle.tree_model.proofs.LiveLemmas.{without_none}
-use Rattle.tree_model.proofs.KeptLemmas.{is_tree-without}
 use Rattle.create_delete.specs.Entity.{EntityData, moment_of, swept}
 use Rattle.create_delete.specs.Expiry.{numbers_of, due_numbers, has_one_of}
-use Rattle.create_delete.proofs.RemovalLemmas.{either, without_twice}
+use Rattle.create_delete.proofs.RemovalLemmas.{without_twice}
 
 -- two picks agree on a list
 Agree : (ResourceData → Bool) → (ResourceData → Bool) → List ResourceData → Type 0

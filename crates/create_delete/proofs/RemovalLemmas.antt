@@ -1,13 +1,13 @@
 -- Removals: two in a row, many in a row, and what a removal makes no larger.
-use Rattle.std.specs.Prelude.{◌==◌, nat_le, sum_by}
-use Rattle.std.proofs.Common.{◌≡◌, ℕ, ◌+◌, ◌<◌, ◌≤◌, List, [], ◌∷◌, ◌++◌, map, length, Bool, true, false, cond, not, ◌&&◌, ◌||◌, Option, Some, None, inl, inr, refl, sym, ap, ◌∙◌, subst, arith}
-use Rattle.std.proofs.lemmas.Bool.{cases_Bool, and_parts, and_from, or_cases, or_parts, or_from, or_left, or_right, not-true, not_from_false, eqb-true, eq-eqb, ne_eqb, ltb-true, both_ways, false_from_ne_true}
+use Rattle.std.specs.Prelude.{◌==◌, sum_by}
+use Rattle.std.proofs.Common.{◌≡◌, ℕ, ◌+◌, ◌≤◌, List, [], ◌∷◌, ◌++◌, length, Bool, true, false, cond, not, ◌||◌, inl, inr, refl, sym, ap, ◌∙◌, arith}
+use Rattle.std.proofs.lemmas.Bool.{cases_Bool, and_parts, and_from, or_cases, or_parts, or_from, or_left, or_right, not-true, not_from_false, eqb-true, both_ways, false_from_ne_true}
 use Rattle.std.proofs.lemmas.List.{append-nil}
 use Rattle.std.proofs.lemmas.List.Sums.{sum_by-cons}
-use Rattle.std.specs.List.{list_any, list_all, filter}
+use Rattle.std.specs.List.{filter}
 use Rattle.tree_model.specs.Resource.{ResourceData, has_number}
-use Rattle.tree_model.specs.Tree.{at, has, stays, staying, without, depth, line_of, are_below, fits, is_tree}
-use Rattle.tree_model.proofs.TreeLemmas.{has-append, staying-append, staying_all, staying_unpicked}
+use Rattle.tree_model.specs.Tree.{has, stays, staying, without, depth, are_below, fits, is_tree}
+use Rattle.tree_model.proofs.TreeLemmas.{has-append, staying-append}
 use Rattle.tree_model.proofs.GrowthLemmas.{growth, next_fits, below_lacks, line-append}
 
 -- ---- two removals in a row

@@ -1,7 +1,7 @@
 -- Soundness: of the entity as it opens, and of what a removal leaves.
-use Rattle.std.specs.Prelude.{◌==◌, nat_le, nat_lt, sum_by, min, max}
-use Rattle.std.proofs.Common.{◌≡◌, ℕ, ◌+◌, ◌-◌, ◌^◌, ◌<◌, ◌≤◌, List, [], ◌∷◌, ◌++◌, length, take, Bool, true, false, cond, not, ◌&&◌, ◌||◌, Option, Some, None, if◌then◌else◌, inl, inr, refl, sym, ap, ◌∙◌, subst, arith, bytes_eq}
-use Rattle.std.proofs.lemmas.Bool.{cases_Bool, and_parts, and_from, or_cases, or_parts, or_from, or_left, or_right, not-true, not_from_false, leb-true, le-leb, ltb-true, both_ways, false_from_ne_true, eqb-true, eq-eqb}
+use Rattle.std.specs.Prelude.{◌==◌, nat_le}
+use Rattle.std.proofs.Common.{◌≡◌, ℕ, ◌≤◌, List, [], ◌∷◌, ◌++◌, length, take, Bool, true, false, cond, not, ◌&&◌, ◌||◌, Option, Some, None, if◌then◌else◌, inl, inr, refl, sym, ap, ◌∙◌, subst, arith, bytes_eq}
+use Rattle.std.proofs.lemmas.Bool.{cases_Bool, and_parts, and_from, or_cases, or_parts, or_from, or_left, or_right, not-true, not_from_false, leb-true, le-leb, both_ways, false_from_ne_true, eq-eqb}
 use Rattle.std.proofs.lemmas.List.{append-nil}
 use Rattle.std.proofs.lemmas.List.Elements.{filter-append}
 use Rattle.std.proofs.lemmas.Slice.Eq.{bytes_eq-Decides}
@@ -14,15 +14,16 @@ use Rattle.m2m_names.specs.declared.types.Ty.TheVariants.{AccessControlPolicy, A
 use Rattle.tree_model.specs.Attributes.{count_at}
 use Rattle.tree_model.specs.Home.{HomeData, IsHome, is_base_name, is_cse_type}
 use Rattle.tree_model.specs.Resource.{ResourceData, is_ty}
-use Rattle.tree_model.specs.Tree.{at, has, stays, staying, without, is_spared, depth, is_instance, instances_of, size_of, sizes_of, due_under, is_due, lesser, age_end, are_below, is_root, is_taken, fits_in, is_well_formed, is_tree}
+use Rattle.tree_model.specs.Tree.{at, has, stays, staying, without, is_spared, is_instance, size_of, due_under, is_due, lesser, age_end, live, is_root, is_taken, fits_in, is_well_formed, is_tree}
 use Rattle.tree_model.proofs.TreeLemmas.{has_at, staying_all, staying_any, staying_unpicked}
 use Rattle.tree_model.proofs.GrowthLemmas.{growth, tree_from_well_formed, next_fits, root_parent, at-without}
 use Rattle.tree_model.proofs.KeptLemmas.{is_well_formed-without}
+use Rattle.tree_model.proofs.LiveLemmas.{without_none}
 use Rattle.m2m_names.specs.Name.{is_free_name, is_originator}
 use Rattle.attribute_rules.specs.Kinds.{are_kinds}
 use Rattle.create_delete.specs.Entity.{EntityData, last_reading, cut, moment_of, swept}
 use Rattle.create_delete.specs.Opening.{opening_base, opening_policy, opening_nodes, opening}
-use Rattle.create_delete.specs.Sound.{has_known_ids, has_size, is_shallow, greatest_depth, is_within, is_within_limits, begins_with_base, cse_id_of, own_cse_id, cse_ids, are_distinct, is_channel, channels_of, has_one_channel, spares_first, IsSound}
+use Rattle.create_delete.specs.Sound.{has_known_ids, has_size, is_shallow, is_within, is_within_limits, begins_with_base, cse_id_of, own_cse_id, cse_ids, are_distinct, is_channel, has_one_channel, spares_first, IsSound}
 use Rattle.create_delete.proofs.RemovalLemmas.{staying_length, staying_filter, staying_sum, no_deeper}
 
 -- ---- tests over a list
@@ -204,6 +205,14 @@ sound_swept reading e sound =
 
 pub sound_removed : (p : ResourceData → Bool) (e : EntityData) → IsSound e → spares_first p e.nodes ≡ true → IsSound (record { home = e.home; nodes = without p e.nodes; next = e.next; last = e.last })
 sound_removed p e sound spared = sound_left p e e.last sound spared sound.last (none_due_left p e.nodes e.last (tree_from_well_formed e.nodes sound.tree) sound.due)
+
+-- where no time passes, nothing is due
+pub swept_still : (reading : ℕ) (e : EntityData) → IsSound e → cut reading ≤ e.last → swept reading e ≡ e
+swept_still reading e sound early =
+    let entity : List ResourceData → ℕ → EntityData = λ nodes last. record { home = e.home; nodes = nodes; next = e.next; last = last } in
+    let same : moment_of e.last reading ≡ e.last = omega arith in
+    let all : live e.last e.nodes ≡ e.nodes = without_none (is_due e.nodes e.last) e.nodes (tree_from_well_formed e.nodes sound.tree) sound.due in
+    ap (λ (m : ℕ). entity (live m e.nodes) m) same ∙ ap (λ (nodes : List ResourceData). entity nodes e.last) all
 
 -- ---- the opening
 

@@ -1,10 +1,10 @@
 // What holds of every entity.
-ghost use Rattle.std.specs.Prelude.{◌≡◌, ℕ, List, Bool, IsTrue, filter, take};
+ghost use Rattle.std.specs.Prelude.{◌≡◌, ℕ, ◌≤◌, List, Bool, IsTrue, filter, take};
 ghost use Rattle.m2m_names.specs.declared.types.Ty.TheVariants.{CseBase};
 ghost use Rattle.tree_model.specs.Home.{HomeData, IsHome};
 ghost use Rattle.tree_model.specs.Resource.{ResourceData, is_ty};
 ghost use Rattle.tree_model.specs.Tree.{without};
-ghost use Rattle.create_delete.specs.Entity.{EntityData, swept};
+ghost use Rattle.create_delete.specs.Entity.{EntityData, cut, swept};
 ghost use Rattle.create_delete.specs.Opening.{opening};
 ghost use Rattle.create_delete.specs.Sound.{IsSound, spares_first};
 
@@ -21,4 +21,10 @@ pub fn an_entity_stays_sound()
 pub fn a_sound_entity_has_one_base()
     ensures { (e : EntityData) → IsSound e
         → filter (λ (r : ResourceData). is_ty r.ty CseBase) e.nodes ≡ take 1 e.nodes }
+{}
+
+/// An event that doesn't come later than the last one finds the entity as that one left it.
+pub fn nothing_expires_while_no_time_passes()
+    ensures { (reading : ℕ) (e : EntityData) → IsSound e → cut reading ≤ e.last
+        → swept reading e ≡ e }
 {}

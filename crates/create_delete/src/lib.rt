@@ -9,7 +9,8 @@
 //! is due, and where memory runs out it leaves the entity as it was.
 //!
 //! Laws over every entity stand on functions without a body: an entity opens sound, and stays sound
-//! where something is removed.
+//! where something is removed; its first resource is its only CSEBase; and while no time passes
+//! nothing expires.
 #![tactic(auto)]
 
 mod entity;
@@ -21,7 +22,9 @@ mod sweeping;
 mod tests;
 
 pub use entity::Entity;
-pub use laws::{a_sound_entity_has_one_base, an_entity_stays_sound};
+pub use laws::{
+    a_sound_entity_has_one_base, an_entity_stays_sound, nothing_expires_while_no_time_passes,
+};
 pub use moments::moment_of;
 pub use std::alloc::AllocError as OutOfMemory;
 pub use sweeping::sweep;

@@ -1,5 +1,5 @@
 -- A text of `/` and a name is a URI, whose path is the text itself.
-use Rattle.std.proofs.Common.{◌≡◌, ◌≢◌, ℕ, zero, suc, ◌+◌, ◌<◌, ◌≤◌, ◌==◌, ◌&&◌, ◌||◌, not, is_some, ltb, leb, Bool, true, false, cond, List, [], ◌∷◌, length, codes, nat_eq, get_or, take, drop, Option, Some, None, refl, sym, ap, ◌∙◌, subst, arith, inl, inr, take_all, le-ltb, ne_eqb}
+use Rattle.std.proofs.Common.{◌≡◌, ◌≢◌, ℕ, zero, suc, ◌<◌, ◌≤◌, ◌==◌, ◌&&◌, ◌||◌, not, is_some, ltb, leb, Bool, true, false, cond, List, [], ◌∷◌, length, codes, nat_eq, get_or, Option, Some, None, refl, sym, ap, ◌∙◌, subst, arith, inl, inr, take_all, le-ltb, ne_eqb}
 use Rattle.std.specs.List.{list_all, starts_with}
 use Rattle.std.specs.Str.{IsUtf8}
 use Rattle.std.proofs.lemmas.Bool.{agree_below_at, and_parts, cases_Bool, eqb-true, eqb-false, leb-true, not-true, false≢true, false_from_ne_true}

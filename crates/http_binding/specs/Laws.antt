@@ -1,5 +1,5 @@
 -- Laws of the binding.
-use Rattle.std.specs.Prelude.{◌≡◌, ◌≢◌, Bool, IsTrue, Option, Some, None, IfSome}
+use Rattle.std.specs.Prelude.{◌≡◌, ◌≢◌, Bool, IsTrue, Some, None, IfSome}
 use Rattle.m2m_names.specs.Name.{is_name}
 use Rattle.m2m_names.specs.declared.operations.Op.TheVariants.{Retrieve}
 use Rattle.primitive_json.specs.Bounds.{is_request_id}

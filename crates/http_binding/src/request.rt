@@ -288,7 +288,8 @@ pub fn to_request(alloc: Global, frame: &Frame) -> Result<Request, BindFault>
 /// The identifier that a reply to the frame repeats: the value of its only X-M2M-RI line, if that is
 /// a request identifier. It takes no memory.
 pub fn echo_id(frame: &Frame) -> Option<&[u8]>
-    ensures { option_copied result ≡ echo_of frame.now }
+    ensures value { option_copied result ≡ echo_of frame.now }
+    ensures utf8 { IfSome (option_copied result) IsUtf8 }
 {
     match frame.lines.find(ID) {
         Found::One(value) if is_request_id(value) => Some(value),

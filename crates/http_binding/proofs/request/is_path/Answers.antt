@@ -1,4 +1,4 @@
-use Rattle.std.proofs.Common.{◌≡◌, false, sym, ap, ◌∙◌}
+use Rattle.std.proofs.Common.{sym, ap, ◌∙◌}
 use Rattle.std.proofs.lemmas.Bool.{OnFalse_from, both_ways, false≢true}
 use Rattle.std.proofs.lemmas.Slice.Eq.{bytes_eq-Decides}
 use Rattle.http_uri.specs.Error.{is_out_of_memory}
