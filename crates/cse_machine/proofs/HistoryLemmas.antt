@@ -1,0 +1,32 @@
+-- Steps one after another.
+use Rattle.std.proofs.Common.{◌≡◌, ◌⊎◌, ℕ, List, [], ◌∷◌, ◌++◌, inl, inr, refl, sym, subst}
+use Rattle.turn_desk.specs.Entries.{Entry, entry_of, Runs}
+use Rattle.turn_desk.specs.Joins.{Runs-append}
+use Rattle.create_delete.specs.Entity.{EntityData, swept}
+use Rattle.create_delete.specs.Sound.{IsSound}
+use Rattle.create_delete.proofs.SoundLemmas.{sound_swept}
+use Rattle.cse_machine.specs.declared.event.Event.{Event}
+use Rattle.cse_machine.specs.declared.event.Event.TheVariants.{Ask}
+use Rattle.cse_machine.specs.declared.event.Outcome.{Outcome}
+use Rattle.cse_machine.specs.declared.event.Outcome.TheVariants.{Done, Starved}
+use Rattle.cse_machine.specs.History.{History, Leaves}
+use Rattle.cse_machine.specs.Step.{Step}
+
+pub changes : (reading : ℕ) (event : Event) (before after : EntityData) (outcome : Outcome) → Step reading event before outcome after → (after ≡ before) ⊎ (after ≡ swept reading before)
+changes reading (Ask request) before after (Done reply) step = inr step.0
+changes reading (Ask request) before after (Starved done) step = step.1
+
+pub one_more : (opening before after : EntityData) (history : History) (reading : ℕ) (event : Event) (outcome : Outcome) → Leaves opening history before → Step reading event before outcome after → Leaves opening (history ++ entry_of reading event outcome ∷ []) after
+one_more opening before after history reading event outcome run step =
+    Runs-append Step history (entry_of reading event outcome ∷ []) opening before after run (after, step, refl)
+
+sound_step : (reading : ℕ) (event : Event) (before after : EntityData) (outcome : Outcome) → IsSound before → Step reading event before outcome after → IsSound after
+sound_step reading event before after outcome sound step = elim (changes reading event before after outcome step) [
+  | inl same ↦ subst IsSound (sym same) sound
+  | inr left ↦ subst IsSound (sym left) (sound_swept reading before sound)
+]
+
+pub sound_after : (history : History) (opening e : EntityData) → IsSound opening → Leaves opening history e → IsSound e
+sound_after [] opening e sound run = subst IsSound (sym run) sound
+sound_after (entry ∷ history) opening e sound run =
+    sound_after history run.0 e (sound_step entry.reading entry.event opening run.0 entry.outcome sound run.1) run.2

@@ -1,0 +1,4 @@
+pub mod AddressLemmas
+pub mod SightLemmas
+pub mod GuardLemmas
+pub mod HistoryLemmas

@@ -1,0 +1,11 @@
+use Rattle.std.proofs.Common.{ℕ, List, ap, sym, ◌∙◌}
+use Rattle.create_delete.specs.Entity.{EntityData}
+use Rattle.cse_machine.specs.Answer.{answer}
+use Rattle.cse_machine.proofs.SightLemmas.{answers-alike}
+use Rattle.cse_machine.proofs.laws.equal_sights_are_answered_alike.Goals as goal
+
+pub returns : goal.returns
+returns c = λ left right after other o reading request reply replied sound sounds same by first second.
+    first.1 ∙ ap (λ (e : EntityData). answer e request) first.0
+    ∙ answers-alike left right o reading request sound sounds same by
+    ∙ sym (second.1 ∙ ap (λ (e : EntityData). answer e request) second.0)

@@ -1,0 +1,38 @@
+-- What has happened at a CSE: its events one after another, with their readings and outcomes.
+use Rattle.std.specs.Prelude.{ℕ, List, [], ◌∷◌, ◌++◌}
+use Rattle.turn_desk.specs.Entries.{Entry, entry_of, Runs}
+use Rattle.create_delete.specs.Entity.{EntityData}
+use Rattle.create_delete.specs.Sound.{IsSound}
+use Rattle.cse_machine.specs.declared.event.Event.{Event}
+use Rattle.cse_machine.specs.declared.event.Outcome.{Outcome}
+use Rattle.cse_machine.specs.Step.{Step}
+
+-- an event with its reading and its outcome, and a list of them
+abbrev pub History : Type 0
+History = List (Entry Event Outcome)
+
+-- the entries are steps one after another, from the entity that opened to this one
+abbrev pub Leaves : EntityData → History → EntityData → Type 0
+Leaves opening history e = Runs Step opening history e
+
+-- some entity is left
+abbrev pub IsLegal : EntityData → History → Type 0
+IsLegal opening history = (e : EntityData) × Leaves opening history e
+
+-- Where nothing has happened, the entity is the one that opened.
+abbrev pub BeginsLegal : Type 0
+BeginsLegal = (opening : EntityData) → Leaves opening [] opening
+
+-- A history grows by a step of the entity that it leaves.
+abbrev pub StaysLegal : Type 0
+StaysLegal =
+    (opening before after : EntityData) (history : History)
+    (reading : ℕ) (event : Event) (outcome : Outcome)
+    → Leaves opening history before → Step reading event before outcome after
+    → Leaves opening (history ++ entry_of reading event outcome ∷ []) after
+
+-- A sound entity is sound after every history.
+abbrev pub StaysSound : Type 0
+StaysSound =
+    (opening e : EntityData) (history : History)
+    → IsSound opening → Leaves opening history e → IsSound e

@@ -1,0 +1,5 @@
+pub mod Answer
+pub mod Step
+pub mod History
+pub mod Sight
+pub mod Guard

@@ -1,0 +1,30 @@
+-- What an originator sees of an entity, and that it is answered by no more than that.
+use Rattle.std.specs.Prelude.{◌≡◌, ℕ, List, Some}
+use Rattle.primitive_json.specs.declared.reply.ReplyParts.{ReplyParts}
+use Rattle.primitive_json.specs.declared.request.RequestParts.{RequestParts}
+use Rattle.policy_eval.specs.Seen.{seen_list}
+use Rattle.create_delete.specs.Entity.{EntityData, swept}
+use Rattle.create_delete.specs.Sound.{IsSound}
+use Rattle.cse_machine.specs.declared.event.Event.TheVariants.{Ask}
+use Rattle.cse_machine.specs.declared.event.Outcome.TheVariants.{Done}
+use Rattle.cse_machine.specs.Answer.{answer}
+use Rattle.cse_machine.specs.Step.{Step}
+
+-- the entity as the originator sees it: what its rights don't show of the resources is cut out
+abbrev pub sight : List ℕ → EntityData → EntityData
+sight o e = record { home = e.home; nodes = seen_list e.home e.nodes o; next = e.next; last = e.last }
+
+-- On what it sees, an originator is answered the same.
+abbrev pub IsAnsweredBySight : Type 0
+IsAnsweredBySight =
+    (e : EntityData) (o : List ℕ) (reading : ℕ) (request : RequestParts) → IsSound e → request.fr ≡ Some o
+    → answer (swept reading (sight o e)) request ≡ answer (swept reading e) request
+
+-- Two entities of which the originator sees the same give it the same reply.
+abbrev pub EqualSightsAnswerAlike : Type 0
+EqualSightsAnswerAlike =
+    (left right after other : EntityData) (o : List ℕ) (reading : ℕ) (request : RequestParts) (reply replied : ReplyParts)
+    → IsSound left → IsSound right → sight o left ≡ sight o right → request.fr ≡ Some o
+    → Step reading (Ask request) left (Done reply) after
+    → Step reading (Ask request) right (Done replied) other
+    → reply ≡ replied

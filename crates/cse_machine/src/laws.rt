@@ -1,0 +1,35 @@
+//! Laws of the machine, over its definitions.
+ghost use Rattle.cse_machine.specs.Guard.{IsShownByGrant, ChangesOnlyWhatIsDue};
+ghost use Rattle.cse_machine.specs.History.{BeginsLegal, StaysLegal, StaysSound};
+ghost use Rattle.cse_machine.specs.Sight.{IsAnsweredBySight, EqualSightsAnswerAlike};
+
+/// The reply to a request is a function of what its originator sees of the entity, of the reading
+/// and of the request.
+pub fn an_originator_is_answered_by_what_it_sees()
+    ensures { IsAnsweredBySight }
+{}
+
+/// Two sound entities of which an originator sees the same give it the same reply to the same
+/// request at the same reading.
+pub fn equal_sights_are_answered_alike()
+    ensures { EqualSightsAnswerAlike }
+{}
+
+/// A reply with content, or with the status that a request was served, comes only to an originator
+/// that has RETRIEVE on the resource that it addressed.
+pub fn nothing_is_shown_without_a_grant()
+    ensures { IsShownByGrant }
+{}
+
+/// A step leaves the entity as it was, or without what is due at its moment.
+pub fn a_step_changes_only_what_is_due()
+    ensures { ChangesOnlyWhatIsDue }
+{}
+
+/// An entity that opens leaves the empty history, and each step of the entity that a history leaves
+/// makes a longer one, which leaves the entity after it. A sound entity stays sound on the way.
+pub fn steps_make_a_legal_history()
+    ensures begins { BeginsLegal }
+    ensures grows { StaysLegal }
+    ensures sound { StaysSound }
+{}
