@@ -5,6 +5,8 @@
 
 mod adapters;
 mod command;
+mod http;
+mod wire;
 
 pub use adapters::{StdIn, StdOut, SystemClock, words};
 pub use command::run;

@@ -1,11 +1,19 @@
-//! What serves connections. So far it has what each of its threads is handed: a bench.
+//! What serves connections: `serve_connection` answers the frames of one connection, in order, by what a desk answers
+//! their requests (TS-0009, 6; RFC 9112).
+//!
+//! Callers hand in a desk with a seat at it, the connection, a clock and a link. They see that what was written is the
+//! talk of the frames that were read, by the outcomes of the entries that the seat added, and why the connection ended
+//! (`specs/Connection`). `Served` is an entity as an object of a desk, whose steps are those of the machine. A bench is
+//! what each worker of a server is handed.
 #![tactic(auto)]
 
-use m2m_io::{Clock, Link};
+mod bench;
+mod closing;
+mod connection;
+mod replying;
+mod served;
 
-/// What one worker works with: a clock to tell the time, and a link to the neighbours.
-#[derive(Debug, Drop)]
-pub struct Bench<C: Clock, L: Link> {
-    pub clock: C,
-    pub link: L,
-}
+pub use bench::Bench;
+pub use closing::MOST_FRAMES;
+pub use connection::{Ended, serve_connection};
+pub use served::Served;

@@ -1,0 +1,59 @@
+-- Streams that were lent to a connection, and how it ended.
+use Rattle.std.proofs.Common.{◌≡◌, ℕ, List, ◌∷◌, [], Option, get_or, refl, sym, ap, subst, ◌∙◌}
+use Rattle.m2m_io.specs.Counts.{Rose}
+use Rattle.m2m_io.specs.declared.status.Status.{Status}
+use Rattle.m2m_io.specs.declared.status.Status.TheVariants.{Done, Usage, BadLine, ReadFault, WriteFault, Memory, BadStream}
+use Rattle.turn_desk.specs.Entries.{Marked}
+use Rattle.cse_machine.specs.declared.event.Event.{Event}
+use Rattle.cse_machine.specs.declared.event.Outcome.{Outcome}
+use Rattle.cse_server.specs.Connection.{Serves}
+use Rattle.cse_server.specs.declared.connection.Ended.{Ended}
+use Rattle.cse_server.specs.declared.connection.Ended.TheVariants.{Closed, NoFrame, ReadFault as EndedReading, WriteFault as EndedWriting, Memory as EndedStarved}
+use Rattle.cse_cli.specs.Run.{status_of}
+
+-- ---- names of the two references that a connection holds
+
+pub first_name : (a b c d : ℕ) → a ∷ b ∷ [] ≡ c ∷ d ∷ [] → c ≡ a
+first_name a b c d e = sym (ap (λ (l : List ℕ). get_or l 0 0) e)
+
+pub second_name : (a b c d : ℕ) → a ∷ b ∷ [] ≡ c ∷ d ∷ [] → d ≡ b
+second_name a b c d e = sym (ap (λ (l : List ℕ). get_or l 1 0) e)
+
+-- what was lent ends as what stands behind the reference that was kept
+pub after_lent : {X : Type 0} (P : X → Type 0) (a b : ℕ) (x y : X) → a ≡ b → (a ≡ b → x ≡ y) → P y → P x
+after_lent P a b x y same lent h = subst P (sym (lent same)) h
+
+-- ---- how it ended
+
+abbrev IsReading : Status → Type 0
+IsReading ReadFault = Unit {0}
+IsReading _ = ⊥
+
+abbrev IsWriting : Status → Type 0
+IsWriting WriteFault = Unit {0}
+IsWriting _ = ⊥
+
+pub ended_reading : (ended : Ended) → status_of ended ≡ ReadFault → ended ≡ EndedReading
+ended_reading Closed e = absurd (subst IsReading (sym e) tt)
+ended_reading NoFrame e = absurd (subst IsReading (sym e) tt)
+ended_reading EndedReading e = refl
+ended_reading EndedWriting e = absurd (subst IsReading (sym e) tt)
+ended_reading EndedStarved e = absurd (subst IsReading (sym e) tt)
+
+pub ended_writing : (ended : Ended) → status_of ended ≡ WriteFault → ended ≡ EndedWriting
+ended_writing Closed e = absurd (subst IsWriting (sym e) tt)
+ended_writing NoFrame e = absurd (subst IsWriting (sym e) tt)
+ended_writing EndedReading e = absurd (subst IsWriting (sym e) tt)
+ended_writing EndedWriting e = refl
+ended_writing EndedStarved e = absurd (subst IsWriting (sym e) tt)
+
+-- ---- the same connection, by other names
+
+pub serves_same : {S : Type 0} (grown : S → List (Marked Event Outcome) → S → Type 0) (seat before after : S) (left0 left1 old0 old1 new0 new1 given told : Option (List ℕ)) (ended : Ended)
+    → seat ≡ before → left0 ≡ left1 → old0 ≡ old1 → new0 ≡ new1
+    → Serves grown seat after left0 old0 new0 given told ended → Serves grown before after left1 old1 new1 given told ended
+serves_same {S = S} grown seat before after left0 left1 old0 old1 new0 new1 given told ended b l o n h =
+    subst (λ (s : S). Serves grown s after left1 old1 new1 given told ended) b
+    (subst (λ (v : Option (List ℕ)). Serves grown seat after v old1 new1 given told ended) l
+    (subst (λ (v : Option (List ℕ)). Serves grown seat after left0 v new1 given told ended) o
+    (subst (λ (v : Option (List ℕ)). Serves grown seat after left0 old0 v given told ended) n h)))

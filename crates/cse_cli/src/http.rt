@@ -1,0 +1,67 @@
+//! The command `http`.
+ghost use Rattle.std.specs.Prelude.{◌≡◌, ◌≤◌, IfOk};
+ghost use Rattle.m2m_io.specs.Counts.{Rose};
+ghost use Rattle.tree_model.specs.Home.{default_home};
+ghost use Rattle.create_delete.specs.Opening.{opening};
+ghost use Rattle.cse_cli.specs.Run.{RunsHttp, status_of};
+
+use crate::wire::Wire;
+use create_delete::Entity;
+use cse_server::{Bench, Ended, Served, serve_connection};
+use m2m_io::{Clock, Link, Sink, Source, Status};
+use std::alloc::{AllocError as OutOfMemory, Global};
+use tree_model::{Home, ListTree};
+use turn_desk::{OwnDesk, OwnSeat};
+
+fn status_of(ended: Ended) -> Status
+    ensures { result ≡ status_of ended }
+{
+    match ended {
+        Ended::Closed => Status::Done,
+        Ended::NoFrame => Status::BadStream,
+        Ended::ReadFault => Status::ReadFault,
+        Ended::WriteFault => Status::WriteFault,
+        Ended::Memory => Status::Memory,
+    }
+}
+
+// The entity with the default home, as it opens at a reading of the clock.
+fn opened(alloc: Global, reading: u64) -> Result<Served<ListTree>, OutOfMemory>
+    ensures { IfOk result (λ served. served ≡ opening default_home reading) }
+{
+    let home = Home::with_defaults(alloc)?;
+    let entity = Entity::open(alloc, home, ListTree::new(alloc), reading)?;
+    Ok(Served::new(alloc, entity))
+}
+
+/// Opens an entity at the clock's first reading, and serves input and output as one connection.
+pub(crate) fn serve_streams<S: Source, O: Sink, C: Clock, L: Link>(
+    alloc: Global,
+    input: &mut S,
+    out: &mut O,
+    bench: &mut Bench<C, L>,
+) -> Status
+    ensures runs { RunsHttp (S.left input.old) (O.written out.old) (O.written out.new)
+        (C.readings bench.old.clock) (C.readings bench.new.clock) result }
+    ensures read_count { S.faults input.old ≤ S.faults input.new }
+    ensures read_cause { result ≡ Status.ReadFault → Rose (S.faults input.old) (S.faults input.new) }
+    ensures write_count { O.faults out.old ≤ O.faults out.new }
+    ensures write_cause { result ≡ Status.WriteFault → Rose (O.faults out.old) (O.faults out.new) }
+    ensures link { bench.new.link ≡ bench.old.link }
+{
+    let reading = bench.clock.now();
+    let Ok(served) = opened(alloc, reading) else {
+        return Status::Memory;
+    };
+    let mut seat = OwnSeat::new(served);
+    let mut wire = Wire::new(input, out);
+    let ended = serve_connection(
+        alloc,
+        &OwnDesk::new(),
+        &mut seat,
+        &mut wire,
+        &mut bench.clock,
+        &mut bench.link,
+    );
+    status_of(ended)
+}

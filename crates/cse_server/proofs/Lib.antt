@@ -1,0 +1,9 @@
+pub mod TalkLemmas
+pub mod WayLemmas
+pub mod NextLemmas
+pub mod ClosingLemmas
+pub mod RequestLemmas
+pub mod PutLemmas
+pub mod TurnLemmas
+pub mod SideLemmas
+pub mod MostLemmas

@@ -1,0 +1,88 @@
+-- The talk of frames that are joined.
+use Rattle.std.proofs.Common.{◌≡◌, ℕ, ◌+◌, Bool, false, List, [], ◌∷◌, ◌++◌, length, Option, Some, None, IsTrue, cond, inl, inr, refl, sym, ap, subst, ◌∙◌, arith, append_assoc}
+use Rattle.std.proofs.lemmas.Bool.{cases_Bool, true≢false}
+use Rattle.std.specs.List.{cons_option}
+use Rattle.std.proofs.lemmas.List.Elements.{filter_map-append}
+use Rattle.primitive_json.specs.declared.request.RequestParts.{RequestParts}
+use Rattle.http_frames.specs.declared.frame.Frame.{Frame}
+use Rattle.http_binding.specs.Replying.{reply_text}
+use Rattle.cse_machine.specs.declared.event.Outcome.{Outcome}
+use Rattle.cse_server.specs.Closing.{closes}
+use Rattle.cse_server.specs.Talk.{request_in, requests_in, reply_for, outcomes_behind, replies, last_reply, talk, some_closes, ends_at_close}
+
+-- ---- places
+
+next_place : (xs : List Frame) (x : Frame) (place : ℕ) → (place + 1) + length xs ≡ place + length (x ∷ xs)
+next_place xs x place = omega arith
+
+no_place : (place : ℕ) → place ≡ place + length {A = Frame} []
+no_place place = omega arith
+
+-- none of the frames closes: not the first, and none behind it
+first_open : (x : Frame) (xs : List Frame) (place : ℕ) → some_closes (x ∷ xs) place ≡ false → closes place x ≡ false
+first_open x xs place stays = elim (cases_Bool (closes place x)) [
+  | inl t ↦ absurd (true≢false (rw t at stays))
+  | inr f ↦ f
+]
+
+rest_open : (x : Frame) (xs : List Frame) (place : ℕ) → some_closes (x ∷ xs) place ≡ false → some_closes xs (place + 1) ≡ false
+rest_open x xs place stays = rw (first_open x xs place stays) at stays
+
+none_left : (q : RequestParts) (rest : List RequestParts) → length {A = Outcome} [] ≡ length (q ∷ rest) → ⊥
+none_left q rest e = omega (arith, e)
+
+some_left : (o : Outcome) (os : List Outcome) → length (o ∷ os) ≡ 0 → ⊥
+some_left o os e = omega (arith, e)
+
+-- ---- joined
+
+pub some_closes-append : (xs ys : List Frame) (place : ℕ) → some_closes xs place ≡ false → some_closes (xs ++ ys) place ≡ some_closes ys (place + length xs)
+some_closes-append [] ys place stays = ap (some_closes ys) (no_place place)
+some_closes-append (x ∷ xs) ys place stays =
+    rw (first_open x xs place stays)
+    (some_closes-append xs ys (place + 1) (rest_open x xs place stays) ∙ ap (some_closes ys) (next_place xs x place))
+
+-- frames of which none closes, and then frames up to the first that does
+pub ends_at_close-append : (xs ys : List Frame) (place : ℕ) → some_closes xs place ≡ false → IsTrue (ends_at_close ys (place + length xs)) → IsTrue (ends_at_close (xs ++ ys) place)
+ends_at_close-append [] ys place stays ends = subst (λ (n : ℕ). IsTrue (ends_at_close ys n)) (sym (no_place place)) ends
+ends_at_close-append (x ∷ xs) ys place stays ends = behind (xs ++ ys) (ends_at_close-append xs ys (place + 1) (rest_open x xs place stays) (subst (λ (n : ℕ). IsTrue (ends_at_close ys n)) (sym (next_place xs x place)) ends))
+  where
+    behind : (zs : List Frame) → IsTrue (ends_at_close zs (place + 1)) → IsTrue (ends_at_close (x ∷ zs) place)
+    behind [] h = refl
+    behind (z ∷ zs) h = rw (first_open x xs place stays) h
+
+pub requests_in-append : (xs ys : List Frame) → requests_in (xs ++ ys) ≡ requests_in xs ++ requests_in ys
+requests_in-append xs ys = filter_map-append request_in xs ys
+
+-- as many outcomes as requests are used up by them
+behind_append : (r : Option RequestParts) (rest : List RequestParts) (os more : List Outcome) → length os ≡ length (cons_option r rest) → outcomes_behind r (os ++ more) ≡ outcomes_behind r os ++ more
+behind_append None rest os more same = refl
+behind_append (Some q) rest [] more same = absurd (none_left q rest same)
+behind_append (Some q) rest (o ∷ os) more same = refl
+
+behind_length : (r : Option RequestParts) (rest : List RequestParts) (os : List Outcome) → length os ≡ length (cons_option r rest) → length (outcomes_behind r os) ≡ length rest
+behind_length None rest os same = same
+behind_length (Some q) rest [] same = absurd (none_left q rest same)
+behind_length (Some q) rest (o ∷ os) same = omega (arith, same)
+
+reply_same : (frame : Frame) (r : Option RequestParts) (rest : List RequestParts) (os more : List Outcome) → length os ≡ length (cons_option r rest) → reply_for frame r (os ++ more) ≡ reply_for frame r os
+reply_same frame None rest os more same = refl
+reply_same frame (Some q) rest [] more same = absurd (none_left q rest same)
+reply_same frame (Some q) rest (o ∷ os) more same = refl
+
+pub replies-append : (xs ys : List Frame) (place : ℕ) (os more : List Outcome) → some_closes xs place ≡ false → length os ≡ length (requests_in xs) → replies (xs ++ ys) place (os ++ more) ≡ replies xs place os ++ replies ys (place + length xs) more
+replies-append [] ys place [] more stays same = ap (λ n. replies ys n more) (no_place place)
+replies-append [] ys place (o ∷ os) more stays same = absurd (some_left o os same)
+replies-append (x ∷ xs) ys place os more stays same =
+    let r = request_in x in
+    let left = outcomes_behind r os in
+    let text = reply_text (reply_for x r os) false in
+    let again : length left ≡ length (requests_in xs) = behind_length r (requests_in xs) os same in
+    let rest = replies-append xs ys (place + 1) left more (rest_open x xs place stays) again in
+    rw (first_open x xs place stays, reply_same x r (requests_in xs) os more same, behind_append r (requests_in xs) os more same)
+    (ap (λ v. text ++ v) (rest ∙ ap (λ n. replies xs (place + 1) left ++ replies ys n more) (next_place xs x place)) ∙ sym (append_assoc text (replies xs (place + 1) left) (replies ys (place + length (x ∷ xs)) more)))
+
+pub talk-append : (xs ys : List Frame) (place : ℕ) (refused : Bool) (os more : List Outcome) → some_closes xs place ≡ false → length os ≡ length (requests_in xs) → talk place (xs ++ ys) refused (os ++ more) ≡ replies xs place os ++ talk (place + length xs) ys refused more
+talk-append xs ys place refused os more stays same =
+    ap (λ v. v ++ cond refused last_reply []) (replies-append xs ys place os more stays same)
+    ∙ append_assoc (replies xs place os) (replies ys (place + length xs) more) (cond refused last_reply [])

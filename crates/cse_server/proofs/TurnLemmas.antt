@@ -1,0 +1,288 @@
+-- The turn of one frame, and what stands next on a connection.
+use Rattle.std.proofs.Common.{◌≡◌, ◌≢◌, ℕ, ◌+◌, Bool, true, false, List, [], ◌∷◌, ◌++◌, length, Option, Some, None, IfSome, IsTrue, MatchOption, Result, Ok, inl, inr, refl, sym, ap, subst, ◌∙◌, arith, append-nil}
+use Rattle.std.proofs.lemmas.Bool.{false≢true, true≢false}
+use Rattle.std.specs.Io.KnownBytes.{Appends, IsAtEnd}
+use Rattle.m2m_io.specs.Told.{AppendsPrefix}
+use Rattle.primitive_json.specs.declared.reply.ReplyParts.{ReplyParts}
+use Rattle.turn_desk.specs.Entries.{Marked}
+use Rattle.turn_desk.proofs.GrowthLemmas.{AsksAll-nothing}
+use Rattle.http_frames.specs.declared.frame.Frame.{Frame}
+use Rattle.http_frames.specs.declared.frame.Side.TheVariants.{Request}
+use Rattle.http_frames.specs.Stream.{HasNoFrame}
+use Rattle.http_frames.specs.Inbox.{stream_of, Reads, HoldsNoFrame}
+use Rattle.http_binding.specs.Replying.{reply_text}
+use Rattle.http_frames.specs.declared.fault.PutFault.{PutFault}
+use Rattle.http_frames.specs.declared.fault.PutFault.TheVariants.{WriteFault as PutWrite, OutOfMemory as PutMemory}
+use Rattle.cse_machine.specs.declared.event.Event.{Event}
+use Rattle.cse_machine.specs.declared.event.Outcome.{Outcome}
+use Rattle.cse_server.specs.declared.connection.Ended.{Ended}
+use Rattle.cse_server.specs.declared.connection.Ended.TheVariants.{Closed, NoFrame, ReadFault, WriteFault, Memory}
+use Rattle.cse_server.specs.Closing.{closes}
+use Rattle.cse_server.specs.Talk.{replies, talk, some_closes, ends_at_close}
+use Rattle.cse_server.specs.Connection.{IsThese, RefusesRightly, EndsRightly, Says, ServesFrom}
+use Rattle.cse_server.specs.Way.{Leads, Goes, Hears, Refuses, SaysTurn, Turns, end_of_put}
+use Rattle.cse_server.proofs.NextLemmas.{ended_empty, refused_rightly, replies-one, some_closes-one}
+use Rattle.cse_server.proofs.PutLemmas.{prefix_none}
+use Rattle.cse_server.proofs.WayLemmas.{Tells-nil}
+
+appends_nothing : (o : Option (List ℕ)) → Appends o o []
+appends_nothing None = tt
+appends_nothing (Some xs) = sym (append-nil xs)
+
+abbrev is_none_end : Option Ended → Type 0
+is_none_end None = Unit {0}
+is_none_end (Some e) = ⊥
+
+none_some : {e : Ended} → None ≡ Some e → ⊥
+none_some p = subst is_none_end p tt
+
+abbrev end_or : Ended → Option Ended → Ended
+end_or e None = e
+end_or e (Some d) = d
+
+some_same : (ended : Ended) → Some ended ≡ Some Memory → ended ≡ Memory
+some_same ended e = ap (end_or ended) e
+
+-- what an answer says that ended the connection
+turn_says : (place : ℕ) (frame : Frame) (ended : Ended) (old new : Option (List ℕ)) (text : List ℕ) → SaysTurn place frame (Some ended) old new text → Says ended old new (text ++ [])
+turn_says place frame Closed old new text said = subst (λ (v : List ℕ). Appends old new v) (sym (append-nil text)) said.1
+turn_says place frame NoFrame old new text said = absurd said
+turn_says place frame ReadFault old new text said = absurd said
+turn_says place frame WriteFault old new text said = subst (λ (v : List ℕ). AppendsPrefix old new v) (sym (append-nil text)) said
+turn_says place frame Memory old new text said = subst (λ (v : List ℕ). AppendsPrefix old new v) (sym (append-nil text)) said
+
+turn_ends : (place : ℕ) (frame : Frame) (ended : Ended) (heard : List Frame) (old new : Option (List ℕ)) (text rest : List ℕ) → heard ≡ frame ∷ [] → SaysTurn place frame (Some ended) old new text → EndsRightly place ended false heard rest
+turn_ends place frame Closed heard old new text rest same said =
+    (refl, λ stays. absurd (true≢false (sym (some_closes-one frame place true said.0) ∙ ap (λ (fs : List Frame). some_closes fs place) (sym same) ∙ stays)))
+turn_ends place frame NoFrame heard old new text rest same said = absurd said
+turn_ends place frame ReadFault heard old new text rest same said = absurd said
+turn_ends place frame WriteFault heard old new text rest same said = tt
+turn_ends place frame Memory heard old new text rest same said = tt
+
+turn_stream : (left rest : Option (List ℕ)) (place : ℕ) (frame : Frame) (ended : Ended) (heard : List Frame) (old new : Option (List ℕ)) (text : List ℕ) → heard ≡ frame ∷ [] → Leads left (frame ∷ []) rest → SaysTurn place frame (Some ended) old new text
+    → IfSome left (λ bytes. (after : List ℕ) × IsThese bytes heard after × RefusesRightly place false heard after × EndsRightly place ended false heard after)
+turn_stream None rest place frame ended heard old new text same leads said = tt
+turn_stream (Some bytes) None place frame ended heard old new text same leads said = absurd leads
+turn_stream (Some bytes) (Some after) place frame ended heard old new text same leads said = (
+  after,
+  subst (λ (fs : List Frame). IsThese bytes fs after) (sym same) leads,
+  (λ t. absurd (false≢true t)),
+  turn_ends place frame ended heard old new text after same said,
+)
+
+starved_stream : (left : Option (List ℕ)) (place : ℕ) (ended : Ended) (heard : List Frame) → heard ≡ [] → ended ≡ Memory
+    → IfSome left (λ bytes. (after : List ℕ) × IsThese bytes heard after × RefusesRightly place false heard after × EndsRightly place ended false heard after)
+starved_stream None place ended heard same memory = tt
+starved_stream (Some bytes) place ended heard same memory = (
+  bytes,
+  subst (λ (fs : List Frame). IsThese bytes fs bytes) (sym same) refl,
+  (λ t. absurd (false≢true t)),
+  subst (λ (e : Ended). EndsRightly place e false heard bytes) (sym memory) tt,
+)
+
+module _ {S : Type 0} (grown : S → List (Marked Event Outcome) → S → Type 0) where
+  -- the reply to the frame was put, or some of it
+  pub turned : {E : Type 0} (place : ℕ) (before after : S) (old new given told : Option (List ℕ)) (frame : Frame) (r : ReplyParts) (ended : Option Ended)
+      → Hears {E = E} grown before after given told frame (Ok r)
+      → SaysTurn place frame ended old new (reply_text r (closes place frame))
+      → Turns place grown before after old new given told frame ended
+  turned place before after old new given told frame r ended h said = record {
+    heard = frame ∷ [];
+    either = inl refl;
+    readings = h.readings;
+    outcomes = h.outcomes;
+    asked = h.asked;
+    clock = h.clock;
+    said = subst (λ (text : List ℕ). SaysTurn place frame ended old new text)
+        (ap (λ (v : ReplyParts). reply_text v (closes place frame)) h.replied ∙ sym (replies-one frame place h.outcomes)) said;
+  }
+
+  -- memory ran out before there was a reply
+  pub starved_turn : {E : Type 0} (place : ℕ) (before after : S) (old given told : Option (List ℕ)) (frame : Frame) (r : Result ReplyParts E)
+      → Hears grown before after given told frame r
+      → Turns place grown before after old old given told frame (Some Memory)
+  starved_turn place before after old given told frame r h = record {
+    heard = frame ∷ [];
+    either = inl refl;
+    readings = h.readings;
+    outcomes = h.outcomes;
+    asked = h.asked;
+    clock = h.clock;
+    said = prefix_none old (replies (frame ∷ []) place h.outcomes);
+  }
+
+  module _ (nothing : (seat : S) → grown seat [] seat) where
+    -- memory ran out before the frame was heard
+    pub unheard_turn : (place : ℕ) (seat : S) (old given : Option (List ℕ)) (frame : Frame)
+        → Turns place grown seat seat old old given given frame (Some Memory)
+    unheard_turn place seat old given frame = record {
+      heard = [];
+      either = inr (refl, refl);
+      readings = [];
+      outcomes = [];
+      asked = AsksAll-nothing grown nothing seat;
+      clock = Tells-nil given;
+      said = prefix_none old [];
+    }
+
+    -- nothing was heard, and the connection ended so
+    pub serves_none : (place : ℕ) (seat : S) (left old new given : Option (List ℕ)) (refused : Bool) (ended : Ended)
+        → IfSome left (λ bytes. RefusesRightly place refused [] bytes × EndsRightly place ended refused [] bytes)
+        → Says ended old new (talk place [] refused [])
+        → ServesFrom place grown seat seat left old new given given ended
+    serves_none place seat left old new given refused ended stream said = record {
+      heard = [];
+      refused = refused;
+      readings = [];
+      outcomes = [];
+      asked = AsksAll-nothing grown nothing seat;
+      clock = Tells-nil given;
+      up_to = refl;
+      stream = here left stream;
+      said = said;
+    }
+      where
+        here : (left : Option (List ℕ)) → IfSome left (λ bytes. RefusesRightly place refused [] bytes × EndsRightly place ended refused [] bytes)
+            → IfSome left (λ bytes. (rest : List ℕ) × IsThese bytes [] rest × RefusesRightly place refused [] rest × EndsRightly place ended refused [] rest)
+        here None h = tt
+        here (Some bytes) h = (bytes, refl, h.0, h.1)
+
+    -- the stream ended behind a frame
+    pub serves_end : (place : ℕ) (seat : S) (left rest : Option (List ℕ)) (held now : List ℕ) (old given : Option (List ℕ))
+        → Reads left rest held now → now ≡ [] → IsAtEnd rest
+        → ServesFrom place grown seat seat (stream_of held left) old old given given Closed
+    serves_end place seat left rest held now old given reads none end =
+        serves_none place seat (stream_of held left) old old given false Closed
+        (with_all (stream_of held left) (ended_empty left rest held now reads none end)) (appends_nothing old)
+      where
+        with_all : (left : Option (List ℕ)) → IfSome left (λ bytes. bytes ≡ []) → IfSome left (λ bytes. RefusesRightly place false [] bytes × EndsRightly place Closed false [] bytes)
+        with_all None h = tt
+        with_all (Some bytes) h = ((λ t. absurd (false≢true t)), (refl, λ stays. h))
+
+    -- reading failed
+    pub serves_fault : (place : ℕ) (seat : S) (left old given : Option (List ℕ)) → ServesFrom place grown seat seat left old old given given ReadFault
+    serves_fault place seat left old given = serves_none place seat left old old given false ReadFault (all left) (appends_nothing old)
+      where
+        all : (left : Option (List ℕ)) → IfSome left (λ bytes. RefusesRightly place false [] bytes × EndsRightly place ReadFault false [] bytes)
+        all None = tt
+        all (Some bytes) = ((λ t. absurd (false≢true t)), (refl, refl))
+
+    -- memory ran out
+    pub serves_starved : (place : ℕ) (seat : S) (left old given : Option (List ℕ)) → ServesFrom place grown seat seat left old old given given Memory
+    serves_starved place seat left old given = serves_none place seat left old old given false Memory (all left) (prefix_none old [])
+      where
+        all : (left : Option (List ℕ)) → IfSome left (λ bytes. RefusesRightly place false [] bytes × EndsRightly place Memory false [] bytes)
+        all None = tt
+        all (Some bytes) = ((λ t. absurd (false≢true t)), tt)
+
+    -- no frame can stand
+    pub serves_refused : (place : ℕ) (seat : S) (left rest : Option (List ℕ)) (held now : List ℕ) (old new given : Option (List ℕ)) (ended : Ended)
+        → Reads left rest held now → HoldsNoFrame Request now rest → Refuses old new ended
+        → ServesFrom place grown seat seat (stream_of held left) old new given given ended
+    serves_refused place seat left rest held now old new given Closed reads holds put = absurd put
+    serves_refused place seat left rest held now old new given NoFrame reads holds put =
+        serves_none place seat (stream_of held left) old new given true NoFrame (all (stream_of held left) (refused_rightly left rest held now reads holds)) put
+      where
+        all : (left : Option (List ℕ)) → IfSome left (λ bytes. (bytes ≢ []) × HasNoFrame Request bytes) → IfSome left (λ bytes. RefusesRightly place true [] bytes × EndsRightly place NoFrame true [] bytes)
+        all None h = tt
+        all (Some bytes) h = ((λ t. (refl, h.0, h.1)), refl)
+    serves_refused place seat left rest held now old new given ReadFault reads holds put = absurd put
+    serves_refused place seat left rest held now old new given WriteFault reads holds put =
+        serves_none place seat (stream_of held left) old new given true WriteFault (all (stream_of held left) (refused_rightly left rest held now reads holds)) put
+      where
+        all : (left : Option (List ℕ)) → IfSome left (λ bytes. (bytes ≢ []) × HasNoFrame Request bytes) → IfSome left (λ bytes. RefusesRightly place true [] bytes × EndsRightly place WriteFault true [] bytes)
+        all None h = tt
+        all (Some bytes) h = ((λ t. (refl, h.0, h.1)), tt)
+    serves_refused place seat left rest held now old new given Memory reads holds put =
+        serves_none place seat (stream_of held left) old new given true Memory (all (stream_of held left) (refused_rightly left rest held now reads holds)) put
+      where
+        all : (left : Option (List ℕ)) → IfSome left (λ bytes. (bytes ≢ []) × HasNoFrame Request bytes) → IfSome left (λ bytes. RefusesRightly place true [] bytes × EndsRightly place Memory true [] bytes)
+        all None h = tt
+        all (Some bytes) h = ((λ t. (refl, h.0, h.1)), tt)
+
+  -- the frame was answered, and the connection goes on
+  pub goes_on : (place : ℕ) (before after : S) (left rest : Option (List ℕ)) (old new given told : Option (List ℕ)) (frame : Frame)
+      → Leads left (frame ∷ []) rest → Turns place grown before after old new given told frame None
+      → Goes place (place + 1) grown before after left rest old new given told
+  goes_on place before after left rest old new given told frame leads t = record {
+    heard = t.heard;
+    readings = t.readings;
+    outcomes = t.outcomes;
+    asked = t.asked;
+    clock = t.clock;
+    places = ap (λ (fs : List Frame). place + length fs) e;
+    stays_on = rw e (some_closes-one frame place false t.said.0);
+    stream = subst (λ (fs : List Frame). Leads left fs rest) (sym e) leads;
+    said = t.said.1;
+  }
+    where
+      e : t.heard ≡ frame ∷ []
+      e = elim t.either [ inl same ↦ same | inr starved ↦ absurd (none_some starved.1) ]
+
+  -- the frame was answered, and the connection ended
+  pub serves_turn : (place : ℕ) (before after : S) (left rest : Option (List ℕ)) (old new given told : Option (List ℕ)) (frame : Frame) (ended : Ended)
+      → Leads left (frame ∷ []) rest → Turns place grown before after old new given told frame (Some ended)
+      → ServesFrom place grown before after left old new given told ended
+  serves_turn place before after left rest old new given told frame ended leads t = elim t.either [
+    | inl same ↦ record {
+      heard = t.heard;
+      refused = false;
+      readings = t.readings;
+      outcomes = t.outcomes;
+      asked = t.asked;
+      clock = t.clock;
+      up_to = subst (λ (fs : List Frame). IsTrue (ends_at_close fs place)) (sym same) refl;
+      stream = turn_stream left rest place frame ended t.heard old new (replies t.heard place t.outcomes) same leads t.said;
+      said = turn_says place frame ended old new (replies t.heard place t.outcomes) t.said;
+    }
+    | inr starved ↦ record {
+      heard = t.heard;
+      refused = false;
+      readings = t.readings;
+      outcomes = t.outcomes;
+      asked = t.asked;
+      clock = t.clock;
+      up_to = subst (λ (fs : List Frame). IsTrue (ends_at_close fs place)) (sym starved.0) refl;
+      stream = starved_stream left place ended t.heard starved.0 (some_same ended starved.1);
+      said = turn_says place frame ended old new (replies t.heard place t.outcomes) t.said;
+    }
+  ]
+
+  -- a frame stood next, and was answered
+  pub message_next : (place : ℕ) (before after : S) (left rest : Option (List ℕ)) (old new given told : Option (List ℕ)) (frame : Frame) (r : Option Ended) (P : Type 0) → P
+      → Leads left (frame ∷ []) rest → Turns place grown before after old new given told frame r
+      → MatchOption r (P × Goes place (place + 1) grown before after left rest old new given told) (ServesFrom place grown before after left old new given told)
+  message_next place before after left rest old new given told frame None P p leads t =
+      (p, goes_on place before after left rest old new given told frame leads t)
+  message_next place before after left rest old new given told frame (Some ended) P p leads t =
+      serves_turn place before after left rest old new given told frame ended leads t
+
+  module _ (nothing : (seat : S) → grown seat [] seat) where
+    -- no frame stood yet
+    pub goes_none : (place : ℕ) (seat : S) (left : Option (List ℕ)) (held : List ℕ) (old given : Option (List ℕ)) → held ≡ []
+        → Goes place place grown seat seat left (stream_of held left) old old given given
+    goes_none place seat left held old given none = record {
+      heard = [];
+      readings = [];
+      outcomes = [];
+      asked = AsksAll-nothing grown nothing seat;
+      clock = Tells-nil given;
+      places = omega arith;
+      stays_on = refl;
+      stream = rw none (start left);
+      said = appends_nothing old;
+    }
+      where
+        start : (left : Option (List ℕ)) → Leads left [] (stream_of [] left)
+        start None = tt
+        start (Some bytes) = refl
+
+-- what was put of a reply where the sink or memory failed
+pub put_says : (place : ℕ) (frame : Frame) (old new : Option (List ℕ)) (text : List ℕ) (fault : PutFault) → AppendsPrefix old new text → SaysTurn place frame (Some (end_of_put fault)) old new text
+put_says place frame old new text PutWrite said = said
+put_says place frame old new text PutMemory said = said
+
+-- what follows where a call didn't end the connection
+pub next_goes : (Goes : Type 0) (Serves : Ended → Type 0) (r : Option Ended) → ((ended : Ended) → r ≡ Some ended → ⊥) → MatchOption r Goes Serves → Goes
+next_goes Goes Serves None none next = next
+next_goes Goes Serves (Some ended) none next = absurd (none ended refl)

@@ -1,0 +1,17 @@
+use Rattle.std.proofs.Common.{◌≡◌, ◌≤◌, false}
+use Rattle.http_frames.specs.Inbox.{stream_of}
+use Rattle.cse_server.specs.Way.{Goes}
+use Rattle.cse_server.proofs.connection.serve_connection.Given as goal
+
+abbrev pub invariant-loop-place : goal.invariant-loop-place
+invariant-loop-place g l = record {
+  seats : g.D.Desk.seats l.desk l.seat;
+  still_open : l.inbox.refused ≡ false;
+  goes : Goes 1 l.place g.D.Desk.grown l.fn.seat l.seat
+      (g.X.Source.left l.fn.conn) (stream_of l.inbox.held (g.X.Source.left l.conn))
+      (g.X.Sink.written l.fn.conn) (g.X.Sink.written l.conn)
+      (g.C.Clock.readings l.fn.clock) (g.C.Clock.readings l.clock);
+  read_count : g.X.Source.faults l.fn.conn ≤ g.X.Source.faults l.conn;
+  write_count : g.X.Sink.faults l.fn.conn ≤ g.X.Sink.faults l.conn;
+  holds : (g.X.Source.kept_by_read l.conn).holds ≡ (g.X.Source.kept_by_read l.fn.conn).holds;
+}

@@ -1,0 +1,72 @@
+-- What serving a connection does: to its bytes, to the seat at the desk, and to the clock.
+use Rattle.std.specs.Prelude.{◌≡◌, ◌≢◌, ℕ, Bool, true, false, List, [], ◌∷◌, ◌++◌, map, Option, IfSome, IsTrue, ⊤}
+use Rattle.std.specs.Io.KnownBytes.{Appends}
+use Rattle.m2m_io.specs.Told.{AppendsPrefix, Tells}
+use Rattle.turn_desk.specs.Entries.{Marked}
+use Rattle.turn_desk.specs.Growth.{AsksAll}
+use Rattle.http_frames.specs.declared.frame.Frame.{Frame}
+use Rattle.http_frames.specs.declared.frame.Side.TheVariants.{Request}
+use Rattle.http_frames.specs.Stream.{BeginsWith, HasNoFrame}
+use Rattle.cse_machine.specs.declared.event.Event.{Event}
+use Rattle.cse_machine.specs.declared.event.Event.TheVariants.{Ask}
+use Rattle.cse_machine.specs.declared.event.Outcome.{Outcome}
+use Rattle.cse_server.specs.declared.connection.Ended.{Ended}
+use Rattle.cse_server.specs.declared.connection.Ended.TheVariants.{Closed, NoFrame, ReadFault, WriteFault, Memory}
+use Rattle.cse_server.specs.Talk.{requests_in, talk, some_closes, ends_at_close}
+
+-- ---- streams
+
+-- The stream is these requests one after another, and then a rest (RFC 9112, section 9.3).
+abbrev pub IsThese : List ℕ → List Frame → List ℕ → Type 0
+IsThese stream [] rest = stream ≡ rest
+IsThese stream (frame ∷ frames) rest =
+    (after : List ℕ) × BeginsWith Request stream frame after × IsThese after frames rest
+
+-- ---- how it ends
+
+-- The rest is refused only where no frame closed the connection, and something is left that begins with none; the first
+-- of the frames stands at this place.
+abbrev pub RefusesRightly : ℕ → Bool → List Frame → List ℕ → Type 0
+RefusesRightly place refused heard rest =
+    refused ≡ true → (some_closes heard place ≡ false) × (rest ≢ []) × HasNoFrame Request rest
+
+-- When a connection ends so, the frames that were heard and what is left behind them being these: it is closed where a
+-- frame closed it, or nothing is left.
+abbrev pub EndsRightly : ℕ → Ended → Bool → List Frame → List ℕ → Type 0
+EndsRightly place Closed refused heard rest = (refused ≡ false) × (some_closes heard place ≡ false → rest ≡ [])
+EndsRightly place NoFrame refused heard rest = refused ≡ true
+EndsRightly place ReadFault refused heard rest = (refused ≡ false) × (some_closes heard place ≡ false)
+EndsRightly place WriteFault refused heard rest = ⊤
+EndsRightly place Memory refused heard rest = ⊤
+
+-- The bytes that are written where it ends so: all of its talk, or a prefix of it.
+abbrev pub Says : Ended → Option (List ℕ) → Option (List ℕ) → List ℕ → Type 0
+Says Closed old new text = Appends old new text
+Says NoFrame old new text = Appends old new text
+Says ReadFault old new text = Appends old new text
+Says WriteFault old new text = AppendsPrefix old new text
+Says Memory old new text = AppendsPrefix old new text
+
+-- A connection was served at a seat, from the frame at this place on. Of the bytes that it had left, `heard` are the
+-- requests that were read; `given` and `told` are the readings that the clock had given before and has given now.
+pub record ServesFrom {S : Type 0} (place : ℕ) (grown : S → List (Marked Event Outcome) → S → Type 0) (before after : S)
+    (left : Option (List ℕ)) (old new : Option (List ℕ)) (given told : Option (List ℕ)) (ended : Ended) : Type 0 where
+  pub heard : List Frame
+  pub refused : Bool
+  pub readings : List ℕ
+  pub outcomes : List Outcome
+  -- the seat asked each request to which one of them binds, in order, at the readings that the clock gave
+  pub asked : AsksAll grown before readings (map Ask (requests_in heard)) outcomes after
+  pub clock : Tells (λ given. given ++ readings) given told
+  -- they are the requests of the stream up to the first that closes, and it ended as they and the rest say
+  pub up_to : IsTrue (ends_at_close heard place)
+  pub stream : IfSome left (λ bytes. (rest : List ℕ) × IsThese bytes heard rest
+      × RefusesRightly place refused heard rest × EndsRightly place ended refused heard rest)
+  -- their talk by these outcomes is written
+  pub said : Says ended old new (talk place heard refused outcomes)
+
+-- A connection was served at a seat, from its first frame on.
+abbrev pub Serves : {S : Type 0} → (S → List (Marked Event Outcome) → S → Type 0) → S → S
+    → Option (List ℕ) → Option (List ℕ) → Option (List ℕ) → Option (List ℕ) → Option (List ℕ) → Ended → Type 0
+Serves grown before after left old new given told ended =
+    ServesFrom 1 grown before after left old new given told ended

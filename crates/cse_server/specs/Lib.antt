@@ -1,0 +1,4 @@
+pub mod Closing
+pub mod Talk
+pub mod Connection
+pub mod Way

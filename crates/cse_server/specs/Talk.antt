@@ -1,0 +1,85 @@
+-- What a connection is answered, by its frames and the outcomes of their requests (TS-0009, 6; RFC 9112, 9.3).
+use Rattle.std.specs.Prelude.{ℕ, ◌+◌, Bool, true, false, not, ◌&&◌, ◌||◌, List, [], ◌∷◌, ◌++◌, Option, Some, None, Result, Ok, Err, if◌then◌else◌}
+use Rattle.std.specs.List.{filter_map}
+use Rattle.m2m_names.specs.declared.codes.Rsc.TheVariants.{BadRequest}
+use Rattle.primitive_json.specs.declared.reply.ReplyParts.{ReplyParts}
+use Rattle.primitive_json.specs.declared.request.RequestParts.{RequestParts}
+use Rattle.http_frames.specs.declared.frame.Frame.{Frame}
+use Rattle.http_binding.specs.Binding.{binding, echo_of}
+use Rattle.http_binding.specs.Replying.{reply_text}
+use Rattle.http_binding.specs.declared.fault.BindFault.{BindFault}
+use Rattle.cse_machine.specs.Answer.{starved}
+use Rattle.cse_machine.specs.declared.event.Outcome.{Outcome}
+use Rattle.cse_machine.specs.declared.event.Outcome.TheVariants.{Done, Starved}
+use Rattle.cse_server.specs.Closing.{closes}
+
+-- ---- the requests
+
+-- what is bound, without the reason where nothing is
+abbrev pub bound : Result RequestParts BindFault → Option RequestParts
+bound (Ok request) = Some request
+bound (Err fault) = None
+
+-- the request that a frame binds to
+abbrev pub request_in : Frame → Option RequestParts
+request_in frame = bound (binding frame)
+
+-- the requests of frames, in order: one of each frame that binds
+abbrev pub requests_in : List Frame → List RequestParts
+requests_in frames = filter_map request_in frames
+
+-- ---- the replies
+
+-- the reply to a request by the outcome of its event: where memory ran out, that it did
+abbrev pub reply_by : RequestParts → Outcome → ReplyParts
+reply_by request (Done reply) = reply
+reply_by request (Starved done) = starved request
+
+-- the refusal of what is no request, with an identifier where one is known
+abbrev pub malformed : Option (List ℕ) → ReplyParts
+malformed rqi = record { rsc = BadRequest; rqi = rqi; pc = None }
+
+-- the reply to a request by the first of the outcomes that are left, of which it has one
+abbrev pub reply_by_first : RequestParts → List Outcome → ReplyParts
+reply_by_first request [] = starved request
+reply_by_first request (outcome ∷ outcomes) = reply_by request outcome
+
+-- the reply to a frame by the request that it binds to, if any
+abbrev pub reply_for : Frame → Option RequestParts → List Outcome → ReplyParts
+reply_for frame None outcomes = malformed (echo_of frame)
+reply_for frame (Some request) outcomes = reply_by_first request outcomes
+
+-- the outcomes that are left behind it
+abbrev pub outcomes_behind : Option RequestParts → List Outcome → List Outcome
+outcomes_behind None outcomes = outcomes
+outcomes_behind (Some request) [] = []
+outcomes_behind (Some request) (outcome ∷ outcomes) = outcomes
+
+-- The replies to frames of which the first stands at this place, one after another, by the outcomes of the requests
+-- among them, in order: up to and with the reply to the first frame that closes.
+abbrev pub replies : List Frame → ℕ → List Outcome → List ℕ
+replies [] place outcomes = []
+replies (frame ∷ frames) place outcomes =
+    reply_text (reply_for frame (request_in frame) outcomes) (closes place frame)
+    ++ (if closes place frame then [] else replies frames (place + 1) (outcomes_behind (request_in frame) outcomes))
+
+-- some frame closes, the first of them standing at this place
+abbrev pub some_closes : List Frame → ℕ → Bool
+some_closes [] place = false
+some_closes (frame ∷ frames) place = closes place frame || some_closes frames (place + 1)
+
+-- no frame stands behind one that closes, the first of them standing at this place
+abbrev pub ends_at_close : List Frame → ℕ → Bool
+ends_at_close [] place = true
+ends_at_close (frame ∷ []) place = true
+ends_at_close (frame ∷ next ∷ frames) place =
+    not (closes place frame) && ends_at_close (next ∷ frames) (place + 1)
+
+-- what is said last where something is left that begins with no frame
+abbrev pub last_reply : List ℕ
+last_reply = reply_text (malformed None) true
+
+-- The talk of a connection from the frame at this place on, which is the first of these: the replies to its frames, by
+-- the outcomes of their requests, and the last reply where the rest of its stream is refused.
+abbrev pub talk : ℕ → List Frame → Bool → List Outcome → List ℕ
+talk place frames refused outcomes = replies frames place outcomes ++ (if refused then last_reply else [])

@@ -1,0 +1,96 @@
+//! When a connection ends behind a reply.
+ghost use Rattle.std.specs.Prelude.{◌≡◌, codes};
+ghost use Rattle.std.specs.List.{list_all, list_any};
+ghost use Rattle.http_frames.specs.Lines.{is_same_name};
+ghost use Rattle.cse_server.specs.Closing as spec;
+
+use http_frames::{Frame, Lines, Start};
+use m2m_value::Text;
+
+/// The most frames that a connection has: behind the reply to the last of them it closes.
+pub const MOST_FRAMES: u64 = 10_000;
+
+/// Whether the connection closes behind the reply to the frame at this place, from 1.
+pub(crate) fn closes(place: u64, frame: &Frame) -> bool
+    ensures { result ≡ spec.closes place frame.now }
+{
+    asks_to_close(&frame.lines) || minor_of(&frame.start) == 0 || MOST_FRAMES <= place
+}
+
+fn minor_of(start: &Start) -> u8
+    ensures { result ≡ spec.minor_of start.now }
+{
+    match start {
+        Start::Ask { minor, .. } | Start::Answer { minor, .. } => *minor,
+    }
+}
+
+// Whether a line `Connection` has the option `close`.
+fn asks_to_close(lines: &Lines) -> bool
+    ensures { result ≡ spec.asks_to_close lines.now }
+{
+    some_asks(lines.entries())
+}
+
+fn some_asks(lines: &[(Text, Text)]) -> bool
+    ensures { result ≡ list_any spec.asks_by lines.now }
+{
+    lines.iter().any(|line| asks_by(line))
+}
+
+fn asks_by(line: &(Text, Text)) -> bool
+    ensures { result ≡ spec.asks_by line.now }
+{
+    is_connection(line.0.entries()) && lists_close(line.1.entries())
+}
+
+fn is_connection(name: &[u8]) -> bool
+    ensures { result ≡ is_same_name name.now (codes "Connection") }
+{
+    name.eq_ignore_ascii_case(b"Connection")
+}
+
+// Whether the list, whose elements stand between commas, has the option `close`.
+fn lists_close(value: &[u8]) -> bool
+    ensures { result ≡ spec.lists_close value.now }
+{
+    value
+        .split(|byte| *byte == b',')
+        .any(|element| is_close(element))
+}
+
+fn is_close(element: &[u8]) -> bool
+    ensures { result ≡ spec.is_close element.now }
+{
+    is_close_word(behind_blanks(element))
+}
+
+fn is_close_word(text: &[u8]) -> bool
+    ensures { result ≡ spec.is_close_word text.now }
+{
+    let (word, blanks) = text.split_at(text.len().min(5));
+    word.eq_ignore_ascii_case(b"close") && are_blank(blanks)
+}
+
+fn are_blank(text: &[u8]) -> bool
+    ensures { result ≡ list_all spec.is_blank text.now }
+{
+    text.iter().all(|byte| is_blank(*byte))
+}
+
+fn behind_blanks(text: &[u8]) -> &[u8]
+    ensures { result.now ≡ spec.behind_blanks text.now }
+{
+    for (at, byte) in text.iter().enumerate() {
+        if !is_blank(*byte) {
+            return &text[at..];
+        }
+    }
+    &[]
+}
+
+fn is_blank(byte: u8) -> bool
+    ensures { result ≡ spec.is_blank byte }
+{
+    byte == b' ' || byte == b'\t'
+}

@@ -1,0 +1,228 @@
+//! One connection, from its first frame to its end.
+ghost use Rattle.std.specs.Prelude.{◌≡◌, ◌≤◌, ◌+◌, false, Some, None, Err, IfOk, MatchOption};
+ghost use Rattle.m2m_io.specs.Counts.{Rose};
+ghost use Rattle.m2m_io.specs.Sides.{KeepsSides};
+ghost use Rattle.http_frames.specs.Inbox.{stream_of};
+ghost use Rattle.cse_server.specs.Talk.{request_in};
+ghost use Rattle.cse_server.specs.Connection.{Serves, ServesFrom};
+ghost use Rattle.cse_server.specs.Way.{Goes, Hears, Refuses, Turns};
+
+use crate::closing::{MOST_FRAMES, closes};
+use crate::replying::{put_last_reply, put_reply, refusal_of, reply_by};
+use cse_machine::{Asked, Event, Outcome};
+use http_binding::{BindFault, to_request};
+use http_frames::{Frame, FrameFault, Inbox, Next, PutFault};
+use m2m_io::{Clock, Link, Sink, Source};
+use primitive_json::{Reply, Request};
+use std::alloc::{AllocError as OutOfMemory, Global};
+use turn_desk::Desk;
+
+/// How a connection ended.
+#[derive(Clone, Copy, Debug, PartialEq, Eq)]
+pub enum Ended {
+    /// A frame closed it, or its stream ended behind a frame.
+    Closed,
+    /// Bytes are left, and no frame stands at their front.
+    NoFrame,
+    /// Reading failed: the connection's count of faults as a source rose in the call.
+    ReadFault,
+    /// Writing failed: the connection's count of faults as a sink rose in the call.
+    WriteFault,
+    /// Memory ran out.
+    Memory,
+}
+
+impl From<PutFault> for Ended {
+    ghost use Rattle.std.specs.Prelude.{◌≡◌};
+    ghost use Rattle.http_frames.specs.declared.fault.PutFault.{PutFault};
+    ghost use Rattle.cse_server.specs.Way.{end_of_put};
+
+    ghost from_gives = { λ fault e. e ≡ end_of_put fault };
+
+    fn from(fault: PutFault) -> Self {
+        match fault {
+            PutFault::WriteFault => Ended::WriteFault,
+            PutFault::OutOfMemory => Ended::Memory,
+        }
+    }
+}
+
+/// The request that a frame binds to, if any.
+fn asked_by(alloc: Global, frame: &Frame) -> Result<Option<Request>, OutOfMemory>
+    ensures { IfOk result (λ r. r ≡ request_in frame.now) }
+{
+    match to_request(alloc, frame) {
+        Ok(request) => Ok(Some(request)),
+        Err(BindFault::OutOfMemory) => Err(OutOfMemory),
+        Err(_) => Ok(None),
+    }
+}
+
+/// The reply to a frame: by what the desk answers the request that it binds to, if any.
+fn reply_to<D, C>(
+    alloc: Global,
+    desk: &D,
+    seat: &mut D::Seat,
+    clock: &mut C,
+    frame: &Frame,
+    request: Option<Request>,
+) -> Result<Reply, OutOfMemory>
+where
+    D: Desk<Event = Event, Outcome = Outcome>,
+    C: Clock,
+    requires seats { D.seats desk.now seat.old }
+    requires request { request ≡ request_in frame.now }
+    ensures seats { D.seats desk.now seat.new }
+    ensures hears { Hears D.grown seat.old seat.new
+        (C.readings clock.old) (C.readings clock.new) frame.now result }
+{
+    match request {
+        None => refusal_of(alloc, frame),
+        Some(request) => {
+            let reading = clock.now();
+            let outcome = desk.ask(seat, reading, Event::Ask(Asked::of(request)));
+            reply_by(alloc, frame, outcome)
+        }
+    }
+}
+
+/// Answers the frame at this place, from 1. None where the connection goes on.
+fn answer<D, X, C>(
+    alloc: Global,
+    desk: &D,
+    seat: &mut D::Seat,
+    conn: &mut X,
+    clock: &mut C,
+    place: u64,
+    frame: &Frame,
+) -> Option<Ended>
+where
+    D: Desk<Event = Event, Outcome = Outcome>,
+    X: Sink,
+    C: Clock,
+    requires { D.seats desk.now seat.old }
+    ensures seats { D.seats desk.now seat.new }
+    ensures turns { Turns place D.grown seat.old seat.new (X.written conn.old) (X.written conn.new)
+        (C.readings clock.old) (C.readings clock.new) frame.now result }
+    ensures count { X.faults conn.old ≤ X.faults conn.new }
+    ensures cause { result ≡ Some Ended.WriteFault → Rose (X.faults conn.old) (X.faults conn.new) }
+    ensures beside { X.kept_by_put conn.new ≡ X.kept_by_put conn.old }
+{
+    let Ok(request) = asked_by(alloc, frame) else {
+        return Some(Ended::Memory);
+    };
+    let Ok(reply) = reply_to(alloc, desk, seat, clock, frame, request) else {
+        return Some(Ended::Memory);
+    };
+    let close = closes(place, frame);
+    match put_reply(alloc, conn, &reply, close) {
+        Ok(()) if close => Some(Ended::Closed),
+        Ok(()) => None,
+        Err(fault) => Some(Ended::from(fault)),
+    }
+}
+
+/// Ends a connection on which no frame can stand.
+fn refuse<X: Sink>(alloc: Global, conn: &mut X) -> Ended
+    ensures refuses { Refuses (X.written conn.old) (X.written conn.new) result }
+    ensures count { X.faults conn.old ≤ X.faults conn.new }
+    ensures cause { result ≡ Ended.WriteFault → Rose (X.faults conn.old) (X.faults conn.new) }
+    ensures beside { X.kept_by_put conn.new ≡ X.kept_by_put conn.old }
+{
+    match put_last_reply(alloc, conn) {
+        Ok(()) => Ended::NoFrame,
+        Err(fault) => Ended::from(fault),
+    }
+}
+
+/// Serves what stands next on a connection, where it has the place `place`, from 1. None where the connection goes on.
+fn serve_next<D, X, C>(
+    alloc: Global,
+    desk: &D,
+    seat: &mut D::Seat,
+    conn: &mut X,
+    clock: &mut C,
+    inbox: &mut Inbox,
+    place: u64,
+) -> Option<Ended>
+where
+    D: Desk<Event = Event, Outcome = Outcome>,
+    X: Source + Sink,
+    C: Clock,
+    requires seats { D.seats desk.now seat.old }
+    requires sides { KeepsSides X.left X.Source.faults X.kept_by_read X.written X.Sink.faults X.kept_by_put }
+    requires open { inbox.old.refused ≡ false }
+    ensures seats { D.seats desk.now seat.new }
+    ensures next { MatchOption result
+        ((inbox.new.refused ≡ false) × Goes place (place + 1) D.grown seat.old seat.new
+        (stream_of inbox.old.held (X.left conn.old)) (stream_of inbox.new.held (X.left conn.new))
+        (X.written conn.old) (X.written conn.new) (C.readings clock.old) (C.readings clock.new))
+        (ServesFrom place D.grown seat.old seat.new (stream_of inbox.old.held (X.left conn.old))
+        (X.written conn.old) (X.written conn.new) (C.readings clock.old) (C.readings clock.new)) }
+    ensures read_count { X.Source.faults conn.old ≤ X.Source.faults conn.new }
+    ensures read_cause { result ≡ Some Ended.ReadFault
+        → Rose (X.Source.faults conn.old) (X.Source.faults conn.new) }
+    ensures write_count { X.Sink.faults conn.old ≤ X.Sink.faults conn.new }
+    ensures write_cause { result ≡ Some Ended.WriteFault
+        → Rose (X.Sink.faults conn.old) (X.Sink.faults conn.new) }
+    ensures holds { (X.kept_by_read conn.new).holds ≡ (X.kept_by_read conn.old).holds }
+{
+    match inbox.next_request(alloc, conn) {
+        Ok(Next::Message(frame)) => answer(alloc, desk, seat, conn, clock, place, &frame),
+        Ok(Next::End) => Some(Ended::Closed),
+        Err(FrameFault::NoFrame) => Some(refuse(alloc, conn)),
+        Err(FrameFault::ReadFault) => Some(Ended::ReadFault),
+        Err(FrameFault::OutOfMemory) => Some(Ended::Memory),
+    }
+}
+
+/// Serves one connection to its end: its frames are answered one after another, in order.
+///
+/// A frame that binds to a request is asked at the desk, at a reading of the clock; one that doesn't is refused, and the
+/// connection goes on. It closes behind the reply to a frame that asks for it, to one of HTTP/1.0 and to the 10,000th.
+/// Where no frame can stand, one last reply says so. Each reply is written by one call of the connection. The link is
+/// for requests that go on to another entity; none do as yet.
+pub fn serve_connection<D, X, C, L>(
+    alloc: Global,
+    desk: &D,
+    seat: &mut D::Seat,
+    conn: &mut X,
+    clock: &mut C,
+    link: &mut L,
+) -> Ended
+where
+    D: Desk<Event = Event, Outcome = Outcome>,
+    X: Source + Sink,
+    C: Clock,
+    L: Link,
+    requires seats { D.seats desk.now seat.old }
+
+    // Reading the connection leaves what was written to it, and writing it what is left to read.
+    requires sides { KeepsSides X.left X.Source.faults X.kept_by_read X.written X.Sink.faults X.kept_by_put }
+    ensures seats { D.seats desk.now seat.new }
+    ensures serves { Serves D.grown seat.old seat.new
+        (X.left conn.old) (X.written conn.old) (X.written conn.new)
+        (C.readings clock.old) (C.readings clock.new) result }
+
+    // Faults come only where the connection failed in this call.
+    ensures read_count { X.Source.faults conn.old ≤ X.Source.faults conn.new }
+    ensures read_cause { result ≡ Ended.ReadFault
+        → Rose (X.Source.faults conn.old) (X.Source.faults conn.new) }
+    ensures write_count { X.Sink.faults conn.old ≤ X.Sink.faults conn.new }
+    ensures write_cause { result ≡ Ended.WriteFault
+        → Rose (X.Sink.faults conn.old) (X.Sink.faults conn.new) }
+
+    // A connection that borrows its sides still holds these, and nothing is exchanged over the link.
+    ensures holds { (X.kept_by_read conn.new).holds ≡ (X.kept_by_read conn.old).holds }
+    ensures link { link.new ≡ link.old }
+{
+    let Ok(mut inbox) = Inbox::new(alloc) else {
+        return Ended::Memory;
+    };
+    for place in 1..MOST_FRAMES + 1 {
+        if let Some(ended) = serve_next(alloc, desk, seat, conn, clock, &mut inbox, place) {
+            return ended;
+        }
+    }
+    Ended::Closed
+}
