@@ -58,7 +58,7 @@ fn reply_of<T: Tree>(
     }
 }
 
-// The resource that an address names.
+// The resource that an address names: so far the CSEBase, by its name.
 fn addressed<'a, T: Tree>(entity: &'a Entity<T>, to: &[u8]) -> Option<&'a Resource>
     ensures { option_map (λ r. r.now) result ≡ spec.addressed entity.now to.now }
 {
@@ -68,6 +68,17 @@ fn addressed<'a, T: Tree>(entity: &'a Entity<T>, to: &[u8]) -> Option<&'a Resour
     entity.tree.nth(0)
 }
 
+// Whether the originator has RETRIEVE on the resource.
+fn may_retrieve<T: Tree>(entity: &Entity<T>, o: &[u8], target: &Resource) -> bool
+    requires originator { IsTrue (is_originator o.now) }
+    requires resource { IsTrue (has target.now.number entity.now.nodes) }
+    ensures { result ≡ spec.may_retrieve entity.now o.now target.now }
+{
+    let bit = Op::Retrieve.bit();
+    granted(&entity.tree, &entity.home, o, bit, target.number())
+}
+
+// The reply for a resource that is there.
 fn retrieve<T: Tree>(
     alloc: Global,
     entity: &Entity<T>,
@@ -79,13 +90,7 @@ fn retrieve<T: Tree>(
     requires resource { IsTrue (has target.now.number entity.now.nodes) }
     ensures { IfOk result (λ r. r ≡ retrieved entity.now o.now request.now target.now) }
 {
-    if !granted(
-        &entity.tree,
-        &entity.home,
-        o,
-        Op::Retrieve.bit(),
-        target.number(),
-    ) {
+    if !may_retrieve(entity, o, target) {
         return refuse(alloc, request, Rsc::NoPrivilege);
     }
     let content = attributes(alloc, &entity.tree, &entity.home, target)?;
