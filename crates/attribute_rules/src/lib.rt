@@ -14,3 +14,6 @@ mod values;
 
 pub use kinds::Kind;
 pub use table::{keeps_kinds, kind_of};
+
+#[cfg(test)]
+mod tests;
