@@ -1,9 +1,10 @@
 -- What a step may show, and what it may change.
-use Rattle.std.specs.Prelude.{◌≡◌, ◌≢◌, ◌⊎◌, ℕ, List, Option, Some, None, IsTrue}
+use Rattle.std.specs.Prelude.{◌≡◌, ◌≢◌, ◌⊎◌, ℕ, List, [], ◌∷◌, ◌++◌, Option, Some, None, IsTrue}
 use Rattle.m2m_names.specs.declared.codes.Rsc.TheVariants.{Ok as Fine}
 use Rattle.primitive_json.specs.declared.reply.ReplyParts.{ReplyParts}
 use Rattle.primitive_json.specs.declared.request.RequestParts.{RequestParts}
 use Rattle.tree_model.specs.Resource.{ResourceData}
+use Rattle.turn_desk.specs.Entries.{entry_of}
 use Rattle.policy_eval.specs.Rights.{grants}
 use Rattle.policy_eval.specs.Seen.{retrieve_bit}
 use Rattle.create_delete.specs.Entity.{EntityData, swept}
@@ -12,6 +13,7 @@ use Rattle.cse_machine.specs.declared.event.Event.TheVariants.{Ask}
 use Rattle.cse_machine.specs.declared.event.Outcome.{Outcome}
 use Rattle.cse_machine.specs.declared.event.Outcome.TheVariants.{Done}
 use Rattle.cse_machine.specs.Answer.{addressed}
+use Rattle.cse_machine.specs.History.{History, Leaves}
 use Rattle.cse_machine.specs.Step.{Step}
 
 -- the reply shows something: it has content, or it says that the request was served
@@ -33,6 +35,18 @@ IsShownByGrant =
     (reading : ℕ) (request : RequestParts) (before after : EntityData) (reply : ReplyParts)
     → Step reading (Ask request) before (Done reply) after → DoesShow reply
     → HasRetrieve after request
+
+-- In a legal history each reply that shows something came by a grant to its originator, in the
+-- entity that its own step left.
+abbrev pub HistoryShowsByGrant : Type 0
+HistoryShowsByGrant =
+    (opening e : EntityData) (earlier later : History)
+    (reading : ℕ) (request : RequestParts) (reply : ReplyParts)
+    → Leaves opening (earlier ++ entry_of reading (Ask request) (Done reply) ∷ later) e
+    → DoesShow reply
+    → (after : EntityData)
+    × Leaves opening (earlier ++ entry_of reading (Ask request) (Done reply) ∷ []) after
+    × HasRetrieve after request
 
 -- A step changes nothing but that what is due goes, with what stands below it.
 abbrev pub ChangesOnlyWhatIsDue : Type 0

@@ -1,5 +1,5 @@
 //! Laws of the machine, over its definitions.
-ghost use Rattle.cse_machine.specs.Guard.{IsShownByGrant, ChangesOnlyWhatIsDue};
+ghost use Rattle.cse_machine.specs.Guard.{IsShownByGrant, HistoryShowsByGrant, ChangesOnlyWhatIsDue};
 ghost use Rattle.cse_machine.specs.History.{BeginsLegal, StaysLegal, StaysSound};
 ghost use Rattle.cse_machine.specs.Sight.{IsAnsweredBySight, EqualSightsAnswerAlike};
 
@@ -16,9 +16,10 @@ pub fn equal_sights_are_answered_alike()
 {}
 
 /// A reply with content, or with the status that a request was served, comes only to an originator
-/// that has RETRIEVE on the resource that it addressed.
+/// that has RETRIEVE on the resource that it addressed: at a step, and so anywhere in a legal history.
 pub fn nothing_is_shown_without_a_grant()
-    ensures { IsShownByGrant }
+    ensures steps { IsShownByGrant }
+    ensures histories { HistoryShowsByGrant }
 {}
 
 /// A step leaves the entity as it was, or without what is due at its moment.
