@@ -180,8 +180,9 @@ where
 ///
 /// A frame that binds to a request is asked at the desk, at a reading of the clock; one that doesn't is refused, and the
 /// connection goes on. It closes behind the reply to a frame that asks for it, to one of HTTP/1.0 and to the 10,000th.
-/// Where no frame can stand, one last reply says so. Each reply is written by one call of the connection. The link is
-/// for requests that go on to another entity; none do as yet.
+/// Where no frame can stand, one last reply says so. Each reply is written by one call of the connection. Where memory runs
+/// out in the event of a request, its reply says so and the connection goes on; elsewhere it ends the connection. The link
+/// is for requests that go on to another entity; none do as yet.
 pub fn serve_connection<D, X, C, L>(
     alloc: Global,
     desk: &D,
