@@ -1,6 +1,6 @@
 -- An originator is answered the same on what it sees.
 use Rattle.std.specs.Prelude.{bytes_eq}
-use Rattle.std.proofs.Common.{◌≡◌, ℕ, List, [], ◌∷◌, map, Bool, true, false, cond, Option, Some, None, option_map, inl, inr, refl, sym, ap, ◌∙◌, subst}
+use Rattle.std.proofs.Common.{◌≡◌, ℕ, List, Bool, cond, Option, Some, None, option_map, inl, inr, refl, sym, ap, ◌∙◌}
 use Rattle.std.proofs.lemmas.Bool.{cases_Bool}
 use Rattle.std.proofs.lemmas.Option.{slice_get-map}
 use Rattle.std.specs.List.{slice_get}
@@ -11,9 +11,8 @@ use Rattle.primitive_json.specs.declared.reply.ReplyParts.{ReplyParts}
 use Rattle.primitive_json.specs.declared.request.RequestParts.{RequestParts}
 use Rattle.tree_model.specs.Resource.{ResourceData}
 use Rattle.tree_model.specs.Shown.{attributes_of}
-use Rattle.tree_model.specs.Tree.{at, live}
-use Rattle.policy_eval.specs.Rights.{grants}
-use Rattle.policy_eval.specs.Seen.{retrieve_bit, seen, seen_list}
+use Rattle.tree_model.specs.Tree.{at}
+use Rattle.policy_eval.specs.Seen.{retrieve_bit, seen}
 use Rattle.policy_eval.proofs.DueLemmas.{live-seen, grants-live}
 use Rattle.policy_eval.proofs.RetrievedLemmas.{attributes-live}
 use Rattle.create_delete.specs.Entity.{EntityData, moment_of, swept}

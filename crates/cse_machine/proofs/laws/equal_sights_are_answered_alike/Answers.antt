@@ -1,4 +1,4 @@
-use Rattle.std.proofs.Common.{ℕ, List, ap, sym, ◌∙◌}
+use Rattle.std.proofs.Common.{ap, sym, ◌∙◌}
 use Rattle.create_delete.specs.Entity.{EntityData}
 use Rattle.cse_machine.specs.Answer.{answer}
 use Rattle.cse_machine.proofs.SightLemmas.{answers-alike}
