@@ -1,3 +1,5 @@
+ghost use Rattle.std.specs.Prelude.{◌<◌, All};
+
 use super::*;
 use cse_server::Bench;
 use m2m_io::{
@@ -9,16 +11,17 @@ use std::test::Fail;
 use std::thread::Threads;
 use std::time;
 
-const USAGE: &str = "usage: cse http, serve, replay, twin or gen\n";
-
 /// A Retrieve of the CSEBase by its administrator.
-const GET: &str = "GET /cse-in HTTP/1.1\r\nHost: 127.0.0.1:8080\r\nX-M2M-Origin: CAdmin\r\nX-M2M-RI: r1\r\n\r\n";
+const GET: &str =
+    "GET /cse-in HTTP/1.1\r\nHost: 127.0.0.1:8080\r\nX-M2M-Origin: CAdmin\r\nX-M2M-RI: r1\r\n\r\n";
 
 /// Its reply at 1,700,000,000.
-const BASE: &str = "HTTP/1.1 200 OK\r\nX-M2M-RSC: 2000\r\nX-M2M-RI: r1\r\nContent-Type: application/json\r\nContent-Length: 196\r\n\r\n{\"m2m:cb\":{\"acpi\":[\"acp2\"],\"csi\":\"/id-in\",\"cst\":1,\"ct\":\"20231114T221320\",\"lt\":\"20231114T221320\",\"pi\":\"\",\"ri\":\"cb1\",\"rn\":\"cse-in\",\"srt\":[1,2,3,4,5,9,15,16,23,10001,10002,10003,10004,10009],\"ty\":5}}";
+const BASE: &str =
+    "HTTP/1.1 200 OK\r\nX-M2M-RSC: 2000\r\nX-M2M-RI: r1\r\nContent-Type: application/json\r\nContent-Length: 196\r\n\r\n{\"m2m:cb\":{\"acpi\":[\"acp2\"],\"csi\":\"/id-in\",\"cst\":1,\"ct\":\"20231114T221320\",\"lt\":\"20231114T221320\",\"pi\":\"\",\"ri\":\"cb1\",\"rn\":\"cse-in\",\"srt\":[1,2,3,4,5,9,15,16,23,10001,10002,10003,10004,10009],\"ty\":5}}";
 
 /// The last reply where no frame can stand.
-const REFUSED: &str = "HTTP/1.1 400 Bad Request\r\nX-M2M-RSC: 4000\r\nContent-Length: 0\r\nConnection: close\r\n\r\n";
+const REFUSED: &str =
+    "HTTP/1.1 400 Bad Request\r\nX-M2M-RSC: 4000\r\nContent-Length: 0\r\nConnection: close\r\n\r\n";
 
 fn bench(alloc: Global) -> Result<Bench<MemClock, MemLink>, AllocError> {
     Ok(Bench {
@@ -27,7 +30,17 @@ fn bench(alloc: Global) -> Result<Bench<MemClock, MemLink>, AllocError> {
     })
 }
 
+/// A request that finds nothing, and its reply; the second one says that the connection closes.
+const NONE: &str = "GET /none HTTP/1.1\r\nX-M2M-Origin: CAdmin\r\nX-M2M-RI: r1\r\n\r\n";
+
+const NOT_FOUND: &str =
+    "HTTP/1.1 404 Not Found\r\nX-M2M-RSC: 4004\r\nX-M2M-RI: r1\r\nContent-Length: 0\r\n\r\n";
+
+const LAST_NOT_FOUND: &str =
+    "HTTP/1.1 404 Not Found\r\nX-M2M-RSC: 4004\r\nX-M2M-RI: r1\r\nContent-Length: 0\r\nConnection: close\r\n\r\n";
+
 /// What a run leaves: the status, how many bytes of the input are left, and what went to `out` and `err`.
+#[derive(Drop)]
 struct Left {
     status: Status,
     left: usize,
@@ -35,21 +48,43 @@ struct Left {
     err: String,
 }
 
-/// Runs the words over an input, an output and the calls of `err` that are to fail.
+/// Which reads of the input, puts of `out` and puts of `err` are to fail, by number from 1.
+#[derive(Drop)]
+struct Fails {
+    reads: Vec<u64>,
+    puts: Vec<u64>,
+    lines: Vec<u64>,
+}
+
+fn no_fails(alloc: Global) -> Fails {
+    Fails {
+        reads: Vec::new(alloc),
+        puts: Vec::new(alloc),
+        lines: Vec::new(alloc),
+    }
+}
+
+fn text(alloc: Global, bytes: &[u8]) -> Result<String, AllocError> {
+    bytes.iter().map(|byte| *byte as char).collect(alloc)
+}
+
+/// Runs the words over an input whose reads give at most so many bytes each.
 fn run_words<R>(
     rt: &R,
     words: &[&str],
-    input: MemSource,
-    out: MemSink,
-    fails: Vec<u64>,
+    input: Vec<u8>,
+    cuts: Vec<usize>,
+    fails: Fails,
 ) -> Result<Left, AllocError>
 where
     R: Wait + Threads + time::Clock + AllocGlobal + Clone + Drop + Sync + Send,
+    requires { All (λ cut. 0 < cut) cuts.items }
 {
     let alloc = rt.alloc();
-    let mut input = input;
-    let mut out = out;
-    let mut err = MemSink::new(Vec::new(alloc), fails);
+    let Fails { reads, puts, lines } = fails;
+    let mut input = MemSource::new(input, cuts, reads);
+    let mut out = MemSink::new(Vec::new(alloc), puts);
+    let mut err = MemSink::new(Vec::new(alloc), lines);
     let door: MemDoor<MemConn> = MemDoor::new(Vec::new(alloc), Vec::new(alloc));
     let benches = vec![in alloc; bench(alloc)?, bench(alloc)?]?;
     let mut first = bench(alloc)?;
@@ -64,26 +99,13 @@ where
     })
 }
 
-fn text(alloc: Global, bytes: &[u8]) -> Result<String, AllocError> {
-    bytes.iter().map(|byte| *byte as char).collect(alloc)
-}
-
-/// Serves this input, whose reads give at most so many bytes and fail at these calls, over a sink that fails at those.
-fn serve<R>(
-    rt: &R,
-    input: &str,
-    cuts: Vec<usize>,
-    read_fails: Vec<u64>,
-    put_fails: Vec<u64>,
-) -> Result<Left, AllocError>
-    requires { All (λ cut. 0 < cut) cuts.items }
+/// Serves an input, as `run_words` has it.
+fn serve<R>(rt: &R, input: Vec<u8>, cuts: Vec<usize>, fails: Fails) -> Result<Left, AllocError>
 where
     R: Wait + Threads + time::Clock + AllocGlobal + Clone + Drop + Sync + Send,
+    requires { All (λ cut. 0 < cut) cuts.items }
 {
-    let alloc = rt.alloc();
-    let input = MemSource::new(input.as_bytes().to_vec(alloc)?, cuts, read_fails);
-    let out = MemSink::new(Vec::new(alloc), put_fails);
-    run_words(rt, &["http"], input, out, Vec::new(alloc))
+    run_words(rt, &["http"], input, cuts, fails)
 }
 
 #[test]
@@ -91,14 +113,116 @@ fn every_other_list_of_words_is_usage(rt: HostRuntime) -> Result<(), Fail> {
     let alloc = rt.alloc();
     for words in ["", "cse", "http --", "--help", "http --id a", "gen 0"] {
         let words: Vec<&str> = words.split_whitespace().collect(alloc)?;
-        let input = MemSource::new(GET.as_bytes().to_vec(alloc)?, Vec::new(alloc), Vec::new(alloc));
-        let out = MemSink::new(Vec::new(alloc), Vec::new(alloc));
-        let told = run_words(&rt, &words, input, out, Vec::new(alloc))?;
+        let input = NONE.as_bytes().to_vec(alloc)?;
+        let told = run_words(&rt, &words, input, Vec::new(alloc), no_fails(alloc))?;
         assert_eq!(rt; told.status, Status::Usage);
-        assert_eq!(rt; told.left, GET.len());
+        assert_eq!(rt; told.left, NONE.len());
         assert_eq!(rt; told.out.as_str(), "");
-        assert_eq!(rt; told.err.as_str(), USAGE);
+        assert_eq!(rt;
+            told.err.as_str(),
+            "usage: cse http, serve, replay, twin or gen\n"
+        );
     }
+    Ok(())
+}
+
+#[test]
+fn frames_are_answered_by_the_machine(rt: HostRuntime) -> Result<(), Fail> {
+    let alloc = rt.alloc();
+    for (input, status, out, err) in [
+        (GET, Status::Done, BASE, ""),
+        ("", Status::Done, "", ""),
+        (
+            "GET /cse-in HTT",
+            Status::BadStream,
+            REFUSED,
+            "bad stream\n",
+        ),
+        (NONE, Status::Done, NOT_FOUND, ""),
+        (
+            "GET /cse-in HTTP/1.1\r\nX-M2M-Origin: Cx\r\nX-M2M-RI: r1\r\n\r\n",
+            Status::Done,
+            "HTTP/1.1 403 Forbidden\r\nX-M2M-RSC: 4103\r\nX-M2M-RI: r1\r\nContent-Length: 0\r\n\r\n",
+            "",
+        ),
+        (
+            "POST /cse-in HTTP/1.1\r\nX-M2M-Origin: CAdmin\r\nX-M2M-RI: r1\r\n\r\n",
+            Status::Done,
+            "HTTP/1.1 400 Bad Request\r\nX-M2M-RSC: 4000\r\nX-M2M-RI: r1\r\nContent-Length: 0\r\n\r\n",
+            "",
+        ),
+    ] {
+        let input = input.as_bytes().to_vec(alloc)?;
+        let told = serve(&rt, input, Vec::new(alloc), no_fails(alloc))?;
+        assert_eq!(rt; told.status, status);
+        assert_eq!(rt; told.out.as_str(), out);
+        assert_eq!(rt; told.err.as_str(), err);
+    }
+    Ok(())
+}
+
+#[test]
+fn the_reads_cut_the_stream_anywhere(rt: HostRuntime) -> Result<(), Fail> {
+    let alloc = rt.alloc();
+    // The first line of the request is 22 bytes with its end: one read stops between CR and LF.
+    for cuts in [
+        vec![in alloc; 1; 82]?,
+        vec![in alloc; 21, 1, 81]?,
+        vec![in alloc; 81]?,
+    ] {
+        let told = serve(&rt, GET.as_bytes().to_vec(alloc)?, cuts, no_fails(alloc))?;
+        assert_eq!(rt; told.status, Status::Done);
+        assert_eq!(rt; told.out.as_str(), BASE);
+    }
+    Ok(())
+}
+
+#[test]
+fn faults_leave_the_replies_so_far(rt: HostRuntime) -> Result<(), Fail> {
+    let alloc = rt.alloc();
+    let mut fails = no_fails(alloc);
+    fails.reads.push(3)?;
+    let told = serve(
+        &rt,
+        NONE.repeat(alloc, 2)?.into_bytes(),
+        vec![in alloc; 58, 10]?,
+        fails,
+    )?;
+    assert_eq!(rt; told.status, Status::ReadFault);
+    assert_eq!(rt; told.out.as_str(), NOT_FOUND);
+    assert_eq!(rt; told.err.as_str(), "read fault\n");
+    for n in 1..9usize {
+        let mut fails = no_fails(alloc);
+        fails.puts.push(n as u64)?;
+        let told = serve(
+            &rt,
+            NONE.repeat(alloc, 9)?.into_bytes(),
+            Vec::new(alloc),
+            fails,
+        )?;
+        assert_eq!(rt; told.status, Status::WriteFault);
+        assert_eq!(rt; told.out.len(), NOT_FOUND.len() * (n - 1));
+        assert_eq!(rt; told.err.as_str(), "write fault\n");
+    }
+    let mut fails = no_fails(alloc);
+    fails.lines.push(1)?;
+    let told = run_words(&rt, &[], Vec::new(alloc), Vec::new(alloc), fails)?;
+    assert_eq!(rt; told.status, Status::Usage);
+    assert_eq!(rt; told.err.as_str(), "");
+    Ok(())
+}
+
+#[test]
+fn the_frame_10000_is_the_last(rt: HostRuntime) -> Result<(), Fail> {
+    let alloc = rt.alloc();
+    let input = NONE.repeat(alloc, 10_001)?.into_bytes();
+    let told = serve(&rt, input, Vec::new(alloc), no_fails(alloc))?;
+    assert_eq!(rt; told.status, Status::Done);
+    assert_eq!(rt;
+        told.out.len(),
+        NOT_FOUND.len() * 9_999 + LAST_NOT_FOUND.len()
+    );
+    assert!(rt; told.out.as_str().ends_with(LAST_NOT_FOUND));
     Ok(())
 }
 
