@@ -7,3 +7,4 @@ pub mod PutLemmas
 pub mod TurnLemmas
 pub mod SideLemmas
 pub mod MostLemmas
+pub mod LawLemmas

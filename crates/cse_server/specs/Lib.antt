@@ -2,3 +2,4 @@ pub mod Closing
 pub mod Talk
 pub mod Connection
 pub mod Way
+pub mod Laws

@@ -10,10 +10,15 @@
 mod bench;
 mod closing;
 mod connection;
+mod laws;
 mod replying;
 mod served;
 
 pub use bench::Bench;
 pub use closing::MOST_FRAMES;
 pub use connection::{Ended, serve_connection};
+pub use laws::what_is_behind_a_closing_frame_is_not_answered;
 pub use served::Served;
+
+#[cfg(test)]
+mod tests;
