@@ -34,7 +34,7 @@ fn run_words<S: Source, O: Sink, C: Clock, L: Link>(
         → (input.new ≡ input.old) × (out.new ≡ out.old) × (first.new ≡ first.old) }
     ensures http { spec.is_http (map (λ word. word.now) words.now) ≡ true
         → RunsHttp (S.left input.old) (O.written out.old) (O.written out.new)
-            (C.readings first.old.clock) (C.readings first.new.clock) result }
+        (C.readings first.old.clock) (C.readings first.new.clock) result }
     ensures read_count { S.faults input.old ≤ S.faults input.new }
     ensures read_cause { result ≡ Status.ReadFault → Rose (S.faults input.old) (S.faults input.new) }
     ensures write_count { O.faults out.old ≤ O.faults out.new }
@@ -78,7 +78,7 @@ where
     // the replies that the machine gives the requests of `input`, one after another, as far as the status says.
     ensures http { spec.is_http (map (λ word. word.now) words.now) ≡ true
         → RunsHttp (S.left input.old) (O.written out.old) (O.written out.new)
-            (C.readings first.old.clock) (C.readings first.new.clock) result.0 }
+        (C.readings first.old.clock) (C.readings first.new.clock) result.0 }
 
     // Faults come only where the stream failed in this call.
     ensures read_count { S.faults input.old ≤ S.faults input.new }
