@@ -23,6 +23,11 @@ second_name a b c d e = sym (ap (λ (l : List ℕ). get_or l 1 0) e)
 pub after_lent : {X : Type 0} (P : X → Type 0) (a b : ℕ) (x y : X) → a ≡ b → (a ≡ b → x ≡ y) → P y → P x
 after_lent P a b x y same lent h = subst P (sym (lent same)) h
 
+-- the same of two that were lent
+pub after_both : {X Y : Type 0} (P : X → Y → Type 0) (a b c d : ℕ) (x x' : X) (y y' : Y) → a ≡ b → (a ≡ b → x ≡ x') → c ≡ d → (c ≡ d → y ≡ y') → P x' y' → P x y
+after_both P a b c d x x' y y' same lent same' lent' h =
+    after_lent (λ i. P i y) a b x x' same lent (after_lent (λ o. P x' o) c d y y' same' lent' h)
+
 -- ---- how it ended
 
 abbrev IsReading : Status → Type 0
@@ -49,11 +54,10 @@ ended_writing EndedStarved e = absurd (subst IsWriting (sym e) tt)
 
 -- ---- the same connection, by other names
 
-pub serves_same : {S : Type 0} (grown : S → List (Marked Event Outcome) → S → Type 0) (seat before after : S) (left0 left1 old0 old1 new0 new1 given told : Option (List ℕ)) (ended : Ended)
-    → seat ≡ before → left0 ≡ left1 → old0 ≡ old1 → new0 ≡ new1
-    → Serves grown seat after left0 old0 new0 given told ended → Serves grown before after left1 old1 new1 given told ended
-serves_same {S = S} grown seat before after left0 left1 old0 old1 new0 new1 given told ended b l o n h =
-    subst (λ (s : S). Serves grown s after left1 old1 new1 given told ended) b
-    (subst (λ (v : Option (List ℕ)). Serves grown seat after v old1 new1 given told ended) l
-    (subst (λ (v : Option (List ℕ)). Serves grown seat after left0 v new1 given told ended) o
-    (subst (λ (v : Option (List ℕ)). Serves grown seat after left0 old0 v given told ended) n h)))
+pub serves_same : {S : Type 0} (grown : S → List (Marked Event Outcome) → S → Type 0) (seat before after : S) (left0 left1 now old0 old1 new given told : Option (List ℕ)) (ended : Ended)
+    → seat ≡ before → left0 ≡ left1 → old0 ≡ old1
+    → Serves grown seat after left0 now old0 new given told ended → Serves grown before after left1 now old1 new given told ended
+serves_same {S = S} grown seat before after left0 left1 now old0 old1 new given told ended b l o h =
+    subst (λ (s : S). Serves grown s after left1 now old1 new given told ended) b
+    (subst (λ (v : Option (List ℕ)). Serves grown seat after v now old1 new given told ended) l
+    (subst (λ (v : Option (List ℕ)). Serves grown seat after left0 now v new given told ended) o h))

@@ -20,26 +20,27 @@ status_of EndedReading = ReadFault
 status_of EndedWriting = WriteFault
 status_of EndedStarved = Memory
 
--- Input and output were served as one connection of an entity that opened at this reading: `left` are the bytes that the
--- input had left, `old` and `new` those that were written before and are now, `given` and `told` the readings that the
--- clock had given before this connection and has given now. The requests were taken by the machine, one after another,
+-- Input and output were served as one connection of an entity that opened at this reading: `left` and `now` are the bytes
+-- that the input had left before and has left now, `old` and `new` those that were written, and `given` and `told` the
+-- readings that the clock had given. The requests were taken by the machine, one after another,
 -- and by nobody else.
-pub record ServesOpened (reading : ℕ) (left old new given told : Option (List ℕ)) (status : Status) : Type 0 where
+pub record ServesOpened (reading : ℕ) (left now old new given told : Option (List ℕ)) (status : Status) : Type 0 where
   pub after : EntityData
   pub ended : Ended
-  pub serves : Serves (IsOwnRun Step) (opening default_home reading) after left old new given told ended
+  pub serves : Serves (IsOwnRun Step) (opening default_home reading) after left now old new given told ended
   pub status_is : status ≡ status_of ended
 
--- Memory ran out before the entity opened: nothing was written.
-pub record RanOut (old new given told : Option (List ℕ)) (status : Status) : Type 0 where
+-- Memory ran out before the entity opened: nothing was read or written.
+pub record RanOut (left now old new given told : Option (List ℕ)) (status : Status) : Type 0 where
   pub status_is : status ≡ Memory
+  pub read : now ≡ left
   pub written : new ≡ old
   pub readings : told ≡ given
 
 -- The command `http`: an entity opens at the first reading that the clock gives, and serves input and output as one
 -- connection.
-pub record RunsHttp (left old new given told : Option (List ℕ)) (status : Status) : Type 0 where
+pub record RunsHttp (left now old new given told : Option (List ℕ)) (status : Status) : Type 0 where
   pub reading : ℕ
   pub opened : Option (List ℕ)
   pub clock : Tells (λ given. given ++ reading ∷ []) given opened
-  pub run : ServesOpened reading left old new opened told status ⊎ RanOut old new opened told status
+  pub run : ServesOpened reading left now old new opened told status ⊎ RanOut left now old new opened told status

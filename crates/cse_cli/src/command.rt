@@ -33,7 +33,7 @@ fn run_words<S: Source, O: Sink, C: Clock, L: Link>(
     ensures still { spec.is_http (map (λ word. word.now) words.now) ≡ false
         → (input.new ≡ input.old) × (out.new ≡ out.old) × (first.new ≡ first.old) }
     ensures http { spec.is_http (map (λ word. word.now) words.now) ≡ true
-        → RunsHttp (S.left input.old) (O.written out.old) (O.written out.new)
+        → RunsHttp (S.left input.old) (S.left input.new) (O.written out.old) (O.written out.new)
         (C.readings first.old.clock) (C.readings first.new.clock) result }
     ensures read_count { S.faults input.old ≤ S.faults input.new }
     ensures read_cause { result ≡ Status.ReadFault → Rose (S.faults input.old) (S.faults input.new) }
@@ -77,7 +77,7 @@ where
     // At `http` an entity opens at the first reading that the clock of `first` gives in this call. Then `out` gets exactly
     // the replies that the machine gives the requests of `input`, one after another, as far as the status says.
     ensures http { spec.is_http (map (λ word. word.now) words.now) ≡ true
-        → RunsHttp (S.left input.old) (O.written out.old) (O.written out.new)
+        → RunsHttp (S.left input.old) (S.left input.new) (O.written out.old) (O.written out.new)
         (C.readings first.old.clock) (C.readings first.new.clock) result.0 }
 
     // Faults come only where the stream failed in this call.

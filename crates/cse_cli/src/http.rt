@@ -41,7 +41,7 @@ pub(crate) fn serve_streams<S: Source, O: Sink, C: Clock, L: Link>(
     out: &mut O,
     bench: &mut Bench<C, L>,
 ) -> Status
-    ensures runs { RunsHttp (S.left input.old) (O.written out.old) (O.written out.new)
+    ensures runs { RunsHttp (S.left input.old) (S.left input.new) (O.written out.old) (O.written out.new)
         (C.readings bench.old.clock) (C.readings bench.new.clock) result }
     ensures read_count { S.faults input.old ≤ S.faults input.new }
     ensures read_cause { result ≡ Status.ReadFault → Rose (S.faults input.old) (S.faults input.new) }

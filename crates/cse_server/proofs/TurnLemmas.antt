@@ -21,7 +21,7 @@ use Rattle.cse_server.specs.Closing.{closes}
 use Rattle.cse_server.specs.Talk.{replies, talk, some_closes, ends_at_close}
 use Rattle.cse_server.specs.Connection.{IsThese, RefusesRightly, EndsRightly, Says, ServesFrom}
 use Rattle.cse_server.specs.Way.{Leads, Goes, Hears, Refuses, SaysTurn, Turns, end_of_put}
-use Rattle.cse_server.proofs.NextLemmas.{ended_empty, refused_rightly, replies-one, some_closes-one}
+use Rattle.cse_server.proofs.NextLemmas.{kept_leads, ended_empty, refused_rightly, replies-one, some_closes-one}
 use Rattle.cse_server.proofs.PutLemmas.{prefix_none}
 use Rattle.cse_server.proofs.WayLemmas.{Tells-nil}
 
@@ -51,33 +51,33 @@ turn_says place frame ReadFault old new text said = absurd said
 turn_says place frame WriteFault old new text said = subst (λ (v : List ℕ). AppendsPrefix old new v) (sym (append-nil text)) said
 turn_says place frame Memory old new text said = subst (λ (v : List ℕ). AppendsPrefix old new v) (sym (append-nil text)) said
 
-turn_ends : (place : ℕ) (frame : Frame) (ended : Ended) (heard : List Frame) (old new : Option (List ℕ)) (text rest : List ℕ) → heard ≡ frame ∷ [] → SaysTurn place frame (Some ended) old new text → EndsRightly place ended false heard rest
-turn_ends place frame Closed heard old new text rest same said =
+turn_ends : (place : ℕ) (frame : Frame) (ended : Ended) (heard : List Frame) (old new : Option (List ℕ)) (text rest : List ℕ) (src : Option (List ℕ)) → heard ≡ frame ∷ [] → SaysTurn place frame (Some ended) old new text → EndsRightly place ended false heard rest src
+turn_ends place frame Closed heard old new text rest src same said =
     (refl, λ stays. absurd (true≢false (sym (some_closes-one frame place true said.0) ∙ ap (λ (fs : List Frame). some_closes fs place) (sym same) ∙ stays)))
-turn_ends place frame NoFrame heard old new text rest same said = absurd said
-turn_ends place frame ReadFault heard old new text rest same said = absurd said
-turn_ends place frame WriteFault heard old new text rest same said = tt
-turn_ends place frame Memory heard old new text rest same said = tt
+turn_ends place frame NoFrame heard old new text rest src same said = absurd said
+turn_ends place frame ReadFault heard old new text rest src same said = absurd said
+turn_ends place frame WriteFault heard old new text rest src same said = tt
+turn_ends place frame Memory heard old new text rest src same said = tt
 
-turn_stream : (left rest : Option (List ℕ)) (place : ℕ) (frame : Frame) (ended : Ended) (heard : List Frame) (old new : Option (List ℕ)) (text : List ℕ) → heard ≡ frame ∷ [] → Leads left (frame ∷ []) rest → SaysTurn place frame (Some ended) old new text
-    → IfSome left (λ bytes. (after : List ℕ) × IsThese bytes heard after × RefusesRightly place false heard after × EndsRightly place ended false heard after)
-turn_stream None rest place frame ended heard old new text same leads said = tt
-turn_stream (Some bytes) None place frame ended heard old new text same leads said = absurd leads
-turn_stream (Some bytes) (Some after) place frame ended heard old new text same leads said = (
+turn_stream : (left rest src : Option (List ℕ)) (place : ℕ) (frame : Frame) (ended : Ended) (heard : List Frame) (old new : Option (List ℕ)) (text : List ℕ) → heard ≡ frame ∷ [] → Leads left (frame ∷ []) rest → SaysTurn place frame (Some ended) old new text
+    → IfSome left (λ bytes. (after : List ℕ) × IsThese bytes heard after × RefusesRightly place false heard after × EndsRightly place ended false heard after src)
+turn_stream None rest src place frame ended heard old new text same leads said = tt
+turn_stream (Some bytes) None src place frame ended heard old new text same leads said = absurd leads
+turn_stream (Some bytes) (Some after) src place frame ended heard old new text same leads said = (
   after,
   subst (λ (fs : List Frame). IsThese bytes fs after) (sym same) leads,
   (λ t. absurd (false≢true t)),
-  turn_ends place frame ended heard old new text after same said,
+  turn_ends place frame ended heard old new text after src same said,
 )
 
-starved_stream : (left : Option (List ℕ)) (place : ℕ) (ended : Ended) (heard : List Frame) → heard ≡ [] → ended ≡ Memory
-    → IfSome left (λ bytes. (after : List ℕ) × IsThese bytes heard after × RefusesRightly place false heard after × EndsRightly place ended false heard after)
-starved_stream None place ended heard same memory = tt
-starved_stream (Some bytes) place ended heard same memory = (
+starved_stream : (left src : Option (List ℕ)) (place : ℕ) (ended : Ended) (heard : List Frame) → heard ≡ [] → ended ≡ Memory
+    → IfSome left (λ bytes. (after : List ℕ) × IsThese bytes heard after × RefusesRightly place false heard after × EndsRightly place ended false heard after src)
+starved_stream None src place ended heard same memory = tt
+starved_stream (Some bytes) src place ended heard same memory = (
   bytes,
   subst (λ (fs : List Frame). IsThese bytes fs bytes) (sym same) refl,
   (λ t. absurd (false≢true t)),
-  subst (λ (e : Ended). EndsRightly place e false heard bytes) (sym memory) tt,
+  subst (λ (e : Ended). EndsRightly place e false heard bytes src) (sym memory) tt,
 )
 
 module _ {S : Type 0} (grown : S → List (Marked Event Outcome) → S → Type 0) where
@@ -126,11 +126,11 @@ module _ {S : Type 0} (grown : S → List (Marked Event Outcome) → S → Type 
     }
 
     -- nothing was heard, and the connection ended so
-    pub serves_none : (place : ℕ) (seat : S) (left old new given : Option (List ℕ)) (refused : Bool) (ended : Ended)
-        → IfSome left (λ bytes. RefusesRightly place refused [] bytes × EndsRightly place ended refused [] bytes)
+    pub serves_none : (place : ℕ) (seat : S) (left src old new given : Option (List ℕ)) (refused : Bool) (ended : Ended)
+        → IfSome left (λ bytes. RefusesRightly place refused [] bytes × EndsRightly place ended refused [] bytes src)
         → Says ended old new (talk place [] refused [])
-        → ServesFrom place grown seat seat left old new given given ended
-    serves_none place seat left old new given refused ended stream said = record {
+        → ServesFrom place grown seat seat left src old new given given ended
+    serves_none place seat left src old new given refused ended stream said = record {
       heard = [];
       refused = refused;
       readings = [];
@@ -142,61 +142,65 @@ module _ {S : Type 0} (grown : S → List (Marked Event Outcome) → S → Type 
       said = said;
     }
       where
-        here : (left : Option (List ℕ)) → IfSome left (λ bytes. RefusesRightly place refused [] bytes × EndsRightly place ended refused [] bytes)
-            → IfSome left (λ bytes. (rest : List ℕ) × IsThese bytes [] rest × RefusesRightly place refused [] rest × EndsRightly place ended refused [] rest)
+        here : (left : Option (List ℕ)) → IfSome left (λ bytes. RefusesRightly place refused [] bytes × EndsRightly place ended refused [] bytes src)
+            → IfSome left (λ bytes. (rest : List ℕ) × IsThese bytes [] rest × RefusesRightly place refused [] rest × EndsRightly place ended refused [] rest src)
         here None h = tt
         here (Some bytes) h = (bytes, refl, h.0, h.1)
 
     -- the stream ended behind a frame
     pub serves_end : (place : ℕ) (seat : S) (left rest : Option (List ℕ)) (held now : List ℕ) (old given : Option (List ℕ))
         → Reads left rest held now → now ≡ [] → IsAtEnd rest
-        → ServesFrom place grown seat seat (stream_of held left) old old given given Closed
+        → ServesFrom place grown seat seat (stream_of held left) rest old old given given Closed
     serves_end place seat left rest held now old given reads none end =
-        serves_none place seat (stream_of held left) old old given false Closed
+        serves_none place seat (stream_of held left) rest old old given false Closed
         (with_all (stream_of held left) (ended_empty left rest held now reads none end)) (appends_nothing old)
       where
-        with_all : (left : Option (List ℕ)) → IfSome left (λ bytes. bytes ≡ []) → IfSome left (λ bytes. RefusesRightly place false [] bytes × EndsRightly place Closed false [] bytes)
+        with_all : (left : Option (List ℕ)) → IfSome left (λ bytes. bytes ≡ []) → IfSome left (λ bytes. RefusesRightly place false [] bytes × EndsRightly place Closed false [] bytes rest)
         with_all None h = tt
         with_all (Some bytes) h = ((λ t. absurd (false≢true t)), (refl, λ stays. h))
 
     -- reading failed
-    pub serves_fault : (place : ℕ) (seat : S) (left old given : Option (List ℕ)) → ServesFrom place grown seat seat left old old given given ReadFault
-    serves_fault place seat left old given = serves_none place seat left old old given false ReadFault (all left) (appends_nothing old)
+    pub serves_fault : (place : ℕ) (seat : S) (left rest : Option (List ℕ)) (held now : List ℕ) (old given : Option (List ℕ))
+        → Reads left rest held now → HasNoFrame Request now
+        → ServesFrom place grown seat seat (stream_of held left) rest old old given given ReadFault
+    serves_fault place seat left rest held now old given reads none =
+        serves_none place seat (stream_of held left) rest old old given false ReadFault (all left rest reads) (appends_nothing old)
       where
-        all : (left : Option (List ℕ)) → IfSome left (λ bytes. RefusesRightly place false [] bytes × EndsRightly place ReadFault false [] bytes)
-        all None = tt
-        all (Some bytes) = ((λ t. absurd (false≢true t)), (refl, refl))
+        all : (left rest : Option (List ℕ)) → Reads left rest held now → IfSome (stream_of held left) (λ bytes. RefusesRightly place false [] bytes × EndsRightly place ReadFault false [] bytes rest)
+        all None rest r = tt
+        all (Some l) None r = absurd r.consumed
+        all (Some l) (Some m) r = ((λ t. absurd (false≢true t)), (refl, refl, (now, kept_leads (Some l) (Some m) held now r, none)))
 
     -- memory ran out
-    pub serves_starved : (place : ℕ) (seat : S) (left old given : Option (List ℕ)) → ServesFrom place grown seat seat left old old given given Memory
-    serves_starved place seat left old given = serves_none place seat left old old given false Memory (all left) (prefix_none old [])
+    pub serves_starved : (place : ℕ) (seat : S) (left src old given : Option (List ℕ)) → ServesFrom place grown seat seat left src old old given given Memory
+    serves_starved place seat left src old given = serves_none place seat left src old old given false Memory (all left) (prefix_none old [])
       where
-        all : (left : Option (List ℕ)) → IfSome left (λ bytes. RefusesRightly place false [] bytes × EndsRightly place Memory false [] bytes)
+        all : (left : Option (List ℕ)) → IfSome left (λ bytes. RefusesRightly place false [] bytes × EndsRightly place Memory false [] bytes src)
         all None = tt
         all (Some bytes) = ((λ t. absurd (false≢true t)), tt)
 
     -- no frame can stand
-    pub serves_refused : (place : ℕ) (seat : S) (left rest : Option (List ℕ)) (held now : List ℕ) (old new given : Option (List ℕ)) (ended : Ended)
+    pub serves_refused : (place : ℕ) (seat : S) (left rest src : Option (List ℕ)) (held now : List ℕ) (old new given : Option (List ℕ)) (ended : Ended)
         → Reads left rest held now → HoldsNoFrame Request now rest → Refuses old new ended
-        → ServesFrom place grown seat seat (stream_of held left) old new given given ended
-    serves_refused place seat left rest held now old new given Closed reads holds put = absurd put
-    serves_refused place seat left rest held now old new given NoFrame reads holds put =
-        serves_none place seat (stream_of held left) old new given true NoFrame (all (stream_of held left) (refused_rightly left rest held now reads holds)) put
+        → ServesFrom place grown seat seat (stream_of held left) src old new given given ended
+    serves_refused place seat left rest src held now old new given Closed reads holds put = absurd put
+    serves_refused place seat left rest src held now old new given NoFrame reads holds put =
+        serves_none place seat (stream_of held left) src old new given true NoFrame (all (stream_of held left) (refused_rightly left rest held now reads holds)) put
       where
-        all : (left : Option (List ℕ)) → IfSome left (λ bytes. (bytes ≢ []) × HasNoFrame Request bytes) → IfSome left (λ bytes. RefusesRightly place true [] bytes × EndsRightly place NoFrame true [] bytes)
+        all : (left : Option (List ℕ)) → IfSome left (λ bytes. (bytes ≢ []) × HasNoFrame Request bytes) → IfSome left (λ bytes. RefusesRightly place true [] bytes × EndsRightly place NoFrame true [] bytes src)
         all None h = tt
         all (Some bytes) h = ((λ t. (refl, h.0, h.1)), refl)
-    serves_refused place seat left rest held now old new given ReadFault reads holds put = absurd put
-    serves_refused place seat left rest held now old new given WriteFault reads holds put =
-        serves_none place seat (stream_of held left) old new given true WriteFault (all (stream_of held left) (refused_rightly left rest held now reads holds)) put
+    serves_refused place seat left rest src held now old new given ReadFault reads holds put = absurd put
+    serves_refused place seat left rest src held now old new given WriteFault reads holds put =
+        serves_none place seat (stream_of held left) src old new given true WriteFault (all (stream_of held left) (refused_rightly left rest held now reads holds)) put
       where
-        all : (left : Option (List ℕ)) → IfSome left (λ bytes. (bytes ≢ []) × HasNoFrame Request bytes) → IfSome left (λ bytes. RefusesRightly place true [] bytes × EndsRightly place WriteFault true [] bytes)
+        all : (left : Option (List ℕ)) → IfSome left (λ bytes. (bytes ≢ []) × HasNoFrame Request bytes) → IfSome left (λ bytes. RefusesRightly place true [] bytes × EndsRightly place WriteFault true [] bytes src)
         all None h = tt
         all (Some bytes) h = ((λ t. (refl, h.0, h.1)), tt)
-    serves_refused place seat left rest held now old new given Memory reads holds put =
-        serves_none place seat (stream_of held left) old new given true Memory (all (stream_of held left) (refused_rightly left rest held now reads holds)) put
+    serves_refused place seat left rest src held now old new given Memory reads holds put =
+        serves_none place seat (stream_of held left) src old new given true Memory (all (stream_of held left) (refused_rightly left rest held now reads holds)) put
       where
-        all : (left : Option (List ℕ)) → IfSome left (λ bytes. (bytes ≢ []) × HasNoFrame Request bytes) → IfSome left (λ bytes. RefusesRightly place true [] bytes × EndsRightly place Memory true [] bytes)
+        all : (left : Option (List ℕ)) → IfSome left (λ bytes. (bytes ≢ []) × HasNoFrame Request bytes) → IfSome left (λ bytes. RefusesRightly place true [] bytes × EndsRightly place Memory true [] bytes src)
         all None h = tt
         all (Some bytes) h = ((λ t. (refl, h.0, h.1)), tt)
 
@@ -220,10 +224,10 @@ module _ {S : Type 0} (grown : S → List (Marked Event Outcome) → S → Type 
       e = elim t.either [ inl same ↦ same | inr starved ↦ absurd (none_some starved.1) ]
 
   -- the frame was answered, and the connection ended
-  pub serves_turn : (place : ℕ) (before after : S) (left rest : Option (List ℕ)) (old new given told : Option (List ℕ)) (frame : Frame) (ended : Ended)
+  pub serves_turn : (place : ℕ) (before after : S) (left rest src : Option (List ℕ)) (old new given told : Option (List ℕ)) (frame : Frame) (ended : Ended)
       → Leads left (frame ∷ []) rest → Turns place grown before after old new given told frame (Some ended)
-      → ServesFrom place grown before after left old new given told ended
-  serves_turn place before after left rest old new given told frame ended leads t = elim t.either [
+      → ServesFrom place grown before after left src old new given told ended
+  serves_turn place before after left rest src old new given told frame ended leads t = elim t.either [
     | inl same ↦ record {
       heard = t.heard;
       refused = false;
@@ -232,7 +236,7 @@ module _ {S : Type 0} (grown : S → List (Marked Event Outcome) → S → Type 
       asked = t.asked;
       clock = t.clock;
       up_to = subst (λ (fs : List Frame). IsTrue (ends_at_close fs place)) (sym same) refl;
-      stream = turn_stream left rest place frame ended t.heard old new (replies t.heard place t.outcomes) same leads t.said;
+      stream = turn_stream left rest src place frame ended t.heard old new (replies t.heard place t.outcomes) same leads t.said;
       said = turn_says place frame ended old new (replies t.heard place t.outcomes) t.said;
     }
     | inr starved ↦ record {
@@ -243,19 +247,19 @@ module _ {S : Type 0} (grown : S → List (Marked Event Outcome) → S → Type 
       asked = t.asked;
       clock = t.clock;
       up_to = subst (λ (fs : List Frame). IsTrue (ends_at_close fs place)) (sym starved.0) refl;
-      stream = starved_stream left place ended t.heard starved.0 (some_same ended starved.1);
+      stream = starved_stream left src place ended t.heard starved.0 (some_same ended starved.1);
       said = turn_says place frame ended old new (replies t.heard place t.outcomes) t.said;
     }
   ]
 
   -- a frame stood next, and was answered
-  pub message_next : (place : ℕ) (before after : S) (left rest : Option (List ℕ)) (old new given told : Option (List ℕ)) (frame : Frame) (r : Option Ended) (P : Type 0) → P
+  pub message_next : (place : ℕ) (before after : S) (left rest src : Option (List ℕ)) (old new given told : Option (List ℕ)) (frame : Frame) (r : Option Ended) (P : Type 0) → P
       → Leads left (frame ∷ []) rest → Turns place grown before after old new given told frame r
-      → MatchOption r (P × Goes place (place + 1) grown before after left rest old new given told) (ServesFrom place grown before after left old new given told)
-  message_next place before after left rest old new given told frame None P p leads t =
+      → MatchOption r (P × Goes place (place + 1) grown before after left rest old new given told) (ServesFrom place grown before after left src old new given told)
+  message_next place before after left rest src old new given told frame None P p leads t =
       (p, goes_on place before after left rest old new given told frame leads t)
-  message_next place before after left rest old new given told frame (Some ended) P p leads t =
-      serves_turn place before after left rest old new given told frame ended leads t
+  message_next place before after left rest src old new given told frame (Some ended) P p leads t =
+      serves_turn place before after left rest src old new given told frame ended leads t
 
   module _ (nothing : (seat : S) → grown seat [] seat) where
     -- no frame stood yet

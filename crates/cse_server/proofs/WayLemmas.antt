@@ -49,28 +49,28 @@ Refuses-then : (place between : ℕ) (refused : Bool) (xs ys : List Frame) (rest
 Refuses-then place between refused xs ys rest stays places h = λ t.
     (some_closes-append xs ys place stays ∙ ap (some_closes ys) places ∙ (h t).0, (h t).1, (h t).2)
 
-Ends-then : (place between : ℕ) (ended : Ended) (refused : Bool) (xs ys : List Frame) (rest : List ℕ) → some_closes xs place ≡ false → place + length xs ≡ between → EndsRightly between ended refused ys rest → EndsRightly place ended refused (xs ++ ys) rest
-Ends-then place between Closed refused xs ys rest stays places h =
+Ends-then : (place between : ℕ) (ended : Ended) (refused : Bool) (xs ys : List Frame) (rest : List ℕ) (now : Option (List ℕ)) → some_closes xs place ≡ false → place + length xs ≡ between → EndsRightly between ended refused ys rest now → EndsRightly place ended refused (xs ++ ys) rest now
+Ends-then place between Closed refused xs ys rest now stays places h =
     (h.0, λ none. h.1 (sym (ap (some_closes ys) places) ∙ sym (some_closes-append xs ys place stays) ∙ none))
-Ends-then place between NoFrame refused xs ys rest stays places h = h
-Ends-then place between ReadFault refused xs ys rest stays places h =
-    (h.0, some_closes-append xs ys place stays ∙ ap (some_closes ys) places ∙ h.1)
-Ends-then place between WriteFault refused xs ys rest stays places h = tt
-Ends-then place between Memory refused xs ys rest stays places h = tt
+Ends-then place between NoFrame refused xs ys rest now stays places h = h
+Ends-then place between ReadFault refused xs ys rest now stays places h =
+    (h.0, some_closes-append xs ys place stays ∙ ap (some_closes ys) places ∙ h.1, h.2)
+Ends-then place between WriteFault refused xs ys rest now stays places h = tt
+Ends-then place between Memory refused xs ys rest now stays places h = tt
 
 -- what the stream says of an end
-abbrev EndsOn : ℕ → Ended → Bool → List Frame → List ℕ → Type 0
-EndsOn place ended refused heard bytes =
-    (rest : List ℕ) × IsThese bytes heard rest × RefusesRightly place refused heard rest × EndsRightly place ended refused heard rest
+abbrev EndsOn : ℕ → Ended → Bool → List Frame → Option (List ℕ) → List ℕ → Type 0
+EndsOn place ended refused heard now bytes =
+    (rest : List ℕ) × IsThese bytes heard rest × RefusesRightly place refused heard rest × EndsRightly place ended refused heard rest now
 
-stream_then : (place between : ℕ) (xs ys : List Frame) (refused : Bool) (ended : Ended) (left mid : Option (List ℕ)) → some_closes xs place ≡ false → place + length xs ≡ between → Leads left xs mid → IfSome mid (EndsOn between ended refused ys) → IfSome left (EndsOn place ended refused (xs ++ ys))
-stream_then place between xs ys refused ended None mid stays places first then = tt
-stream_then place between xs ys refused ended (Some a) None stays places first then = absurd first
-stream_then place between xs ys refused ended (Some a) (Some b) stays places first then = (
+stream_then : (place between : ℕ) (xs ys : List Frame) (refused : Bool) (ended : Ended) (left mid now : Option (List ℕ)) → some_closes xs place ≡ false → place + length xs ≡ between → Leads left xs mid → IfSome mid (EndsOn between ended refused ys now) → IfSome left (EndsOn place ended refused (xs ++ ys) now)
+stream_then place between xs ys refused ended None mid now stays places first then = tt
+stream_then place between xs ys refused ended (Some a) None now stays places first then = absurd first
+stream_then place between xs ys refused ended (Some a) (Some b) now stays places first then = (
   then.0,
   IsThese-append xs ys a b then.0 first then.1,
   Refuses-then place between refused xs ys then.0 stays places then.2,
-  Ends-then place between ended refused xs ys then.0 stays places then.3,
+  Ends-then place between ended refused xs ys then.0 now stays places then.3,
 )
 
 Says-then : (ended : Ended) (old put new : Option (List ℕ)) (text more : List ℕ) → Appends old put text → Says ended put new more → Says ended old new (text ++ more)
@@ -115,11 +115,11 @@ module _ {S : Type 0} (grown : S → List (Marked Event Outcome) → S → Type 
         (Appends-trans old put new _ _ a.said b.said);
   }
 
-  pub Serves-then : (place between : ℕ) (before seat after : S) (left mid : Option (List ℕ)) (old put new : Option (List ℕ)) (given told then : Option (List ℕ)) (ended : Ended)
+  pub Serves-then : (place between : ℕ) (before seat after : S) (left mid now : Option (List ℕ)) (old put new : Option (List ℕ)) (given told then : Option (List ℕ)) (ended : Ended)
       → Goes place between grown before seat left mid old put given told
-      → ServesFrom between grown seat after mid put new told then ended
-      → ServesFrom place grown before after left old new given then ended
-  Serves-then place between before seat after left mid old put new given told then ended a b = record {
+      → ServesFrom between grown seat after mid now put new told then ended
+      → ServesFrom place grown before after left now old new given then ended
+  Serves-then place between before seat after left mid now old put new given told then ended a b = record {
     heard = a.heard ++ b.heard;
     refused = b.refused;
     readings = a.readings ++ b.readings;
@@ -127,7 +127,7 @@ module _ {S : Type 0} (grown : S → List (Marked Event Outcome) → S → Type 
     asked = asked-append before seat after a.readings b.readings a.heard b.heard a.outcomes b.outcomes a.asked b.asked;
     clock = Tells-append a.readings b.readings given told then a.clock b.clock;
     up_to = ends_at_close-append a.heard b.heard place a.stays_on (rw a.places b.up_to);
-    stream = stream_then place between a.heard b.heard b.refused ended left mid a.stays_on a.places a.stream b.stream;
+    stream = stream_then place between a.heard b.heard b.refused ended left mid now a.stays_on a.places a.stream b.stream;
     said = rw (talk-append a.heard b.heard place b.refused a.outcomes b.outcomes a.stays_on (outcomes_fit before seat a.readings a.heard a.outcomes a.asked), a.places)
         (Says-then ended old put new (replies a.heard place a.outcomes) (talk between b.heard b.refused b.outcomes) a.said b.said);
   }

@@ -30,14 +30,21 @@ abbrev pub RefusesRightly : ℕ → Bool → List Frame → List ℕ → Type 0
 RefusesRightly place refused heard rest =
     refused ≡ true → (some_closes heard place ≡ false) × (rest ≢ []) × HasNoFrame Request rest
 
--- When a connection ends so, the frames that were heard and what is left behind them being these: it is closed where a
--- frame closed it, or nothing is left.
-abbrev pub EndsRightly : ℕ → Ended → Bool → List Frame → List ℕ → Type 0
-EndsRightly place Closed refused heard rest = (refused ≡ false) × (some_closes heard place ≡ false → rest ≡ [])
-EndsRightly place NoFrame refused heard rest = refused ≡ true
-EndsRightly place ReadFault refused heard rest = (refused ≡ false) × (some_closes heard place ≡ false)
-EndsRightly place WriteFault refused heard rest = ⊤
-EndsRightly place Memory refused heard rest = ⊤
+-- Of the rest some bytes were read, before those that are left now; no frame stands at their front.
+abbrev pub HoldsBack : List ℕ → Option (List ℕ) → Type 0
+HoldsBack rest now = IfSome now (λ left. (held : List ℕ) × (rest ≡ held ++ left) × HasNoFrame Request held)
+
+-- When a connection ends so, the frames that were heard, what is left behind them and what the source has left now
+-- being these: it is closed where a frame closed it, or nothing is left; and at a fault of reading all frames that were
+-- read are among those that were heard.
+abbrev pub EndsRightly : ℕ → Ended → Bool → List Frame → List ℕ → Option (List ℕ) → Type 0
+EndsRightly place Closed refused heard rest now =
+    (refused ≡ false) × (some_closes heard place ≡ false → rest ≡ [])
+EndsRightly place NoFrame refused heard rest now = refused ≡ true
+EndsRightly place ReadFault refused heard rest now =
+    (refused ≡ false) × (some_closes heard place ≡ false) × HoldsBack rest now
+EndsRightly place WriteFault refused heard rest now = ⊤
+EndsRightly place Memory refused heard rest now = ⊤
 
 -- The bytes that are written where it ends so: all of its talk, or a prefix of it.
 abbrev pub Says : Ended → Option (List ℕ) → Option (List ℕ) → List ℕ → Type 0
@@ -48,9 +55,10 @@ Says WriteFault old new text = AppendsPrefix old new text
 Says Memory old new text = AppendsPrefix old new text
 
 -- A connection was served at a seat, from the frame at this place on. Of the bytes that it had left, `heard` are the
--- requests that were read; `given` and `told` are the readings that the clock had given before and has given now.
+-- requests that were read, and `now` are those that it has left now; `given` and `told` are the readings that the clock
+-- had given before and has given now.
 pub record ServesFrom {S : Type 0} (place : ℕ) (grown : S → List (Marked Event Outcome) → S → Type 0) (before after : S)
-    (left : Option (List ℕ)) (old new : Option (List ℕ)) (given told : Option (List ℕ)) (ended : Ended) : Type 0 where
+    (left now : Option (List ℕ)) (old new : Option (List ℕ)) (given told : Option (List ℕ)) (ended : Ended) : Type 0 where
   pub heard : List Frame
   pub refused : Bool
   pub readings : List ℕ
@@ -61,12 +69,12 @@ pub record ServesFrom {S : Type 0} (place : ℕ) (grown : S → List (Marked Eve
   -- they are the requests of the stream up to the first that closes, and it ended as they and the rest say
   pub up_to : IsTrue (ends_at_close heard place)
   pub stream : IfSome left (λ bytes. (rest : List ℕ) × IsThese bytes heard rest
-      × RefusesRightly place refused heard rest × EndsRightly place ended refused heard rest)
+      × RefusesRightly place refused heard rest × EndsRightly place ended refused heard rest now)
   -- their talk by these outcomes is written
   pub said : Says ended old new (talk place heard refused outcomes)
 
 -- A connection was served at a seat, from its first frame on.
 abbrev pub Serves : {S : Type 0} → (S → List (Marked Event Outcome) → S → Type 0) → S → S
-    → Option (List ℕ) → Option (List ℕ) → Option (List ℕ) → Option (List ℕ) → Option (List ℕ) → Ended → Type 0
-Serves grown before after left old new given told ended =
-    ServesFrom 1 grown before after left old new given told ended
+    → Option (List ℕ) → Option (List ℕ) → Option (List ℕ) → Option (List ℕ) → Option (List ℕ) → Option (List ℕ) → Ended → Type 0
+Serves grown before after left now old new given told ended =
+    ServesFrom 1 grown before after left now old new given told ended

@@ -157,7 +157,7 @@ where
         ((inbox.new.refused ≡ false) × Goes place (place + 1) D.grown seat.old seat.new
         (stream_of inbox.old.held (X.left conn.old)) (stream_of inbox.new.held (X.left conn.new))
         (X.written conn.old) (X.written conn.new) (C.readings clock.old) (C.readings clock.new))
-        (ServesFrom place D.grown seat.old seat.new (stream_of inbox.old.held (X.left conn.old))
+        (ServesFrom place D.grown seat.old seat.new (stream_of inbox.old.held (X.left conn.old)) (X.left conn.new)
         (X.written conn.old) (X.written conn.new) (C.readings clock.old) (C.readings clock.new)) }
     ensures read_count { X.Source.faults conn.old ≤ X.Source.faults conn.new }
     ensures read_cause { result ≡ Some Ended.ReadFault
@@ -202,7 +202,7 @@ where
     requires sides { KeepsSides X.left X.Source.faults X.kept_by_read X.written X.Sink.faults X.kept_by_put }
     ensures seats { D.seats desk.now seat.new }
     ensures serves { Serves D.grown seat.old seat.new
-        (X.left conn.old) (X.written conn.old) (X.written conn.new)
+        (X.left conn.old) (X.left conn.new) (X.written conn.old) (X.written conn.new)
         (C.readings clock.old) (C.readings clock.new) result }
 
     // Faults come only where the connection failed in this call.

@@ -3,7 +3,7 @@ use Rattle.m2m_io.specs.Counts.{Rose}
 use Rattle.turn_desk.specs.Growth.{IsOwnRun}
 use Rattle.cse_machine.specs.Step.{Step}
 use Rattle.cse_cli.specs.Run.{RunsHttp, status_of}
-use Rattle.cse_cli.proofs.HttpLemmas.{first_name, second_name, after_lent, ended_reading, ended_writing, serves_same}
+use Rattle.cse_cli.proofs.HttpLemmas.{first_name, second_name, after_lent, after_both, ended_reading, ended_writing, serves_same}
 use Rattle.cse_cli.proofs.http.serve_streams.Goals as goal
 
 pub returns-in_default-clause-runs : goal.returns-in_default-clause-runs
@@ -11,14 +11,16 @@ returns-in_default-clause-runs g c = record {
   reading = c.now-reading.result;
   opened = g.C.Clock.readings c.now-reading.new.self;
   clock = c.now-reading.ensures;
-  run = inr (record { status_is = refl; written = refl; readings = refl });
+  run = inr (record { status_is = refl; read = refl; written = refl; readings = refl });
 }
 
 pub returns-clause-runs : goal.returns-clause-runs
 returns-clause-runs g c =
-    let names = second_name _ _ _ _ c.serve_connection-ended.ensures.holds in
-    after_lent (λ o. RunsHttp (g.S.Source.left c.args.input.now) (g.O.Sink.written c.args.out.now) (g.O.Sink.written o) (g.C.Clock.readings c.args.bench.now.clock) (g.C.Clock.readings c.serve_connection-ended.new.clock) c.status_of.result)
-    c.new-wire.result.out.ghost_name c.serve_connection-ended.new.conn.out.ghost_name _ c.serve_connection-ended.new.conn.out.now names (search rules)
+    let read_name = first_name _ _ _ _ c.serve_connection-ended.ensures.holds in
+    let put_name = second_name _ _ _ _ c.serve_connection-ended.ensures.holds in
+    after_both (λ i o. RunsHttp (g.S.Source.left c.args.input.now) (g.S.Source.left i) (g.O.Sink.written c.args.out.now) (g.O.Sink.written o) (g.C.Clock.readings c.args.bench.now.clock) (g.C.Clock.readings c.serve_connection-ended.new.clock) c.status_of.result)
+    c.new-wire.result.input.ghost_name c.serve_connection-ended.new.conn.input.ghost_name c.new-wire.result.out.ghost_name c.serve_connection-ended.new.conn.out.ghost_name
+    _ c.serve_connection-ended.new.conn.input.now _ c.serve_connection-ended.new.conn.out.now read_name (search rules) put_name (search rules)
     (record {
       reading = c.now-reading.result;
       opened = g.C.Clock.readings c.now-reading.new.self;
@@ -27,7 +29,7 @@ returns-clause-runs g c =
         after = c.serve_connection-ended.new.seat;
         ended = c.serve_connection-ended.result;
         serves = serves_same (IsOwnRun Step) c.new-seat.result _ c.serve_connection-ended.new.seat _ _ _ _ _ _ _ _ c.serve_connection-ended.result
-            (c.new-seat.ensures ∙ c.in-Ok.ensures) (ap g.S.Source.left c.new-wire.ensures.reads) (ap g.O.Sink.written c.new-wire.ensures.writes) refl
+            (c.new-seat.ensures ∙ c.in-Ok.ensures) (ap g.S.Source.left c.new-wire.ensures.reads) (ap g.O.Sink.written c.new-wire.ensures.writes)
             c.serve_connection-ended.ensures.serves;
         status_is = c.status_of.ensures;
       });

@@ -6,7 +6,7 @@ use Rattle.cse_server.proofs.connection.serve_connection.Goals as goal
 
 pub returns-in_default-clause-serves : goal.returns-in_default-clause-serves
 returns-in_default-clause-serves g c =
-    serves_starved g.D.Desk.grown g.met.D.Desk.grown_by_nothing 1 c.args.seat.now (g.X.Source.left c.args.conn.now) (g.X.Sink.written c.args.conn.now) (g.C.Clock.readings c.args.clock.now)
+    serves_starved g.D.Desk.grown g.met.D.Desk.grown_by_nothing 1 c.args.seat.now (g.X.Source.left c.args.conn.now) (g.X.Source.left c.args.conn.now) (g.X.Sink.written c.args.conn.now) (g.C.Clock.readings c.args.clock.now)
 
 pub loop-place-init : goal.loop-place-init
 loop-place-init g c = record {
@@ -20,7 +20,7 @@ loop-place-init g c = record {
 
 pub returns-in-Some-clause-serves : goal.returns-in-Some-clause-serves
 returns-in-Some-clause-serves g c =
-    Serves-then g.D.Desk.grown g.met.D.Desk.grown_on 1 c.loop-place.place c.args.seat.now c.loop-place.seat c.serve_next.new.seat _ _ _ _ _ _ _ _ c.in-Some.ended
+    Serves-then g.D.Desk.grown g.met.D.Desk.grown_on 1 c.loop-place.place c.args.seat.now c.loop-place.seat c.serve_next.new.seat _ _ _ _ _ _ _ _ _ c.in-Some.ended
     c.loop-place.invariant.goes c.in-Some.ensures.next
 
 pub loop-place-preserved : goal.loop-place-preserved
