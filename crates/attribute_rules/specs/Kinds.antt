@@ -13,8 +13,8 @@ use Rattle.m2m_names.specs.declared.types.Ty.{Ty}
 use Rattle.m2m_names.specs.declared.types.Ty.TheVariants.{AccessControlPolicy, Ae, Container, ContentInstance, CseBase, Group, PollingChannel, RemoteCse, Subscription, AccessControlPolicyAnnc, AeAnnc, ContainerAnnc, ContentInstanceAnnc, GroupAnnc}
 use Rattle.m2m_value.specs.Data.{Data, null, boolean, number, text, list, object, Entry}
 use Rattle.m2m_value.specs.View.{as_boolean, as_list, as_number, as_object, as_text, member_of}
-use Rattle.tree_model.specs.Attributes.{Row, count_of, is_attr}
-use Rattle.tree_model.specs.Resource.{ResourceData, is_ty}
+use Rattle.resource_model.specs.Attributes.{Row, count_of, is_attr}
+use Rattle.resource_model.specs.Resource.{ResourceData, is_ty}
 use Rattle.attribute_rules.specs.declared.kinds.Kind.{Kind}
 use Rattle.attribute_rules.specs.declared.kinds.Kind.TheVariants.{Name, Stamp, Text, Label, Labels, Bool as Truth, Count, OneOf, CseId, CseIds, Originator, Policies, Points, Target, Rules, Criteria, MemberType, Content}
 

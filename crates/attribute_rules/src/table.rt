@@ -7,7 +7,7 @@ use crate::Kind;
 use m2m_names::Ty::*;
 use m2m_names::{Attr, Ty};
 use m2m_value::Val;
-use tree_model::Resource;
+use resource_model::Resource;
 
 const ANNOUNCED: [Ty; 5] = [
     AccessControlPolicyAnnc,

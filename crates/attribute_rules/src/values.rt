@@ -7,7 +7,7 @@ ghost use Rattle.std.specs.Option.{option_map_or};
 ghost use Rattle.m2m_names.specs.Name as names;
 ghost use Rattle.m2m_names.specs.Types.{ty_of_number};
 ghost use Rattle.m2m_value.specs.View as views;
-ghost use Rattle.tree_model.specs.Attributes as attributes;
+ghost use Rattle.resource_model.specs.Attributes as attributes;
 ghost use Rattle.attribute_rules.specs.declared.kinds.Kind.TheVariants.{Count};
 ghost use Rattle.attribute_rules.specs.Kinds as spec;
 

@@ -6,7 +6,7 @@ use Rattle.std.proofs.lemmas.List.{map-append, drop_more, drop_all}
 use Rattle.std.proofs.lemmas.List.Elements.{filter-append}
 use Rattle.std.proofs.lemmas.List.Folds.{list_any-append}
 use Rattle.std.specs.List.{list_any, filter}
-use Rattle.tree_model.specs.Resource.{ResourceData, has_number}
+use Rattle.resource_model.specs.Resource.{ResourceData, has_number}
 use Rattle.tree_model.specs.Tree.{has, stays, staying, without, are_below, is_due, live, fits, is_tree}
 use Rattle.tree_model.proofs.GrowthLemmas.{growth, next_fits}
 use Rattle.tree_model.proofs.LiveLemmas.{without_none}

@@ -5,7 +5,7 @@ use Rattle.std.proofs.lemmas.Bool.{cases_Bool, and_parts, and_from, or_cases, or
 use Rattle.std.proofs.lemmas.List.{append-nil}
 use Rattle.std.proofs.lemmas.List.Sums.{sum_by-cons}
 use Rattle.std.specs.List.{filter}
-use Rattle.tree_model.specs.Resource.{ResourceData, has_number}
+use Rattle.resource_model.specs.Resource.{ResourceData, has_number}
 use Rattle.tree_model.specs.Tree.{has, stays, staying, without, depth, are_below, fits, is_tree}
 use Rattle.tree_model.proofs.TreeLemmas.{has-append, staying-append}
 use Rattle.tree_model.proofs.GrowthLemmas.{growth, next_fits, below_lacks, line-append}

@@ -11,9 +11,9 @@ use Rattle.m2m_names.specs.declared.attributes.Attr.TheVariants.{Mbs, Mni}
 use Rattle.m2m_names.specs.Types.{does_take}
 use Rattle.m2m_names.specs.declared.types.Ty.{Ty}
 use Rattle.m2m_names.specs.declared.types.Ty.TheVariants.{AccessControlPolicy, Ae, Container, ContentInstance, CseBase, Group, PollingChannel, RemoteCse, Subscription, AccessControlPolicyAnnc, AeAnnc, ContainerAnnc, ContentInstanceAnnc, GroupAnnc}
-use Rattle.tree_model.specs.Attributes.{count_at}
-use Rattle.tree_model.specs.Home.{HomeData, IsHome, is_base_name, is_cse_type}
-use Rattle.tree_model.specs.Resource.{ResourceData, is_ty}
+use Rattle.resource_model.specs.Attributes.{count_at}
+use Rattle.resource_model.specs.Home.{HomeData, IsHome, is_base_name, is_cse_type}
+use Rattle.resource_model.specs.Resource.{ResourceData, is_ty}
 use Rattle.tree_model.specs.Tree.{at, has, stays, staying, without, is_spared, is_instance, size_of, due_under, is_due, lesser, age_end, live, is_root, is_taken, fits_in, is_well_formed, is_tree}
 use Rattle.tree_model.proofs.TreeLemmas.{has_at, staying_all, staying_any, staying_unpicked}
 use Rattle.tree_model.proofs.GrowthLemmas.{growth, tree_from_well_formed, next_fits, root_parent, at-without}

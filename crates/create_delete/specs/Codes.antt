@@ -1,9 +1,9 @@
 -- How the logic stores an entity: as nested pairs.
 use Rattle.std.specs.Prelude.{ℕ, ℤ, List, refl}
 use Rattle.std.specs.Coded.{Coded, code_by, coded×, coded_ℕ, coded_ℤ, coded_list}
-use Rattle.tree_model.specs.Codes.{resource_code}
-use Rattle.tree_model.specs.Home.{HomeData}
-use Rattle.tree_model.specs.Resource.{ResourceData}
+use Rattle.resource_model.specs.Codes.{resource_code}
+use Rattle.resource_model.specs.Home.{HomeData}
+use Rattle.resource_model.specs.Resource.{ResourceData}
 use Rattle.create_delete.specs.Entity.{EntityData}
 
 abbrev HomeParts : Type 0

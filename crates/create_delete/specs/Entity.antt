@@ -1,7 +1,7 @@
 -- An entity: its home, its resources, its next number and its last moment (TS-0001, 6.2 and 9.6.3).
 use Rattle.std.specs.Prelude.{ℕ, min, max, List}
-use Rattle.tree_model.specs.Home.{HomeData}
-use Rattle.tree_model.specs.Resource.{ResourceData}
+use Rattle.resource_model.specs.Home.{HomeData}
+use Rattle.resource_model.specs.Resource.{ResourceData}
 use Rattle.tree_model.specs.Tree.{live}
 
 -- `next` is the number of the resource that is created next, and `last` the moment of the last

@@ -1,7 +1,7 @@
 -- What the expiry removes, by numbers.
 use Rattle.std.specs.Prelude.{ℕ, Bool, List, filter, map}
 use Rattle.std.specs.List.{list_any}
-use Rattle.tree_model.specs.Resource.{ResourceData, has_number}
+use Rattle.resource_model.specs.Resource.{ResourceData, has_number}
 use Rattle.tree_model.specs.Tree.{is_due}
 
 abbrev pub numbers_of : List ResourceData → List ℕ

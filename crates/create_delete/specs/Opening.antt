@@ -4,9 +4,9 @@ use Rattle.m2m_names.specs.Stamps.{last_moment}
 use Rattle.m2m_names.specs.declared.attributes.Attr.TheVariants.{Acpi, Pv, Pvs}
 use Rattle.m2m_names.specs.declared.types.Ty.TheVariants.{AccessControlPolicy, CseBase}
 use Rattle.m2m_value.specs.Data.{Data, number, text, list, object, elements_of, pairs_of}
-use Rattle.tree_model.specs.Attributes.{Row}
-use Rattle.tree_model.specs.Home.{HomeData}
-use Rattle.tree_model.specs.Resource.{ResourceData}
+use Rattle.resource_model.specs.Attributes.{Row}
+use Rattle.resource_model.specs.Home.{HomeData}
+use Rattle.resource_model.specs.Resource.{ResourceData}
 use Rattle.create_delete.specs.Entity.{EntityData, cut}
 
 -- a rule that gives one originator these bits, as it is written (TS-0001, 9.6.2.1)

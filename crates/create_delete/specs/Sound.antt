@@ -7,9 +7,9 @@ use Rattle.m2m_names.specs.declared.attributes.Attr.TheVariants.{Acpi, Csi, Macp
 use Rattle.m2m_names.specs.declared.types.Ty.TheVariants.{Container, ContentInstance, CseBase, PollingChannel, RemoteCse}
 use Rattle.m2m_value.specs.Data.{Data}
 use Rattle.m2m_value.specs.View.{as_text}
-use Rattle.tree_model.specs.Attributes.{count_at, text_at}
-use Rattle.tree_model.specs.Home.{HomeData}
-use Rattle.tree_model.specs.Resource.{ResourceData, is_ty}
+use Rattle.resource_model.specs.Attributes.{count_at, text_at}
+use Rattle.resource_model.specs.Home.{HomeData}
+use Rattle.resource_model.specs.Resource.{ResourceData, is_ty}
 use Rattle.tree_model.specs.Tree.{is_under, instances_of, size_of, sizes_of, depth, is_due, are_below, is_well_formed}
 use Rattle.attribute_rules.specs.Kinds.{are_kinds}
 use Rattle.policy_eval.specs.Rules.{policy_number, ids_at}

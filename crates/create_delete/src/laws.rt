@@ -1,8 +1,8 @@
 // What holds of every entity.
 ghost use Rattle.std.specs.Prelude.{◌≡◌, ℕ, ◌≤◌, List, Bool, IsTrue, filter, take};
 ghost use Rattle.m2m_names.specs.declared.types.Ty.TheVariants.{CseBase};
-ghost use Rattle.tree_model.specs.Home.{HomeData, IsHome};
-ghost use Rattle.tree_model.specs.Resource.{ResourceData, is_ty};
+ghost use Rattle.resource_model.specs.Home.{HomeData, IsHome};
+ghost use Rattle.resource_model.specs.Resource.{ResourceData, is_ty};
 ghost use Rattle.tree_model.specs.Tree.{without};
 ghost use Rattle.create_delete.specs.Entity.{EntityData, cut, swept};
 ghost use Rattle.create_delete.specs.Opening.{opening};

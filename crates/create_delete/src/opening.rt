@@ -2,7 +2,7 @@
 ghost use Rattle.std.specs.Prelude.{◌≡◌, ◌≤◌, [], ◌∷◌, ◌++◌, IfOk, OnOk, IsUtf8, IsTrue, None, false};
 ghost use Rattle.m2m_names.specs.Stamps.{last_moment};
 ghost use Rattle.m2m_value.specs.Data as json;
-ghost use Rattle.tree_model.specs.Resource.{ae_id};
+ghost use Rattle.resource_model.specs.Resource.{ae_id};
 ghost use Rattle.tree_model.specs.Tree.{are_below, is_placed, child_of, has_ae_id};
 ghost use Rattle.create_delete.specs.Opening as spec;
 

@@ -1,6 +1,6 @@
 // The expiry.
 ghost use Rattle.std.specs.Prelude.{◌≡◌, IfOk, OnOk, OnErr, IsTrue};
-ghost use Rattle.tree_model.specs.Resource.{has_number};
+ghost use Rattle.resource_model.specs.Resource.{has_number};
 ghost use Rattle.tree_model.specs.Tree.{is_tree, live, without};
 ghost use Rattle.create_delete.specs.Entity.{swept};
 ghost use Rattle.create_delete.specs.Expiry.{due_numbers, has_one_of};

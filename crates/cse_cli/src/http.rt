@@ -1,7 +1,7 @@
 //! The command `http`.
 ghost use Rattle.std.specs.Prelude.{◌≡◌, ◌≤◌, IfOk};
 ghost use Rattle.m2m_io.specs.Counts.{Rose};
-ghost use Rattle.tree_model.specs.Home.{default_home};
+ghost use Rattle.resource_model.specs.Home.{default_home};
 ghost use Rattle.create_delete.specs.Opening.{opening};
 ghost use Rattle.cse_cli.specs.Run.{RunsHttp, status_of};
 

@@ -23,9 +23,10 @@ const BASE: &str =
 const REFUSED: &str =
     "HTTP/1.1 400 Bad Request\r\nX-M2M-RSC: 4000\r\nContent-Length: 0\r\nConnection: close\r\n\r\n";
 
+/// A bench whose clock goes on by an hour at each reading, and then stands still.
 fn bench(alloc: Global) -> Result<Bench<MemClock, MemLink>, AllocError> {
     Ok(Bench {
-        clock: MemClock::new(vec![in alloc; 1_700_000_000]?),
+        clock: MemClock::new(vec![in alloc; 1_700_000_000, 1_700_003_600, 1_700_007_200]?),
         link: MemLink::new(Vec::new(alloc), Vec::new(alloc)),
     })
 }
@@ -158,6 +159,16 @@ fn frames_are_answered_by_the_machine(rt: HostRuntime) -> Result<(), Fail> {
         assert_eq!(rt; told.out.as_str(), out);
         assert_eq!(rt; told.err.as_str(), err);
     }
+    Ok(())
+}
+
+#[test]
+fn each_request_finds_the_entity_that_opened(rt: HostRuntime) -> Result<(), Fail> {
+    let alloc = rt.alloc();
+    let input = GET.repeat(alloc, 2)?.into_bytes();
+    let told = serve(&rt, input, Vec::new(alloc), no_fails(alloc))?;
+    assert_eq!(rt; told.status, Status::Done);
+    assert_eq!(rt; told.out, BASE.repeat(alloc, 2)?);
     Ok(())
 }
 

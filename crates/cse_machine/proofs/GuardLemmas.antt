@@ -5,7 +5,7 @@ use Rattle.m2m_names.specs.declared.codes.Rsc.{Rsc}
 use Rattle.m2m_names.specs.declared.codes.Rsc.TheVariants.{Ok as Fine, BadRequest, NotFound, NoPrivilege}
 use Rattle.primitive_json.specs.declared.reply.ReplyParts.{ReplyParts}
 use Rattle.primitive_json.specs.declared.request.RequestParts.{RequestParts}
-use Rattle.tree_model.specs.Resource.{ResourceData}
+use Rattle.resource_model.specs.Resource.{ResourceData}
 use Rattle.tree_model.specs.Shown.{attributes_of}
 use Rattle.create_delete.specs.Entity.{EntityData}
 use Rattle.cse_machine.specs.Answer.{reply_to, refusal, addressed, may_retrieve, retrieved, answer_to, answer}

@@ -9,7 +9,7 @@ use Rattle.m2m_names.specs.declared.codes.Rsc.TheVariants.{Ok as Fine, BadReques
 use Rattle.m2m_value.specs.Data.{Data}
 use Rattle.primitive_json.specs.declared.reply.ReplyParts.{ReplyParts}
 use Rattle.primitive_json.specs.declared.request.RequestParts.{RequestParts}
-use Rattle.tree_model.specs.Resource.{ResourceData}
+use Rattle.resource_model.specs.Resource.{ResourceData}
 use Rattle.tree_model.specs.Shown.{attributes_of}
 use Rattle.tree_model.specs.Tree.{at}
 use Rattle.policy_eval.specs.Seen.{retrieve_bit, seen}

@@ -11,7 +11,7 @@ use Rattle.m2m_names.specs.declared.operations.Op.TheVariants.{Create, Retrieve,
 use Rattle.m2m_value.specs.Data.{Data}
 use Rattle.primitive_json.specs.declared.reply.ReplyParts.{ReplyParts}
 use Rattle.primitive_json.specs.declared.request.RequestParts.{RequestParts}
-use Rattle.tree_model.specs.Resource.{ResourceData}
+use Rattle.resource_model.specs.Resource.{ResourceData}
 use Rattle.tree_model.specs.Shown.{attributes_of}
 use Rattle.policy_eval.specs.Rights.{grants}
 use Rattle.create_delete.specs.Entity.{EntityData}

@@ -3,7 +3,7 @@ use Rattle.std.specs.Prelude.{◌≡◌, ◌≢◌, ◌⊎◌, ℕ, List, [], �
 use Rattle.m2m_names.specs.declared.codes.Rsc.TheVariants.{Ok as Fine}
 use Rattle.primitive_json.specs.declared.reply.ReplyParts.{ReplyParts}
 use Rattle.primitive_json.specs.declared.request.RequestParts.{RequestParts}
-use Rattle.tree_model.specs.Resource.{ResourceData}
+use Rattle.resource_model.specs.Resource.{ResourceData}
 use Rattle.turn_desk.specs.Entries.{entry_of}
 use Rattle.policy_eval.specs.Rights.{grants}
 use Rattle.policy_eval.specs.Seen.{retrieve_bit}

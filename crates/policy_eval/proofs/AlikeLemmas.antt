@@ -13,9 +13,9 @@ use Rattle.m2m_names.specs.declared.types.Ty.{Ty}
 use Rattle.m2m_names.specs.declared.types.Ty.TheVariants.{AccessControlPolicy, Ae, ContentInstance, PollingChannel, RemoteCse}
 use Rattle.m2m_value.specs.Data.{Data}
 use Rattle.m2m_value.specs.View.{as_text}
-use Rattle.tree_model.specs.Attributes.{value_of}
-use Rattle.tree_model.specs.Home.{HomeData}
-use Rattle.tree_model.specs.Resource.{ResourceData, is_ty, has_number, ae_id}
+use Rattle.resource_model.specs.Attributes.{value_of}
+use Rattle.resource_model.specs.Home.{HomeData}
+use Rattle.resource_model.specs.Resource.{ResourceData, is_ty, has_number, ae_id}
 use Rattle.tree_model.specs.Tree.{at, has, is_child, child_of, replaced, stays, staying, without}
 use Rattle.policy_eval.specs.Alike.{Alike, AreAlike, FindAlike}
 use Rattle.policy_eval.specs.Rules.{only, Rule, rule_for, all_bits, rules_in, policy_number, policy_at, policy_named, policy_of, policies_of, joined, elements_in, ids_at, lists_ids, registree, linked_rules, channel_rules, rules_of, fan_rules, link_rules}

@@ -4,7 +4,7 @@ use Rattle.std.proofs.lemmas.Bool.{cases_Bool, eqb-true, eq-eqb}
 use Rattle.std.proofs.lemmas.Nat.Bits.{bit_at_and, bit_at_or, bit_at-zero, same_from_bits}
 use Rattle.std.specs.Int.{bit_at}
 use Rattle.std.specs.Int.RustNames.{bit_and, bit_or}
-use Rattle.tree_model.specs.Home.{HomeData}
+use Rattle.resource_model.specs.Home.{HomeData}
 use Rattle.policy_eval.specs.Rules.{Rule}
 use Rattle.policy_eval.specs.Rights.{is_among, with_rule, with_rules, has_bits}
 

@@ -12,9 +12,9 @@ use Rattle.m2m_names.specs.declared.types.Ty.{Ty}
 use Rattle.m2m_names.specs.declared.types.Ty.TheVariants.{Container, ContentInstance, CseBase}
 use Rattle.m2m_value.specs.Data.{Data}
 use Rattle.m2m_value.specs.View.{as_number}
-use Rattle.tree_model.specs.Attributes.{count_of, value_of}
-use Rattle.tree_model.specs.Home.{HomeData}
-use Rattle.tree_model.specs.Resource.{ResourceData, is_ty, has_number}
+use Rattle.resource_model.specs.Attributes.{count_of, value_of}
+use Rattle.resource_model.specs.Home.{HomeData}
+use Rattle.resource_model.specs.Resource.{ResourceData, is_ty, has_number}
 use Rattle.tree_model.specs.Tree.{at, due, due_under, lesser, is_due, live, are_below, fits, fits_in, is_taken, is_well_formed}
 use Rattle.tree_model.proofs.GrowthLemmas.{growth, next_above_parent, next_fits, tree_from_well_formed}
 use Rattle.tree_model.proofs.TreeLemmas.{at-append, at-map}

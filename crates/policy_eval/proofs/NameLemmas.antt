@@ -8,7 +8,7 @@ use Rattle.std.specs.Option.{option_and_then}
 use Rattle.m2m_names.specs.Types.{ty_row}
 use Rattle.m2m_names.specs.declared.types.Ty.{Ty}
 use Rattle.m2m_names.specs.declared.types.Ty.TheVariants.{AccessControlPolicy}
-use Rattle.tree_model.specs.Resource.{ResourceData, is_ty, id_of}
+use Rattle.resource_model.specs.Resource.{ResourceData, is_ty, id_of}
 use Rattle.tree_model.specs.Tree.{at}
 use Rattle.policy_eval.specs.Rules.{with_digit, number_from, policy_number, policy_at, policy_named}
 

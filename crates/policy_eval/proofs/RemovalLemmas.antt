@@ -9,9 +9,9 @@ use Rattle.m2m_names.specs.declared.attributes.Attr.{Attr}
 use Rattle.m2m_names.specs.declared.attributes.Attr.TheVariants.{Acpi, Macp, Pv, Pvs}
 use Rattle.m2m_names.specs.declared.types.Ty.TheVariants.{AccessControlPolicy, ContentInstance, PollingChannel}
 use Rattle.m2m_value.specs.Data.{Data}
-use Rattle.tree_model.specs.Attributes.{value_of}
-use Rattle.tree_model.specs.Home.{HomeData}
-use Rattle.tree_model.specs.Resource.{ResourceData, is_ty}
+use Rattle.resource_model.specs.Attributes.{value_of}
+use Rattle.resource_model.specs.Home.{HomeData}
+use Rattle.resource_model.specs.Resource.{ResourceData, is_ty}
 use Rattle.tree_model.specs.Tree.{at, is_spared, is_tree, without}
 use Rattle.tree_model.proofs.GrowthLemmas.{at-without}
 use Rattle.policy_eval.specs.Rules.{Rule, rules_in, policy_number, policy_at, policy_named, policy_of, policies_of, joined, ids_at, lists_ids, linked_rules, channel_rules, rules_of, fan_rules, link_rules}

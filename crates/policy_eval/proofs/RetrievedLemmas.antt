@@ -5,9 +5,9 @@ use Rattle.std.proofs.lemmas.Bool.{cases_Bool, and_parts, eqb-true}
 use Rattle.std.specs.Option.{option_map_or}
 use Rattle.m2m_names.specs.declared.attributes.Attr.TheVariants.{Cs}
 use Rattle.m2m_names.specs.declared.types.Ty.TheVariants.{Container, CseBase}
-use Rattle.tree_model.specs.Attributes.{Row, count_at}
-use Rattle.tree_model.specs.Home.{HomeData}
-use Rattle.tree_model.specs.Resource.{ResourceData, is_ty, id_of}
+use Rattle.resource_model.specs.Attributes.{Row, count_at}
+use Rattle.resource_model.specs.Home.{HomeData}
+use Rattle.resource_model.specs.Resource.{ResourceData, is_ty, id_of}
 use Rattle.tree_model.specs.Shown.{parent_id, container_rows, added_rows, attributes_of, with_rows, wrapped}
 use Rattle.tree_model.specs.Tree.{at, is_due, is_instance, is_well_formed, live, size_of}
 use Rattle.tree_model.proofs.TreeLemmas.{at-map, at_number}

@@ -13,11 +13,11 @@ use Rattle.m2m_names.specs.declared.attributes.Attr.{Attr}
 use Rattle.m2m_names.specs.declared.attributes.Attr.TheVariants.{Poa, Pv, Pvs}
 use Rattle.m2m_names.specs.declared.types.Ty.TheVariants.{RemoteCse}
 use Rattle.m2m_value.specs.Data.{Data, text, list, elements_of}
-use Rattle.tree_model.specs.Attributes.{Row, is_attr, value_of}
-use Rattle.tree_model.specs.Home.{HomeData}
-use Rattle.tree_model.specs.Resource.{ResourceData, is_ty, ae_id}
+use Rattle.resource_model.specs.Attributes.{Row, is_attr, value_of}
+use Rattle.resource_model.specs.Home.{HomeData}
+use Rattle.resource_model.specs.Resource.{ResourceData, is_ty, ae_id}
 use Rattle.tree_model.specs.Tree.{at, child_of}
-use Rattle.tree_model.proofs.AttributeLemmas.{is_attr-same}
+use Rattle.resource_model.proofs.AttributeLemmas.{is_attr-same}
 use Rattle.tree_model.proofs.TreeLemmas.{at-map}
 use Rattle.policy_eval.specs.Originators.{full_form, own_lead, is_same}
 use Rattle.policy_eval.specs.Rules.{texts_of, member_at, number_at, sum_of_bits, rule_of, rules_in, elements_in}

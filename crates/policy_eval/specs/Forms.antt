@@ -1,7 +1,7 @@
 -- An originator's full form, read apart.
 use Rattle.std.specs.Prelude.{◌≡◌, ℕ, nat_eq, List, ◌++◌, codes, false}
 use Rattle.std.specs.List.{starts_with}
-use Rattle.tree_model.specs.Home.{HomeData}
+use Rattle.resource_model.specs.Home.{HomeData}
 use Rattle.policy_eval.specs.Originators.{full_form, own_lead}
 use Rattle.policy_eval.specs.declared.originators.Form.{Form}
 use Rattle.policy_eval.specs.declared.originators.Form.TheVariants.{Own, Other}

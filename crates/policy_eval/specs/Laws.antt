@@ -1,6 +1,6 @@
 -- Laws of rights, over every list.
 use Rattle.std.specs.Prelude.{Bool, IsTrue, List}
-use Rattle.tree_model.specs.Resource.{ResourceData}
+use Rattle.resource_model.specs.Resource.{ResourceData}
 use Rattle.tree_model.specs.Tree.{is_tree, without}
 
 -- what may be done after a removal, of any resources with what stands below them, could be done

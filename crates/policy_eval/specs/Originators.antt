@@ -2,7 +2,7 @@
 use Rattle.std.specs.Prelude.{ℕ, ◌-◌, nat_eq, Bool, ◌&&◌, ◌||◌, List, ◌++◌, length, take, codes, if◌then◌else◌}
 use Rattle.std.specs.List.{starts_with, ends_with}
 use Rattle.std.specs.Str.{bytes_eq}
-use Rattle.tree_model.specs.Home.{HomeData}
+use Rattle.resource_model.specs.Home.{HomeData}
 
 -- what the full forms of this CSE's own begin with, behind `/`: its CSE-ID and `/`
 abbrev pub own_lead : HomeData → List ℕ

@@ -2,8 +2,8 @@
 use Rattle.std.specs.Prelude.{ℕ, ◌==◌, Bool, List, bit_and, bit_or, false, if◌then◌else◌}
 use Rattle.std.specs.List.{fold, list_any}
 use Rattle.std.specs.Option.{option_map_or}
-use Rattle.tree_model.specs.Home.{HomeData}
-use Rattle.tree_model.specs.Resource.{ResourceData}
+use Rattle.resource_model.specs.Home.{HomeData}
+use Rattle.resource_model.specs.Resource.{ResourceData}
 use Rattle.tree_model.specs.Tree.{at}
 use Rattle.policy_eval.specs.Originators.{is_same, does_name}
 use Rattle.policy_eval.specs.Rules.{Subjects, named, only, Rule, rules_of, fan_rules, link_rules}

@@ -8,8 +8,8 @@ use Rattle.m2m_names.specs.declared.attributes.Attr.TheVariants.{Acpi, Aei, Csi,
 use Rattle.m2m_names.specs.declared.types.Ty.TheVariants.{AccessControlPolicy, Ae, ContentInstance, PollingChannel, RemoteCse}
 use Rattle.m2m_value.specs.Data.{Data}
 use Rattle.m2m_value.specs.View.{as_list, as_number, as_object, as_text, member_of}
-use Rattle.tree_model.specs.Attributes.{value_of, text_at}
-use Rattle.tree_model.specs.Resource.{ResourceData, is_ty}
+use Rattle.resource_model.specs.Attributes.{value_of, text_at}
+use Rattle.resource_model.specs.Resource.{ResourceData, is_ty}
 use Rattle.tree_model.specs.Tree.{at}
 
 -- ---- rules as they are written

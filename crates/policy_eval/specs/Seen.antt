@@ -7,9 +7,9 @@ use Rattle.m2m_names.specs.declared.attributes.Attr.TheVariants.{Cs, Csy, Lbl, M
 use Rattle.m2m_names.specs.declared.types.Ty.TheVariants.{Container, ContentInstance, Group, RemoteCse}
 use Rattle.m2m_names.specs.UrlReading.{host_end_at}
 use Rattle.m2m_value.specs.Data.{Data, list, number, object, text, elements_of, pairs_of}
-use Rattle.tree_model.specs.Attributes.{Row, is_attr, value_of}
-use Rattle.tree_model.specs.Home.{HomeData}
-use Rattle.tree_model.specs.Resource.{ResourceData, is_ty}
+use Rattle.resource_model.specs.Attributes.{Row, is_attr, value_of}
+use Rattle.resource_model.specs.Home.{HomeData}
+use Rattle.resource_model.specs.Resource.{ResourceData, is_ty}
 use Rattle.tree_model.specs.Tree.{at, due}
 use Rattle.policy_eval.specs.Originators.{is_same}
 use Rattle.policy_eval.specs.Rules.{rules_in, rules_of, fan_rules, texts_of, elements_in}

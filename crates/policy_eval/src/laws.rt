@@ -1,8 +1,8 @@
 // Laws of rights, over every list.
 ghost use Rattle.std.specs.Prelude.{◌≡◌, ◌<◌, ◌^◌, List, ℕ, Some, IsTrue, map, option_map};
-ghost use Rattle.tree_model.specs.Home.{HomeData};
+ghost use Rattle.resource_model.specs.Home.{HomeData};
 ghost use Rattle.m2m_names.specs.declared.types.Ty.TheVariants.{AccessControlPolicy};
-ghost use Rattle.tree_model.specs.Resource.{ResourceData, ae_id, id_of, is_ty};
+ghost use Rattle.resource_model.specs.Resource.{ResourceData, ae_id, id_of, is_ty};
 ghost use Rattle.tree_model.specs.Shown.{attributes_of};
 ghost use Rattle.tree_model.specs.Tree.{at, child_of, has, due, is_due, live, is_well_formed};
 ghost use Rattle.policy_eval.specs.Alike.{AreAlike};

@@ -10,7 +10,7 @@ use Rattle.std.specs.Ordering.{nat_cmp}
 use Rattle.std.specs.List.{AllByRecursion, list_any, list_all, find, filter}
 use Rattle.std.specs.Option.{option_or, option_map_or}
 use Rattle.m2m_names.specs.declared.types.Ty.TheVariants.{CseBase}
-use Rattle.tree_model.specs.Resource.{ResourceData, is_ty, has_number, ae_id}
+use Rattle.resource_model.specs.Resource.{ResourceData, is_ty, has_number, ae_id}
 use Rattle.tree_model.specs.Tree.{at, has, is_under, is_child, child_of, line_from, line_of, replaced, stays, staying, without, is_spared, are_below, is_root, is_placed, has_child, has_ae_id, fits, is_taken, fits_in, grows, is_tree, is_well_formed, standing, AreAscending}
 use Rattle.tree_model.proofs.TreeLemmas.{at_has, has_at, at_number, at_none, at-append, has-append, staying-append}
 

@@ -11,8 +11,8 @@ use Rattle.m2m_names.specs.declared.attributes.Attr.TheVariants.{Aei}
 use Rattle.m2m_names.specs.declared.types.Ty.{Ty}
 use Rattle.m2m_names.specs.declared.types.Ty.TheVariants.{Ae, CseBase}
 use Rattle.m2m_value.specs.Data.{text}
-use Rattle.tree_model.specs.Attributes.{Row, text_at}
-use Rattle.tree_model.specs.Resource.{ResourceData, is_ty, has_number, ae_id}
+use Rattle.resource_model.specs.Attributes.{Row, text_at}
+use Rattle.resource_model.specs.Resource.{ResourceData, is_ty, has_number, ae_id}
 use Rattle.tree_model.specs.Tree.{at, has, is_child, child_of, replaced, stays, staying, without, is_spared, are_below, is_root, is_placed, has_child, same_text, has_ae_id, fits, is_taken, fits_in, grows, is_tree, is_well_formed, standing}
 use Rattle.tree_model.proofs.TreeLemmas.{list_any-same, list_all-same, has_at, at_has, at-map, has-map, map-replaced, staying-append, staying_all, staying_any}
 use Rattle.tree_model.proofs.GrowthLemmas.{IsNext, next_fits, fits_next, grown, growth, zero_lacks, root_parent, at-without, tree_from_well_formed}

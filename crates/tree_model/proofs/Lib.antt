@@ -1,4 +1,3 @@
-pub mod AttributeLemmas
 pub mod TreeLemmas
 pub mod GrowthLemmas
 pub mod PlaceLemmas

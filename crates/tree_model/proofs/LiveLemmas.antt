@@ -3,7 +3,7 @@ use Rattle.std.specs.Prelude.{◌==◌}
 use Rattle.std.proofs.Common.{◌≡◌, ℕ, List, [], ◌∷◌, ◌++◌, Bool, true, false, cond, not, ◌&&◌, ◌||◌, Option, Some, None, inl, inr, refl, sym, ap, ◌∙◌}
 use Rattle.std.proofs.lemmas.Bool.{cases_Bool, and_parts, and_from, or_cases, or_left, or_right, or_parts, not-true, not_from_false, eq-eqb, both_ways}
 use Rattle.std.specs.List.{list_any}
-use Rattle.tree_model.specs.Resource.{ResourceData}
+use Rattle.resource_model.specs.Resource.{ResourceData}
 use Rattle.tree_model.specs.Tree.{at, has, line_of, stays, staying, without, is_spared, due, due_under, fits, grows, is_tree}
 use Rattle.tree_model.proofs.GrowthLemmas.{next_fits, root_parent, stands, at-without}
 

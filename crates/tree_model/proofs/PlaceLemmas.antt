@@ -13,7 +13,7 @@ use Rattle.std.specs.List.{slice_get}
 use Rattle.std.specs.List.Sorted.{IsNonDecreasingBy, IsBinarySearchResult, IsSearchInRange}
 use Rattle.std.specs.Ordering.{nat_cmp, ordering_index, is_lt}
 use Rattle.std.specs.Result.{MatchResult, is_ok}
-use Rattle.tree_model.specs.Resource.{ResourceData, has_number}
+use Rattle.resource_model.specs.Resource.{ResourceData, has_number}
 use Rattle.tree_model.proofs.TreeLemmas.{at_has, has_from_at}
 use Rattle.tree_model.specs.Tree.{at, has, replaced, AreAscending, StandsAt}
 

@@ -16,8 +16,8 @@ use Rattle.m2m_names.proofs.AttributeLemmas.{attr_again}
 use Rattle.m2m_names.specs.declared.attributes.Attr.{Attr}
 use Rattle.m2m_value.specs.Data.{Entry}
 use Rattle.m2m_value.specs.Node.{AreSorted, HaveTextKeys}
-use Rattle.tree_model.specs.Attributes.{Row, attr_cmp, with_value, AreInOrder}
-use Rattle.tree_model.specs.Resource.{ResourceData}
+use Rattle.resource_model.specs.Attributes.{Row, attr_cmp, with_value, AreInOrder}
+use Rattle.resource_model.specs.Resource.{ResourceData}
 use Rattle.tree_model.specs.Shown.{with_rows, members_of}
 
 -- some rows, and then others

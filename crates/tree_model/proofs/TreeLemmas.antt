@@ -7,7 +7,7 @@ use Rattle.std.proofs.lemmas.List.Folds.{find-append, list_any-append, list_all-
 use Rattle.std.proofs.lemmas.Option.{same_Some}
 use Rattle.std.specs.List.{list_any, list_all, find, filter}
 use Rattle.std.specs.Option.{option_or}
-use Rattle.tree_model.specs.Resource.{ResourceData, is_ty, has_number, ae_id}
+use Rattle.resource_model.specs.Resource.{ResourceData, is_ty, has_number, ae_id}
 use Rattle.tree_model.specs.Tree.{at, has, is_under, is_child, child_of, replaced, stays, staying, without, are_below, is_root, is_placed, has_child, has_ae_id, fits, is_taken, fits_in, grows, is_tree, is_well_formed, standing}
 
 -- ---- tests over a list

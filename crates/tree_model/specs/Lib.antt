@@ -1,7 +1,2 @@
-pub mod Attributes
-pub mod Codes
-pub mod Home
-pub mod Parts
-pub mod Resource
 pub mod Shown
 pub mod Tree

@@ -9,9 +9,9 @@ use Rattle.m2m_names.specs.declared.attributes.Attr.TheVariants.{Cbs, Cni, Csi, 
 use Rattle.m2m_names.specs.declared.types.Ty.{Ty}
 use Rattle.m2m_names.specs.declared.types.Ty.TheVariants.{CseBase, Container, Group}
 use Rattle.m2m_value.specs.Data.{Data, number, text, list, object, Entry, elements_of, pairs_of}
-use Rattle.tree_model.specs.Attributes.{Row, value_of, with_value}
-use Rattle.tree_model.specs.Home.{HomeData}
-use Rattle.tree_model.specs.Resource.{ResourceData, is_ty, id_of}
+use Rattle.resource_model.specs.Attributes.{Row, value_of, with_value}
+use Rattle.resource_model.specs.Home.{HomeData}
+use Rattle.resource_model.specs.Resource.{ResourceData, is_ty, id_of}
 use Rattle.tree_model.specs.Tree.{at, instances_of, sizes_of}
 
 -- a count as a value, which ends at the largest that a value has

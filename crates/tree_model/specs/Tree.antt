@@ -9,8 +9,8 @@ use Rattle.m2m_names.specs.Types.{does_take}
 use Rattle.m2m_names.specs.declared.attributes.Attr.TheVariants.{Mia, Cs}
 use Rattle.m2m_names.specs.declared.types.Ty.{Ty}
 use Rattle.m2m_names.specs.declared.types.Ty.TheVariants.{CseBase, ContentInstance}
-use Rattle.tree_model.specs.Attributes.{count_at}
-use Rattle.tree_model.specs.Resource.{ResourceData, is_ty, has_number, ae_id}
+use Rattle.resource_model.specs.Attributes.{count_at}
+use Rattle.resource_model.specs.Resource.{ResourceData, is_ty, has_number, ae_id}
 
 -- ---- what stands in a list
 

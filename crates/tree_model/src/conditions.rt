@@ -1,14 +1,14 @@
 // What a caller may test before it changes a tree.
 ghost use Rattle.std.specs.Prelude.{◌≡◌, ◌↔◌, [], not, ◌&&◌, false, IsTrue, None, Some, option_map};
 ghost use Rattle.std.specs.Bool.{OnTrue};
-ghost use Rattle.tree_model.specs.Resource.{ResourceData, ae_id};
+ghost use Rattle.resource_model.specs.Resource.{ResourceData, ae_id};
 ghost use Rattle.tree_model.specs.Tree.{at, has, child_of, are_below, is_root, is_placed, has_child, same_text, has_ae_id, fits, standing};
 
 use crate::nodes::is_named;
-use crate::resource::Resource;
 use crate::tree::Tree;
 use crate::walk::over;
 use m2m_names::Ty;
+use resource_model::Resource;
 
 /// Whether the resource may be inserted: its number is greater than every other, its parent is
 /// there (or it is the CSEBase and the first), and its name and its AE-ID are free.

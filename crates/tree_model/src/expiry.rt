@@ -2,9 +2,9 @@
 ghost use Rattle.std.specs.Prelude.{◌≡◌};
 ghost use Rattle.tree_model.specs.Tree as spec;
 
-use crate::resource::Resource;
 use crate::tree::Tree;
 use m2m_names::{Attr, Ty};
+use resource_model::Resource;
 
 /// The moment at which a resource is due, in seconds since 1970: its expiry, or of a content
 /// instance the earlier of that and of the greatest age that its container allows. The CSEBase has

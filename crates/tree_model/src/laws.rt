@@ -1,6 +1,6 @@
 // What holds of every tree, whatever keeps it.
 ghost use Rattle.std.specs.Prelude.{◌≡◌, ℕ, ◌<◌, List, [], ◌∷◌, ◌++◌, filter, Bool, IsTrue, Some, option_map};
-ghost use Rattle.tree_model.specs.Resource.{ResourceData};
+ghost use Rattle.resource_model.specs.Resource.{ResourceData};
 ghost use Rattle.tree_model.specs.Tree.{at, line_of, replaced, without, is_spared, fits_in, is_tree, is_well_formed, standing};
 
 /// A removal takes exactly the resources that are picked, and those with a picked resource among

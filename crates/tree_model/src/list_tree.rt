@@ -2,9 +2,9 @@
 ghost use Rattle.std.specs.Prelude.{◌≡◌, []};
 
 use crate::nodes::Nodes;
-use crate::resource::Resource;
 use crate::steps::Steps;
 use crate::tree::Tree;
+use resource_model::Resource;
 use std::alloc::{AllocError as OutOfMemory, Global};
 use std::marker::Model;
 use std::sync::ledger::Ledger;
@@ -18,8 +18,8 @@ pub struct ListTree {
 impl Model for ListTree {
     ghost use Rattle.std.specs.Prelude.{List};
     ghost use Rattle.std.specs.Coded.{coded_list};
-    ghost use Rattle.tree_model.specs.Resource.{ResourceData};
-    ghost use Rattle.tree_model.specs.Codes.{resource_code};
+    ghost use Rattle.resource_model.specs.Resource.{ResourceData};
+    ghost use Rattle.resource_model.specs.Codes.{resource_code};
 
     ghost Value = { List ResourceData };
 

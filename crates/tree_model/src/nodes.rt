@@ -1,11 +1,11 @@
 // The list of resources that every tree keeps.
 ghost use Rattle.std.specs.Prelude.{◌≡◌, ◌+◌, List, [], ◌∷◌, ◌++◌, length, slice_get, Bool, false, IsTrue, OnOk, OnErr, IfErr, None, Some, option_map, MatchResult};
-ghost use Rattle.tree_model.specs.Resource.{ResourceData, has_number, ae_id};
+ghost use Rattle.resource_model.specs.Resource.{ResourceData, has_number, ae_id};
 ghost use Rattle.tree_model.specs.Tree.{at, has, child_of, is_child, replaced, without, stays, are_below, is_placed, has_ae_id, is_tree, standing, AreAscending, StandsAt};
 ghost use Rattle.std.specs.Ordering.{nat_cmp};
 
-use crate::resource::Resource;
 use crate::steps::Steps;
+use resource_model::Resource;
 use std::alloc::{AllocError as OutOfMemory, Global};
 use std::cmp::Ordering;
 use std::marker::Model;
@@ -20,8 +20,8 @@ pub struct Nodes {
 impl Model for Nodes {
     ghost use Rattle.std.specs.Prelude.{List, IsTrue};
     ghost use Rattle.std.specs.Coded.{coded_list};
-    ghost use Rattle.tree_model.specs.Resource.{ResourceData};
-    ghost use Rattle.tree_model.specs.Codes.{resource_code};
+    ghost use Rattle.resource_model.specs.Resource.{ResourceData};
+    ghost use Rattle.resource_model.specs.Codes.{resource_code};
 
     ghost Value = { List ResourceData };
 

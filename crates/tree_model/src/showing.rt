@@ -5,18 +5,16 @@ ghost use Rattle.m2m_names.specs.Stamps.{last_moment};
 ghost use Rattle.m2m_names.specs.Types as types;
 ghost use Rattle.m2m_value.specs.Data.{text, number, list, object, elements_of, pairs_of};
 ghost use Rattle.m2m_value.specs.Node.{AreSorted};
-ghost use Rattle.tree_model.specs.Attributes.{with_value};
-ghost use Rattle.tree_model.specs.Resource.{is_ty};
+ghost use Rattle.resource_model.specs.Attributes.{with_value};
+ghost use Rattle.resource_model.specs.Resource.{is_ty};
 ghost use Rattle.tree_model.specs.Shown.{shown_types, shown_moment, shown_ty, shown_count, parent_id, common_rows, base_rows, expiry_rows, container_rows, default_row, group_rows, added_rows, with_rows, shown_rows, members_of, wrapped, attributes_of};
 ghost use Rattle.tree_model.specs.Tree.{is_instance, instances_of, size_of, sizes_of};
 
-use crate::attrs::Attrs;
-use crate::home::Home;
-use crate::resource::Resource;
 use crate::tree::Tree;
 use crate::walk::over;
 use m2m_names::{Attr, Ty, write_stamp};
 use m2m_value::{Items, Members, Text, Val};
+use resource_model::{Attrs, Home, Resource};
 use std::alloc::{AllocError as OutOfMemory, Global};
 
 // The largest count that a value has.

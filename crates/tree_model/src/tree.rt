@@ -1,10 +1,10 @@
 // What a tree is, whatever keeps it.
 ghost use Rattle.std.specs.Prelude.{◌≡◌, ℕ, ◌+◌, ◌≤◌, List, [], ◌∷◌, ◌++◌, length, slice_get, false, IsTrue, OnOk, OnErr, IfErr, None, Some, option_map};
-ghost use Rattle.tree_model.specs.Resource.{ResourceData, has_number, ae_id};
+ghost use Rattle.resource_model.specs.Resource.{ResourceData, has_number, ae_id};
 ghost use Rattle.tree_model.specs.Tree.{at, has, child_of, replaced, without, are_below, is_placed, has_ae_id, is_tree, standing};
 
-use crate::resource::Resource;
 use crate::steps::Steps;
+use resource_model::Resource;
 use std::alloc::AllocError as OutOfMemory;
 use std::sync::ledger::Ledger;
 

@@ -2,8 +2,8 @@
 ghost use Rattle.std.specs.Prelude.{◌≡◌};
 ghost use Rattle.std.specs.Iterator.{YieldsFirstRef, item_count};
 
-use crate::resource::Resource;
 use crate::tree::Tree;
+use resource_model::Resource;
 use std::marker::Model;
 
 /// The resources of a tree in order of creation, seen as the list of those that are left.
@@ -16,8 +16,8 @@ pub struct Walk<'a, T: Tree> {
 impl<'a, T: Tree> Model for Walk<'a, T> {
     ghost use Rattle.std.specs.Prelude.{List, drop};
     ghost use Rattle.std.specs.Coded.{coded_list};
-    ghost use Rattle.tree_model.specs.Resource.{ResourceData};
-    ghost use Rattle.tree_model.specs.Codes.{resource_code};
+    ghost use Rattle.resource_model.specs.Resource.{ResourceData};
+    ghost use Rattle.resource_model.specs.Codes.{resource_code};
 
     ghost Value = { List ResourceData };
 

@@ -1,6 +1,6 @@
 use Rattle.std.proofs.Common.{◌≡◌, List, [], sym, subst}
 use Rattle.std.specs.List.Sorted.{IsStrictlySortedBy}
-use Rattle.tree_model.specs.Attributes.{Row, AreInOrder}
+use Rattle.resource_model.specs.Attributes.{Row, AreInOrder}
 use Rattle.policy_eval.proofs.tests.none.Goals as goal
 
 none_in_order : AreInOrder []

@@ -1,5 +1,5 @@
 use Rattle.std.proofs.Common.{◌≡◌}
-use Rattle.tree_model.specs.Resource.{ae_id}
+use Rattle.resource_model.specs.Resource.{ae_id}
 use Rattle.tree_model.specs.Tree.{has_ae_id}
 use Rattle.tree_model.proofs.conditions.is_taken_ae_id.Given as goal
 

@@ -1,4 +1,4 @@
-use Rattle.tree_model.specs.Resource.{has_number}
+use Rattle.resource_model.specs.Resource.{has_number}
 use Rattle.tree_model.proofs.SweepLemmas.{IsSwept}
 use Rattle.tree_model.proofs.nodes.sweep_out.Given as goal
 

@@ -1,5 +1,5 @@
 use Rattle.std.proofs.Common.{subst}
-use Rattle.tree_model.specs.Home.{IsHome}
+use Rattle.resource_model.specs.Home.{IsHome}
 use Rattle.create_delete.proofs.SoundLemmas.{sound_opened}
 use Rattle.create_delete.proofs.entity.Entity.open.Goals as goal
 

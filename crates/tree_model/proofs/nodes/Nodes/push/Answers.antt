@@ -1,6 +1,6 @@
 use Rattle.std.proofs.Common.{List, sym, subst}
 use Rattle.std.specs.Result.{is_ok}
-use Rattle.tree_model.specs.Resource.{ResourceData}
+use Rattle.resource_model.specs.Resource.{ResourceData}
 use Rattle.tree_model.proofs.GrowthLemmas.{IsNext}
 use Rattle.tree_model.proofs.KeptLemmas.{is_tree-push, no_child}
 use Rattle.tree_model.proofs.nodes.Nodes.push.Goals as goal

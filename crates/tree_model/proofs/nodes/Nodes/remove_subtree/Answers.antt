@@ -1,5 +1,5 @@
 use Rattle.std.proofs.Common.{ap, ◌∙◌}
-use Rattle.tree_model.specs.Resource.{has_number}
+use Rattle.resource_model.specs.Resource.{has_number}
 use Rattle.tree_model.specs.Tree.{is_tree}
 use Rattle.tree_model.proofs.GrowthLemmas.{ascending_from_tree}
 use Rattle.tree_model.proofs.KeptLemmas.{is_tree-without}

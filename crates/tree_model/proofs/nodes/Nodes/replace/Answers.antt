@@ -1,5 +1,5 @@
 use Rattle.std.proofs.Common.{List, true, sym, ap, ◌∙◌, subst, ◌≡◌, Some, option_map}
-use Rattle.tree_model.specs.Resource.{ResourceData}
+use Rattle.resource_model.specs.Resource.{ResourceData}
 use Rattle.tree_model.specs.Tree.{at, standing, is_tree}
 use Rattle.tree_model.proofs.GrowthLemmas.{ascending_from_tree}
 use Rattle.tree_model.proofs.KeptLemmas.{is_tree-replaced}

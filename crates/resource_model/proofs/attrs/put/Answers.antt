@@ -1,7 +1,7 @@
 use Rattle.std.proofs.Common.{◌≡◌, List, sym, ◌∙◌, subst}
-use Rattle.tree_model.specs.Attributes.{Row, AreInOrder, HoldsRow, LacksRow}
-use Rattle.tree_model.proofs.AttributeLemmas.{set-HoldsRow, insert-LacksRow, in_order-with_value}
-use Rattle.tree_model.proofs.attrs.put.Goals as goal
+use Rattle.resource_model.specs.Attributes.{Row, AreInOrder, HoldsRow, LacksRow}
+use Rattle.resource_model.proofs.AttributeLemmas.{set-HoldsRow, insert-LacksRow, in_order-with_value}
+use Rattle.resource_model.proofs.attrs.put.Goals as goal
 
 pub returns-in-Ok-clause-ok : goal.returns-in-Ok-clause-ok
 returns-in-Ok-clause-ok c =

@@ -1,5 +1,5 @@
 use Rattle.std.proofs.Common.{◌≡◌, take}
-use Rattle.tree_model.proofs.attrs.copied.Given as goal
+use Rattle.resource_model.proofs.attrs.copied.Given as goal
 
 abbrev pub invariant-loop-row : goal.invariant-loop-row
 invariant-loop-row l = l.copies.items ≡ take l.row-index l.rows

@@ -6,7 +6,7 @@ use Rattle.m2m_names.specs.Types.{ty_row}
 use Rattle.m2m_names.specs.declared.attributes.Attr.TheVariants.{Aei}
 use Rattle.m2m_names.specs.declared.types.Ty.{Ty}
 use Rattle.m2m_names.specs.declared.types.Ty.TheVariants.{Ae}
-use Rattle.tree_model.specs.Attributes.{Row, text_at}
+use Rattle.resource_model.specs.Attributes.{Row, text_at}
 
 -- `number` is never used again, and `parent` is that of the parent, or 0 for the CSEBase; `ct`,
 -- `lt` and `et` are moments of creation, last change and expiry, in seconds since 1970

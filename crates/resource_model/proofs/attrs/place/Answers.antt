@@ -1,8 +1,8 @@
 use Rattle.std.proofs.Common.{rules}
 use Rattle.std.proofs.lemmas.Fn.{always_returns_same}
-use Rattle.tree_model.specs.Attributes.{attr_cmp}
-use Rattle.tree_model.proofs.AttributeLemmas.{searched}
-use Rattle.tree_model.proofs.attrs.place.Goals as goal
+use Rattle.resource_model.specs.Attributes.{attr_cmp}
+use Rattle.resource_model.proofs.AttributeLemmas.{searched}
+use Rattle.resource_model.proofs.attrs.place.Goals as goal
 
 pub returns : goal.returns
 returns c =

@@ -5,8 +5,8 @@ use Rattle.m2m_names.specs.contracts.attributes.Attr as attr
 use Rattle.m2m_names.specs.contracts.types.Ty as ty
 use Rattle.m2m_names.specs.declared.types.Ty.{Ty}
 use Rattle.m2m_value.specs.Code.{data_code}
-use Rattle.tree_model.specs.Attributes.{Row}
-use Rattle.tree_model.specs.Resource.{ResourceData}
+use Rattle.resource_model.specs.Attributes.{Row}
+use Rattle.resource_model.specs.Resource.{ResourceData}
 
 abbrev pub rows_code : Coded (List Row)
 rows_code = coded_list (coded× attr.the_row.coded data_code)

@@ -1,7 +1,7 @@
 use Rattle.std.proofs.Common.{◌≡◌, List, sym, ◌∙◌, subst}
-use Rattle.tree_model.specs.Attributes.{Row, AreInOrder, HoldsRow}
-use Rattle.tree_model.proofs.AttributeLemmas.{remove-HoldsRow, in_order-without_value}
-use Rattle.tree_model.proofs.attrs.take_out.Goals as goal
+use Rattle.resource_model.specs.Attributes.{Row, AreInOrder, HoldsRow}
+use Rattle.resource_model.proofs.AttributeLemmas.{remove-HoldsRow, in_order-without_value}
+use Rattle.resource_model.proofs.attrs.take_out.Goals as goal
 
 pub returns-in-Ok-clause-order : goal.returns-in-Ok-clause-order
 returns-in-Ok-clause-order c =

@@ -21,7 +21,7 @@ use Rattle.m2m_names.proofs.AttributeLemmas.{attr_again}
 use Rattle.m2m_names.specs.Attributes.{attr_short, attr_of_short}
 use Rattle.m2m_names.specs.declared.attributes.Attr.{Attr}
 use Rattle.m2m_value.specs.Data.{Data}
-use Rattle.tree_model.specs.Attributes.{Row, attr_cmp, is_attr, AreInOrder, value_of, rows_before, rows_after, with_value, without_value, HoldsRow, LacksRow}
+use Rattle.resource_model.specs.Attributes.{Row, attr_cmp, is_attr, AreInOrder, value_of, rows_before, rows_after, with_value, without_value, HoldsRow, LacksRow}
 
 -- ---- the order of attributes
 

@@ -1,8 +1,8 @@
 // A resource, and a change of one.
 ghost use Rattle.std.specs.Prelude.{◌≡◌, ◌<◌, ◌≤◌, ◌^◌, IfOk, OnOk, OnErr, IsUtf8, option_map};
 ghost use Rattle.m2m_names.specs.Stamps.{last_moment};
-ghost use Rattle.tree_model.specs.Attributes.{with_value, without_value};
-ghost use Rattle.tree_model.specs.Resource.{ResourceData, is_ty, ae_id, id_of};
+ghost use Rattle.resource_model.specs.Attributes.{with_value, without_value};
+ghost use Rattle.resource_model.specs.Resource.{ResourceData, is_ty, ae_id, id_of};
 
 use crate::attrs::{AttrSet, Attrs};
 use m2m_names::{Attr, Ty};
@@ -32,15 +32,15 @@ pub struct Resource {
 }
 
 impl Model for Resource {
-    ghost use Rattle.tree_model.specs.Resource.{ResourceData};
-    ghost use Rattle.tree_model.specs.Codes.{resource_code};
+    ghost use Rattle.resource_model.specs.Resource.{ResourceData};
+    ghost use Rattle.resource_model.specs.Codes.{resource_code};
 
     ghost Value = { ResourceData };
 
     ghost coded = { resource_code };
 
-    ghost use Rattle.tree_model.specs.Parts.{whole};
-    ghost use Rattle.tree_model.specs.Resource.{IsResource};
+    ghost use Rattle.resource_model.specs.Parts.{whole};
+    ghost use Rattle.resource_model.specs.Resource.{IsResource};
 
     ghost view = { whole };
 

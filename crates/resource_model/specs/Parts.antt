@@ -1,6 +1,6 @@
 -- A resource by what the code keeps.
-use Rattle.tree_model.specs.Resource.{ResourceData}
-use Rattle.tree_model.specs.declared.resource.Resource.TheInside.{Inside}
+use Rattle.resource_model.specs.Resource.{ResourceData}
+use Rattle.resource_model.specs.declared.resource.Resource.TheInside.{Inside}
 
 abbrev pub whole : Inside → ResourceData
 whole r = record {

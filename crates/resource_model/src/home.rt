@@ -1,9 +1,9 @@
 //! What an entity is called, and who runs it.
 ghost use Rattle.std.specs.Prelude.{◌≡◌, ◌↔◌, ℕ, Some, Err, IfOk, IfNone, IsUtf8};
 ghost use Rattle.std.specs.Bool.{OnTrue};
-ghost use Rattle.tree_model.specs.declared.home.HomeFault.TheVariants.{Bad};
-ghost use Rattle.tree_model.specs.Home as spec;
-ghost use Rattle.tree_model.specs.Home.{default_home};
+ghost use Rattle.resource_model.specs.declared.home.HomeFault.TheVariants.{Bad};
+ghost use Rattle.resource_model.specs.Home as spec;
+ghost use Rattle.resource_model.specs.Home.{default_home};
 ghost use Rattle.m2m_names.specs.Name as names;
 
 use m2m_names::{is_free_name, is_originator, is_resource_id};
@@ -33,7 +33,7 @@ pub enum HomeFault {
 
 impl From<OutOfMemory> for HomeFault {
     ghost use Rattle.std.specs.Prelude.{◌≡◌};
-    ghost use Rattle.tree_model.specs.declared.home.HomeFault.{HomeFault};
+    ghost use Rattle.resource_model.specs.declared.home.HomeFault.{HomeFault};
 
     ghost from_gives = { λ _ e. e ≡ HomeFault.OutOfMemory };
 
@@ -54,7 +54,7 @@ pub struct Home {
 }
 
 impl Model for Home {
-    ghost use Rattle.tree_model.specs.Home.{HomeData, IsHome};
+    ghost use Rattle.resource_model.specs.Home.{HomeData, IsHome};
 
     ghost Value = { HomeData };
 
@@ -108,8 +108,8 @@ fn first_bad(sp: &[u8], csi: &[u8], base: &[u8], cst: i64, admin: &[u8]) -> Opti
 
 impl Home {
     ghost use Rattle.std.specs.Prelude.{◌≡◌, ◌↔◌, ℕ, Some, Err, IfOk, IsUtf8};
-    ghost use Rattle.tree_model.specs.declared.home.HomeFault.TheVariants.{Bad};
-    ghost use Rattle.tree_model.specs.Home.{first_bad, default_home};
+    ghost use Rattle.resource_model.specs.declared.home.HomeFault.TheVariants.{Bad};
+    ghost use Rattle.resource_model.specs.Home.{first_bad, default_home};
 
     /// A home of these parts. The service provider, the CSE-ID, here without its slash, and the name of the CSEBase
     /// are free names, the last of them no resource id; the CSE type is 1, 2 or 3; the administrator is an originator.

@@ -1,6 +1,6 @@
 // Attributes with their values, and sets of attributes.
 ghost use Rattle.std.specs.Prelude.{◌≡◌, ◌<◌, ◌^◌, [], IfOk, OnOk, OnErr, IfSome, IsUtf8, MatchResult, option_map};
-ghost use Rattle.tree_model.specs.Attributes.{attr_cmp, AreInOrder, HoldsRow, LacksRow, value_of, with_value, without_value, count_at, count_of, text_at};
+ghost use Rattle.resource_model.specs.Attributes.{attr_cmp, AreInOrder, HoldsRow, LacksRow, value_of, with_value, without_value, count_at, count_of, text_at};
 
 use m2m_names::Attr;
 use m2m_value::{Text, Val};
@@ -16,8 +16,8 @@ pub struct Attrs {
 
 impl Model for Attrs {
     ghost use Rattle.std.specs.Prelude.{List};
-    ghost use Rattle.tree_model.specs.Attributes.{Row, AreInOrder};
-    ghost use Rattle.tree_model.specs.Codes.{rows_code};
+    ghost use Rattle.resource_model.specs.Attributes.{Row, AreInOrder};
+    ghost use Rattle.resource_model.specs.Codes.{rows_code};
 
     ghost Value = { List Row };
 

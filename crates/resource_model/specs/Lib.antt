@@ -1,0 +1,5 @@
+pub mod Attributes
+pub mod Codes
+pub mod Home
+pub mod Parts
+pub mod Resource

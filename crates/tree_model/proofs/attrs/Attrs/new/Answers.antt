@@ -1,7 +1,0 @@
-use Rattle.std.proofs.Common.{List, sym, subst}
-use Rattle.tree_model.specs.Attributes.{Row, AreInOrder}
-use Rattle.tree_model.proofs.AttributeLemmas.{no_rows}
-use Rattle.tree_model.proofs.attrs.Attrs.new.Goals as goal
-
-pub invariant_of-result : goal.invariant_of-result
-invariant_of-result c = subst AreInOrder (sym c.new.ensures.items) no_rows
