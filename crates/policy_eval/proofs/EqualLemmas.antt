@@ -1,6 +1,6 @@
 -- Lists of which an originator sees the same show it the same.
 use Rattle.std.specs.Prelude.{nat_lt}
-use Rattle.std.proofs.Common.{◌≡◌, ℕ, List, Bool, true, false, ◌&&◌, ◌||◌, Option, Some, None, option_map, refl, sym, ap, ◌∙◌}
+use Rattle.std.proofs.Common.{◌≡◌, ℕ, List, Bool, true, false, ◌&&◌, ◌||◌, map, Option, Some, None, option_map, refl, sym, ap, ◌∙◌}
 use Rattle.std.proofs.lemmas.Option.{same_Some}
 use Rattle.std.specs.Option.{option_map_or}
 use Rattle.m2m_names.specs.declared.attributes.Attr.{Attr}
@@ -10,40 +10,43 @@ use Rattle.resource_model.specs.Attributes.{value_of}
 use Rattle.resource_model.specs.Home.{HomeData}
 use Rattle.resource_model.specs.Resource.{ResourceData, is_ty}
 use Rattle.tree_model.specs.Tree.{at, has}
-use Rattle.tree_model.proofs.TreeLemmas.{has-map}
+use Rattle.tree_model.proofs.TreeLemmas.{at-map, has-map}
 use Rattle.policy_eval.specs.Alike.{Alike, is_one_of, shape_attrs}
 use Rattle.policy_eval.specs.Originators.{is_same}
 use Rattle.policy_eval.specs.Rules.{rules_in, fan_rules}
 use Rattle.policy_eval.specs.Rights.{bits_by, has_bits}
 use Rattle.policy_eval.specs.Seen.{create_bit, retrieve_bit, discovery_bit, may, fills, is_filled_in, may_use, found_attrs, limit_attrs, size_attrs, member_attrs, is_shown, is_way, first_url, seen, seen_list, Shows}
 use Rattle.policy_eval.proofs.AlikeLemmas.{rules-alike, fan_rules-alike}
-use Rattle.policy_eval.proofs.SeenLemmas.{at-seen, seen_alike, seen_list_alike, seen_shows}
+use Rattle.policy_eval.proofs.SeenLemmas.{at-seen, seen_alike, seen_map_alike, seen_shows}
 
--- ---- what rights show is the same on the seen list
+-- ---- what rights show is the same on what is seen of resources
 
-module _ (home : HomeData) (o : List ℕ) where
-  pub may-seen : (bit : ℕ) (nodes : List ResourceData) (r : ResourceData) → may home (seen_list home nodes o) o bit (seen home nodes o r) ≡ may home nodes o bit r
-  may-seen bit nodes r =
-      ap (λ bits. has_bits bits bit) ((rules-alike home o (seen_list home nodes o) nodes (seen_list_alike home nodes o) (seen home nodes o r) r (seen_alike home nodes o r)).bits 0)
+module _ (home : HomeData) (o : List ℕ) (nodes rs : List ResourceData) where
+  abbrev seen_of : List ResourceData
+  seen_of = map (seen home nodes o) rs
 
-  pub fills-seen : (nodes : List ResourceData) (r : ResourceData) → fills home (seen_list home nodes o) o (seen home nodes o r) ≡ fills home nodes o r
-  fills-seen nodes r =
-      ap (λ b. is_ty r.ty Container && (b || may home (seen_list home nodes o) o 4 (seen home nodes o r))) (may-seen create_bit nodes r)
-      ∙ ap (λ b. is_ty r.ty Container && (may home nodes o create_bit r || b)) (may-seen 4 nodes r)
+  pub may-seen : (bit : ℕ) (r : ResourceData) → may home (map (seen home nodes o) rs) o bit (seen home nodes o r) ≡ may home rs o bit r
+  may-seen bit r =
+      ap (λ bits. has_bits bits bit) ((rules-alike home o seen_of rs (seen_map_alike home nodes o rs) (seen home nodes o r) r (seen_alike home nodes o r)).bits 0)
 
-  pub is_filled_in-seen : (nodes : List ResourceData) (r : ResourceData) → is_filled_in home (seen_list home nodes o) o (seen home nodes o r) ≡ is_filled_in home nodes o r
-  is_filled_in-seen nodes r =
-      ap (λ (p : Option ResourceData). is_ty r.ty ContentInstance && option_map_or (fills home (seen_list home nodes o) o) p false) (at-seen home nodes o r.parent)
-      ∙ ap (λ b. is_ty r.ty ContentInstance && b) (above (at r.parent nodes))
+  pub fills-seen : (r : ResourceData) → fills home (map (seen home nodes o) rs) o (seen home nodes o r) ≡ fills home rs o r
+  fills-seen r =
+      ap (λ b. is_ty r.ty Container && (b || may home seen_of o 4 (seen home nodes o r))) (may-seen create_bit r)
+      ∙ ap (λ b. is_ty r.ty Container && (may home rs o create_bit r || b)) (may-seen 4 r)
+
+  pub is_filled_in-seen : (r : ResourceData) → is_filled_in home (map (seen home nodes o) rs) o (seen home nodes o r) ≡ is_filled_in home rs o r
+  is_filled_in-seen r =
+      ap (λ (p : Option ResourceData). is_ty r.ty ContentInstance && option_map_or (fills home seen_of o) p false) (at-map (seen home nodes o) (λ s. refl) r.parent rs)
+      ∙ ap (λ b. is_ty r.ty ContentInstance && b) (above (at r.parent rs))
     where
-      above : (p : Option ResourceData) → option_map_or (fills home (seen_list home nodes o) o) (option_map (seen home nodes o) p) false ≡ option_map_or (fills home nodes o) p false
+      above : (p : Option ResourceData) → option_map_or (fills home seen_of o) (option_map (seen home nodes o) p) false ≡ option_map_or (fills home rs o) p false
       above None = refl
-      above (Some p) = fills-seen nodes p
+      above (Some p) = fills-seen p
 
-  pub may_use-seen : (nodes : List ResourceData) (r : ResourceData) → may_use home (seen_list home nodes o) o (seen home nodes o r) ≡ may_use home nodes o r
-  may_use-seen nodes r =
-      ap (λ b. is_ty r.ty Group && (b || nat_lt 0 (bits_by home o (fan_rules (seen_list home nodes o) (seen home nodes o r))))) (may-seen 4 nodes r)
-      ∙ ap (λ bits. is_ty r.ty Group && (may home nodes o 4 r || nat_lt 0 bits)) ((fan_rules-alike home o (seen_list home nodes o) nodes (seen_list_alike home nodes o) (seen home nodes o r) r (seen_alike home nodes o r)).bits 0)
+  pub may_use-seen : (r : ResourceData) → may_use home (map (seen home nodes o) rs) o (seen home nodes o r) ≡ may_use home rs o r
+  may_use-seen r =
+      ap (λ b. is_ty r.ty Group && (b || nat_lt 0 (bits_by home o (fan_rules seen_of (seen home nodes o r))))) (may-seen 4 r)
+      ∙ ap (λ bits. is_ty r.ty Group && (may home rs o 4 r || nat_lt 0 bits)) ((fan_rules-alike home o seen_of rs (seen_map_alike home nodes o rs) (seen home nodes o r) r (seen_alike home nodes o r)).bits 0)
 
   -- an attribute is shown, by what the originator may do
   abbrev shown_by : Attr → Bool → Bool → Bool → Bool → Bool → Bool
@@ -51,15 +54,15 @@ module _ (home : HomeData) (o : List ℕ) where
       is_one_of shape_attrs a || retrieves || (finds && is_one_of found_attrs a) || (fill && is_one_of limit_attrs a)
       || (inside && is_one_of size_attrs a) || (uses && is_one_of member_attrs a)
 
-  pub is_shown-seen : (a : Attr) (nodes : List ResourceData) (r : ResourceData) → is_shown home (seen_list home nodes o) o (seen home nodes o r) a ≡ is_shown home nodes o r a
-  is_shown-seen a nodes r =
-      let ss = seen_list home nodes o in
+  pub is_shown-seen : (a : Attr) (r : ResourceData) → is_shown home (map (seen home nodes o) rs) o (seen home nodes o r) a ≡ is_shown home rs o r a
+  is_shown-seen a r =
+      let ss = seen_of in
       let s = seen home nodes o r in
-      ap (λ b. shown_by a b (may home ss o discovery_bit s) (fills home ss o s) (is_filled_in home ss o s) (may_use home ss o s)) (may-seen retrieve_bit nodes r)
-      ∙ ap (λ b. shown_by a (may home nodes o retrieve_bit r) b (fills home ss o s) (is_filled_in home ss o s) (may_use home ss o s)) (may-seen discovery_bit nodes r)
-      ∙ ap (λ b. shown_by a (may home nodes o retrieve_bit r) (may home nodes o discovery_bit r) b (is_filled_in home ss o s) (may_use home ss o s)) (fills-seen nodes r)
-      ∙ ap (λ b. shown_by a (may home nodes o retrieve_bit r) (may home nodes o discovery_bit r) (fills home nodes o r) b (may_use home ss o s)) (is_filled_in-seen nodes r)
-      ∙ ap (λ b. shown_by a (may home nodes o retrieve_bit r) (may home nodes o discovery_bit r) (fills home nodes o r) (is_filled_in home nodes o r) b) (may_use-seen nodes r)
+      ap (λ b. shown_by a b (may home ss o discovery_bit s) (fills home ss o s) (is_filled_in home ss o s) (may_use home ss o s)) (may-seen retrieve_bit r)
+      ∙ ap (λ b. shown_by a (may home rs o retrieve_bit r) b (fills home ss o s) (is_filled_in home ss o s) (may_use home ss o s)) (may-seen discovery_bit r)
+      ∙ ap (λ b. shown_by a (may home rs o retrieve_bit r) (may home rs o discovery_bit r) b (is_filled_in home ss o s) (may_use home ss o s)) (fills-seen r)
+      ∙ ap (λ b. shown_by a (may home rs o retrieve_bit r) (may home rs o discovery_bit r) (fills home rs o r) b (may_use home ss o s)) (is_filled_in-seen r)
+      ∙ ap (λ b. shown_by a (may home rs o retrieve_bit r) (may home rs o discovery_bit r) (fills home rs o r) (is_filled_in home rs o r) b) (may_use-seen r)
 
 -- ---- two lists of which the originator sees the same
 
@@ -74,22 +77,22 @@ module _ (home : HomeData) (o : List ℕ) (xs ys : List ResourceData) (same : se
     through f left right = sym left ∙ ap f e ∙ right
 
     retrieves : may home xs o retrieve_bit r ≡ may home ys o retrieve_bit q
-    retrieves = same_by (λ nodes s. may home nodes o retrieve_bit s) (may-seen home o retrieve_bit)
+    retrieves = same_by (λ nodes s. may home nodes o retrieve_bit s) (λ (nodes : List ResourceData). may-seen home o nodes nodes retrieve_bit)
 
     finds : may home xs o discovery_bit r ≡ may home ys o discovery_bit q
-    finds = same_by (λ nodes s. may home nodes o discovery_bit s) (may-seen home o discovery_bit)
+    finds = same_by (λ nodes s. may home nodes o discovery_bit s) (λ (nodes : List ResourceData). may-seen home o nodes nodes discovery_bit)
 
     filling : fills home xs o r ≡ fills home ys o q
-    filling = same_by (λ nodes s. fills home nodes o s) (fills-seen home o)
+    filling = same_by (λ nodes s. fills home nodes o s) (λ (nodes : List ResourceData). fills-seen home o nodes nodes)
 
     within : is_filled_in home xs o r ≡ is_filled_in home ys o q
-    within = same_by (λ nodes s. is_filled_in home nodes o s) (is_filled_in-seen home o)
+    within = same_by (λ nodes s. is_filled_in home nodes o s) (λ (nodes : List ResourceData). is_filled_in-seen home o nodes nodes)
 
     using_it : may_use home xs o r ≡ may_use home ys o q
-    using_it = same_by (λ nodes s. may_use home nodes o s) (may_use-seen home o)
+    using_it = same_by (λ nodes s. may_use home nodes o s) (λ (nodes : List ResourceData). may_use-seen home o nodes nodes)
 
     showing : (a : Attr) → is_shown home xs o r a ≡ is_shown home ys o q a
-    showing a = same_by (λ nodes s. is_shown home nodes o s a) (is_shown-seen home o a)
+    showing a = same_by (λ nodes s. is_shown home nodes o s a) (λ (nodes : List ResourceData). is_shown-seen home o nodes nodes a)
 
     value_through : (a : Attr) → value_of a (seen home xs o r).attrs ≡ value_of a r.attrs → value_of a (seen home ys o q).attrs ≡ value_of a q.attrs → value_of a r.attrs ≡ value_of a q.attrs
     value_through a left right = through (λ (x : ResourceData). value_of a x.attrs) left right

@@ -7,3 +7,4 @@ pub mod DueLemmas
 pub mod NameLemmas
 pub mod EqualLemmas
 pub mod RetrievedLemmas
+pub mod TwiceLemmas

@@ -79,7 +79,7 @@ above_less : (home : HomeData) (o : List ℕ) (f g : ResourceData → List Rule)
 above_less home o f g None q kept less = record { bits = zero_below _ }
 above_less home o f g (Some r) q kept less = rw (kept r refl) (less r)
 
-rules_less : (home : HomeData) (o : List ℕ) (less more : List ResourceData) → Keeps less more → (r : ResourceData) → GiveLess home o (rules_of less r) (rules_of more r)
+pub rules_less : (home : HomeData) (o : List ℕ) (less more : List ResourceData) → Keeps less more → (r : ResourceData) → GiveLess home o (rules_of less r) (rules_of more r)
 rules_less home o less more keeps r = elim (cases_Bool (is_ty r.ty AccessControlPolicy)) [
   | inl t ↦ rw t (record { bits = below_itself _ })
   | inr f ↦ rw f (elim (cases_Bool (is_ty r.ty ContentInstance)) [
@@ -91,7 +91,7 @@ rules_less home o less more keeps r = elim (cases_Bool (is_ty r.ty AccessControl
   ])
 ]
 
-fan_less : (home : HomeData) (o : List ℕ) (less more : List ResourceData) → Keeps less more → (r : ResourceData) → GiveLess home o (fan_rules less r) (fan_rules more r)
+pub fan_less : (home : HomeData) (o : List ℕ) (less more : List ResourceData) → Keeps less more → (r : ResourceData) → GiveLess home o (fan_rules less r) (fan_rules more r)
 fan_less home o less more keeps r = elim (cases_Bool (lists_ids Macp r)) [
   | inl t ↦ rw t (record { bits = joined_below home o Pv less more keeps (ids_at Macp r) 0 0 (below_itself 0) })
   | inr f ↦ rw f (rules_less home o less more keeps r)

@@ -72,7 +72,7 @@ with_below home o a (d ∷ ds) small = with_below home o (with_rule home o a (ru
 pub bits_below : (home : HomeData) (o : List ℕ) (d : Option Data) → bits_by home o (rules_in d) < 64
 bits_below home o d = with_below home o 0 (elements_in (option_and_then (member_at (codes "acr")) d)) (omega arith)
 
-plain_bits : (home : HomeData) (o : List ℕ) (n : ℕ) → n < 64 → bits_by home o (rules_in (Some (plain_rules n))) ≡ n
+pub plain_bits : (home : HomeData) (o : List ℕ) (n : ℕ) → n < 64 → bits_by home o (rules_in (Some (plain_rules n))) ≡ n
 plain_bits home o n small = rw (lt-ltb n 64 small) (same_from_bits _ _ (λ i. omega (arith, bit_at_or 0 n i, bit_at-zero i)))
 
 seen_same : (home : HomeData) (o : List ℕ) (d : Data) → GiveSame home o (rules_in (Some (seen_rules home o d))) (rules_in (Some d))
@@ -108,7 +108,7 @@ another_apart home o = false_from_ne_true _ (λ same.
 same_with_itself : (home : HomeData) (o : List ℕ) → is_same home o o ≡ true
 same_with_itself home o = (bytes_eq-Decides (full_form home o) (full_form home o)).1 refl
 
-owner_seen : (home : HomeData) (o : List ℕ) (r : ResourceData) → is_same home o (seen_owner home o r) ≡ is_same home o r.owner
+pub owner_seen : (home : HomeData) (o : List ℕ) (r : ResourceData) → is_same home o (seen_owner home o r) ≡ is_same home o r.owner
 owner_seen home o r = elim (cases_Bool (is_same home o r.owner)) [
   | inl t ↦ rw t (same_with_itself home o)
   | inr f ↦ rw f (another_apart home o)
@@ -192,7 +192,7 @@ hidden_row h a none (row ∷ rows) = elim (cases_Bool (is_attr a row.0)) [
   | inr f ↦ skipped a row.0 (h row.0 row.1) _ f ∙ hidden_row h a none rows
 ]
 
-find_passes : (p : List ℕ → Bool) (xs : List (List ℕ)) (x : List ℕ) → find p xs ≡ Some x → p x ≡ true
+pub find_passes : (p : List ℕ → Bool) (xs : List (List ℕ)) (x : List ℕ) → find p xs ≡ Some x → p x ≡ true
 find_passes p [] x found = cc
 find_passes p (y ∷ ys) x found = elim (cases_Bool (p y)) [
   | inl t ↦ (let here : Some y ≡ Some x = rw t at found in subst (λ z. p z ≡ true) (same_Some y x here) t)
@@ -200,7 +200,7 @@ find_passes p (y ∷ ys) x found = elim (cases_Bool (p y)) [
 ]
 
 -- the first URL of what is seen of points of access is their first URL
-one_point : (x : Option (List ℕ)) → ((u : List ℕ) → x ≡ Some u → is_url u ≡ true) → first_url (Some (list (elements_of (map text (option_to_list x))))) ≡ x
+pub one_point : (x : Option (List ℕ)) → ((u : List ℕ) → x ≡ Some u → is_url u ≡ true) → first_url (Some (list (elements_of (map text (option_to_list x))))) ≡ x
 one_point None passes = refl
 one_point (Some u) passes = rw (passes u refl) refl
 

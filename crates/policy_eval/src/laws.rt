@@ -1,10 +1,10 @@
 // Laws of rights, over every list.
-ghost use Rattle.std.specs.Prelude.{◌≡◌, ◌<◌, ◌^◌, List, ℕ, Some, IsTrue, map, option_map};
+ghost use Rattle.std.specs.Prelude.{◌≡◌, ◌<◌, ◌^◌, Bool, List, ℕ, Some, IsTrue, map, option_map};
 ghost use Rattle.resource_model.specs.Home.{HomeData};
 ghost use Rattle.m2m_names.specs.declared.types.Ty.TheVariants.{AccessControlPolicy};
 ghost use Rattle.resource_model.specs.Resource.{ResourceData, ae_id, id_of, is_ty};
 ghost use Rattle.tree_model.specs.Shown.{attributes_of};
-ghost use Rattle.tree_model.specs.Tree.{at, child_of, has, due, is_due, live, is_well_formed};
+ghost use Rattle.tree_model.specs.Tree.{at, child_of, has, due, is_due, live, is_well_formed, without};
 ghost use Rattle.policy_eval.specs.Alike.{AreAlike};
 ghost use Rattle.policy_eval.specs.Laws.{IsNeverGained};
 ghost use Rattle.policy_eval.specs.Rules.{policy_named, policy_number};
@@ -100,6 +100,20 @@ pub fn equal_sights_show_the_same()
     ensures shown { (home : HomeData) (o : List ℕ) (xs ys : List ResourceData) →
         seen_list home xs o ≡ seen_list home ys o → (n : ℕ) (r q s : ResourceData) →
         at n xs ≡ Some r → at n ys ≡ Some q → Shows home xs o r s → Shows home ys o q s }
+{}
+
+/// Where an originator sees the same of two lists, it still does after the same resources are
+/// removed from both, with what stands below them, and after what is due is removed.
+pub fn equal_sights_stay_equal_under_a_removal()
+    ensures removed { (home : HomeData) (xs ys : List ResourceData) (o : List ℕ)
+        (picks : ℕ → Bool) → IsTrue (is_well_formed xs) → IsTrue (is_well_formed ys) →
+        seen_list home xs o ≡ seen_list home ys o →
+        seen_list home (without (λ r. picks r.number) xs) o
+        ≡ seen_list home (without (λ r. picks r.number) ys) o }
+    ensures live { (home : HomeData) (xs ys : List ResourceData) (o : List ℕ) (moment : ℕ) →
+        IsTrue (is_well_formed xs) → IsTrue (is_well_formed ys) →
+        seen_list home xs o ≡ seen_list home ys o →
+        seen_list home (live moment xs) o ≡ seen_list home (live moment ys) o }
 {}
 
 /// The resource id of a policy spells its number, and so names it in every list that has it at that
