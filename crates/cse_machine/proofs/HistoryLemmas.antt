@@ -1,6 +1,8 @@
 -- Steps one after another.
-use Rattle.std.proofs.Common.{◌≡◌, ◌⊎◌, ℕ, [], ◌∷◌, ◌++◌, inl, inr, refl, sym, subst}
-use Rattle.turn_desk.specs.Entries.{entry_of}
+use Rattle.std.proofs.Common.{◌≡◌, ◌⊎◌, ℕ, List, [], ◌∷◌, ◌++◌, length, get_or, drop, inl, inr, refl, sym, ap, subst, ◌∙◌, arith}
+use Rattle.std.specs.List.{All}
+use Rattle.std.proofs.lemmas.List.Elements.{All-head, All-tail}
+use Rattle.turn_desk.specs.Entries.{entry_of, readings_of, events_of, outcomes_of}
 use Rattle.turn_desk.specs.Joins.{Runs-append}
 use Rattle.primitive_json.specs.declared.reply.ReplyParts.{ReplyParts}
 use Rattle.primitive_json.specs.declared.request.RequestParts.{RequestParts}
@@ -12,7 +14,8 @@ use Rattle.cse_machine.specs.declared.event.Event.TheVariants.{Ask}
 use Rattle.cse_machine.specs.declared.event.Outcome.{Outcome}
 use Rattle.cse_machine.specs.declared.event.Outcome.TheVariants.{Done, Starved}
 use Rattle.cse_machine.specs.Guard.{DoesShow, HasRetrieve}
-use Rattle.cse_machine.specs.History.{History, Leaves}
+use Rattle.cse_machine.specs.Answer.{answer}
+use Rattle.cse_machine.specs.History.{History, Leaves, IsDone}
 use Rattle.cse_machine.specs.Step.{Step}
 use Rattle.cse_machine.proofs.GuardLemmas.{shown_by_grant}
 
@@ -42,3 +45,41 @@ shown_in_history [] later opening e reading request reply run shows =
 shown_in_history (entry ∷ earlier) later opening e reading request reply run shows =
     let rest = shown_in_history earlier later run.0 e reading request reply run.2 shows in
     (rest.0, (run.0, run.1, rest.1), rest.2)
+
+-- ---- one way
+
+same_first : {A : Type 0} (x y : A) (xs ys : List A) → x ∷ xs ≡ y ∷ ys → x ≡ y
+same_first x y xs ys e = ap (λ l. get_or l 0 x) e
+
+same_rest : {A : Type 0} (x y : A) (xs ys : List A) → x ∷ xs ≡ y ∷ ys → xs ≡ ys
+same_rest x y xs ys e = ap (drop 1) e
+
+none_some : {A : Type 0} (x : A) (xs : List A) → [] ≡ x ∷ xs → ⊥
+none_some x xs e = omega (arith, ap length e)
+
+-- a step for which there is memory has one outcome and leaves one entity
+step_one_way : (reading : ℕ) (event : Event) (before after other : EntityData) (outcome twin : Outcome) → Step reading event before outcome after → Step reading event before twin other → IsDone outcome → IsDone twin → (outcome ≡ twin) × (after ≡ other)
+step_one_way reading (Ask request) before after other (Done reply) (Done replied) first second done dones =
+    let same = first.0 ∙ sym second.0 in
+    (ap Done (first.1 ∙ ap (λ (e : EntityData). answer e request) same ∙ sym second.1), same)
+step_one_way reading (Ask request) before after other (Done reply) (Starved none) first second done dones = absurd dones
+step_one_way reading (Ask request) before after other (Starved none) twin first second done dones = absurd done
+
+pub one_way : (history twin : History) (opening e other : EntityData) → Leaves opening history e → Leaves opening twin other
+    → readings_of history ≡ readings_of twin → events_of history ≡ events_of twin
+    → All IsDone (outcomes_of history) → All IsDone (outcomes_of twin) → (outcomes_of history ≡ outcomes_of twin) × (e ≡ other)
+one_way [] [] opening e other first second readings events done dones = (refl, first ∙ sym second)
+one_way [] (t ∷ twin) opening e other first second readings events done dones = absurd (none_some t.reading (readings_of twin) readings)
+one_way (h ∷ history) [] opening e other first second readings events done dones = absurd (none_some h.reading (readings_of history) (sym readings))
+one_way (h ∷ history) (t ∷ twin) opening e other first second readings events done dones =
+    let step =
+        step_one_way h.reading h.event opening first.0 second.0 h.outcome t.outcome first.1
+        (subst (λ (n : ℕ). Step n h.event opening t.outcome second.0) (sym (same_first h.reading t.reading (readings_of history) (readings_of twin) readings))
+        (subst (λ (v : Event). Step t.reading v opening t.outcome second.0) (sym (same_first h.event t.event (events_of history) (events_of twin) events)) second.1))
+        (All-head IsDone h.outcome (outcomes_of history) done) (All-head IsDone t.outcome (outcomes_of twin) dones) in
+    let rest =
+        one_way history twin first.0 e other first.2 (subst (λ (b : EntityData). Leaves b twin other) (sym step.1) second.2)
+        (same_rest h.reading t.reading (readings_of history) (readings_of twin) readings)
+        (same_rest h.event t.event (events_of history) (events_of twin) events)
+        (All-tail IsDone h.outcome (outcomes_of history) done) (All-tail IsDone t.outcome (outcomes_of twin) dones) in
+    (ap (λ (o : Outcome). o ∷ outcomes_of history) step.0 ∙ ap (λ (os : List Outcome). t.outcome ∷ os) rest.0, rest.1)

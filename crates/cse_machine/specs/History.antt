@@ -1,10 +1,12 @@
 -- What has happened at a CSE: its events one after another, with their readings and outcomes.
-use Rattle.std.specs.Prelude.{ℕ, List, [], ◌∷◌, ◌++◌}
-use Rattle.turn_desk.specs.Entries.{Entry, entry_of, Runs}
+use Rattle.std.specs.Prelude.{◌≡◌, ℕ, List, [], ◌∷◌, ◌++◌, ⊤}
+use Rattle.std.specs.List.{All}
+use Rattle.turn_desk.specs.Entries.{Entry, entry_of, readings_of, events_of, outcomes_of, Runs}
 use Rattle.create_delete.specs.Entity.{EntityData}
 use Rattle.create_delete.specs.Sound.{IsSound}
 use Rattle.cse_machine.specs.declared.event.Event.{Event}
 use Rattle.cse_machine.specs.declared.event.Outcome.{Outcome}
+use Rattle.cse_machine.specs.declared.event.Outcome.TheVariants.{Done, Starved}
 use Rattle.cse_machine.specs.Step.{Step}
 
 -- an event with its reading and its outcome, and a list of them
@@ -36,3 +38,18 @@ abbrev pub StaysSound : Type 0
 StaysSound =
     (opening e : EntityData) (history : History)
     → IsSound opening → Leaves opening history e → IsSound e
+
+-- there was memory for it
+abbrev pub IsDone : Outcome → Type 0
+IsDone (Done reply) = ⊤
+IsDone (Starved done) = ⊥
+
+-- Two histories from one entity that have the same events at the same readings have the same
+-- outcomes and leave the same entity, where there was memory for all of them.
+abbrev pub GoesOneWay : Type 0
+GoesOneWay =
+    (opening e other : EntityData) (history twin : History)
+    → Leaves opening history e → Leaves opening twin other
+    → readings_of history ≡ readings_of twin → events_of history ≡ events_of twin
+    → All IsDone (outcomes_of history) → All IsDone (outcomes_of twin)
+    → (outcomes_of history ≡ outcomes_of twin) × (e ≡ other)

@@ -1,6 +1,6 @@
 //! Laws of the machine, over its definitions.
 ghost use Rattle.cse_machine.specs.Guard.{IsShownByGrant, HistoryShowsByGrant, ChangesOnlyWhatIsDue};
-ghost use Rattle.cse_machine.specs.History.{BeginsLegal, StaysLegal, StaysSound};
+ghost use Rattle.cse_machine.specs.History.{BeginsLegal, StaysLegal, StaysSound, GoesOneWay};
 ghost use Rattle.cse_machine.specs.Sight.{IsAnsweredBySight, EqualSightsAnswerAlike};
 
 /// The reply to a request is a function of what its originator sees of the entity, of the reading
@@ -33,4 +33,9 @@ pub fn steps_make_a_legal_history()
     ensures begins { BeginsLegal }
     ensures grows { StaysLegal }
     ensures sound { StaysSound }
+{}
+
+/// The same events at the same readings have the same outcomes, where there is memory for them.
+pub fn a_history_goes_one_way()
+    ensures { GoesOneWay }
 {}

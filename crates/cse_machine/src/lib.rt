@@ -13,8 +13,9 @@ mod served;
 
 pub use event::{Asked, Event, Outcome};
 pub use laws::{
-    a_step_changes_only_what_is_due, an_originator_is_answered_by_what_it_sees,
-    equal_sights_are_answered_alike, nothing_is_shown_without_a_grant, steps_make_a_legal_history,
+    a_history_goes_one_way, a_step_changes_only_what_is_due,
+    an_originator_is_answered_by_what_it_sees, equal_sights_are_answered_alike,
+    nothing_is_shown_without_a_grant, steps_make_a_legal_history,
 };
 pub use machine::step;
 pub use served::is_served;

@@ -1,5 +1,5 @@
 -- The talk of frames that are joined.
-use Rattle.std.proofs.Common.{◌≡◌, ℕ, ◌+◌, Bool, false, List, [], ◌∷◌, ◌++◌, length, Option, Some, None, IsTrue, cond, inl, inr, refl, sym, ap, subst, ◌∙◌, arith, append_assoc}
+use Rattle.std.proofs.Common.{◌≡◌, ℕ, ◌+◌, Bool, true, false, List, [], ◌∷◌, ◌++◌, length, Option, Some, None, IsTrue, cond, inl, inr, refl, sym, ap, subst, ◌∙◌, arith, append_assoc, append-nil}
 use Rattle.std.proofs.lemmas.Bool.{cases_Bool, true≢false}
 use Rattle.std.specs.List.{cons_option}
 use Rattle.std.proofs.lemmas.List.Elements.{filter_map-append}
@@ -8,7 +8,7 @@ use Rattle.http_frames.specs.declared.frame.Frame.{Frame}
 use Rattle.http_binding.specs.Replying.{reply_text}
 use Rattle.cse_machine.specs.declared.event.Outcome.{Outcome}
 use Rattle.cse_server.specs.Closing.{closes}
-use Rattle.cse_server.specs.Talk.{request_in, requests_in, reply_for, outcomes_behind, replies, last_reply, talk, some_closes, ends_at_close}
+use Rattle.cse_server.specs.Talk.{request_in, requests_in, reply_for, outcomes_behind, replies, last_reply, talk, before_last, talk_before_last, some_closes, ends_at_close}
 
 -- ---- places
 
@@ -86,3 +86,39 @@ pub talk-append : (xs ys : List Frame) (place : ℕ) (refused : Bool) (os more :
 talk-append xs ys place refused os more stays same =
     ap (λ v. v ++ cond refused last_reply []) (replies-append xs ys place os more stays same)
     ∙ append_assoc (replies xs place os) (replies ys (place + length xs) more) (cond refused last_reply [])
+
+-- ---- all but what is said last
+
+before_last-append : (xs : List Frame) (y : Frame) (ys : List Frame) → before_last (xs ++ y ∷ ys) ≡ xs ++ before_last (y ∷ ys)
+before_last-append [] y ys = refl
+before_last-append (x ∷ []) y ys = refl
+before_last-append (x ∷ next ∷ xs) y ys = ap (λ v. x ∷ v) (before_last-append (next ∷ xs) y ys)
+
+-- the replies to all frames but the last, and then the one to that
+replies-last : (xs : List Frame) (place : ℕ) (os : List Outcome) → (last : List ℕ) × (replies xs place os ≡ replies (before_last xs) place os ++ last)
+replies-last [] place os = ([], refl)
+replies-last (x ∷ []) place os = (replies (x ∷ []) place os, refl)
+replies-last (x ∷ next ∷ xs) place os = elim (cases_Bool (closes place x)) [
+  | inl t ↦ ([], rw t (sym (append-nil _)))
+  | inr f ↦
+    let rest = replies-last (next ∷ xs) (place + 1) (outcomes_behind (request_in x) os) in
+    (rest.0, rw f (ap (λ v. reply_text (reply_for x (request_in x) os) false ++ v) rest.1 ∙ sym (append_assoc (reply_text (reply_for x (request_in x) os) false) (replies (before_last (next ∷ xs)) (place + 1) (outcomes_behind (request_in x) os)) rest.0)))
+]
+
+-- Frames that were answered, and then all but what is said last of others: it is all but what is said last of both, and
+-- perhaps more.
+pub before_last-joined : (xs ys : List Frame) (place : ℕ) (refused : Bool) (os more : List Outcome) → some_closes xs place ≡ false → length os ≡ length (requests_in xs)
+    → (last : List ℕ) × (replies xs place os ++ talk_before_last (place + length xs) ys refused more ≡ talk_before_last place (xs ++ ys) refused (os ++ more) ++ last)
+before_last-joined xs ys place true os more stays same =
+    ([], sym (replies-append xs ys place os more stays same) ∙ sym (append-nil _))
+before_last-joined xs [] place false os more stays same =
+    let last = replies-last (xs ++ []) place (os ++ more) in
+    (last.0, sym (replies-append xs [] place os more stays same) ∙ last.1)
+before_last-joined xs (y ∷ ys) place false os more stays same =
+    ([], sym (replies-append xs (before_last (y ∷ ys)) place os more stays same)
+    ∙ ap (λ fs. replies fs place (os ++ more)) (sym (before_last-append xs y ys)) ∙ sym (append-nil _))
+
+-- nothing is said before what is said last of at most one frame
+pub nothing_before : (place : ℕ) (refused : Bool) → talk_before_last place [] refused [] ≡ []
+nothing_before place true = refl
+nothing_before place false = refl

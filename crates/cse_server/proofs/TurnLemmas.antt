@@ -18,11 +18,12 @@ use Rattle.cse_machine.specs.declared.event.Outcome.{Outcome}
 use Rattle.cse_server.specs.declared.connection.Ended.{Ended}
 use Rattle.cse_server.specs.declared.connection.Ended.TheVariants.{Closed, NoFrame, ReadFault, WriteFault, Memory}
 use Rattle.cse_server.specs.Closing.{closes}
-use Rattle.cse_server.specs.Talk.{replies, talk, some_closes, ends_at_close}
-use Rattle.cse_server.specs.Connection.{IsThese, RefusesRightly, EndsRightly, Says, ServesFrom}
+use Rattle.cse_server.specs.Talk.{replies, last_reply, talk, talk_before_last, some_closes, ends_at_close}
+use Rattle.cse_server.specs.Connection.{IsThese, RefusesRightly, EndsRightly, AppendsCut, Says, ServesFrom}
 use Rattle.cse_server.specs.Way.{Leads, Goes, Hears, Refuses, SaysTurn, Turns, end_of_put}
 use Rattle.cse_server.proofs.NextLemmas.{kept_leads, ended_empty, refused_rightly, replies-one, some_closes-one}
-use Rattle.cse_server.proofs.PutLemmas.{prefix_none}
+use Rattle.cse_server.proofs.PutLemmas.{prefix_none, cut_first}
+use Rattle.cse_server.proofs.TalkLemmas.{nothing_before}
 use Rattle.cse_server.proofs.WayLemmas.{Tells-nil}
 
 appends_nothing : (o : Option (List ℕ)) → Appends o o []
@@ -43,13 +44,13 @@ end_or e (Some d) = d
 some_same : (ended : Ended) → Some ended ≡ Some Memory → ended ≡ Memory
 some_same ended e = ap (end_or ended) e
 
--- what an answer says that ended the connection
-turn_says : (place : ℕ) (frame : Frame) (ended : Ended) (old new : Option (List ℕ)) (text : List ℕ) → SaysTurn place frame (Some ended) old new text → Says ended old new (text ++ [])
-turn_says place frame Closed old new text said = subst (λ (v : List ℕ). Appends old new v) (sym (append-nil text)) said.1
-turn_says place frame NoFrame old new text said = absurd said
-turn_says place frame ReadFault old new text said = absurd said
-turn_says place frame WriteFault old new text said = subst (λ (v : List ℕ). AppendsPrefix old new v) (sym (append-nil text)) said
-turn_says place frame Memory old new text said = subst (λ (v : List ℕ). AppendsPrefix old new v) (sym (append-nil text)) said
+-- what an answer says that ended the connection, before which nothing was said
+turn_says : (place : ℕ) (frame : Frame) (ended : Ended) (old new : Option (List ℕ)) (before text : List ℕ) → before ≡ [] → SaysTurn place frame (Some ended) old new text → Says ended old new before (text ++ [])
+turn_says place frame Closed old new before text none said = subst (λ (v : List ℕ). Appends old new v) (sym (append-nil text)) said.1
+turn_says place frame NoFrame old new before text none said = absurd said
+turn_says place frame ReadFault old new before text none said = absurd said
+turn_says place frame WriteFault old new before text none said = subst (λ (v : List ℕ). AppendsCut old new before v) (sym (append-nil text)) (cut_first old new before text none said)
+turn_says place frame Memory old new before text none said = subst (λ (v : List ℕ). AppendsCut old new before v) (sym (append-nil text)) (cut_first old new before text none said)
 
 turn_ends : (place : ℕ) (frame : Frame) (ended : Ended) (heard : List Frame) (old new : Option (List ℕ)) (text rest : List ℕ) (src : Option (List ℕ)) → heard ≡ frame ∷ [] → SaysTurn place frame (Some ended) old new text → EndsRightly place ended false heard rest src
 turn_ends place frame Closed heard old new text rest src same said =
@@ -128,7 +129,7 @@ module _ {S : Type 0} (grown : S → List (Marked Event Outcome) → S → Type 
     -- nothing was heard, and the connection ended so
     pub serves_none : (place : ℕ) (seat : S) (left src old new given : Option (List ℕ)) (refused : Bool) (ended : Ended)
         → IfSome left (λ bytes. RefusesRightly place refused [] bytes × EndsRightly place ended refused [] bytes src)
-        → Says ended old new (talk place [] refused [])
+        → Says ended old new [] (talk place [] refused [])
         → ServesFrom place grown seat seat left src old new given given ended
     serves_none place seat left src old new given refused ended stream said = record {
       heard = [];
@@ -139,7 +140,7 @@ module _ {S : Type 0} (grown : S → List (Marked Event Outcome) → S → Type 
       clock = Tells-nil given;
       up_to = refl;
       stream = here left stream;
-      said = said;
+      said = subst (λ (before : List ℕ). Says ended old new before (talk place [] refused [])) (sym (nothing_before place refused)) said;
     }
       where
         here : (left : Option (List ℕ)) → IfSome left (λ bytes. RefusesRightly place refused [] bytes × EndsRightly place ended refused [] bytes src)
@@ -173,7 +174,7 @@ module _ {S : Type 0} (grown : S → List (Marked Event Outcome) → S → Type 
 
     -- memory ran out
     pub serves_starved : (place : ℕ) (seat : S) (left src old given : Option (List ℕ)) → ServesFrom place grown seat seat left src old old given given Memory
-    serves_starved place seat left src old given = serves_none place seat left src old old given false Memory (all left) (prefix_none old [])
+    serves_starved place seat left src old given = serves_none place seat left src old old given false Memory (all left) (cut_first old old [] [] refl (prefix_none old []))
       where
         all : (left : Option (List ℕ)) → IfSome left (λ bytes. RefusesRightly place false [] bytes × EndsRightly place Memory false [] bytes src)
         all None = tt
@@ -192,13 +193,13 @@ module _ {S : Type 0} (grown : S → List (Marked Event Outcome) → S → Type 
         all (Some bytes) h = ((λ t. (refl, h.0, h.1)), refl)
     serves_refused place seat left rest src held now old new given ReadFault reads holds put = absurd put
     serves_refused place seat left rest src held now old new given WriteFault reads holds put =
-        serves_none place seat (stream_of held left) src old new given true WriteFault (all (stream_of held left) (refused_rightly left rest held now reads holds)) put
+        serves_none place seat (stream_of held left) src old new given true WriteFault (all (stream_of held left) (refused_rightly left rest held now reads holds)) (cut_first old new [] last_reply refl put)
       where
         all : (left : Option (List ℕ)) → IfSome left (λ bytes. (bytes ≢ []) × HasNoFrame Request bytes) → IfSome left (λ bytes. RefusesRightly place true [] bytes × EndsRightly place WriteFault true [] bytes src)
         all None h = tt
         all (Some bytes) h = ((λ t. (refl, h.0, h.1)), tt)
     serves_refused place seat left rest src held now old new given Memory reads holds put =
-        serves_none place seat (stream_of held left) src old new given true Memory (all (stream_of held left) (refused_rightly left rest held now reads holds)) put
+        serves_none place seat (stream_of held left) src old new given true Memory (all (stream_of held left) (refused_rightly left rest held now reads holds)) (cut_first old new [] last_reply refl put)
       where
         all : (left : Option (List ℕ)) → IfSome left (λ bytes. (bytes ≢ []) × HasNoFrame Request bytes) → IfSome left (λ bytes. RefusesRightly place true [] bytes × EndsRightly place Memory true [] bytes src)
         all None h = tt
@@ -237,7 +238,7 @@ module _ {S : Type 0} (grown : S → List (Marked Event Outcome) → S → Type 
       clock = t.clock;
       up_to = subst (λ (fs : List Frame). IsTrue (ends_at_close fs place)) (sym same) refl;
       stream = turn_stream left rest src place frame ended t.heard old new (replies t.heard place t.outcomes) same leads t.said;
-      said = turn_says place frame ended old new (replies t.heard place t.outcomes) t.said;
+      said = turn_says place frame ended old new _ (replies t.heard place t.outcomes) (ap (λ (fs : List Frame). talk_before_last place fs false t.outcomes) same) t.said;
     }
     | inr starved ↦ record {
       heard = t.heard;
@@ -248,7 +249,7 @@ module _ {S : Type 0} (grown : S → List (Marked Event Outcome) → S → Type 
       clock = t.clock;
       up_to = subst (λ (fs : List Frame). IsTrue (ends_at_close fs place)) (sym starved.0) refl;
       stream = starved_stream left src place ended t.heard starved.0 (some_same ended starved.1);
-      said = turn_says place frame ended old new (replies t.heard place t.outcomes) t.said;
+      said = turn_says place frame ended old new _ (replies t.heard place t.outcomes) (ap (λ (fs : List Frame). talk_before_last place fs false t.outcomes) starved.0) t.said;
     }
   ]
 

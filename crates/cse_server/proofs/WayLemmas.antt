@@ -4,7 +4,6 @@ use Rattle.std.proofs.KnownBytes.{Appends-trans}
 use Rattle.std.proofs.lemmas.List.{map-append, length-map}
 use Rattle.std.specs.Io.KnownBytes.{Appends}
 use Rattle.m2m_io.specs.Told.{Tells}
-use Rattle.m2m_io.proofs.ToldLemmas.{prefix_behind}
 use Rattle.turn_desk.specs.Entries.{Marked}
 use Rattle.turn_desk.specs.Growth.{AsksAll}
 use Rattle.turn_desk.proofs.GrowthLemmas.{AsksAll-append}
@@ -17,7 +16,8 @@ use Rattle.cse_server.specs.declared.connection.Ended.TheVariants.{Closed, NoFra
 use Rattle.cse_server.specs.Talk.{requests_in, replies, talk, some_closes}
 use Rattle.cse_server.specs.Connection.{IsThese, RefusesRightly, EndsRightly, Says, ServesFrom}
 use Rattle.cse_server.specs.Way.{Leads, Goes}
-use Rattle.cse_server.proofs.TalkLemmas.{some_closes-append, ends_at_close-append, requests_in-append, replies-append, talk-append}
+use Rattle.cse_server.proofs.TalkLemmas.{some_closes-append, ends_at_close-append, requests_in-append, replies-append, talk-append, before_last-joined}
+use Rattle.cse_server.proofs.PutLemmas.{cut_behind}
 
 -- ---- readings
 
@@ -73,12 +73,12 @@ stream_then place between xs ys refused ended (Some a) (Some b) now stays places
   Ends-then place between ended refused xs ys then.0 now stays places then.3,
 )
 
-Says-then : (ended : Ended) (old put new : Option (List ℕ)) (text more : List ℕ) → Appends old put text → Says ended put new more → Says ended old new (text ++ more)
-Says-then Closed old put new text more a b = Appends-trans old put new text more a b
-Says-then NoFrame old put new text more a b = Appends-trans old put new text more a b
-Says-then ReadFault old put new text more a b = Appends-trans old put new text more a b
-Says-then WriteFault old put new text more a b = prefix_behind old put new text more a b
-Says-then Memory old put new text more a b = prefix_behind old put new text more a b
+Says-then : (ended : Ended) (old put new : Option (List ℕ)) (replied before both more last : List ℕ) → replied ++ before ≡ both ++ last → Appends old put replied → Says ended put new before more → Says ended old new both (replied ++ more)
+Says-then Closed old put new replied before both more last joined a b = Appends-trans old put new replied more a b
+Says-then NoFrame old put new replied before both more last joined a b = Appends-trans old put new replied more a b
+Says-then ReadFault old put new replied before both more last joined a b = Appends-trans old put new replied more a b
+Says-then WriteFault old put new replied before both more last joined a b = cut_behind old put new replied before both more last joined a b
+Says-then Memory old put new replied before both more last joined a b = cut_behind old put new replied before both more last joined a b
 
 -- ---- questions
 
@@ -128,6 +128,9 @@ module _ {S : Type 0} (grown : S → List (Marked Event Outcome) → S → Type 
     clock = Tells-append a.readings b.readings given told then a.clock b.clock;
     up_to = ends_at_close-append a.heard b.heard place a.stays_on (rw a.places b.up_to);
     stream = stream_then place between a.heard b.heard b.refused ended left mid now a.stays_on a.places a.stream b.stream;
-    said = rw (talk-append a.heard b.heard place b.refused a.outcomes b.outcomes a.stays_on (outcomes_fit before seat a.readings a.heard a.outcomes a.asked), a.places)
-        (Says-then ended old put new (replies a.heard place a.outcomes) (talk between b.heard b.refused b.outcomes) a.said b.said);
+    said =
+        let fit = outcomes_fit before seat a.readings a.heard a.outcomes a.asked in
+        let joined = rw a.places at before_last-joined a.heard b.heard place b.refused a.outcomes b.outcomes a.stays_on fit in
+        rw (talk-append a.heard b.heard place b.refused a.outcomes b.outcomes a.stays_on fit, a.places)
+        (Says-then ended old put new (replies a.heard place a.outcomes) _ _ (talk between b.heard b.refused b.outcomes) joined.0 joined.1 a.said b.said);
   }

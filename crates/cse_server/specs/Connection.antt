@@ -1,7 +1,7 @@
 -- What serving a connection does: to its bytes, to the seat at the desk, and to the clock.
 use Rattle.std.specs.Prelude.{◌≡◌, ◌≢◌, ℕ, Bool, true, false, List, [], ◌∷◌, ◌++◌, map, Option, IfSome, IsTrue, ⊤}
 use Rattle.std.specs.Io.KnownBytes.{Appends}
-use Rattle.m2m_io.specs.Told.{AppendsPrefix, Tells}
+use Rattle.m2m_io.specs.Told.{Tells}
 use Rattle.turn_desk.specs.Entries.{Marked}
 use Rattle.turn_desk.specs.Growth.{AsksAll}
 use Rattle.http_frames.specs.declared.frame.Frame.{Frame}
@@ -12,7 +12,7 @@ use Rattle.cse_machine.specs.declared.event.Event.TheVariants.{Ask}
 use Rattle.cse_machine.specs.declared.event.Outcome.{Outcome}
 use Rattle.cse_server.specs.declared.connection.Ended.{Ended}
 use Rattle.cse_server.specs.declared.connection.Ended.TheVariants.{Closed, NoFrame, ReadFault, WriteFault, Memory}
-use Rattle.cse_server.specs.Talk.{requests_in, talk, some_closes, ends_at_close}
+use Rattle.cse_server.specs.Talk.{requests_in, talk, talk_before_last, some_closes, ends_at_close}
 
 -- ---- streams
 
@@ -46,13 +46,20 @@ EndsRightly place ReadFault refused heard rest now =
 EndsRightly place WriteFault refused heard rest now = ⊤
 EndsRightly place Memory refused heard rest now = ⊤
 
--- The bytes that are written where it ends so: all of its talk, or a prefix of it.
-abbrev pub Says : Ended → Option (List ℕ) → Option (List ℕ) → List ℕ → Type 0
-Says Closed old new text = Appends old new text
-Says NoFrame old new text = Appends old new text
-Says ReadFault old new text = Appends old new text
-Says WriteFault old new text = AppendsPrefix old new text
-Says Memory old new text = AppendsPrefix old new text
+-- The first of these texts is written, and then a part of what the second has behind it.
+pub record AppendsCut (old new : Option (List ℕ)) (before text : List ℕ) : Type 0 where
+  pub part : List ℕ
+  pub missing : List ℕ
+  pub text_is : text ≡ before ++ (part ++ missing)
+  pub written : Appends old new (before ++ part)
+
+-- The bytes that are written where it ends so: all of its talk; or all but what the talk ends with, and of that a part.
+abbrev pub Says : Ended → Option (List ℕ) → Option (List ℕ) → List ℕ → List ℕ → Type 0
+Says Closed old new before text = Appends old new text
+Says NoFrame old new before text = Appends old new text
+Says ReadFault old new before text = Appends old new text
+Says WriteFault old new before text = AppendsCut old new before text
+Says Memory old new before text = AppendsCut old new before text
 
 -- A connection was served at a seat, from the frame at this place on. Of the bytes that it had left, `heard` are the
 -- requests that were read, and `now` are those that it has left now; `given` and `told` are the readings that the clock
@@ -71,7 +78,7 @@ pub record ServesFrom {S : Type 0} (place : ℕ) (grown : S → List (Marked Eve
   pub stream : IfSome left (λ bytes. (rest : List ℕ) × IsThese bytes heard rest
       × RefusesRightly place refused heard rest × EndsRightly place ended refused heard rest now)
   -- their talk by these outcomes is written
-  pub said : Says ended old new (talk place heard refused outcomes)
+  pub said : Says ended old new (talk_before_last place heard refused outcomes) (talk place heard refused outcomes)
 
 -- A connection was served at a seat, from its first frame on.
 abbrev pub Serves : {S : Type 0} → (S → List (Marked Event Outcome) → S → Type 0) → S → S

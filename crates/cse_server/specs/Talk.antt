@@ -79,7 +79,17 @@ ends_at_close (frame ∷ next ∷ frames) place =
 abbrev pub last_reply : List ℕ
 last_reply = reply_text (malformed None) true
 
+-- the frames before the last one
+abbrev pub before_last : List Frame → List Frame
+before_last [] = []
+before_last (frame ∷ []) = []
+before_last (frame ∷ next ∷ frames) = frame ∷ before_last (next ∷ frames)
+
 -- The talk of a connection from the frame at this place on, which is the first of these: the replies to its frames, by
 -- the outcomes of their requests, and the last reply where the rest of its stream is refused.
 abbrev pub talk : ℕ → List Frame → Bool → List Outcome → List ℕ
 talk place frames refused outcomes = replies frames place outcomes ++ (if refused then last_reply else [])
+
+-- The talk but for what it ends with: the last reply where the rest is refused, else the reply to the last frame.
+abbrev pub talk_before_last : ℕ → List Frame → Bool → List Outcome → List ℕ
+talk_before_last place frames refused outcomes = replies (if refused then frames else before_last frames) place outcomes
