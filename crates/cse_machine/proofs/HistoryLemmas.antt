@@ -48,13 +48,13 @@ shown_in_history (entry ∷ earlier) later opening e reading request reply run s
 
 -- ---- one way
 
-same_first : {A : Type 0} (x y : A) (xs ys : List A) → x ∷ xs ≡ y ∷ ys → x ≡ y
+pub same_first : {A : Type 0} (x y : A) (xs ys : List A) → x ∷ xs ≡ y ∷ ys → x ≡ y
 same_first x y xs ys e = ap (λ l. get_or l 0 x) e
 
-same_rest : {A : Type 0} (x y : A) (xs ys : List A) → x ∷ xs ≡ y ∷ ys → xs ≡ ys
+pub same_rest : {A : Type 0} (x y : A) (xs ys : List A) → x ∷ xs ≡ y ∷ ys → xs ≡ ys
 same_rest x y xs ys e = ap (drop 1) e
 
-none_some : {A : Type 0} (x : A) (xs : List A) → [] ≡ x ∷ xs → ⊥
+pub none_some : {A : Type 0} (x : A) (xs : List A) → [] ≡ x ∷ xs → ⊥
 none_some x xs e = omega (arith, ap length e)
 
 -- a step for which there is memory has one outcome and leaves one entity

@@ -1,13 +1,17 @@
 -- What an originator sees of an entity, and that it is answered by no more than that.
 use Rattle.std.specs.Prelude.{◌≡◌, ℕ, List, Some}
+use Rattle.std.specs.List.{All}
+use Rattle.turn_desk.specs.Entries.{readings_of, events_of, outcomes_of}
 use Rattle.primitive_json.specs.declared.reply.ReplyParts.{ReplyParts}
 use Rattle.primitive_json.specs.declared.request.RequestParts.{RequestParts}
 use Rattle.policy_eval.specs.Seen.{seen_list}
 use Rattle.create_delete.specs.Entity.{EntityData, swept}
 use Rattle.create_delete.specs.Sound.{IsSound}
+use Rattle.cse_machine.specs.declared.event.Event.{Event}
 use Rattle.cse_machine.specs.declared.event.Event.TheVariants.{Ask}
 use Rattle.cse_machine.specs.declared.event.Outcome.TheVariants.{Done}
 use Rattle.cse_machine.specs.Answer.{answer}
+use Rattle.cse_machine.specs.History.{History, Leaves, IsDone}
 use Rattle.cse_machine.specs.Step.{Step}
 
 -- the entity as the originator sees it: what its rights don't show of the resources is cut out
@@ -28,3 +32,20 @@ EqualSightsAnswerAlike =
     → Step reading (Ask request) left (Done reply) after
     → Step reading (Ask request) right (Done replied) other
     → reply ≡ replied
+
+-- the event is a request of this originator
+abbrev pub IsBy : List ℕ → Event → Type 0
+IsBy o (Ask request) = request.fr ≡ Some o
+
+-- Two entities of which the originator sees the same answer its requests, one after another at the
+-- same readings, alike, where there is memory for all of them; and it sees the same of what they
+-- leave.
+abbrev pub EqualSightsStayAlike : Type 0
+EqualSightsStayAlike =
+    (left right after other : EntityData) (o : List ℕ) (history twin : History)
+    → IsSound left → IsSound right → sight o left ≡ sight o right
+    → Leaves left history after → Leaves right twin other
+    → readings_of history ≡ readings_of twin → events_of history ≡ events_of twin
+    → All (IsBy o) (events_of history)
+    → All IsDone (outcomes_of history) → All IsDone (outcomes_of twin)
+    → (outcomes_of history ≡ outcomes_of twin) × (sight o after ≡ sight o other)

@@ -1,7 +1,7 @@
 //! Laws of the machine, over its definitions.
 ghost use Rattle.cse_machine.specs.Guard.{IsShownByGrant, HistoryShowsByGrant, ChangesOnlyWhatIsDue};
 ghost use Rattle.cse_machine.specs.History.{BeginsLegal, StaysLegal, StaysSound, GoesOneWay};
-ghost use Rattle.cse_machine.specs.Sight.{IsAnsweredBySight, EqualSightsAnswerAlike};
+ghost use Rattle.cse_machine.specs.Sight.{IsAnsweredBySight, EqualSightsAnswerAlike, EqualSightsStayAlike};
 
 /// The reply to a request is a function of what its originator sees of the entity, of the reading
 /// and of the request.
@@ -10,9 +10,10 @@ pub fn an_originator_is_answered_by_what_it_sees()
 {}
 
 /// Two sound entities of which an originator sees the same give it the same reply to the same
-/// request at the same reading.
+/// request at the same reading: at a step, and so all along a history in which it alone asks.
 pub fn equal_sights_are_answered_alike()
-    ensures { EqualSightsAnswerAlike }
+    ensures steps { EqualSightsAnswerAlike }
+    ensures histories { EqualSightsStayAlike }
 {}
 
 /// A reply with content, or with the status that a request was served, comes only to an originator

@@ -1,0 +1,86 @@
+-- Entities of which an originator sees the same, one step after another.
+use Rattle.std.proofs.Common.{◌≡◌, ℕ, List, [], ◌∷◌, Option, Some, refl, sym, ap, subst, ◌∙◌}
+use Rattle.std.specs.List.{All}
+use Rattle.std.proofs.lemmas.List.Elements.{All-head, All-tail}
+use Rattle.turn_desk.specs.Entries.{readings_of, events_of, outcomes_of}
+use Rattle.primitive_json.specs.declared.request.RequestParts.{RequestParts}
+use Rattle.resource_model.specs.Home.{HomeData}
+use Rattle.resource_model.specs.Resource.{ResourceData}
+use Rattle.tree_model.specs.Tree.{live}
+use Rattle.policy_eval.specs.Seen.{seen_list}
+use Rattle.policy_eval.proofs.TwiceLemmas.{live-same}
+use Rattle.create_delete.specs.Entity.{EntityData, moment_of, swept}
+use Rattle.create_delete.specs.Sound.{IsSound}
+use Rattle.create_delete.proofs.SoundLemmas.{sound_swept}
+use Rattle.cse_machine.specs.declared.event.Event.{Event}
+use Rattle.cse_machine.specs.declared.event.Event.TheVariants.{Ask}
+use Rattle.cse_machine.specs.declared.event.Outcome.{Outcome}
+use Rattle.cse_machine.specs.declared.event.Outcome.TheVariants.{Done, Starved}
+use Rattle.cse_machine.specs.Answer.{answer}
+use Rattle.cse_machine.specs.History.{History, Leaves, IsDone}
+use Rattle.cse_machine.specs.Sight.{sight, IsBy}
+use Rattle.cse_machine.specs.Step.{Step}
+use Rattle.cse_machine.proofs.HistoryLemmas.{none_some, same_first, same_rest}
+use Rattle.cse_machine.proofs.SightLemmas.{answers-alike}
+
+module _ (o : List ℕ) (one other : EntityData) (sound : IsSound one) (sounds : IsSound other) (same : sight o one ≡ sight o other) where
+  same_home : one.home ≡ other.home
+  same_home = ap (λ (e : EntityData). e.home) same
+
+  same_last : one.last ≡ other.last
+  same_last = ap (λ (e : EntityData). e.last) same
+
+  same_seen : seen_list one.home one.nodes o ≡ seen_list one.home other.nodes o
+  same_seen = ap (λ (e : EntityData). e.nodes) same ∙ ap (λ (h : HomeData). seen_list h other.nodes o) (sym same_home)
+
+  -- what is left of both at a moment is seen alike
+  seen_left : (reading : ℕ) → seen_list one.home (live (moment_of one.last reading) one.nodes) o ≡ seen_list other.home (live (moment_of other.last reading) other.nodes) o
+  seen_left reading =
+      live-same one.home one.nodes other.nodes o (moment_of one.last reading) sound.tree sounds.tree same_seen
+      ∙ ap (λ (h : HomeData). seen_list h (live (moment_of one.last reading) other.nodes) o) same_home
+      ∙ ap (λ (n : ℕ). seen_list other.home (live (moment_of n reading) other.nodes) o) same_last
+
+  -- the entity of these parts
+  abbrev entity_of : HomeData → List ResourceData → ℕ → ℕ → EntityData
+  entity_of home nodes next last = record { home = home; nodes = nodes; next = next; last = last }
+
+  pub swept-alike : (reading : ℕ) → sight o (swept reading one) ≡ sight o (swept reading other)
+  swept-alike reading =
+      ap (λ (ns : List ResourceData). entity_of one.home ns one.next (moment_of one.last reading)) (seen_left reading)
+      ∙ ap (λ (h : HomeData). entity_of h (seen_list other.home (live (moment_of other.last reading) other.nodes) o) one.next (moment_of one.last reading)) same_home
+      ∙ ap (λ (n : ℕ). entity_of other.home (seen_list other.home (live (moment_of other.last reading) other.nodes) o) n (moment_of one.last reading)) (ap (λ (e : EntityData). e.next) same)
+      ∙ ap (λ (n : ℕ). entity_of other.home (seen_list other.home (live (moment_of other.last reading) other.nodes) o) other.next (moment_of n reading)) same_last
+
+  -- a step of both
+  step_alike : (reading : ℕ) (event : Event) (after left : EntityData) (outcome twin : Outcome) → IsBy o event → Step reading event one outcome after → Step reading event other twin left → IsDone outcome → IsDone twin
+      → (outcome ≡ twin) × (sight o after ≡ sight o left) × IsSound after × IsSound left
+  step_alike reading (Ask request) after left (Done reply) (Done replied) by first second done dones = (
+    ap Done (first.1 ∙ ap (λ (e : EntityData). answer e request) first.0 ∙ answers-alike one other o reading request sound sounds same by
+        ∙ sym (second.1 ∙ ap (λ (e : EntityData). answer e request) second.0)),
+    ap (sight o) first.0 ∙ swept-alike reading ∙ sym (ap (sight o) second.0),
+    subst IsSound (sym first.0) (sound_swept reading one sound),
+    subst IsSound (sym second.0) (sound_swept reading other sounds),
+  )
+  step_alike reading (Ask request) after left (Done reply) (Starved none) by first second done dones = absurd dones
+  step_alike reading (Ask request) after left (Starved none) twin by first second done dones = absurd done
+
+pub stay_alike : (history twin : History) (o : List ℕ) (left right after other : EntityData) → IsSound left → IsSound right → sight o left ≡ sight o right → Leaves left history after → Leaves right twin other
+    → readings_of history ≡ readings_of twin → events_of history ≡ events_of twin → All (IsBy o) (events_of history)
+    → All IsDone (outcomes_of history) → All IsDone (outcomes_of twin) → (outcomes_of history ≡ outcomes_of twin) × (sight o after ≡ sight o other)
+stay_alike [] [] o left right after other sound sounds same first second readings events by done dones =
+    (refl, ap (sight o) first ∙ same ∙ sym (ap (sight o) second))
+stay_alike [] (t ∷ twin) o left right after other sound sounds same first second readings events by done dones = absurd (none_some t.reading (readings_of twin) readings)
+stay_alike (h ∷ history) [] o left right after other sound sounds same first second readings events by done dones = absurd (none_some h.reading (readings_of history) (sym readings))
+stay_alike (h ∷ history) (t ∷ twin) o left right after other sound sounds same first second readings events by done dones =
+    let step =
+        step_alike o left right sound sounds same h.reading h.event first.0 second.0 h.outcome t.outcome (All-head (IsBy o) h.event (events_of history) by) first.1
+        (subst (λ (n : ℕ). Step n h.event right t.outcome second.0) (sym (same_first h.reading t.reading (readings_of history) (readings_of twin) readings))
+        (subst (λ (v : Event). Step t.reading v right t.outcome second.0) (sym (same_first h.event t.event (events_of history) (events_of twin) events)) second.1))
+        (All-head IsDone h.outcome (outcomes_of history) done) (All-head IsDone t.outcome (outcomes_of twin) dones) in
+    let rest =
+        stay_alike history twin o first.0 second.0 after other step.2 step.3 step.1 first.2 second.2
+        (same_rest h.reading t.reading (readings_of history) (readings_of twin) readings)
+        (same_rest h.event t.event (events_of history) (events_of twin) events)
+        (All-tail (IsBy o) h.event (events_of history) by)
+        (All-tail IsDone h.outcome (outcomes_of history) done) (All-tail IsDone t.outcome (outcomes_of twin) dones) in
+    (ap (λ (out : Outcome). out ∷ outcomes_of history) step.0 ∙ ap (λ (os : List Outcome). t.outcome ∷ os) rest.0, rest.1)
