@@ -8,3 +8,5 @@ pub mod TurnLemmas
 pub mod SideLemmas
 pub mod MostLemmas
 pub mod LawLemmas
+pub mod ShownLemmas
+pub mod OneWayLemmas

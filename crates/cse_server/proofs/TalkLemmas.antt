@@ -101,8 +101,8 @@ replies-last (x ∷ []) place os = (replies (x ∷ []) place os, refl)
 replies-last (x ∷ next ∷ xs) place os = elim (cases_Bool (closes place x)) [
   | inl t ↦ ([], rw t (sym (append-nil _)))
   | inr f ↦
-    let rest = replies-last (next ∷ xs) (place + 1) (outcomes_behind (request_in x) os) in
-    (rest.0, rw f (ap (λ v. reply_text (reply_for x (request_in x) os) false ++ v) rest.1 ∙ sym (append_assoc (reply_text (reply_for x (request_in x) os) false) (replies (before_last (next ∷ xs)) (place + 1) (outcomes_behind (request_in x) os)) rest.0)))
+      let rest = replies-last (next ∷ xs) (place + 1) (outcomes_behind (request_in x) os) in
+      (rest.0, rw f (ap (λ v. reply_text (reply_for x (request_in x) os) false ++ v) rest.1 ∙ sym (append_assoc (reply_text (reply_for x (request_in x) os) false) (replies (before_last (next ∷ xs)) (place + 1) (outcomes_behind (request_in x) os)) rest.0)))
 ]
 
 -- Frames that were answered, and then all but what is said last of others: it is all but what is said last of both, and
@@ -114,9 +114,11 @@ before_last-joined xs ys place true os more stays same =
 before_last-joined xs [] place false os more stays same =
     let last = replies-last (xs ++ []) place (os ++ more) in
     (last.0, sym (replies-append xs [] place os more stays same) ∙ last.1)
-before_last-joined xs (y ∷ ys) place false os more stays same =
-    ([], sym (replies-append xs (before_last (y ∷ ys)) place os more stays same)
-    ∙ ap (λ fs. replies fs place (os ++ more)) (sym (before_last-append xs y ys)) ∙ sym (append-nil _))
+before_last-joined xs (y ∷ ys) place false os more stays same = (
+  [],
+  sym (replies-append xs (before_last (y ∷ ys)) place os more stays same)
+      ∙ ap (λ fs. replies fs place (os ++ more)) (sym (before_last-append xs y ys)) ∙ sym (append-nil _),
+)
 
 -- nothing is said before what is said last of at most one frame
 pub nothing_before : (place : ℕ) (refused : Bool) → talk_before_last place [] refused [] ≡ []

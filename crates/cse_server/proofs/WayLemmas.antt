@@ -13,7 +13,7 @@ use Rattle.cse_machine.specs.declared.event.Event.TheVariants.{Ask}
 use Rattle.cse_machine.specs.declared.event.Outcome.{Outcome}
 use Rattle.cse_server.specs.declared.connection.Ended.{Ended}
 use Rattle.cse_server.specs.declared.connection.Ended.TheVariants.{Closed, NoFrame, ReadFault, WriteFault, Memory}
-use Rattle.cse_server.specs.Talk.{requests_in, replies, talk, some_closes}
+use Rattle.cse_server.specs.Talk.{requests_in, replies, talk, talk_before_last, some_closes}
 use Rattle.cse_server.specs.Connection.{IsThese, RefusesRightly, EndsRightly, Says, ServesFrom}
 use Rattle.cse_server.specs.Way.{Leads, Goes}
 use Rattle.cse_server.proofs.TalkLemmas.{some_closes-append, ends_at_close-append, requests_in-append, replies-append, talk-append, before_last-joined}
@@ -130,7 +130,10 @@ module _ {S : Type 0} (grown : S → List (Marked Event Outcome) → S → Type 
     stream = stream_then place between a.heard b.heard b.refused ended left mid now a.stays_on a.places a.stream b.stream;
     said =
         let fit = outcomes_fit before seat a.readings a.heard a.outcomes a.asked in
-        let joined = rw a.places at before_last-joined a.heard b.heard place b.refused a.outcomes b.outcomes a.stays_on fit in
+        let joined = before_last-joined a.heard b.heard place b.refused a.outcomes b.outcomes a.stays_on fit in
+        let before : replies a.heard place a.outcomes ++ talk_before_last between b.heard b.refused b.outcomes ≡ talk_before_last place (a.heard ++ b.heard) b.refused (a.outcomes ++ b.outcomes) ++ joined.0 =
+        ap (λ n. replies a.heard place a.outcomes ++ talk_before_last n b.heard b.refused b.outcomes) (sym a.places) ∙ joined.1 in
         rw (talk-append a.heard b.heard place b.refused a.outcomes b.outcomes a.stays_on fit, a.places)
-        (Says-then ended old put new (replies a.heard place a.outcomes) _ _ (talk between b.heard b.refused b.outcomes) joined.0 joined.1 a.said b.said);
+        (Says-then ended old put new (replies a.heard place a.outcomes) (talk_before_last between b.heard b.refused b.outcomes) (talk_before_last place (a.heard ++ b.heard) b.refused (a.outcomes ++ b.outcomes))
+        (talk between b.heard b.refused b.outcomes) joined.0 before a.said b.said);
   }

@@ -17,7 +17,10 @@ mod served;
 pub use bench::Bench;
 pub use closing::MOST_FRAMES;
 pub use connection::{Ended, serve_connection};
-pub use laws::what_is_behind_a_closing_frame_is_not_answered;
+pub use laws::{
+    a_connection_shows_by_grant_alone, a_stream_is_answered_in_one_way,
+    equal_sights_are_served_alike, what_is_behind_a_closing_frame_is_not_answered,
+};
 pub use served::Served;
 
 #[cfg(test)]

@@ -1,0 +1,209 @@
+-- A stream is answered in one way.
+use Rattle.std.proofs.Common.{◌≡◌, ◌≢◌, ℕ, ◌+◌, Bool, true, false, List, [], ◌∷◌, ◌++◌, map, Option, Some, IsTrue, inl, inr, refl, sym, ap, subst, ◌∙◌, arith}
+use Rattle.std.specs.List.{All}
+use Rattle.std.proofs.lemmas.Bool.{cases_Bool, true≢false, false≢true}
+use Rattle.std.proofs.lemmas.List.{append_cancel_left}
+use Rattle.std.proofs.lemmas.List.Elements.{All-map}
+use Rattle.turn_desk.specs.Entries.{readings_of, events_of, outcomes_of}
+use Rattle.turn_desk.specs.Growth.{IsOwnRun}
+use Rattle.turn_desk.proofs.GrowthLemmas.{Grew-runs}
+use Rattle.primitive_json.specs.declared.request.RequestParts.{RequestParts}
+use Rattle.http_frames.specs.declared.frame.Frame.{Frame}
+use Rattle.http_frames.specs.declared.frame.Side.TheVariants.{Request}
+use Rattle.http_frames.specs.Stream.{BeginsWith, HasNoFrame}
+use Rattle.http_frames.proofs.FrameLemmas.{BeginsWith_unique}
+use Rattle.http_frames.proofs.InboxLemmas.{none_within}
+use Rattle.http_frames.proofs.LookLemmas.{some_bytes}
+use Rattle.create_delete.specs.Entity.{EntityData}
+use Rattle.cse_machine.specs.declared.event.Event.{Event}
+use Rattle.cse_machine.specs.declared.event.Event.TheVariants.{Ask}
+use Rattle.cse_machine.specs.declared.event.Outcome.{Outcome}
+use Rattle.cse_machine.specs.History.{History, IsDone}
+use Rattle.cse_machine.specs.Sight.{IsBy}
+use Rattle.cse_machine.specs.Step.{Step}
+use Rattle.cse_machine.proofs.AlikeLemmas.{stay_alike}
+use Rattle.cse_machine.proofs.HistoryLemmas.{one_way}
+use Rattle.cse_server.specs.declared.connection.Ended.{Ended}
+use Rattle.cse_server.specs.declared.connection.Ended.TheVariants.{Closed, NoFrame, ReadFault, WriteFault, Memory}
+use Rattle.cse_server.specs.Closing.{closes}
+use Rattle.cse_server.specs.Talk.{requests_in, talk, some_closes, ends_at_close}
+use Rattle.cse_server.specs.Connection.{IsThese, RefusesRightly, EndsRightly, Says, Serves}
+use Rattle.cse_server.specs.Laws.{IsWhole, IsAnsweredInOneWay, EqualSightsAreServedAlike}
+
+-- ---- where a stream ends
+
+nothing_begins : HasNoFrame Request []
+nothing_begins = none_within Request [] 1 (some_bytes Request []) (omega arith)
+
+-- What is known of the rest of a stream where a connection ended whole: these frames were heard from this place on, and it
+-- was refused, or not.
+pub record Settles (place : ℕ) (ended : Ended) (refused : Bool) (heard : List Frame) (rest : List ℕ) : Type 0 where
+  pub closed : refused ≡ false → (ended ≡ Closed) × (some_closes heard place ≡ false → rest ≡ [])
+  pub refusal : refused ≡ true → (ended ≡ NoFrame) × (some_closes heard place ≡ false) × (rest ≢ []) × HasNoFrame Request rest
+
+settles : (place : ℕ) (ended : Ended) (refused : Bool) (heard : List Frame) (rest : List ℕ) (now : Option (List ℕ))
+    → IsWhole ended → RefusesRightly place refused heard rest → EndsRightly place ended refused heard rest now
+    → Settles place ended refused heard rest
+settles place Closed refused heard rest now whole right ends = record {
+  closed = λ f. (refl, ends.1);
+  refusal = λ t. absurd (true≢false (sym t ∙ ends.0));
+}
+settles place NoFrame refused heard rest now whole right ends = record {
+  closed = λ f. absurd (true≢false (sym ends ∙ f));
+  refusal = λ t. (refl, (right t).0, (right t).1, (right t).2);
+}
+settles place ReadFault refused heard rest now whole right ends = absurd whole
+settles place WriteFault refused heard rest now whole right ends = absurd whole
+settles place Memory refused heard rest now whole right ends = absurd whole
+
+-- no frame stands at the front of the rest where none closed
+none_behind : (place : ℕ) (ended : Ended) (refused : Bool) (heard : List Frame) (rest : List ℕ) → some_closes heard place ≡ false
+    → Settles place ended refused heard rest → HasNoFrame Request rest
+none_behind place ended true heard rest stays s = (s.refusal refl).3
+none_behind place ended false heard rest stays s =
+    subst (λ (v : List ℕ). HasNoFrame Request v) (sym ((s.closed refl).1 stays)) nothing_begins
+
+-- one rest is refused or not, and the connection ends so
+same_end : (place : ℕ) (ended end : Ended) (refused denied : Bool) (heard : List Frame) (rest : List ℕ)
+    → Settles place ended refused heard rest → Settles place end denied heard rest → (refused ≡ denied) × (ended ≡ end)
+same_end place ended end true true heard rest s t = (refl, (s.refusal refl).0 ∙ sym (t.refusal refl).0)
+same_end place ended end false false heard rest s t = (refl, (s.closed refl).0 ∙ sym (t.closed refl).0)
+same_end place ended end true false heard rest s t =
+    let no = s.refusal refl in
+    absurd (no.2 ((t.closed refl).1 no.1))
+same_end place ended end false true heard rest s t =
+    let no = t.refusal refl in
+    absurd (no.2 ((s.closed refl).1 no.1))
+
+-- none closes behind a frame that doesn't
+Settles-behind : (place : ℕ) (ended : Ended) (refused : Bool) (x : Frame) (xs : List Frame) (rest : List ℕ) → closes place x ≡ false
+    → Settles place ended refused (x ∷ xs) rest → Settles (place + 1) ended refused xs rest
+Settles-behind place ended refused x xs rest f s = record {
+  closed = λ e. ((s.closed e).0, λ stays. (s.closed e).1 (rw f stays));
+  refusal = λ e. ((s.refusal e).0, rw f at (s.refusal e).1, (s.refusal e).2, (s.refusal e).3);
+}
+
+-- nothing is heard behind a frame that closes
+last_heard : (place : ℕ) (x : Frame) (xs : List Frame) → closes place x ≡ true → IsTrue (ends_at_close (x ∷ xs) place) → xs ≡ []
+last_heard place x [] t up = refl
+last_heard place x (y ∷ ys) t up = absurd (false≢true (rw t at up))
+
+up_behind : (place : ℕ) (x : Frame) (xs : List Frame) → closes place x ≡ false → IsTrue (ends_at_close (x ∷ xs) place) → IsTrue (ends_at_close xs (place + 1))
+up_behind place x [] f up = refl
+up_behind place x (y ∷ ys) f up = rw f at up
+
+-- a stream settles which frames are heard, and how the connection ends
+pub heard_one_way : (heard others : List Frame) (place : ℕ) (ended end : Ended) (refused denied : Bool) (stream rest other : List ℕ)
+    → IsThese stream heard rest → IsThese stream others other
+    → IsTrue (ends_at_close heard place) → IsTrue (ends_at_close others place)
+    → Settles place ended refused heard rest → Settles place end denied others other
+    → (heard ≡ others) × (refused ≡ denied) × (ended ≡ end)
+heard_one_way [] [] place ended end refused denied stream rest other a b up ups s t =
+    let ends = same_end place ended end refused denied [] rest s (subst (λ (v : List ℕ). Settles place end denied [] v) (sym b ∙ a) t) in
+    (refl, ends.0, ends.1)
+heard_one_way [] (y ∷ ys) place ended end refused denied stream rest other a b up ups s t =
+    absurd (none_behind place ended refused [] rest refl s y b.0 (subst (λ (v : List ℕ). BeginsWith Request v y b.0) a b.1))
+heard_one_way (x ∷ xs) [] place ended end refused denied stream rest other a b up ups s t =
+    absurd (none_behind place end denied [] other refl t x a.0 (subst (λ (v : List ℕ). BeginsWith Request v x a.0) b a.1))
+heard_one_way (x ∷ xs) (y ∷ ys) place ended end refused denied stream rest other a b up ups s t =
+    let first = BeginsWith_unique Request stream x y a.0 b.0 a.1 b.1 in
+    elim (cases_Bool (closes place y)) [
+      | inl c ↦
+          let here : closes place x ≡ true = ap (closes place) first.0 ∙ c in
+          let alone : xs ≡ [] = last_heard place x xs here up in
+          let single : ys ≡ [] = last_heard place y ys c ups in
+          let same : x ∷ xs ≡ y ∷ ys = cc (first.0, alone, single) in
+          let whole : rest ≡ other =
+          sym (subst (λ (fs : List Frame). IsThese a.0 fs rest) alone a.2) ∙ first.1
+          ∙ subst (λ (fs : List Frame). IsThese b.0 fs other) single b.2 in
+          let ends =
+          same_end place ended end refused denied (y ∷ ys) other
+          (subst (λ (v : List ℕ). Settles place ended refused (y ∷ ys) v) whole
+          (subst (λ (fs : List Frame). Settles place ended refused fs rest) same s)) t in
+          (same, ends.0, ends.1)
+      | inr o ↦
+          let here : closes place x ≡ false = ap (closes place) first.0 ∙ o in
+          let later =
+          heard_one_way xs ys (place + 1) ended end refused denied b.0 rest other
+          (subst (λ (v : List ℕ). IsThese v xs rest) first.1 a.2) b.2
+          (up_behind place x xs here up) (up_behind place y ys o ups)
+          (Settles-behind place ended refused x xs rest here s) (Settles-behind place end denied y ys other o t) in
+          (cc (first.0, later.0), later.1, later.2)
+    ]
+
+-- ---- what is said
+
+-- where it ends whole, all of its talk is written
+said_whole : (ended : Ended) (old new before text : List ℕ) → IsWhole ended → Says ended (Some old) (Some new) before text → new ≡ old ++ text
+said_whole Closed old new before text whole said = said
+said_whole NoFrame old new before text whole said = said
+said_whole ReadFault old new before text whole said = absurd whole
+said_whole WriteFault old new before text whole said = absurd whole
+said_whole Memory old new before text whole said = absurd whole
+
+talk_same : (place : ℕ) (heard others : List Frame) (refused denied : Bool) (os ps : List Outcome) → heard ≡ others → refused ≡ denied → os ≡ ps
+    → talk place heard refused os ≡ talk place others denied ps
+talk_same place heard others refused denied os ps a b c = λ i. talk place (a i) (b i) (c i)
+
+-- Two connections with one stream, at the same readings, that ended whole.
+module _ (left right after other : EntityData) (stream old new twin given told : List ℕ) (now gone : Option (List ℕ)) (ended end : Ended)
+    (first : Serves (IsOwnRun Step) left after (Some stream) now (Some old) (Some new) (Some given) (Some told) ended)
+    (second : Serves (IsOwnRun Step) right other (Some stream) gone (Some old) (Some twin) (Some given) (Some told) end)
+    (whole : IsWhole ended) (wholes : IsWhole end) where
+  both_heard : (first.heard ≡ second.heard) × (first.refused ≡ second.refused) × (ended ≡ end)
+  both_heard =
+      let s = first.stream in
+      let t = second.stream in
+      heard_one_way first.heard second.heard 1 ended end first.refused second.refused stream s.0 t.0 s.1 t.1 first.up_to second.up_to
+      (settles 1 ended first.refused first.heard s.0 now whole s.2 s.3)
+      (settles 1 end second.refused second.heard t.0 gone wholes t.2 t.3)
+
+  same_readings : readings_of first.asked.mine ≡ readings_of second.asked.mine
+  same_readings =
+      first.asked.readings_are ∙ append_cancel_left given first.readings second.readings (sym first.clock ∙ second.clock)
+      ∙ sym second.asked.readings_are
+
+  same_events : events_of first.asked.mine ≡ events_of second.asked.mine
+  same_events = first.asked.events_are ∙ ap (λ fs. map Ask (requests_in fs)) both_heard.0 ∙ sym second.asked.events_are
+
+  -- where the outcomes are the same, so is what is written
+  same_bytes : outcomes_of first.asked.mine ≡ outcomes_of second.asked.mine → new ≡ twin
+  same_bytes outcomes =
+      said_whole ended old new _ _ whole first.said
+      ∙ ap (λ v. old ++ v) (talk_same 1 first.heard second.heard first.refused second.refused first.outcomes second.outcomes both_heard.0 both_heard.1
+          (sym first.asked.outcomes_are ∙ outcomes ∙ second.asked.outcomes_are))
+      ∙ sym (said_whole end old twin _ _ wholes second.said)
+
+all_done : (mine : History) (outcomes : List Outcome) → outcomes_of mine ≡ outcomes → All IsDone outcomes → All IsDone (outcomes_of mine)
+all_done mine outcomes same done = subst (λ (os : List Outcome). All IsDone os) (sym same) done
+
+pub answered_in_one_way : IsAnsweredInOneWay
+answered_in_one_way opening after other stream old new twin given told now gone ended end first second whole wholes done dones =
+    let way =
+    one_way first.asked.mine second.asked.mine opening after other
+    (Grew-runs Step first.asked.grew) (Grew-runs Step second.asked.grew)
+    (same_readings opening opening after other stream old new twin given told now gone ended end first second whole wholes)
+    (same_events opening opening after other stream old new twin given told now gone ended end first second whole wholes)
+    (all_done first.asked.mine first.outcomes first.asked.outcomes_are done)
+    (all_done second.asked.mine second.outcomes second.asked.outcomes_are dones) in (
+      same_bytes opening opening after other stream old new twin given told now gone ended end first second whole wholes way.0,
+      (both_heard opening opening after other stream old new twin given told now gone ended end first second whole wholes).2,
+      way.1,
+    )
+
+-- ---- by one originator
+
+pub served_alike : EqualSightsAreServedAlike
+served_alike left right after other o stream old new twin given told now gone ended end first second sound sounds same by whole wholes done dones =
+    let way =
+    stay_alike first.asked.mine second.asked.mine o left right after other sound sounds same
+    (Grew-runs Step first.asked.grew) (Grew-runs Step second.asked.grew)
+    (same_readings left right after other stream old new twin given told now gone ended end first second whole wholes)
+    (same_events left right after other stream old new twin given told now gone ended end first second whole wholes)
+    (subst (λ (es : List Event). All (IsBy o) es) (sym first.asked.events_are) (All-map (IsBy o) Ask (requests_in first.heard) by))
+    (all_done first.asked.mine first.outcomes first.asked.outcomes_are done)
+    (all_done second.asked.mine second.outcomes second.asked.outcomes_are dones) in (
+      same_bytes left right after other stream old new twin given told now gone ended end first second whole wholes way.0,
+      (both_heard left right after other stream old new twin given told now gone ended end first second whole wholes).2,
+      way.1,
+    )
