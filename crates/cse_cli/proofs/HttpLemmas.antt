@@ -1,8 +1,7 @@
 -- Streams that were lent to a connection, and how it ended.
-use Rattle.std.proofs.Common.{◌≡◌, ℕ, List, ◌∷◌, [], Option, get_or, refl, sym, ap, subst, ◌∙◌}
-use Rattle.m2m_io.specs.Counts.{Rose}
+use Rattle.std.proofs.Common.{◌≡◌, ℕ, List, ◌∷◌, [], Option, get_or, refl, sym, ap, subst}
 use Rattle.m2m_io.specs.declared.status.Status.{Status}
-use Rattle.m2m_io.specs.declared.status.Status.TheVariants.{Done, Usage, BadLine, ReadFault, WriteFault, Memory, BadStream}
+use Rattle.m2m_io.specs.declared.status.Status.TheVariants.{ReadFault, WriteFault}
 use Rattle.turn_desk.specs.Entries.{Marked}
 use Rattle.cse_machine.specs.declared.event.Event.{Event}
 use Rattle.cse_machine.specs.declared.event.Outcome.{Outcome}

@@ -1,10 +1,10 @@
 -- Bytes that are written in several pieces.
-use Rattle.std.proofs.Common.{◌≡◌, ℕ, ◌+◌, ◌≤◌, List, [], ◌++◌, length, take, drop, Option, None, Some, arith, append_assoc, length-append, sym, ap, subst, refl, ◌∙◌}
+use Rattle.std.proofs.Common.{◌≡◌, ℕ, List, [], ◌++◌, length, take, drop, Option, None, Some, arith, append_assoc, sym, ap, refl, ◌∙◌}
 use Rattle.std.proofs.lemmas.List.{take-append-drop}
 use Rattle.std.proofs.lemmas.Grind.{common_steps}
 use Rattle.std.specs.Io.KnownBytes.{Appends, Keeps}
 use Rattle.m2m_io.specs.Told.{AppendsPrefix}
-use Rattle.m2m_io.proofs.ToldLemmas.{prefix_front, prefix_behind}
+use Rattle.m2m_io.proofs.ToldLemmas.{prefix_front}
 
 -- some of the bytes were written, and the rest is left
 pub record IsUnderWay (old now : Option (List ℕ)) (bytes rest : List ℕ) : Type 0 where

@@ -4,7 +4,7 @@ use Rattle.m2m_io.specs.Told.{Tells}
 use Rattle.m2m_io.specs.declared.status.Status.{Status}
 use Rattle.m2m_io.specs.declared.status.Status.TheVariants.{Done, ReadFault, WriteFault, Memory, BadStream}
 use Rattle.turn_desk.specs.Growth.{IsOwnRun}
-use Rattle.resource_model.specs.Home.{HomeData, default_home}
+use Rattle.resource_model.specs.Home.{default_home}
 use Rattle.create_delete.specs.Entity.{EntityData}
 use Rattle.create_delete.specs.Opening.{opening}
 use Rattle.cse_machine.specs.Step.{Step}

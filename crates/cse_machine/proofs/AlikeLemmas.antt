@@ -1,9 +1,8 @@
 -- Entities of which an originator sees the same, one step after another.
-use Rattle.std.proofs.Common.{◌≡◌, ℕ, List, [], ◌∷◌, Option, Some, refl, sym, ap, subst, ◌∙◌}
+use Rattle.std.proofs.Common.{◌≡◌, ℕ, List, [], ◌∷◌, refl, sym, ap, subst, ◌∙◌}
 use Rattle.std.specs.List.{All}
 use Rattle.std.proofs.lemmas.List.Elements.{All-head, All-tail}
 use Rattle.turn_desk.specs.Entries.{readings_of, events_of, outcomes_of}
-use Rattle.primitive_json.specs.declared.request.RequestParts.{RequestParts}
 use Rattle.resource_model.specs.Home.{HomeData}
 use Rattle.resource_model.specs.Resource.{ResourceData}
 use Rattle.tree_model.specs.Tree.{live}

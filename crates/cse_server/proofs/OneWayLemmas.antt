@@ -7,7 +7,6 @@ use Rattle.std.proofs.lemmas.List.Elements.{All-map}
 use Rattle.turn_desk.specs.Entries.{readings_of, events_of, outcomes_of}
 use Rattle.turn_desk.specs.Growth.{IsOwnRun}
 use Rattle.turn_desk.proofs.GrowthLemmas.{Grew-runs}
-use Rattle.primitive_json.specs.declared.request.RequestParts.{RequestParts}
 use Rattle.http_frames.specs.declared.frame.Frame.{Frame}
 use Rattle.http_frames.specs.declared.frame.Side.TheVariants.{Request}
 use Rattle.http_frames.specs.Stream.{BeginsWith, HasNoFrame}

@@ -1,8 +1,8 @@
 -- Attributes in order, and what a change of one leaves.
-use Rattle.std.proofs.Common.{add-one, set, Result, Ok, Err, ◌≡◌, ℕ, zero, suc, ◌+◌, ◌<◌, ◌≤◌, ◌≢◌, ◌⊎◌, List, [], ◌∷◌, ◌++◌, length, get_or, take, drop, Bool, true, false, cond, Option, Some, None, Ordering, Less, Equal, Greater, is_eq, inl, inr, refl, sym, ap, ◌∙◌, subst, arith}
+use Rattle.std.proofs.Common.{add-one, set, Result, Ok, Err, ◌≡◌, ℕ, zero, suc, ◌+◌, ◌<◌, ◌≤◌, ◌≢◌, List, [], ◌∷◌, ◌++◌, length, get_or, take, drop, Bool, true, false, cond, Option, Some, None, Ordering, Less, Equal, Greater, is_eq, inl, inr, refl, sym, ap, ◌∙◌, subst, arith}
 use Rattle.std.proofs.lemmas.Bool.{cases_lt, cases_Bool, false_from_ne_true}
 use Rattle.std.proofs.lemmas.Cmp.{nat_list_cmp_total, on_total, tied_itself}
-use Rattle.std.proofs.lemmas.List.{append-nil, map-append, set_split, take-append-drop}
+use Rattle.std.proofs.lemmas.List.{map-append, set_split, take-append-drop}
 use Rattle.std.proofs.lemmas.List.Kept.{IsStrictlySortedBy-filter}
 use Rattle.std.proofs.lemmas.List.Sorted.{searchable_from_sorted}
 use Rattle.std.proofs.lemmas.Map.Keys.{Less-from_sorted, sorted_tail}
@@ -13,7 +13,7 @@ use Rattle.std.specs.Cmp.{IsTotalOrder}
 use Rattle.std.specs.Cmp.Lexicographic.{slice_cmp}
 use Rattle.std.specs.List.{AllByRecursion, filter, insert, remove}
 use Rattle.std.specs.List.Sorted.{IsStrictlySortedBy, IsNonDecreasingBy, IsBinarySearchResult, IsSearchInRange}
-use Rattle.std.specs.Map.{keys_of, lookup}
+use Rattle.std.specs.Map.{keys_of}
 use Rattle.std.specs.Option.{option_or}
 use Rattle.std.specs.Result.{MatchResult}
 use Rattle.std.specs.Ordering.{nat_cmp, ordering_index, ordering_reverse, is_lt}

@@ -1,5 +1,5 @@
 -- A resource (TS-0001, 9.6).
-use Rattle.std.specs.Prelude.{◌≡◌, ℕ, ◌^◌, ◌<◌, ◌≤◌, ◌==◌, List, [], ◌++◌, Bool, Option, None, if◌then◌else◌, IsUtf8, refl}
+use Rattle.std.specs.Prelude.{ℕ, ◌^◌, ◌<◌, ◌≤◌, ◌==◌, List, ◌++◌, Bool, Option, None, if◌then◌else◌, IsUtf8}
 use Rattle.std.specs.Fmt.{decimal}
 use Rattle.m2m_names.specs.Stamps.{last_moment}
 use Rattle.m2m_names.specs.Types.{ty_row}

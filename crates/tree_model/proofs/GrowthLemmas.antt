@@ -1,18 +1,17 @@
 -- What a list keeps that grows at its end.
 use Rattle.std.specs.Prelude.{◌==◌, nat_lt}
-use Rattle.std.proofs.Common.{◌≡◌, ℕ, zero, suc, ◌+◌, ◌<◌, ◌≤◌, ◌≢◌, ◌⊎◌, List, [], ◌∷◌, ◌++◌, map, length, reverse, Bool, true, false, cond, not, ◌&&◌, ◌||◌, Option, Some, None, Less, IsTrue, option_map, inl, inr, refl, sym, ap, ◌∙◌, subst, arith, append_assoc}
-use Rattle.std.proofs.lemmas.Bool.{cases_Bool, and_parts, and_from, or_cases, or_parts, or_from, or_left, or_right, not-true, not-false, not_from_true, not_from_false, eqb-true, eqb-false, eq-eqb, ne_eqb, ltb-true, lt-ltb, both_ways, false_from_ne_true}
+use Rattle.std.proofs.Common.{◌≡◌, ℕ, ◌<◌, List, [], ◌∷◌, ◌++◌, map, Bool, true, false, cond, not, ◌&&◌, ◌||◌, Option, Some, None, Less, inl, inr, refl, sym, ap, ◌∙◌, subst, arith, append_assoc}
+use Rattle.std.proofs.lemmas.Bool.{cases_Bool, and_parts, and_from, or_cases, or_from, or_left, not-true, not_from_false, eqb-true, eq-eqb, ne_eqb, ltb-true, both_ways, false_from_ne_true}
 use Rattle.std.proofs.lemmas.List.{append-nil, map-append, reverse-append}
-use Rattle.std.proofs.lemmas.List.Folds.{find-append, list_any-append, list_all-append}
 use Rattle.std.proofs.lemmas.Option.{same_Some}
 use Rattle.std.specs.List.Sorted.{IsStrictlySortedBy}
 use Rattle.std.specs.Ordering.{nat_cmp}
-use Rattle.std.specs.List.{AllByRecursion, list_any, list_all, find, filter}
-use Rattle.std.specs.Option.{option_or, option_map_or}
+use Rattle.std.specs.List.{AllByRecursion, list_any, filter}
+use Rattle.std.specs.Option.{option_or}
 use Rattle.m2m_names.specs.declared.types.Ty.TheVariants.{CseBase}
 use Rattle.resource_model.specs.Resource.{ResourceData, is_ty, has_number, ae_id}
-use Rattle.tree_model.specs.Tree.{at, has, is_under, is_child, child_of, line_from, line_of, replaced, stays, staying, without, is_spared, are_below, is_root, is_placed, has_child, has_ae_id, fits, is_taken, fits_in, grows, is_tree, is_well_formed, standing, AreAscending}
-use Rattle.tree_model.proofs.TreeLemmas.{at_has, has_at, at_number, at_none, at-append, has-append, staying-append}
+use Rattle.tree_model.specs.Tree.{at, has, line_from, line_of, stays, without, is_spared, are_below, is_root, is_placed, has_child, has_ae_id, fits, fits_in, grows, is_tree, is_well_formed, AreAscending}
+use Rattle.tree_model.proofs.TreeLemmas.{at_has, at_none, at-append, has-append, staying-append}
 
 -- ---- growing
 

@@ -1,10 +1,10 @@
 -- A tree stays a tree: under a map, a replacement, an append and a removal.
 use Rattle.std.specs.Prelude.{◌==◌, nat_lt}
-use Rattle.std.proofs.Common.{◌≡◌, ℕ, zero, suc, ◌+◌, ◌<◌, ◌≤◌, ◌≢◌, List, [], ◌∷◌, ◌++◌, map, Bool, true, false, cond, not, ◌&&◌, ◌||◌, Option, Some, None, option_map, inl, inr, refl, sym, ap, ◌∙◌, subst, arith, append_assoc, bytes_eq}
-use Rattle.std.proofs.lemmas.Bool.{cases_Bool, and_parts, and_from, or_cases, or_left, or_right, not-true, not_from_false, eqb-true, eq-eqb, both_ways, false_from_ne_true}
+use Rattle.std.proofs.Common.{◌≡◌, ℕ, List, [], ◌∷◌, ◌++◌, map, Bool, true, false, cond, not, ◌&&◌, ◌||◌, Option, Some, None, option_map, inl, inr, refl, sym, ap, ◌∙◌, subst, bytes_eq}
+use Rattle.std.proofs.lemmas.Bool.{cases_Bool, and_parts, and_from, or_cases, or_left, or_right, eqb-true, both_ways, false_from_ne_true}
 use Rattle.std.proofs.lemmas.List.{append-nil, map-append}
 use Rattle.std.proofs.lemmas.Option.{same_Some}
-use Rattle.std.specs.List.{list_any, list_all, find}
+use Rattle.std.specs.List.{list_any, list_all}
 use Rattle.std.specs.Option.{option_map_or}
 use Rattle.m2m_names.specs.Types.{does_take}
 use Rattle.m2m_names.specs.declared.attributes.Attr.TheVariants.{Aei}
@@ -13,8 +13,8 @@ use Rattle.m2m_names.specs.declared.types.Ty.TheVariants.{Ae, CseBase}
 use Rattle.m2m_value.specs.Data.{text}
 use Rattle.resource_model.specs.Attributes.{Row, text_at}
 use Rattle.resource_model.specs.Resource.{ResourceData, is_ty, has_number, ae_id}
-use Rattle.tree_model.specs.Tree.{at, has, is_child, child_of, replaced, stays, staying, without, is_spared, are_below, is_root, is_placed, has_child, same_text, has_ae_id, fits, is_taken, fits_in, grows, is_tree, is_well_formed, standing}
-use Rattle.tree_model.proofs.TreeLemmas.{list_any-same, list_all-same, has_at, at_has, at-map, has-map, map-replaced, staying-append, staying_all, staying_any}
+use Rattle.tree_model.specs.Tree.{at, has, is_child, child_of, replaced, stays, without, is_spared, are_below, is_root, is_placed, has_child, same_text, has_ae_id, fits, is_taken, fits_in, grows, is_tree, is_well_formed, standing}
+use Rattle.tree_model.proofs.TreeLemmas.{list_any-same, list_all-same, has_at, at_has, at-map, has-map, staying-append, staying_all, staying_any}
 use Rattle.tree_model.proofs.GrowthLemmas.{IsNext, next_fits, fits_next, grown, growth, zero_lacks, root_parent, at-without, tree_from_well_formed}
 
 -- ---- a map that keeps number and standing

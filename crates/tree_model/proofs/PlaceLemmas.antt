@@ -1,8 +1,7 @@
 -- Where a number stands in a list whose numbers ascend, and going over a list.
-use Rattle.std.specs.Prelude.{◌==◌}
-use Rattle.std.proofs.Common.{◌≡◌, ℕ, zero, suc, ◌+◌, ◌<◌, ◌≤◌, ◌≢◌, List, [], ◌∷◌, length, map, drop, get_or, set, Bool, true, false, Option, Some, None, Result, Ok, Err, Ordering, Less, Equal, Greater, option_map, inl, inr, refl, sym, ap, ◌∙◌, arith, Bor, MatchOption}
+use Rattle.std.proofs.Common.{◌≡◌, ℕ, zero, suc, ◌+◌, ◌<◌, ◌≢◌, List, [], ◌∷◌, length, map, drop, get_or, set, true, false, Option, Some, None, Result, Ok, Err, Less, Equal, Greater, option_map, inl, inr, refl, sym, ap, ◌∙◌, arith, Bor}
 use Rattle.std.proofs.lemmas.List.{drop_more}
-use Rattle.std.proofs.lemmas.Bool.{eqb-true, eq-eqb, ne_eqb, cases_lt}
+use Rattle.std.proofs.lemmas.Bool.{eq-eqb, ne_eqb, cases_lt}
 use Rattle.std.proofs.lemmas.Bool.Decides.{nat_tests}
 use Rattle.std.proofs.lemmas.Cmp.{nat_cmp_total}
 use Rattle.std.proofs.lemmas.List.Sorted.{searchable_from_sorted}
@@ -13,7 +12,7 @@ use Rattle.std.specs.List.{slice_get}
 use Rattle.std.specs.List.Sorted.{IsNonDecreasingBy, IsBinarySearchResult, IsSearchInRange}
 use Rattle.std.specs.Ordering.{nat_cmp, ordering_index, is_lt}
 use Rattle.std.specs.Result.{MatchResult, is_ok}
-use Rattle.resource_model.specs.Resource.{ResourceData, has_number}
+use Rattle.resource_model.specs.Resource.{ResourceData}
 use Rattle.tree_model.proofs.TreeLemmas.{at_has, has_from_at}
 use Rattle.tree_model.specs.Tree.{at, has, replaced, AreAscending, StandsAt}
 

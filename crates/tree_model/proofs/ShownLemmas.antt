@@ -1,12 +1,11 @@
 -- What is shown: rows put in one after another, members in order, and counts that are added up.
 use Rattle.std.specs.Prelude.{nat_lt}
-use Rattle.std.proofs.Common.{zero, suc, Some, inl, inr, bytes_eq, ◌≡◌, ℕ, ◌+◌, ◌<◌, ◌≤◌, List, [], ◌∷◌, ◌++◌, map, length, min, Bool, true, false, Less, refl, sym, ap, ◌∙◌, subst, arith}
+use Rattle.std.proofs.Common.{zero, suc, Some, inl, inr, bytes_eq, ◌≡◌, ℕ, List, [], ◌∷◌, ◌++◌, map, Bool, true, Less, refl, sym, ap, ◌∙◌, subst, arith}
 use Rattle.std.proofs.lemmas.Bool.{cases_Bool, and_parts, ltb-true}
 use Rattle.std.proofs.lemmas.Option.{same_Some}
 use Rattle.std.proofs.lemmas.Str.{IsUtf8-from_ascii}
-use Rattle.std.proofs.lemmas.List.Sums.{sum_by-cons}
 use Rattle.std.specs.Cmp.Lexicographic.{slice_cmp}
-use Rattle.std.specs.List.{AllByRecursion, filter, find, list_all, sum_by}
+use Rattle.std.specs.List.{AllByRecursion, find, list_all}
 use Rattle.std.specs.Str.{IsAscii, IsUtf8}
 use Rattle.std.specs.List.Sorted.{IsStrictlySortedBy}
 use Rattle.std.specs.Map.{keys_of}
@@ -17,7 +16,6 @@ use Rattle.m2m_names.specs.declared.attributes.Attr.{Attr}
 use Rattle.m2m_value.specs.Data.{Entry}
 use Rattle.m2m_value.specs.Node.{AreSorted, HaveTextKeys}
 use Rattle.resource_model.specs.Attributes.{Row, attr_cmp, with_value, AreInOrder}
-use Rattle.resource_model.specs.Resource.{ResourceData}
 use Rattle.tree_model.specs.Shown.{with_rows, members_of}
 
 -- some rows, and then others

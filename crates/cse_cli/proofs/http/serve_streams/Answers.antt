@@ -1,8 +1,8 @@
-use Rattle.std.proofs.Common.{◌≡◌, refl, sym, ap, subst, ◌∙◌, inl, inr, rules}
+use Rattle.std.proofs.Common.{refl, sym, ap, subst, ◌∙◌, inl, inr, rules}
 use Rattle.m2m_io.specs.Counts.{Rose}
 use Rattle.turn_desk.specs.Growth.{IsOwnRun}
 use Rattle.cse_machine.specs.Step.{Step}
-use Rattle.cse_cli.specs.Run.{RunsHttp, status_of}
+use Rattle.cse_cli.specs.Run.{RunsHttp}
 use Rattle.cse_cli.proofs.HttpLemmas.{first_name, second_name, after_lent, after_both, ended_reading, ended_writing, serves_same}
 use Rattle.cse_cli.proofs.http.serve_streams.Goals as goal
 

@@ -1,4 +1,4 @@
-use Rattle.std.proofs.Common.{◌≡◌, List, sym, ◌∙◌, subst}
+use Rattle.std.proofs.Common.{List, sym, ◌∙◌, subst}
 use Rattle.resource_model.specs.Attributes.{Row, AreInOrder, HoldsRow, LacksRow}
 use Rattle.resource_model.proofs.AttributeLemmas.{set-HoldsRow, insert-LacksRow, in_order-with_value}
 use Rattle.resource_model.proofs.attrs.put.Goals as goal

@@ -1,4 +1,4 @@
-use Rattle.std.proofs.Common.{◌≡◌, List, sym, ◌∙◌, subst}
+use Rattle.std.proofs.Common.{List, sym, ◌∙◌, subst}
 use Rattle.resource_model.specs.Attributes.{Row, AreInOrder, HoldsRow}
 use Rattle.resource_model.proofs.AttributeLemmas.{remove-HoldsRow, in_order-without_value}
 use Rattle.resource_model.proofs.attrs.take_out.Goals as goal

@@ -1,7 +1,7 @@
-use Rattle.std.proofs.Common.{◌≡◌, ◌<◌, List, take, drop, length, get_or, set, true, false, sym, ap, ◌∙◌, subst, arith}
+use Rattle.std.proofs.Common.{◌≡◌, ◌<◌, List, take, drop, length, sym, ap, ◌∙◌, subst, arith}
 use Rattle.resource_model.specs.Resource.{ResourceData, has_number}
 use Rattle.tree_model.specs.Tree.{stays, AreAscending}
-use Rattle.tree_model.proofs.SweepLemmas.{IsSwept, ascending_front, swept_keep, swept_skip}
+use Rattle.tree_model.proofs.SweepLemmas.{ascending_front, swept_keep, swept_skip}
 use Rattle.tree_model.proofs.nodes.sweep_out.Goals as goal
 use Rattle.tree_model.proofs.nodes.sweep_out.Goals.{then-does_stay, else-does_stay}
 

@@ -1,6 +1,5 @@
 use Rattle.std.proofs.Common.{◌≡◌, ◌++◌}
 use Rattle.std.specs.Vec.Iter.{into_iter_items}
-use Rattle.m2m_value.specs.Node.{HaveTextKeys}
 use Rattle.tree_model.specs.Shown.{members_of}
 use Rattle.tree_model.proofs.showing.named.Given as goal
 

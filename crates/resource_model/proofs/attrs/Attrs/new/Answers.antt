@@ -1,5 +1,5 @@
-use Rattle.std.proofs.Common.{List, sym, subst}
-use Rattle.resource_model.specs.Attributes.{Row, AreInOrder}
+use Rattle.std.proofs.Common.{sym, subst}
+use Rattle.resource_model.specs.Attributes.{AreInOrder}
 use Rattle.resource_model.proofs.AttributeLemmas.{no_rows}
 use Rattle.resource_model.proofs.attrs.Attrs.new.Goals as goal
 

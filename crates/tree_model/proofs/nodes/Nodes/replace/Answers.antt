@@ -1,4 +1,4 @@
-use Rattle.std.proofs.Common.{List, true, sym, ap, ◌∙◌, subst, ◌≡◌, Some, option_map}
+use Rattle.std.proofs.Common.{List, ap, ◌∙◌, ◌≡◌, Some, option_map}
 use Rattle.resource_model.specs.Resource.{ResourceData}
 use Rattle.tree_model.specs.Tree.{at, standing, is_tree}
 use Rattle.tree_model.proofs.GrowthLemmas.{ascending_from_tree}
