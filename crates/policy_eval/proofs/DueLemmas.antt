@@ -32,7 +32,7 @@ use Rattle.policy_eval.proofs.SeenLemmas.{at-seen, seen_map_alike, seen_shows}
 abbrev stands_under : List ResourceData → ResourceData → Bool
 stands_under nodes s = is_taken nodes s && nat_lt s.parent s.number
 
-or_none : (x : Option ResourceData) → option_or x None ≡ x
+pub or_none : (x : Option ResourceData) → option_or x None ≡ x
 or_none None = refl
 or_none (Some r) = refl
 
@@ -89,7 +89,7 @@ holds_instances : (t : Ty) → list_any (λ ty. (ty_row ty).number == 4) (ty_row
 holds_instances Container takes = refl
 holds_instances t takes = absurd (both_ways _ refl takes)
 
-in_container : (nodes : List ResourceData) (r p : ResourceData) → is_taken nodes r ≡ true → is_ty r.ty ContentInstance ≡ true → at r.parent nodes ≡ Some p → is_ty p.ty Container ≡ true
+pub in_container : (nodes : List ResourceData) (r p : ResourceData) → is_taken nodes r ≡ true → is_ty r.ty ContentInstance ≡ true → at r.parent nodes ≡ Some p → is_ty p.ty Container ≡ true
 in_container nodes r p taken instance found =
     let takes : does_take p.ty r.ty ≡ true = sym (ap (λ (o : Option ResourceData). option_map_or (λ (q : ResourceData). does_take q.ty r.ty) o true) found) ∙ taken in
     holds_instances p.ty (sym (ap (λ (n : ℕ). list_any (λ ty. (ty_row ty).number == n) (ty_row p.ty).takes) (number_of r.ty ContentInstance instance)) ∙ takes)
@@ -107,7 +107,7 @@ module _ (home : HomeData) (nodes : List ResourceData) (o : List ℕ) (r p : Res
       ap (λ (rules : List Rule). has_bits (bits_by home o rules) bit)
       (instance_rules nodes r p (number_of r.ty ContentInstance instance) found ∙ sym (container_rules nodes p (number_of p.ty Container container)))
 
-  same_fill : is_filled_in home nodes o r ≡ fills home nodes o p
+  pub same_fill : is_filled_in home nodes o r ≡ fills home nodes o p
   same_fill = rw (instance, found) refl
 
   -- the greatest age is seen of the container where the moments are seen of the instance
@@ -145,10 +145,10 @@ due_instance p s instance = rw (number_of s.ty ContentInstance instance) refl
 due_orphan : (s : ResourceData) → is_ty s.ty ContentInstance ≡ true → due_under None s ≡ Some s.et
 due_orphan s instance = rw (number_of s.ty ContentInstance instance) refl
 
-due_other : (p : Option ResourceData) (s : ResourceData) → is_ty s.ty CseBase ≡ false → is_ty s.ty ContentInstance ≡ false → due_under p s ≡ Some s.et
+pub due_other : (p : Option ResourceData) (s : ResourceData) → is_ty s.ty CseBase ≡ false → is_ty s.ty ContentInstance ≡ false → due_under p s ≡ Some s.et
 due_other p s no_base other = rw (no_base, other) refl
 
-due_base : (p : Option ResourceData) (s : ResourceData) → is_ty s.ty CseBase ≡ true → due_under p s ≡ None
+pub due_base : (p : Option ResourceData) (s : ResourceData) → is_ty s.ty CseBase ≡ true → due_under p s ≡ None
 due_base p s base = rw base refl
 
 same_choice : (b : Bool) (n : ℕ) → cond b n n ≡ n

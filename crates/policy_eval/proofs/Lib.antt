@@ -8,3 +8,5 @@ pub mod NameLemmas
 pub mod EqualLemmas
 pub mod RetrievedLemmas
 pub mod TwiceLemmas
+pub mod LookupLemmas
+pub mod AppendLemmas

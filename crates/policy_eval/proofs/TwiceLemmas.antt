@@ -87,7 +87,7 @@ owner_twice : (home : HomeData) (o : List ℕ) (r : ResourceData) → cond (is_s
 owner_twice home o r = ap (λ b. cond b o (another o)) (owner_seen home o r)
 
 -- what is seen of a value, by whether it is shown, lists rules, or is a way
-abbrev value_by : HomeData → List ℕ → Bool → Bool → Bool → Data → Option Data
+abbrev pub value_by : HomeData → List ℕ → Bool → Bool → Bool → Data → Option Data
 value_by home o shows rules way d =
     cond shows (Some d) (cond rules (Some (seen_rules home o d)) (cond way (Some (seen_points d)) None))
 
@@ -130,7 +130,7 @@ module _ (home : HomeData) (o : List ℕ) (less more : List ResourceData) (keeps
 
 -- ---- a map over a tree asks each resource that is found
 
-zip-found : (R : ResourceData → ResourceData → Type 0) (g : ResourceData → ResourceData) (nodes : List ResourceData) → is_tree nodes ≡ true → ((r : ResourceData) → at r.number nodes ≡ Some r → R (g r) r) → AllZip R (map g nodes) nodes
+pub zip-found : (R : ResourceData → ResourceData → Type 0) (g : ResourceData → ResourceData) (nodes : List ResourceData) → is_tree nodes ≡ true → ((r : ResourceData) → at r.number nodes ≡ Some r → R (g r) r) → AllZip R (map g nodes) nodes
 zip-found R g = growth fits (λ nodes. ((r : ResourceData) → at r.number nodes ≡ Some r → R (g r) r) → AllZip R (map g nodes) nodes) (λ rel. tt) (λ before r grew fit holds rel.
     let free : at r.number before ≡ None = at_none r.number before (below_lacks r.number before (next_fits before r fit).number) in
     let last : at r.number (before ++ r ∷ []) ≡ Some r =
@@ -141,7 +141,7 @@ zip-found R g = growth fits (λ nodes. ((r : ResourceData) → at r.number nodes
 -- ---- a sight of what is left of a sight
 
 -- the resource with these for its owner, its moments and its attributes
-abbrev made : ResourceData → List ℕ → ℕ → ℕ → ℕ → List Row → ResourceData
+abbrev pub made : ResourceData → List ℕ → ℕ → ℕ → ℕ → List Row → ResourceData
 made r owner ct lt et attrs = record {
   number = r.number;
   ty = r.ty;

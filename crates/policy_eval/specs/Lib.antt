@@ -5,3 +5,4 @@ pub mod Forms
 pub mod Laws
 pub mod Alike
 pub mod Seen
+pub mod Changes

@@ -1,11 +1,12 @@
 // Laws of rights, over every list.
-ghost use Rattle.std.specs.Prelude.{◌≡◌, ◌<◌, ◌^◌, Bool, List, ℕ, Some, IsTrue, map, option_map};
+ghost use Rattle.std.specs.Prelude.{◌≡◌, ◌<◌, ◌^◌, ◌++◌, ◌∷◌, [], Bool, false, List, ℕ, Some, IsTrue, map, option_map};
 ghost use Rattle.resource_model.specs.Home.{HomeData};
-ghost use Rattle.m2m_names.specs.declared.types.Ty.TheVariants.{AccessControlPolicy};
+ghost use Rattle.m2m_names.specs.declared.types.Ty.TheVariants.{AccessControlPolicy, ContentInstance};
 ghost use Rattle.resource_model.specs.Resource.{ResourceData, ae_id, id_of, is_ty};
 ghost use Rattle.tree_model.specs.Shown.{attributes_of};
 ghost use Rattle.tree_model.specs.Tree.{at, child_of, has, due, is_due, live, is_well_formed, without};
 ghost use Rattle.policy_eval.specs.Alike.{AreAlike};
+ghost use Rattle.policy_eval.specs.Changes.{is_linked, learns_limits};
 ghost use Rattle.policy_eval.specs.Laws.{IsNeverGained};
 ghost use Rattle.policy_eval.specs.Rules.{policy_named, policy_number};
 ghost use Rattle.policy_eval.specs.Rights.{grants, relinks, fan_grants};
@@ -114,6 +115,25 @@ pub fn equal_sights_stay_equal_under_a_removal()
         IsTrue (is_well_formed xs) → IsTrue (is_well_formed ys) →
         seen_list home xs o ≡ seen_list home ys o →
         seen_list home (live moment xs) o ≡ seen_list home (live moment ys) o }
+{}
+
+/// A resource that is appended changes nothing of what an originator sees of the others, where no
+/// `acpi` or `macp` names it yet as a policy. So where it sees the same of two lists, it still does
+/// after the same resource is appended to both. It sees when a content instance is due, and so it has
+/// to learn the limits of that one's container.
+pub fn equal_sights_stay_equal_under_an_append()
+    ensures others { (home : HomeData) (nodes : List ResourceData) (o : List ℕ)
+        (r : ResourceData) →
+        IsTrue (is_well_formed (nodes ++ r ∷ [])) → is_linked r nodes ≡ false →
+        seen_list home (nodes ++ r ∷ []) o
+        ≡ seen_list home nodes o ++ seen home (nodes ++ r ∷ []) o r ∷ [] }
+    ensures appended { (home : HomeData) (xs ys : List ResourceData) (o : List ℕ)
+        (r : ResourceData) →
+        IsTrue (is_well_formed (xs ++ r ∷ [])) → IsTrue (is_well_formed (ys ++ r ∷ [])) →
+        is_linked r xs ≡ false →
+        (IsTrue (is_ty r.ty ContentInstance) → IsTrue (learns_limits home xs o r.parent)) →
+        seen_list home xs o ≡ seen_list home ys o →
+        seen_list home (xs ++ r ∷ []) o ≡ seen_list home (ys ++ r ∷ []) o }
 {}
 
 /// The resource id of a policy spells its number, and so names it in every list that has it at that

@@ -23,7 +23,8 @@ mod tests;
 
 pub use laws::{
     a_policy_is_named_by_its_id, alike_lists_give_the_same_rights, equal_sights_show_the_same,
-    equal_sights_stay_equal_under_a_removal, removal_grants_nothing, sight_keeps_rights,
+    equal_sights_stay_equal_under_a_removal, equal_sights_stay_equal_under_an_append,
+    removal_grants_nothing, sight_keeps_rights,
     sight_keeps_what_is_live,
 };
 pub use rights::{fan_granted, granted, may_relink};
