@@ -70,7 +70,7 @@ all_weaker p q weaker (r ∷ xs) all =
 pub all_taken : (nodes : List ResourceData) → is_well_formed nodes ≡ true → list_all (is_taken nodes) nodes ≡ true
 all_taken nodes well = all_weaker (stands_under nodes) (is_taken nodes) (λ r stood. (and_parts (is_taken nodes r) _ stood).0) nodes (all_stand nodes well)
 
-found_passes : (p : ResourceData → Bool) (n : ℕ) (xs : List ResourceData) (r : ResourceData) → list_all p xs ≡ true → at n xs ≡ Some r → p r ≡ true
+pub found_passes : (p : ResourceData → Bool) (n : ℕ) (xs : List ResourceData) (r : ResourceData) → list_all p xs ≡ true → at n xs ≡ Some r → p r ≡ true
 found_passes p n [] r all found = cc
 found_passes p n (s ∷ xs) r all found =
     let parts = and_parts (p s) _ all in
@@ -136,10 +136,10 @@ module _ (home : HomeData) (nodes : List ResourceData) (o : List ℕ) (r p : Res
 -- ---- when a resource is due
 
 -- the end of an instance by its own expiry, its creation and the greatest age
-abbrev end_of : ℕ → ℕ → Option Data → ℕ
+abbrev pub end_of : ℕ → ℕ → Option Data → ℕ
 end_of et ct age = lesser et (option_map (λ n. ct + n) (option_and_then count_of (option_and_then as_number age)))
 
-due_instance : (p s : ResourceData) → is_ty s.ty ContentInstance ≡ true → due_under (Some p) s ≡ Some (end_of s.et s.ct (value_of Mia p.attrs))
+pub due_instance : (p s : ResourceData) → is_ty s.ty ContentInstance ≡ true → due_under (Some p) s ≡ Some (end_of s.et s.ct (value_of Mia p.attrs))
 due_instance p s instance = rw (number_of s.ty ContentInstance instance) refl
 
 due_orphan : (s : ResourceData) → is_ty s.ty ContentInstance ≡ true → due_under None s ≡ Some s.et

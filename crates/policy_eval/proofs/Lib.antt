@@ -10,3 +10,4 @@ pub mod RetrievedLemmas
 pub mod TwiceLemmas
 pub mod LookupLemmas
 pub mod AppendLemmas
+pub mod ReplaceLemmas

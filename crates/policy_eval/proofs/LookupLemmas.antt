@@ -16,7 +16,7 @@ use Rattle.tree_model.specs.Tree.{at, due}
 use Rattle.policy_eval.specs.Alike.{is_one_of, shape_attrs}
 use Rattle.policy_eval.specs.Rules.{only, Rule, rule_for, all_bits, rules_in, policy_of, policies_of, joined, elements_in, ids_at, owner_rules, registree, linked_rules, channel_rules, rules_of, fan_rules}
 use Rattle.policy_eval.specs.Rights.{bits_by, has_bits}
-use Rattle.policy_eval.specs.Seen.{create_bit, retrieve_bit, discovery_bit, may, fills, is_filled_in, may_use, found_attrs, limit_attrs, size_attrs, member_attrs, is_shown, seen_row, seen_owner, seen, is_way}
+use Rattle.policy_eval.specs.Seen.{create_bit, retrieve_bit, discovery_bit, may, fills, is_filled_in, may_use, found_attrs, limit_attrs, size_attrs, member_attrs, is_shown, seen_value, seen_row, seen_owner, seen, is_way}
 use Rattle.policy_eval.proofs.TwiceLemmas.{made, value_by}
 
 -- ---- rules
@@ -153,13 +153,16 @@ module _ (home : HomeData) (o : List ℕ) (zs xs : List ResourceData) where
       ∙ ap (λ b. showing_by a retrieves tells (fills home xs o r) b (may_use home zs o s)) both.inside
       ∙ ap (showing_by a retrieves tells (fills home xs o r) (is_filled_in home xs o r)) both.uses
 
-  pub row_same : (s r : ResourceData) → s.ty ≡ r.ty → MaySame home o zs xs s r → (row : Row) → seen_row home zs o s row ≡ seen_row home xs o r row
-  row_same s r ty both row =
-      ap (λ b. option_map (λ d. (row.0, d)) (value_by home o b (is_one_of (Pv ∷ Pvs ∷ []) row.0) (is_way s row.0) row.1)) (shown_same s r both row.0)
-      ∙ ap (λ b. option_map (λ d. (row.0, d)) (value_by home o (is_shown home xs o r row.0) (is_one_of (Pv ∷ Pvs ∷ []) row.0) b row.1)) (way ty)
+  pub value_same : (s r : ResourceData) → s.ty ≡ r.ty → MaySame home o zs xs s r → (a : Attr) (d : Data) → seen_value home zs o s a d ≡ seen_value home xs o r a d
+  value_same s r ty both a d =
+      ap (λ b. value_by home o b (is_one_of (Pv ∷ Pvs ∷ []) a) (is_way s a) d) (shown_same s r both a)
+      ∙ ap (λ b. value_by home o (is_shown home xs o r a) (is_one_of (Pv ∷ Pvs ∷ []) a) b d) (way ty)
     where
-      way : s.ty ≡ r.ty → is_way s row.0 ≡ is_way r row.0
+      way : s.ty ≡ r.ty → is_way s a ≡ is_way r a
       way e = rw e refl
+
+  pub row_same : (s r : ResourceData) → s.ty ≡ r.ty → MaySame home o zs xs s r → (row : Row) → seen_row home zs o s row ≡ seen_row home xs o r row
+  row_same s r ty both row = ap (option_map (λ d. (row.0, d))) (value_same s r ty both row.0 row.1)
 
 pub filter_map_same : {X Y : Type 0} (f g : X → Option Y) → ((x : X) → f x ≡ g x) → (xs : List X) → filter_map f xs ≡ filter_map g xs
 filter_map_same f g same [] = refl
@@ -193,7 +196,7 @@ module _ (home : HomeData) (o : List ℕ) (zs xs : List ResourceData) (r : Resou
 -- ---- what is found the same gives the same rights
 
 module _ (home : HomeData) (o : List ℕ) (named : Data → Bool) (zs xs : List ResourceData) (finds : FindsSame named zs xs) where
-  may_same : (s r : ResourceData) (n : ℕ) → JudgeSame s r → at n xs ≡ Some r → (bit : ℕ) → may home zs o bit s ≡ may home xs o bit r
+  pub may_same : (s r : ResourceData) (n : ℕ) → JudgeSame s r → at n xs ≡ Some r → (bit : ℕ) → may home zs o bit s ≡ may home xs o bit r
   may_same s r n same found bit = ap (λ (rules : List Rule). has_bits (bits_by home o rules) bit) (rules_same named zs xs finds s r n same found)
 
   fills_same : (s r : ResourceData) (n : ℕ) → JudgeSame s r → at n xs ≡ Some r → fills home zs o s ≡ fills home xs o r
@@ -213,7 +216,7 @@ module _ (home : HomeData) (o : List ℕ) (named : Data → Bool) (zs xs : List 
       ap (λ ty. is_ty ty ContentInstance && option_map_or (fills home zs o) (at s.parent zs) false) same.ty
       ∙ ap (λ b. is_ty r.ty ContentInstance && b) (filled_same (at s.parent zs) (at r.parent xs) r.parent refl (parent_same named zs xs finds s r n same found))
 
-  use_same : (s r : ResourceData) (n : ℕ) → JudgeSame s r → at n xs ≡ Some r → value_of Macp s.attrs ≡ value_of Macp r.attrs → may_use home zs o s ≡ may_use home xs o r
+  pub use_same : (s r : ResourceData) (n : ℕ) → JudgeSame s r → at n xs ≡ Some r → value_of Macp s.attrs ≡ value_of Macp r.attrs → may_use home zs o s ≡ may_use home xs o r
   use_same s r n same found macp =
       ap (λ ty. is_ty ty Group && (may home zs o 4 s || nat_lt 0 (bits_by home o (fan_rules zs s)))) same.ty
       ∙ ap (λ b. is_ty r.ty Group && (b || nat_lt 0 (bits_by home o (fan_rules zs s)))) (may_same s r n same found 4)

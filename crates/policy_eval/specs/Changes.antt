@@ -1,16 +1,20 @@
 -- What a change of a list has to leave alone, so that an originator still sees the same of two lists.
-use Rattle.std.specs.Prelude.{ℕ, Bool, false, ◌&&◌, ◌||◌, List, option_and_then}
+use Rattle.std.specs.Prelude.{◌≡◌, ℕ, Bool, true, false, ◌&&◌, ◌||◌, List, [], ◌∷◌, map, Option, Some, None, option_and_then, unwrap_or}
 use Rattle.std.specs.List.{list_any}
 use Rattle.std.specs.Option.{option_map_or}
-use Rattle.m2m_names.specs.declared.attributes.Attr.TheVariants.{Acpi, Macp}
-use Rattle.m2m_names.specs.declared.types.Ty.TheVariants.{AccessControlPolicy}
+use Rattle.m2m_names.specs.declared.attributes.Attr.{Attr}
+use Rattle.m2m_names.specs.declared.attributes.Attr.TheVariants.{Acpi, Aei, Csi, Macp, Mia, Pv, Pvs}
+use Rattle.m2m_names.specs.declared.types.Ty.{Ty}
+use Rattle.m2m_names.specs.declared.types.Ty.TheVariants.{AccessControlPolicy, Ae, ContentInstance, RemoteCse}
 use Rattle.m2m_value.specs.Data.{Data}
 use Rattle.m2m_value.specs.View.{as_text}
+use Rattle.resource_model.specs.Attributes.{Row, is_attr, with_value, without_value}
 use Rattle.resource_model.specs.Home.{HomeData}
 use Rattle.resource_model.specs.Resource.{ResourceData, is_ty, has_number}
+use Rattle.policy_eval.specs.Alike.{is_one_of}
 use Rattle.policy_eval.specs.Rules.{policy_number, ids_at}
 use Rattle.policy_eval.specs.Rights.{grants, update_bit}
-use Rattle.policy_eval.specs.Seen.{create_bit, retrieve_bit}
+use Rattle.policy_eval.specs.Seen.{create_bit, retrieve_bit, may, seen_value}
 
 -- the resource is a policy, and the id spells its number
 abbrev pub is_id_of : ResourceData → Data → Bool
@@ -32,3 +36,57 @@ abbrev pub learns_limits : HomeData → List ResourceData → List ℕ → ℕ �
 learns_limits home nodes o n =
     grants home nodes o create_bit n || grants home nodes o update_bit n
     || grants home nodes o retrieve_bit n
+
+-- ---- changes of a resource
+
+-- an attribute, and its new value, or none where it is cleared
+abbrev pub Change : Type 0
+Change = Attr × Option Data
+
+-- the rows after one change, and after several
+abbrev pub with_change : Attr → Option Data → List Row → List Row
+with_change a (Some d) rows = with_value a d rows
+with_change a None rows = without_value a rows
+
+abbrev pub with_changes : List Change → List Row → List Row
+with_changes [] rows = rows
+with_changes (c ∷ changes) rows = with_changes changes (with_change c.0 c.1 rows)
+
+-- the resource after changes of its attributes, and of its last change and its expiry where a new
+-- moment is given
+abbrev pub changed : List Change → Option ℕ → Option ℕ → ResourceData → ResourceData
+changed changes lt et r = record r {
+  attrs = with_changes changes r.attrs;
+  lt = unwrap_or lt r.lt;
+  et = unwrap_or et r.et;
+}
+
+-- an attribute of a resource of the type says by which rules somebody is judged, there or elsewhere,
+-- but for a fan-out: which policies hold for it, a policy's rules, and whose a polling channel is
+abbrev pub does_judge : Ty → Attr → Bool
+does_judge ty a =
+    is_one_of (Acpi ∷ Pv ∷ Pvs ∷ []) a
+    || (is_ty ty Ae && is_attr a Aei) || (is_ty ty RemoteCse && is_attr a Csi)
+
+-- one of the changes is of such an attribute
+abbrev pub do_judge : Ty → List Change → Bool
+do_judge ty changes = list_any (λ c. does_judge ty c.0) changes
+
+-- one of the changes is of an attribute by which something else is seen: when the instances of a
+-- container are due, or who may fan out to a group and so sees its members
+abbrev pub do_reach : List Change → Bool
+do_reach changes = list_any (λ c. is_one_of (Mia ∷ Macp ∷ []) c.0) changes
+
+-- what the originator sees of changes of a resource
+abbrev pub seen_changes : HomeData → List ResourceData → List ℕ → ResourceData → List Change → List Change
+seen_changes home nodes o r changes =
+    map (λ c. (c.0, option_and_then (seen_value home nodes o r c.0) c.1)) changes
+
+-- the changes of the resource show the originator nothing but themselves: it is no content instance,
+-- no change is of an attribute by which somebody is judged, and one by which something else is seen
+-- is made with UPDATE
+pub record ShowNoMore (home : HomeData) (nodes : List ResourceData) (o : List ℕ)
+    (r : ResourceData) (changes : List Change) : Type 0 where
+  pub other : is_ty r.ty ContentInstance ≡ false
+  pub free : do_judge r.ty changes ≡ false
+  pub reach : do_reach changes ≡ true → may home nodes o update_bit r ≡ true

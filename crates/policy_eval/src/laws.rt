@@ -1,12 +1,12 @@
 // Laws of rights, over every list.
-ghost use Rattle.std.specs.Prelude.{◌≡◌, ◌<◌, ◌^◌, ◌++◌, ◌∷◌, [], Bool, false, List, ℕ, Some, IsTrue, map, option_map};
+ghost use Rattle.std.specs.Prelude.{◌≡◌, ◌<◌, ◌^◌, ◌++◌, ◌∷◌, [], Bool, false, List, ℕ, Option, Some, IsTrue, map, option_map};
 ghost use Rattle.resource_model.specs.Home.{HomeData};
 ghost use Rattle.m2m_names.specs.declared.types.Ty.TheVariants.{AccessControlPolicy, ContentInstance};
 ghost use Rattle.resource_model.specs.Resource.{ResourceData, ae_id, id_of, is_ty};
 ghost use Rattle.tree_model.specs.Shown.{attributes_of};
-ghost use Rattle.tree_model.specs.Tree.{at, child_of, has, due, is_due, live, is_well_formed, without};
+ghost use Rattle.tree_model.specs.Tree.{at, child_of, has, due, is_due, live, is_well_formed, replaced, without};
 ghost use Rattle.policy_eval.specs.Alike.{AreAlike};
-ghost use Rattle.policy_eval.specs.Changes.{is_linked, learns_limits};
+ghost use Rattle.policy_eval.specs.Changes.{Change, ShowNoMore, changed, is_linked, learns_limits, seen_changes};
 ghost use Rattle.policy_eval.specs.Laws.{IsNeverGained};
 ghost use Rattle.policy_eval.specs.Rules.{policy_named, policy_number};
 ghost use Rattle.policy_eval.specs.Rights.{grants, relinks, fan_grants};
@@ -134,6 +134,36 @@ pub fn equal_sights_stay_equal_under_an_append()
         (IsTrue (is_ty r.ty ContentInstance) → IsTrue (learns_limits home xs o r.parent)) →
         seen_list home xs o ≡ seen_list home ys o →
         seen_list home (xs ++ r ∷ []) o ≡ seen_list home (ys ++ r ∷ []) o }
+{}
+
+/// A resource that is changed changes nothing of what an originator sees of the others, where the
+/// changes show it nothing but themselves. So where it sees the same of two lists, it still does
+/// after a resource of each gets the same changes, and even after changes of which it only sees the
+/// same. Both get the same moments for `lt` and `et`, or keep theirs.
+pub fn equal_sights_stay_equal_under_a_replacement()
+    ensures others { (home : HomeData) (nodes : List ResourceData) (o : List ℕ) (n : ℕ)
+        (r : ResourceData) (changes : List Change) (lt et : Option ℕ) →
+        IsTrue (is_well_formed nodes) → at n nodes ≡ Some r →
+        ShowNoMore home nodes o r changes →
+        seen_list home (replaced (changed changes lt et r) nodes) o
+        ≡ replaced
+            (seen home (replaced (changed changes lt et r) nodes) o (changed changes lt et r))
+            (seen_list home nodes o) }
+    ensures changed { (home : HomeData) (xs ys : List ResourceData) (o : List ℕ) (n : ℕ)
+        (r q : ResourceData) (changes : List Change) (lt et : Option ℕ) →
+        IsTrue (is_well_formed xs) → IsTrue (is_well_formed ys) →
+        at n xs ≡ Some r → at n ys ≡ Some q → ShowNoMore home xs o r changes →
+        seen_list home xs o ≡ seen_list home ys o →
+        seen_list home (replaced (changed changes lt et r) xs) o
+        ≡ seen_list home (replaced (changed changes lt et q) ys) o }
+    ensures unseen { (home : HomeData) (xs ys : List ResourceData) (o : List ℕ) (n : ℕ)
+        (r q : ResourceData) (changes more : List Change) (lt et : Option ℕ) →
+        IsTrue (is_well_formed xs) → IsTrue (is_well_formed ys) →
+        at n xs ≡ Some r → at n ys ≡ Some q → ShowNoMore home xs o r changes →
+        seen_changes home xs o r changes ≡ seen_changes home ys o q more →
+        seen_list home xs o ≡ seen_list home ys o →
+        seen_list home (replaced (changed changes lt et r) xs) o
+        ≡ seen_list home (replaced (changed more lt et q) ys) o }
 {}
 
 /// The resource id of a policy spells its number, and so names it in every list that has it at that

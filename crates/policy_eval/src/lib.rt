@@ -11,7 +11,8 @@
 //! Laws over every list stand on functions without a body: a removal grants nothing to anyone, lists
 //! that are alike for an originator give it the same rights, and the list as it sees it gives it the
 //! same resources and rights, at once and after the removal of what is due. Equal such lists show it
-//! the same and stay equal under a removal, and a policy's resource id names that policy.
+//! the same and stay equal under a removal, an append, and changes of a resource that show nothing
+//! but themselves; and a policy's resource id names that policy.
 #![tactic(auto)]
 
 mod laws;
@@ -23,8 +24,8 @@ mod tests;
 
 pub use laws::{
     a_policy_is_named_by_its_id, alike_lists_give_the_same_rights, equal_sights_show_the_same,
-    equal_sights_stay_equal_under_a_removal, equal_sights_stay_equal_under_an_append,
-    removal_grants_nothing, sight_keeps_rights,
+    equal_sights_stay_equal_under_a_removal, equal_sights_stay_equal_under_a_replacement,
+    equal_sights_stay_equal_under_an_append, removal_grants_nothing, sight_keeps_rights,
     sight_keeps_what_is_live,
 };
 pub use rights::{fan_granted, granted, may_relink};
