@@ -21,7 +21,7 @@ use Rattle.tree_model.specs.Tree.{at, due, due_under, is_taken, is_well_formed, 
 use Rattle.tree_model.proofs.GrowthLemmas.{tree_from_well_formed}
 use Rattle.tree_model.proofs.TreeLemmas.{at-replaced, at-replaced_other, at_has, at_number, map-replaced}
 use Rattle.policy_eval.specs.Alike.{is_one_of}
-use Rattle.policy_eval.specs.Changes.{Change, ShowNoMore, changed, do_judge, do_reach, does_judge, seen_changes, with_change, with_changes}
+use Rattle.policy_eval.specs.Changes.{NewValue, ShowNoMore, changed, do_judge, do_reach, does_judge, seen_changes, with_change, with_changes}
 use Rattle.policy_eval.specs.Rules.{ids_at, policy_at, policy_named, policy_number}
 use Rattle.policy_eval.specs.Rights.{update_bit}
 use Rattle.policy_eval.specs.Seen.{retrieve_bit, discovery_bit, may, fills, is_filled_in, may_use, seen_value, seen_row, seen_owner, seen, seen_list}
@@ -45,8 +45,8 @@ any_fewer p q fewer (x ∷ xs) none =
     or_from _ _ (fewer x parts.0) (any_fewer p q fewer xs parts.1)
 
 -- one of the changes is of this attribute
-abbrev is_changed : List Change → Attr → Bool
-is_changed changes b = list_any (λ (c : Change). is_attr c.0 b) changes
+abbrev is_changed : List NewValue → Attr → Bool
+is_changed changes b = list_any (λ (c : NewValue). is_attr c.0 b) changes
 
 attr_apart : (a b : Attr) → is_attr a b ≡ false → b ≢ a
 attr_apart a b other same = both_ways _ other (subst (λ (c : Attr). is_attr a c ≡ true) (sym same) (is_attr-itself a))
@@ -55,7 +55,7 @@ change_kept : (a b : Attr) (x : Option Data) (rows : List Row) → is_attr a b �
 change_kept a b None rows other = value-without_value_other a b rows (attr_apart a b other)
 change_kept a b (Some d) rows other = value-with_value_other a b d rows (attr_apart a b other)
 
-changes_kept : (b : Attr) (changes : List Change) → is_changed changes b ≡ false → (rows : List Row) → value_of b (with_changes changes rows) ≡ value_of b rows
+changes_kept : (b : Attr) (changes : List NewValue) → is_changed changes b ≡ false → (rows : List Row) → value_of b (with_changes changes rows) ≡ value_of b rows
 changes_kept b [] none rows = refl
 changes_kept b (c ∷ changes) none rows =
     let parts = or_parts (is_attr c.0 b) (is_changed changes b) none in
@@ -96,15 +96,15 @@ change_seen h a (Some d) rows =
     by_kept None = refl
     by_kept (Some d) = refl
 
-abbrev changes_by : (Attr → Data → Option Data) → List Change → List Change
-changes_by h changes = map (λ (c : Change). (c.0, option_and_then (h c.0) c.1)) changes
+abbrev changes_by : (Attr → Data → Option Data) → List NewValue → List NewValue
+changes_by h changes = map (λ (c : NewValue). (c.0, option_and_then (h c.0) c.1)) changes
 
 -- they are of the same attributes
-changes_test : (h : Attr → Data → Option Data) (p : Attr → Bool) (changes : List Change) → list_any (λ (c : Change). p c.0) (changes_by h changes) ≡ list_any (λ (c : Change). p c.0) changes
+changes_test : (h : Attr → Data → Option Data) (p : Attr → Bool) (changes : List NewValue) → list_any (λ (c : NewValue). p c.0) (changes_by h changes) ≡ list_any (λ (c : NewValue). p c.0) changes
 changes_test h p [] = refl
 changes_test h p (c ∷ changes) = ap (λ b. p c.0 || b) (changes_test h p changes)
 
-changes_seen : (h : Attr → Data → Option Data) (changes : List Change) (rows : List Row) → filter_map (kept_row h) (with_changes changes rows) ≡ with_changes (changes_by h changes) (filter_map (kept_row h) rows)
+changes_seen : (h : Attr → Data → Option Data) (changes : List NewValue) (rows : List Row) → filter_map (kept_row h) (with_changes changes rows) ≡ with_changes (changes_by h changes) (filter_map (kept_row h) rows)
 changes_seen h [] rows = refl
 changes_seen h (c ∷ changes) rows =
     changes_seen h changes (with_change c.0 c.1 rows) ∙ ap (with_changes (changes_by h changes)) (change_seen h c.0 c.1 rows)
@@ -113,7 +113,7 @@ then_same : (f g : Data → Option Data) → ((d : Data) → f d ≡ g d) → (x
 then_same f g same None = refl
 then_same f g same (Some d) = same d
 
-changes_same : (h k : Attr → Data → Option Data) → ((a : Attr) (d : Data) → h a d ≡ k a d) → (changes : List Change) → changes_by h changes ≡ changes_by k changes
+changes_same : (h k : Attr → Data → Option Data) → ((a : Attr) (d : Data) → h a d ≡ k a d) → (changes : List NewValue) → changes_by h changes ≡ changes_by k changes
 changes_same h k same [] = refl
 changes_same h k same (c ∷ changes) =
     ap (λ x. (c.0, x) ∷ changes_by h changes) (then_same (h c.0) (k c.0) (same c.0) c.1)
@@ -121,31 +121,31 @@ changes_same h k same (c ∷ changes) =
 
 -- ---- what is kept where nothing that judges is changed
 
-module _ (ty : Ty) (changes : List Change) (free : do_judge ty changes ≡ false) where
+module _ (ty : Ty) (changes : List NewValue) (free : do_judge ty changes ≡ false) where
   acpi_kept : is_changed changes Acpi ≡ false
-  acpi_kept = any_fewer _ _ (λ (c : Change) none.
+  acpi_kept = any_fewer _ _ (λ (c : NewValue) none.
       (or_parts (is_attr c.0 Acpi) _ (or_parts _ _ (or_parts _ _ none).0).0).0) changes free
 
   pv_kept : is_changed changes Pv ≡ false
-  pv_kept = any_fewer _ _ (λ (c : Change) none.
+  pv_kept = any_fewer _ _ (λ (c : NewValue) none.
       (or_parts (is_attr c.0 Pv) _ (or_parts (is_attr c.0 Acpi) _ (or_parts _ _ (or_parts _ _ none).0).0).1).0) changes free
 
   pvs_kept : is_changed changes Pvs ≡ false
-  pvs_kept = any_fewer _ _ (λ (c : Change) none.
+  pvs_kept = any_fewer _ _ (λ (c : NewValue) none.
       (or_parts (is_attr c.0 Pvs) _ (or_parts (is_attr c.0 Pv) _ (or_parts (is_attr c.0 Acpi) _ (or_parts _ _ (or_parts _ _ none).0).0).1).1).0) changes free
 
   aei_kept : is_ty ty Ae ≡ true → is_changed changes Aei ≡ false
-  aei_kept is = any_fewer (λ (c : Change). does_judge ty c.0) (λ (c : Change). is_attr c.0 Aei) (λ c none.
+  aei_kept is = any_fewer (λ (c : NewValue). does_judge ty c.0) (λ (c : NewValue). is_attr c.0 Aei) (λ c none.
       let here : (is_ty ty Ae && is_attr c.0 Aei) ≡ false = (or_parts _ _ (or_parts _ _ none).0).1 in
       rw is at here) changes free
 
   csi_kept : is_ty ty RemoteCse ≡ true → is_changed changes Csi ≡ false
-  csi_kept is = any_fewer (λ (c : Change). does_judge ty c.0) (λ (c : Change). is_attr c.0 Csi) (λ c none.
+  csi_kept is = any_fewer (λ (c : NewValue). does_judge ty c.0) (λ (c : NewValue). is_attr c.0 Csi) (λ c none.
       let here : (is_ty ty RemoteCse && is_attr c.0 Csi) ≡ false = (or_parts _ _ none).1 in
       rw is at here) changes free
 
-reach_kept : (b : Attr) (changes : List Change) → is_one_of (Mia ∷ Macp ∷ []) b ≡ true → do_reach changes ≡ false → is_changed changes b ≡ false
-reach_kept b changes one none = any_fewer (λ (c : Change). is_one_of (Mia ∷ Macp ∷ []) c.0) (λ (c : Change). is_attr c.0 b) (λ c other. elim (cases_Bool (is_attr c.0 b)) [
+reach_kept : (b : Attr) (changes : List NewValue) → is_one_of (Mia ∷ Macp ∷ []) b ≡ true → do_reach changes ≡ false → is_changed changes b ≡ false
+reach_kept b changes one none = any_fewer (λ (c : NewValue). is_one_of (Mia ∷ Macp ∷ []) c.0) (λ (c : NewValue). is_attr c.0 b) (λ c other. elim (cases_Bool (is_attr c.0 b)) [
   | inl t ↦ absurd (both_ways _ other (subst (λ (a : Attr). is_one_of (Mia ∷ Macp ∷ []) a ≡ true) (sym (is_attr-same c.0 b t)) one))
   | inr f ↦ f
 ]) changes none
@@ -176,11 +176,11 @@ et_by None tells base before = before
 et_by (Some m) tells base before = cond tells m (cond base 0 m)
 
 -- what was seen of the resource, after changes as they are seen, by what the originator may do
-abbrev after : ResourceData → Option ℕ → Option ℕ → Bool → Bool → Bool → List Change → ResourceData
+abbrev after : ResourceData → Option ℕ → Option ℕ → Bool → Bool → Bool → List NewValue → ResourceData
 after s lt et retrieves tells inside changes =
     made s s.owner s.ct (lt_by lt (retrieves || tells) s.lt) (et_by et (retrieves || inside) (is_ty s.ty CseBase) s.et) (with_changes changes s.attrs)
 
-module _ (home : HomeData) (o : List ℕ) (xs : List ResourceData) (well : is_well_formed xs ≡ true) (n : ℕ) (r : ResourceData) (found : at n xs ≡ Some r) (other : is_ty r.ty ContentInstance ≡ false) (changes : List Change) (lt et : Option ℕ) (free : do_judge r.ty changes ≡ false) (limits : do_reach changes ≡ true → may home xs o update_bit r ≡ true) where
+module _ (home : HomeData) (o : List ℕ) (xs : List ResourceData) (well : is_well_formed xs ≡ true) (n : ℕ) (r : ResourceData) (found : at n xs ≡ Some r) (other : is_ty r.ty ContentInstance ≡ false) (changes : List NewValue) (lt et : Option ℕ) (free : do_judge r.ty changes ≡ false) (limits : do_reach changes ≡ true → may home xs o update_bit r ≡ true) where
   abbrev new : ResourceData
   new = changed changes lt et r
 
@@ -356,13 +356,13 @@ sight_at home xs ys o n r q found place same =
     same_Some (seen home xs o r) (seen home ys o q) (sym left ∙ ap (at n) same ∙ right)
 
 -- the originator sees the same of the changes
-pub replace-seen : (home : HomeData) (xs ys : List ResourceData) (o : List ℕ) (n : ℕ) (r q : ResourceData) (changes others : List Change) (lt et : Option ℕ) → is_well_formed xs ≡ true → is_well_formed ys ≡ true → at n xs ≡ Some r → at n ys ≡ Some q → ShowNoMore home xs o r changes → seen_changes home xs o r changes ≡ seen_changes home ys o q others → seen_list home xs o ≡ seen_list home ys o → seen_list home (replaced (changed changes lt et r) xs) o ≡ seen_list home (replaced (changed others lt et q) ys) o
+pub replace-seen : (home : HomeData) (xs ys : List ResourceData) (o : List ℕ) (n : ℕ) (r q : ResourceData) (changes others : List NewValue) (lt et : Option ℕ) → is_well_formed xs ≡ true → is_well_formed ys ≡ true → at n xs ≡ Some r → at n ys ≡ Some q → ShowNoMore home xs o r changes → seen_changes home xs o r changes ≡ seen_changes home ys o q others → seen_list home xs o ≡ seen_list home ys o → seen_list home (replaced (changed changes lt et r) xs) o ≡ seen_list home (replaced (changed others lt et q) ys) o
 replace-seen home xs ys o n r q changes others lt et wellx welly found place touch alike same =
     let e : seen home xs o r ≡ seen home ys o q = sight_at home xs ys o n r q found place same in
     let ty : r.ty ≡ q.ty = ap (λ (s : ResourceData). s.ty) e in
     let rights : MaySame home o xs ys r q = may_seen_same home xs ys o same r q e in
-    let tests : (p : Attr → Bool) → list_any (λ (c : Change). p c.0) changes ≡ list_any (λ (c : Change). p c.0) others = λ p.
-        sym (changes_test (seen_value home xs o r) p changes) ∙ ap (list_any (λ (c : Change). p c.0)) alike ∙ changes_test (seen_value home ys o q) p others in
+    let tests : (p : Attr → Bool) → list_any (λ (c : NewValue). p c.0) changes ≡ list_any (λ (c : NewValue). p c.0) others = λ p.
+        sym (changes_test (seen_value home xs o r) p changes) ∙ ap (list_any (λ (c : NewValue). p c.0)) alike ∙ changes_test (seen_value home ys o q) p others in
     let yours : do_reach others ≡ true → may home ys o update_bit q ≡ true = λ some. sym (rights.may update_bit) ∙ touch.reach (tests (is_one_of (Mia ∷ Macp ∷ [])) ∙ some) in
     let free_too : do_judge q.ty others ≡ false = sym (tests (does_judge q.ty)) ∙ sym (ap (λ t. do_judge t changes) ty) ∙ touch.free in
     let shown = changes_by (seen_value home xs o r) changes in
@@ -376,7 +376,7 @@ replace-seen home xs ys o n r q changes others lt et wellx welly found place tou
     ∙ sym (seen_list_after home o ys welly n q place (sym (ap (λ t. is_ty t ContentInstance) ty) ∙ touch.other) others lt et free_too yours)
 
 -- it sees the same of the same changes
-pub replace-same : (home : HomeData) (xs ys : List ResourceData) (o : List ℕ) (n : ℕ) (r q : ResourceData) (changes : List Change) (lt et : Option ℕ) → is_well_formed xs ≡ true → is_well_formed ys ≡ true → at n xs ≡ Some r → at n ys ≡ Some q → ShowNoMore home xs o r changes → seen_list home xs o ≡ seen_list home ys o → seen_list home (replaced (changed changes lt et r) xs) o ≡ seen_list home (replaced (changed changes lt et q) ys) o
+pub replace-same : (home : HomeData) (xs ys : List ResourceData) (o : List ℕ) (n : ℕ) (r q : ResourceData) (changes : List NewValue) (lt et : Option ℕ) → is_well_formed xs ≡ true → is_well_formed ys ≡ true → at n xs ≡ Some r → at n ys ≡ Some q → ShowNoMore home xs o r changes → seen_list home xs o ≡ seen_list home ys o → seen_list home (replaced (changed changes lt et r) xs) o ≡ seen_list home (replaced (changed changes lt et q) ys) o
 replace-same home xs ys o n r q changes lt et wellx welly found place touch same =
     let e : seen home xs o r ≡ seen home ys o q = sight_at home xs ys o n r q found place same in
     let ty : r.ty ≡ q.ty = ap (λ (s : ResourceData). s.ty) e in
@@ -385,7 +385,7 @@ replace-same home xs ys o n r q changes lt et wellx welly found place touch same
     (changes_same (seen_value home xs o r) (seen_value home ys o q) (value_same home o xs ys r q ty rights) changes) same
 
 -- what stands beside it is seen as before
-pub replace-others : (home : HomeData) (nodes : List ResourceData) (o : List ℕ) (n : ℕ) (r : ResourceData) (changes : List Change) (lt et : Option ℕ) → is_well_formed nodes ≡ true → at n nodes ≡ Some r → ShowNoMore home nodes o r changes → seen_list home (replaced (changed changes lt et r) nodes) o ≡ replaced (seen home (replaced (changed changes lt et r) nodes) o (changed changes lt et r)) (seen_list home nodes o)
+pub replace-others : (home : HomeData) (nodes : List ResourceData) (o : List ℕ) (n : ℕ) (r : ResourceData) (changes : List NewValue) (lt et : Option ℕ) → is_well_formed nodes ≡ true → at n nodes ≡ Some r → ShowNoMore home nodes o r changes → seen_list home (replaced (changed changes lt et r) nodes) o ≡ replaced (seen home (replaced (changed changes lt et r) nodes) o (changed changes lt et r)) (seen_list home nodes o)
 replace-others home nodes o n r changes lt et well found touch =
     let new = changed changes lt et r in
     map-replaced (seen home (replaced new nodes) o) (λ s. refl) new nodes

@@ -40,21 +40,21 @@ learns_limits home nodes o n =
 -- ---- changes of a resource
 
 -- an attribute, and its new value, or none where it is cleared
-abbrev pub Change : Type 0
-Change = Attr × Option Data
+abbrev pub NewValue : Type 0
+NewValue = Attr × Option Data
 
 -- the rows after one change, and after several
 abbrev pub with_change : Attr → Option Data → List Row → List Row
 with_change a (Some d) rows = with_value a d rows
 with_change a None rows = without_value a rows
 
-abbrev pub with_changes : List Change → List Row → List Row
+abbrev pub with_changes : List NewValue → List Row → List Row
 with_changes [] rows = rows
 with_changes (c ∷ changes) rows = with_changes changes (with_change c.0 c.1 rows)
 
 -- the resource after changes of its attributes, and of its last change and its expiry where a new
 -- moment is given
-abbrev pub changed : List Change → Option ℕ → Option ℕ → ResourceData → ResourceData
+abbrev pub changed : List NewValue → Option ℕ → Option ℕ → ResourceData → ResourceData
 changed changes lt et r = record r {
   attrs = with_changes changes r.attrs;
   lt = unwrap_or lt r.lt;
@@ -69,16 +69,16 @@ does_judge ty a =
     || (is_ty ty Ae && is_attr a Aei) || (is_ty ty RemoteCse && is_attr a Csi)
 
 -- one of the changes is of such an attribute
-abbrev pub do_judge : Ty → List Change → Bool
+abbrev pub do_judge : Ty → List NewValue → Bool
 do_judge ty changes = list_any (λ c. does_judge ty c.0) changes
 
 -- one of the changes is of an attribute by which something else is seen: when the instances of a
 -- container are due, or who may fan out to a group and so sees its members
-abbrev pub do_reach : List Change → Bool
+abbrev pub do_reach : List NewValue → Bool
 do_reach changes = list_any (λ c. is_one_of (Mia ∷ Macp ∷ []) c.0) changes
 
 -- what the originator sees of changes of a resource
-abbrev pub seen_changes : HomeData → List ResourceData → List ℕ → ResourceData → List Change → List Change
+abbrev pub seen_changes : HomeData → List ResourceData → List ℕ → ResourceData → List NewValue → List NewValue
 seen_changes home nodes o r changes =
     map (λ c. (c.0, option_and_then (seen_value home nodes o r c.0) c.1)) changes
 
@@ -86,7 +86,7 @@ seen_changes home nodes o r changes =
 -- no change is of an attribute by which somebody is judged, and one by which something else is seen
 -- is made with UPDATE
 pub record ShowNoMore (home : HomeData) (nodes : List ResourceData) (o : List ℕ)
-    (r : ResourceData) (changes : List Change) : Type 0 where
+    (r : ResourceData) (changes : List NewValue) : Type 0 where
   pub other : is_ty r.ty ContentInstance ≡ false
   pub free : do_judge r.ty changes ≡ false
   pub reach : do_reach changes ≡ true → may home nodes o update_bit r ≡ true

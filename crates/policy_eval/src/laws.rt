@@ -6,7 +6,7 @@ ghost use Rattle.resource_model.specs.Resource.{ResourceData, ae_id, id_of, is_t
 ghost use Rattle.tree_model.specs.Shown.{attributes_of};
 ghost use Rattle.tree_model.specs.Tree.{at, child_of, has, due, is_due, live, is_well_formed, replaced, without};
 ghost use Rattle.policy_eval.specs.Alike.{AreAlike};
-ghost use Rattle.policy_eval.specs.Changes.{Change, ShowNoMore, changed, is_linked, learns_limits, seen_changes};
+ghost use Rattle.policy_eval.specs.Changes.{NewValue, ShowNoMore, changed, is_linked, learns_limits, seen_changes};
 ghost use Rattle.policy_eval.specs.Laws.{IsNeverGained};
 ghost use Rattle.policy_eval.specs.Rules.{policy_named, policy_number};
 ghost use Rattle.policy_eval.specs.Rights.{grants, relinks, fan_grants};
@@ -142,7 +142,7 @@ pub fn equal_sights_stay_equal_under_an_append()
 /// same. Both get the same moments for `lt` and `et`, or keep theirs.
 pub fn equal_sights_stay_equal_under_a_replacement()
     ensures others { (home : HomeData) (nodes : List ResourceData) (o : List ℕ) (n : ℕ)
-        (r : ResourceData) (changes : List Change) (lt et : Option ℕ) →
+        (r : ResourceData) (changes : List NewValue) (lt et : Option ℕ) →
         IsTrue (is_well_formed nodes) → at n nodes ≡ Some r →
         ShowNoMore home nodes o r changes →
         seen_list home (replaced (changed changes lt et r) nodes) o
@@ -150,14 +150,14 @@ pub fn equal_sights_stay_equal_under_a_replacement()
             (seen home (replaced (changed changes lt et r) nodes) o (changed changes lt et r))
             (seen_list home nodes o) }
     ensures changed { (home : HomeData) (xs ys : List ResourceData) (o : List ℕ) (n : ℕ)
-        (r q : ResourceData) (changes : List Change) (lt et : Option ℕ) →
+        (r q : ResourceData) (changes : List NewValue) (lt et : Option ℕ) →
         IsTrue (is_well_formed xs) → IsTrue (is_well_formed ys) →
         at n xs ≡ Some r → at n ys ≡ Some q → ShowNoMore home xs o r changes →
         seen_list home xs o ≡ seen_list home ys o →
         seen_list home (replaced (changed changes lt et r) xs) o
         ≡ seen_list home (replaced (changed changes lt et q) ys) o }
     ensures unseen { (home : HomeData) (xs ys : List ResourceData) (o : List ℕ) (n : ℕ)
-        (r q : ResourceData) (changes more : List Change) (lt et : Option ℕ) →
+        (r q : ResourceData) (changes more : List NewValue) (lt et : Option ℕ) →
         IsTrue (is_well_formed xs) → IsTrue (is_well_formed ys) →
         at n xs ≡ Some r → at n ys ≡ Some q → ShowNoMore home xs o r changes →
         seen_changes home xs o r changes ≡ seen_changes home ys o q more →
