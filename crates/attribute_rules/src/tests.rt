@@ -2,9 +2,9 @@
 use super::*;
 use m2m_names::{Attr, Ty};
 use m2m_value::{Val, read};
+use resource_model::{Attrs, Moments, OutOfMemory, Resource};
 use std::alloc::Global;
 use std::test::Fail;
-use resource_model::{Attrs, Moments, OutOfMemory, Resource};
 
 // A kind, a value of it, and one that isn't.
 const VALUES: [(Kind, &str, &str); 18] = [

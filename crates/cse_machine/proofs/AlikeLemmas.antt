@@ -72,14 +72,14 @@ stay_alike [] (t ∷ twin) o left right after other sound sounds same first seco
 stay_alike (h ∷ history) [] o left right after other sound sounds same first second readings events by done dones = absurd (none_some h.reading (readings_of history) (sym readings))
 stay_alike (h ∷ history) (t ∷ twin) o left right after other sound sounds same first second readings events by done dones =
     let step =
-        step_alike o left right sound sounds same h.reading h.event first.0 second.0 h.outcome t.outcome (All-head (IsBy o) h.event (events_of history) by) first.1
-        (subst (λ (n : ℕ). Step n h.event right t.outcome second.0) (sym (same_first h.reading t.reading (readings_of history) (readings_of twin) readings))
-        (subst (λ (v : Event). Step t.reading v right t.outcome second.0) (sym (same_first h.event t.event (events_of history) (events_of twin) events)) second.1))
-        (All-head IsDone h.outcome (outcomes_of history) done) (All-head IsDone t.outcome (outcomes_of twin) dones) in
+    step_alike o left right sound sounds same h.reading h.event first.0 second.0 h.outcome t.outcome (All-head (IsBy o) h.event (events_of history) by) first.1
+    (subst (λ (n : ℕ). Step n h.event right t.outcome second.0) (sym (same_first h.reading t.reading (readings_of history) (readings_of twin) readings))
+    (subst (λ (v : Event). Step t.reading v right t.outcome second.0) (sym (same_first h.event t.event (events_of history) (events_of twin) events)) second.1))
+    (All-head IsDone h.outcome (outcomes_of history) done) (All-head IsDone t.outcome (outcomes_of twin) dones) in
     let rest =
-        stay_alike history twin o first.0 second.0 after other step.2 step.3 step.1 first.2 second.2
-        (same_rest h.reading t.reading (readings_of history) (readings_of twin) readings)
-        (same_rest h.event t.event (events_of history) (events_of twin) events)
-        (All-tail (IsBy o) h.event (events_of history) by)
-        (All-tail IsDone h.outcome (outcomes_of history) done) (All-tail IsDone t.outcome (outcomes_of twin) dones) in
+    stay_alike history twin o first.0 second.0 after other step.2 step.3 step.1 first.2 second.2
+    (same_rest h.reading t.reading (readings_of history) (readings_of twin) readings)
+    (same_rest h.event t.event (events_of history) (events_of twin) events)
+    (All-tail (IsBy o) h.event (events_of history) by)
+    (All-tail IsDone h.outcome (outcomes_of history) done) (All-tail IsDone t.outcome (outcomes_of twin) dones) in
     (ap (λ (out : Outcome). out ∷ outcomes_of history) step.0 ∙ ap (λ (os : List Outcome). t.outcome ∷ os) rest.0, rest.1)

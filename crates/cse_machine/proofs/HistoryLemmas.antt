@@ -73,13 +73,13 @@ one_way [] (t ∷ twin) opening e other first second readings events done dones 
 one_way (h ∷ history) [] opening e other first second readings events done dones = absurd (none_some h.reading (readings_of history) (sym readings))
 one_way (h ∷ history) (t ∷ twin) opening e other first second readings events done dones =
     let step =
-        step_one_way h.reading h.event opening first.0 second.0 h.outcome t.outcome first.1
-        (subst (λ (n : ℕ). Step n h.event opening t.outcome second.0) (sym (same_first h.reading t.reading (readings_of history) (readings_of twin) readings))
-        (subst (λ (v : Event). Step t.reading v opening t.outcome second.0) (sym (same_first h.event t.event (events_of history) (events_of twin) events)) second.1))
-        (All-head IsDone h.outcome (outcomes_of history) done) (All-head IsDone t.outcome (outcomes_of twin) dones) in
+    step_one_way h.reading h.event opening first.0 second.0 h.outcome t.outcome first.1
+    (subst (λ (n : ℕ). Step n h.event opening t.outcome second.0) (sym (same_first h.reading t.reading (readings_of history) (readings_of twin) readings))
+    (subst (λ (v : Event). Step t.reading v opening t.outcome second.0) (sym (same_first h.event t.event (events_of history) (events_of twin) events)) second.1))
+    (All-head IsDone h.outcome (outcomes_of history) done) (All-head IsDone t.outcome (outcomes_of twin) dones) in
     let rest =
-        one_way history twin first.0 e other first.2 (subst (λ (b : EntityData). Leaves b twin other) (sym step.1) second.2)
-        (same_rest h.reading t.reading (readings_of history) (readings_of twin) readings)
-        (same_rest h.event t.event (events_of history) (events_of twin) events)
-        (All-tail IsDone h.outcome (outcomes_of history) done) (All-tail IsDone t.outcome (outcomes_of twin) dones) in
+    one_way history twin first.0 e other first.2 (subst (λ (b : EntityData). Leaves b twin other) (sym step.1) second.2)
+    (same_rest h.reading t.reading (readings_of history) (readings_of twin) readings)
+    (same_rest h.event t.event (events_of history) (events_of twin) events)
+    (All-tail IsDone h.outcome (outcomes_of history) done) (All-tail IsDone t.outcome (outcomes_of twin) dones) in
     (ap (λ (o : Outcome). o ∷ outcomes_of history) step.0 ∙ ap (λ (os : List Outcome). t.outcome ∷ os) rest.0, rest.1)

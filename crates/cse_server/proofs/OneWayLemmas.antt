@@ -170,7 +170,7 @@ module _ (left right after other : EntityData) (stream old new twin given told :
   same_bytes outcomes =
       said_whole ended old new _ _ whole first.said
       ∙ ap (λ v. old ++ v) (talk_same 1 first.heard second.heard first.refused second.refused first.outcomes second.outcomes both_heard.0 both_heard.1
-          (sym first.asked.outcomes_are ∙ outcomes ∙ second.asked.outcomes_are))
+      (sym first.asked.outcomes_are ∙ outcomes ∙ second.asked.outcomes_are))
       ∙ sym (said_whole end old twin _ _ wholes second.said)
 
 all_done : (mine : History) (outcomes : List Outcome) → outcomes_of mine ≡ outcomes → All IsDone outcomes → All IsDone (outcomes_of mine)

@@ -362,7 +362,7 @@ replace-seen home xs ys o n r q changes others lt et wellx welly found place tou
     let ty : r.ty ≡ q.ty = ap (λ (s : ResourceData). s.ty) e in
     let rights : MaySame home o xs ys r q = may_seen_same home xs ys o same r q e in
     let tests : (p : Attr → Bool) → list_any (λ (c : NewValue). p c.0) changes ≡ list_any (λ (c : NewValue). p c.0) others = λ p.
-        sym (changes_test (seen_value home xs o r) p changes) ∙ ap (list_any (λ (c : NewValue). p c.0)) alike ∙ changes_test (seen_value home ys o q) p others in
+    sym (changes_test (seen_value home xs o r) p changes) ∙ ap (list_any (λ (c : NewValue). p c.0)) alike ∙ changes_test (seen_value home ys o q) p others in
     let yours : do_reach others ≡ true → may home ys o update_bit q ≡ true = λ some. sym (rights.may update_bit) ∙ touch.reach (tests (is_one_of (Mia ∷ Macp ∷ [])) ∙ some) in
     let free_too : do_judge q.ty others ≡ false = sym (tests (does_judge q.ty)) ∙ sym (ap (λ t. do_judge t changes) ty) ∙ touch.free in
     let shown = changes_by (seen_value home xs o r) changes in

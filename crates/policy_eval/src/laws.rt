@@ -147,8 +147,8 @@ pub fn equal_sights_stay_equal_under_a_replacement()
         ShowNoMore home nodes o r changes →
         seen_list home (replaced (changed changes lt et r) nodes) o
         ≡ replaced
-            (seen home (replaced (changed changes lt et r) nodes) o (changed changes lt et r))
-            (seen_list home nodes o) }
+        (seen home (replaced (changed changes lt et r) nodes) o (changed changes lt et r))
+        (seen_list home nodes o) }
     ensures changed { (home : HomeData) (xs ys : List ResourceData) (o : List ℕ) (n : ℕ)
         (r q : ResourceData) (changes : List NewValue) (lt et : Option ℕ) →
         IsTrue (is_well_formed xs) → IsTrue (is_well_formed ys) →
