@@ -265,6 +265,31 @@ fn a_reader_is_read_and_a_writer_written(rt: HostRuntime) -> Result<(), Fail> {
     Ok(())
 }
 
+/// A reader that fails at its second read, and else gives nothing.
+#[derive(Drop)]
+struct Faulty {
+    reads: usize,
+}
+
+impl std::io::Read for Faulty {
+    fn read(&mut self, _buf: &mut [u8]) -> std::io::Result<usize> {
+        self.reads = self.reads.saturating_add(1);
+        if self.reads == 2 {
+            return Err(std::io::Error::from(std::io::ErrorKind::TimedOut));
+        }
+        Ok(0)
+    }
+}
+
+#[test]
+fn an_error_of_the_reader_is_a_fault(rt: HostRuntime) {
+    let mut input = StdIn::new(Faulty { reads: 0 });
+    let mut buf = [0u8; 2];
+    assert_eq!(rt; input.read(&mut buf), Ok(0));
+    assert_eq!(rt; input.read(&mut buf), Err(Failed));
+    assert_eq!(rt; input.read(&mut buf), Ok(0));
+}
+
 /// A writer that takes two bytes at a time, and none once it has four.
 #[derive(Drop)]
 struct Narrow {

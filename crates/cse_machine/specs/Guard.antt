@@ -1,6 +1,8 @@
 -- What a step may show, and what it may change.
-use Rattle.std.specs.Prelude.{◌≡◌, ◌≢◌, ◌⊎◌, ℕ, List, [], ◌∷◌, ◌++◌, Some, None, IsTrue}
-use Rattle.m2m_names.specs.declared.codes.Rsc.TheVariants.{Ok as Fine}
+use Rattle.std.specs.Prelude.{◌≡◌, ◌≢◌, ◌⊎◌, ℕ, Bool, List, [], ◌∷◌, ◌++◌, Some, None, IsTrue}
+use Rattle.std.specs.Int.{is_in_range}
+use Rattle.m2m_names.specs.StatusCodes.{rsc_row}
+use Rattle.m2m_names.specs.declared.codes.Rsc.{Rsc}
 use Rattle.primitive_json.specs.declared.reply.ReplyParts.{ReplyParts}
 use Rattle.primitive_json.specs.declared.request.RequestParts.{RequestParts}
 use Rattle.resource_model.specs.Resource.{ResourceData}
@@ -16,9 +18,13 @@ use Rattle.cse_machine.specs.Answer.{addressed}
 use Rattle.cse_machine.specs.History.{History, Leaves}
 use Rattle.cse_machine.specs.Step.{Step}
 
+-- the status says that the request was served (TS-0004, 6.6.3)
+abbrev pub is_success : Rsc → Bool
+is_success rsc = is_in_range 2000 2999 (rsc_row rsc).number
+
 -- the reply shows something: it has content, or it says that the request was served
 abbrev pub DoesShow : ReplyParts → Type 0
-DoesShow reply = (reply.pc ≢ None) ⊎ (reply.rsc ≡ Fine)
+DoesShow reply = (reply.pc ≢ None) ⊎ IsTrue (is_success reply.rsc)
 
 -- the originator of the request has RETRIEVE on the resource that the address names
 -- (TS-0001, 9.6.2)

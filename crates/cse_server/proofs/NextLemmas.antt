@@ -1,15 +1,16 @@
 -- What stands next on a connection, and what it says of the stream.
-use Rattle.std.proofs.Common.{◌≡◌, ◌≢◌, ℕ, Bool, true, false, List, [], ◌∷◌, ◌++◌, length, Option, Some, None, IfSome, inl, inr, refl, sym, ap, subst, ◌∙◌, arith, append_assoc, append-nil}
+use Rattle.std.proofs.Common.{◌≡◌, ◌≢◌, ℕ, ◌<◌, Bool, true, false, List, [], ◌∷◌, ◌++◌, length, Option, Some, None, IfSome, inl, inr, refl, sym, ap, subst, ◌∙◌, arith, append_assoc, append-nil}
 use Rattle.std.proofs.lemmas.Bool.{cases_Bool}
 use Rattle.std.specs.Io.KnownBytes.{IsAtEnd}
 use Rattle.http_frames.specs.declared.frame.Frame.{Frame}
 use Rattle.http_frames.specs.declared.frame.Side.TheVariants.{Request}
 use Rattle.http_frames.specs.Stream.{HasNoFrame}
-use Rattle.http_frames.specs.Inbox.{stream_of, Reads, Gives, HoldsNoFrame}
+use Rattle.http_frames.specs.Inbox.{stream_of, Reads, Gives, HoldsNoFrame, most_held}
 use Rattle.http_binding.specs.Replying.{reply_text}
 use Rattle.cse_machine.specs.declared.event.Outcome.{Outcome}
 use Rattle.cse_server.specs.Closing.{closes}
 use Rattle.cse_server.specs.Talk.{request_in, reply_for, replies, some_closes}
+use Rattle.cse_server.specs.Connection.{ReadsLittle}
 use Rattle.cse_server.specs.Way.{Leads}
 
 -- what was read is held, and the stream is as it was
@@ -18,6 +19,12 @@ kept_leads None rest held now r = tt
 kept_leads (Some l) None held now r = absurd r.consumed
 kept_leads (Some l) (Some m) held now r =
     ap (λ v. held ++ v) r.consumed ∙ sym (append_assoc held r.read m) ∙ ap (λ v. v ++ m) (sym r.held_is)
+
+-- what was read is held, and was the front of the stream
+pub reads_little : (left rest : Option (List ℕ)) (held now : List ℕ) → Reads left rest held now → length now < most_held Request → IfSome (stream_of held left) (λ bytes. IfSome rest (ReadsLittle bytes))
+reads_little None rest held now r few = tt
+reads_little (Some l) None held now r few = tt
+reads_little (Some l) (Some m) held now r few = record { held = now; rest_is = kept_leads (Some l) (Some m) held now r; few = few }
 
 -- a frame was given: it began the stream
 pub given_leads : (left rest : Option (List ℕ)) (held now : List ℕ) (frame : Frame) → Gives Request left rest held now frame → Leads (stream_of held left) (frame ∷ []) (stream_of now rest)

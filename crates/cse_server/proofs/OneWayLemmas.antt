@@ -48,7 +48,7 @@ settles place Closed refused heard rest now whole right ends = record {
   refusal = λ t. absurd (true≢false (sym t ∙ ends.0));
 }
 settles place NoFrame refused heard rest now whole right ends = record {
-  closed = λ f. absurd (true≢false (sym ends ∙ f));
+  closed = λ f. absurd (true≢false (sym ends.0 ∙ f));
   refusal = λ t. (refl, (right t).0, (right t).1, (right t).2);
 }
 settles place ReadFault refused heard rest now whole right ends = absurd whole

@@ -1,5 +1,5 @@
 -- The turn of one frame, and what stands next on a connection.
-use Rattle.std.proofs.Common.{◌≡◌, ◌≢◌, ℕ, ◌+◌, Bool, true, false, List, [], ◌∷◌, ◌++◌, length, Option, Some, None, IfSome, IsTrue, MatchOption, Result, Ok, inl, inr, refl, sym, ap, subst, ◌∙◌, arith, append-nil}
+use Rattle.std.proofs.Common.{◌≡◌, ℕ, ◌+◌, ◌<◌, Bool, true, false, List, [], ◌∷◌, ◌++◌, length, Option, Some, None, IfSome, IsTrue, MatchOption, Result, Ok, inl, inr, refl, sym, ap, subst, ◌∙◌, arith, append-nil}
 use Rattle.std.proofs.lemmas.Bool.{false≢true, true≢false}
 use Rattle.std.specs.Io.KnownBytes.{Appends, IsAtEnd}
 use Rattle.m2m_io.specs.Told.{AppendsPrefix}
@@ -9,7 +9,7 @@ use Rattle.turn_desk.proofs.GrowthLemmas.{AsksAll-nothing}
 use Rattle.http_frames.specs.declared.frame.Frame.{Frame}
 use Rattle.http_frames.specs.declared.frame.Side.TheVariants.{Request}
 use Rattle.http_frames.specs.Stream.{HasNoFrame}
-use Rattle.http_frames.specs.Inbox.{stream_of, Reads, HoldsNoFrame}
+use Rattle.http_frames.specs.Inbox.{stream_of, Reads, HoldsNoFrame, most_held}
 use Rattle.http_binding.specs.Replying.{reply_text}
 use Rattle.http_frames.specs.declared.fault.PutFault.{PutFault}
 use Rattle.http_frames.specs.declared.fault.PutFault.TheVariants.{WriteFault as PutWrite, OutOfMemory as PutMemory}
@@ -19,9 +19,9 @@ use Rattle.cse_server.specs.declared.connection.Ended.{Ended}
 use Rattle.cse_server.specs.declared.connection.Ended.TheVariants.{Closed, NoFrame, ReadFault, WriteFault, Memory}
 use Rattle.cse_server.specs.Closing.{closes}
 use Rattle.cse_server.specs.Talk.{replies, last_reply, talk, talk_before_last, some_closes, ends_at_close}
-use Rattle.cse_server.specs.Connection.{IsThese, RefusesRightly, EndsRightly, AppendsCut, Says, ServesFrom}
+use Rattle.cse_server.specs.Connection.{IsThese, ReadsLittle, RefusesRightly, EndsRightly, AppendsCut, Says, ServesFrom}
 use Rattle.cse_server.specs.Way.{Leads, Goes, Hears, Refuses, SaysTurn, Turns, end_of_put}
-use Rattle.cse_server.proofs.NextLemmas.{kept_leads, ended_empty, refused_rightly, replies-one, some_closes-one}
+use Rattle.cse_server.proofs.NextLemmas.{kept_leads, reads_little, ended_empty, refused_rightly, replies-one, some_closes-one}
 use Rattle.cse_server.proofs.PutLemmas.{prefix_none, cut_first}
 use Rattle.cse_server.proofs.TalkLemmas.{nothing_before}
 use Rattle.cse_server.proofs.WayLemmas.{Tells-nil}
@@ -52,23 +52,23 @@ turn_says place frame ReadFault old new before text none said = absurd said
 turn_says place frame WriteFault old new before text none said = subst (λ (v : List ℕ). AppendsCut old new before v) (sym (append-nil text)) (cut_first old new before text none said)
 turn_says place frame Memory old new before text none said = subst (λ (v : List ℕ). AppendsCut old new before v) (sym (append-nil text)) (cut_first old new before text none said)
 
-turn_ends : (place : ℕ) (frame : Frame) (ended : Ended) (heard : List Frame) (old new : Option (List ℕ)) (text rest : List ℕ) (src : Option (List ℕ)) → heard ≡ frame ∷ [] → SaysTurn place frame (Some ended) old new text → EndsRightly place ended false heard rest src
-turn_ends place frame Closed heard old new text rest src same said =
-    (refl, λ stays. absurd (true≢false (sym (some_closes-one frame place true said.0) ∙ ap (λ (fs : List Frame). some_closes fs place) (sym same) ∙ stays)))
-turn_ends place frame NoFrame heard old new text rest src same said = absurd said
-turn_ends place frame ReadFault heard old new text rest src same said = absurd said
-turn_ends place frame WriteFault heard old new text rest src same said = tt
-turn_ends place frame Memory heard old new text rest src same said = tt
+turn_ends : (place : ℕ) (frame : Frame) (ended : Ended) (heard : List Frame) (old new : Option (List ℕ)) (text rest : List ℕ) (src : Option (List ℕ)) → heard ≡ frame ∷ [] → IfSome src (ReadsLittle rest) → SaysTurn place frame (Some ended) old new text → EndsRightly place ended false heard rest src
+turn_ends place frame Closed heard old new text rest src same little said =
+    (refl, λ stays. absurd (true≢false (sym (some_closes-one frame place true said.0) ∙ ap (λ (fs : List Frame). some_closes fs place) (sym same) ∙ stays)), little)
+turn_ends place frame NoFrame heard old new text rest src same little said = absurd said
+turn_ends place frame ReadFault heard old new text rest src same little said = absurd said
+turn_ends place frame WriteFault heard old new text rest src same little said = little
+turn_ends place frame Memory heard old new text rest src same little said = tt
 
-turn_stream : (left rest src : Option (List ℕ)) (place : ℕ) (frame : Frame) (ended : Ended) (heard : List Frame) (old new : Option (List ℕ)) (text : List ℕ) → heard ≡ frame ∷ [] → Leads left (frame ∷ []) rest → SaysTurn place frame (Some ended) old new text
+turn_stream : (left src : Option (List ℕ)) (held : List ℕ) (place : ℕ) (frame : Frame) (ended : Ended) (heard : List Frame) (old new : Option (List ℕ)) (text : List ℕ) → heard ≡ frame ∷ [] → length held < most_held Request → Leads left (frame ∷ []) (stream_of held src) → SaysTurn place frame (Some ended) old new text
     → IfSome left (λ bytes. (after : List ℕ) × IsThese bytes heard after × RefusesRightly place false heard after × EndsRightly place ended false heard after src)
-turn_stream None rest src place frame ended heard old new text same leads said = tt
-turn_stream (Some bytes) None src place frame ended heard old new text same leads said = absurd leads
-turn_stream (Some bytes) (Some after) src place frame ended heard old new text same leads said = (
-  after,
-  subst (λ (fs : List Frame). IsThese bytes fs after) (sym same) leads,
+turn_stream None src held place frame ended heard old new text same few leads said = tt
+turn_stream (Some bytes) None held place frame ended heard old new text same few leads said = absurd leads
+turn_stream (Some bytes) (Some m) held place frame ended heard old new text same few leads said = (
+  held ++ m,
+  subst (λ (fs : List Frame). IsThese bytes fs (held ++ m)) (sym same) leads,
   (λ t. absurd (false≢true t)),
-  turn_ends place frame ended heard old new text after src same said,
+  turn_ends place frame ended heard old new text (held ++ m) (Some m) same (record { held = held; rest_is = refl; few = few }) said,
 )
 
 starved_stream : (left src : Option (List ℕ)) (place : ℕ) (ended : Ended) (heard : List Frame) → heard ≡ [] → ended ≡ Memory
@@ -150,27 +150,29 @@ module _ {S : Type 0} (grown : S → List (Marked Event Outcome) → S → Type 
 
     -- the stream ended behind a frame
     pub serves_end : (place : ℕ) (seat : S) (left rest : Option (List ℕ)) (held now : List ℕ) (old given : Option (List ℕ))
-        → Reads left rest held now → now ≡ [] → IsAtEnd rest
+        → Reads left rest held now → length now < most_held Request → now ≡ [] → IsAtEnd rest
         → ServesFrom place grown seat seat (stream_of held left) rest old old given given Closed
-    serves_end place seat left rest held now old given reads none end =
-        serves_none place seat (stream_of held left) rest old old given false Closed
-        (with_all (stream_of held left) (ended_empty left rest held now reads none end)) (appends_nothing old)
+    serves_end place seat left rest held now old given reads few none end =
+        serves_none place seat (stream_of held left) rest old old given false Closed (all left reads) (appends_nothing old)
       where
-        with_all : (left : Option (List ℕ)) → IfSome left (λ bytes. bytes ≡ []) → IfSome left (λ bytes. RefusesRightly place false [] bytes × EndsRightly place Closed false [] bytes rest)
-        with_all None h = tt
-        with_all (Some bytes) h = ((λ t. absurd (false≢true t)), (refl, λ stays. h))
+        all : (left : Option (List ℕ)) → Reads left rest held now → IfSome (stream_of held left) (λ bytes. RefusesRightly place false [] bytes × EndsRightly place Closed false [] bytes rest)
+        all None r = tt
+        all (Some l) r =
+            let nothing : held ++ l ≡ [] = ended_empty (Some l) rest held now r none end in
+            ((λ t. absurd (false≢true t)), (refl, λ stays. nothing, reads_little (Some l) rest held now r few))
 
     -- reading failed
     pub serves_fault : (place : ℕ) (seat : S) (left rest : Option (List ℕ)) (held now : List ℕ) (old given : Option (List ℕ))
-        → Reads left rest held now → HasNoFrame Request now
+        → Reads left rest held now → length now < most_held Request → HasNoFrame Request now
         → ServesFrom place grown seat seat (stream_of held left) rest old old given given ReadFault
-    serves_fault place seat left rest held now old given reads none =
+    serves_fault place seat left rest held now old given reads few none =
         serves_none place seat (stream_of held left) rest old old given false ReadFault (all left rest reads) (appends_nothing old)
       where
         all : (left rest : Option (List ℕ)) → Reads left rest held now → IfSome (stream_of held left) (λ bytes. RefusesRightly place false [] bytes × EndsRightly place ReadFault false [] bytes rest)
         all None rest r = tt
         all (Some l) None r = absurd r.consumed
-        all (Some l) (Some m) r = ((λ t. absurd (false≢true t)), (refl, refl, (now, kept_leads (Some l) (Some m) held now r, none)))
+        all (Some l) (Some m) r =
+            ((λ t. absurd (false≢true t)), (refl, refl, record { reads = record { held = now; rest_is = kept_leads (Some l) (Some m) held now r; few = few }; none = none }))
 
     -- memory ran out
     pub serves_starved : (place : ℕ) (seat : S) (left src old given : Option (List ℕ)) → ServesFrom place grown seat seat left src old old given given Memory
@@ -181,29 +183,35 @@ module _ {S : Type 0} (grown : S → List (Marked Event Outcome) → S → Type 
         all (Some bytes) = ((λ t. absurd (false≢true t)), tt)
 
     -- no frame can stand
-    pub serves_refused : (place : ℕ) (seat : S) (left rest src : Option (List ℕ)) (held now : List ℕ) (old new given : Option (List ℕ)) (ended : Ended)
-        → Reads left rest held now → HoldsNoFrame Request now rest → Refuses old new ended
-        → ServesFrom place grown seat seat (stream_of held left) src old new given given ended
-    serves_refused place seat left rest src held now old new given Closed reads holds put = absurd put
-    serves_refused place seat left rest src held now old new given NoFrame reads holds put =
-        serves_none place seat (stream_of held left) src old new given true NoFrame (all (stream_of held left) (refused_rightly left rest held now reads holds)) put
+    pub serves_refused : (place : ℕ) (seat : S) (left rest : Option (List ℕ)) (held now : List ℕ) (old new given : Option (List ℕ)) (ended : Ended)
+        → Reads left rest held now → length now < most_held Request → HoldsNoFrame Request now rest → Refuses old new ended
+        → ServesFrom place grown seat seat (stream_of held left) rest old new given given ended
+    serves_refused place seat left rest held now old new given Closed reads few holds put = absurd put
+    serves_refused place seat left rest held now old new given NoFrame reads few holds put =
+        serves_none place seat (stream_of held left) rest old new given true NoFrame (all left reads) put
       where
-        all : (left : Option (List ℕ)) → IfSome left (λ bytes. (bytes ≢ []) × HasNoFrame Request bytes) → IfSome left (λ bytes. RefusesRightly place true [] bytes × EndsRightly place NoFrame true [] bytes src)
-        all None h = tt
-        all (Some bytes) h = ((λ t. (refl, h.0, h.1)), refl)
-    serves_refused place seat left rest src held now old new given ReadFault reads holds put = absurd put
-    serves_refused place seat left rest src held now old new given WriteFault reads holds put =
-        serves_none place seat (stream_of held left) src old new given true WriteFault (all (stream_of held left) (refused_rightly left rest held now reads holds)) (cut_first old new [] last_reply refl put)
+        all : (left : Option (List ℕ)) → Reads left rest held now → IfSome (stream_of held left) (λ bytes. RefusesRightly place true [] bytes × EndsRightly place NoFrame true [] bytes rest)
+        all None r = tt
+        all (Some l) r =
+            let right = refused_rightly (Some l) rest held now r holds in
+            ((λ t. (refl, right.0, right.1)), (refl, reads_little (Some l) rest held now r few))
+    serves_refused place seat left rest held now old new given ReadFault reads few holds put = absurd put
+    serves_refused place seat left rest held now old new given WriteFault reads few holds put =
+        serves_none place seat (stream_of held left) rest old new given true WriteFault (all left reads) (cut_first old new [] last_reply refl put)
       where
-        all : (left : Option (List ℕ)) → IfSome left (λ bytes. (bytes ≢ []) × HasNoFrame Request bytes) → IfSome left (λ bytes. RefusesRightly place true [] bytes × EndsRightly place WriteFault true [] bytes src)
-        all None h = tt
-        all (Some bytes) h = ((λ t. (refl, h.0, h.1)), tt)
-    serves_refused place seat left rest src held now old new given Memory reads holds put =
-        serves_none place seat (stream_of held left) src old new given true Memory (all (stream_of held left) (refused_rightly left rest held now reads holds)) (cut_first old new [] last_reply refl put)
+        all : (left : Option (List ℕ)) → Reads left rest held now → IfSome (stream_of held left) (λ bytes. RefusesRightly place true [] bytes × EndsRightly place WriteFault true [] bytes rest)
+        all None r = tt
+        all (Some l) r =
+            let right = refused_rightly (Some l) rest held now r holds in
+            ((λ t. (refl, right.0, right.1)), reads_little (Some l) rest held now r few)
+    serves_refused place seat left rest held now old new given Memory reads few holds put =
+        serves_none place seat (stream_of held left) rest old new given true Memory (all left reads) (cut_first old new [] last_reply refl put)
       where
-        all : (left : Option (List ℕ)) → IfSome left (λ bytes. (bytes ≢ []) × HasNoFrame Request bytes) → IfSome left (λ bytes. RefusesRightly place true [] bytes × EndsRightly place Memory true [] bytes src)
-        all None h = tt
-        all (Some bytes) h = ((λ t. (refl, h.0, h.1)), tt)
+        all : (left : Option (List ℕ)) → Reads left rest held now → IfSome (stream_of held left) (λ bytes. RefusesRightly place true [] bytes × EndsRightly place Memory true [] bytes rest)
+        all None r = tt
+        all (Some l) r =
+            let right = refused_rightly (Some l) rest held now r holds in
+            ((λ t. (refl, right.0, right.1)), tt)
 
   -- the frame was answered, and the connection goes on
   pub goes_on : (place : ℕ) (before after : S) (left rest : Option (List ℕ)) (old new given told : Option (List ℕ)) (frame : Frame)
@@ -225,10 +233,10 @@ module _ {S : Type 0} (grown : S → List (Marked Event Outcome) → S → Type 
       e = elim t.either [ inl same ↦ same | inr starved ↦ absurd (none_some starved.1) ]
 
   -- the frame was answered, and the connection ended
-  pub serves_turn : (place : ℕ) (before after : S) (left rest src : Option (List ℕ)) (old new given told : Option (List ℕ)) (frame : Frame) (ended : Ended)
-      → Leads left (frame ∷ []) rest → Turns place grown before after old new given told frame (Some ended)
+  pub serves_turn : (place : ℕ) (before after : S) (left src : Option (List ℕ)) (held : List ℕ) (old new given told : Option (List ℕ)) (frame : Frame) (ended : Ended)
+      → length held < most_held Request → Leads left (frame ∷ []) (stream_of held src) → Turns place grown before after old new given told frame (Some ended)
       → ServesFrom place grown before after left src old new given told ended
-  serves_turn place before after left rest src old new given told frame ended leads t = elim t.either [
+  serves_turn place before after left src held old new given told frame ended few leads t = elim t.either [
     | inl same ↦ record {
       heard = t.heard;
       refused = false;
@@ -237,7 +245,7 @@ module _ {S : Type 0} (grown : S → List (Marked Event Outcome) → S → Type 
       asked = t.asked;
       clock = t.clock;
       up_to = subst (λ (fs : List Frame). IsTrue (ends_at_close fs place)) (sym same) refl;
-      stream = turn_stream left rest src place frame ended t.heard old new (replies t.heard place t.outcomes) same leads t.said;
+      stream = turn_stream left src held place frame ended t.heard old new (replies t.heard place t.outcomes) same few leads t.said;
       said = turn_says place frame ended old new _ (replies t.heard place t.outcomes) (ap (λ (fs : List Frame). talk_before_last place fs false t.outcomes) same) t.said;
     }
     | inr starved ↦ record {
@@ -254,13 +262,13 @@ module _ {S : Type 0} (grown : S → List (Marked Event Outcome) → S → Type 
   ]
 
   -- a frame stood next, and was answered
-  pub message_next : (place : ℕ) (before after : S) (left rest src : Option (List ℕ)) (old new given told : Option (List ℕ)) (frame : Frame) (r : Option Ended) (P : Type 0) → P
-      → Leads left (frame ∷ []) rest → Turns place grown before after old new given told frame r
-      → MatchOption r (P × Goes place (place + 1) grown before after left rest old new given told) (ServesFrom place grown before after left src old new given told)
-  message_next place before after left rest src old new given told frame None P p leads t =
-      (p, goes_on place before after left rest old new given told frame leads t)
-  message_next place before after left rest src old new given told frame (Some ended) P p leads t =
-      serves_turn place before after left rest src old new given told frame ended leads t
+  pub message_next : (place : ℕ) (before after : S) (left src : Option (List ℕ)) (held : List ℕ) (old new given told : Option (List ℕ)) (frame : Frame) (r : Option Ended) (P : Type 0) → P
+      → length held < most_held Request → Leads left (frame ∷ []) (stream_of held src) → Turns place grown before after old new given told frame r
+      → MatchOption r (P × Goes place (place + 1) grown before after left (stream_of held src) old new given told) (ServesFrom place grown before after left src old new given told)
+  message_next place before after left src held old new given told frame None P p few leads t =
+      (p, goes_on place before after left (stream_of held src) old new given told frame leads t)
+  message_next place before after left src held old new given told frame (Some ended) P p few leads t =
+      serves_turn place before after left src held old new given told frame ended few leads t
 
   module _ (nothing : (seat : S) → grown seat [] seat) where
     -- no frame stood yet

@@ -51,11 +51,11 @@ Refuses-then place between refused xs ys rest stays places h = λ t.
 
 Ends-then : (place between : ℕ) (ended : Ended) (refused : Bool) (xs ys : List Frame) (rest : List ℕ) (now : Option (List ℕ)) → some_closes xs place ≡ false → place + length xs ≡ between → EndsRightly between ended refused ys rest now → EndsRightly place ended refused (xs ++ ys) rest now
 Ends-then place between Closed refused xs ys rest now stays places h =
-    (h.0, λ none. h.1 (sym (ap (some_closes ys) places) ∙ sym (some_closes-append xs ys place stays) ∙ none))
+    (h.0, λ none. h.1 (sym (ap (some_closes ys) places) ∙ sym (some_closes-append xs ys place stays) ∙ none), h.2)
 Ends-then place between NoFrame refused xs ys rest now stays places h = h
 Ends-then place between ReadFault refused xs ys rest now stays places h =
     (h.0, some_closes-append xs ys place stays ∙ ap (some_closes ys) places ∙ h.1, h.2)
-Ends-then place between WriteFault refused xs ys rest now stays places h = tt
+Ends-then place between WriteFault refused xs ys rest now stays places h = h
 Ends-then place between Memory refused xs ys rest now stays places h = tt
 
 -- what the stream says of an end

@@ -1,11 +1,12 @@
 -- What serving a connection does: to its bytes, to the seat at the desk, and to the clock.
-use Rattle.std.specs.Prelude.{◌≡◌, ◌≢◌, ℕ, Bool, true, false, List, [], ◌∷◌, ◌++◌, map, Option, IfSome, IsTrue, ⊤}
+use Rattle.std.specs.Prelude.{◌≡◌, ◌≢◌, ℕ, ◌<◌, Bool, true, false, List, [], ◌∷◌, ◌++◌, length, map, Option, IfSome, IsTrue, ⊤}
 use Rattle.std.specs.Io.KnownBytes.{Appends}
 use Rattle.m2m_io.specs.Told.{Tells}
 use Rattle.turn_desk.specs.Entries.{Marked}
 use Rattle.turn_desk.specs.Growth.{AsksAll}
 use Rattle.http_frames.specs.declared.frame.Frame.{Frame}
 use Rattle.http_frames.specs.declared.frame.Side.TheVariants.{Request}
+use Rattle.http_frames.specs.Inbox.{most_held}
 use Rattle.http_frames.specs.Stream.{BeginsWith, HasNoFrame}
 use Rattle.cse_machine.specs.declared.event.Event.{Event}
 use Rattle.cse_machine.specs.declared.event.Event.TheVariants.{Ask}
@@ -30,20 +31,27 @@ abbrev pub RefusesRightly : ℕ → Bool → List Frame → List ℕ → Type 0
 RefusesRightly place refused heard rest =
     refused ≡ true → (some_closes heard place ≡ false) × (rest ≢ []) × HasNoFrame Request rest
 
--- Of the rest some bytes were read, before those that are left now; no frame stands at their front.
-abbrev pub HoldsBack : List ℕ → Option (List ℕ) → Type 0
-HoldsBack rest now = IfSome now (λ left. (held : List ℕ) × (rest ≡ held ++ left) × HasNoFrame Request held)
+-- Of the rest some bytes were read, before those that are left now: fewer than the longest request and 4,096 more.
+pub record ReadsLittle (rest left : List ℕ) : Type 0 where
+  pub held : List ℕ
+  pub rest_is : rest ≡ held ++ left
+  pub few : length held < most_held Request
+
+-- the same, and no frame stands at the front of what was read
+pub record HoldsBack (rest left : List ℕ) : Type 0 where
+  pub reads : ReadsLittle rest left
+  pub none : HasNoFrame Request reads.held
 
 -- When a connection ends so, the frames that were heard, what is left behind them and what the source has left now
--- being these: it is closed where a frame closed it, or nothing is left; and at a fault of reading all frames that were
--- read are among those that were heard.
+-- being these: it is closed where a frame closed it, or nothing is left; at a fault of reading all frames that were read
+-- are among those that were heard; and little was read behind them, but for want of memory, of which nothing is said.
 abbrev pub EndsRightly : ℕ → Ended → Bool → List Frame → List ℕ → Option (List ℕ) → Type 0
 EndsRightly place Closed refused heard rest now =
-    (refused ≡ false) × (some_closes heard place ≡ false → rest ≡ [])
-EndsRightly place NoFrame refused heard rest now = refused ≡ true
+    (refused ≡ false) × (some_closes heard place ≡ false → rest ≡ []) × IfSome now (ReadsLittle rest)
+EndsRightly place NoFrame refused heard rest now = (refused ≡ true) × IfSome now (ReadsLittle rest)
 EndsRightly place ReadFault refused heard rest now =
-    (refused ≡ false) × (some_closes heard place ≡ false) × HoldsBack rest now
-EndsRightly place WriteFault refused heard rest now = ⊤
+    (refused ≡ false) × (some_closes heard place ≡ false) × IfSome now (HoldsBack rest)
+EndsRightly place WriteFault refused heard rest now = IfSome now (ReadsLittle rest)
 EndsRightly place Memory refused heard rest now = ⊤
 
 -- The first of these texts is written, and then a part of what the second has behind it.

@@ -1,8 +1,9 @@
 //! One connection, from its first frame to its end.
-ghost use Rattle.std.specs.Prelude.{◌≡◌, ◌≤◌, ◌+◌, false, Some, None, Err, IfOk, MatchOption};
+ghost use Rattle.std.specs.Prelude.{◌≡◌, ◌<◌, ◌≤◌, ◌+◌, length, false, Some, None, Err, IfOk, MatchOption};
 ghost use Rattle.m2m_io.specs.Counts.{Rose};
 ghost use Rattle.m2m_io.specs.Sides.{KeepsSides};
-ghost use Rattle.http_frames.specs.Inbox.{stream_of};
+ghost use Rattle.http_frames.specs.Inbox.{most_held, stream_of};
+ghost use Rattle.http_frames.specs.declared.frame.Side.TheVariants.{Request as AsRequest};
 ghost use Rattle.cse_server.specs.Talk.{request_in};
 ghost use Rattle.cse_server.specs.Connection.{Serves, ServesFrom};
 ghost use Rattle.cse_server.specs.Way.{Goes, Hears, Refuses, Turns};
@@ -152,6 +153,8 @@ where
     requires seats { D.seats desk.now seat.old }
     requires sides { KeepsSides X.left X.Source.faults X.kept_by_read X.written X.Sink.faults X.kept_by_put }
     requires open { inbox.old.refused ≡ false }
+    requires few { length inbox.old.held < most_held AsRequest }
+    ensures few { length inbox.new.held < most_held AsRequest }
     ensures seats { D.seats desk.now seat.new }
     ensures next { MatchOption result
         ((inbox.new.refused ≡ false) × Goes place (place + 1) D.grown seat.old seat.new

@@ -172,6 +172,7 @@ fn a_connection_ends_by_its_frames_or_a_fault(rt: HostRuntime) -> Result<(), Fai
         ("cx", 0, 0, Ended::Closed, "c"),
         ("x", 0, 0, Ended::NoFrame, "x"),
         ("ngx", 0, 0, Ended::NoFrame, "ngx"),
+        ("g", 2, 0, Ended::ReadFault, "g"),
         ("ggg", 3, 0, Ended::ReadFault, "gg"),
         ("ggg", 0, 2, Ended::WriteFault, "g"),
         ("gx", 0, 2, Ended::WriteFault, "g"),

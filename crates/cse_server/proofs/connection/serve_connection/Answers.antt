@@ -12,6 +12,7 @@ pub loop-place-init : goal.loop-place-init
 loop-place-init g c = record {
   seats = c.requires.seats;
   still_open = c.in-Ok.ensures.refused;
+  few = rw c.in-Ok.ensures.held (omega arith);
   goes = goes_none g.D.Desk.grown g.met.D.Desk.grown_by_nothing 1 c.args.seat.now (g.X.Source.left c.args.conn.now) c.in-Ok.inbox.held (g.X.Sink.written c.args.conn.now) (g.C.Clock.readings c.args.clock.now) c.in-Ok.ensures.held;
   read_count = omega arith;
   write_count = omega arith;
@@ -29,6 +30,7 @@ loop-place-preserved g c =
     record {
       seats = c.serve_next.ensures.seats;
       still_open = next.0;
+      few = c.serve_next.ensures.few;
       goes = Goes-then g.D.Desk.grown g.met.D.Desk.grown_on 1 c.loop-place.place (c.loop-place.place + 1) c.args.seat.now c.loop-place.seat c.serve_next.new.seat _ _ _ _ _ _ _ _ _ c.loop-place.invariant.goes next.1;
       read_count = omega arith;
       write_count = omega arith;

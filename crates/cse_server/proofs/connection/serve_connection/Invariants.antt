@@ -1,5 +1,6 @@
-use Rattle.std.proofs.Common.{◌≡◌, ◌≤◌, false}
-use Rattle.http_frames.specs.Inbox.{stream_of}
+use Rattle.std.proofs.Common.{◌≡◌, ◌<◌, ◌≤◌, false, length}
+use Rattle.http_frames.specs.Inbox.{stream_of, most_held}
+use Rattle.http_frames.specs.declared.frame.Side.TheVariants.{Request}
 use Rattle.cse_server.specs.Way.{Goes}
 use Rattle.cse_server.proofs.connection.serve_connection.Given as goal
 
@@ -7,6 +8,7 @@ abbrev pub invariant-loop-place : goal.invariant-loop-place
 invariant-loop-place g l = record {
   seats : g.D.Desk.seats l.desk l.seat;
   still_open : l.inbox.refused ≡ false;
+  few : length l.inbox.held < most_held Request;
   goes : Goes 1 l.place g.D.Desk.grown l.fn.seat l.seat
       (g.X.Source.left l.fn.conn) (stream_of l.inbox.held (g.X.Source.left l.conn))
       (g.X.Sink.written l.fn.conn) (g.X.Sink.written l.conn)
