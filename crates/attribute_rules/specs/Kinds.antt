@@ -96,7 +96,7 @@ is_criteria es =
     && may_have_member (codes "net") (is_some_of (is_count_of (is_in_range 1 4))) es
     && may_have_member (codes "atr") (is_list_of is_label) es
 
--- the type of a group's members: 0 for any, or the number of a type (TS-0001, 9.6.13)
+-- the type of a group's members: 0 for any, which is the profile's, or the number of a type (TS-0001, 9.6.13)
 abbrev pub is_member_type : ℕ → Bool
 is_member_type n = (n == 0) || is_some (ty_of_number n)
 
@@ -151,7 +151,7 @@ abbrev pub announceable_types : List Ty
 announceable_types =
     AccessControlPolicy ∷ Ae ∷ Container ∷ ContentInstance ∷ Group ∷ []
 
--- the types that have labels: all but the CSEBase
+-- the types that have labels: in the profile all but the CSEBase
 abbrev pub labelled_types : List Ty
 labelled_types =
     AccessControlPolicy ∷ Ae ∷ Container ∷ ContentInstance ∷ Group ∷ PollingChannel ∷ RemoteCse
@@ -163,7 +163,7 @@ linked_types =
     Ae ∷ Container ∷ CseBase ∷ Group ∷ RemoteCse ∷ Subscription ∷ announced_types
 
 -- the table, in byte order of the short names: what a resource keeps, not what is shown from its
--- number, its moments, its place or its children (TS-0001, 9.6; TS-0004, 7.4)
+-- type, its number, its moments, its place, its children or the home (TS-0001, 9.6; TS-0004, 7.4)
 abbrev pub kind_rows : List KindRow
 kind_rows =
     kind_row announceable_types Aa Labels

@@ -1,4 +1,4 @@
--- What the expiry removes, by numbers.
+-- What is due, by numbers: the expiry removes it with what stands below.
 use Rattle.std.specs.Prelude.{ℕ, Bool, List, filter, map}
 use Rattle.std.specs.List.{list_any}
 use Rattle.resource_model.specs.Resource.{ResourceData, has_number}

@@ -22,7 +22,7 @@ abbrev pub is_known_id : ℕ → Data → Bool
 is_known_id next id =
     option_map_or (λ n. nat_lt n next) (option_and_then policy_number (as_text id)) true
 
--- every policy that a resource is judged by, or fans out by, was there once
+-- the number of every policy that a resource names, to be judged by or to fan out by, was given out
 abbrev pub has_known_ids : ℕ → ResourceData → Bool
 has_known_ids next r = list_all (is_known_id next) (ids_at Acpi r ++ ids_at Macp r)
 
@@ -116,7 +116,7 @@ pub record IsSound (e : EntityData) : Type 0 where
   -- CSE-IDs differ from each other and from the own one, and no resource has two polling channels
   pub cses : IsTrue (are_distinct (cse_ids e.home e.nodes))
   pub channels : IsTrue (list_all (has_one_channel e.nodes) e.nodes)
-  -- instances are small, and as many as their container allows
+  -- instances are small, and no more than their container allows
   pub sizes : IsTrue (list_all has_size e.nodes)
   pub limits : IsTrue (list_all (is_within_limits e.nodes) e.nodes)
   -- nothing is due at the last moment

@@ -9,8 +9,8 @@
 //! is due, and where memory runs out it leaves the entity as it was.
 //!
 //! Laws over every entity stand on functions without a body: an entity opens sound, and stays sound
-//! where something is removed; its first resource is its only CSEBase; and while no time passes
-//! nothing expires.
+//! where something but the CSEBase is removed; its first resource is its only CSEBase; and while no
+//! time passes nothing expires.
 #![tactic(auto)]
 
 mod entity;

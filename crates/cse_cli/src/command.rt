@@ -90,7 +90,7 @@ where
     ensures err { AppendsUnlessFault (E.written err.old) (E.written err.new)
         (E.faults err.old) (E.faults err.new) (status_line result.0) }
 
-    // Nothing is exchanged, and the door comes back as it was.
+    // Nothing is exchanged over the link of `first`, and the door comes back as it was.
     ensures link { first.new.link ≡ first.old.link }
     ensures door { result.1 ≡ door }
 {

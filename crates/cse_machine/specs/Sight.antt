@@ -14,7 +14,7 @@ use Rattle.cse_machine.specs.Answer.{answer}
 use Rattle.cse_machine.specs.History.{History, Leaves, IsDone}
 use Rattle.cse_machine.specs.Step.{Step}
 
--- the entity as the originator sees it: what its rights don't show of the resources is cut out
+-- the entity as the originator sees it: of each resource what everybody sees, and what its rights show
 abbrev pub sight : List ℕ → EntityData → EntityData
 sight o e = record { home = e.home; nodes = seen_list e.home e.nodes o; next = e.next; last = e.last }
 

@@ -7,7 +7,7 @@ use std::fmt;
 /// Why no frame was read.
 #[derive(Clone, Copy, Debug, PartialEq, Eq)]
 pub enum FrameFault {
-    /// Bytes are left, and no frame stands at their front, whatever follows.
+    /// Bytes are left, and no frame stands at their front: not in those held, nor in these and all that is left to read.
     NoFrame,
     /// The source failed: its count of faults rose in the call.
     ReadFault,

@@ -19,8 +19,8 @@ pub trait Link {
     /// How often the link has failed. The count stops at 2^64 - 1.
     ghost faults: { Self → ℕ };
 
-    /// Sends the bytes of a request to a host, which stands as `host:port`, and appends the bytes of the answer
-    /// to `reply`. After a fault `reply` is as it was.
+    /// Sends the bytes of a request to a host, which stands as in a URL, with its port or without, and appends the
+    /// bytes of the answer to `reply`. After a fault `reply` is as it was.
     fn exchange(
         &mut self,
         alloc: Global,

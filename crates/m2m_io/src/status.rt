@@ -25,7 +25,7 @@ pub enum Status {
     WriteFault,
     /// Memory ran out.
     Memory,
-    /// What is left of the input begins with no HTTP message.
+    /// No message closed the connection, and something is left of the input that begins with no HTTP message.
     BadStream,
 }
 

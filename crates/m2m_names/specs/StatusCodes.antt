@@ -1,4 +1,5 @@
--- Response status codes (TS-0004, 6.6.3), and the HTTP status that goes with each (TS-0009, 6.3.2).
+-- Response status codes (TS-0004, 6.6.3), and the HTTP status that goes with each (TS-0009, 6.3.2). Where the standard
+-- has none, for 4008, 4108, 5203, 6010, 6011 and numbers without a name, it is the profile's own.
 use Rattle.std.specs.Prelude.{ℕ, Bool, true, false, List, [], ◌∷◌, Option, Some, None, find, ◌==◌, if◌then◌else◌, IsTrue, refl}
 use Rattle.std.specs.Int.{is_in_range}
 use Rattle.std.specs.Option.{option_or}

@@ -13,7 +13,7 @@ pub record TyRow : Type 0 where
 abbrev pub ty_entry : ℕ → List ℕ → List Ty → TyRow
 ty_entry number word takes = record { number = number; word = word; takes = takes }
 
--- the table: a row for each type (TS-0004, 6.3.4.2.1; TS-0001, 9.6)
+-- the table: a row for each type (TS-0004, 6.3.4.2.1), with the children that the profile has of those in TS-0001, 9.6
 abbrev pub ty_row : Ty → TyRow
 ty_row AccessControlPolicy = ty_entry 1 (codes "acp") (Subscription ∷ [])
 ty_row Ae = ty_entry 2 (codes "ae")

@@ -1,5 +1,6 @@
--- The URLs of points of access and of notification targets: the part of RFC 3986 with the scheme
--- `http`, a registered name, and neither user information nor a fragment.
+-- The URLs of points of access and of notification targets, after RFC 3986: the scheme `http`, a
+-- host and perhaps a port, no user information and no fragment. What stands behind is any text of
+-- printable ASCII.
 use Rattle.std.specs.Prelude.{◌≡◌, ℕ, ◌+◌, ◌-◌, ◌*◌, ◌≤◌, Bool, true, not, ◌&&◌, ◌||◌, ◌==◌, List, [], ◌∷◌, ◌++◌, length, fold, codes, IsTrue}
 use Rattle.std.specs.Char.{is_ascii_digit, is_ascii_alphanumeric}
 use Rattle.std.specs.Int.{is_in_range}

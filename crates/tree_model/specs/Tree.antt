@@ -169,7 +169,7 @@ abbrev pub grows : (List ResourceData → ResourceData → Bool) → List Resour
 grows may before [] = true
 grows may before (r ∷ nodes) = may before r && grows may (before ++ r ∷ []) nodes
 
--- one CSEBase first, numbers ascend, each other resource has its parent before it, and names of
+-- a CSEBase first, numbers ascend, each other resource has its parent before it, and names of
 -- siblings and AE-IDs differ: what every tree keeps
 abbrev pub is_tree : List ResourceData → Bool
 is_tree nodes = grows fits [] nodes

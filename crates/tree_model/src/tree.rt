@@ -20,7 +20,7 @@ pub trait Tree: Drop {
     fn len(&self) -> u64
         ensures value { result ≡ length (nodes self.now) }
 
-        // One CSEBase first, numbers ascend, each other resource comes after its parent, and names
+        // A CSEBase first, numbers ascend, each other resource comes after its parent, and names
         // of siblings and AE-IDs differ.
         ensures tree { IsTrue (is_tree (nodes self.now)) };
 
