@@ -1,3 +1,4 @@
+pub mod BackLemmas
 pub mod LawLemmas
 pub mod ReplyLemmas
 pub mod TargetLemmas

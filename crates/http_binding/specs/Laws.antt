@@ -1,15 +1,18 @@
 -- Laws of the binding.
-use Rattle.std.specs.Prelude.{◌≡◌, ◌≢◌, Bool, IsTrue, Some, None, IfSome}
+use Rattle.std.specs.Prelude.{◌≡◌, ◌≢◌, ◌≤◌, ℕ, Bool, List, ◌++◌, length, IsTrue, Some, None, IfSome}
 use Rattle.m2m_names.specs.Name.{is_name}
 use Rattle.m2m_names.specs.declared.operations.Op.TheVariants.{Retrieve}
 use Rattle.primitive_json.specs.Bounds.{is_request_id}
 use Rattle.primitive_json.specs.declared.request.RequestParts.{RequestParts}
 use Rattle.primitive_json.specs.declared.reply.ReplyParts.{ReplyParts}
 use Rattle.http_frames.specs.declared.frame.Frame.{Frame}
-use Rattle.http_frames.specs.Text.{frame_text}
+use Rattle.http_frames.specs.declared.frame.Side.TheVariants.{Reply}
+use Rattle.http_frames.specs.Frame.{body_limit}
+use Rattle.http_frames.specs.Stream.{BeginsWith}
+use Rattle.http_frames.specs.Text.{frame_text, IsSound}
 use Rattle.http_binding.specs.Headers.{is_local_originator}
 use Rattle.http_binding.specs.Binding.{Binds, echo_of}
-use Rattle.http_binding.specs.Replying.{reply_frame, reply_text}
+use Rattle.http_binding.specs.Replying.{body_of, reply_frame, reply_text}
 
 -- A frame binds to at most one request.
 abbrev pub BindsToOne : Type 0
@@ -41,3 +44,15 @@ EchoIsId = (frame : Frame) (request : RequestParts) → Binds frame request → 
 -- The text of a reply is that of its frame.
 abbrev pub TextIsFrames : Type 0
 TextIsFrames = (reply : ReplyParts) (close : Bool) → reply_text reply close ≡ frame_text (reply_frame reply close)
+
+-- The identifier that the reply repeats, if it does, is one, and its body is no longer than a frame's may be.
+pub record IsWithinLimits (reply : ReplyParts) : Type 0 where
+  pub rqi : IfSome reply.rqi (λ id. IsTrue (is_request_id id))
+  pub body : length (body_of reply.pc) ≤ body_limit Reply
+
+-- The frame of such a reply is sound, and stands at the front of its text, whatever follows.
+abbrev pub ReplyIsReadBack : Type 0
+ReplyIsReadBack =
+    (reply : ReplyParts) (close : Bool) → IsWithinLimits reply
+    → IsSound Reply (reply_frame reply close)
+    × ((rest : List ℕ) → BeginsWith Reply (reply_text reply close ++ rest) (reply_frame reply close) rest)

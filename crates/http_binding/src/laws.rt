@@ -1,5 +1,11 @@
 //! Laws of the definitions.
-ghost use Rattle.http_binding.specs.Laws.{BindsToOne, BindsToServed, EchoIsId, TextIsFrames};
+ghost use Rattle.http_binding.specs.Laws.{
+  BindsToOne,
+  BindsToServed,
+  EchoIsId,
+  ReplyIsReadBack,
+  TextIsFrames,
+};
 
 /// A frame binds to at most one request.
 pub fn a_frame_binds_to_one_request()
@@ -19,4 +25,10 @@ pub fn the_echo_is_the_request_id()
 /// The text of a reply is that of its frame.
 pub fn a_reply_is_written_as_its_frame()
     ensures { TextIsFrames }
+{}
+
+/// The text of a reply is read back as its frame, whatever follows, where the identifier that it
+/// repeats is one and its body is within the limit of a frame's.
+pub fn a_reply_is_read_back()
+    ensures { ReplyIsReadBack }
 {}

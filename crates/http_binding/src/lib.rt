@@ -14,7 +14,7 @@ mod request;
 
 pub use fault::BindFault;
 pub use laws::{
-    a_frame_binds_to_one_request, a_frame_binds_to_served_requests,
+    a_frame_binds_to_one_request, a_frame_binds_to_served_requests, a_reply_is_read_back,
     a_reply_is_written_as_its_frame, the_echo_is_the_request_id,
 };
 pub use reply::of_reply;

@@ -1,0 +1,242 @@
+-- The frame of a reply is sound, so that it is read back from its text.
+use Rattle.std.proofs.Common.{◌≡◌, ℕ, zero, suc, ◌*◌, ◌<◌, ◌≤◌, ◌^◌, Bool, true, false, ◌&&◌, leb, ltb, List, [], ◌∷◌, ◌++◌, length, reverse, codes, Option, Some, None, IsTrue, IfSome, inl, inr, refl, sym, ap, subst, ◌∙◌, arith}
+use Rattle.std.specs.Prelude.{All}
+use Rattle.std.specs.Fmt.{decimal}
+use Rattle.std.specs.Char.{is_ascii_digit}
+use Rattle.std.specs.Int.{is_in_range, IsInRange}
+use Rattle.std.specs.List.{list_all, flat_map}
+use Rattle.std.specs.Str.Parse.{AllDigits}
+use Rattle.std.proofs.lemmas.Bool.{cases_Bool, and_parts, and_from, le-leb, leb-true, ltb-true, cond-true, cond-false}
+use Rattle.std.proofs.lemmas.Bool.Decides.{Decides-below_and, nat_tests}
+use Rattle.std.proofs.lemmas.Fmt.{decimal_is_IsNumeral, length-decimal-le}
+use Rattle.std.proofs.lemmas.List.{length-append, reverse-reverse}
+use Rattle.std.proofs.lemmas.List.Elements.{All-nil, All-cons, All-head, All-tail, All-append, All-weaker}
+use Rattle.std.proofs.lemmas.List.Sums.{AllPass-from_list_all, list_all-from_AllPass}
+use Rattle.std.proofs.lemmas.Str.Parse.{digit_from_value}
+use Rattle.httparse.specs.Grammar.{AllPass, is_token, is_token_byte, is_value_byte, is_ows, skip_ows, trim_ows}
+use Rattle.httparse.proofs.TrimLemmas.{AllPass-reverse}
+use Rattle.m2m_names.specs.StatusCodes.{rsc_row, http_status_of_other}
+use Rattle.m2m_names.specs.StatusNumbers.{is_other}
+use Rattle.m2m_names.specs.declared.codes.Rsc.{Rsc}
+use Rattle.m2m_names.specs.declared.codes.Rsc.TheVariants.{Ok as Fine, Created, Deleted, Updated, BadRequest, NotFound, NotAllowed, RequestTimeout, NoPrivilege, Conflict, BadChild, Internal, NotImplemented, NotReachable, NotSubscribable, NonBlocking, NotAcceptable, TooManyMembers, WrongMember, Other}
+use Rattle.m2m_value.specs.Data.{Data}
+use Rattle.primitive_json.specs.Bounds.{is_graphic, is_request_id}
+use Rattle.primitive_json.specs.declared.reply.ReplyParts.{ReplyParts}
+use Rattle.http_frames.specs.declared.frame.Side.TheVariants.{Reply}
+use Rattle.http_frames.specs.declared.frame.Start.TheVariants.{Answer}
+use Rattle.http_frames.specs.Lines.{Line, is_same_name, values_named}
+use Rattle.http_frames.specs.Body.{counted, framing_of, framing_of_values, is_length, CarriesBody}
+use Rattle.http_frames.specs.Frame.{body_limit}
+use Rattle.http_frames.specs.Stream.{BeginsWith}
+use Rattle.http_frames.specs.Text.{phrase_of, start_text, line_text, frame_text, IsLine, IsSound}
+use Rattle.http_frames.proofs.TextLemmas.{written_is_read}
+use Rattle.http_binding.specs.Headers.{id_field, code_field, type_field, length_field, connection_field}
+use Rattle.http_binding.specs.Replying.{body_of, id_lines, type_lines, close_lines, reply_lines, reply_frame, reply_text}
+use Rattle.http_binding.specs.Laws.{IsWithinLimits}
+use Rattle.http_binding.proofs.ReplyLemmas.{text_is}
+
+-- a printable character but space may stand in a value, and is no white space
+graphic_value : (b : ℕ) → IsTrue (is_graphic b) → IsTrue (is_value_byte b)
+graphic_value b h = grind (arith, nat_tests, h)
+
+graphic_apart : (b : ℕ) → IsTrue (is_graphic b) → is_ows b ≡ false
+graphic_apart b h = grind (arith, nat_tests, h)
+
+skip_nothing : (value : List ℕ) → AllPass is_graphic value → skip_ows value ≡ value
+skip_nothing [] all = refl
+skip_nothing (b ∷ value) all = cond-false _ _ _ (graphic_apart b (All-head (λ c. IsTrue (is_graphic c)) b value all))
+
+trim_nothing : (value : List ℕ) → AllPass is_graphic value → trim_ows value ≡ value
+unfolding trim_ows
+trim_nothing value all =
+    let front = skip_nothing value all in
+    let back = skip_nothing (reverse value) (AllPass-reverse is_graphic value all) in
+    rw (front, back, reverse-reverse)
+
+-- a line of the grammar, and not long
+abbrev IsShortLine : Line → Type 0
+IsShortLine line = IsLine line × (length (line_text line) ≤ 160)
+
+short_line : (name value : List ℕ) → IsTrue (is_token name) → length name ≤ 16 → AllPass is_graphic value → length value ≤ 128 → IsShortLine (name, value)
+short_line name value token narrow all short =
+    let parts = and_parts (ltb 0 (length name)) (list_all is_token_byte name) token in (
+      (
+        (ltb-true 0 (length name) parts.0, AllPass-from_list_all is_token_byte name parts.1),
+        All-weaker (λ b. IsTrue (is_graphic b)) (λ b. IsTrue (is_value_byte b)) graphic_value value all,
+        trim_nothing value all,
+      ),
+      omega (arith, length-append name (58 ∷ 32 ∷ value ++ 13 ∷ 10 ∷ []), length-append value (13 ∷ 10 ∷ [])),
+    )
+
+-- what holds of each digit holds of each byte of a numeral
+digits_pass : (test : ℕ → Bool) → ((c : ℕ) → IsInRange 48 57 c → IsTrue (test c)) → (ds : List ℕ) → AllDigits 10 ds → AllPass test ds
+digits_pass test f [] all = All-nil (λ c. IsTrue (test c))
+digits_pass test f (c ∷ ds) all = All-cons (λ c. IsTrue (test c)) c ds (f c (digit_from_value c all.0)) (digits_pass test f ds all.1)
+
+digit_graphic : (c : ℕ) → IsInRange 48 57 c → IsTrue (is_graphic c)
+digit_graphic c h = and_from _ _ (le-leb 33 c (omega (arith, h.0))) (le-leb c 126 (omega (arith, h.1)))
+
+digit_is : (c : ℕ) → IsInRange 48 57 c → IsTrue (is_ascii_digit c)
+digit_is c h = and_from _ _ (le-leb 48 c h.0) (le-leb c 57 h.1)
+
+decimal_graphic : (n : ℕ) → n < 2 ^ 64 → AllPass is_graphic (decimal n)
+decimal_graphic n small = digits_pass is_graphic digit_graphic (decimal n) (decimal_is_IsNumeral n small).0.1
+
+-- a length of seven digits at most is a value of Content-Length, and is worth what it is
+length_is : (n : ℕ) → n < 10 ^ 7 → is_length (decimal n) ≡ true
+length_is n small =
+    let numeral = (decimal_is_IsNumeral n (omega arith)).0 in
+    and_from _ _ (le-leb 1 (length (decimal n)) (omega (arith, numeral.0)))
+    (and_from _ _ (le-leb (length (decimal n)) 18 (omega (arith, length-decimal-le 7 n (omega arith) small (omega arith))))
+    (list_all-from_AllPass is_ascii_digit (decimal n) (digits_pass is_ascii_digit digit_is (decimal n) numeral.1)))
+
+-- the numbers of the table
+other_http : (n : ℕ) → http_status_of_other n < 1000
+other_http n =
+    elim (cases_Bool (is_in_range 2000 2999 n)) [
+      | inl fine ↦ rw fine (omega arith)
+      | inr other ↦ elim (cases_Bool (is_in_range 4000 4999 n)) [
+        | inl bad ↦ rw (other, bad) (omega arith)
+        | inr neither ↦ rw (other, neither) (omega arith)
+      ]
+    ]
+
+other_number : (n : ℕ) → IsTrue (is_other n) → n < 10000
+other_number n h =
+    let range = (and_parts (is_in_range 1000 9999 n) _ h).0 in
+    omega (arith, leb-true n 9999 (and_parts (leb 1000 n) (leb n 9999) range).1)
+
+row_small : (rsc : Rsc) → ((rsc_row rsc).number < 10000) × ((rsc_row rsc).http < 1000)
+row_small Fine = (omega arith, omega arith)
+row_small Created = (omega arith, omega arith)
+row_small Deleted = (omega arith, omega arith)
+row_small Updated = (omega arith, omega arith)
+row_small BadRequest = (omega arith, omega arith)
+row_small NotFound = (omega arith, omega arith)
+row_small NotAllowed = (omega arith, omega arith)
+row_small RequestTimeout = (omega arith, omega arith)
+row_small NoPrivilege = (omega arith, omega arith)
+row_small Conflict = (omega arith, omega arith)
+row_small BadChild = (omega arith, omega arith)
+row_small Internal = (omega arith, omega arith)
+row_small NotImplemented = (omega arith, omega arith)
+row_small NotReachable = (omega arith, omega arith)
+row_small NotSubscribable = (omega arith, omega arith)
+row_small NonBlocking = (omega arith, omega arith)
+row_small NotAcceptable = (omega arith, omega arith)
+row_small TooManyMembers = (omega arith, omega arith)
+row_small WrongMember = (omega arith, omega arith)
+row_small (Other o) = (other_number o.number o.outside, other_http o.number)
+
+-- each phrase is short
+abbrev phrases_short : ℕ → Bool
+phrases_short zero = true
+phrases_short (suc n) = leb (length (phrase_of n)) 100 && phrases_short n
+
+phrase_short : (status : ℕ) → status < 1000 → length (phrase_of status) ≤ 100
+unfolding phrase_of
+phrase_short status small =
+    let test = λ (k : ℕ). leb (length (phrase_of k)) 100 in
+    let below = (Decides-below_and test (λ k. test k ≡ true) phrases_short (λ k. (λ x. x, λ x. x)) refl (λ _. refl) 1000).0 refl status small in
+    leb-true _ 100 below
+
+-- the lines of a reply
+short_id : (id : Option (List ℕ)) → IfSome id (λ t. IsTrue (is_request_id t)) → All IsShortLine (id_lines id)
+unfolding is_token_byte
+short_id None h = All-nil IsShortLine
+short_id (Some id) h =
+    let parts = and_parts (is_in_range 1 128 (length id)) (list_all is_graphic id) h in
+    let short = leb-true (length id) 128 (and_parts (leb 1 (length id)) _ parts.0).1 in
+    All-cons IsShortLine (id_field, id) [] (short_line id_field id refl (omega arith) (AllPass-from_list_all is_graphic id parts.1) short) (All-nil IsShortLine)
+
+short_type : (content : Option Data) → All IsShortLine (type_lines content)
+unfolding is_token_byte
+short_type None = All-nil IsShortLine
+short_type (Some content) =
+    let value = codes "application/json" in
+    All-cons IsShortLine (type_field, value) [] (short_line type_field value refl (omega arith) (AllPass-from_list_all is_graphic value refl) (omega arith)) (All-nil IsShortLine)
+
+short_close : (close : Bool) → All IsShortLine (close_lines close)
+unfolding is_token_byte
+short_close false = All-nil IsShortLine
+short_close true =
+    let value = codes "close" in
+    All-cons IsShortLine (connection_field, value) [] (short_line connection_field value refl (omega arith) (AllPass-from_list_all is_graphic value refl) (omega arith)) (All-nil IsShortLine)
+
+short_number : (name : List ℕ) (n : ℕ) → IsTrue (is_token name) → length name ≤ 16 → n < 10 ^ 7 → IsShortLine (name, decimal n)
+short_number name n token narrow small =
+    let long = length-decimal-le 7 n (omega arith) small (omega arith) in
+    short_line name (decimal n) token narrow (decimal_graphic n (omega arith)) (omega arith)
+
+-- the length of a body within the limit has seven digits at most
+body_small : (n : ℕ) → n ≤ body_limit Reply → n < 10 ^ 7
+body_small n h = omega arith
+
+short_lines : (reply : ReplyParts) (close : Bool) → IsWithinLimits reply → All IsShortLine (reply_lines reply close)
+unfolding is_token_byte
+short_lines reply close h =
+    let number = (rsc_row reply.rsc).number in
+    let size = length (body_of reply.pc) in
+    let row = (row_small reply.rsc).0 in
+    let last = (length_field, decimal size) ∷ close_lines close in
+    All-cons IsShortLine (code_field, decimal number) _ (short_number code_field number refl (omega arith) (omega arith))
+    (All-append IsShortLine (id_lines reply.rqi) (type_lines reply.pc ++ last) (short_id reply.rqi h.rqi)
+    (All-append IsShortLine (type_lines reply.pc) last (short_type reply.pc)
+    (All-cons IsShortLine (length_field, decimal size) (close_lines close) (short_number length_field size refl (omega arith) (body_small size h.body)) (short_close close))))
+
+-- how many they are, and what they say of the body
+abbrev lines_with : List ℕ → Option (List ℕ) → Option Data → List ℕ → Bool → List Line
+lines_with code id content size close =
+    (code_field, code) ∷ (id_lines id ++ (type_lines content ++ ((length_field, size) ∷ close_lines close)))
+
+record Announces (size : List ℕ) (lines : List Line) : Type 0 where
+  count : length lines ≤ 5
+  coding : values_named (codes "transfer-encoding") lines ≡ []
+  size_is : values_named (codes "content-length") lines ≡ size ∷ []
+
+announces : (code : List ℕ) (id : Option (List ℕ)) (content : Option Data) (size : List ℕ) (close : Bool) → Announces size (lines_with code id content size close)
+unfolding is_same_name
+announces code None None size false = record { count = omega arith; coding = refl; size_is = refl }
+announces code None None size true = record { count = omega arith; coding = refl; size_is = refl }
+announces code None (Some content) size false = record { count = omega arith; coding = refl; size_is = refl }
+announces code None (Some content) size true = record { count = omega arith; coding = refl; size_is = refl }
+announces code (Some id) None size false = record { count = omega arith; coding = refl; size_is = refl }
+announces code (Some id) None size true = record { count = omega arith; coding = refl; size_is = refl }
+announces code (Some id) (Some content) size false = record { count = omega arith; coding = refl; size_is = refl }
+announces code (Some id) (Some content) size true = record { count = omega arith; coding = refl; size_is = refl }
+
+framing_is : (n : ℕ) (lines : List Line) → n < 10 ^ 7 → Announces (decimal n) lines → framing_of lines ≡ counted n
+framing_is n lines small a =
+    (λ i. framing_of_values (a.coding i) (a.size_is i)) ∙ cond-true _ _ _ (length_is n small) ∙ ap counted (decimal_is_IsNumeral n (omega arith)).1
+
+-- the size of the head
+lines_length : (lines : List Line) → All IsShortLine lines → length (flat_map line_text lines) ≤ length lines * 160
+lines_length [] all = omega arith
+lines_length (line ∷ lines) all =
+    omega (arith, length-append (line_text line) (flat_map line_text lines), (All-head IsShortLine line lines all).1, lines_length lines (All-tail IsShortLine line lines all))
+
+start_length : (http : ℕ) → http < 1000 → length (start_text (Answer http 1)) ≤ 120
+start_length http small = omega (arith, length-append (phrase_of http) (13 ∷ 10 ∷ []), phrase_short http small)
+
+pub reply_sound : (reply : ReplyParts) (close : Bool) → IsWithinLimits reply → IsSound Reply (reply_frame reply close)
+reply_sound reply close h =
+    let http = (rsc_row reply.rsc).http in
+    let size = length (body_of reply.pc) in
+    let lines = reply_lines reply close in
+    let short = short_lines reply close h in
+    let says = announces (decimal (rsc_row reply.rsc).number) reply.rqi reply.pc (decimal size) close in
+    let framing = framing_is size lines (body_small size h.body) says in
+    record {
+      start = ((row_small reply.rsc).1, omega arith);
+      lines = All-weaker IsShortLine IsLine (λ line s. s.0) lines short;
+      head_fits = omega (arith, length-append (start_text (Answer http 1)) (flat_map line_text lines ++ 13 ∷ 10 ∷ []), length-append (flat_map line_text lines) (13 ∷ 10 ∷ []), start_length http (row_small reply.rsc).1, lines_length lines short, says.count);
+      lines_fit = omega (arith, says.count);
+      body = subst (λ f. CarriesBody (body_limit Reply) f (body_of reply.pc) (body_of reply.pc)) (sym framing) (refl, refl, h.body);
+    }
+
+pub read_back : (reply : ReplyParts) (close : Bool) → IsWithinLimits reply → (rest : List ℕ) → BeginsWith Reply (reply_text reply close ++ rest) (reply_frame reply close) rest
+read_back reply close h rest = record {
+  bytes = frame_text (reply_frame reply close);
+  is_frame = written_is_read Reply (reply_frame reply close) (reply_sound reply close h);
+  stream_is = ap (λ t. t ++ rest) (text_is reply close);
+}
