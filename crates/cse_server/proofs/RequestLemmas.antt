@@ -6,7 +6,7 @@ use Rattle.http_frames.specs.declared.frame.Frame.{Frame}
 use Rattle.http_binding.specs.declared.fault.BindFault.{BindFault}
 use Rattle.http_binding.specs.Headers.{is_local_originator}
 use Rattle.http_binding.specs.Binding.{binding}
-use Rattle.http_binding.specs.Laws.{IsServed}
+use Rattle.http_binding.specs.Laws.{IsPlainRetrieve}
 use Rattle.http_binding.proofs.LawLemmas.{binds_to_served}
 use Rattle.cse_machine.specs.Answer.{is_short, is_served}
 use Rattle.cse_server.specs.Talk.{bound, request_in}
@@ -27,7 +27,7 @@ served_fr : (fr : Option (List ℕ)) → fr ≢ None → IfSome fr (λ o. IsTrue
 served_fr None some by = absurd (some refl)
 served_fr (Some o) some by = by
 
-served : (request : RequestParts) → IsServed request → IsTrue (is_served request)
+served : (request : RequestParts) → IsPlainRetrieve request → IsTrue (is_served request)
 served request s = rw (s.op, s.to, served_fr request.fr s.fr s.originator, s.rqet, s.rt, s.rcn, s.fc, s.drt) refl
 
 -- it is one of those that are served

@@ -12,7 +12,7 @@ use Rattle.http_frames.specs.Lines.{values_named}
 use Rattle.http_binding.specs.declared.fault.BindFault.{BindFault}
 use Rattle.http_binding.specs.Headers.{origin_field, id_field, is_one_that, first_value, has_text, is_local_originator, is_origin_value}
 use Rattle.http_binding.specs.Binding.{Check, name_in, target_of, lone_id, echo_of, checks, first_fault, unless_fault, request_of, Binds}
-use Rattle.http_binding.specs.Laws.{IsServed}
+use Rattle.http_binding.specs.Laws.{IsPlainRetrieve}
 
 pub binds_to_one : (frame : Frame) (request other : RequestParts) → Binds frame request → Binds frame other → request ≡ other
 binds_to_one frame request other h g = ap (λ r. result_unwrap_or r request) (sym h ∙ g)
@@ -68,7 +68,7 @@ passes frame h =
       has_origin = all.1.1.1.1.1.1.1.1.0;
     }
 
-served : (frame : Frame) → Passes frame → IsServed (request_of frame)
+served : (frame : Frame) → Passes frame → IsPlainRetrieve (request_of frame)
 served frame p =
     let origin = lone_originator (values_named origin_field frame.lines) p.origin p.has_origin in
     record {
@@ -86,10 +86,10 @@ served frame p =
       drt = refl;
     }
 
-pub binds_to_served : (frame : Frame) (request : RequestParts) → Binds frame request → IsServed request
+pub binds_to_served : (frame : Frame) (request : RequestParts) → Binds frame request → IsPlainRetrieve request
 binds_to_served frame request h =
     let parts = bound_parts (first_fault (checks frame)) (request_of frame) request h in
-    subst IsServed parts.1 (served frame (passes frame parts.0))
+    subst IsPlainRetrieve parts.1 (served frame (passes frame parts.0))
 
 pub echo_is_id : (frame : Frame) (request : RequestParts) → Binds frame request → echo_of frame ≡ Some request.rqi
 echo_is_id frame request h =

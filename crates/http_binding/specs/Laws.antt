@@ -19,7 +19,7 @@ abbrev pub BindsToOne : Type 0
 BindsToOne = (frame : Frame) (request other : RequestParts) → Binds frame request → Binds frame other → request ≡ other
 
 -- What a request says to which a frame binds: a Retrieve of a name by a named originator, and nothing else.
-pub record IsServed (request : RequestParts) : Type 0 where
+pub record IsPlainRetrieve (request : RequestParts) : Type 0 where
   pub op : request.op ≡ Retrieve
   pub to : IsTrue (is_name request.to)
   pub fr : request.fr ≢ None
@@ -35,7 +35,7 @@ pub record IsServed (request : RequestParts) : Type 0 where
 
 -- A frame binds to served requests alone.
 abbrev pub BindsToServed : Type 0
-BindsToServed = (frame : Frame) (request : RequestParts) → Binds frame request → IsServed request
+BindsToServed = (frame : Frame) (request : RequestParts) → Binds frame request → IsPlainRetrieve request
 
 -- The reply to a frame that binds repeats the identifier of the request.
 abbrev pub EchoIsId : Type 0
