@@ -165,10 +165,19 @@ module _ (home : HomeData) (o : List ℕ) where
   ids-alike attr s r same = ap elements_in same
 
   pub ae_id-alike : (s r : ResourceData) → Alike home o s r → ae_id s ≡ ae_id r
-  ae_id-alike s r alike = rw (ty-alike s r alike Ae, alike.shape Aei refl) refl
+  ae_id-alike s r alike = elim (cases_Bool (is_ty r.ty Ae)) [
+    | inl t ↦ rw (ty-alike s r alike Ae ∙ t, t) (ap (option_and_then as_text) (alike.shape Aei (rw t refl)))
+    | inr f ↦ rw (ty-alike s r alike Ae ∙ f, f) refl
+  ]
 
   pub registree-alike : (s r : ResourceData) → Alike home o s r → registree s ≡ registree r
-  registree-alike s r alike = rw (ty-alike s r alike Ae, ty-alike s r alike RemoteCse, alike.shape Aei refl, alike.shape Csi refl) refl
+  registree-alike s r alike = elim (cases_Bool (is_ty r.ty Ae)) [
+    | inl t ↦ rw (ty-alike s r alike Ae ∙ t, t) (ap (option_and_then as_text) (alike.shape Aei (rw t refl)))
+    | inr f ↦ rw (ty-alike s r alike Ae ∙ f, f) (elim (cases_Bool (is_ty r.ty RemoteCse)) [
+      | inl t ↦ rw (ty-alike s r alike RemoteCse ∙ t, t) (ap (option_and_then as_text) (alike.shape Csi (rw (f, t) refl)))
+      | inr g ↦ rw (ty-alike s r alike RemoteCse ∙ g, g) refl
+    ])
+  ]
 
   pub at-alike : (ss rs : List ResourceData) → AreAlike home o ss rs → (n : ℕ) → FindAlike home o (at n ss) (at n rs)
   at-alike [] [] alike n = tt

@@ -9,7 +9,7 @@ use Rattle.std.specs.Option.{option_and_then, option_map_or, option_or}
 use Rattle.m2m_names.specs.Types.{does_take, ty_row}
 use Rattle.m2m_names.specs.declared.attributes.Attr.TheVariants.{Mia, Pv}
 use Rattle.m2m_names.specs.declared.types.Ty.{Ty}
-use Rattle.m2m_names.specs.declared.types.Ty.TheVariants.{Container, ContentInstance, CseBase}
+use Rattle.m2m_names.specs.declared.types.Ty.TheVariants.{Ae, Container, ContentInstance, CseBase, RemoteCse}
 use Rattle.m2m_value.specs.Data.{Data}
 use Rattle.m2m_value.specs.View.{as_number}
 use Rattle.resource_model.specs.Attributes.{count_of, value_of}
@@ -18,7 +18,7 @@ use Rattle.resource_model.specs.Resource.{ResourceData, is_ty, has_number}
 use Rattle.tree_model.specs.Tree.{at, due, due_under, lesser, is_due, live, are_below, fits, fits_in, is_taken, is_well_formed}
 use Rattle.tree_model.proofs.GrowthLemmas.{growth, next_above_parent, next_fits, tree_from_well_formed}
 use Rattle.tree_model.proofs.TreeLemmas.{at-append, at-map}
-use Rattle.policy_eval.specs.Alike.{AreAlike}
+use Rattle.policy_eval.specs.Alike.{AreAlike, is_one_of, shape_attrs}
 use Rattle.policy_eval.specs.Rules.{Rule, linked_rules, rules_of}
 use Rattle.policy_eval.specs.Rights.{bits_by, has_bits, do_give, grants, relinks, fan_grants}
 use Rattle.policy_eval.specs.Seen.{retrieve_bit, may, fills, is_filled_in, is_shown, is_way, seen_ct, seen_et, with_seen_owner, seen, seen_list}
@@ -94,6 +94,16 @@ in_container nodes r p taken instance found =
     let takes : does_take p.ty r.ty ≡ true = sym (ap (λ (o : Option ResourceData). option_map_or (λ (q : ResourceData). does_take q.ty r.ty) o true) found) ∙ taken in
     holds_instances p.ty (sym (ap (λ (n : ℕ). list_any (λ ty. (ty_row ty).number == n) (ty_row p.ty).takes) (number_of r.ty ContentInstance instance)) ∙ takes)
 
+-- the greatest age isn't always seen
+no_shape : (t : Ty) → is_one_of (shape_attrs t) Mia ≡ false
+no_shape t = elim (cases_Bool (is_ty t Ae)) [
+  | inl is ↦ rw is refl
+  | inr f ↦ elim (cases_Bool (is_ty t RemoteCse)) [
+    | inl is ↦ rw (f, is) refl
+    | inr g ↦ rw (f, g) refl
+  ]
+]
+
 -- an instance is judged as its container
 container_rules : (nodes : List ResourceData) (p : ResourceData) → (ty_row p.ty).number ≡ 3 → rules_of nodes p ≡ linked_rules Pv nodes p
 container_rules nodes p number = rw number refl
@@ -129,7 +139,7 @@ module _ (home : HomeData) (nodes : List ResourceData) (o : List ℕ) (r p : Res
       let right : may home nodes o retrieve_bit p ≡ false = sym (same_may retrieve_bit) ∙ parts.0 in
       let fill : fills home nodes o p ≡ false = sym same_fill ∙ parts.1 in
       let none : is_shown home nodes o p Mia ≡ false =
-      or_from _ _ (or_from _ _ (or_from _ _ (or_from _ _ (or_from _ _ refl right) (and_right _ _ refl)) (and_left _ _ fill)) (and_right _ _ refl)) (and_right _ _ refl) in
+      or_from _ _ (or_from _ _ (or_from _ _ (or_from _ _ (or_from _ _ (no_shape p.ty) right) (and_right _ _ refl)) (and_left _ _ fill)) (and_right _ _ refl)) (and_right _ _ refl) in
       let way : is_way p Mia ≡ false = and_right _ _ refl in
       (seen_shows home nodes o p).hidden Mia none refl way
 

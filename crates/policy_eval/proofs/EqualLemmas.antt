@@ -5,6 +5,7 @@ use Rattle.std.proofs.lemmas.Option.{same_Some}
 use Rattle.std.specs.Option.{option_map_or}
 use Rattle.m2m_names.specs.declared.attributes.Attr.{Attr}
 use Rattle.m2m_names.specs.declared.attributes.Attr.TheVariants.{Poa, Pv, Pvs}
+use Rattle.m2m_names.specs.declared.types.Ty.{Ty}
 use Rattle.m2m_names.specs.declared.types.Ty.TheVariants.{Container, ContentInstance, Group, RemoteCse}
 use Rattle.resource_model.specs.Attributes.{value_of}
 use Rattle.resource_model.specs.Home.{HomeData}
@@ -49,20 +50,20 @@ module _ (home : HomeData) (o : List ℕ) (nodes rs : List ResourceData) where
       ∙ ap (λ bits. is_ty r.ty Group && (may home rs o 4 r || nat_lt 0 bits)) ((fan_rules-alike home o seen_of rs (seen_map_alike home nodes o rs) (seen home nodes o r) r (seen_alike home nodes o r)).bits 0)
 
   -- an attribute is shown, by what the originator may do
-  abbrev shown_by : Attr → Bool → Bool → Bool → Bool → Bool → Bool
-  shown_by a retrieves finds fill inside uses =
-      is_one_of shape_attrs a || retrieves || (finds && is_one_of found_attrs a) || (fill && is_one_of limit_attrs a)
+  abbrev shown_by : Ty → Attr → Bool → Bool → Bool → Bool → Bool → Bool
+  shown_by ty a retrieves finds fill inside uses =
+      is_one_of (shape_attrs ty) a || retrieves || (finds && is_one_of found_attrs a) || (fill && is_one_of limit_attrs a)
       || (inside && is_one_of size_attrs a) || (uses && is_one_of member_attrs a)
 
   pub is_shown-seen : (a : Attr) (r : ResourceData) → is_shown home (map (seen home nodes o) rs) o (seen home nodes o r) a ≡ is_shown home rs o r a
   is_shown-seen a r =
       let ss = seen_of in
       let s = seen home nodes o r in
-      ap (λ b. shown_by a b (may home ss o discovery_bit s) (fills home ss o s) (is_filled_in home ss o s) (may_use home ss o s)) (may-seen retrieve_bit r)
-      ∙ ap (λ b. shown_by a (may home rs o retrieve_bit r) b (fills home ss o s) (is_filled_in home ss o s) (may_use home ss o s)) (may-seen discovery_bit r)
-      ∙ ap (λ b. shown_by a (may home rs o retrieve_bit r) (may home rs o discovery_bit r) b (is_filled_in home ss o s) (may_use home ss o s)) (fills-seen r)
-      ∙ ap (λ b. shown_by a (may home rs o retrieve_bit r) (may home rs o discovery_bit r) (fills home rs o r) b (may_use home ss o s)) (is_filled_in-seen r)
-      ∙ ap (λ b. shown_by a (may home rs o retrieve_bit r) (may home rs o discovery_bit r) (fills home rs o r) (is_filled_in home rs o r) b) (may_use-seen r)
+      ap (λ b. shown_by r.ty a b (may home ss o discovery_bit s) (fills home ss o s) (is_filled_in home ss o s) (may_use home ss o s)) (may-seen retrieve_bit r)
+      ∙ ap (λ b. shown_by r.ty a (may home rs o retrieve_bit r) b (fills home ss o s) (is_filled_in home ss o s) (may_use home ss o s)) (may-seen discovery_bit r)
+      ∙ ap (λ b. shown_by r.ty a (may home rs o retrieve_bit r) (may home rs o discovery_bit r) b (is_filled_in home ss o s) (may_use home ss o s)) (fills-seen r)
+      ∙ ap (λ b. shown_by r.ty a (may home rs o retrieve_bit r) (may home rs o discovery_bit r) (fills home rs o r) b (may_use home ss o s)) (is_filled_in-seen r)
+      ∙ ap (λ b. shown_by r.ty a (may home rs o retrieve_bit r) (may home rs o discovery_bit r) (fills home rs o r) (is_filled_in home rs o r) b) (may_use-seen r)
 
 -- ---- two lists of which the originator sees the same
 
@@ -107,7 +108,9 @@ module _ (home : HomeData) (o : List ℕ) (xs ys : List ResourceData) (same : se
           name = h.name ∙ ap (λ (x : ResourceData). x.name) e;
           parent = h.parent ∙ ap (λ (x : ResourceData). x.parent) e;
           owned = h.owned ∙ through (λ (x : ResourceData). is_same home o x.owner) left.owned right.owned;
-          shape = λ a one. h.shape a one ∙ value_through a (left.shape a one) (right.shape a one);
+          shape = λ a one.
+              let was : is_one_of (shape_attrs r.ty) a ≡ true = ap (λ (x : ResourceData). is_one_of (shape_attrs x.ty) a) e ∙ one in
+              h.shape a was ∙ value_through a (left.shape a was) (right.shape a one);
           pv = h.pv ∙ through (λ (x : ResourceData). bits_by home o (rules_in (value_of Pv x.attrs))) left.pv right.pv;
           pvs = h.pvs ∙ through (λ (x : ResourceData). bits_by home o (rules_in (value_of Pvs x.attrs))) left.pvs right.pvs;
         }

@@ -130,9 +130,9 @@ module _ (named : Data → Bool) (zs xs : List ResourceData) (finds : FindsSame 
 -- ---- what is shown
 
 -- an attribute is shown, by what the originator may do
-abbrev showing_by : Attr → Bool → Bool → Bool → Bool → Bool → Bool
-showing_by a retrieves tells fill inside uses =
-    is_one_of shape_attrs a || retrieves || (tells && is_one_of found_attrs a) || (fill && is_one_of limit_attrs a)
+abbrev showing_by : Ty → Attr → Bool → Bool → Bool → Bool → Bool → Bool
+showing_by ty a retrieves tells fill inside uses =
+    is_one_of (shape_attrs ty) a || retrieves || (tells && is_one_of found_attrs a) || (fill && is_one_of limit_attrs a)
     || (inside && is_one_of size_attrs a) || (uses && is_one_of member_attrs a)
 
 -- the originator may do the same with a resource of each of two lists
@@ -143,19 +143,20 @@ pub record MaySame (home : HomeData) (o : List ℕ) (zs xs : List ResourceData) 
   pub uses : may_use home zs o s ≡ may_use home xs o r
 
 module _ (home : HomeData) (o : List ℕ) (zs xs : List ResourceData) where
-  pub shown_same : (s r : ResourceData) → MaySame home o zs xs s r → (a : Attr) → is_shown home zs o s a ≡ is_shown home xs o r a
-  shown_same s r both a =
+  pub shown_same : (s r : ResourceData) → s.ty ≡ r.ty → MaySame home o zs xs s r → (a : Attr) → is_shown home zs o s a ≡ is_shown home xs o r a
+  shown_same s r ty both a =
       let retrieves = may home xs o retrieve_bit r in
       let tells = may home xs o discovery_bit r in
-      ap (λ b. showing_by a b (may home zs o discovery_bit s) (fills home zs o s) (is_filled_in home zs o s) (may_use home zs o s)) (both.may retrieve_bit)
-      ∙ ap (λ b. showing_by a retrieves b (fills home zs o s) (is_filled_in home zs o s) (may_use home zs o s)) (both.may discovery_bit)
-      ∙ ap (λ b. showing_by a retrieves tells b (is_filled_in home zs o s) (may_use home zs o s)) both.fills
-      ∙ ap (λ b. showing_by a retrieves tells (fills home xs o r) b (may_use home zs o s)) both.inside
-      ∙ ap (showing_by a retrieves tells (fills home xs o r) (is_filled_in home xs o r)) both.uses
+      ap (λ t. showing_by t a (may home zs o retrieve_bit s) (may home zs o discovery_bit s) (fills home zs o s) (is_filled_in home zs o s) (may_use home zs o s)) ty
+      ∙ ap (λ b. showing_by r.ty a b (may home zs o discovery_bit s) (fills home zs o s) (is_filled_in home zs o s) (may_use home zs o s)) (both.may retrieve_bit)
+      ∙ ap (λ b. showing_by r.ty a retrieves b (fills home zs o s) (is_filled_in home zs o s) (may_use home zs o s)) (both.may discovery_bit)
+      ∙ ap (λ b. showing_by r.ty a retrieves tells b (is_filled_in home zs o s) (may_use home zs o s)) both.fills
+      ∙ ap (λ b. showing_by r.ty a retrieves tells (fills home xs o r) b (may_use home zs o s)) both.inside
+      ∙ ap (showing_by r.ty a retrieves tells (fills home xs o r) (is_filled_in home xs o r)) both.uses
 
   pub value_same : (s r : ResourceData) → s.ty ≡ r.ty → MaySame home o zs xs s r → (a : Attr) (d : Data) → seen_value home zs o s a d ≡ seen_value home xs o r a d
   value_same s r ty both a d =
-      ap (λ b. value_by home o b (is_one_of (Pv ∷ Pvs ∷ []) a) (is_way s a) d) (shown_same s r both a)
+      ap (λ b. value_by home o b (is_one_of (Pv ∷ Pvs ∷ []) a) (is_way s a) d) (shown_same s r ty both a)
       ∙ ap (λ b. value_by home o (is_shown home xs o r a) (is_one_of (Pv ∷ Pvs ∷ []) a) b d) (way ty)
     where
       way : s.ty ≡ r.ty → is_way s a ≡ is_way r a

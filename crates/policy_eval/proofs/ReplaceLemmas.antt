@@ -121,34 +121,19 @@ changes_same h k same (c ∷ changes) =
 
 -- ---- what is kept where nothing that judges is changed
 
-module _ (ty : Ty) (changes : List NewValue) (free : do_judge ty changes ≡ false) where
-  acpi_kept : is_changed changes Acpi ≡ false
-  acpi_kept = any_fewer _ _ (λ (c : NewValue) none.
-      (or_parts (is_attr c.0 Acpi) _ (or_parts _ _ (or_parts _ _ none).0).0).0) changes free
-
-  pv_kept : is_changed changes Pv ≡ false
-  pv_kept = any_fewer _ _ (λ (c : NewValue) none.
-      (or_parts (is_attr c.0 Pv) _ (or_parts (is_attr c.0 Acpi) _ (or_parts _ _ (or_parts _ _ none).0).0).1).0) changes free
-
-  pvs_kept : is_changed changes Pvs ≡ false
-  pvs_kept = any_fewer _ _ (λ (c : NewValue) none.
-      (or_parts (is_attr c.0 Pvs) _ (or_parts (is_attr c.0 Pv) _ (or_parts (is_attr c.0 Acpi) _ (or_parts _ _ (or_parts _ _ none).0).0).1).1).0) changes free
-
-  aei_kept : is_ty ty Ae ≡ true → is_changed changes Aei ≡ false
-  aei_kept is = any_fewer (λ (c : NewValue). does_judge ty c.0) (λ (c : NewValue). is_attr c.0 Aei) (λ c none.
-      let here : (is_ty ty Ae && is_attr c.0 Aei) ≡ false = (or_parts _ _ (or_parts _ _ none).0).1 in
-      rw is at here) changes free
-
-  csi_kept : is_ty ty RemoteCse ≡ true → is_changed changes Csi ≡ false
-  csi_kept is = any_fewer (λ (c : NewValue). does_judge ty c.0) (λ (c : NewValue). is_attr c.0 Csi) (λ c none.
-      let here : (is_ty ty RemoteCse && is_attr c.0 Csi) ≡ false = (or_parts _ _ none).1 in
-      rw is at here) changes free
-
-reach_kept : (b : Attr) (changes : List NewValue) → is_one_of (Mia ∷ Macp ∷ []) b ≡ true → do_reach changes ≡ false → is_changed changes b ≡ false
-reach_kept b changes one none = any_fewer (λ (c : NewValue). is_one_of (Mia ∷ Macp ∷ []) c.0) (λ (c : NewValue). is_attr c.0 b) (λ c other. elim (cases_Bool (is_attr c.0 b)) [
-  | inl t ↦ absurd (both_ways _ other (subst (λ (a : Attr). is_one_of (Mia ∷ Macp ∷ []) a ≡ true) (sym (is_attr-same c.0 b t)) one))
+-- no change is of an attribute that passes a test
+test_kept : (p : Attr → Bool) (b : Attr) (changes : List NewValue) → p b ≡ true → list_any (λ (c : NewValue). p c.0) changes ≡ false → is_changed changes b ≡ false
+test_kept p b changes one none = any_fewer (λ (c : NewValue). p c.0) (λ (c : NewValue). is_attr c.0 b) (λ c other. elim (cases_Bool (is_attr c.0 b)) [
+  | inl t ↦ absurd (both_ways _ other (subst (λ (a : Attr). p a ≡ true) (sym (is_attr-same c.0 b t)) one))
   | inr f ↦ f
 ]) changes none
+
+module _ (ty : Ty) (changes : List NewValue) (free : do_judge ty changes ≡ false) where
+  judge_kept : (b : Attr) → does_judge ty b ≡ true → is_changed changes b ≡ false
+  judge_kept b one = test_kept (does_judge ty) b changes one free
+
+reach_kept : (b : Attr) (changes : List NewValue) → is_one_of (Mia ∷ Macp ∷ []) b ≡ true → do_reach changes ≡ false → is_changed changes b ≡ false
+reach_kept b changes one none = test_kept (is_one_of (Mia ∷ Macp ∷ [])) b changes one none
 
 -- ---- a resource gets changes
 
@@ -204,13 +189,13 @@ module _ (home : HomeData) (o : List ℕ) (xs : List ResourceData) (well : is_we
     ty = refl;
     parent = refl;
     owner = refl;
-    acpi = kept Acpi (acpi_kept r.ty changes free);
-    pv = kept Pv (pv_kept r.ty changes free);
-    pvs = kept Pvs (pvs_kept r.ty changes free);
+    acpi = kept Acpi (judge_kept r.ty changes free Acpi refl);
+    pv = kept Pv (judge_kept r.ty changes free Pv refl);
+    pvs = kept Pvs (judge_kept r.ty changes free Pvs refl);
     registree = elim (cases_Bool (is_ty r.ty Ae)) [
-      | inl t ↦ rw t (ap (option_and_then as_text) (kept Aei (aei_kept r.ty changes free t)))
+      | inl t ↦ rw t (ap (option_and_then as_text) (kept Aei (judge_kept r.ty changes free Aei (rw t refl))))
       | inr f ↦ elim (cases_Bool (is_ty r.ty RemoteCse)) [
-        | inl t ↦ rw (f, t) (ap (option_and_then as_text) (kept Csi (csi_kept r.ty changes free t)))
+        | inl t ↦ rw (f, t) (ap (option_and_then as_text) (kept Csi (judge_kept r.ty changes free Csi (rw (f, t) refl))))
         | inr g ↦ rw (f, g) refl
       ]
     ];

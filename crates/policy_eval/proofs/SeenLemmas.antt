@@ -122,7 +122,7 @@ kept_value home nodes o r a shown = value-shown (seen_value home nodes o r) a (�
 shown_kept : (home : HomeData) (nodes : List ResourceData) (o : List ℕ) (r : ResourceData) (a : Attr) → is_shown home nodes o r a ≡ true → value_of a (seen home nodes o r).attrs ≡ value_of a r.attrs
 shown_kept home nodes o r a shown = kept_value home nodes o r a (λ d. rw shown refl)
 
-shape_shown : (home : HomeData) (nodes : List ResourceData) (o : List ℕ) (r : ResourceData) (a : Attr) → is_one_of shape_attrs a ≡ true → is_shown home nodes o r a ≡ true
+shape_shown : (home : HomeData) (nodes : List ResourceData) (o : List ℕ) (r : ResourceData) (a : Attr) → is_one_of (shape_attrs r.ty) a ≡ true → is_shown home nodes o r a ≡ true
 shape_shown home nodes o r a one = or_left _ _ (or_left _ _ (or_left _ _ (or_left _ _ (or_left _ _ one))))
 
 -- what is seen of a resource is alike to it, and so is the list
@@ -211,7 +211,7 @@ points_same false (Some d) = one_point (first_url (Some d)) (find_passes is_url 
 
 way_shown : (home : HomeData) (nodes : List ResourceData) (o : List ℕ) (r : ResourceData) → is_ty r.ty RemoteCse ≡ true → first_url (value_of Poa (seen home nodes o r).attrs) ≡ first_url (value_of Poa r.attrs)
 way_shown home nodes o r remote =
-    ap first_url (value-shown (seen_value home nodes o r) Poa (λ d. cond (is_shown home nodes o r Poa) d (seen_points d)) (λ d. rw remote (shown_or (is_shown home nodes o r Poa) d (seen_points d))) r.attrs)
+    ap first_url (value-shown (seen_value home nodes o r) Poa (λ d. cond (is_shown home nodes o r Poa) d (seen_points d)) (λ d. ap (λ b. cond (is_shown home nodes o r Poa) (Some d) (cond b (Some (seen_points d)) None)) (and_from (is_ty r.ty RemoteCse) (is_attr Poa Poa) remote refl) ∙ shown_or (is_shown home nodes o r Poa) d (seen_points d)) r.attrs)
     ∙ points_same (is_shown home nodes o r Poa) (value_of Poa r.attrs)
 
 pub seen_shows : (home : HomeData) (nodes : List ResourceData) (o : List ℕ) (r : ResourceData) → Shows home nodes o r (seen home nodes o r)

@@ -1,11 +1,13 @@
 -- Resources and lists by which an originator is judged alike.
-use Rattle.std.specs.Prelude.{◌≡◌, ℕ, Bool, true, List, [], ◌∷◌, Option, Some, None}
+use Rattle.std.specs.Prelude.{◌≡◌, ℕ, Bool, true, List, [], ◌∷◌, Option, Some, None, if◌then◌else◌}
 use Rattle.std.specs.List.{AllZip, list_any}
 use Rattle.m2m_names.specs.declared.attributes.Attr.{Attr}
 use Rattle.m2m_names.specs.declared.attributes.Attr.TheVariants.{Acpi, Aei, Csi, Macp, Pv, Pvs}
+use Rattle.m2m_names.specs.declared.types.Ty.{Ty}
+use Rattle.m2m_names.specs.declared.types.Ty.TheVariants.{Ae, RemoteCse}
 use Rattle.resource_model.specs.Attributes.{is_attr, value_of}
 use Rattle.resource_model.specs.Home.{HomeData}
-use Rattle.resource_model.specs.Resource.{ResourceData}
+use Rattle.resource_model.specs.Resource.{ResourceData, is_ty}
 use Rattle.policy_eval.specs.Originators.{is_same}
 use Rattle.policy_eval.specs.Rules.{rules_in}
 use Rattle.policy_eval.specs.Rights.{bits_by}
@@ -18,20 +20,26 @@ is_one_of attrs a = list_any (is_attr a) attrs
 abbrev pub Agree : List Attr → ResourceData → ResourceData → Type 0
 Agree attrs s r = (a : Attr) → is_one_of attrs a ≡ true → value_of a s.attrs ≡ value_of a r.attrs
 
--- attributes by which a resource is judged, named or reached
-abbrev pub shape_attrs : List Attr
-shape_attrs = Acpi ∷ Macp ∷ Aei ∷ Csi ∷ []
+-- the AE-ID of an application entity, the CSE-ID of a remote CSE; a resource of another type has none
+abbrev pub id_attrs : Ty → List Attr
+id_attrs ty =
+    if is_ty ty Ae then Aei ∷ [] else
+    if is_ty ty RemoteCse then Csi ∷ [] else []
+
+-- attributes by which a resource of the type is judged or named
+abbrev pub shape_attrs : Ty → List Attr
+shape_attrs ty = Acpi ∷ Macp ∷ id_attrs ty
 
 -- Two resources stand at one place, and the originator is judged alike by them: it owns both or
--- neither, by what they are judged, named and reached is the same, and their rules give it the
--- same bits (TS-0001, 9.6.2).
+-- neither, by what they are judged and named is the same, and their rules give it the same
+-- bits (TS-0001, 9.6.2).
 pub record Alike (home : HomeData) (o : List ℕ) (s r : ResourceData) : Type 0 where
   pub number : s.number ≡ r.number
   pub ty : s.ty ≡ r.ty
   pub name : s.name ≡ r.name
   pub parent : s.parent ≡ r.parent
   pub owned : is_same home o s.owner ≡ is_same home o r.owner
-  pub shape : Agree shape_attrs s r
+  pub shape : Agree (shape_attrs r.ty) s r
   pub pv : bits_by home o (rules_in (value_of Pv s.attrs)) ≡ bits_by home o (rules_in (value_of Pv r.attrs))
   pub pvs : bits_by home o (rules_in (value_of Pvs s.attrs)) ≡ bits_by home o (rules_in (value_of Pvs r.attrs))
 

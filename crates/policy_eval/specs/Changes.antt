@@ -3,15 +3,15 @@ use Rattle.std.specs.Prelude.{◌≡◌, ℕ, Bool, true, false, ◌&&◌, ◌||
 use Rattle.std.specs.List.{list_any}
 use Rattle.std.specs.Option.{option_map_or}
 use Rattle.m2m_names.specs.declared.attributes.Attr.{Attr}
-use Rattle.m2m_names.specs.declared.attributes.Attr.TheVariants.{Acpi, Aei, Csi, Macp, Mia, Pv, Pvs}
+use Rattle.m2m_names.specs.declared.attributes.Attr.TheVariants.{Acpi, Macp, Mia, Pv, Pvs}
 use Rattle.m2m_names.specs.declared.types.Ty.{Ty}
-use Rattle.m2m_names.specs.declared.types.Ty.TheVariants.{AccessControlPolicy, Ae, ContentInstance, RemoteCse}
+use Rattle.m2m_names.specs.declared.types.Ty.TheVariants.{AccessControlPolicy, ContentInstance}
 use Rattle.m2m_value.specs.Data.{Data}
 use Rattle.m2m_value.specs.View.{as_text}
-use Rattle.resource_model.specs.Attributes.{Row, is_attr, with_value, without_value}
+use Rattle.resource_model.specs.Attributes.{Row, with_value, without_value}
 use Rattle.resource_model.specs.Home.{HomeData}
 use Rattle.resource_model.specs.Resource.{ResourceData, is_ty, has_number}
-use Rattle.policy_eval.specs.Alike.{is_one_of}
+use Rattle.policy_eval.specs.Alike.{is_one_of, id_attrs}
 use Rattle.policy_eval.specs.Rules.{policy_number, ids_at}
 use Rattle.policy_eval.specs.Rights.{grants, update_bit}
 use Rattle.policy_eval.specs.Seen.{create_bit, retrieve_bit, may, seen_value}
@@ -64,9 +64,7 @@ changed changes lt et r = record r {
 -- an attribute of a resource of the type says by which rules somebody is judged, there or elsewhere,
 -- but for a fan-out: which policies hold for it, a policy's rules, and whose a polling channel is
 abbrev pub does_judge : Ty → Attr → Bool
-does_judge ty a =
-    is_one_of (Acpi ∷ Pv ∷ Pvs ∷ []) a
-    || (is_ty ty Ae && is_attr a Aei) || (is_ty ty RemoteCse && is_attr a Csi)
+does_judge ty a = is_one_of (Acpi ∷ Pv ∷ Pvs ∷ id_attrs ty) a
 
 -- one of the changes is of such an attribute
 abbrev pub do_judge : Ty → List NewValue → Bool

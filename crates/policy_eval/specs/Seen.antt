@@ -72,7 +72,7 @@ member_attrs = Mid ∷ Mnm ∷ Mt ∷ Csy ∷ []
 -- the value of an attribute is shown
 abbrev pub is_shown : HomeData → List ResourceData → List ℕ → ResourceData → Attr → Bool
 is_shown home nodes o r a =
-    is_one_of shape_attrs a
+    is_one_of (shape_attrs r.ty) a
     || may home nodes o retrieve_bit r
     || (may home nodes o discovery_bit r && is_one_of found_attrs a)
     || (fills home nodes o r && is_one_of limit_attrs a)
