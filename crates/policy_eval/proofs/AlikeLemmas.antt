@@ -154,8 +154,8 @@ module _ (home : HomeData) (o : List ℕ) where
     parent = refl;
     owned = refl;
     shape = λ a one. refl;
-    pv = refl;
-    pvs = refl;
+    pv = λ policy. refl;
+    pvs = λ policy. refl;
   }
 
   pub ty-alike : (s r : ResourceData) → Alike home o s r → (t : Ty) → is_ty s.ty t ≡ is_ty r.ty t
@@ -201,14 +201,21 @@ module _ (home : HomeData) (o : List ℕ) where
         | inr f ↦ rw (same ∙ f, f) (child-alike ss rs alike.1 parent name)
       ]
 
-  policy_alike : (p q : Option ResourceData) → FindAlike home o p q → FindAlike home o (option_and_then (λ (r : ResourceData). cond (is_ty r.ty AccessControlPolicy) (Some r) None) p) (option_and_then (λ (r : ResourceData). cond (is_ty r.ty AccessControlPolicy) (Some r) None) q)
+  -- two look-ups find alike policies, or both find none
+  abbrev FindPolicies : Option ResourceData → Option ResourceData → Type 0
+  FindPolicies None None = Unit {0}
+  FindPolicies None (Some r) = ⊥
+  FindPolicies (Some s) None = ⊥
+  FindPolicies (Some s) (Some r) = Alike home o s r × (is_ty r.ty AccessControlPolicy ≡ true)
+
+  policy_alike : (p q : Option ResourceData) → FindAlike home o p q → FindPolicies (option_and_then (λ (r : ResourceData). cond (is_ty r.ty AccessControlPolicy) (Some r) None) p) (option_and_then (λ (r : ResourceData). cond (is_ty r.ty AccessControlPolicy) (Some r) None) q)
   policy_alike None None found = tt
   policy_alike None (Some r) found = absurd found
   policy_alike (Some s) None found = absurd found
   policy_alike (Some s) (Some r) found =
       let same = ty-alike s r found AccessControlPolicy in
       elim (cases_Bool (is_ty r.ty AccessControlPolicy)) [
-        | inl t ↦ rw (same ∙ t, t) found
+        | inl t ↦ rw (same ∙ t, t) (found, t)
         | inr f ↦ rw (same ∙ f, f) tt
       ]
 
@@ -218,19 +225,19 @@ module _ (home : HomeData) (o : List ℕ) where
   same_channel : (s r : ResourceData) → Alike home o s r → GiveSame home o (channel_rules s) (channel_rules r)
   same_channel s r alike = record { bits = λ a. rw (registree-alike s r alike) refl }
 
-  same_pv : (s r : ResourceData) → Alike home o s r → GiveSame home o (by_list Pv s) (by_list Pv r)
-  same_pv s r alike = same_from_by home o _ _ alike.pv
+  same_pv : (s r : ResourceData) → Alike home o s r → is_ty r.ty AccessControlPolicy ≡ true → GiveSame home o (by_list Pv s) (by_list Pv r)
+  same_pv s r alike policy = same_from_by home o _ _ (alike.pv policy)
 
-  same_pvs : (s r : ResourceData) → Alike home o s r → GiveSame home o (by_list Pvs s) (by_list Pvs r)
-  same_pvs s r alike = same_from_by home o _ _ alike.pvs
+  same_pvs : (s r : ResourceData) → Alike home o s r → is_ty r.ty AccessControlPolicy ≡ true → GiveSame home o (by_list Pvs s) (by_list Pvs r)
+  same_pvs s r alike policy = same_from_by home o _ _ (alike.pvs policy)
 
   -- policies that are alike give the same
-  same_policies : (f : ResourceData → List Rule) → ((s r : ResourceData) → Alike home o s r → GiveSame home o (f s) (f r)) → (p q : Option ResourceData) → FindAlike home o p q → (xs ys : List ResourceData) → ((a : ℕ) → with_rules home o a (flat_map f xs) ≡ with_rules home o a (flat_map f ys)) → (a : ℕ) → with_rules home o a (flat_map f (cons_option p xs)) ≡ with_rules home o a (flat_map f (cons_option q ys))
+  same_policies : (f : ResourceData → List Rule) → ((s r : ResourceData) → Alike home o s r → is_ty r.ty AccessControlPolicy ≡ true → GiveSame home o (f s) (f r)) → (p q : Option ResourceData) → FindPolicies p q → (xs ys : List ResourceData) → ((a : ℕ) → with_rules home o a (flat_map f xs) ≡ with_rules home o a (flat_map f ys)) → (a : ℕ) → with_rules home o a (flat_map f (cons_option p xs)) ≡ with_rules home o a (flat_map f (cons_option q ys))
   same_policies f same None None found xs ys rest a = rest a
   same_policies f same None (Some r) found xs ys rest a = absurd found
   same_policies f same (Some s) None found xs ys rest a = absurd found
   same_policies f same (Some s) (Some r) found xs ys rest a =
-      with_rules-append home o a (f s) (flat_map f xs) ∙ ap (λ n. with_rules home o n (flat_map f xs)) ((same s r found).bits a)
+      with_rules-append home o a (f s) (flat_map f xs) ∙ ap (λ n. with_rules home o n (flat_map f xs)) ((same s r found.0 found.1).bits a)
       ∙ rest (with_rules home o a (f r)) ∙ sym (with_rules-append home o a (f r) (flat_map f ys))
 
   -- what stands above gives the same
@@ -247,23 +254,23 @@ module _ (home : HomeData) (o : List ℕ) where
   same_rights wanted f g same (Some s) (Some r) found = rw ((same s r found).bits 0) refl
 
   module _ (ss rs : List ResourceData) (all : AreAlike home o ss rs) where
-    pub policy_of-alike : (id : Data) → FindAlike home o (policy_of ss id) (policy_of rs id)
+    policy_of-alike : (id : Data) → FindPolicies (policy_of ss id) (policy_of rs id)
     policy_of-alike id = by_text (as_text id)
       where
-        by_number : (x : Option ℕ) → FindAlike home o (option_and_then (policy_at ss) x) (option_and_then (policy_at rs) x)
+        by_number : (x : Option ℕ) → FindPolicies (option_and_then (policy_at ss) x) (option_and_then (policy_at rs) x)
         by_number None = tt
         by_number (Some n) = policy_alike (at n ss) (at n rs) (at-alike ss rs all n)
 
-        by_text : (x : Option (List ℕ)) → FindAlike home o (option_and_then (policy_named ss) x) (option_and_then (policy_named rs) x)
+        by_text : (x : Option (List ℕ)) → FindPolicies (option_and_then (policy_named ss) x) (option_and_then (policy_named rs) x)
         by_text None = tt
         by_text (Some text) = by_number (policy_number text)
 
-    same_joined : (attr : Attr) → ((s r : ResourceData) → Alike home o s r → GiveSame home o (by_list attr s) (by_list attr r)) → (ids : List Data) (a : ℕ) → with_rules home o a (joined attr ss ids) ≡ with_rules home o a (joined attr rs ids)
+    same_joined : (attr : Attr) → ((s r : ResourceData) → Alike home o s r → is_ty r.ty AccessControlPolicy ≡ true → GiveSame home o (by_list attr s) (by_list attr r)) → (ids : List Data) (a : ℕ) → with_rules home o a (joined attr ss ids) ≡ with_rules home o a (joined attr rs ids)
     same_joined attr same [] a = refl
     same_joined attr same (id ∷ ids) a =
         same_policies (by_list attr) same (policy_of ss id) (policy_of rs id) (policy_of-alike id) (policies_of ss ids) (policies_of rs ids) (same_joined attr same ids) a
 
-    pub linked-alike : (attr : Attr) → ((s r : ResourceData) → Alike home o s r → GiveSame home o (by_list attr s) (by_list attr r)) → (s r : ResourceData) → Alike home o s r → GiveSame home o (linked_rules attr ss s) (linked_rules attr rs r)
+    pub linked-alike : (attr : Attr) → ((s r : ResourceData) → Alike home o s r → is_ty r.ty AccessControlPolicy ≡ true → GiveSame home o (by_list attr s) (by_list attr r)) → (s r : ResourceData) → Alike home o s r → GiveSame home o (linked_rules attr ss s) (linked_rules attr rs r)
     linked-alike attr same s r alike = rw (ids-alike Acpi s r (alike.shape Acpi refl)) (elim (cases_Bool (lists_ids Acpi r)) [
       | inl t ↦ rw t (record { bits = same_joined attr same (ids_at Acpi r) })
       | inr f ↦ rw f (same_owner s r alike)
@@ -271,7 +278,7 @@ module _ (home : HomeData) (o : List ℕ) where
 
     pub rules-alike : (s r : ResourceData) → Alike home o s r → GiveSame home o (rules_of ss s) (rules_of rs r)
     rules-alike s r alike = elim (cases_Bool (is_ty r.ty AccessControlPolicy)) [
-      | inl t ↦ rw (ty-alike s r alike AccessControlPolicy ∙ t, t) (same_pvs s r alike)
+      | inl t ↦ rw (ty-alike s r alike AccessControlPolicy ∙ t, t) (same_pvs s r alike t)
       | inr f ↦ rw (ty-alike s r alike AccessControlPolicy ∙ f, f) (elim (cases_Bool (is_ty r.ty ContentInstance)) [
         | inl t ↦ rw (ty-alike s r alike ContentInstance ∙ t, t) (rw alike.parent (same_above (linked_rules Pv ss) (linked_rules Pv rs) (linked-alike Pv same_pv) (at r.parent ss) (at r.parent rs) (at-alike ss rs all r.parent)))
         | inr f ↦ rw (ty-alike s r alike ContentInstance ∙ f, f) (elim (cases_Bool (is_ty r.ty PollingChannel)) [

@@ -21,7 +21,7 @@ use Rattle.tree_model.proofs.TreeLemmas.{at-append, at-map}
 use Rattle.policy_eval.specs.Alike.{AreAlike, is_one_of, shape_attrs}
 use Rattle.policy_eval.specs.Rules.{Rule, linked_rules, rules_of}
 use Rattle.policy_eval.specs.Rights.{bits_by, has_bits, do_give, grants, relinks, fan_grants}
-use Rattle.policy_eval.specs.Seen.{retrieve_bit, may, fills, is_filled_in, is_shown, is_way, seen_ct, seen_et, with_seen_owner, seen, seen_list}
+use Rattle.policy_eval.specs.Seen.{retrieve_bit, may, fills, is_filled_in, is_shown, seen_ct, seen_et, with_seen_owner, seen, seen_list}
 use Rattle.policy_eval.proofs.AlikeLemmas.{without-zip, zip-map, map_from_zip, grants-alike, relinks-alike, fan_grants-alike}
 use Rattle.policy_eval.proofs.RemovalLemmas.{keeps_without, grants_before}
 use Rattle.policy_eval.proofs.SeenLemmas.{at-seen, seen_map_alike, seen_shows}
@@ -140,8 +140,7 @@ module _ (home : HomeData) (nodes : List ResourceData) (o : List ℕ) (r p : Res
       let fill : fills home nodes o p ≡ false = sym same_fill ∙ parts.1 in
       let none : is_shown home nodes o p Mia ≡ false =
       or_from _ _ (or_from _ _ (or_from _ _ (or_from _ _ (or_from _ _ (no_shape p.ty) right) (and_right _ _ refl)) (and_left _ _ fill)) (and_right _ _ refl)) (and_right _ _ refl) in
-      let way : is_way p Mia ≡ false = and_right _ _ refl in
-      (seen_shows home nodes o p).hidden Mia none refl way
+      (seen_shows home nodes o p).hidden Mia none (and_right _ _ refl) (and_right _ _ refl)
 
 -- ---- when a resource is due
 

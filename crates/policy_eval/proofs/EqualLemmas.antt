@@ -6,7 +6,7 @@ use Rattle.std.specs.Option.{option_map_or}
 use Rattle.m2m_names.specs.declared.attributes.Attr.{Attr}
 use Rattle.m2m_names.specs.declared.attributes.Attr.TheVariants.{Poa, Pv, Pvs}
 use Rattle.m2m_names.specs.declared.types.Ty.{Ty}
-use Rattle.m2m_names.specs.declared.types.Ty.TheVariants.{Container, ContentInstance, Group, RemoteCse}
+use Rattle.m2m_names.specs.declared.types.Ty.TheVariants.{AccessControlPolicy, Container, ContentInstance, Group, RemoteCse}
 use Rattle.resource_model.specs.Attributes.{value_of}
 use Rattle.resource_model.specs.Home.{HomeData}
 use Rattle.resource_model.specs.Resource.{ResourceData, is_ty}
@@ -16,7 +16,7 @@ use Rattle.policy_eval.specs.Alike.{Alike, is_one_of, shape_attrs}
 use Rattle.policy_eval.specs.Originators.{is_same}
 use Rattle.policy_eval.specs.Rules.{rules_in, fan_rules}
 use Rattle.policy_eval.specs.Rights.{bits_by, has_bits}
-use Rattle.policy_eval.specs.Seen.{create_bit, retrieve_bit, discovery_bit, may, fills, is_filled_in, may_use, found_attrs, limit_attrs, size_attrs, member_attrs, is_shown, is_way, first_url, seen, seen_list, Shows}
+use Rattle.policy_eval.specs.Seen.{create_bit, retrieve_bit, discovery_bit, may, fills, is_filled_in, may_use, found_attrs, limit_attrs, size_attrs, member_attrs, is_shown, is_rules, is_way, first_url, seen, seen_list, Shows}
 use Rattle.policy_eval.proofs.AlikeLemmas.{rules-alike, fan_rules-alike}
 use Rattle.policy_eval.proofs.SeenLemmas.{at-seen, seen_alike, seen_map_alike, seen_shows}
 
@@ -111,8 +111,12 @@ module _ (home : HomeData) (o : List ℕ) (xs ys : List ResourceData) (same : se
           shape = λ a one.
               let was : is_one_of (shape_attrs r.ty) a ≡ true = ap (λ (x : ResourceData). is_one_of (shape_attrs x.ty) a) e ∙ one in
               h.shape a was ∙ value_through a (left.shape a was) (right.shape a one);
-          pv = h.pv ∙ through (λ (x : ResourceData). bits_by home o (rules_in (value_of Pv x.attrs))) left.pv right.pv;
-          pvs = h.pvs ∙ through (λ (x : ResourceData). bits_by home o (rules_in (value_of Pvs x.attrs))) left.pvs right.pvs;
+          pv = λ policy.
+              let was : is_ty r.ty AccessControlPolicy ≡ true = ap (λ (x : ResourceData). is_ty x.ty AccessControlPolicy) e ∙ policy in
+              h.pv was ∙ through (λ (x : ResourceData). bits_by home o (rules_in (value_of Pv x.attrs))) (left.pv was) (right.pv policy);
+          pvs = λ policy.
+              let was : is_ty r.ty AccessControlPolicy ≡ true = ap (λ (x : ResourceData). is_ty x.ty AccessControlPolicy) e ∙ policy in
+              h.pvs was ∙ through (λ (x : ResourceData). bits_by home o (rules_in (value_of Pvs x.attrs))) (left.pvs was) (right.pvs policy);
         }
 
     pub same_shows : (s : ResourceData) → Shows home xs o r s → Shows home ys o q s
@@ -148,7 +152,7 @@ module _ (home : HomeData) (o : List ℕ) (xs ys : List ResourceData) (same : se
           used = λ may_it a one.
               let was = using_it ∙ may_it in
               h.used was a one ∙ value_through a (left.used was a one) (right.used may_it a one);
-          hidden = λ a hides other away. h.hidden a (showing a ∙ hides) other (ap (λ (x : ResourceData). is_way x a) e ∙ away);
+          hidden = λ a hides other away. h.hidden a (showing a ∙ hides) (ap (λ (x : ResourceData). is_rules x a) e ∙ other) (ap (λ (x : ResourceData). is_way x a) e ∙ away);
           silent_ct = λ right_off tell never. h.silent_ct (retrieves ∙ right_off) (finds ∙ tell) (within ∙ never);
           silent_lt = λ right_off tell. h.silent_lt (retrieves ∙ right_off) (finds ∙ tell);
           silent_et = λ right_off never.

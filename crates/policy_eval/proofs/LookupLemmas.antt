@@ -5,18 +5,18 @@ use Rattle.std.proofs.lemmas.Bool.{cases_Bool, or_parts}
 use Rattle.std.specs.List.{cons_option, filter_map, flat_map, list_any}
 use Rattle.std.specs.Option.{option_map_or}
 use Rattle.m2m_names.specs.declared.attributes.Attr.{Attr}
-use Rattle.m2m_names.specs.declared.attributes.Attr.TheVariants.{Acpi, Macp, Pv, Pvs}
+use Rattle.m2m_names.specs.declared.attributes.Attr.TheVariants.{Acpi, Macp, Poa, Pv, Pvs}
 use Rattle.m2m_names.specs.declared.types.Ty.{Ty}
-use Rattle.m2m_names.specs.declared.types.Ty.TheVariants.{AccessControlPolicy, Container, ContentInstance, Group, PollingChannel}
+use Rattle.m2m_names.specs.declared.types.Ty.TheVariants.{AccessControlPolicy, Container, ContentInstance, Group, PollingChannel, RemoteCse}
 use Rattle.m2m_value.specs.Data.{Data}
-use Rattle.resource_model.specs.Attributes.{Row, value_of}
+use Rattle.resource_model.specs.Attributes.{Row, is_attr, value_of}
 use Rattle.resource_model.specs.Home.{HomeData}
 use Rattle.resource_model.specs.Resource.{ResourceData, is_ty}
 use Rattle.tree_model.specs.Tree.{at, due}
 use Rattle.policy_eval.specs.Alike.{is_one_of, shape_attrs}
 use Rattle.policy_eval.specs.Rules.{only, Rule, rule_for, all_bits, rules_in, policy_of, policies_of, joined, elements_in, ids_at, owner_rules, registree, linked_rules, channel_rules, rules_of, fan_rules}
 use Rattle.policy_eval.specs.Rights.{bits_by, has_bits}
-use Rattle.policy_eval.specs.Seen.{create_bit, retrieve_bit, discovery_bit, may, fills, is_filled_in, may_use, found_attrs, limit_attrs, size_attrs, member_attrs, is_shown, seen_value, seen_row, seen_owner, seen, is_way}
+use Rattle.policy_eval.specs.Seen.{create_bit, retrieve_bit, discovery_bit, may, fills, is_filled_in, may_use, found_attrs, limit_attrs, size_attrs, member_attrs, is_shown, seen_value, seen_row, seen_owner, seen, is_rules, is_way}
 use Rattle.policy_eval.proofs.TwiceLemmas.{made, value_by}
 
 -- ---- rules
@@ -156,11 +156,8 @@ module _ (home : HomeData) (o : List ℕ) (zs xs : List ResourceData) where
 
   pub value_same : (s r : ResourceData) → s.ty ≡ r.ty → MaySame home o zs xs s r → (a : Attr) (d : Data) → seen_value home zs o s a d ≡ seen_value home xs o r a d
   value_same s r ty both a d =
-      ap (λ b. value_by home o b (is_one_of (Pv ∷ Pvs ∷ []) a) (is_way s a) d) (shown_same s r ty both a)
-      ∙ ap (λ b. value_by home o (is_shown home xs o r a) (is_one_of (Pv ∷ Pvs ∷ []) a) b d) (way ty)
-    where
-      way : s.ty ≡ r.ty → is_way s a ≡ is_way r a
-      way e = rw e refl
+      ap (λ b. value_by home o b (is_rules s a) (is_way s a) d) (shown_same s r ty both a)
+      ∙ ap (λ t. value_by home o (is_shown home xs o r a) (is_ty t AccessControlPolicy && is_one_of (Pv ∷ Pvs ∷ []) a) (is_ty t RemoteCse && is_attr a Poa) d) ty
 
   pub row_same : (s r : ResourceData) → s.ty ≡ r.ty → MaySame home o zs xs s r → (row : Row) → seen_row home zs o s row ≡ seen_row home xs o r row
   row_same s r ty both row = ap (option_map (λ d. (row.0, d))) (value_same s r ty both row.0 row.1)

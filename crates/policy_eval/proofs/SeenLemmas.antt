@@ -1,7 +1,7 @@
 -- What an originator sees keeps its rights.
 use Rattle.std.specs.Prelude.{codes, nat_eq, nat_lt}
 use Rattle.std.proofs.Common.{◌≡◌, ℕ, ◌<◌, List, [], ◌∷◌, ◌++◌, map, length, Bool, true, false, cond, Option, Some, None, option_map, option_to_list, inl, inr, refl, sym, ap, ◌∙◌, subst, arith, append_assoc, length-append}
-use Rattle.std.proofs.lemmas.Bool.{cases_Bool, lt-ltb, ltb-true, false_from_ne_true, or_left, or_right, or_from, and_from, cond-true, cond-false}
+use Rattle.std.proofs.lemmas.Bool.{cases_Bool, lt-ltb, ltb-true, false_from_ne_true, or_left, or_right, or_from, and_from, and_right, cond-true, cond-false}
 use Rattle.std.proofs.lemmas.Nat.{or_lt}
 use Rattle.std.proofs.lemmas.Nat.Bits.{bit_at_or, bit_at-zero, same_from_bits}
 use Rattle.std.proofs.lemmas.Option.{same_Some}
@@ -11,7 +11,7 @@ use Rattle.std.specs.Option.{option_and_then, option_map_or}
 use Rattle.std.specs.Prelude.{ℤ, pos, negsuc}
 use Rattle.m2m_names.specs.declared.attributes.Attr.{Attr}
 use Rattle.m2m_names.specs.declared.attributes.Attr.TheVariants.{Poa, Pv, Pvs}
-use Rattle.m2m_names.specs.declared.types.Ty.TheVariants.{RemoteCse}
+use Rattle.m2m_names.specs.declared.types.Ty.TheVariants.{AccessControlPolicy, RemoteCse}
 use Rattle.m2m_value.specs.Data.{Data, text, list, elements_of}
 use Rattle.resource_model.specs.Attributes.{Row, is_attr, value_of}
 use Rattle.resource_model.specs.Home.{HomeData}
@@ -23,7 +23,7 @@ use Rattle.policy_eval.specs.Originators.{full_form, own_lead, is_same}
 use Rattle.policy_eval.specs.Rules.{texts_of, member_at, number_at, sum_of_bits, rule_of, rules_in, elements_in}
 use Rattle.policy_eval.specs.Rights.{is_among, with_rule, with_rules, bits_by, grants, relinks, fan_grants}
 use Rattle.policy_eval.specs.Alike.{is_one_of, shape_attrs, Alike, AreAlike}
-use Rattle.policy_eval.specs.Seen.{is_url, first_url, seen_points, retrieve_bit, discovery_bit, may, fills, is_filled_in, may_use, found_attrs, limit_attrs, size_attrs, member_attrs, Shows, is_shown, plain_rules, seen_rules, seen_value, another, seen_owner, seen, seen_list}
+use Rattle.policy_eval.specs.Seen.{is_url, first_url, seen_points, retrieve_bit, discovery_bit, may, fills, is_filled_in, may_use, found_attrs, limit_attrs, size_attrs, member_attrs, Shows, is_shown, plain_rules, seen_rules, is_rules, is_way, seen_value, another, seen_owner, seen, seen_list}
 use Rattle.policy_eval.proofs.AlikeLemmas.{GiveSame, same_itself, same_from_by, alike-map, child-alike, ae_id-alike, grants-alike, relinks-alike, fan_grants-alike}
 
 -- ---- values
@@ -125,6 +125,12 @@ shown_kept home nodes o r a shown = kept_value home nodes o r a (λ d. rw shown 
 shape_shown : (home : HomeData) (nodes : List ResourceData) (o : List ℕ) (r : ResourceData) (a : Attr) → is_one_of (shape_attrs r.ty) a ≡ true → is_shown home nodes o r a ≡ true
 shape_shown home nodes o r a one = or_left _ _ (or_left _ _ (or_left _ _ (or_left _ _ (or_left _ _ one))))
 
+-- of the rules of a policy either all is seen or what they give
+rules_shown : (home : HomeData) (nodes : List ResourceData) (o : List ℕ) (r : ResourceData) (a : Attr) → is_rules r a ≡ true → (d : Data) → seen_value home nodes o r a d ≡ Some (cond (is_shown home nodes o r a) d (seen_rules home o d))
+rules_shown home nodes o r a rules d =
+    ap (λ b. cond (is_shown home nodes o r a) (Some d) (cond b (Some (seen_rules home o d)) (cond (is_way r a) (Some (seen_points d)) None))) rules
+    ∙ shown_or (is_shown home nodes o r a) d (seen_rules home o d)
+
 -- what is seen of a resource is alike to it, and so is the list
 pub seen_alike : (home : HomeData) (nodes : List ResourceData) (o : List ℕ) (r : ResourceData) → Alike home o (seen home nodes o r) r
 seen_alike home nodes o r = record {
@@ -134,8 +140,8 @@ seen_alike home nodes o r = record {
   parent = refl;
   owned = owner_seen home o r;
   shape = λ a one. shown_kept home nodes o r a (shape_shown home nodes o r a one);
-  pv = rw (value-shown (seen_value home nodes o r) Pv (λ d. cond (is_shown home nodes o r Pv) d (seen_rules home o d)) (λ d. shown_or _ d _) r.attrs) ((policy_same home o _ (value_of Pv r.attrs)).bits 0);
-  pvs = rw (value-shown (seen_value home nodes o r) Pvs (λ d. cond (is_shown home nodes o r Pvs) d (seen_rules home o d)) (λ d. shown_or _ d _) r.attrs) ((policy_same home o _ (value_of Pvs r.attrs)).bits 0);
+  pv = λ policy. rw (value-shown (seen_value home nodes o r) Pv (λ d. cond (is_shown home nodes o r Pv) d (seen_rules home o d)) (rules_shown home nodes o r Pv (and_from _ _ policy refl)) r.attrs) ((policy_same home o _ (value_of Pv r.attrs)).bits 0);
+  pvs = λ policy. rw (value-shown (seen_value home nodes o r) Pvs (λ d. cond (is_shown home nodes o r Pvs) d (seen_rules home o d)) (rules_shown home nodes o r Pvs (and_from _ _ policy refl)) r.attrs) ((policy_same home o _ (value_of Pvs r.attrs)).bits 0);
 }
 
 pub seen_map_alike : (home : HomeData) (nodes : List ResourceData) (o : List ℕ) (rs : List ResourceData) → AreAlike home o (map (seen home nodes o) rs) rs
@@ -209,9 +215,15 @@ points_same s None = refl
 points_same true (Some d) = refl
 points_same false (Some d) = one_point (first_url (Some d)) (find_passes is_url (texts_of (elements_in (Some d))))
 
+-- of the points of access of a remote CSE either all is seen or the first URL
+points_shown : (home : HomeData) (nodes : List ResourceData) (o : List ℕ) (r : ResourceData) → is_ty r.ty RemoteCse ≡ true → (d : Data) → seen_value home nodes o r Poa d ≡ cond (is_shown home nodes o r Poa) (Some d) (Some (seen_points d))
+points_shown home nodes o r remote d =
+    ap (λ b. cond (is_shown home nodes o r Poa) (Some d) (cond b (Some (seen_rules home o d)) (cond (is_way r Poa) (Some (seen_points d)) None))) (and_right (is_ty r.ty AccessControlPolicy) _ refl)
+    ∙ ap (λ b. cond (is_shown home nodes o r Poa) (Some d) (cond b (Some (seen_points d)) None)) (and_from (is_ty r.ty RemoteCse) _ remote refl)
+
 way_shown : (home : HomeData) (nodes : List ResourceData) (o : List ℕ) (r : ResourceData) → is_ty r.ty RemoteCse ≡ true → first_url (value_of Poa (seen home nodes o r).attrs) ≡ first_url (value_of Poa r.attrs)
 way_shown home nodes o r remote =
-    ap first_url (value-shown (seen_value home nodes o r) Poa (λ d. cond (is_shown home nodes o r Poa) d (seen_points d)) (λ d. ap (λ b. cond (is_shown home nodes o r Poa) (Some d) (cond b (Some (seen_points d)) None)) (and_from (is_ty r.ty RemoteCse) (is_attr Poa Poa) remote refl) ∙ shown_or (is_shown home nodes o r Poa) d (seen_points d)) r.attrs)
+    ap first_url (value-shown (seen_value home nodes o r) Poa (λ d. cond (is_shown home nodes o r Poa) d (seen_points d)) (λ d. points_shown home nodes o r remote d ∙ shown_or (is_shown home nodes o r Poa) d (seen_points d)) r.attrs)
     ∙ points_same (is_shown home nodes o r Poa) (value_of Poa r.attrs)
 
 pub seen_shows : (home : HomeData) (nodes : List ResourceData) (o : List ℕ) (r : ResourceData) → Shows home nodes o r (seen home nodes o r)

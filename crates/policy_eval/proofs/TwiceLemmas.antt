@@ -10,7 +10,6 @@ use Rattle.std.specs.Int.{bit_at}
 use Rattle.std.specs.List.{AllZip, cons_option, filter_map}
 use Rattle.std.specs.Option.{option_and_then, option_map_or, option_or}
 use Rattle.m2m_names.specs.declared.attributes.Attr.{Attr}
-use Rattle.m2m_names.specs.declared.attributes.Attr.TheVariants.{Pv, Pvs}
 use Rattle.m2m_value.specs.Data.{Data, text, list, elements_of}
 use Rattle.resource_model.specs.Attributes.{Row}
 use Rattle.resource_model.specs.Home.{HomeData}
@@ -20,11 +19,10 @@ use Rattle.tree_model.proofs.GrowthLemmas.{at-without, below_lacks, growth, next
 use Rattle.tree_model.proofs.KeptLemmas.{is_tree-without}
 use Rattle.tree_model.proofs.LiveLemmas.{at-without_parent, due-without}
 use Rattle.tree_model.proofs.TreeLemmas.{at-append, at-map, at_none}
-use Rattle.policy_eval.specs.Alike.{is_one_of}
 use Rattle.policy_eval.specs.Originators.{is_same}
 use Rattle.policy_eval.specs.Rules.{rules_in, texts_of, elements_in}
 use Rattle.policy_eval.specs.Rights.{bits_by}
-use Rattle.policy_eval.specs.Seen.{retrieve_bit, discovery_bit, create_bit, may, fills, is_filled_in, may_use, is_shown, is_url, first_url, plain_rules, seen_rules, seen_points, is_way, seen_value, seen_row, another, seen_owner, seen_ct, seen_lt, seen_et, seen, seen_list}
+use Rattle.policy_eval.specs.Seen.{retrieve_bit, discovery_bit, create_bit, may, fills, is_filled_in, may_use, is_shown, is_url, first_url, plain_rules, seen_rules, seen_points, is_rules, is_way, seen_value, seen_row, another, seen_owner, seen_ct, seen_lt, seen_et, seen, seen_list}
 use Rattle.policy_eval.proofs.AlikeLemmas.{without-zip, map_from_zip}
 use Rattle.policy_eval.proofs.BitLemmas.{IsBelow, has_more}
 use Rattle.policy_eval.proofs.RemovalLemmas.{Keeps, keeps_without, rules_less, fan_less}
@@ -203,8 +201,8 @@ module _ (home : HomeData) (nodes : List ResourceData) (o : List ℕ) (well : is
 
           value_seen : (a : Attr) (d : Data) → option_and_then (seen_value home had o (seen home nodes o r) a) (seen_value home nodes o r a d) ≡ seen_value home left o r a d
           value_seen a d =
-              ap (λ b. option_and_then (value_by home o b (is_one_of (Pv ∷ Pvs ∷ []) a) (is_way r a)) (seen_value home nodes o r a d)) (is_shown-seen home o nodes left a r)
-              ∙ value_twice home o (is_shown home left o r a) (is_shown home nodes o r a) (is_one_of (Pv ∷ Pvs ∷ []) a) (is_way r a) d (is_shown-more home o left nodes keeps r a)
+              ap (λ b. option_and_then (value_by home o b (is_rules r a) (is_way r a)) (seen_value home nodes o r a d)) (is_shown-seen home o nodes left a r)
+              ∙ value_twice home o (is_shown home left o r a) (is_shown home nodes o r a) (is_rules r a) (is_way r a) d (is_shown-more home o left nodes keeps r a)
 
   module _ (r : ResourceData) (found : at r.number (without picks nodes) ≡ Some r) where
     there : at r.number nodes ≡ Some r

@@ -4,7 +4,7 @@ use Rattle.std.specs.List.{AllZip, list_any}
 use Rattle.m2m_names.specs.declared.attributes.Attr.{Attr}
 use Rattle.m2m_names.specs.declared.attributes.Attr.TheVariants.{Acpi, Aei, Csi, Macp, Pv, Pvs}
 use Rattle.m2m_names.specs.declared.types.Ty.{Ty}
-use Rattle.m2m_names.specs.declared.types.Ty.TheVariants.{Ae, RemoteCse}
+use Rattle.m2m_names.specs.declared.types.Ty.TheVariants.{AccessControlPolicy, Ae, RemoteCse}
 use Rattle.resource_model.specs.Attributes.{is_attr, value_of}
 use Rattle.resource_model.specs.Home.{HomeData}
 use Rattle.resource_model.specs.Resource.{ResourceData, is_ty}
@@ -31,8 +31,8 @@ abbrev pub shape_attrs : Ty → List Attr
 shape_attrs ty = Acpi ∷ Macp ∷ id_attrs ty
 
 -- Two resources stand at one place, and the originator is judged alike by them: it owns both or
--- neither, by what they are judged and named is the same, and their rules give it the same
--- bits (TS-0001, 9.6.2).
+-- neither, by what they are judged and named is the same, and where they are policies, their
+-- rules give it the same bits (TS-0001, 9.6.2).
 pub record Alike (home : HomeData) (o : List ℕ) (s r : ResourceData) : Type 0 where
   pub number : s.number ≡ r.number
   pub ty : s.ty ≡ r.ty
@@ -40,8 +40,10 @@ pub record Alike (home : HomeData) (o : List ℕ) (s r : ResourceData) : Type 0 
   pub parent : s.parent ≡ r.parent
   pub owned : is_same home o s.owner ≡ is_same home o r.owner
   pub shape : Agree (shape_attrs r.ty) s r
-  pub pv : bits_by home o (rules_in (value_of Pv s.attrs)) ≡ bits_by home o (rules_in (value_of Pv r.attrs))
-  pub pvs : bits_by home o (rules_in (value_of Pvs s.attrs)) ≡ bits_by home o (rules_in (value_of Pvs r.attrs))
+  pub pv : is_ty r.ty AccessControlPolicy ≡ true →
+      bits_by home o (rules_in (value_of Pv s.attrs)) ≡ bits_by home o (rules_in (value_of Pv r.attrs))
+  pub pvs : is_ty r.ty AccessControlPolicy ≡ true →
+      bits_by home o (rules_in (value_of Pvs s.attrs)) ≡ bits_by home o (rules_in (value_of Pvs r.attrs))
 
 -- two lists are alike, place by place
 abbrev pub AreAlike : HomeData → List ℕ → List ResourceData → List ResourceData → Type 0

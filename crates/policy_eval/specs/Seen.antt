@@ -4,7 +4,7 @@ use Rattle.std.specs.List.{filter_map}
 use Rattle.std.specs.Option.{option_map_or}
 use Rattle.m2m_names.specs.declared.attributes.Attr.{Attr}
 use Rattle.m2m_names.specs.declared.attributes.Attr.TheVariants.{Cs, Csy, Lbl, Mbs, Mia, Mid, Mni, Mnm, Mt, Poa, Pv, Pvs, St}
-use Rattle.m2m_names.specs.declared.types.Ty.TheVariants.{Container, ContentInstance, Group, RemoteCse}
+use Rattle.m2m_names.specs.declared.types.Ty.TheVariants.{AccessControlPolicy, Container, ContentInstance, Group, RemoteCse}
 use Rattle.m2m_names.specs.UrlReading.{host_end_at}
 use Rattle.m2m_value.specs.Data.{Data, list, number, object, text, elements_of, pairs_of}
 use Rattle.resource_model.specs.Attributes.{Row, is_attr, value_of}
@@ -92,6 +92,10 @@ plain_rules bits =
 abbrev pub seen_rules : HomeData → List ℕ → Data → Data
 seen_rules home o rules = plain_rules (bits_by home o (rules_in (Some rules)))
 
+-- the rules of a policy
+abbrev pub is_rules : ResourceData → Attr → Bool
+is_rules r a = is_ty r.ty AccessControlPolicy && is_one_of (Pv ∷ Pvs ∷ []) a
+
 -- a URL of a point of access (RFC 3986)
 abbrev pub is_url : List ℕ → Bool
 is_url address = is_some (host_end_at address)
@@ -112,7 +116,7 @@ is_way r a = is_ty r.ty RemoteCse && is_attr a Poa
 abbrev pub seen_value : HomeData → List ResourceData → List ℕ → ResourceData → Attr → Data → Option Data
 seen_value home nodes o r a d =
     if is_shown home nodes o r a then Some d else
-    if is_one_of (Pv ∷ Pvs ∷ []) a then Some (seen_rules home o d) else
+    if is_rules r a then Some (seen_rules home o d) else
     if is_way r a then Some (seen_points d) else None
 
 abbrev pub seen_row : HomeData → List ResourceData → List ℕ → ResourceData → Row → Option Row
@@ -188,7 +192,7 @@ pub record Shows (home : HomeData) (nodes : List ResourceData) (o : List ℕ) (r
   pub used : may_use home nodes o r ≡ true → Agree member_attrs s r
   -- nothing else
   pub hidden : (a : Attr) → is_shown home nodes o r a ≡ false →
-      is_one_of (Pv ∷ Pvs ∷ []) a ≡ false → is_way r a ≡ false → value_of a s.attrs ≡ None
+      is_rules r a ≡ false → is_way r a ≡ false → value_of a s.attrs ≡ None
   -- hidden moments are 0, but when it is due is seen
   pub silent_ct : may home nodes o retrieve_bit r ≡ false → may home nodes o discovery_bit r ≡ false →
       is_filled_in home nodes o r ≡ false → s.ct ≡ 0
