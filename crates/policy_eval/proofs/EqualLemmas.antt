@@ -4,7 +4,7 @@ use Rattle.std.proofs.Common.{◌≡◌, ℕ, List, Bool, true, false, ◌&&◌,
 use Rattle.std.proofs.lemmas.Option.{same_Some}
 use Rattle.std.specs.Option.{option_map_or}
 use Rattle.m2m_names.specs.declared.attributes.Attr.{Attr}
-use Rattle.m2m_names.specs.declared.attributes.Attr.TheVariants.{Poa, Pv, Pvs}
+use Rattle.m2m_names.specs.declared.attributes.Attr.TheVariants.{Pv, Pvs}
 use Rattle.m2m_names.specs.declared.types.Ty.{Ty}
 use Rattle.m2m_names.specs.declared.types.Ty.TheVariants.{AccessControlPolicy, Container, ContentInstance, Group, RemoteCse}
 use Rattle.resource_model.specs.Attributes.{value_of}
@@ -16,7 +16,7 @@ use Rattle.policy_eval.specs.Alike.{Alike, is_one_of, shape_attrs}
 use Rattle.policy_eval.specs.Originators.{is_same}
 use Rattle.policy_eval.specs.Rules.{rules_in, fan_rules}
 use Rattle.policy_eval.specs.Rights.{bits_by, has_bits}
-use Rattle.policy_eval.specs.Seen.{create_bit, retrieve_bit, discovery_bit, may, fills, is_filled_in, may_use, found_attrs, limit_attrs, size_attrs, member_attrs, is_shown, is_rules, is_way, first_url, seen, seen_list, Shows}
+use Rattle.policy_eval.specs.Seen.{create_bit, retrieve_bit, discovery_bit, may, fills, is_filled_in, may_use, found_attrs, limit_attrs, size_attrs, member_attrs, is_shown, is_rules, is_way, way_in, seen, seen_list, Shows}
 use Rattle.policy_eval.proofs.AlikeLemmas.{rules-alike, fan_rules-alike}
 use Rattle.policy_eval.proofs.SeenLemmas.{at-seen, seen_alike, seen_map_alike, seen_shows}
 
@@ -127,7 +127,7 @@ module _ (home : HomeData) (o : List ℕ) (xs ys : List ResourceData) (same : se
           always = same_alike s h.always;
           way = λ remote.
               let was : is_ty r.ty RemoteCse ≡ true = ap (λ (x : ResourceData). is_ty x.ty RemoteCse) e ∙ remote in
-              h.way was ∙ through (λ (x : ResourceData). first_url (value_of Poa x.attrs)) (left.way was) (right.way remote);
+              h.way was ∙ through (λ (x : ResourceData). way_in x.attrs) (left.way was) (right.way remote);
           retrieved = λ may_it.
               let was = retrieves ∙ may_it in
               let mine = h.retrieved was in

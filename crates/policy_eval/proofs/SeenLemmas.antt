@@ -1,19 +1,23 @@
 -- What an originator sees keeps its rights.
 use Rattle.std.specs.Prelude.{codes, nat_eq, nat_lt}
-use Rattle.std.proofs.Common.{◌≡◌, ℕ, ◌<◌, List, [], ◌∷◌, ◌++◌, map, length, Bool, true, false, cond, Option, Some, None, option_map, option_to_list, inl, inr, refl, sym, ap, ◌∙◌, subst, arith, append_assoc, length-append}
+use Rattle.std.proofs.Common.{◌≡◌, ℕ, ◌<◌, List, [], ◌∷◌, ◌++◌, map, length, Bool, true, false, cond, Option, Some, None, option_map, inl, inr, refl, sym, ap, ◌∙◌, subst, arith, append_assoc, length-append}
 use Rattle.std.proofs.lemmas.Bool.{cases_Bool, lt-ltb, ltb-true, false_from_ne_true, or_left, or_right, or_from, and_from, and_right, cond-true, cond-false}
 use Rattle.std.proofs.lemmas.Nat.{or_lt}
 use Rattle.std.proofs.lemmas.Nat.Bits.{bit_at_or, bit_at-zero, same_from_bits}
 use Rattle.std.proofs.lemmas.Option.{same_Some}
 use Rattle.std.proofs.lemmas.Slice.Eq.{bytes_eq-Decides}
-use Rattle.std.specs.List.{cons_option, filter_map, find, starts_with}
-use Rattle.std.specs.Option.{option_and_then, option_map_or}
+use Rattle.std.specs.List.{AllByRecursion, cons_option, filter_map, find, starts_with}
+use Rattle.std.specs.Option.{option_and_then, option_map_or, option_or}
+use Rattle.std.specs.List.Sorted.{IsStrictlySortedBy}
+use Rattle.std.specs.Map.{keys_of}
+use Rattle.std.specs.Ordering.{is_eq}
 use Rattle.std.specs.Prelude.{ℤ, pos, negsuc}
+use Rattle.std.specs.declared.cmp.Ordering.TheVariants.{Less}
 use Rattle.m2m_names.specs.declared.attributes.Attr.{Attr}
 use Rattle.m2m_names.specs.declared.attributes.Attr.TheVariants.{Poa, Pv, Pvs}
 use Rattle.m2m_names.specs.declared.types.Ty.TheVariants.{AccessControlPolicy, RemoteCse}
-use Rattle.m2m_value.specs.Data.{Data, text, list, elements_of}
-use Rattle.resource_model.specs.Attributes.{Row, is_attr, value_of}
+use Rattle.m2m_value.specs.Data.{Data}
+use Rattle.resource_model.specs.Attributes.{AreInOrder, Row, attr_cmp, is_attr, value_of}
 use Rattle.resource_model.specs.Home.{HomeData}
 use Rattle.resource_model.specs.Resource.{ResourceData, is_ty, ae_id}
 use Rattle.tree_model.specs.Tree.{at, child_of}
@@ -23,7 +27,7 @@ use Rattle.policy_eval.specs.Originators.{full_form, own_lead, is_same}
 use Rattle.policy_eval.specs.Rules.{texts_of, member_at, number_at, sum_of_bits, rule_of, rules_in, elements_in}
 use Rattle.policy_eval.specs.Rights.{is_among, with_rule, with_rules, bits_by, grants, relinks, fan_grants}
 use Rattle.policy_eval.specs.Alike.{is_one_of, shape_attrs, Alike, AreAlike}
-use Rattle.policy_eval.specs.Seen.{is_url, first_url, seen_points, retrieve_bit, discovery_bit, may, fills, is_filled_in, may_use, found_attrs, limit_attrs, size_attrs, member_attrs, Shows, is_shown, plain_rules, seen_rules, is_rules, is_way, seen_value, another, seen_owner, seen, seen_list}
+use Rattle.policy_eval.specs.Seen.{is_url, first_url, only_point, seen_points, way_in, retrieve_bit, discovery_bit, may, fills, is_filled_in, may_use, found_attrs, limit_attrs, size_attrs, member_attrs, Shows, is_shown, plain_rules, seen_rules, is_rules, is_way, seen_value, another, seen_owner, seen, seen_list}
 use Rattle.policy_eval.proofs.AlikeLemmas.{GiveSame, same_itself, same_from_by, alike-map, child-alike, ae_id-alike, grants-alike, relinks-alike, fan_grants-alike}
 
 -- ---- values
@@ -128,7 +132,7 @@ shape_shown home nodes o r a one = or_left _ _ (or_left _ _ (or_left _ _ (or_lef
 -- of the rules of a policy either all is seen or what they give
 rules_shown : (home : HomeData) (nodes : List ResourceData) (o : List ℕ) (r : ResourceData) (a : Attr) → is_rules r a ≡ true → (d : Data) → seen_value home nodes o r a d ≡ Some (cond (is_shown home nodes o r a) d (seen_rules home o d))
 rules_shown home nodes o r a rules d =
-    ap (λ b. cond (is_shown home nodes o r a) (Some d) (cond b (Some (seen_rules home o d)) (cond (is_way r a) (Some (seen_points d)) None))) rules
+    ap (λ b. cond (is_shown home nodes o r a) (Some d) (cond b (Some (seen_rules home o d)) (cond (is_way r a) (seen_points d) None))) rules
     ∙ shown_or (is_shown home nodes o r a) d (seen_rules home o d)
 
 -- what is seen of a resource is alike to it, and so is the list
@@ -205,26 +209,64 @@ find_passes p (y ∷ ys) x found = elim (cases_Bool (p y)) [
   | inr f ↦ find_passes p ys x (rw f at found)
 ]
 
--- the first URL of what is seen of points of access is their first URL
-pub one_point : (x : Option (List ℕ)) → ((u : List ℕ) → x ≡ Some u → is_url u ≡ true) → first_url (Some (list (elements_of (map text (option_to_list x))))) ≡ x
-one_point None passes = refl
-one_point (Some u) passes = rw (passes u refl) refl
+-- the first URL of a URL alone is that URL
+pub one_point : (u : List ℕ) → is_url u ≡ true → first_url (Some (only_point u)) ≡ Some u
+one_point u is = rw is refl
 
-points_same : (s : Bool) (v : Option Data) → first_url (option_map (λ d. cond s d (seen_points d)) v) ≡ first_url v
-points_same s None = refl
-points_same true (Some d) = refl
-points_same false (Some d) = one_point (first_url (Some d)) (find_passes is_url (texts_of (elements_in (Some d))))
+pub first_passes : (d : Data) (u : List ℕ) → first_url (Some d) ≡ Some u → is_url u ≡ true
+first_passes d u first = find_passes is_url (texts_of (elements_in (Some d))) u first
+
+-- a row of points of access that is shown, or of which the first URL is shown
+one_way : (b : Attr) (d : Data) (s : Bool) → is_attr Poa b ≡ true → (more less : List Row) → way_in more ≡ way_in less → way_in (cons_option (option_map (λ (x : Data). (b, x)) (cond s (Some d) (seen_points d))) more) ≡ option_or (first_url (Some d)) (way_in less)
+one_way b d true is more less same = rw is (ap (option_or (first_url (Some d))) same)
+one_way b d false is more less same = by_first (first_url (Some d)) (first_passes d)
+  where
+    by_first : (x : Option (List ℕ)) → ((u : List ℕ) → x ≡ Some u → is_url u ≡ true) → way_in (cons_option (option_map (λ (y : Data). (b, y)) (option_map only_point x)) more) ≡ option_or x (way_in less)
+    by_first None passes = same
+    by_first (Some u) passes = rw (is, passes u refl) refl
+
+other_way : (b : Attr) (x : Option Data) (more : List Row) → is_attr Poa b ≡ false → way_in (cons_option (option_map (λ (d : Data). (b, d)) x) more) ≡ way_in more
+other_way b None more other = refl
+other_way b (Some d) more other = rw other refl
+
+way-kept : (h : Attr → Data → Option Data) (s : Bool) → ((d : Data) → h Poa d ≡ cond s (Some d) (seen_points d)) → (rows : List Row) → way_in (filter_map (λ (row : Row). option_map (λ (d : Data). (row.0, d)) (h row.0 row.1)) rows) ≡ way_in rows
+way-kept h s points [] = refl
+way-kept h s points (row ∷ rows) = elim (cases_Bool (is_attr Poa row.0)) [
+  | inl t ↦
+      let here : h row.0 row.1 ≡ cond s (Some row.1) (seen_points row.1) = subst (λ (b : Attr). h b row.1 ≡ cond s (Some row.1) (seen_points row.1)) (is_attr-same Poa row.0 t) (points row.1) in
+      rw (here, t) (one_way row.0 row.1 s t _ rows (way-kept h s points rows))
+  | inr f ↦ other_way row.0 (h row.0 row.1) _ f ∙ way-kept h s points rows ∙ rw f refl
+]
 
 -- of the points of access of a remote CSE either all is seen or the first URL
-points_shown : (home : HomeData) (nodes : List ResourceData) (o : List ℕ) (r : ResourceData) → is_ty r.ty RemoteCse ≡ true → (d : Data) → seen_value home nodes o r Poa d ≡ cond (is_shown home nodes o r Poa) (Some d) (Some (seen_points d))
+points_shown : (home : HomeData) (nodes : List ResourceData) (o : List ℕ) (r : ResourceData) → is_ty r.ty RemoteCse ≡ true → (d : Data) → seen_value home nodes o r Poa d ≡ cond (is_shown home nodes o r Poa) (Some d) (seen_points d)
 points_shown home nodes o r remote d =
-    ap (λ b. cond (is_shown home nodes o r Poa) (Some d) (cond b (Some (seen_rules home o d)) (cond (is_way r Poa) (Some (seen_points d)) None))) (and_right (is_ty r.ty AccessControlPolicy) _ refl)
-    ∙ ap (λ b. cond (is_shown home nodes o r Poa) (Some d) (cond b (Some (seen_points d)) None)) (and_from (is_ty r.ty RemoteCse) _ remote refl)
+    ap (λ b. cond (is_shown home nodes o r Poa) (Some d) (cond b (Some (seen_rules home o d)) (cond (is_way r Poa) (seen_points d) None))) (and_right (is_ty r.ty AccessControlPolicy) _ refl)
+    ∙ ap (λ b. cond (is_shown home nodes o r Poa) (Some d) (cond b (seen_points d) None)) (and_from (is_ty r.ty RemoteCse) _ remote refl)
 
-way_shown : (home : HomeData) (nodes : List ResourceData) (o : List ℕ) (r : ResourceData) → is_ty r.ty RemoteCse ≡ true → first_url (value_of Poa (seen home nodes o r).attrs) ≡ first_url (value_of Poa r.attrs)
+way_shown : (home : HomeData) (nodes : List ResourceData) (o : List ℕ) (r : ResourceData) → is_ty r.ty RemoteCse ≡ true → way_in (seen home nodes o r).attrs ≡ way_in r.attrs
 way_shown home nodes o r remote =
-    ap first_url (value-shown (seen_value home nodes o r) Poa (λ d. cond (is_shown home nodes o r Poa) d (seen_points d)) (λ d. points_shown home nodes o r remote d ∙ shown_or (is_shown home nodes o r Poa) d (seen_points d)) r.attrs)
-    ∙ points_same (is_shown home nodes o r Poa) (value_of Poa r.attrs)
+    way-kept (seen_value home nodes o r) (is_shown home nodes o r Poa) (points_shown home nodes o r remote) r.attrs
+
+-- rows that are in order have one row of `poa` at most
+no_way : (a : Attr) (rows : List Row) → AllByRecursion (λ b. attr_cmp a b ≡ Less) (keys_of rows) → is_attr Poa a ≡ true → way_in rows ≡ None
+no_way a [] later is = refl
+no_way a (row ∷ rows) later is =
+    let other : is_attr Poa row.0 ≡ false = subst (λ (b : Attr). is_attr b row.0 ≡ false) (sym (is_attr-same Poa a is)) (ap is_eq later.0) in
+    rw other (no_way a rows later.1 is)
+
+-- so they reach by the first URL of the value of `poa`
+pub way-in_order : (rows : List Row) → AreInOrder rows → way_in rows ≡ first_url (value_of Poa rows)
+unfolding IsStrictlySortedBy
+way-in_order [] sorted = refl
+way-in_order (row ∷ rows) sorted = elim (cases_Bool (is_attr Poa row.0)) [
+  | inl t ↦ rw (t, no_way row.0 rows sorted.0 t) (alone (first_url (Some row.1)))
+  | inr f ↦ rw f (way-in_order rows sorted.1)
+]
+  where
+    alone : (x : Option (List ℕ)) → option_or x None ≡ x
+    alone None = refl
+    alone (Some u) = refl
 
 pub seen_shows : (home : HomeData) (nodes : List ResourceData) (o : List ℕ) (r : ResourceData) → Shows home nodes o r (seen home nodes o r)
 seen_shows home nodes o r = record {

@@ -1,6 +1,6 @@
 -- What an originator sees of what is left of its sight is what it sees of what is left.
 use Rattle.std.specs.Prelude.{nat_lt, unwrap_or}
-use Rattle.std.proofs.Common.{◌≡◌, ℕ, List, [], ◌∷◌, ◌++◌, map, Bool, true, false, cond, ◌&&◌, ◌||◌, Option, Some, None, option_map, option_to_list, inl, inr, refl, sym, ap, ◌∙◌, subst, arith}
+use Rattle.std.proofs.Common.{◌≡◌, ℕ, List, [], ◌∷◌, ◌++◌, map, Bool, true, false, cond, ◌&&◌, ◌||◌, Option, Some, None, option_map, inl, inr, refl, sym, ap, ◌∙◌, subst, arith}
 use Rattle.std.proofs.lemmas.Bool.{cases_Bool, both_ways, and_from, and_parts, eq-eqb, or_cases, or_left, or_right, ltb-false}
 use Rattle.std.proofs.lemmas.List.{map-append}
 use Rattle.std.proofs.lemmas.List.Elements.{AllZip-push}
@@ -10,7 +10,7 @@ use Rattle.std.specs.Int.{bit_at}
 use Rattle.std.specs.List.{AllZip, cons_option, filter_map}
 use Rattle.std.specs.Option.{option_and_then, option_map_or, option_or}
 use Rattle.m2m_names.specs.declared.attributes.Attr.{Attr}
-use Rattle.m2m_value.specs.Data.{Data, text, list, elements_of}
+use Rattle.m2m_value.specs.Data.{Data}
 use Rattle.resource_model.specs.Attributes.{Row}
 use Rattle.resource_model.specs.Home.{HomeData}
 use Rattle.resource_model.specs.Resource.{ResourceData}
@@ -20,13 +20,13 @@ use Rattle.tree_model.proofs.KeptLemmas.{is_tree-without}
 use Rattle.tree_model.proofs.LiveLemmas.{at-without_parent, due-without}
 use Rattle.tree_model.proofs.TreeLemmas.{at-append, at-map, at_none}
 use Rattle.policy_eval.specs.Originators.{is_same}
-use Rattle.policy_eval.specs.Rules.{rules_in, texts_of, elements_in}
+use Rattle.policy_eval.specs.Rules.{rules_in}
 use Rattle.policy_eval.specs.Rights.{bits_by}
-use Rattle.policy_eval.specs.Seen.{retrieve_bit, discovery_bit, create_bit, may, fills, is_filled_in, may_use, is_shown, is_url, first_url, plain_rules, seen_rules, seen_points, is_rules, is_way, seen_value, seen_row, another, seen_owner, seen_ct, seen_lt, seen_et, seen, seen_list}
+use Rattle.policy_eval.specs.Seen.{retrieve_bit, discovery_bit, create_bit, may, fills, is_filled_in, may_use, is_shown, is_url, first_url, only_point, plain_rules, seen_rules, seen_points, is_rules, is_way, seen_value, seen_row, another, seen_owner, seen_ct, seen_lt, seen_et, seen, seen_list}
 use Rattle.policy_eval.proofs.AlikeLemmas.{without-zip, map_from_zip}
 use Rattle.policy_eval.proofs.BitLemmas.{IsBelow, has_more}
 use Rattle.policy_eval.proofs.RemovalLemmas.{Keeps, keeps_without, rules_less, fan_less}
-use Rattle.policy_eval.proofs.SeenLemmas.{at-seen, plain_bits, bits_below, owner_seen, find_passes, one_point}
+use Rattle.policy_eval.proofs.SeenLemmas.{at-seen, plain_bits, bits_below, owner_seen, first_passes, one_point}
 use Rattle.policy_eval.proofs.EqualLemmas.{may-seen, is_filled_in-seen, is_shown-seen}
 use Rattle.policy_eval.proofs.DueLemmas.{due-seen, is_due-seen}
 
@@ -77,9 +77,12 @@ twice_filtered f g h same (x ∷ xs) = joined_option f (g x) (h x) (filter_map g
 rules_twice : (home : HomeData) (o : List ℕ) (d : Data) → seen_rules home o (seen_rules home o d) ≡ seen_rules home o d
 rules_twice home o d = ap plain_rules (plain_bits home o (bits_by home o (rules_in (Some d))) (bits_below home o (Some d)))
 
-points_twice : (d : Data) → seen_points (seen_points d) ≡ seen_points d
-points_twice d =
-    ap (λ (x : Option (List ℕ)). list (elements_of (map text (option_to_list x)))) (one_point (first_url (Some d)) (find_passes is_url (texts_of (elements_in (Some d)))))
+points_twice : (d : Data) → option_and_then seen_points (seen_points d) ≡ seen_points d
+points_twice d = by_first (first_url (Some d)) (first_passes d)
+  where
+    by_first : (x : Option (List ℕ)) → ((u : List ℕ) → x ≡ Some u → is_url u ≡ true) → option_and_then seen_points (option_map only_point x) ≡ option_map only_point x
+    by_first None passes = refl
+    by_first (Some u) passes = ap (option_map only_point) (one_point u (passes u refl))
 
 owner_twice : (home : HomeData) (o : List ℕ) (r : ResourceData) → cond (is_same home o (seen_owner home o r)) o (another o) ≡ seen_owner home o r
 owner_twice home o r = ap (λ b. cond b o (another o)) (owner_seen home o r)
@@ -87,13 +90,13 @@ owner_twice home o r = ap (λ b. cond b o (another o)) (owner_seen home o r)
 -- what is seen of a value, by whether it is shown, lists rules, or is a way
 abbrev pub value_by : HomeData → List ℕ → Bool → Bool → Bool → Data → Option Data
 value_by home o shows rules way d =
-    cond shows (Some d) (cond rules (Some (seen_rules home o d)) (cond way (Some (seen_points d)) None))
+    cond shows (Some d) (cond rules (Some (seen_rules home o d)) (cond way (seen_points d) None))
 
 value_twice : (home : HomeData) (o : List ℕ) (less more rules way : Bool) (d : Data) → (less ≡ true → more ≡ true) → option_and_then (value_by home o less rules way) (value_by home o more rules way d) ≡ value_by home o less rules way d
 value_twice home o less true rules way d kept = refl
 value_twice home o true false rules way d kept = absurd (both_ways false refl (kept refl))
 value_twice home o false false true way d kept = ap (λ x. Some x) (rules_twice home o d)
-value_twice home o false false false true d kept = ap (λ x. Some x) (points_twice d)
+value_twice home o false false false true d kept = points_twice d
 value_twice home o false false false false d kept = refl
 
 -- ---- what rights show on the lesser list they show on the greater

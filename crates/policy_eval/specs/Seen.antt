@@ -1,7 +1,7 @@
 -- What an originator sees of a list of resources: the list with what it may not see cut out.
-use Rattle.std.specs.Prelude.{◌≡◌, ℕ, pos, nat_lt, Bool, true, false, ◌&&◌, ◌||◌, List, [], ◌∷◌, ◌++◌, map, codes, Option, Some, None, option_map, option_to_list, unwrap_or, find, is_some, if◌then◌else◌}
+use Rattle.std.specs.Prelude.{◌≡◌, ℕ, pos, nat_lt, Bool, true, false, ◌&&◌, ◌||◌, List, [], ◌∷◌, ◌++◌, map, codes, Option, Some, None, option_map, unwrap_or, find, is_some, if◌then◌else◌}
 use Rattle.std.specs.List.{filter_map}
-use Rattle.std.specs.Option.{option_map_or}
+use Rattle.std.specs.Option.{option_map_or, option_or}
 use Rattle.m2m_names.specs.declared.attributes.Attr.{Attr}
 use Rattle.m2m_names.specs.declared.attributes.Attr.TheVariants.{Cs, Csy, Lbl, Mbs, Mia, Mid, Mni, Mnm, Mt, Poa, Pv, Pvs, St}
 use Rattle.m2m_names.specs.declared.types.Ty.TheVariants.{AccessControlPolicy, Container, ContentInstance, Group, RemoteCse}
@@ -104,9 +104,19 @@ is_url address = is_some (host_end_at address)
 abbrev pub first_url : Option Data → Option (List ℕ)
 first_url points = find is_url (texts_of (elements_in points))
 
--- of the points of access of a remote CSE the originator sees that one
-abbrev pub seen_points : Data → Data
-seen_points points = list (elements_of (map text (option_to_list (first_url (Some points)))))
+-- the URL as the only point of access
+abbrev pub only_point : List ℕ → Data
+only_point url = list (elements_of (text url ∷ []))
+
+-- of the points of access of a remote CSE the originator sees the first that is a URL, where one is
+abbrev pub seen_points : Data → Option Data
+seen_points points = option_map only_point (first_url (Some points))
+
+-- the first URL in rows of `poa`; where rows are in order, one at most is of `poa`, and it is that one's
+abbrev pub way_in : List Row → Option (List ℕ)
+way_in [] = None
+way_in (row ∷ rows) =
+    if is_attr Poa row.0 then option_or (first_url (Some row.1)) (way_in rows) else way_in rows
 
 -- the points of access of a remote CSE
 abbrev pub is_way : ResourceData → Attr → Bool
@@ -117,7 +127,7 @@ abbrev pub seen_value : HomeData → List ResourceData → List ℕ → Resource
 seen_value home nodes o r a d =
     if is_shown home nodes o r a then Some d else
     if is_rules r a then Some (seen_rules home o d) else
-    if is_way r a then Some (seen_points d) else None
+    if is_way r a then seen_points d else None
 
 abbrev pub seen_row : HomeData → List ResourceData → List ℕ → ResourceData → Row → Option Row
 seen_row home nodes o r row =
@@ -176,8 +186,7 @@ pub record Shows (home : HomeData) (nodes : List ResourceData) (o : List ℕ) (r
   -- always: where it stands, whether the originator owns it, by what it is judged, named and
   -- reached, and what its rules give the originator
   pub always : Alike home o s r
-  pub way : is_ty r.ty RemoteCse ≡ true →
-      first_url (value_of Poa s.attrs) ≡ first_url (value_of Poa r.attrs)
+  pub way : is_ty r.ty RemoteCse ≡ true → way_in s.attrs ≡ way_in r.attrs
   -- with RETRIEVE all but another owner's name
   pub retrieved : may home nodes o retrieve_bit r ≡ true →
       (s.attrs ≡ r.attrs) × (s.ct ≡ r.ct) × (s.lt ≡ r.lt) × (s.et ≡ r.et)
