@@ -4,7 +4,7 @@ use Rattle.std.proofs.Common.{◌≡◌, ℕ, List, Bool, true, false, ◌&&◌,
 use Rattle.std.proofs.lemmas.Option.{same_Some}
 use Rattle.std.specs.Option.{option_map_or}
 use Rattle.m2m_names.specs.declared.attributes.Attr.{Attr}
-use Rattle.m2m_names.specs.declared.attributes.Attr.TheVariants.{Pv, Pvs}
+use Rattle.m2m_names.specs.declared.attributes.Attr.TheVariants.{Poa, Pv, Pvs}
 use Rattle.m2m_names.specs.declared.types.Ty.{Ty}
 use Rattle.m2m_names.specs.declared.types.Ty.TheVariants.{AccessControlPolicy, Container, ContentInstance, Group, RemoteCse}
 use Rattle.resource_model.specs.Attributes.{value_of}
@@ -152,6 +152,15 @@ module _ (home : HomeData) (o : List ℕ) (xs ys : List ResourceData) (same : se
           used = λ may_it a one.
               let was = using_it ∙ may_it in
               h.used was a one ∙ value_through a (left.used was a one) (right.used may_it a one);
+          owner = h.owner ∙ sym left.owner ∙ ap (λ (x : ResourceData). x.owner) e ∙ right.owner;
+          rules = λ a rules hides.
+              let was : is_rules r a ≡ true = ap (λ (x : ResourceData). is_rules x a) e ∙ rules in
+              let hid = showing a ∙ hides in
+              h.rules a was hid ∙ sym (left.rules a was hid) ∙ ap (λ (x : ResourceData). value_of a x.attrs) e ∙ right.rules a rules hides;
+          points = λ remote hides.
+              let was : is_ty r.ty RemoteCse ≡ true = ap (λ (x : ResourceData). is_ty x.ty RemoteCse) e ∙ remote in
+              let hid = showing Poa ∙ hides in
+              h.points was hid ∙ sym (left.points was hid) ∙ ap (λ (x : ResourceData). value_of Poa x.attrs) e ∙ right.points remote hides;
           hidden = λ a hides other away. h.hidden a (showing a ∙ hides) (ap (λ (x : ResourceData). is_rules x a) e ∙ other) (ap (λ (x : ResourceData). is_way x a) e ∙ away);
           silent_ct = λ right_off tell never. h.silent_ct (retrieves ∙ right_off) (finds ∙ tell) (within ∙ never);
           silent_lt = λ right_off tell. h.silent_lt (retrieves ∙ right_off) (finds ∙ tell);

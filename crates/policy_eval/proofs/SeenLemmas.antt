@@ -248,6 +248,23 @@ way_shown : (home : HomeData) (nodes : List ResourceData) (o : List ℕ) (r : Re
 way_shown home nodes o r remote =
     way-kept (seen_value home nodes o r) (is_shown home nodes o r Poa) (points_shown home nodes o r remote) r.attrs
 
+-- where points of access are hidden, what is seen of them is the first URL
+one_point_shown : (b : Attr) (d : Data) → is_attr Poa b ≡ true → (more less : List Row) → value_of Poa more ≡ option_map only_point (way_in less) → value_of Poa (cons_option (option_map (λ (x : Data). (b, x)) (seen_points d)) more) ≡ option_map only_point (option_or (first_url (Some d)) (way_in less))
+one_point_shown b d is more less same = by_first (first_url (Some d))
+  where
+    by_first : (x : Option (List ℕ)) → value_of Poa (cons_option (option_map (λ (y : Data). (b, y)) (option_map only_point x)) more) ≡ option_map only_point (option_or x (way_in less))
+    by_first None = same
+    by_first (Some u) = rw is refl
+
+points-hidden : (h : Attr → Data → Option Data) → ((d : Data) → h Poa d ≡ seen_points d) → (rows : List Row) → value_of Poa (filter_map (λ (row : Row). option_map (λ (d : Data). (row.0, d)) (h row.0 row.1)) rows) ≡ option_map only_point (way_in rows)
+points-hidden h points [] = refl
+points-hidden h points (row ∷ rows) = elim (cases_Bool (is_attr Poa row.0)) [
+  | inl t ↦
+      let here : h row.0 row.1 ≡ seen_points row.1 = subst (λ (b : Attr). h b row.1 ≡ seen_points row.1) (is_attr-same Poa row.0 t) (points row.1) in
+      rw (here, t) (one_point_shown row.0 row.1 t _ rows (points-hidden h points rows))
+  | inr f ↦ skipped Poa row.0 (h row.0 row.1) _ f ∙ points-hidden h points rows ∙ rw f refl
+]
+
 -- rows that are in order have one row of `poa` at most
 no_way : (a : Attr) (rows : List Row) → AllByRecursion (λ b. attr_cmp a b ≡ Less) (keys_of rows) → is_attr Poa a ≡ true → way_in rows ≡ None
 no_way a [] later is = refl
@@ -277,6 +294,9 @@ seen_shows home nodes o r = record {
   filled = λ right a one. shown_kept home nodes o r a (limits_shown home nodes o r a right one);
   inside = λ right. (λ a one. shown_kept home nodes o r a (size_shown home nodes o r a right one), inside_ct right, inside_et right);
   used = λ right a one. shown_kept home nodes o r a (members_shown home nodes o r a right one);
+  owner = refl;
+  rules = λ a rules hides. value-shown (seen_value home nodes o r) a (seen_rules home o) (λ d. rules_shown home nodes o r a rules d ∙ ap (λ b. Some (cond b d (seen_rules home o d))) hides) r.attrs;
+  points = λ remote hides. points-hidden (seen_value home nodes o r) (λ d. points_shown home nodes o r remote d ∙ ap (λ b. cond b (Some d) (seen_points d)) hides) r.attrs;
   hidden = λ a hides other away. hidden_row (seen_value home nodes o r) a (λ d. rw (hides, other, away) refl) r.attrs;
   silent_ct = λ right tell never. cond-false _ r.ct 0 (or_from _ _ (or_from _ _ right tell) never);
   silent_lt = λ right tell. cond-false _ r.lt 0 (or_from _ _ right tell);

@@ -183,8 +183,8 @@ seen_list home nodes o = map (seen home nodes o) nodes
 
 -- what a resource s, seen by the originator, shows of the resource r
 pub record Shows (home : HomeData) (nodes : List ResourceData) (o : List ℕ) (r s : ResourceData) : Type 0 where
-  -- always: where it stands, whether the originator owns it, by what it is judged, named and
-  -- reached, and what its rules give the originator
+  -- always: where it stands, whether the originator owns it, by what it is judged and named, what
+  -- the rules of a policy give the originator, and the first URL of a remote CSE
   pub always : Alike home o s r
   pub way : is_ty r.ty RemoteCse ≡ true → way_in s.attrs ≡ way_in r.attrs
   -- with RETRIEVE all but another owner's name
@@ -199,7 +199,15 @@ pub record Shows (home : HomeData) (nodes : List ResourceData) (o : List ℕ) (r
       Agree size_attrs s r × (s.ct ≡ r.ct) × (s.et ≡ r.et)
   -- of a group that it may use
   pub used : may_use home nodes o r ≡ true → Agree member_attrs s r
-  -- nothing else
+  -- of an owner nothing but whether it is the originator
+  pub owner : s.owner ≡ seen_owner home o r
+  -- of hidden rules nothing but what they give the originator
+  pub rules : (a : Attr) → is_rules r a ≡ true → is_shown home nodes o r a ≡ false →
+      value_of a s.attrs ≡ option_map (seen_rules home o) (value_of a r.attrs)
+  -- of hidden points of access nothing but the first URL
+  pub points : is_ty r.ty RemoteCse ≡ true → is_shown home nodes o r Poa ≡ false →
+      value_of Poa s.attrs ≡ option_map only_point (way_in r.attrs)
+  -- of other hidden attributes nothing
   pub hidden : (a : Attr) → is_shown home nodes o r a ≡ false →
       is_rules r a ≡ false → is_way r a ≡ false → value_of a s.attrs ≡ None
   -- hidden moments are 0, but when it is due is seen
