@@ -1,7 +1,7 @@
 -- What an originator sees keeps its rights.
 use Rattle.std.specs.Prelude.{codes, nat_eq, nat_lt}
 use Rattle.std.proofs.Common.{◌≡◌, ℕ, ◌<◌, List, [], ◌∷◌, ◌++◌, map, length, Bool, true, false, cond, Option, Some, None, option_map, inl, inr, refl, sym, ap, ◌∙◌, subst, arith, append_assoc, length-append}
-use Rattle.std.proofs.lemmas.Bool.{cases_Bool, lt-ltb, ltb-true, false_from_ne_true, or_left, or_right, or_from, and_from, and_right, cond-true, cond-false}
+use Rattle.std.proofs.lemmas.Bool.{cases_Bool, lt-ltb, ltb-true, false_from_ne_true, or_cases, or_left, or_right, or_from, and_from, and_parts, and_right, cond-true, cond-false}
 use Rattle.std.proofs.lemmas.Nat.{or_lt}
 use Rattle.std.proofs.lemmas.Nat.Bits.{bit_at_or, bit_at-zero, same_from_bits}
 use Rattle.std.proofs.lemmas.Option.{same_Some}
@@ -27,7 +27,7 @@ use Rattle.policy_eval.specs.Originators.{full_form, own_lead, is_same}
 use Rattle.policy_eval.specs.Rules.{texts_of, member_at, number_at, sum_of_bits, rule_of, rules_in, elements_in}
 use Rattle.policy_eval.specs.Rights.{is_among, with_rule, with_rules, bits_by, grants, relinks, fan_grants}
 use Rattle.policy_eval.specs.Alike.{is_one_of, shape_attrs, Alike, AreAlike}
-use Rattle.policy_eval.specs.Seen.{is_url, first_url, only_point, seen_points, way_in, retrieve_bit, discovery_bit, may, fills, is_filled_in, may_use, found_attrs, limit_attrs, size_attrs, member_attrs, Shows, is_shown, plain_rules, seen_rules, is_rules, is_way, seen_value, another, seen_owner, seen, seen_list}
+use Rattle.policy_eval.specs.Seen.{is_url, first_url, only_point, seen_points, way_in, retrieve_bit, discovery_bit, may, fills, is_filled_in, may_use, found_attrs, limit_attrs, size_attrs, member_attrs, Shows, is_shown, plain_rules, seen_rules, is_rules, is_way, seen_value, another, seen_owner, seen_ct, seen_lt, seen_et, seen, seen_list}
 use Rattle.policy_eval.proofs.AlikeLemmas.{GiveSame, same_itself, same_from_by, alike-map, child-alike, ae_id-alike, grants-alike, relinks-alike, fan_grants-alike}
 
 -- ---- values
@@ -314,3 +314,74 @@ seen_shows home nodes o r = record {
 
     inside_et : is_filled_in home nodes o r ≡ true → (seen home nodes o r).et ≡ r.et
     inside_et right = cond-true _ r.et _ (or_right _ _ right)
+
+-- ---- what shows a resource so has the attributes and moments of its sight
+
+module _ (home : HomeData) (nodes : List ResourceData) (o : List ℕ) (r s : ResourceData) (shows : Shows home nodes o r s) where
+  by_rights : (a : Attr) → is_shown home nodes o r a ≡ true → value_of a s.attrs ≡ value_of a r.attrs
+  by_rights a shown = elim (or_cases _ _ shown) [
+    | inr used ↦ (let parts = and_parts (may_use home nodes o r) _ used in shows.used parts.0 a parts.1)
+    | inl shown ↦ elim (or_cases _ _ shown) [
+      | inr inside ↦ (let parts = and_parts (is_filled_in home nodes o r) _ inside in (shows.inside parts.0).0 a parts.1)
+      | inl shown ↦ elim (or_cases _ _ shown) [
+        | inr filled ↦ (let parts = and_parts (fills home nodes o r) _ filled in shows.filled parts.0 a parts.1)
+        | inl shown ↦ elim (or_cases _ _ shown) [
+          | inr found ↦ (let parts = and_parts (may home nodes o discovery_bit r) _ found in (shows.found parts.0).0 a parts.1)
+          | inl shown ↦ elim (or_cases (is_one_of (shape_attrs r.ty) a) _ shown) [
+            | inr right ↦ ap (value_of a) (shows.retrieved right).0
+            | inl one ↦ shows.always.shape a one
+          ]
+        ]
+      ]
+    ]
+  ]
+
+  pub value-pinned : (a : Attr) → value_of a s.attrs ≡ value_of a (seen home nodes o r).attrs
+  value-pinned a =
+      let sight = seen_shows home nodes o r in
+      elim (cases_Bool (is_shown home nodes o r a)) [
+        | inl shown ↦ by_rights a shown ∙ sym (shown_kept home nodes o r a shown)
+        | inr hides ↦ elim (cases_Bool (is_rules r a)) [
+          | inl rules ↦ shows.rules a rules hides ∙ sym (sight.rules a rules hides)
+          | inr other ↦ elim (cases_Bool (is_way r a)) [
+            | inl way ↦
+                let parts = and_parts (is_ty r.ty RemoteCse) (is_attr a Poa) way in
+                let same : a ≡ Poa = is_attr-same a Poa parts.1 in
+                let hid : is_shown home nodes o r Poa ≡ false = ap (is_shown home nodes o r) (sym same) ∙ hides in
+                subst (λ (b : Attr). value_of b s.attrs ≡ value_of b (seen home nodes o r).attrs) (sym same) (shows.points parts.0 hid ∙ sym (sight.points parts.0 hid))
+            | inr away ↦ shows.hidden a hides other away ∙ sym (sight.hidden a hides other away)
+          ]
+        ]
+      ]
+
+  pub moments-pinned : (s.ct ≡ seen_ct home nodes o r) × (s.lt ≡ seen_lt home nodes o r) × (s.et ≡ seen_et home nodes o r)
+  moments-pinned =
+      let sight = seen_shows home nodes o r in
+      elim (cases_Bool (may home nodes o retrieve_bit r)) [
+        | inl right ↦
+            let mine = shows.retrieved right in
+            let whole = sight.retrieved right in
+            (mine.1 ∙ sym whole.1, mine.2 ∙ sym whole.2, mine.3 ∙ sym whole.3)
+        | inr none ↦ (by_ct none, by_lt none, by_et none)
+      ]
+    where
+      by_lt : may home nodes o retrieve_bit r ≡ false → s.lt ≡ seen_lt home nodes o r
+      by_lt none = elim (cases_Bool (may home nodes o discovery_bit r)) [
+        | inl finds ↦ (shows.found finds).2 ∙ sym ((seen_shows home nodes o r).found finds).2
+        | inr silent ↦ shows.silent_lt none silent ∙ sym ((seen_shows home nodes o r).silent_lt none silent)
+      ]
+
+      by_ct : may home nodes o retrieve_bit r ≡ false → s.ct ≡ seen_ct home nodes o r
+      by_ct none = elim (cases_Bool (may home nodes o discovery_bit r)) [
+        | inl finds ↦ (shows.found finds).1 ∙ sym ((seen_shows home nodes o r).found finds).1
+        | inr silent ↦ elim (cases_Bool (is_filled_in home nodes o r)) [
+          | inl inside ↦ (shows.inside inside).1 ∙ sym ((seen_shows home nodes o r).inside inside).1
+          | inr never ↦ shows.silent_ct none silent never ∙ sym ((seen_shows home nodes o r).silent_ct none silent never)
+        ]
+      ]
+
+      by_et : may home nodes o retrieve_bit r ≡ false → s.et ≡ seen_et home nodes o r
+      by_et none = elim (cases_Bool (is_filled_in home nodes o r)) [
+        | inl inside ↦ (shows.inside inside).2 ∙ sym ((seen_shows home nodes o r).inside inside).2
+        | inr never ↦ shows.silent_et none never ∙ sym ((seen_shows home nodes o r).silent_et none never)
+      ]
