@@ -9,7 +9,7 @@ abbrev pub own_lead : HomeData → List ℕ
 own_lead home = home.csi ++ codes "/"
 
 -- the full form of an originator: itself where it begins with `/`, else it stands behind own CSE-ID
--- (TS-0001, 7.2)
+-- (TS-0001, 7.2); that every AE-ID does, whatever its first letter, is a rule of this profile's own
 abbrev pub full_form : HomeData → List ℕ → List ℕ
 full_form home text =
     if starts_with nat_eq text (codes "/") then text else codes "/" ++ (own_lead home ++ text)

@@ -116,7 +116,7 @@ lists_ids attr r = nat_lt 0 (length (ids_at attr r))
 abbrev pub owner_rules : ResourceData → List Rule
 owner_rules r = rule_for (only r.owner) all_bits ∷ []
 
--- by `pv` or `pvs` of the policies that `acpi` names, or the owner's where it names none
+-- by `pv` or `pvs` of the policies that `acpi` names, or the owner's where it is absent or empty
 -- (TS-0001, 9.6.1.3.2)
 abbrev pub linked_rules : Attr → List ResourceData → ResourceData → List Rule
 linked_rules attr nodes r =
@@ -145,8 +145,8 @@ rules_of nodes r =
     if is_ty r.ty ContentInstance then rules_above (linked_rules Pv nodes) nodes r else
     if is_ty r.ty PollingChannel then rules_above channel_rules nodes r else linked_rules Pv nodes r
 
--- the rules by which a fan-out to a group is judged: by `macp`, where it names any, else the group's
--- own (TS-0001, 9.6.13)
+-- the rules by which a fan-out to a group is judged: by `macp`, or the group's own where it is absent
+-- or empty (TS-0001, 9.6.13)
 abbrev pub fan_rules : List ResourceData → ResourceData → List Rule
 fan_rules nodes group =
     if lists_ids Macp group then joined Pv nodes (ids_at Macp group) else rules_of nodes group

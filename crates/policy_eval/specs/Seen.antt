@@ -1,4 +1,7 @@
--- What an originator sees of a list of resources: the list with what it may not see cut out.
+-- What an originator sees of a list of resources. Whatever its rights, it sees of each resource the
+-- number, type, name and parent, when it is due, `acpi`, `macp` and whether it owns it; the `aei` of
+-- an AE; the `csi` of a remote CSE and the first http URL of its `poa`; and of a policy the bits that
+-- it has by `pv` and by `pvs`. Besides, it sees what its rights show, and nothing else.
 use Rattle.std.specs.Prelude.{◌≡◌, ℕ, pos, nat_lt, Bool, true, false, ◌&&◌, ◌||◌, List, [], ◌∷◌, ◌++◌, map, codes, Option, Some, None, option_map, unwrap_or, find, is_some, if◌then◌else◌}
 use Rattle.std.specs.List.{filter_map}
 use Rattle.std.specs.Option.{option_map_or, option_or}
@@ -57,7 +60,7 @@ may_use home nodes o r =
 abbrev pub found_attrs : List Attr
 found_attrs = Lbl ∷ St ∷ Cs ∷ []
 
--- the limits of a container, and how often it was filled
+-- the limits of a container, and its count of instances and updates
 abbrev pub limit_attrs : List Attr
 limit_attrs = Mni ∷ Mbs ∷ Mia ∷ St ∷ []
 
@@ -96,7 +99,7 @@ seen_rules home o rules = plain_rules (bits_by home o (rules_in (Some rules)))
 abbrev pub is_rules : ResourceData → Attr → Bool
 is_rules r a = is_ty r.ty AccessControlPolicy && is_one_of (Pv ∷ Pvs ∷ []) a
 
--- a URL of a point of access (RFC 3986)
+-- a point of access that is an http URL (RFC 3986)
 abbrev pub is_url : List ℕ → Bool
 is_url address = is_some (host_end_at address)
 
@@ -133,15 +136,15 @@ abbrev pub seen_row : HomeData → List ResourceData → List ℕ → ResourceDa
 seen_row home nodes o r row =
     option_map (λ d. (row.0, d)) (seen_value home nodes o r row.0 row.1)
 
--- a text that is never the originator's full form
+-- a text that never names the originator
 abbrev pub another : List ℕ → List ℕ
 another o = o ++ codes " "
 
--- whether it owns the resource
+-- whether it owns the resource: its own text where it does, however the owner's is spelled, else another
 abbrev pub seen_owner : HomeData → List ℕ → ResourceData → List ℕ
 seen_owner home o r = if is_same home o r.owner then o else another o
 
--- the resource but for another owner's name
+-- the resource in all but the owner's name
 abbrev pub with_seen_owner : HomeData → List ℕ → ResourceData → ResourceData
 with_seen_owner home o r = record r { owner = seen_owner home o r }
 
@@ -187,7 +190,7 @@ pub record Shows (home : HomeData) (nodes : List ResourceData) (o : List ℕ) (r
   -- the rules of a policy give the originator, and the first URL of a remote CSE
   pub always : Alike home o s r
   pub way : is_ty r.ty RemoteCse ≡ true → way_in s.attrs ≡ way_in r.attrs
-  -- with RETRIEVE all but another owner's name
+  -- with RETRIEVE all but the owner's name
   pub retrieved : may home nodes o retrieve_bit r ≡ true →
       (s.attrs ≡ r.attrs) × (s.ct ≡ r.ct) × (s.lt ≡ r.lt) × (s.et ≡ r.et)
   -- with DISCOVERY

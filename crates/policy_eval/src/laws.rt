@@ -23,8 +23,11 @@ pub fn removal_grants_nothing()
         IsNeverGained (λ nodes. fan_grants home nodes o bit n) }
 {}
 
-/// The list as an originator sees it has what its rights show of each resource and nothing else of
-/// them, and the originator finds the same on it and has the same rights.
+/// The list as an originator sees it has of each resource what is always seen and what its rights
+/// show, and nothing else, and the originator finds the same on it and has the same rights. Always
+/// seen are number, type, name and parent, when it is due, `acpi`, `macp` and whether the originator
+/// owns it; the `aei` of an AE; the `csi` of a remote CSE and the first http URL of its `poa`; and of
+/// a policy the bits that the originator has by `pv` and by `pvs`.
 pub fn sight_keeps_rights()
     ensures shown { (home : HomeData) (nodes : List ResourceData) (o : List ℕ) (r : ResourceData) →
         Shows home nodes o r (seen home nodes o r) }
@@ -45,8 +48,8 @@ pub fn sight_keeps_rights()
 
 /// On the list as an originator sees it each resource is due when it is due, so that the same
 /// resources are live at each moment, and the originator has the same rights on what is live. What
-/// it may then retrieve it sees whole, but for another owner's name, and with the same attributes as
-/// they are shown, the count and the sizes of a container's instances among them.
+/// it may then retrieve it sees whole, but for the owner's name, and with the same attributes as they
+/// are shown, the count and the sizes of a container's instances among them.
 pub fn sight_keeps_what_is_live()
     ensures due { (home : HomeData) (nodes : List ResourceData) (o : List ℕ) (r : ResourceData) →
         IsTrue (is_well_formed nodes) → at r.number nodes ≡ Some r →

@@ -13,6 +13,11 @@
 //! same resources and rights, at once and after the removal of what is due. Equal such lists show it
 //! the same and stay equal under a removal, an append, and changes of a resource that show nothing
 //! but themselves; and a policy's resource id names that policy.
+//!
+//! Whatever its rights, an originator sees of each resource the number, type, name and parent, when
+//! it is due, `acpi`, `macp` and whether it owns it; the `aei` of an AE; the `csi` of a remote CSE
+//! and the first http URL of its `poa`; and of a policy the bits that it has by `pv` and by `pvs`.
+//! Besides, it sees what its rights show, and nothing else.
 #![tactic(auto)]
 
 mod laws;

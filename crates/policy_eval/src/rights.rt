@@ -70,7 +70,8 @@ fn only(home: &Home, o: &[u8], text: &[u8]) -> u32
     if is_same(home, o, text) { ALL_BITS } else { 0 }
 }
 
-// By one of the two lists of the policies that `acpi` names, or the owner's where it names none.
+// By one of the two lists of the policies that `acpi` names, or the owner's where it is absent
+// or empty.
 fn linked<T: Tree>(tree: &T, home: &Home, o: &[u8], attr: Attr, resource: &Resource) -> u32
     ensures { result ≡ spec.bits_by home.now o.now
         (spec_rules.linked_rules attr (T.nodes tree.now) resource.now) }
@@ -147,7 +148,7 @@ pub fn granted<T: Tree>(tree: &T, home: &Home, o: &[u8], bit: u32, number: u64) 
 }
 
 /// Whether the originator may change `acpi` of the resource of the number: by UPDATE in `pvs` of
-/// the policies that it names as it stands, or as the owner where it names none.
+/// the policies that it names as it stands, or as the owner where it is absent or empty.
 pub fn may_relink<T: Tree>(tree: &T, home: &Home, o: &[u8], number: u64) -> bool
     requires originator { IsTrue (is_originator o.now) }
     requires resource { IsTrue (has number (T.nodes tree.now)) }
@@ -160,7 +161,7 @@ pub fn may_relink<T: Tree>(tree: &T, home: &Home, o: &[u8], number: u64) -> bool
 }
 
 /// Whether the originator has all these bits of `acop` for a fan-out to the group of the number: by
-/// `pv` of the policies that `macp` names, or by the rules of the group where it names none
+/// `pv` of the policies that `macp` names, or by the rules of the group where it is absent or empty
 /// (TS-0001, 9.6.13).
 pub fn fan_granted<T: Tree>(tree: &T, home: &Home, o: &[u8], bit: u32, group: u64) -> bool
     requires originator { IsTrue (is_originator o.now) }
