@@ -16,7 +16,7 @@ use Rattle.policy_eval.specs.Rules.{policy_number, ids_at}
 use Rattle.policy_eval.specs.Rights.{grants, update_bit}
 use Rattle.policy_eval.specs.Seen.{create_bit, retrieve_bit, may, seen_value}
 
--- the resource is a policy, and the id spells its number
+-- the resource is a policy, and the id is its resource id
 abbrev pub is_id_of : ResourceData → Data → Bool
 is_id_of p id =
     is_ty p.ty AccessControlPolicy

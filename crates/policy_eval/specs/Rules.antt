@@ -1,5 +1,5 @@
 -- The rules of a resource.
-use Rattle.std.specs.Prelude.{ℕ, ◌+◌, ◌*◌, ◌-◌, ◌^◌, nat_eq, nat_lt, ℤ, pos, negsuc, Bool, ◌&&◌, List, [], ◌∷◌, length, map, drop, codes, Option, Some, None, option_and_then, unwrap_or, if◌then◌else◌}
+use Rattle.std.specs.Prelude.{ℕ, ◌+◌, ◌*◌, ◌-◌, ◌^◌, nat_eq, nat_lt, ◌==◌, ℤ, pos, negsuc, Bool, false, not, ◌&&◌, ◌||◌, List, [], ◌∷◌, length, map, drop, codes, Option, Some, None, option_and_then, unwrap_or, if◌then◌else◌}
 use Rattle.std.specs.Char.{is_ascii_digit}
 use Rattle.std.specs.List.{filter_map, flat_map, starts_with}
 use Rattle.std.specs.Option.{option_map_or}
@@ -75,10 +75,16 @@ number_from n [] = Some n
 number_from n (digit ∷ digits) =
     option_and_then (λ m. number_from m digits) (with_digit n digit)
 
+-- digits as a number is written: one at least, and no 0 before others
+abbrev pub is_written : List ℕ → Bool
+is_written [] = false
+is_written (digit ∷ digits) = not (digit == 48) || length digits == 0
+
 -- the number in the resource id of a policy, as 4 in `acp4`
 abbrev pub policy_number : List ℕ → Option ℕ
 policy_number id =
-    if starts_with nat_eq id (codes "acp") then number_from 0 (drop 3 id) else None
+    if starts_with nat_eq id (codes "acp") && is_written (drop 3 id)
+    then number_from 0 (drop 3 id) else None
 
 -- the policy of a number
 abbrev pub policy_at : List ResourceData → ℕ → Option ResourceData

@@ -98,11 +98,21 @@ fn number_in(digits: &[u8]) -> Option<u64>
     Some(number)
 }
 
+// Digits as a number is written: one at least, and no 0 before others.
+fn is_written(digits: &[u8]) -> bool
+    ensures { result ≡ spec.is_written digits.now }
+{
+    match digits {
+        [] => false,
+        [digit, digits @ ..] => *digit != b'0' || digits.is_empty(),
+    }
+}
+
 // The number in the resource id of a policy.
 fn policy_number(id: &[u8]) -> Option<u64>
     ensures { result ≡ spec.policy_number id.now }
 {
-    if id.starts_with(b"acp".as_slice()) {
+    if id.starts_with(b"acp".as_slice()) && is_written(&id[3..]) {
         number_in(&id[3..])
     } else {
         None

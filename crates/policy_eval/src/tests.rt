@@ -99,7 +99,7 @@ fn resource(rt: &(impl Abort + AllocGlobal), row: Row) -> Result<Resource, Fail>
     Ok(made)
 }
 
-const ROWS: [Row; 31] = [
+const ROWS: [Row; 32] = [
     (1, Ty::CseBase, 0, "CAdmin", &[(Attr::Acpi, r#"["acp2"]"#)]),
     (
         2,
@@ -195,6 +195,13 @@ const ROWS: [Row; 31] = [
     (29, Ty::Container, 3, "C1", &[]),
     (30, Ty::Container, 3, "C1", &[(Attr::Acpi, "[]")]),
     (31, Ty::Container, 3, "C1", &[(Attr::Acpi, r#"["acp11"]"#)]),
+    (
+        32,
+        Ty::Container,
+        3,
+        "C1",
+        &[(Attr::Acpi, r#"["acp04","acp"]"#)],
+    ),
     (40, Ty::ContentInstance, 22, "x", &[]),
     (41, Ty::ContentInstance, 29, "x", &[]),
     (50, Ty::PollingChannel, 3, "x", &[]),
@@ -247,6 +254,7 @@ fn grants_by_the_rules_of_the_resource(rt: HostRuntime) -> Result<(), Fail> {
         ("by one of two rules, its bit", "C2", 2, 26, true),
         ("by a policy beside a missing one", "C1", 2, 27, true),
         ("by missing policies alone, the owner", "C1", 2, 28, false),
+        ("by a number with a 0 in front", "C2", 2, 32, false),
         ("by no policy, the owner", "C1", 63, 29, true),
         ("by no policy, another", "C2", 2, 29, false),
         ("by an empty list, the owner", "/id-in/C1", 63, 30, true),
