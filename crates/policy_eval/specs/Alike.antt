@@ -20,7 +20,7 @@ is_one_of attrs a = list_any (is_attr a) attrs
 abbrev pub Agree : List Attr → ResourceData → ResourceData → Type 0
 Agree attrs s r = (a : Attr) → is_one_of attrs a ≡ true → value_of a s.attrs ≡ value_of a r.attrs
 
--- the AE-ID of an application entity, the CSE-ID of a remote CSE; a resource of another type has none
+-- attributes that name a resource of the type: the AE-ID of an AE, the CSE-ID of a remote CSE
 abbrev pub id_attrs : Ty → List Attr
 id_attrs ty =
     if is_ty ty Ae then Aei ∷ [] else
