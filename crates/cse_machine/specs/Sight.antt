@@ -14,7 +14,8 @@ use Rattle.cse_machine.specs.Answer.{answer}
 use Rattle.cse_machine.specs.History.{History, Leaves, IsDone}
 use Rattle.cse_machine.specs.Step.{Step}
 
--- the entity as the originator sees it: of each resource what everybody sees, and what its rights show
+-- the entity as the originator sees it: of each resource what it sees whatever its rights, and what
+-- these show
 abbrev pub sight : List ℕ → EntityData → EntityData
 sight o e = record { home = e.home; nodes = seen_list e.home e.nodes o; next = e.next; last = e.last }
 
