@@ -5,8 +5,8 @@ ghost use Rattle.attribute_rules.specs.Kinds.{has_kind};
 use crate::lists::{is_cse_ids, is_labels, is_points, is_target, is_texts};
 use crate::objects::{is_criteria, is_rules};
 use crate::values::{
-    is_bool, is_content, is_count, is_cse_id, is_label, is_member_type, is_name, is_one_of,
-    is_originator, is_stamp, is_text,
+    is_bool, is_content, is_count, is_cse_id, is_member_type, is_name, is_one_of, is_originator,
+    is_stamp, is_text,
 };
 use m2m_value::Val;
 
@@ -56,7 +56,7 @@ impl Kind {
             Kind::Name => is_name(value),
             Kind::Stamp => is_stamp(value),
             Kind::Text => is_text(value),
-            Kind::Label => is_label(value),
+            Kind::Label => value.is_label(),
             Kind::Labels => is_labels(value),
             Kind::Bool => is_bool(value),
             Kind::Count => is_count(value),

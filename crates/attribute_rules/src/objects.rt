@@ -3,6 +3,7 @@ ghost use Rattle.std.specs.Prelude.{◌≡◌, ◌∷◌, [], codes};
 ghost use Rattle.std.specs.Int.{is_in_range};
 ghost use Rattle.std.specs.List.{list_all};
 ghost use Rattle.m2m_names.specs.Name as names;
+ghost use Rattle.m2m_value.specs.Shapes as shapes;
 ghost use Rattle.attribute_rules.specs.Kinds as spec;
 
 use crate::lists::{is_event_kinds, is_labels, is_originators};
@@ -28,19 +29,19 @@ fn is_criteria_key(key: &Text) -> bool
 }
 
 fn have_rule_keys(members: &Members) -> bool
-    ensures { result ≡ spec.are_keys_among (codes "acor" ∷ codes "acop" ∷ []) members.now }
+    ensures { result ≡ shapes.are_keys_among (codes "acor" ∷ codes "acop" ∷ []) members.now }
 {
     members.entries().iter().all(|entry| is_rule_key(&entry.0))
 }
 
 fn have_rules_keys(members: &Members) -> bool
-    ensures { result ≡ spec.are_keys_among (codes "acr" ∷ []) members.now }
+    ensures { result ≡ shapes.are_keys_among (codes "acr" ∷ []) members.now }
 {
     members.entries().iter().all(|entry| is_rules_key(&entry.0))
 }
 
 fn have_criteria_keys(members: &Members) -> bool
-    ensures { result ≡ spec.are_keys_among (codes "net" ∷ codes "atr" ∷ []) members.now }
+    ensures { result ≡ shapes.are_keys_among (codes "net" ∷ codes "atr" ∷ []) members.now }
 {
     members
         .entries()
@@ -49,8 +50,8 @@ fn have_criteria_keys(members: &Members) -> bool
 }
 
 fn have_originators(members: &Members) -> bool
-    ensures { result ≡ spec.has_member (codes "acor")
-        (spec.is_some_of (spec.is_text_of names.is_originator)) members.now }
+    ensures { result ≡ shapes.has_member (codes "acor")
+        (shapes.is_some_of (shapes.is_text_of names.is_originator)) members.now }
 {
     match members.get(b"acor") {
         Some(value) => is_originators(value),
@@ -59,7 +60,8 @@ fn have_originators(members: &Members) -> bool
 }
 
 fn have_bits(members: &Members) -> bool
-    ensures { result ≡ spec.has_member (codes "acop") (spec.is_count_of (is_in_range 0 63)) members.now }
+    ensures { result ≡ shapes.has_member (codes "acop")
+        (shapes.is_count_of (is_in_range 0 63)) members.now }
 {
     match members.get(b"acop") {
         Some(value) => is_one_of(0, 63, value),
@@ -74,7 +76,7 @@ fn make_rule(members: &Members) -> bool
 }
 
 fn is_rule(value: &Val) -> bool
-    ensures { result ≡ spec.is_object_of spec.is_rule value.now }
+    ensures { result ≡ shapes.is_object_of spec.is_rule value.now }
 {
     match value.as_obj() {
         Some(members) => make_rule(members),
@@ -83,13 +85,13 @@ fn is_rule(value: &Val) -> bool
 }
 
 fn are_rules(values: &[Val]) -> bool
-    ensures { result ≡ list_all (spec.is_object_of spec.is_rule) values.now }
+    ensures { result ≡ list_all (shapes.is_object_of spec.is_rule) values.now }
 {
     values.iter().all(|value| is_rule(value))
 }
 
 fn is_rule_list(value: &Val) -> bool
-    ensures { result ≡ spec.is_list_of (spec.is_object_of spec.is_rule) value.now }
+    ensures { result ≡ shapes.is_list_of (shapes.is_object_of spec.is_rule) value.now }
 {
     match list_in(value) {
         Some(values) => are_rules(values),
@@ -98,8 +100,8 @@ fn is_rule_list(value: &Val) -> bool
 }
 
 fn have_rules(members: &Members) -> bool
-    ensures { result ≡ spec.has_member (codes "acr")
-        (spec.is_list_of (spec.is_object_of spec.is_rule)) members.now }
+    ensures { result ≡ shapes.has_member (codes "acr")
+        (shapes.is_list_of (shapes.is_object_of spec.is_rule)) members.now }
 {
     match members.get(b"acr") {
         Some(value) => is_rule_list(value),
@@ -108,7 +110,7 @@ fn have_rules(members: &Members) -> bool
 }
 
 pub fn is_rules(value: &Val) -> bool
-    ensures { result ≡ spec.is_object_of spec.is_rules value.now }
+    ensures { result ≡ shapes.is_object_of spec.is_rules value.now }
 {
     match value.as_obj() {
         Some(members) => have_rules_keys(members) && have_rules(members),
@@ -117,8 +119,8 @@ pub fn is_rules(value: &Val) -> bool
 }
 
 fn may_have_event_kinds(members: &Members) -> bool
-    ensures { result ≡ spec.may_have_member (codes "net")
-        (spec.is_some_of (spec.is_count_of (is_in_range 1 4))) members.now }
+    ensures { result ≡ shapes.may_have_member (codes "net")
+        (shapes.is_some_of (shapes.is_count_of (is_in_range 1 4))) members.now }
 {
     match members.get(b"net") {
         Some(value) => is_event_kinds(value),
@@ -127,7 +129,8 @@ fn may_have_event_kinds(members: &Members) -> bool
 }
 
 fn may_have_labels(members: &Members) -> bool
-    ensures { result ≡ spec.may_have_member (codes "atr") (spec.is_list_of spec.is_label) members.now }
+    ensures { result ≡ shapes.may_have_member (codes "atr")
+        (shapes.is_list_of shapes.is_label) members.now }
 {
     match members.get(b"atr") {
         Some(value) => is_labels(value),
@@ -142,7 +145,7 @@ fn make_criteria(members: &Members) -> bool
 }
 
 pub fn is_criteria(value: &Val) -> bool
-    ensures { result ≡ spec.is_object_of spec.is_criteria value.now }
+    ensures { result ≡ shapes.is_object_of spec.is_criteria value.now }
 {
     match value.as_obj() {
         Some(members) => make_criteria(members),

@@ -12,7 +12,8 @@ HomeParts = List ℕ × (List ℕ × (List ℕ × (ℤ × List ℕ)))
 abbrev pub home_code : Coded HomeData
 home_code =
     code_by HomeParts
-    (coded× (coded_list coded_ℕ) (coded× (coded_list coded_ℕ) (coded× (coded_list coded_ℕ) (coded× coded_ℤ (coded_list coded_ℕ)))))
+    (coded× (coded_list coded_ℕ) (coded× (coded_list coded_ℕ) (coded× (coded_list coded_ℕ)
+    (coded× coded_ℤ (coded_list coded_ℕ)))))
     (λ h. (h.sp, (h.csi, (h.base, (h.cst, h.admin)))))
     (λ p. record { sp = p.0; csi = p.1.0; base = p.1.1.0; cst = p.1.1.1.0; admin = p.1.1.1.1 })
     (λ _. refl)

@@ -27,9 +27,7 @@ moment_of last reading = max last (cut reading)
 -- the entity as an event finds it: without what is due by then, and what stands below that
 -- (TS-0001, 9.6.1.3.2)
 abbrev pub swept : ℕ → EntityData → EntityData
-swept reading e = record {
-  home = e.home;
+swept reading e = record e {
   nodes = live (moment_of e.last reading) e.nodes;
-  next = e.next;
   last = moment_of e.last reading;
 }

@@ -2,4 +2,5 @@ pub mod Codes
 pub mod Entity
 pub mod Expiry
 pub mod Opening
+pub mod Places
 pub mod Sound

@@ -1,16 +1,20 @@
 -- Which entities are sound: what holds of an entity at every moment.
-use Rattle.std.specs.Prelude.{◌≡◌, ℕ, ◌-◌, ◌^◌, ◌≤◌, nat_le, nat_lt, Bool, true, false, not, ◌&&◌, ◌||◌, List, [], ◌∷◌, ◌++◌, length, filter, codes, Option, None, option_and_then, IsTrue, if◌then◌else◌}
+use Rattle.std.specs.Prelude.{◌≡◌, ℕ, ◌-◌, ◌^◌, ◌≤◌, nat_le, nat_lt, Bool, true, false, not, ◌&&◌}
+use Rattle.std.specs.Prelude.{◌||◌, List, [], ◌∷◌, ◌++◌, length, filter, codes, Option, None}
+use Rattle.std.specs.Prelude.{option_and_then, IsTrue, if◌then◌else◌}
 use Rattle.std.specs.List.{filter_map, list_all, list_any}
 use Rattle.std.specs.Option.{option_map_or}
 use Rattle.std.specs.Str.{bytes_eq}
 use Rattle.m2m_names.specs.declared.attributes.Attr.TheVariants.{Acpi, Csi, Macp, Mbs, Mni}
-use Rattle.m2m_names.specs.declared.types.Ty.TheVariants.{Container, ContentInstance, CseBase, PollingChannel, RemoteCse}
+use Rattle.m2m_names.specs.declared.types.Ty.TheVariants.{Container, ContentInstance, CseBase}
+use Rattle.m2m_names.specs.declared.types.Ty.TheVariants.{PollingChannel, RemoteCse}
 use Rattle.m2m_value.specs.Data.{Data}
 use Rattle.m2m_value.specs.View.{as_text}
 use Rattle.resource_model.specs.Attributes.{count_at, text_at}
 use Rattle.resource_model.specs.Home.{HomeData}
 use Rattle.resource_model.specs.Resource.{ResourceData, is_ty}
-use Rattle.tree_model.specs.Tree.{is_under, instances_of, size_of, sizes_of, depth, is_due, are_below, is_well_formed}
+use Rattle.tree_model.specs.Tree.{is_under, instances_of, size_of, sizes_of, depth, is_due}
+use Rattle.tree_model.specs.Tree.{are_below, is_well_formed}
 use Rattle.attribute_rules.specs.Kinds.{are_kinds}
 use Rattle.policy_eval.specs.Rules.{policy_number, ids_at}
 use Rattle.create_delete.specs.Entity.{EntityData, last_reading}

@@ -28,7 +28,13 @@ impl<T: Tree> Model for Entity<T> {
 
     ghost use Rattle.create_delete.specs.Sound.{IsSound};
 
-    ghost view = { λ e. record { home = e.home; nodes = T.nodes e.tree; next = e.next; last = e.last } };
+    ghost view = { λ e. record {
+      home = e.home;
+      nodes = T.nodes e.tree;
+      next = e.next;
+      last =
+          e.last;
+    } };
 
     ghost invariant = { λ e. IsSound (record {
       home = e.home;

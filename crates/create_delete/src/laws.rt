@@ -11,10 +11,12 @@ ghost use Rattle.create_delete.specs.Sound.{IsSound, spares_first};
 /// An entity opens sound, and stays sound: under the expiry, and where some resources are removed
 /// with all that stands below them, unless the CSEBase is.
 pub fn an_entity_stays_sound()
-    ensures opened { (home : HomeData) (reading : ℕ) → IsHome home → IsSound (opening home reading) }
+    ensures opened { (home : HomeData) (reading : ℕ) → IsHome home
+        → IsSound (opening home reading) }
     ensures swept { (reading : ℕ) (e : EntityData) → IsSound e → IsSound (swept reading e) }
     ensures removed { (picks : ResourceData → Bool) (e : EntityData) → IsSound e
-        → IsTrue (spares_first picks e.nodes) → IsSound (record e { nodes = without picks e.nodes }) }
+        → IsTrue (spares_first picks e.nodes)
+        → IsSound (record e { nodes = without picks e.nodes }) }
 {}
 
 /// The first resource of a sound entity is its only CSEBase.

@@ -1,9 +1,10 @@
 // The resources of an entity as it opens.
-ghost use Rattle.std.specs.Prelude.{◌≡◌, ◌≤◌, [], ◌∷◌, ◌++◌, IfOk, OnOk, IsUtf8, IsTrue, None, false};
+ghost use Rattle.std.specs.Prelude.{◌≡◌, ◌≤◌, [], ◌∷◌, ◌++◌, IfOk, OnOk, IsUtf8, IsTrue, None};
+ghost use Rattle.std.specs.Prelude.{false};
 ghost use Rattle.m2m_names.specs.Stamps.{last_moment};
 ghost use Rattle.m2m_value.specs.Data as json;
-ghost use Rattle.resource_model.specs.Resource.{ae_id};
-ghost use Rattle.tree_model.specs.Tree.{are_below, is_placed, child_of, has_ae_id};
+ghost use Rattle.resource_model.specs.Resource.{ae_id, cse_id};
+ghost use Rattle.tree_model.specs.Tree.{are_below, is_placed, child_of, has_ae_id, has_cse_id};
 ghost use Rattle.create_delete.specs.Opening as spec;
 
 use m2m_names::{Attr, Ty};
@@ -13,12 +14,6 @@ use tree_model::{Attrs, Home, Moments, Resource, Tree};
 
 // The last moment that a timestamp has.
 const LAST_MOMENT: u64 = 253_402_300_799;
-
-fn text_of(alloc: Global, bytes: &[u8]) -> Result<Text, OutOfMemory>
-    ensures { IfOk result (λ text. text ≡ bytes.now) }
-{
-    Ok(Text::of(Vec::from_slice(alloc, bytes)?))
-}
 
 // A list of one text.
 fn list_of(alloc: Global, text: Text) -> Result<Val, OutOfMemory>
@@ -35,8 +30,8 @@ fn written_rule(alloc: Global, who: Text, bits: u32) -> Result<Val, OutOfMemory>
     ensures { IfOk result (λ v. v ≡ spec.written_rule who bits) }
 {
     let mut members = Vec::with_capacity(alloc, 2)?;
-    members.push((text_of(alloc, b"acop")?, Val::of_num(bits as i64)))?;
-    members.push((text_of(alloc, b"acor")?, list_of(alloc, who)?))?;
+    members.push((Text::from_slice(alloc, b"acop")?, Val::of_num(bits as i64)))?;
+    members.push((Text::from_slice(alloc, b"acor")?, list_of(alloc, who)?))?;
     Ok(Val::of_obj(Members::of(members)))
 }
 
@@ -44,7 +39,10 @@ fn written_rules(alloc: Global, rules: Vec<Val>) -> Result<Val, OutOfMemory>
     ensures { IfOk result (λ v. v ≡ spec.written_rules rules.items) }
 {
     let mut members = Vec::with_capacity(alloc, 1)?;
-    members.push((text_of(alloc, b"acr")?, Val::of_list(Items::of(rules))))?;
+    members.push((
+        Text::from_slice(alloc, b"acr")?,
+        Val::of_list(Items::of(rules)),
+    ))?;
     Ok(Val::of_obj(Members::of(members)))
 }
 
@@ -59,7 +57,7 @@ fn admin_rule(alloc: Global, home: &Home) -> Result<Val, OutOfMemory>
 fn entry_rule(alloc: Global) -> Result<Val, OutOfMemory>
     ensures { IfOk result (λ v. v ≡ spec.entry_rule) }
 {
-    written_rule(alloc, text_of(alloc, b"all")?, 1)
+    written_rule(alloc, Text::from_slice(alloc, b"all")?, 1)
 }
 
 fn opening_pv(alloc: Global, home: &Home) -> Result<Val, OutOfMemory>
@@ -92,7 +90,10 @@ fn base_attrs(alloc: Global) -> Result<Attrs, OutOfMemory>
     ensures { IfOk result (λ a. a ≡ spec.base_rows) }
 {
     let mut attrs = Attrs::new(alloc);
-    attrs.set(Attr::Acpi, list_of(alloc, text_of(alloc, b"acp2")?)?)?;
+    attrs.set(
+        Attr::Acpi,
+        list_of(alloc, Text::from_slice(alloc, b"acp2")?)?,
+    )?;
     Ok(attrs)
 }
 
@@ -122,7 +123,7 @@ fn opening_policy(alloc: Global, home: &Home, moment: u64) -> Result<Resource, O
     requires { moment ≤ last_moment }
     ensures { IfOk result (λ r. r ≡ spec.opening_policy home.now moment) }
 {
-    let name = text_of(alloc, b"acpAdmin")?;
+    let name = Text::from_slice(alloc, b"acpAdmin")?;
     let owner = home.admin().copy(alloc)?;
     let attrs = policy_attrs(alloc, home)?;
     let moments = moments_from(moment);
@@ -134,6 +135,7 @@ fn put_last<T: Tree>(tree: &mut T, resource: Resource) -> Result<(), OutOfMemory
     requires parent { IsTrue (is_placed (T.nodes tree.old) resource) }
     requires name { child_of resource.parent resource.name (T.nodes tree.old) ≡ None }
     requires ae { has_ae_id (ae_id resource) (T.nodes tree.old) ≡ false }
+    requires cse { has_cse_id (cse_id resource) (T.nodes tree.old) ≡ false }
     ensures { OnOk result (T.nodes tree.new ≡ T.nodes tree.old ++ resource ∷ []) }
 {
     match tree.insert(resource) {

@@ -114,7 +114,7 @@ fn sample(alloc: Global) -> Result<ListTree, OutOfMemory> {
 fn left_after(alloc: Global, seconds: u32) -> Result<Vec<u64>, OutOfMemory> {
     let mut tree = sample(alloc)?;
     let _count = tree.len();
-    expire(alloc, &mut tree, CLOCK + seconds as u64)?;
+    expire(&mut tree, CLOCK + seconds as u64);
     let mut numbers = Vec::new(alloc);
     for resource in over(&tree) {
         numbers.push(resource.number())?;

@@ -2,6 +2,8 @@
 use Rattle.std.proofs.Common.{◌≡◌, ℕ, List, ◌∷◌, [], Option, get_or, refl, sym, ap, subst}
 use Rattle.m2m_io.specs.declared.status.Status.{Status}
 use Rattle.m2m_io.specs.declared.status.Status.TheVariants.{ReadFault, WriteFault}
+use Rattle.m2m_io.specs.Link.{Exchange}
+use Rattle.m2m_io.specs.Outside.{Outside, outside}
 use Rattle.turn_desk.specs.Entries.{Marked}
 use Rattle.cse_machine.specs.declared.event.Event.{Event}
 use Rattle.cse_machine.specs.declared.event.Outcome.{Outcome}
@@ -53,10 +55,11 @@ ended_writing EndedStarved e = absurd (subst IsWriting (sym e) tt)
 
 -- ---- the same connection, by other names
 
-pub serves_same : {S : Type 0} (grown : S → List (Marked Event Outcome) → S → Type 0) (seat before after : S) (left0 left1 now old0 old1 new given told : Option (List ℕ)) (ended : Ended)
+pub serves_same : {S : Type 0} (grown : S → List (Marked Event Outcome) → S → Type 0) (seat before after : S)
+    (left0 left1 old0 old1 given : Option (List ℕ)) (link : Option (List Exchange)) (new : Outside) (ended : Ended)
     → seat ≡ before → left0 ≡ left1 → old0 ≡ old1
-    → Serves grown seat after left0 now old0 new given told ended → Serves grown before after left1 now old1 new given told ended
-serves_same {S = S} grown seat before after left0 left1 now old0 old1 new given told ended b l o h =
-    subst (λ (s : S). Serves grown s after left1 now old1 new given told ended) b
-    (subst (λ (v : Option (List ℕ)). Serves grown seat after v now old1 new given told ended) l
-    (subst (λ (v : Option (List ℕ)). Serves grown seat after left0 now v new given told ended) o h))
+    → Serves grown seat after (outside left0 old0 given link) new ended → Serves grown before after (outside left1 old1 given link) new ended
+serves_same {S = S} grown seat before after left0 left1 old0 old1 given link new ended b l o h =
+    subst (λ (s : S). Serves grown s after (outside left1 old1 given link) new ended) b
+    (subst (λ (v : Option (List ℕ)). Serves grown seat after (outside v old1 given link) new ended) l
+    (subst (λ (v : Option (List ℕ)). Serves grown seat after (outside left0 v given link) new ended) o h))

@@ -44,7 +44,8 @@ impl<R: Read> Source for StdIn<R> {
     }
 }
 
-/// A writer of std as a sink. Each error of the writer is a fault, and so is a write that takes nothing.
+/// A writer of std as a sink. Each error of the writer is a fault, and so is a write that takes
+/// nothing.
 #[derive(Debug, Drop)]
 pub struct StdOut<W> {
     writer: W,
@@ -65,7 +66,8 @@ impl<W: Write> StdOut<W> {
         ensures some { IfOk result (λ n. (0 < n) × (n ≤ length bytes.now)) }
         ensures ok { IfOk result (λ n.
             Appends (W.contents self.old.writer) (W.contents self.new.writer) (take n bytes.now)) }
-        ensures err { OnErr result (Keeps (W.contents self.old.writer) (W.contents self.new.writer)) }
+        ensures err { OnErr result
+            (Keeps (W.contents self.old.writer) (W.contents self.new.writer)) }
         ensures faults { OnOk result (self.new.faults ≡ self.old.faults) }
         ensures count { self.old.faults ≤ self.new.faults }
         ensures cause { OnErr result (Rose self.old.faults self.new.faults) }
@@ -122,8 +124,8 @@ impl<R: time::Clock> Clock for SystemClock<R> {
     }
 }
 
-/// The words behind the program's name; none where they can't be read, as where one of them isn't UTF-8. What the
-/// system hands in isn't stated.
+/// The words behind the program's name; none where they can't be read, as where one of them isn't
+/// UTF-8. What the system hands in isn't stated.
 pub fn words<R: Env + AllocGlobal>(rt: &R) -> Result<Vec<String>, AllocError> {
     match env::args(rt) {
         Ok(args) => args.skip(1).collect(rt.alloc()),

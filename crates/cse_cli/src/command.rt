@@ -1,6 +1,7 @@
 //! The command line.
-ghost use Rattle.std.specs.Prelude.{◌≡◌, ◌≤◌, ◌↔◌, vec_len, map, true, false};
+ghost use Rattle.std.specs.Prelude.{◌≡◌, ◌≢◌, ◌≤◌, ◌↔◌, vec_len, map, true, false};
 ghost use Rattle.m2m_io.specs.Counts.{Rose};
+ghost use Rattle.m2m_io.specs.Outside.{outside};
 ghost use Rattle.m2m_io.specs.Status.{status_line};
 ghost use Rattle.m2m_io.specs.Told.{AppendsUnlessFault};
 ghost use Rattle.cse_cli.specs.Words as spec;
@@ -14,14 +15,14 @@ use std::sync::Wait;
 use std::thread::Threads;
 use std::time;
 
-// Whether the words are the one command so far.
+/// Whether the words are the one command so far.
 fn is_http(words: &[&str]) -> bool
     ensures { result ≡ spec.is_http (map (λ word. word.now) words.now) }
 {
     matches!(words, [word] if *word == "http")
 }
 
-// Does what the words name, and tells nobody how it ended.
+/// Does what the words name, and tells nobody how it ended.
 fn run_words<S: Source, O: Sink, C: Clock, L: Link>(
     alloc: Global,
     words: &[&str],
@@ -29,17 +30,23 @@ fn run_words<S: Source, O: Sink, C: Clock, L: Link>(
     out: &mut O,
     first: &mut Bench<C, L>,
 ) -> Status
-    ensures usage { result ≡ Status.Usage ↔ spec.is_http (map (λ word. word.now) words.now) ≡ false }
+    ensures usage { result ≡ Status.Usage
+        ↔ spec.is_http (map (λ word. word.now) words.now) ≡ false }
     ensures still { spec.is_http (map (λ word. word.now) words.now) ≡ false
         → (input.new ≡ input.old) × (out.new ≡ out.old) × (first.new ≡ first.old) }
-    ensures http { spec.is_http (map (λ word. word.now) words.now) ≡ true
-        → RunsHttp (S.left input.old) (S.left input.new) (O.written out.old) (O.written out.new)
-        (C.readings first.old.clock) (C.readings first.new.clock) result }
+    ensures http { let old = outside (S.left input.old) (O.written out.old)
+        (C.readings first.old.clock) (L.exchanges first.old.link) in
+        let new = outside (S.left input.new) (O.written out.new)
+        (C.readings first.new.clock) (L.exchanges first.new.link) in
+        spec.is_http (map (λ word. word.now) words.now) ≡ true → RunsHttp old new result }
     ensures read_count { S.faults input.old ≤ S.faults input.new }
-    ensures read_cause { result ≡ Status.ReadFault → Rose (S.faults input.old) (S.faults input.new) }
+    ensures read_cause { result ≡ Status.ReadFault
+        → Rose (S.faults input.old) (S.faults input.new) }
+    ensures read_steady { result ≢ Status.ReadFault → S.faults input.new ≡ S.faults input.old }
     ensures write_count { O.faults out.old ≤ O.faults out.new }
     ensures write_cause { result ≡ Status.WriteFault → Rose (O.faults out.old) (O.faults out.new) }
-    ensures link { first.new.link ≡ first.old.link }
+    ensures write_steady { result ≢ Status.WriteFault → O.faults out.new ≡ O.faults out.old }
+    ensures link { L.faults first.new.link ≡ L.faults first.old.link }
 {
     if is_http(words) {
         serve_streams(alloc, input, out, first)
@@ -48,10 +55,11 @@ fn run_words<S: Source, O: Sink, C: Clock, L: Link>(
     }
 }
 
-/// Runs the command that the words name, and answers with the status and the door. The words are those behind the
-/// program's name. `input` and `out` are the streams of a command that has one connection or one list of lines;
-/// `err` gets the text of the status as a line; `first` is the bench of such a command, and `benches` are those of
-/// the workers. So far the one command is `http`, which serves `input` and `out` as one connection.
+/// Runs the command that the words name, and answers with the status and the door. The words are
+/// those behind the program's name. `input` and `out` are the streams of a command that has one
+/// connection or one list of lines; `err` gets the text of the status as a line; `first` is the
+/// bench of such a command, and `benches` are those of the workers. So far the one command is
+/// `http`, which serves `input` and `out` as one connection.
 pub fn run<R, S: Source, O: Sink, E: Sink, D: Door + Send, C: Clock + Send, L: Link + Send>(
     rt: &R,
     alloc: Global,
@@ -69,29 +77,40 @@ where
     L: Drop,
     requires benches { 2 ≤ vec_len benches }
 
-    // Every list of words but the one `http` is usage: then nothing is read or written to `out`, and no reading is taken.
-    ensures usage { result.0 ≡ Status.Usage ↔ spec.is_http (map (λ word. word.now) words.now) ≡ false }
+    // Every list of words but the one `http` is usage: then nothing is read or written to `out`,
+    // and no reading is taken and no exchange made.
+    ensures usage { result.0 ≡ Status.Usage
+        ↔ spec.is_http (map (λ word. word.now) words.now) ≡ false }
     ensures still { spec.is_http (map (λ word. word.now) words.now) ≡ false
         → (input.new ≡ input.old) × (out.new ≡ out.old) × (first.new ≡ first.old) }
 
-    // At `http` an entity opens at the first reading that the clock of `first` gives in this call. Then `out` gets exactly
-    // the replies that the machine gives the requests of `input`, one after another, as far as the status says.
-    ensures http { spec.is_http (map (λ word. word.now) words.now) ≡ true
-        → RunsHttp (S.left input.old) (S.left input.new) (O.written out.old) (O.written out.new)
-        (C.readings first.old.clock) (C.readings first.new.clock) result.0 }
+    // At `http` an entity opens at the first reading that the clock of `first` gives in this call.
+    // Then `out` gets exactly the replies that the machine gives the requests of `input`, one after
+    // another, as far as the status says.
+    ensures http { let old = outside (S.left input.old) (O.written out.old)
+        (C.readings first.old.clock) (L.exchanges first.old.link) in
+        let new = outside (S.left input.new) (O.written out.new)
+        (C.readings first.new.clock) (L.exchanges first.new.link) in
+        spec.is_http (map (λ word. word.now) words.now) ≡ true → RunsHttp old new result.0 }
 
-    // Faults come only where the stream failed in this call.
+    // A fault is answered where the stream failed in this call, and only there.
     ensures read_count { S.faults input.old ≤ S.faults input.new }
-    ensures read_cause { result.0 ≡ Status.ReadFault → Rose (S.faults input.old) (S.faults input.new) }
+    ensures read_cause { result.0 ≡ Status.ReadFault
+        → Rose (S.faults input.old) (S.faults input.new) }
+    ensures read_steady { result.0 ≢ Status.ReadFault → S.faults input.new ≡ S.faults input.old }
     ensures write_count { O.faults out.old ≤ O.faults out.new }
-    ensures write_cause { result.0 ≡ Status.WriteFault → Rose (O.faults out.old) (O.faults out.new) }
+    ensures write_cause { result.0 ≡ Status.WriteFault
+        → Rose (O.faults out.old) (O.faults out.new) }
+    ensures write_steady { result.0 ≢ Status.WriteFault → O.faults out.new ≡ O.faults out.old }
 
-    // What is written to `err` is the text of the status as a line, or a prefix of it where a fault came.
+    // What is written to `err` is the text of the status as a line, or a prefix of it where a fault
+    // came.
     ensures err { AppendsUnlessFault (E.written err.old) (E.written err.new)
         (E.faults err.old) (E.faults err.new) (status_line result.0) }
 
-    // Nothing is exchanged over the link of `first`, and the door comes back as it was.
-    ensures link { first.new.link ≡ first.old.link }
+    // No exchange over the link of `first` failed, as none was made, and the door comes back as it
+    // was.
+    ensures link { L.faults first.new.link ≡ L.faults first.old.link }
     ensures door { result.1 ≡ door }
 {
     let status = run_words(alloc, words, input, out, first);

@@ -1,13 +1,13 @@
 //! The command `http`.
-ghost use Rattle.std.specs.Prelude.{◌≡◌, ◌≤◌, IfOk};
+ghost use Rattle.std.specs.Prelude.{◌≡◌, ◌≢◌, ◌≤◌, IfOk};
 ghost use Rattle.m2m_io.specs.Counts.{Rose};
+ghost use Rattle.m2m_io.specs.Outside.{outside};
 ghost use Rattle.resource_model.specs.Home.{default_home};
 ghost use Rattle.create_delete.specs.Opening.{opening};
 ghost use Rattle.cse_cli.specs.Run.{RunsHttp, status_of};
 
-use crate::wire::Wire;
 use create_delete::Entity;
-use cse_server::{Bench, Ended, Served, serve_connection};
+use cse_server::{Bench, Ended, Served, Wire, serve_connection};
 use m2m_io::{Clock, Link, Sink, Source, Status};
 use std::alloc::{AllocError as OutOfMemory, Global};
 use tree_model::{Home, ListTree};
@@ -25,7 +25,7 @@ fn status_of(ended: Ended) -> Status
     }
 }
 
-// The entity with the default home, as it opens at a reading of the clock.
+/// The entity with the default home, as it opens at a reading of the clock.
 fn opened(alloc: Global, reading: u64) -> Result<Served<ListTree>, OutOfMemory>
     ensures { IfOk result (λ served. served ≡ opening default_home reading) }
 {
@@ -41,13 +41,19 @@ pub(crate) fn serve_streams<S: Source, O: Sink, C: Clock, L: Link>(
     out: &mut O,
     bench: &mut Bench<C, L>,
 ) -> Status
-    ensures runs { RunsHttp (S.left input.old) (S.left input.new) (O.written out.old) (O.written out.new)
-        (C.readings bench.old.clock) (C.readings bench.new.clock) result }
+    ensures runs { let old = outside (S.left input.old) (O.written out.old)
+        (C.readings bench.old.clock) (L.exchanges bench.old.link) in
+        let new = outside (S.left input.new) (O.written out.new)
+        (C.readings bench.new.clock) (L.exchanges bench.new.link) in
+        RunsHttp old new result }
     ensures read_count { S.faults input.old ≤ S.faults input.new }
-    ensures read_cause { result ≡ Status.ReadFault → Rose (S.faults input.old) (S.faults input.new) }
+    ensures read_cause { result ≡ Status.ReadFault
+        → Rose (S.faults input.old) (S.faults input.new) }
+    ensures read_steady { result ≢ Status.ReadFault → S.faults input.new ≡ S.faults input.old }
     ensures write_count { O.faults out.old ≤ O.faults out.new }
     ensures write_cause { result ≡ Status.WriteFault → Rose (O.faults out.old) (O.faults out.new) }
-    ensures link { bench.new.link ≡ bench.old.link }
+    ensures write_steady { result ≢ Status.WriteFault → O.faults out.new ≡ O.faults out.old }
+    ensures link { L.faults bench.new.link ≡ L.faults bench.old.link }
 {
     let reading = bench.clock.now();
     let Ok(served) = opened(alloc, reading) else {

@@ -15,12 +15,12 @@ use Rattle.cse_machine.specs.declared.event.Event.{Event}
 use Rattle.cse_machine.specs.declared.event.Event.TheVariants.{Ask}
 use Rattle.cse_machine.specs.declared.event.Outcome.{Outcome}
 use Rattle.cse_machine.specs.declared.event.Outcome.TheVariants.{Done, Starved}
-use Rattle.cse_machine.specs.Answer.{answer}
 use Rattle.cse_machine.specs.History.{History, Leaves, IsDone}
 use Rattle.cse_machine.specs.Sight.{sight, IsBy}
 use Rattle.cse_machine.specs.Step.{Step}
 use Rattle.cse_machine.proofs.HistoryLemmas.{none_some, same_first, same_rest}
-use Rattle.cse_machine.proofs.SightLemmas.{answers-alike}
+use Rattle.cse_machine.proofs.GuardLemmas.{unchanged}
+use Rattle.cse_machine.proofs.SightLemmas.{replies-alike}
 
 module _ (o : List ℕ) (one other : EntityData) (sound : IsSound one) (sounds : IsSound other) (same : sight o one ≡ sight o other) where
   same_home : one.home ≡ other.home
@@ -53,13 +53,14 @@ module _ (o : List ℕ) (one other : EntityData) (sound : IsSound one) (sounds :
   -- a step of both
   step_alike : (reading : ℕ) (event : Event) (after left : EntityData) (outcome twin : Outcome) → IsBy o event → Step reading event one outcome after → Step reading event other twin left → IsDone outcome → IsDone twin
       → (outcome ≡ twin) × (sight o after ≡ sight o left) × IsSound after × IsSound left
-  step_alike reading (Ask request) after left (Done reply) (Done replied) by first second done dones = (
-    ap Done (first.1 ∙ ap (λ (e : EntityData). answer e request) first.0 ∙ answers-alike one other o reading request sound sounds same by
-        ∙ sym (second.1 ∙ ap (λ (e : EntityData). answer e request) second.0)),
-    ap (sight o) first.0 ∙ swept-alike reading ∙ sym (ap (sight o) second.0),
-    subst IsSound (sym first.0) (sound_swept reading one sound),
-    subst IsSound (sym second.0) (sound_swept reading other sounds),
-  )
+  step_alike reading (Ask request) after left (Done reply) (Done replied) by first second done dones =
+      let mine : after ≡ swept reading one = first.1 ∙ unchanged (swept reading one) request in
+      let theirs : left ≡ swept reading other = second.1 ∙ unchanged (swept reading other) request in (
+        first.0 ∙ ap Done (replies-alike one other o reading request sound sounds same by) ∙ sym second.0,
+        ap (sight o) mine ∙ swept-alike reading ∙ sym (ap (sight o) theirs),
+        subst IsSound (sym mine) (sound_swept reading one sound),
+        subst IsSound (sym theirs) (sound_swept reading other sounds),
+      )
   step_alike reading (Ask request) after left (Done reply) (Starved none) by first second done dones = absurd dones
   step_alike reading (Ask request) after left (Starved none) twin by first second done dones = absurd done
 

@@ -1,36 +1,88 @@
--- What is shown is shown by a grant.
-use Rattle.std.proofs.Common.{◌≡◌, ℕ, List, Bool, true, false, cond, Option, Some, None, inl, inr, refl, sym, subst, ◌∙◌}
+-- Nothing is shown or changed but by a grant.
+use Rattle.std.proofs.Common.{◌≡◌, ℕ, List, [], Bool, true, false, Option, Some, None, inl, inr, refl, sym, ap, subst, ◌∙◌}
+use Rattle.std.specs.Prelude.{Contains}
 use Rattle.std.proofs.lemmas.Bool.{true≢false}
-use Rattle.std.specs.Option.{option_map_or}
+use Rattle.std.proofs.lemmas.Option.{same_Some, none-some}
 use Rattle.m2m_names.specs.declared.codes.Rsc.{Rsc}
-use Rattle.m2m_names.specs.declared.codes.Rsc.TheVariants.{Ok as Fine, BadRequest, NotFound, NoPrivilege}
+use Rattle.m2m_names.specs.declared.codes.Rsc.TheVariants.{Ok as Fine}
 use Rattle.primitive_json.specs.declared.reply.ReplyParts.{ReplyParts}
 use Rattle.primitive_json.specs.declared.request.RequestParts.{RequestParts}
 use Rattle.resource_model.specs.Resource.{ResourceData}
-use Rattle.tree_model.specs.Shown.{attributes_of}
+use Rattle.tree_model.specs.Shown.{attributes_of, shown_rows}
+use Rattle.tree_model.specs.Tree.{at}
 use Rattle.create_delete.specs.Entity.{EntityData}
-use Rattle.cse_machine.specs.Answer.{reply_to, refusal, addressed, may_retrieve, retrieved, answer_to, answer}
-use Rattle.cse_machine.specs.Guard.{is_success, DoesShow, HasRetrieve}
+use Rattle.create_delete.specs.Places.{reply_to, refusal, refused, Effect}
+use Rattle.cse_machine.specs.Answer.{retrieved, effect_of}
+use Rattle.cse_machine.specs.Contents.{ids_below, references_in, addresses_in}
+use Rattle.cse_machine.specs.Guard.{is_success, DoesShow, HasRight, IsShownByRight, OthersAreShownByRight, IsNew, IsGone, IsChanged, IsGuarded}
+use Rattle.cse_machine.proofs.ContentLemmas.{no_ids, no_references, no_addresses, nothing_in}
+use Rattle.cse_machine.proofs.WayLemmas.{IsRefused, IsRetrieved, two_ways}
 
 -- a refusal shows nothing
-refused : (request : RequestParts) (rsc : Rsc) → is_success rsc ≡ false → DoesShow (refusal request rsc) → ⊥
-refused request rsc other shows = elim shows [
+shows_none : (request : RequestParts) (fault : Rsc) → is_success fault ≡ false → DoesShow (refusal request fault) → ⊥
+shows_none request fault other shows = elim shows [
   | inl content ↦ content refl
   | inr fine ↦ true≢false (sym fine ∙ other)
 ]
 
-module _ (e : EntityData) (request : RequestParts) where
-  shown_with : (o : List ℕ) (target : ResourceData) (right : Bool) → request.fr ≡ Some o → addressed e request.to ≡ Some target → may_retrieve e o target ≡ right → DoesShow (cond right (reply_to request Fine (Some (attributes_of e.home e.nodes target))) (refusal request NoPrivilege)) → HasRetrieve e request
-  shown_with o target true by named may shows = record { o = o; target = target; asks = by; named = named; right = may }
-  shown_with o target false by named may shows = absurd (refused request NoPrivilege refl shows)
+-- nothing is told of other resources
+tells_nothing : (e : EntityData) (request : RequestParts) (ids children addresses : List (List ℕ)) → ids ≡ [] → children ≡ [] → addresses ≡ [] → IsShownByRight e request ids children addresses
+tells_nothing e request ids children addresses a b c = record {
+  below = λ r there told. absurd (nothing_in _ (rw a at told));
+  referred = λ address r told named. absurd (nothing_in _ (rw b at told));
+  found = λ address r told named. absurd (nothing_in _ (rw c at told));
+}
 
-  shown_of : (o : List ℕ) (target : Option ResourceData) → request.fr ≡ Some o → addressed e request.to ≡ target → DoesShow (option_map_or (retrieved e o request) target (refusal request NotFound)) → HasRetrieve e request
-  shown_of o None by named shows = absurd (refused request NotFound refl shows)
-  shown_of o (Some target) by named shows = shown_with o target (may_retrieve e o target) by named refl shows
+-- ---- where nothing changes
 
-  shown_to : (fr : Option (List ℕ)) → request.fr ≡ fr → DoesShow (option_map_or (answer_to e request) fr (refusal request BadRequest)) → HasRetrieve e request
-  shown_to None by shows = absurd (refused request BadRequest refl shows)
-  shown_to (Some o) by shows = shown_of o (addressed e request.to) by refl shows
+none_new : (nodes : List ResourceData) (r : ResourceData) → IsNew nodes nodes r → ⊥
+none_new nodes r new = none-some r (sym new.0 ∙ new.1)
 
-  pub shown_by_grant : (reply : ReplyParts) → reply ≡ answer e request → DoesShow reply → HasRetrieve e request
-  shown_by_grant reply is shows = shown_to request.fr refl (subst DoesShow is shows)
+none_gone : (nodes : List ResourceData) (r : ResourceData) → IsGone nodes nodes r → ⊥
+none_gone nodes r gone = none-some r (sym gone.1 ∙ gone.0)
+
+none_changed : (nodes : List ResourceData) (r s : ResourceData) → IsChanged nodes nodes r s → ⊥
+none_changed nodes r s changed =
+    changed.differs (same_Some s r (sym changed.is ∙ ap (λ (n : ℕ). at n nodes) changed.same ∙ changed.was))
+
+-- a reply that leaves the entity as it is
+still : (e : EntityData) (request : RequestParts) (reply : ReplyParts) → (DoesShow reply → HasRight e request) → OthersAreShownByRight e request reply → IsGuarded e request reply e
+still e request reply shown others = record {
+  shown = shown;
+  others = others;
+  created = λ r new. absurd (none_new e.nodes r new);
+  changed = λ r s change. absurd (none_changed e.nodes r s change);
+  removed = λ r gone. absurd (none_gone e.nodes r gone);
+}
+
+-- ---- what comes of a request
+
+abbrev IsGuardedIn : EntityData → RequestParts → Effect → Type 0
+IsGuardedIn e request effect = IsGuarded e request effect.reply effect.after
+
+refused_guarded : (e : EntityData) (request : RequestParts) (fault : Rsc) → is_success fault ≡ false → IsGuardedIn e request (refused e request fault)
+refused_guarded e request fault other =
+    still e request (refusal request fault) (λ shows. absurd (shows_none request fault other shows)) (tells_nothing e request [] [] [] refl refl refl)
+
+retrieved_guarded : (e : EntityData) (request : RequestParts) (target : ResourceData) → HasRight e request → IsGuardedIn e request (retrieved e request target)
+retrieved_guarded e request target right =
+    let content = attributes_of e.home e.nodes target in
+    let rows = shown_rows e.home e.nodes target in
+    still e request (reply_to request Fine (Some content)) (λ shows. right)
+    (tells_nothing e request (ids_below content) (references_in content) (addresses_in content)
+    (no_ids target.ty rows) (no_references target.ty rows) (no_addresses target.ty rows))
+
+pub guarded : (e : EntityData) (request : RequestParts) → IsGuardedIn e request (effect_of e request)
+guarded e request = elim (two_ways e request) [
+  | inl refusal ↦ subst (IsGuardedIn e request) (sym refusal.2) (refused_guarded e request refusal.0 refusal.1)
+  | inr way ↦
+      subst (IsGuardedIn e request) (sym way.is)
+      (retrieved_guarded e request way.target (record { target = way.target; named = way.named; right = way.right }))
+]
+
+-- so far no request changes anything
+pub unchanged : (e : EntityData) (request : RequestParts) → (effect_of e request).after ≡ e
+unchanged e request = elim (two_ways e request) [
+  | inl refusal ↦ ap (λ (effect : Effect). effect.after) refusal.2
+  | inr way ↦ ap (λ (effect : Effect). effect.after) way.is
+]

@@ -13,14 +13,15 @@ use Rattle.cse_machine.specs.declared.event.Event.{Event}
 use Rattle.cse_machine.specs.declared.event.Event.TheVariants.{Ask}
 use Rattle.cse_machine.specs.declared.event.Outcome.{Outcome}
 use Rattle.cse_machine.specs.declared.event.Outcome.TheVariants.{Done, Starved}
-use Rattle.cse_machine.specs.Guard.{DoesShow, HasRetrieve}
-use Rattle.cse_machine.specs.Answer.{answer}
+use Rattle.cse_machine.specs.Guard.{IsGuarded}
+use Rattle.cse_machine.specs.Answer.{effect_of}
 use Rattle.cse_machine.specs.History.{History, Leaves, IsDone}
 use Rattle.cse_machine.specs.Step.{Step}
-use Rattle.cse_machine.proofs.GuardLemmas.{shown_by_grant}
+use Rattle.cse_machine.proofs.GuardLemmas.{guarded, unchanged}
 
+-- what a step leaves
 pub changes : (reading : ℕ) (event : Event) (before after : EntityData) (outcome : Outcome) → Step reading event before outcome after → (after ≡ before) ⊎ (after ≡ swept reading before)
-changes reading (Ask request) before after (Done reply) step = inr step.0
+changes reading (Ask request) before after (Done reply) step = inr (step.1 ∙ unchanged (swept reading before) request)
 changes reading (Ask request) before after (Starved done) step = step.1
 
 pub one_more : (opening before after : EntityData) (history : History) (reading : ℕ) (event : Event) (outcome : Outcome) → Leaves opening history before → Step reading event before outcome after → Leaves opening (history ++ entry_of reading event outcome ∷ []) after
@@ -38,13 +39,24 @@ sound_after [] opening e sound run = subst IsSound (sym run) sound
 sound_after (entry ∷ history) opening e sound run =
     sound_after history run.0 e (sound_step entry.reading entry.event opening run.0 entry.outcome sound run.1) run.2
 
+-- a step is guarded
+pub same_reply : (reply other : ReplyParts) → Done reply ≡ Done other → reply ≡ other
+same_reply reply other same = cc
+
+pub step_guarded : (reading : ℕ) (request : RequestParts) (before after : EntityData) (reply : ReplyParts) → Step reading (Ask request) before (Done reply) after → IsGuarded (swept reading before) request reply after
+step_guarded reading request before after reply step =
+    subst (λ (r : ReplyParts). IsGuarded (swept reading before) request r after) (sym (same_reply reply _ step.0))
+    (subst (λ (e : EntityData). IsGuarded (swept reading before) request (effect_of (swept reading before) request).reply e) (sym step.1)
+    (guarded (swept reading before) request))
+
 -- an entry of a history is the step that it tells
-pub shown_in_history : (earlier later : History) (opening e : EntityData) (reading : ℕ) (request : RequestParts) (reply : ReplyParts) → Leaves opening (earlier ++ entry_of reading (Ask request) (Done reply) ∷ later) e → DoesShow reply → (after : EntityData) × Leaves opening (earlier ++ entry_of reading (Ask request) (Done reply) ∷ []) after × HasRetrieve after request
-shown_in_history [] later opening e reading request reply run shows =
-    (run.0, (run.0, run.1, refl), shown_by_grant run.0 request reply run.1.1 shows)
-shown_in_history (entry ∷ earlier) later opening e reading request reply run shows =
-    let rest = shown_in_history earlier later run.0 e reading request reply run.2 shows in
-    (rest.0, (run.0, run.1, rest.1), rest.2)
+pub guarded_in_history : (earlier later : History) (opening e : EntityData) (reading : ℕ) (request : RequestParts) (reply : ReplyParts) → Leaves opening (earlier ++ entry_of reading (Ask request) (Done reply) ∷ later) e
+    → (before : EntityData) × (after : EntityData) × Leaves opening earlier before × Leaves opening (earlier ++ entry_of reading (Ask request) (Done reply) ∷ []) after × IsGuarded (swept reading before) request reply after
+guarded_in_history [] later opening e reading request reply run =
+    (opening, run.0, refl, (run.0, run.1, refl), step_guarded reading request opening run.0 reply run.1)
+guarded_in_history (entry ∷ earlier) later opening e reading request reply run =
+    let rest = guarded_in_history earlier later run.0 e reading request reply run.2 in
+    (rest.0, rest.1, (run.0, run.1, rest.2), (run.0, run.1, rest.3), rest.4)
 
 -- ---- one way
 
@@ -60,8 +72,7 @@ none_some x xs e = omega (arith, ap length e)
 -- a step for which there is memory has one outcome and leaves one entity
 step_one_way : (reading : ℕ) (event : Event) (before after other : EntityData) (outcome twin : Outcome) → Step reading event before outcome after → Step reading event before twin other → IsDone outcome → IsDone twin → (outcome ≡ twin) × (after ≡ other)
 step_one_way reading (Ask request) before after other (Done reply) (Done replied) first second done dones =
-    let same = first.0 ∙ sym second.0 in
-    (ap Done (first.1 ∙ ap (λ (e : EntityData). answer e request) same ∙ sym second.1), same)
+    (first.0 ∙ sym second.0, first.1 ∙ sym second.1)
 step_one_way reading (Ask request) before after other (Done reply) (Starved none) first second done dones = absurd dones
 step_one_way reading (Ask request) before after other (Starved none) twin first second done dones = absurd done
 

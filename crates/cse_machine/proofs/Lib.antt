@@ -1,4 +1,7 @@
 pub mod AddressLemmas
+pub mod ServedLemmas
+pub mod ContentLemmas
+pub mod WayLemmas
 pub mod SightLemmas
 pub mod GuardLemmas
 pub mod HistoryLemmas

@@ -1,25 +1,39 @@
 -- An originator is answered the same on what it sees.
-use Rattle.std.specs.Prelude.{bytes_eq}
-use Rattle.std.proofs.Common.{◌≡◌, ℕ, List, Bool, cond, Option, Some, None, option_map, inl, inr, refl, sym, ap, ◌∙◌}
+use Rattle.std.specs.Prelude.{bytes_eq, codes, unwrap_or}
+use Rattle.std.proofs.Common.{◌≡◌, ℕ, List, Bool, true, false, Option, Some, None, option_map, inl, inr, refl, sym, ap, ◌∙◌}
 use Rattle.std.proofs.lemmas.Bool.{cases_Bool}
 use Rattle.std.proofs.lemmas.Option.{slice_get-map}
 use Rattle.std.specs.List.{slice_get}
-use Rattle.std.specs.Option.{option_map_or}
-use Rattle.m2m_names.specs.declared.codes.Rsc.TheVariants.{Ok as Fine, BadRequest, NotFound, NoPrivilege}
+use Rattle.m2m_names.specs.declared.codes.Rsc.TheVariants.{Ok as Fine, NoPrivilege}
 use Rattle.m2m_value.specs.Data.{Data}
 use Rattle.primitive_json.specs.declared.reply.ReplyParts.{ReplyParts}
 use Rattle.primitive_json.specs.declared.request.RequestParts.{RequestParts}
 use Rattle.resource_model.specs.Resource.{ResourceData}
 use Rattle.tree_model.specs.Shown.{attributes_of}
 use Rattle.tree_model.specs.Tree.{at}
+use Rattle.policy_eval.specs.Rights.{grants}
 use Rattle.policy_eval.specs.Seen.{retrieve_bit, seen}
 use Rattle.policy_eval.proofs.DueLemmas.{live-seen, grants-live}
 use Rattle.policy_eval.proofs.RetrievedLemmas.{attributes-live}
 use Rattle.create_delete.specs.Entity.{EntityData, moment_of, swept}
+use Rattle.create_delete.specs.Places.{reply_to, refusal}
 use Rattle.create_delete.specs.Sound.{IsSound}
-use Rattle.cse_machine.specs.Answer.{reply_to, refusal, addressed, may_retrieve, retrieved, answer_to, answer}
-use Rattle.cse_machine.specs.Sight.{sight}
+use Rattle.cse_machine.specs.Answer.{is_served, addressed, operated, reached, effect_of}
+use Rattle.cse_machine.specs.Rights.{originator_of, may, has_right}
+use Rattle.cse_machine.specs.Sight.{sight, IsRequestBy}
 use Rattle.cse_machine.proofs.AddressLemmas.{addressed_at}
+use Rattle.cse_machine.proofs.ServedLemmas.{served_right}
+
+-- ---- the reply of one operation
+
+reply_with_right : (e : EntityData) (request : RequestParts) (target : ResourceData) → has_right e request target.number ≡ true → (operated e request target).reply ≡ reply_to request Fine (Some (attributes_of e.home e.nodes target))
+reply_with_right e request target t = rw t refl
+
+reply_without : (e : EntityData) (request : RequestParts) (target : ResourceData) → has_right e request target.number ≡ false → (operated e request target).reply ≡ refusal request NoPrivilege
+reply_without e request target f = rw f refl
+
+served_reply : (e : EntityData) (request : RequestParts) → is_served request ≡ true → (effect_of e request).reply ≡ (reached e request (addressed e request.to)).reply
+served_reply e request t = rw t refl
 
 module _ (e : EntityData) (o : List ℕ) (reading : ℕ) (sound : IsSound e) where
   abbrev moment : ℕ
@@ -44,37 +58,40 @@ module _ (e : EntityData) (o : List ℕ) (reading : ℕ) (sound : IsSound e) whe
     | inr f ↦ rw f refl
   ]
 
-  may_seen : (r : ResourceData) → may_retrieve shown o (see r) ≡ may_retrieve left o r
-  may_seen r = grants-live e.home e.nodes o sound.tree moment retrieve_bit r.number
+  -- the right that its request needs is the same
+  right_by : (seeing : EntityData) (request : RequestParts) (n : ℕ) → IsRequestBy o request → has_right seeing request n ≡ grants seeing.home seeing.nodes o retrieve_bit n
+  right_by seeing request n by =
+      served_right request by.1 seeing n
+      ∙ ap (λ (fr : Option (List ℕ)). grants seeing.home seeing.nodes (unwrap_or fr (codes "C")) retrieve_bit n) by.0
 
-  abbrev reply_by : RequestParts → Bool → Data → ReplyParts
-  reply_by request right content = cond right (reply_to request Fine (Some content)) (refusal request NoPrivilege)
+  right_seen : (request : RequestParts) (n : ℕ) → IsRequestBy o request → has_right shown request n ≡ has_right left request n
+  right_seen request n by =
+      right_by shown request n by ∙ grants-live e.home e.nodes o sound.tree moment retrieve_bit n ∙ sym (right_by left request n by)
 
-  retrieved_seen : (request : RequestParts) (r : ResourceData) → at r.number left.nodes ≡ Some r → retrieved shown o request (see r) ≡ retrieved left o request r
-  retrieved_seen request r there =
-      ap (λ (b : Bool). reply_by request b (attributes_of e.home shown.nodes (see r))) (may_seen r)
-      ∙ elim (cases_Bool (may_retrieve left o r)) [
-        | inl t ↦ rw t (ap (λ (d : Data). reply_to request Fine (Some d)) (attributes-live e.home e.nodes o sound.tree moment r.number r there t))
-        | inr f ↦ rw f refl
-      ]
+  -- the reply of one operation is the same
+  operated_seen : (request : RequestParts) (r : ResourceData) → IsRequestBy o request → at r.number left.nodes ≡ Some r → (operated shown request (see r)).reply ≡ (operated left request r).reply
+  operated_seen request r by there = elim (cases_Bool (has_right left request r.number)) [
+    | inl t ↦
+        reply_with_right shown request (see r) (right_seen request r.number by ∙ t)
+        ∙ ap (λ (d : Data). reply_to request Fine (Some d)) (attributes-live e.home e.nodes o sound.tree moment r.number r there (sym (right_by left request r.number by) ∙ t))
+        ∙ sym (reply_with_right left request r t)
+    | inr f ↦ reply_without shown request (see r) (right_seen request r.number by ∙ f) ∙ sym (reply_without left request r f)
+  ]
 
-  found_seen : (request : RequestParts) (target : Option ResourceData) → ((r : ResourceData) → target ≡ Some r → at r.number left.nodes ≡ Some r) → option_map_or (retrieved shown o request) (option_map see target) (refusal request NotFound) ≡ option_map_or (retrieved left o request) target (refusal request NotFound)
-  found_seen request None there = refl
-  found_seen request (Some r) there = retrieved_seen request r (there r refl)
+  reached_seen : (request : RequestParts) (target : Option ResourceData) → IsRequestBy o request → ((r : ResourceData) → target ≡ Some r → at r.number left.nodes ≡ Some r)
+      → (reached shown request (option_map see target)).reply ≡ (reached left request target).reply
+  reached_seen request None by there = refl
+  reached_seen request (Some r) by there = operated_seen request r by (there r refl)
 
-  answer_to_seen : (request : RequestParts) → answer_to shown request o ≡ answer_to left request o
-  answer_to_seen request =
-      ap (λ (t : Option ResourceData). option_map_or (retrieved shown o request) t (refusal request NotFound)) (addressed_seen request.to)
-      ∙ found_seen request (addressed left request.to) (addressed_at left request.to)
+  pub reply-seen : (request : RequestParts) → IsRequestBy o request → (effect_of shown request).reply ≡ (effect_of left request).reply
+  reply-seen request by =
+      served_reply shown request by.1
+      ∙ ap (λ (t : Option ResourceData). (reached shown request t).reply) (addressed_seen request.to)
+      ∙ reached_seen request (addressed left request.to) by (addressed_at left request.to)
+      ∙ sym (served_reply left request by.1)
 
-  answer_by : (seeing : EntityData) (request : RequestParts) → request.fr ≡ Some o → answer seeing request ≡ answer_to seeing request o
-  answer_by seeing request by = ap (λ (fr : Option (List ℕ)). option_map_or (answer_to seeing request) fr (refusal request BadRequest)) by
-
-  pub answer-seen : (request : RequestParts) → request.fr ≡ Some o → answer shown request ≡ answer left request
-  answer-seen request by = answer_by shown request by ∙ answer_to_seen request ∙ sym (answer_by left request by)
-
-pub answers-alike : (one other : EntityData) (o : List ℕ) (reading : ℕ) (request : RequestParts) → IsSound one → IsSound other → sight o one ≡ sight o other → request.fr ≡ Some o → answer (swept reading one) request ≡ answer (swept reading other) request
-answers-alike one other o reading request sound sounds same by =
-    sym (answer-seen one o reading sound request by)
-    ∙ ap (λ (e : EntityData). answer (swept reading e) request) same
-    ∙ answer-seen other o reading sounds request by
+pub replies-alike : (one other : EntityData) (o : List ℕ) (reading : ℕ) (request : RequestParts) → IsSound one → IsSound other → sight o one ≡ sight o other → IsRequestBy o request → (effect_of (swept reading one) request).reply ≡ (effect_of (swept reading other) request).reply
+replies-alike one other o reading request sound sounds same by =
+    sym (reply-seen one o reading sound request by)
+    ∙ ap (λ (e : EntityData). (effect_of (swept reading e) request).reply) same
+    ∙ reply-seen other o reading sounds request by

@@ -1,22 +1,35 @@
--- What a step may show, and what it may change.
-use Rattle.std.specs.Prelude.{◌≡◌, ◌≢◌, ◌⊎◌, ℕ, Bool, List, [], ◌∷◌, ◌++◌, Some, None, IsTrue}
+-- What a request may show, and what it may change.
+use Rattle.std.specs.Prelude.{◌≡◌, ◌≢◌, ◌⊎◌, ℕ, Bool, false, List, [], ◌∷◌, ◌++◌, Contains, Option}
+use Rattle.std.specs.Prelude.{Some, None, IsTrue}
 use Rattle.std.specs.Int.{is_in_range}
+use Rattle.std.specs.List.{list_any}
+use Rattle.std.specs.Option.{option_map_or}
+use Rattle.m2m_names.specs.Operations.{op_row}
 use Rattle.m2m_names.specs.StatusCodes.{rsc_row}
 use Rattle.m2m_names.specs.declared.codes.Rsc.{Rsc}
+use Rattle.m2m_names.specs.declared.operations.Op.{Op}
+use Rattle.m2m_names.specs.declared.operations.Op.TheVariants.{Create, Retrieve, Update, Delete}
+use Rattle.m2m_names.specs.declared.operations.Op.TheVariants.{Notify}
+use Rattle.m2m_value.specs.Data.{Data}
 use Rattle.primitive_json.specs.declared.reply.ReplyParts.{ReplyParts}
 use Rattle.primitive_json.specs.declared.request.RequestParts.{RequestParts}
-use Rattle.resource_model.specs.Resource.{ResourceData}
+use Rattle.resource_model.specs.Resource.{ResourceData, has_number, id_of}
 use Rattle.turn_desk.specs.Entries.{entry_of}
-use Rattle.policy_eval.specs.Rights.{grants}
-use Rattle.policy_eval.specs.Seen.{retrieve_bit}
+use Rattle.tree_model.specs.Tree.{at, is_instance, line_of}
+use Rattle.policy_eval.specs.Rights.{relinks}
+use Rattle.policy_eval.specs.Seen.{discovery_bit}
 use Rattle.create_delete.specs.Entity.{EntityData, swept}
 use Rattle.cse_machine.specs.declared.event.Event.{Event}
 use Rattle.cse_machine.specs.declared.event.Event.TheVariants.{Ask}
 use Rattle.cse_machine.specs.declared.event.Outcome.{Outcome}
-use Rattle.cse_machine.specs.declared.event.Outcome.TheVariants.{Done}
+use Rattle.cse_machine.specs.declared.event.Outcome.TheVariants.{Done, Starved}
 use Rattle.cse_machine.specs.Answer.{addressed}
+use Rattle.cse_machine.specs.Contents.{ids_below, references_in, addresses_in}
 use Rattle.cse_machine.specs.History.{History, Leaves}
+use Rattle.cse_machine.specs.Rights.{originator_of, may, has_right}
 use Rattle.cse_machine.specs.Step.{Step}
+
+-- ---- what is shown
 
 -- the status says that the request was served (TS-0004, 6.6.3)
 abbrev pub is_success : Rsc → Bool
@@ -26,37 +39,129 @@ is_success rsc = is_in_range 2000 2999 (rsc_row rsc).number
 abbrev pub DoesShow : ReplyParts → Type 0
 DoesShow reply = (reply.pc ≢ None) ⊎ IsTrue (is_success reply.rsc)
 
--- the originator of the request has RETRIEVE on the resource that the address names
+-- the originator of the request has the right that it needs on the resource that its address names
 -- (TS-0001, 9.6.2)
-pub record HasRetrieve (e : EntityData) (request : RequestParts) : Type 0 where
-  pub o : List ℕ
+pub record HasRight (e : EntityData) (request : RequestParts) : Type 0 where
   pub target : ResourceData
-  pub asks : request.fr ≡ Some o
   pub named : addressed e request.to ≡ Some target
-  pub right : IsTrue (grants e.home e.nodes o retrieve_bit target.number)
+  pub right : IsTrue (has_right e request target.number)
 
--- Nothing is shown but by a grant to the originator, in the entity that the step leaves.
-abbrev pub IsShownByGrant : Type 0
-IsShownByGrant =
+-- the originator has these bits on each resource that one of these addresses names
+abbrev pub MayAtAll : EntityData → RequestParts → ℕ → List (List ℕ) → Type 0
+MayAtAll e request bits addresses =
+    (address : List ℕ) (r : ResourceData)
+    → Contains addresses address → addressed e address ≡ Some r
+    → IsTrue (may e request bits r.number)
+
+-- of other resources a content shows those that the originator may retrieve, refers to such ones
+-- alone, and gives the addresses of those that it may discover
+pub record IsShownByRight (e : EntityData) (request : RequestParts)
+    (ids children addresses : List (List ℕ)) : Type 0 where
+  pub below : (r : ResourceData) → at r.number e.nodes ≡ Some r → Contains ids (id_of r)
+      → IsTrue (may e request (op_row Retrieve).bit r.number)
+  pub referred : MayAtAll e request (op_row Retrieve).bit children
+  pub found : MayAtAll e request discovery_bit addresses
+
+abbrev pub OthersAreShownByRight : EntityData → RequestParts → ReplyParts → Type 0
+OthersAreShownByRight e request reply =
+    IsShownByRight e request (told ids_below) (told references_in) (told addresses_in)
+  where
+    told : (Data → List (List ℕ)) → List (List ℕ)
+    told part = option_map_or part reply.pc []
+
+-- ---- what is changed
+
+-- a resource that is only in the list after, that is only in the one before, and that differs
+abbrev pub IsNew : List ResourceData → List ResourceData → ResourceData → Type 0
+IsNew before after r = (at r.number before ≡ None) × (at r.number after ≡ Some r)
+
+abbrev pub IsGone : List ResourceData → List ResourceData → ResourceData → Type 0
+IsGone before after r = (at r.number before ≡ Some r) × (at r.number after ≡ None)
+
+pub record IsChanged (before after : List ResourceData) (r s : ResourceData) : Type 0 where
+  pub same : s.number ≡ r.number
+  pub was : at r.number before ≡ Some r
+  pub is : at s.number after ≡ Some s
+  pub differs : s ≢ r
+
+-- the originator may change the resource, or its `acpi`, or a new instance stands in it
+abbrev pub IsChangedByRight : EntityData → RequestParts → EntityData → ResourceData → Type 0
+IsChangedByRight before request after r =
+    IsTrue (may before request (op_row Update).bit r.number)
+    ⊎ (IsTrue (relinks before.home before.nodes (originator_of request) r.number)
+    ⊎ ((i : ResourceData) × IsNew before.nodes after.nodes i × IsTrue (is_instance r.number i)))
+
+-- the operation may push out instances of the container of the number: by CREATE it adds one, or by
+-- UPDATE it changes the container (TS-0001, 9.6.6)
+abbrev pub may_push_out : Op → EntityData → RequestParts → ℕ → Bool
+may_push_out Create e request n = may e request (op_row Create).bit n
+may_push_out Retrieve e request n = false
+may_push_out Update e request n = may e request (op_row Update).bit n
+may_push_out Delete e request n = false
+may_push_out Notify e request n = false
+
+-- the resource is at or below the target, which the originator may delete, or it is an instance of
+-- the target that the operation may push out
+pub record IsRemovedByRight (before : EntityData) (request : RequestParts)
+    (r : ResourceData) : Type 0 where
+  pub target : ResourceData
+  pub named : addressed before request.to ≡ Some target
+  pub right : (IsTrue (list_any (has_number target.number) (line_of r.number before.nodes))
+      × IsTrue (may before request (op_row Delete).bit target.number))
+      ⊎ (IsTrue (is_instance target.number r)
+      × IsTrue (may_push_out request.op before request target.number))
+
+-- ---- what is guarded
+
+-- Nothing is shown or changed but by a grant to the originator, in the entity before the request.
+pub record IsGuarded (before : EntityData) (request : RequestParts) (reply : ReplyParts)
+    (after : EntityData) : Type 0 where
+  pub shown : DoesShow reply → HasRight before request
+  pub others : OthersAreShownByRight before request reply
+  pub created : (r : ResourceData) → IsNew before.nodes after.nodes r
+      → IsTrue (may before request (op_row Create).bit r.parent)
+  pub changed : (r s : ResourceData) → IsChanged before.nodes after.nodes r s
+      → IsChangedByRight before request after r
+  pub removed : (r : ResourceData) → IsGone before.nodes after.nodes r
+      → IsRemovedByRight before request r
+
+-- Each step is guarded, in the entity from which what is due is gone.
+abbrev pub StepsAreGuarded : Type 0
+StepsAreGuarded =
     (reading : ℕ) (request : RequestParts) (before after : EntityData) (reply : ReplyParts)
-    → Step reading (Ask request) before (Done reply) after → DoesShow reply
-    → HasRetrieve after request
+    → Step reading (Ask request) before (Done reply) after
+    → IsGuarded (swept reading before) request reply after
 
--- In a legal history each reply that shows something came by a grant to its originator, in the
--- entity that its own step left.
-abbrev pub HistoryShowsByGrant : Type 0
-HistoryShowsByGrant =
+-- In a legal history each request was guarded in the entity that the requests before it left.
+abbrev pub HistoriesAreGuarded : Type 0
+HistoriesAreGuarded =
     (opening e : EntityData) (earlier later : History)
     (reading : ℕ) (request : RequestParts) (reply : ReplyParts)
     → Leaves opening (earlier ++ entry_of reading (Ask request) (Done reply) ∷ later) e
-    → DoesShow reply
-    → (after : EntityData)
+    → (before : EntityData) × (after : EntityData)
+    × Leaves opening earlier before
     × Leaves opening (earlier ++ entry_of reading (Ask request) (Done reply) ∷ []) after
-    × HasRetrieve after request
+    × IsGuarded (swept reading before) request reply after
 
--- A step changes nothing but that what is due goes, with what stands below it.
-abbrev pub ChangesOnlyWhatIsDue : Type 0
-ChangesOnlyWhatIsDue =
-    (reading : ℕ) (event : Event) (before after : EntityData) (outcome : Outcome)
-    → Step reading event before outcome after
+-- ---- what changes nothing
+
+-- A refused request changes nothing but that what is due goes, with what stands below it.
+abbrev pub RefusalsChangeNothing : Type 0
+RefusalsChangeNothing =
+    (reading : ℕ) (request : RequestParts) (before after : EntityData) (reply : ReplyParts)
+    → Step reading (Ask request) before (Done reply) after → is_success reply.rsc ≡ false
+    → after ≡ swept reading before
+
+-- Nor does a Retrieve change a resource.
+abbrev pub RetrievesChangeNoResource : Type 0
+RetrievesChangeNoResource =
+    (reading : ℕ) (request : RequestParts) (before after : EntityData) (reply : ReplyParts)
+    → request.op ≡ Retrieve → Step reading (Ask request) before (Done reply) after
+    → after.nodes ≡ (swept reading before).nodes
+
+-- Where memory runs out, nothing changes but that what is due may be gone.
+abbrev pub WantOfMemoryChangesNothing : Type 0
+WantOfMemoryChangesNothing =
+    (reading : ℕ) (event : Event) (before after : EntityData)
+    → Step reading event before (Starved 0) after
     → (after ≡ before) ⊎ (after ≡ swept reading before)

@@ -1,7 +1,8 @@
 -- What has happened at a CSE: its events one after another, with their readings and outcomes.
 use Rattle.std.specs.Prelude.{◌≡◌, ℕ, List, [], ◌∷◌, ◌++◌, ⊤}
 use Rattle.std.specs.List.{All}
-use Rattle.turn_desk.specs.Entries.{Entry, entry_of, readings_of, events_of, outcomes_of, Runs}
+use Rattle.turn_desk.specs.declared.entry.Entry.{Entry}
+use Rattle.turn_desk.specs.Entries.{entry_of, readings_of, events_of, outcomes_of, Runs}
 use Rattle.create_delete.specs.Entity.{EntityData}
 use Rattle.create_delete.specs.Sound.{IsSound}
 use Rattle.cse_machine.specs.declared.event.Event.{Event}

@@ -1,5 +1,7 @@
+pub mod Rights
 pub mod Answer
 pub mod Step
 pub mod History
 pub mod Sight
+pub mod Contents
 pub mod Guard

@@ -1,5 +1,5 @@
 -- What an originator sees of an entity, and that it is answered by no more than that.
-use Rattle.std.specs.Prelude.{◌≡◌, ℕ, List, Some}
+use Rattle.std.specs.Prelude.{◌≡◌, ℕ, List, Bool, Some, IsTrue}
 use Rattle.std.specs.List.{All}
 use Rattle.turn_desk.specs.Entries.{readings_of, events_of, outcomes_of}
 use Rattle.primitive_json.specs.declared.reply.ReplyParts.{ReplyParts}
@@ -10,33 +10,43 @@ use Rattle.create_delete.specs.Sound.{IsSound}
 use Rattle.cse_machine.specs.declared.event.Event.{Event}
 use Rattle.cse_machine.specs.declared.event.Event.TheVariants.{Ask}
 use Rattle.cse_machine.specs.declared.event.Outcome.TheVariants.{Done}
-use Rattle.cse_machine.specs.Answer.{answer}
+use Rattle.cse_machine.specs.Answer.{is_plain_retrieve, given}
 use Rattle.cse_machine.specs.History.{History, Leaves, IsDone}
 use Rattle.cse_machine.specs.Step.{Step}
 
 -- the entity as the originator sees it: of each resource what it sees whatever its rights, and what
 -- these show
 abbrev pub sight : List ℕ → EntityData → EntityData
-sight o e = record { home = e.home; nodes = seen_list e.home e.nodes o; next = e.next; last = e.last }
+sight o e = record e { nodes = seen_list e.home e.nodes o }
+
+-- the requests of which the laws of equal sight speak so far
+abbrev pub is_covered : RequestParts → Bool
+is_covered request = is_plain_retrieve request
+
+-- the request is one of them, and by this originator
+abbrev pub IsRequestBy : List ℕ → RequestParts → Type 0
+IsRequestBy o request = (request.fr ≡ Some o) × IsTrue (is_covered request)
 
 -- On what it sees, an originator is answered the same.
 abbrev pub IsAnsweredBySight : Type 0
 IsAnsweredBySight =
-    (e : EntityData) (o : List ℕ) (reading : ℕ) (request : RequestParts) → IsSound e → request.fr ≡ Some o
-    → answer (swept reading (sight o e)) request ≡ answer (swept reading e) request
+    (e : EntityData) (o : List ℕ) (reading : ℕ) (request : RequestParts)
+    → IsSound e → IsRequestBy o request
+    → (given (swept reading (sight o e)) request).0 ≡ (given (swept reading e) request).0
 
 -- Two entities of which the originator sees the same give it the same reply.
 abbrev pub EqualSightsAnswerAlike : Type 0
 EqualSightsAnswerAlike =
-    (left right after other : EntityData) (o : List ℕ) (reading : ℕ) (request : RequestParts) (reply replied : ReplyParts)
-    → IsSound left → IsSound right → sight o left ≡ sight o right → request.fr ≡ Some o
+    (left right after other : EntityData) (o : List ℕ)
+    (reading : ℕ) (request : RequestParts) (reply replied : ReplyParts)
+    → IsSound left → IsSound right → sight o left ≡ sight o right → IsRequestBy o request
     → Step reading (Ask request) left (Done reply) after
     → Step reading (Ask request) right (Done replied) other
     → reply ≡ replied
 
--- the event is a request of this originator
+-- the event is such a request of this originator
 abbrev pub IsBy : List ℕ → Event → Type 0
-IsBy o (Ask request) = request.fr ≡ Some o
+IsBy o (Ask request) = IsRequestBy o request
 
 -- Two entities of which the originator sees the same answer its requests, one after another at the
 -- same readings, alike, where there is memory for all of them; and it sees the same of what they

@@ -1,31 +1,43 @@
 //! Laws of the machine, over its definitions.
-ghost use Rattle.cse_machine.specs.Guard.{IsShownByGrant, HistoryShowsByGrant, ChangesOnlyWhatIsDue};
+ghost use Rattle.cse_machine.specs.Guard.{StepsAreGuarded, HistoriesAreGuarded};
+ghost use Rattle.cse_machine.specs.Guard.{RefusalsChangeNothing, RetrievesChangeNoResource};
+ghost use Rattle.cse_machine.specs.Guard.{WantOfMemoryChangesNothing};
 ghost use Rattle.cse_machine.specs.History.{BeginsLegal, StaysLegal, StaysSound, GoesOneWay};
-ghost use Rattle.cse_machine.specs.Sight.{IsAnsweredBySight, EqualSightsAnswerAlike, EqualSightsStayAlike};
+ghost use Rattle.cse_machine.specs.Sight.{IsAnsweredBySight, EqualSightsAnswerAlike};
+ghost use Rattle.cse_machine.specs.Sight.{EqualSightsStayAlike};
 
-/// The reply to a request is a function of what its originator sees of the entity, of the reading
-/// and of the request.
+/// The outcome of a request that is covered is a function of what its originator sees of the
+/// entity, of the reading and of the request.
 pub fn an_originator_is_answered_by_what_it_sees()
     ensures { IsAnsweredBySight }
 {}
 
 /// Two sound entities of which an originator sees the same give it the same reply to the same
-/// request at the same reading: at a step, and so all along a history in which it alone asks.
+/// covered request at the same reading: at a step, and so all along a history in which it alone
+/// asks.
 pub fn equal_sights_are_answered_alike()
     ensures steps { EqualSightsAnswerAlike }
     ensures histories { EqualSightsStayAlike }
 {}
 
-/// A reply with content, or with the status that a request was served, comes only to an originator
-/// that has RETRIEVE on the resource that it addressed: at a step, and so anywhere in a legal history.
-pub fn nothing_is_shown_without_a_grant()
-    ensures steps { IsShownByGrant }
-    ensures histories { HistoryShowsByGrant }
+/// Nothing is shown or changed but by a grant to the originator, judged on the entity before the
+/// request: at a step, and so anywhere in a legal history. A reply with content, or with the status
+/// that a request was served, comes only to an originator with the right that the request needs on
+/// the resource that it addressed; other resources are shown by RETRIEVE, and found by DISCOVERY. A
+/// resource is new only under a parent with CREATE. It differs only with UPDATE or the right to
+/// change its `acpi`, or where a new instance stands in it. It is gone only at or below a target
+/// with DELETE, or as an instance of a container that the operation adds to or changes by right.
+pub fn nothing_is_shown_or_changed_without_a_grant()
+    ensures steps { StepsAreGuarded }
+    ensures histories { HistoriesAreGuarded }
 {}
 
-/// A step leaves the entity as it was, or without what is due at its moment.
-pub fn a_step_changes_only_what_is_due()
-    ensures { ChangesOnlyWhatIsDue }
+/// A refused request and want of memory leave the entity as it was, but for what is due; a Retrieve
+/// changes no resource.
+pub fn what_is_refused_or_read_changes_nothing()
+    ensures refused { RefusalsChangeNothing }
+    ensures retrieved { RetrievesChangeNoResource }
+    ensures starved { WantOfMemoryChangesNothing }
 {}
 
 /// An entity that opens leaves the empty history, and each step of the entity that a history leaves

@@ -1,9 +1,14 @@
 //! The oneM2M machine: what a CSE answers one event after another (TS-0001, 10; TS-0004, 7).
 //!
 //! Callers hand `step` an entity, a reading of the clock and an event, and get the outcome; the
-//! entity is then the one after it. Both are exactly the relation `Step` of `specs/Step`, in which
-//! want of memory is the one free answer. So far an event is a Retrieve of one name: `Asked` keeps
-//! that a request is one, and `is_served` tests it.
+//! entity is then the one after it. Both are exactly the relation `Step` of `specs/Step`: one
+//! function of the entity without what is due and of the request, and want of memory as the one
+//! free answer. Every request may be asked. Those that aren't served yet (`is_served` of
+//! `specs/Answer`) are answered as malformed: so far all but a plain Retrieve of one name.
+//!
+//! Laws over every history stand on functions without a body. What is shown or changed is so by a
+//! grant to the originator; and an originator is answered by no more than it sees, in the requests
+//! that `is_covered` of `specs/Sight` names.
 #![tactic(auto)]
 
 mod event;
@@ -11,14 +16,13 @@ mod laws;
 mod machine;
 mod served;
 
-pub use event::{Asked, Event, Outcome};
+pub use event::{Event, Outcome};
 pub use laws::{
-    a_history_goes_one_way, a_step_changes_only_what_is_due,
-    an_originator_is_answered_by_what_it_sees, equal_sights_are_answered_alike,
-    nothing_is_shown_without_a_grant, steps_make_a_legal_history,
+    a_history_goes_one_way, an_originator_is_answered_by_what_it_sees,
+    equal_sights_are_answered_alike, nothing_is_shown_or_changed_without_a_grant,
+    steps_make_a_legal_history, what_is_refused_or_read_changes_nothing,
 };
 pub use machine::step;
-pub use served::is_served;
 
 #[cfg(test)]
 mod tests;

@@ -2,11 +2,15 @@
 ghost use Rattle.std.specs.Prelude.{◌≡◌, IfOk, IsTrue, option_map};
 ghost use Rattle.m2m_names.specs.Name.{is_originator};
 ghost use Rattle.tree_model.specs.Tree.{has};
+ghost use Rattle.create_delete.specs.Places as places;
+ghost use Rattle.create_delete.specs.Places.{first_fault, refusal};
 ghost use Rattle.cse_machine.specs.Answer as spec;
-ghost use Rattle.cse_machine.specs.Answer.{answer, retrieved, refusal};
+ghost use Rattle.cse_machine.specs.Answer.{is_served, effect_of, operated, places_on, retrieved};
+ghost use Rattle.cse_machine.specs.Rights as rights;
 ghost use Rattle.cse_machine.specs.Step.{Step};
 
 use crate::event::{Event, Outcome};
+use crate::served::is_served;
 use create_delete::{Entity, sweep};
 use m2m_names::{Op, Rsc};
 use m2m_value::Val;
@@ -22,38 +26,36 @@ pub fn step<T: Tree>(alloc: Global, entity: &mut Entity<T>, reading: u64, event:
     ensures { Step reading event.now entity.old result entity.new }
 {
     match event {
-        Event::Ask(asked) => ask(alloc, entity, reading, asked.request()),
+        Event::Ask(request) => ask(alloc, entity, reading, request),
     }
 }
 
 fn ask<T: Tree>(alloc: Global, entity: &mut Entity<T>, reading: u64, request: &Request) -> Outcome
-    requires { IsTrue (spec.is_served request.now) }
     ensures { Step reading (Event.Ask request.now) entity.old result entity.new }
 {
     if let Err(_) = sweep(alloc, entity, reading) {
         return Outcome::Starved { done: 0 };
     }
-    match reply_of(alloc, entity, request) {
+    match answer(alloc, entity, request) {
         Ok(reply) => Outcome::Done(reply),
         Err(_) => Outcome::Starved { done: 0 },
     }
 }
 
-// The reply on the entity as it stands.
-fn reply_of<T: Tree>(
+// What the request gives on the entity as it stands. So far none changes it.
+fn answer<T: Tree>(
     alloc: Global,
     entity: &Entity<T>,
     request: &Request,
 ) -> Result<Reply, OutOfMemory>
-    requires { IsTrue (spec.is_served request.now) }
-    ensures { IfOk result (λ r. r ≡ answer entity.now request.now) }
+    ensures reply { IfOk result (λ r. r ≡ (effect_of entity.now request.now).reply) }
+    ensures after { (effect_of entity.now request.now).after ≡ entity.now }
 {
-    let parts = request.parts();
-    let Some(o) = &parts.fr else {
+    if !is_served(request) {
         return refuse(alloc, request, Rsc::BadRequest);
-    };
-    match addressed(entity, parts.to.entries()) {
-        Some(target) => retrieve(alloc, entity, o.entries(), request, target),
+    }
+    match addressed(entity, request.parts().to.entries()) {
+        Some(target) => operate(alloc, entity, request, target),
         None => refuse(alloc, request, Rsc::NotFound),
     }
 }
@@ -68,39 +70,83 @@ fn addressed<'a, T: Tree>(entity: &'a Entity<T>, to: &[u8]) -> Option<&'a Resour
     entity.tree.nth(0)
 }
 
-// Whether the originator has RETRIEVE on the resource.
-fn may_retrieve<T: Tree>(entity: &Entity<T>, o: &[u8], target: &Resource) -> bool
-    requires originator { IsTrue (is_originator o.now) }
-    requires resource { IsTrue (has target.now.number entity.now.nodes) }
-    ensures { result ≡ spec.may_retrieve entity.now o.now target.now }
-{
-    let bit = Op::Retrieve.bit();
-    granted(&entity.tree, &entity.home, o, bit, target.number())
-}
-
-// The reply for a resource that is there.
-fn retrieve<T: Tree>(
+// What the request gives on a resource that is there.
+fn operate<T: Tree>(
     alloc: Global,
     entity: &Entity<T>,
-    o: &[u8],
     request: &Request,
     target: &Resource,
 ) -> Result<Reply, OutOfMemory>
-    requires originator { IsTrue (is_originator o.now) }
+    requires served { IsTrue (spec.is_served request.now) }
     requires resource { IsTrue (has target.now.number entity.now.nodes) }
-    ensures { IfOk result (λ r. r ≡ retrieved entity.now o.now request.now target.now) }
+    ensures { IfOk result (λ r. r ≡ (operated entity.now request.now target.now).reply) }
 {
-    if !may_retrieve(entity, o, target) {
-        return refuse(alloc, request, Rsc::NoPrivilege);
+    match judge(entity, request, target) {
+        Some(fault) => refuse(alloc, request, fault),
+        None => retrieve(alloc, entity, request, target),
     }
+}
+
+// The status of the first place that refuses the request on the resource.
+fn judge<T: Tree>(entity: &Entity<T>, request: &Request, target: &Resource) -> Option<Rsc>
+    requires served { IsTrue (spec.is_served request.now) }
+    requires resource { IsTrue (has target.now.number entity.now.nodes) }
+    ensures { result ≡ first_fault (places_on entity.now request.now target.now) }
+{
+    if !has_right(entity, request, target) {
+        return Some(Rsc::NoPrivilege);
+    }
+    None
+}
+
+// Whether the originator has the right that the request needs on the resource: so far RETRIEVE.
+fn has_right<T: Tree>(entity: &Entity<T>, request: &Request, target: &Resource) -> bool
+    requires served { IsTrue (spec.is_served request.now) }
+    requires resource { IsTrue (has target.now.number entity.now.nodes) }
+    ensures { result ≡ rights.has_right entity.now request.now target.now.number }
+{
+    let bit = Op::Retrieve.bit();
+    may(entity, request, bit, target)
+}
+
+// Whether the originator has these bits on the resource.
+fn may<T: Tree>(entity: &Entity<T>, request: &Request, bits: u32, target: &Resource) -> bool
+    requires originator { IsTrue (is_originator (rights.originator_of request.now)) }
+    requires resource { IsTrue (has target.now.number entity.now.nodes) }
+    ensures { result ≡ rights.may entity.now request.now bits target.now.number }
+{
+    let o = originator_of(request);
+    granted(&entity.tree, &entity.home, o, bits, target.number())
+}
+
+// Whom the request is judged as.
+fn originator_of(request: &Request) -> &[u8]
+    ensures { result.now ≡ rights.originator_of request.now }
+{
+    match &request.parts().fr {
+        Some(o) => o.entries(),
+        None => b"C",
+    }
+}
+
+// The attributes of the resource.
+fn retrieve<T: Tree>(
+    alloc: Global,
+    entity: &Entity<T>,
+    request: &Request,
+    target: &Resource,
+) -> Result<Reply, OutOfMemory>
+    requires { IsTrue (has target.now.number entity.now.nodes) }
+    ensures { IfOk result (λ r. r ≡ (retrieved entity.now request.now target.now).reply) }
+{
     let content = attributes(alloc, &entity.tree, &entity.home, target)?;
     reply_to(alloc, request, Rsc::Ok, Some(content))
 }
 
-fn refuse(alloc: Global, request: &Request, rsc: Rsc) -> Result<Reply, OutOfMemory>
-    ensures { IfOk result (λ r. r ≡ refusal request.now rsc) }
+fn refuse(alloc: Global, request: &Request, fault: Rsc) -> Result<Reply, OutOfMemory>
+    ensures { IfOk result (λ r. r ≡ refusal request.now fault) }
 {
-    reply_to(alloc, request, rsc, None)
+    reply_to(alloc, request, fault, None)
 }
 
 fn reply_to(
@@ -109,7 +155,7 @@ fn reply_to(
     rsc: Rsc,
     content: Option<Val>,
 ) -> Result<Reply, OutOfMemory>
-    ensures { IfOk result (λ r. r ≡ spec.reply_to request.now rsc content) }
+    ensures { IfOk result (λ r. r ≡ places.reply_to request.now rsc content) }
 {
     let rqi = request.parts().rqi.copy(alloc)?;
     Ok(Reply::of(ReplyParts {

@@ -1,4 +1,4 @@
-//! Which requests are served so far.
+// Which requests are served so far.
 ghost use Rattle.std.specs.Prelude.{◌≡◌, false};
 ghost use Rattle.std.specs.Option.{option_map_or};
 ghost use Rattle.cse_machine.specs.Answer as spec;
@@ -9,7 +9,7 @@ use primitive_json::{Request, RequestParts};
 
 /// Whether the request is one of those that are served so far: a Retrieve of one name by an
 /// originator in its short form, with no filter and no other wish.
-pub fn is_served(request: &Request) -> bool
+pub(crate) fn is_served(request: &Request) -> bool
     ensures { result ≡ spec.is_served request.now }
 {
     let parts = request.parts();

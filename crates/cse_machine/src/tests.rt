@@ -1,7 +1,7 @@
 //! An entity that is asked one request after another.
 ghost use Rattle.std.specs.Prelude.{◌≡◌, IfOk, IsUtf8};
 
-use crate::{Asked, Event, Outcome, is_served, step};
+use crate::{Event, Outcome, step};
 use create_delete::Entity;
 use m2m_names::Op;
 use m2m_value::{Text, write};
@@ -32,7 +32,8 @@ fn retrieve(alloc: Global, fr: &str, to: &str) -> Result<Request, AllocError> {
     }))
 }
 
-/// The number of an outcome's status code, the request's identifier and the content, with blanks between.
+/// The number of an outcome's status code, the request's identifier and the content, with blanks
+/// between.
 fn told(alloc: Global, outcome: Outcome) -> Result<String, AllocError> {
     let Outcome::Done(reply) = outcome else {
         return format!(in alloc; "starved");
@@ -61,10 +62,7 @@ fn answer(
     let home = Home::with_defaults(alloc)?;
     let mut entity = Entity::open(alloc, home, ListTree::new(alloc), opened)?;
     let request = retrieve(alloc, fr, to)?;
-    if !is_served(&request) {
-        return Ok((format!(in alloc; "not served")?, entity.last));
-    }
-    let event = Event::Ask(Asked::of(request));
+    let event = Event::Ask(request);
     let outcome = step(alloc, &mut entity, reading, &event);
     Ok((told(alloc, outcome)?, entity.last))
 }
@@ -80,8 +78,8 @@ fn a_retrieve_is_answered_by_name_and_right(rt: HostRuntime) -> Result<(), Fail>
         ("CAdmin", "none", "4004 r1"),
         ("Cx", "none", "4004 r1"),
         ("Cx", "cse-in", "4103 r1"),
-        ("CAdmin", "cse-in/x", "not served"),
-        ("/id-in/CAdmin", "cse-in", "not served"),
+        ("CAdmin", "cse-in/x", "4000 r1"),
+        ("/id-in/CAdmin", "cse-in", "4000 r1"),
     ] {
         let (text, _) = answer(alloc, 1_700_000_000, 1_700_000_001, fr, to)?;
         assert_eq!(rt; text.as_str(), want);

@@ -1,3 +1,4 @@
+pub mod RepliesLemmas
 pub mod TalkLemmas
 pub mod WayLemmas
 pub mod NextLemmas
@@ -8,5 +9,5 @@ pub mod TurnLemmas
 pub mod SideLemmas
 pub mod MostLemmas
 pub mod LawLemmas
-pub mod ShownLemmas
+pub mod GuardedLemmas
 pub mod OneWayLemmas

@@ -7,9 +7,9 @@ use Rattle.http_frames.specs.declared.frame.Side.TheVariants.{Request}
 use Rattle.http_frames.specs.Stream.{HasNoFrame}
 use Rattle.http_frames.specs.Inbox.{stream_of, Reads, Gives, HoldsNoFrame, most_held}
 use Rattle.http_binding.specs.Replying.{reply_text}
-use Rattle.cse_machine.specs.declared.event.Outcome.{Outcome}
+use Rattle.primitive_json.specs.declared.reply.ReplyParts.{ReplyParts}
 use Rattle.cse_server.specs.Closing.{closes}
-use Rattle.cse_server.specs.Talk.{request_in, reply_for, replies, some_closes}
+use Rattle.cse_server.specs.Talk.{request_in, reply_for, reply_texts, some_closes}
 use Rattle.cse_server.specs.Connection.{ReadsLittle}
 use Rattle.cse_server.specs.Way.{Leads}
 
@@ -58,9 +58,20 @@ refused_rightly (Some l) (Some m) held now r h =
     let same : held ++ l ≡ now ++ m = kept_leads (Some l) (Some m) held now r in
     (λ e. h.some (front_nil now m (sym same ∙ e)), subst (HasNoFrame Request) (sym same) h.none_left)
 
+-- nothing was read yet
+pub nothing_read : (left : Option (List ℕ)) → IfSome left (λ bytes. IfSome left (ReadsLittle bytes))
+nothing_read None = tt
+nothing_read (Some bytes) = record { held = []; rest_is = refl; few = omega arith }
+
+-- what was read with a frame was little
+pub given_little : (left rest : Option (List ℕ)) (held now : List ℕ) (frame : Frame) → Gives Request left rest held now frame
+    → length held < most_held Request → IfSome (stream_of held left) (λ bytes. IfSome rest (ReadsLittle bytes))
+given_little left rest held now frame g few = reads_little left rest held g.all g.reads (g.few few)
+
 -- the reply to one frame
-pub replies-one : (frame : Frame) (place : ℕ) (os : List Outcome) → replies (frame ∷ []) place os ≡ reply_text (reply_for frame (request_in frame) os) (closes place frame)
-replies-one frame place os = elim (cases_Bool (closes place frame)) [
+pub reply_texts-one : (frame : Frame) (place : ℕ) (rs : List ReplyParts)
+    → reply_texts (frame ∷ []) place rs ≡ reply_text (reply_for frame (request_in frame) rs) (closes place frame)
+reply_texts-one frame place rs = elim (cases_Bool (closes place frame)) [
   | inl t ↦ rw t (append-nil _)
   | inr f ↦ rw f (append-nil _)
 ]

@@ -4,6 +4,9 @@ use Rattle.std.specs.List.{All}
 use Rattle.std.proofs.lemmas.Bool.{cases_Bool, true≢false, false≢true}
 use Rattle.std.proofs.lemmas.List.{append_cancel_left}
 use Rattle.std.proofs.lemmas.List.Elements.{All-map}
+use Rattle.m2m_io.specs.Link.{Exchange}
+use Rattle.m2m_io.specs.Outside.{outside}
+use Rattle.primitive_json.specs.declared.reply.ReplyParts.{ReplyParts}
 use Rattle.turn_desk.specs.Entries.{readings_of, events_of, outcomes_of}
 use Rattle.turn_desk.specs.Growth.{IsOwnRun}
 use Rattle.turn_desk.proofs.GrowthLemmas.{Grew-runs}
@@ -27,7 +30,9 @@ use Rattle.cse_server.specs.declared.connection.Ended.TheVariants.{Closed, NoFra
 use Rattle.cse_server.specs.Closing.{closes}
 use Rattle.cse_server.specs.Talk.{requests_in, talk, some_closes, ends_at_close}
 use Rattle.cse_server.specs.Connection.{IsThese, RefusesRightly, EndsRightly, Says, Serves}
+use Rattle.cse_server.specs.Replies.{GivesReplies}
 use Rattle.cse_server.specs.Laws.{IsWhole, IsAnsweredInOneWay, EqualSightsAreServedAlike}
+use Rattle.cse_server.proofs.RepliesLemmas.{gives_one_way}
 
 -- ---- where a stream ends
 
@@ -140,14 +145,14 @@ said_whole ReadFault old new before text whole said = absurd whole
 said_whole WriteFault old new before text whole said = absurd whole
 said_whole Memory old new before text whole said = absurd whole
 
-talk_same : (place : ℕ) (heard others : List Frame) (refused denied : Bool) (os ps : List Outcome) → heard ≡ others → refused ≡ denied → os ≡ ps
-    → talk place heard refused os ≡ talk place others denied ps
-talk_same place heard others refused denied os ps a b c = λ i. talk place (a i) (b i) (c i)
+talk_same : (place : ℕ) (heard others : List Frame) (refused denied : Bool) (rs ps : List ReplyParts) → heard ≡ others → refused ≡ denied → rs ≡ ps
+    → talk place heard refused rs ≡ talk place others denied ps
+talk_same place heard others refused denied rs ps a b c = λ i. talk place (a i) (b i) (c i)
 
 -- Two connections with one stream, at the same readings, that ended whole.
-module _ (left right after other : EntityData) (stream old new twin given told : List ℕ) (now gone : Option (List ℕ)) (ended end : Ended)
-    (first : Serves (IsOwnRun Step) left after (Some stream) now (Some old) (Some new) (Some given) (Some told) ended)
-    (second : Serves (IsOwnRun Step) right other (Some stream) gone (Some old) (Some twin) (Some given) (Some told) end)
+module _ (left right after other : EntityData) (stream old new twin given told : List ℕ) (now gone : Option (List ℕ)) (link made other_made : Option (List Exchange)) (ended end : Ended)
+    (first : Serves (IsOwnRun Step) left after (outside (Some stream) (Some old) (Some given) link) (outside now (Some new) (Some told) made) ended)
+    (second : Serves (IsOwnRun Step) right other (outside (Some stream) (Some old) (Some given) link) (outside gone (Some twin) (Some told) other_made) end)
     (whole : IsWhole ended) (wholes : IsWhole end) where
   both_heard : (first.heard ≡ second.heard) × (first.refused ≡ second.refused) × (ended ≡ end)
   both_heard =
@@ -165,44 +170,56 @@ module _ (left right after other : EntityData) (stream old new twin given told :
   same_events : events_of first.asked.mine ≡ events_of second.asked.mine
   same_events = first.asked.events_are ∙ ap (λ fs. map Ask (requests_in fs)) both_heard.0 ∙ sym second.asked.events_are
 
-  -- where the outcomes are the same, so is what is written
+  -- where the outcomes are the same, so are the replies and the exchanges
+  same_replies : outcomes_of first.asked.mine ≡ outcomes_of second.asked.mine
+      → (first.replies ≡ second.replies) × (first.exchanges ≡ second.exchanges)
+  same_replies outcomes =
+      let os : first.outcomes ≡ second.outcomes = sym first.asked.outcomes_are ∙ outcomes ∙ second.asked.outcomes_are in
+      gives_one_way (requests_in second.heard) second.outcomes first.replies second.replies first.exchanges second.exchanges
+      (subst (λ (v : List Outcome). GivesReplies (requests_in second.heard) v first.replies first.exchanges) os
+      (subst (λ (fs : List Frame). GivesReplies (requests_in fs) first.outcomes first.replies first.exchanges) both_heard.0 first.gives))
+      second.gives
+
+  -- and what is written
   same_bytes : outcomes_of first.asked.mine ≡ outcomes_of second.asked.mine → new ≡ twin
   same_bytes outcomes =
       said_whole ended old new _ _ whole first.said
-      ∙ ap (λ v. old ++ v) (talk_same 1 first.heard second.heard first.refused second.refused first.outcomes second.outcomes both_heard.0 both_heard.1
-      (sym first.asked.outcomes_are ∙ outcomes ∙ second.asked.outcomes_are))
+      ∙ ap (λ v. old ++ v) (talk_same 1 first.heard second.heard first.refused second.refused first.replies second.replies both_heard.0 both_heard.1
+      (same_replies outcomes).0)
       ∙ sym (said_whole end old twin _ _ wholes second.said)
 
 all_done : (mine : History) (outcomes : List Outcome) → outcomes_of mine ≡ outcomes → All IsDone outcomes → All IsDone (outcomes_of mine)
 all_done mine outcomes same done = subst (λ (os : List Outcome). All IsDone os) (sym same) done
 
 pub answered_in_one_way : IsAnsweredInOneWay
-answered_in_one_way opening after other stream old new twin given told now gone ended end first second whole wholes done dones =
+answered_in_one_way opening after other stream old new twin given told now gone link made other_made ended end first second whole wholes done dones =
     let way =
     one_way first.asked.mine second.asked.mine opening after other
     (Grew-runs Step first.asked.grew) (Grew-runs Step second.asked.grew)
-    (same_readings opening opening after other stream old new twin given told now gone ended end first second whole wholes)
-    (same_events opening opening after other stream old new twin given told now gone ended end first second whole wholes)
+    (same_readings opening opening after other stream old new twin given told now gone link made other_made ended end first second whole wholes)
+    (same_events opening opening after other stream old new twin given told now gone link made other_made ended end first second whole wholes)
     (all_done first.asked.mine first.outcomes first.asked.outcomes_are done)
     (all_done second.asked.mine second.outcomes second.asked.outcomes_are dones) in (
-      same_bytes opening opening after other stream old new twin given told now gone ended end first second whole wholes way.0,
-      (both_heard opening opening after other stream old new twin given told now gone ended end first second whole wholes).2,
+      same_bytes opening opening after other stream old new twin given told now gone link made other_made ended end first second whole wholes way.0,
+      (both_heard opening opening after other stream old new twin given told now gone link made other_made ended end first second whole wholes).2,
+      (same_replies opening opening after other stream old new twin given told now gone link made other_made ended end first second whole wholes way.0).1,
       way.1,
     )
 
 -- ---- by one originator
 
 pub served_alike : EqualSightsAreServedAlike
-served_alike left right after other o stream old new twin given told now gone ended end first second sound sounds same by whole wholes done dones =
+served_alike left right after other o stream old new twin given told now gone link made other_made ended end first second sound sounds same by whole wholes done dones =
     let way =
     stay_alike first.asked.mine second.asked.mine o left right after other sound sounds same
     (Grew-runs Step first.asked.grew) (Grew-runs Step second.asked.grew)
-    (same_readings left right after other stream old new twin given told now gone ended end first second whole wholes)
-    (same_events left right after other stream old new twin given told now gone ended end first second whole wholes)
+    (same_readings left right after other stream old new twin given told now gone link made other_made ended end first second whole wholes)
+    (same_events left right after other stream old new twin given told now gone link made other_made ended end first second whole wholes)
     (subst (λ (es : List Event). All (IsBy o) es) (sym first.asked.events_are) (All-map (IsBy o) Ask (requests_in first.heard) by))
     (all_done first.asked.mine first.outcomes first.asked.outcomes_are done)
     (all_done second.asked.mine second.outcomes second.asked.outcomes_are dones) in (
-      same_bytes left right after other stream old new twin given told now gone ended end first second whole wholes way.0,
-      (both_heard left right after other stream old new twin given told now gone ended end first second whole wholes).2,
+      same_bytes left right after other stream old new twin given told now gone link made other_made ended end first second whole wholes way.0,
+      (both_heard left right after other stream old new twin given told now gone link made other_made ended end first second whole wholes).2,
+      (same_replies left right after other stream old new twin given told now gone link made other_made ended end first second whole wholes way.0).1,
       way.1,
     )

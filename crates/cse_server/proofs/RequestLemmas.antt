@@ -1,15 +1,13 @@
 -- The request that a frame binds to.
-use Rattle.std.proofs.Common.{◌≡◌, ◌≢◌, ℕ, true, false, List, Option, Some, None, IfSome, IsTrue, Result, Ok, Err, refl, ap, subst}
-use Rattle.std.specs.Option.{option_map_or, unwrap_or}
+use Rattle.std.proofs.Common.{◌≡◌, ℕ, List, [], ◌∷◌, Option, Some, None, Result, Ok, Err, ap, subst}
+use Rattle.std.specs.List.{cons_option}
+use Rattle.std.specs.Option.{unwrap_or}
+use Rattle.primitive_json.specs.declared.reply.ReplyParts.{ReplyParts}
 use Rattle.primitive_json.specs.declared.request.RequestParts.{RequestParts}
 use Rattle.http_frames.specs.declared.frame.Frame.{Frame}
 use Rattle.http_binding.specs.declared.fault.BindFault.{BindFault}
-use Rattle.http_binding.specs.Headers.{is_local_originator}
 use Rattle.http_binding.specs.Binding.{binding}
-use Rattle.http_binding.specs.Laws.{IsPlainRetrieve}
-use Rattle.http_binding.proofs.LawLemmas.{binds_to_served}
-use Rattle.cse_machine.specs.Answer.{is_short, is_served}
-use Rattle.cse_server.specs.Talk.{bound, request_in}
+use Rattle.cse_server.specs.Talk.{bound, request_in, requests_in, reply_for}
 
 abbrev IsNone : Option RequestParts → Type 0
 IsNone None = Unit {0}
@@ -23,13 +21,11 @@ bound_ok (Err fault) request e = absurd (subst IsNone e tt)
 pub binds : (frame : Frame) (request : RequestParts) → request_in frame ≡ Some request → binding frame ≡ Ok request
 binds frame request e = bound_ok (binding frame) request e
 
-served_fr : (fr : Option (List ℕ)) → fr ≢ None → IfSome fr (λ o. IsTrue (is_local_originator o)) → option_map_or is_short fr false ≡ true
-served_fr None some by = absurd (some refl)
-served_fr (Some o) some by = by
+-- it is the one request of the frame
+pub requests_in-one : (frame : Frame) (request : RequestParts) → request_in frame ≡ Some request → requests_in (frame ∷ []) ≡ request ∷ []
+requests_in-one frame request e = ap (λ (o : Option RequestParts). cons_option o []) e
 
-served : (request : RequestParts) → IsPlainRetrieve request → IsTrue (is_served request)
-served request s = rw (s.op, s.to, served_fr request.fr s.fr s.originator, s.rqet, s.rt, s.rcn, s.fc, s.drt) refl
-
--- it is one of those that are served
-pub request_served : (frame : Frame) (request : RequestParts) → request_in frame ≡ Some request → IsTrue (is_served request)
-request_served frame request e = served request (binds_to_served frame request (binds frame request e))
+-- and the first of the replies answers the frame
+pub reply_for-one : (frame : Frame) (request : RequestParts) (reply : ReplyParts) → request_in frame ≡ Some request
+    → reply_for frame (request_in frame) (reply ∷ []) ≡ reply
+reply_for-one frame request reply e = ap (λ (o : Option RequestParts). reply_for frame o (reply ∷ [])) e

@@ -6,9 +6,9 @@ use Rattle.std.proofs.lemmas.List.Elements.{filter_map-append}
 use Rattle.primitive_json.specs.declared.request.RequestParts.{RequestParts}
 use Rattle.http_frames.specs.declared.frame.Frame.{Frame}
 use Rattle.http_binding.specs.Replying.{reply_text}
-use Rattle.cse_machine.specs.declared.event.Outcome.{Outcome}
+use Rattle.primitive_json.specs.declared.reply.ReplyParts.{ReplyParts}
 use Rattle.cse_server.specs.Closing.{closes}
-use Rattle.cse_server.specs.Talk.{request_in, requests_in, reply_for, outcomes_behind, replies, last_reply, talk, before_last, talk_before_last, some_closes, ends_at_close}
+use Rattle.cse_server.specs.Talk.{request_in, requests_in, reply_for, replies_behind, reply_texts, last_reply, talk, before_last, talk_before_last, some_closes, ends_at_close}
 
 -- ---- places
 
@@ -28,11 +28,11 @@ first_open x xs place stays = elim (cases_Bool (closes place x)) [
 rest_open : (x : Frame) (xs : List Frame) (place : ℕ) → some_closes (x ∷ xs) place ≡ false → some_closes xs (place + 1) ≡ false
 rest_open x xs place stays = rw (first_open x xs place stays) at stays
 
-none_left : (q : RequestParts) (rest : List RequestParts) → length {A = Outcome} [] ≡ length (q ∷ rest) → ⊥
+none_left : (q : RequestParts) (rest : List RequestParts) → length {A = ReplyParts} [] ≡ length (q ∷ rest) → ⊥
 none_left q rest e = omega (arith, e)
 
-some_left : (o : Outcome) (os : List Outcome) → length (o ∷ os) ≡ 0 → ⊥
-some_left o os e = omega (arith, e)
+some_left : (o : ReplyParts) (rs : List ReplyParts) → length (o ∷ rs) ≡ 0 → ⊥
+some_left o rs e = omega (arith, e)
 
 -- ---- joined
 
@@ -54,38 +54,38 @@ ends_at_close-append (x ∷ xs) ys place stays ends = behind (xs ++ ys) (ends_at
 pub requests_in-append : (xs ys : List Frame) → requests_in (xs ++ ys) ≡ requests_in xs ++ requests_in ys
 requests_in-append xs ys = filter_map-append request_in xs ys
 
--- as many outcomes as requests are used up by them
-behind_append : (r : Option RequestParts) (rest : List RequestParts) (os more : List Outcome) → length os ≡ length (cons_option r rest) → outcomes_behind r (os ++ more) ≡ outcomes_behind r os ++ more
-behind_append None rest os more same = refl
+-- as many replies as requests are used up by them
+behind_append : (r : Option RequestParts) (rest : List RequestParts) (rs more : List ReplyParts) → length rs ≡ length (cons_option r rest) → replies_behind r (rs ++ more) ≡ replies_behind r rs ++ more
+behind_append None rest rs more same = refl
 behind_append (Some q) rest [] more same = absurd (none_left q rest same)
-behind_append (Some q) rest (o ∷ os) more same = refl
+behind_append (Some q) rest (o ∷ rs) more same = refl
 
-behind_length : (r : Option RequestParts) (rest : List RequestParts) (os : List Outcome) → length os ≡ length (cons_option r rest) → length (outcomes_behind r os) ≡ length rest
-behind_length None rest os same = same
+behind_length : (r : Option RequestParts) (rest : List RequestParts) (rs : List ReplyParts) → length rs ≡ length (cons_option r rest) → length (replies_behind r rs) ≡ length rest
+behind_length None rest rs same = same
 behind_length (Some q) rest [] same = absurd (none_left q rest same)
-behind_length (Some q) rest (o ∷ os) same = omega (arith, same)
+behind_length (Some q) rest (o ∷ rs) same = omega (arith, same)
 
-reply_same : (frame : Frame) (r : Option RequestParts) (rest : List RequestParts) (os more : List Outcome) → length os ≡ length (cons_option r rest) → reply_for frame r (os ++ more) ≡ reply_for frame r os
-reply_same frame None rest os more same = refl
+reply_same : (frame : Frame) (r : Option RequestParts) (rest : List RequestParts) (rs more : List ReplyParts) → length rs ≡ length (cons_option r rest) → reply_for frame r (rs ++ more) ≡ reply_for frame r rs
+reply_same frame None rest rs more same = refl
 reply_same frame (Some q) rest [] more same = absurd (none_left q rest same)
-reply_same frame (Some q) rest (o ∷ os) more same = refl
+reply_same frame (Some q) rest (o ∷ rs) more same = refl
 
-pub replies-append : (xs ys : List Frame) (place : ℕ) (os more : List Outcome) → some_closes xs place ≡ false → length os ≡ length (requests_in xs) → replies (xs ++ ys) place (os ++ more) ≡ replies xs place os ++ replies ys (place + length xs) more
-replies-append [] ys place [] more stays same = ap (λ n. replies ys n more) (no_place place)
-replies-append [] ys place (o ∷ os) more stays same = absurd (some_left o os same)
-replies-append (x ∷ xs) ys place os more stays same =
+pub reply_texts-append : (xs ys : List Frame) (place : ℕ) (rs more : List ReplyParts) → some_closes xs place ≡ false → length rs ≡ length (requests_in xs) → reply_texts (xs ++ ys) place (rs ++ more) ≡ reply_texts xs place rs ++ reply_texts ys (place + length xs) more
+reply_texts-append [] ys place [] more stays same = ap (λ n. reply_texts ys n more) (no_place place)
+reply_texts-append [] ys place (o ∷ rs) more stays same = absurd (some_left o rs same)
+reply_texts-append (x ∷ xs) ys place rs more stays same =
     let r = request_in x in
-    let left = outcomes_behind r os in
-    let text = reply_text (reply_for x r os) false in
-    let again : length left ≡ length (requests_in xs) = behind_length r (requests_in xs) os same in
-    let rest = replies-append xs ys (place + 1) left more (rest_open x xs place stays) again in
-    rw (first_open x xs place stays, reply_same x r (requests_in xs) os more same, behind_append r (requests_in xs) os more same)
-    (ap (λ v. text ++ v) (rest ∙ ap (λ n. replies xs (place + 1) left ++ replies ys n more) (next_place xs x place)) ∙ sym (append_assoc text (replies xs (place + 1) left) (replies ys (place + length (x ∷ xs)) more)))
+    let left = replies_behind r rs in
+    let text = reply_text (reply_for x r rs) false in
+    let again : length left ≡ length (requests_in xs) = behind_length r (requests_in xs) rs same in
+    let rest = reply_texts-append xs ys (place + 1) left more (rest_open x xs place stays) again in
+    rw (first_open x xs place stays, reply_same x r (requests_in xs) rs more same, behind_append r (requests_in xs) rs more same)
+    (ap (λ v. text ++ v) (rest ∙ ap (λ n. reply_texts xs (place + 1) left ++ reply_texts ys n more) (next_place xs x place)) ∙ sym (append_assoc text (reply_texts xs (place + 1) left) (reply_texts ys (place + length (x ∷ xs)) more)))
 
-pub talk-append : (xs ys : List Frame) (place : ℕ) (refused : Bool) (os more : List Outcome) → some_closes xs place ≡ false → length os ≡ length (requests_in xs) → talk place (xs ++ ys) refused (os ++ more) ≡ replies xs place os ++ talk (place + length xs) ys refused more
-talk-append xs ys place refused os more stays same =
-    ap (λ v. v ++ cond refused last_reply []) (replies-append xs ys place os more stays same)
-    ∙ append_assoc (replies xs place os) (replies ys (place + length xs) more) (cond refused last_reply [])
+pub talk-append : (xs ys : List Frame) (place : ℕ) (refused : Bool) (rs more : List ReplyParts) → some_closes xs place ≡ false → length rs ≡ length (requests_in xs) → talk place (xs ++ ys) refused (rs ++ more) ≡ reply_texts xs place rs ++ talk (place + length xs) ys refused more
+talk-append xs ys place refused rs more stays same =
+    ap (λ v. v ++ cond refused last_reply []) (reply_texts-append xs ys place rs more stays same)
+    ∙ append_assoc (reply_texts xs place rs) (reply_texts ys (place + length xs) more) (cond refused last_reply [])
 
 -- ---- all but what is said last
 
@@ -95,29 +95,29 @@ before_last-append (x ∷ []) y ys = refl
 before_last-append (x ∷ next ∷ xs) y ys = ap (λ v. x ∷ v) (before_last-append (next ∷ xs) y ys)
 
 -- the replies to all frames but the last, and then the one to that
-replies-last : (xs : List Frame) (place : ℕ) (os : List Outcome) → (last : List ℕ) × (replies xs place os ≡ replies (before_last xs) place os ++ last)
-replies-last [] place os = ([], refl)
-replies-last (x ∷ []) place os = (replies (x ∷ []) place os, refl)
-replies-last (x ∷ next ∷ xs) place os = elim (cases_Bool (closes place x)) [
+reply_texts-last : (xs : List Frame) (place : ℕ) (rs : List ReplyParts) → (last : List ℕ) × (reply_texts xs place rs ≡ reply_texts (before_last xs) place rs ++ last)
+reply_texts-last [] place rs = ([], refl)
+reply_texts-last (x ∷ []) place rs = (reply_texts (x ∷ []) place rs, refl)
+reply_texts-last (x ∷ next ∷ xs) place rs = elim (cases_Bool (closes place x)) [
   | inl t ↦ ([], rw t (sym (append-nil _)))
   | inr f ↦
-      let rest = replies-last (next ∷ xs) (place + 1) (outcomes_behind (request_in x) os) in
-      (rest.0, rw f (ap (λ v. reply_text (reply_for x (request_in x) os) false ++ v) rest.1 ∙ sym (append_assoc (reply_text (reply_for x (request_in x) os) false) (replies (before_last (next ∷ xs)) (place + 1) (outcomes_behind (request_in x) os)) rest.0)))
+      let rest = reply_texts-last (next ∷ xs) (place + 1) (replies_behind (request_in x) rs) in
+      (rest.0, rw f (ap (λ v. reply_text (reply_for x (request_in x) rs) false ++ v) rest.1 ∙ sym (append_assoc (reply_text (reply_for x (request_in x) rs) false) (reply_texts (before_last (next ∷ xs)) (place + 1) (replies_behind (request_in x) rs)) rest.0)))
 ]
 
 -- Frames that were answered, and then all but what is said last of others: it is all but what is said last of both, and
 -- perhaps more.
-pub before_last-joined : (xs ys : List Frame) (place : ℕ) (refused : Bool) (os more : List Outcome) → some_closes xs place ≡ false → length os ≡ length (requests_in xs)
-    → (last : List ℕ) × (replies xs place os ++ talk_before_last (place + length xs) ys refused more ≡ talk_before_last place (xs ++ ys) refused (os ++ more) ++ last)
-before_last-joined xs ys place true os more stays same =
-    ([], sym (replies-append xs ys place os more stays same) ∙ sym (append-nil _))
-before_last-joined xs [] place false os more stays same =
-    let last = replies-last (xs ++ []) place (os ++ more) in
-    (last.0, sym (replies-append xs [] place os more stays same) ∙ last.1)
-before_last-joined xs (y ∷ ys) place false os more stays same = (
+pub before_last-joined : (xs ys : List Frame) (place : ℕ) (refused : Bool) (rs more : List ReplyParts) → some_closes xs place ≡ false → length rs ≡ length (requests_in xs)
+    → (last : List ℕ) × (reply_texts xs place rs ++ talk_before_last (place + length xs) ys refused more ≡ talk_before_last place (xs ++ ys) refused (rs ++ more) ++ last)
+before_last-joined xs ys place true rs more stays same =
+    ([], sym (reply_texts-append xs ys place rs more stays same) ∙ sym (append-nil _))
+before_last-joined xs [] place false rs more stays same =
+    let last = reply_texts-last (xs ++ []) place (rs ++ more) in
+    (last.0, sym (reply_texts-append xs [] place rs more stays same) ∙ last.1)
+before_last-joined xs (y ∷ ys) place false rs more stays same = (
   [],
-  sym (replies-append xs (before_last (y ∷ ys)) place os more stays same)
-      ∙ ap (λ fs. replies fs place (os ++ more)) (sym (before_last-append xs y ys)) ∙ sym (append-nil _),
+  sym (reply_texts-append xs (before_last (y ∷ ys)) place rs more stays same)
+      ∙ ap (λ fs. reply_texts fs place (rs ++ more)) (sym (before_last-append xs y ys)) ∙ sym (append-nil _),
 )
 
 -- nothing is said before what is said last of at most one frame

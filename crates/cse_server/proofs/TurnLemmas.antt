@@ -2,7 +2,9 @@
 use Rattle.std.proofs.Common.{◌≡◌, ℕ, ◌+◌, ◌<◌, Bool, true, false, List, [], ◌∷◌, ◌++◌, length, Option, Some, None, IfSome, IsTrue, MatchOption, Result, Ok, inl, inr, refl, sym, ap, subst, ◌∙◌, arith, append-nil}
 use Rattle.std.proofs.lemmas.Bool.{false≢true, true≢false}
 use Rattle.std.specs.Io.KnownBytes.{Appends, IsAtEnd}
-use Rattle.m2m_io.specs.Told.{AppendsPrefix}
+use Rattle.m2m_io.specs.Link.{Exchange}
+use Rattle.m2m_io.specs.Outside.{Outside, outside}
+use Rattle.m2m_io.specs.Told.{AppendsPrefix, Tells}
 use Rattle.primitive_json.specs.declared.reply.ReplyParts.{ReplyParts}
 use Rattle.turn_desk.specs.Entries.{Marked}
 use Rattle.turn_desk.proofs.GrowthLemmas.{AsksAll-nothing}
@@ -18,10 +20,10 @@ use Rattle.cse_machine.specs.declared.event.Outcome.{Outcome}
 use Rattle.cse_server.specs.declared.connection.Ended.{Ended}
 use Rattle.cse_server.specs.declared.connection.Ended.TheVariants.{Closed, NoFrame, ReadFault, WriteFault, Memory}
 use Rattle.cse_server.specs.Closing.{closes}
-use Rattle.cse_server.specs.Talk.{replies, last_reply, talk, talk_before_last, some_closes, ends_at_close}
+use Rattle.cse_server.specs.Talk.{reply_texts, last_reply, talk, talk_before_last, some_closes, ends_at_close}
 use Rattle.cse_server.specs.Connection.{IsThese, ReadsLittle, RefusesRightly, EndsRightly, AppendsCut, Says, ServesFrom}
 use Rattle.cse_server.specs.Way.{Leads, Goes, Hears, Refuses, SaysTurn, Turns, end_of_put}
-use Rattle.cse_server.proofs.NextLemmas.{kept_leads, reads_little, ended_empty, refused_rightly, replies-one, some_closes-one}
+use Rattle.cse_server.proofs.NextLemmas.{kept_leads, reads_little, ended_empty, refused_rightly, reply_texts-one, some_closes-one}
 use Rattle.cse_server.proofs.PutLemmas.{prefix_none, cut_first}
 use Rattle.cse_server.proofs.TalkLemmas.{nothing_before}
 use Rattle.cse_server.proofs.WayLemmas.{Tells-nil}
@@ -45,23 +47,36 @@ some_same : (ended : Ended) → Some ended ≡ Some Memory → ended ≡ Memory
 some_same ended e = ap (end_or ended) e
 
 -- what an answer says that ended the connection, before which nothing was said
-turn_says : (place : ℕ) (frame : Frame) (ended : Ended) (old new : Option (List ℕ)) (before text : List ℕ) → before ≡ [] → SaysTurn place frame (Some ended) old new text → Says ended old new before (text ++ [])
-turn_says place frame Closed old new before text none said = subst (λ (v : List ℕ). Appends old new v) (sym (append-nil text)) said.1
+turn_says : (place : ℕ) (frame : Frame) (ended : Ended) (old new : Option (List ℕ)) (before text : List ℕ) → before ≡ []
+    → SaysTurn place frame (Some ended) old new text → Says ended old new before (text ++ [])
+turn_says place frame Closed old new before text none said =
+    subst (λ (v : List ℕ). Appends old new v) (sym (append-nil text)) said.1
 turn_says place frame NoFrame old new before text none said = absurd said
 turn_says place frame ReadFault old new before text none said = absurd said
-turn_says place frame WriteFault old new before text none said = subst (λ (v : List ℕ). AppendsCut old new before v) (sym (append-nil text)) (cut_first old new before text none said)
-turn_says place frame Memory old new before text none said = subst (λ (v : List ℕ). AppendsCut old new before v) (sym (append-nil text)) (cut_first old new before text none said)
+turn_says place frame WriteFault old new before text none said =
+    subst (λ (v : List ℕ). AppendsCut old new before v) (sym (append-nil text)) (cut_first old new before text none said)
+turn_says place frame Memory old new before text none said =
+    subst (λ (v : List ℕ). AppendsCut old new before v) (sym (append-nil text)) (cut_first old new before text none said)
 
-turn_ends : (place : ℕ) (frame : Frame) (ended : Ended) (heard : List Frame) (old new : Option (List ℕ)) (text rest : List ℕ) (src : Option (List ℕ)) → heard ≡ frame ∷ [] → IfSome src (ReadsLittle rest) → SaysTurn place frame (Some ended) old new text → EndsRightly place ended false heard rest src
+turn_ends : (place : ℕ) (frame : Frame) (ended : Ended) (heard : List Frame) (old new : Option (List ℕ)) (text rest : List ℕ)
+    (src : Option (List ℕ)) → heard ≡ frame ∷ [] → IfSome src (ReadsLittle rest)
+    → SaysTurn place frame (Some ended) old new text → EndsRightly place ended false heard rest src
 turn_ends place frame Closed heard old new text rest src same little said =
     (refl, λ stays. absurd (true≢false (sym (some_closes-one frame place true said.0) ∙ ap (λ (fs : List Frame). some_closes fs place) (sym same) ∙ stays)), little)
 turn_ends place frame NoFrame heard old new text rest src same little said = absurd said
 turn_ends place frame ReadFault heard old new text rest src same little said = absurd said
 turn_ends place frame WriteFault heard old new text rest src same little said = little
-turn_ends place frame Memory heard old new text rest src same little said = tt
+turn_ends place frame Memory heard old new text rest src same little said = little
 
-turn_stream : (left src : Option (List ℕ)) (held : List ℕ) (place : ℕ) (frame : Frame) (ended : Ended) (heard : List Frame) (old new : Option (List ℕ)) (text : List ℕ) → heard ≡ frame ∷ [] → length held < most_held Request → Leads left (frame ∷ []) (stream_of held src) → SaysTurn place frame (Some ended) old new text
-    → IfSome left (λ bytes. (after : List ℕ) × IsThese bytes heard after × RefusesRightly place false heard after × EndsRightly place ended false heard after src)
+-- what the stream says of an end without a last reply
+abbrev EndsOn : ℕ → Ended → List Frame → Option (List ℕ) → List ℕ → Type 0
+EndsOn place ended heard src bytes =
+    (rest : List ℕ) × IsThese bytes heard rest × RefusesRightly place false heard rest × EndsRightly place ended false heard rest src
+
+turn_stream : (left src : Option (List ℕ)) (held : List ℕ) (place : ℕ) (frame : Frame) (ended : Ended) (heard : List Frame)
+    (old new : Option (List ℕ)) (text : List ℕ) → heard ≡ frame ∷ [] → length held < most_held Request
+    → Leads left (frame ∷ []) (stream_of held src) → SaysTurn place frame (Some ended) old new text
+    → IfSome left (EndsOn place ended heard src)
 turn_stream None src held place frame ended heard old new text same few leads said = tt
 turn_stream (Some bytes) None held place frame ended heard old new text same few leads said = absurd leads
 turn_stream (Some bytes) (Some m) held place frame ended heard old new text same few leads said = (
@@ -72,88 +87,108 @@ turn_stream (Some bytes) (Some m) held place frame ended heard old new text same
 )
 
 starved_stream : (left src : Option (List ℕ)) (place : ℕ) (ended : Ended) (heard : List Frame) → heard ≡ [] → ended ≡ Memory
-    → IfSome left (λ bytes. (after : List ℕ) × IsThese bytes heard after × RefusesRightly place false heard after × EndsRightly place ended false heard after src)
-starved_stream None src place ended heard same memory = tt
-starved_stream (Some bytes) src place ended heard same memory = (
+    → IfSome left (λ bytes. IfSome src (ReadsLittle bytes)) → IfSome left (EndsOn place ended heard src)
+starved_stream None src place ended heard same memory little = tt
+starved_stream (Some bytes) src place ended heard same memory little = (
   bytes,
   subst (λ (fs : List Frame). IsThese bytes fs bytes) (sym same) refl,
   (λ t. absurd (false≢true t)),
-  subst (λ (e : Ended). EndsRightly place e false heard bytes src) (sym memory) tt,
+  subst (λ (e : Ended). EndsRightly place e false heard bytes src) (sym memory) little,
 )
 
 module _ {S : Type 0} (grown : S → List (Marked Event Outcome) → S → Type 0) where
   -- the reply to the frame was put, or some of it
-  pub turned : {E : Type 0} (place : ℕ) (before after : S) (old new given told : Option (List ℕ)) (frame : Frame) (r : ReplyParts) (ended : Option Ended)
-      → Hears {E = E} grown before after given told frame (Ok r)
-      → SaysTurn place frame ended old new (reply_text r (closes place frame))
-      → Turns place grown before after old new given told frame ended
-  turned place before after old new given told frame r ended h said = record {
+  pub turned : {E : Type 0} (place : ℕ) (before after : S) (old new : Outside) (frame : Frame) (r : ReplyParts) (ended : Option Ended)
+      → Hears {E = E} grown before after (outside None None old.readings old.exchanges)
+      (outside None None new.readings new.exchanges) frame (Ok r)
+      → SaysTurn place frame ended old.written new.written (reply_text r (closes place frame))
+      → Turns place grown before after old new frame ended
+  turned place before after old new frame r ended h said = record {
     heard = frame ∷ [];
     either = inl refl;
     readings = h.readings;
     outcomes = h.outcomes;
+    replies = h.replies;
+    exchanges = h.exchanges;
     asked = h.asked;
     clock = h.clock;
-    said = subst (λ (text : List ℕ). SaysTurn place frame ended old new text)
-        (ap (λ (v : ReplyParts). reply_text v (closes place frame)) h.replied ∙ sym (replies-one frame place h.outcomes)) said;
+    gives = h.gives;
+    link = h.link;
+    said = subst (λ (text : List ℕ). SaysTurn place frame ended old.written new.written text)
+        (ap (λ (v : ReplyParts). reply_text v (closes place frame)) h.replied ∙ sym (reply_texts-one frame place h.replies)) said;
   }
 
   -- memory ran out before there was a reply
-  pub starved_turn : {E : Type 0} (place : ℕ) (before after : S) (old given told : Option (List ℕ)) (frame : Frame) (r : Result ReplyParts E)
-      → Hears grown before after given told frame r
-      → Turns place grown before after old old given told frame (Some Memory)
-  starved_turn place before after old given told frame r h = record {
+  pub starved_turn : {E : Type 0} (place : ℕ) (before after : S) (old new : Outside) (frame : Frame) (r : Result ReplyParts E)
+      → Hears grown before after (outside None None old.readings old.exchanges)
+      (outside None None new.readings new.exchanges) frame r
+      → new.written ≡ old.written → Turns place grown before after old new frame (Some Memory)
+  starved_turn place before after old new frame r h same = record {
     heard = frame ∷ [];
     either = inl refl;
     readings = h.readings;
     outcomes = h.outcomes;
+    replies = h.replies;
+    exchanges = h.exchanges;
     asked = h.asked;
     clock = h.clock;
-    said = prefix_none old (replies (frame ∷ []) place h.outcomes);
+    gives = h.gives;
+    link = h.link;
+    said = subst (λ (v : Option (List ℕ)). AppendsPrefix old.written v (reply_texts (frame ∷ []) place h.replies)) (sym same)
+        (prefix_none old.written (reply_texts (frame ∷ []) place h.replies));
   }
 
   module _ (nothing : (seat : S) → grown seat [] seat) where
     -- memory ran out before the frame was heard
-    pub unheard_turn : (place : ℕ) (seat : S) (old given : Option (List ℕ)) (frame : Frame)
-        → Turns place grown seat seat old old given given frame (Some Memory)
-    unheard_turn place seat old given frame = record {
+    pub unheard_turn : (place : ℕ) (seat : S) (old : Outside) (frame : Frame) → Turns place grown seat seat old old frame (Some Memory)
+    unheard_turn place seat old frame = record {
       heard = [];
       either = inr (refl, refl);
       readings = [];
       outcomes = [];
+      replies = [];
+      exchanges = [];
       asked = AsksAll-nothing grown nothing seat;
-      clock = Tells-nil given;
-      said = prefix_none old [];
+      clock = Tells-nil old.readings;
+      gives = refl;
+      link = Tells-nil old.exchanges;
+      said = prefix_none old.written [];
     }
 
     -- nothing was heard, and the connection ended so
-    pub serves_none : (place : ℕ) (seat : S) (left src old new given : Option (List ℕ)) (refused : Bool) (ended : Ended)
-        → IfSome left (λ bytes. RefusesRightly place refused [] bytes × EndsRightly place ended refused [] bytes src)
-        → Says ended old new [] (talk place [] refused [])
-        → ServesFrom place grown seat seat left src old new given given ended
-    serves_none place seat left src old new given refused ended stream said = record {
+    pub serves_none : (place : ℕ) (seat : S) (old new : Outside) (refused : Bool) (ended : Ended)
+        → new.readings ≡ old.readings → new.exchanges ≡ old.exchanges
+        → IfSome old.left (λ bytes. RefusesRightly place refused [] bytes × EndsRightly place ended refused [] bytes new.left)
+        → Says ended old.written new.written [] (talk place [] refused [])
+        → ServesFrom place grown seat seat old new ended
+    serves_none place seat old new refused ended readings exchanges stream said = record {
       heard = [];
       refused = refused;
       readings = [];
       outcomes = [];
+      replies = [];
+      exchanges = [];
       asked = AsksAll-nothing grown nothing seat;
-      clock = Tells-nil given;
+      clock = subst (λ (v : Option (List ℕ)). Tells (λ given. given ++ []) old.readings v) (sym readings) (Tells-nil old.readings);
+      gives = refl;
+      link = subst (λ (v : Option (List Exchange)). Tells (λ told. told ++ []) old.exchanges v) (sym exchanges) (Tells-nil old.exchanges);
       up_to = refl;
-      stream = here left stream;
-      said = subst (λ (before : List ℕ). Says ended old new before (talk place [] refused [])) (sym (nothing_before place refused)) said;
+      stream = here old.left stream;
+      said = subst (λ (before : List ℕ). Says ended old.written new.written before (talk place [] refused []))
+          (sym (nothing_before place refused)) said;
     }
       where
-        here : (left : Option (List ℕ)) → IfSome left (λ bytes. RefusesRightly place refused [] bytes × EndsRightly place ended refused [] bytes src)
-            → IfSome left (λ bytes. (rest : List ℕ) × IsThese bytes [] rest × RefusesRightly place refused [] rest × EndsRightly place ended refused [] rest src)
+        here : (left : Option (List ℕ)) → IfSome left (λ bytes. RefusesRightly place refused [] bytes × EndsRightly place ended refused [] bytes new.left)
+            → IfSome left (λ bytes. (rest : List ℕ) × IsThese bytes [] rest × RefusesRightly place refused [] rest × EndsRightly place ended refused [] rest new.left)
         here None h = tt
         here (Some bytes) h = (bytes, refl, h.0, h.1)
 
     -- the stream ended behind a frame
-    pub serves_end : (place : ℕ) (seat : S) (left rest : Option (List ℕ)) (held now : List ℕ) (old given : Option (List ℕ))
+    pub serves_end : (place : ℕ) (seat : S) (left rest : Option (List ℕ)) (held now : List ℕ) (old given : Option (List ℕ)) (link : Option (List Exchange))
         → Reads left rest held now → length now < most_held Request → now ≡ [] → IsAtEnd rest
-        → ServesFrom place grown seat seat (stream_of held left) rest old old given given Closed
-    serves_end place seat left rest held now old given reads few none end =
-        serves_none place seat (stream_of held left) rest old old given false Closed (all left reads) (appends_nothing old)
+        → ServesFrom place grown seat seat (outside (stream_of held left) old given link) (outside rest old given link) Closed
+    serves_end place seat left rest held now old given link reads few none end =
+        serves_none place seat (outside (stream_of held left) old given link) (outside rest old given link) false Closed refl refl (all left reads) (appends_nothing old)
       where
         all : (left : Option (List ℕ)) → Reads left rest held now → IfSome (stream_of held left) (λ bytes. RefusesRightly place false [] bytes × EndsRightly place Closed false [] bytes rest)
         all None r = tt
@@ -162,11 +197,11 @@ module _ {S : Type 0} (grown : S → List (Marked Event Outcome) → S → Type 
             ((λ t. absurd (false≢true t)), (refl, λ stays. nothing, reads_little (Some l) rest held now r few))
 
     -- reading failed
-    pub serves_fault : (place : ℕ) (seat : S) (left rest : Option (List ℕ)) (held now : List ℕ) (old given : Option (List ℕ))
+    pub serves_fault : (place : ℕ) (seat : S) (left rest : Option (List ℕ)) (held now : List ℕ) (old given : Option (List ℕ)) (link : Option (List Exchange))
         → Reads left rest held now → length now < most_held Request → HasNoFrame Request now
-        → ServesFrom place grown seat seat (stream_of held left) rest old old given given ReadFault
-    serves_fault place seat left rest held now old given reads few none =
-        serves_none place seat (stream_of held left) rest old old given false ReadFault (all left rest reads) (appends_nothing old)
+        → ServesFrom place grown seat seat (outside (stream_of held left) old given link) (outside rest old given link) ReadFault
+    serves_fault place seat left rest held now old given link reads few none =
+        serves_none place seat (outside (stream_of held left) old given link) (outside rest old given link) false ReadFault refl refl (all left rest reads) (appends_nothing old)
       where
         all : (left rest : Option (List ℕ)) → Reads left rest held now → IfSome (stream_of held left) (λ bytes. RefusesRightly place false [] bytes × EndsRightly place ReadFault false [] bytes rest)
         all None rest r = tt
@@ -175,54 +210,61 @@ module _ {S : Type 0} (grown : S → List (Marked Event Outcome) → S → Type 
             ((λ t. absurd (false≢true t)), (refl, refl, record { reads = record { held = now; rest_is = kept_leads (Some l) (Some m) held now r; few = few }; none = none }))
 
     -- memory ran out
-    pub serves_starved : (place : ℕ) (seat : S) (left src old given : Option (List ℕ)) → ServesFrom place grown seat seat left src old old given given Memory
-    serves_starved place seat left src old given = serves_none place seat left src old old given false Memory (all left) (cut_first old old [] [] refl (prefix_none old []))
+    pub serves_starved : (place : ℕ) (seat : S) (left rest : Option (List ℕ)) (old given : Option (List ℕ)) (link : Option (List Exchange))
+        → IfSome left (λ bytes. IfSome rest (ReadsLittle bytes))
+        → ServesFrom place grown seat seat (outside left old given link) (outside rest old given link) Memory
+    serves_starved place seat left rest old given link little =
+        serves_none place seat (outside left old given link) (outside rest old given link) false Memory refl refl (all left little)
+        (cut_first old old [] [] refl (prefix_none old []))
       where
-        all : (left : Option (List ℕ)) → IfSome left (λ bytes. RefusesRightly place false [] bytes × EndsRightly place Memory false [] bytes src)
-        all None = tt
-        all (Some bytes) = ((λ t. absurd (false≢true t)), tt)
+        all : (left : Option (List ℕ)) → IfSome left (λ bytes. IfSome rest (ReadsLittle bytes)) → IfSome left (λ bytes. RefusesRightly place false [] bytes × EndsRightly place Memory false [] bytes rest)
+        all None h = tt
+        all (Some bytes) h = ((λ t. absurd (false≢true t)), h)
 
     -- no frame can stand
-    pub serves_refused : (place : ℕ) (seat : S) (left rest : Option (List ℕ)) (held now : List ℕ) (old new given : Option (List ℕ)) (ended : Ended)
+    pub serves_refused : (place : ℕ) (seat : S) (left rest : Option (List ℕ)) (held now : List ℕ) (old new given : Option (List ℕ)) (link : Option (List Exchange)) (ended : Ended)
         → Reads left rest held now → length now < most_held Request → HoldsNoFrame Request now rest → Refuses old new ended
-        → ServesFrom place grown seat seat (stream_of held left) rest old new given given ended
-    serves_refused place seat left rest held now old new given Closed reads few holds put = absurd put
-    serves_refused place seat left rest held now old new given NoFrame reads few holds put =
-        serves_none place seat (stream_of held left) rest old new given true NoFrame (all left reads) put
+        → ServesFrom place grown seat seat (outside (stream_of held left) old given link) (outside rest new given link) ended
+    serves_refused place seat left rest held now old new given link ended reads few holds put =
+        serves_none place seat (outside (stream_of held left) old given link) (outside rest new given link) true ended refl refl
+        (all left reads ended put) (says ended put)
       where
-        all : (left : Option (List ℕ)) → Reads left rest held now → IfSome (stream_of held left) (λ bytes. RefusesRightly place true [] bytes × EndsRightly place NoFrame true [] bytes rest)
-        all None r = tt
-        all (Some l) r =
+        says : (ended : Ended) → Refuses old new ended → Says ended old new [] last_reply
+        says Closed put = absurd put
+        says NoFrame put = put
+        says ReadFault put = absurd put
+        says WriteFault put = cut_first old new [] last_reply refl put
+        says Memory put = cut_first old new [] last_reply refl put
+
+        ends : (ended : Ended) (bytes : List ℕ) → Refuses old new ended → IfSome rest (ReadsLittle bytes) → EndsRightly place ended true [] bytes rest
+        ends Closed bytes put little = absurd put
+        ends NoFrame bytes put little = (refl, little)
+        ends ReadFault bytes put little = absurd put
+        ends WriteFault bytes put little = little
+        ends Memory bytes put little = little
+
+        all : (left : Option (List ℕ)) → Reads left rest held now → (ended : Ended) → Refuses old new ended
+            → IfSome (stream_of held left) (λ bytes. RefusesRightly place true [] bytes × EndsRightly place ended true [] bytes rest)
+        all None r ended put = tt
+        all (Some l) r ended put =
             let right = refused_rightly (Some l) rest held now r holds in
-            ((λ t. (refl, right.0, right.1)), (refl, reads_little (Some l) rest held now r few))
-    serves_refused place seat left rest held now old new given ReadFault reads few holds put = absurd put
-    serves_refused place seat left rest held now old new given WriteFault reads few holds put =
-        serves_none place seat (stream_of held left) rest old new given true WriteFault (all left reads) (cut_first old new [] last_reply refl put)
-      where
-        all : (left : Option (List ℕ)) → Reads left rest held now → IfSome (stream_of held left) (λ bytes. RefusesRightly place true [] bytes × EndsRightly place WriteFault true [] bytes rest)
-        all None r = tt
-        all (Some l) r =
-            let right = refused_rightly (Some l) rest held now r holds in
-            ((λ t. (refl, right.0, right.1)), reads_little (Some l) rest held now r few)
-    serves_refused place seat left rest held now old new given Memory reads few holds put =
-        serves_none place seat (stream_of held left) rest old new given true Memory (all left reads) (cut_first old new [] last_reply refl put)
-      where
-        all : (left : Option (List ℕ)) → Reads left rest held now → IfSome (stream_of held left) (λ bytes. RefusesRightly place true [] bytes × EndsRightly place Memory true [] bytes rest)
-        all None r = tt
-        all (Some l) r =
-            let right = refused_rightly (Some l) rest held now r holds in
-            ((λ t. (refl, right.0, right.1)), tt)
+            ((λ t. (refl, right.0, right.1)), ends ended (held ++ l) put (reads_little (Some l) rest held now r few))
 
   -- the frame was answered, and the connection goes on
-  pub goes_on : (place : ℕ) (before after : S) (left rest : Option (List ℕ)) (old new given told : Option (List ℕ)) (frame : Frame)
-      → Leads left (frame ∷ []) rest → Turns place grown before after old new given told frame None
-      → Goes place (place + 1) grown before after left rest old new given told
-  goes_on place before after left rest old new given told frame leads t = record {
+  goes_on : (place : ℕ) (before after : S) (left rest : Option (List ℕ)) (old new : Outside) (frame : Frame)
+      → Leads left (frame ∷ []) rest → Turns place grown before after old new frame None
+      → Goes place (place + 1) grown before after (outside left old.written old.readings old.exchanges)
+      (outside rest new.written new.readings new.exchanges)
+  goes_on place before after left rest old new frame leads t = record {
     heard = t.heard;
     readings = t.readings;
     outcomes = t.outcomes;
+    replies = t.replies;
+    exchanges = t.exchanges;
     asked = t.asked;
     clock = t.clock;
+    gives = t.gives;
+    link = t.link;
     places = ap (λ (fs : List Frame). place + length fs) e;
     stays_on = rw e (some_closes-one frame place false t.said.0);
     stream = subst (λ (fs : List Frame). Leads left fs rest) (sym e) leads;
@@ -233,53 +275,65 @@ module _ {S : Type 0} (grown : S → List (Marked Event Outcome) → S → Type 
       e = elim t.either [ inl same ↦ same | inr starved ↦ absurd (none_some starved.1) ]
 
   -- the frame was answered, and the connection ended
-  pub serves_turn : (place : ℕ) (before after : S) (left src : Option (List ℕ)) (held : List ℕ) (old new given told : Option (List ℕ)) (frame : Frame) (ended : Ended)
-      → length held < most_held Request → Leads left (frame ∷ []) (stream_of held src) → Turns place grown before after old new given told frame (Some ended)
-      → ServesFrom place grown before after left src old new given told ended
-  serves_turn place before after left src held old new given told frame ended few leads t = elim t.either [
-    | inl same ↦ record {
-      heard = t.heard;
-      refused = false;
-      readings = t.readings;
-      outcomes = t.outcomes;
-      asked = t.asked;
-      clock = t.clock;
-      up_to = subst (λ (fs : List Frame). IsTrue (ends_at_close fs place)) (sym same) refl;
-      stream = turn_stream left src held place frame ended t.heard old new (replies t.heard place t.outcomes) same few leads t.said;
-      said = turn_says place frame ended old new _ (replies t.heard place t.outcomes) (ap (λ (fs : List Frame). talk_before_last place fs false t.outcomes) same) t.said;
-    }
-    | inr starved ↦ record {
-      heard = t.heard;
-      refused = false;
-      readings = t.readings;
-      outcomes = t.outcomes;
-      asked = t.asked;
-      clock = t.clock;
-      up_to = subst (λ (fs : List Frame). IsTrue (ends_at_close fs place)) (sym starved.0) refl;
-      stream = starved_stream left src place ended t.heard starved.0 (some_same ended starved.1);
-      said = turn_says place frame ended old new _ (replies t.heard place t.outcomes) (ap (λ (fs : List Frame). talk_before_last place fs false t.outcomes) starved.0) t.said;
-    }
-  ]
+  pub serves_turn : (place : ℕ) (before after : S) (left src : Option (List ℕ)) (held : List ℕ) (old new : Outside) (frame : Frame) (ended : Ended)
+      → length held < most_held Request → IfSome left (λ bytes. IfSome src (ReadsLittle bytes))
+      → Leads left (frame ∷ []) (stream_of held src) → Turns place grown before after old new frame (Some ended)
+      → ServesFrom place grown before after (outside left old.written old.readings old.exchanges)
+      (outside src new.written new.readings new.exchanges) ended
+  serves_turn place before after left src held old new frame ended few little leads t = record {
+    heard = t.heard;
+    refused = false;
+    readings = t.readings;
+    outcomes = t.outcomes;
+    replies = t.replies;
+    exchanges = t.exchanges;
+    asked = t.asked;
+    clock = t.clock;
+    gives = t.gives;
+    link = t.link;
+    up_to = elim t.either [
+      | inl same ↦ subst (λ (fs : List Frame). IsTrue (ends_at_close fs place)) (sym same) refl
+      | inr starved ↦ subst (λ (fs : List Frame). IsTrue (ends_at_close fs place)) (sym starved.0) refl
+    ];
+    stream = elim t.either [
+      | inl same ↦ turn_stream left src held place frame ended t.heard old.written new.written (reply_texts t.heard place t.replies) same few leads t.said
+      | inr starved ↦ starved_stream left src place ended t.heard starved.0 (some_same ended starved.1) little
+    ];
+    said = turn_says place frame ended old.written new.written _ (reply_texts t.heard place t.replies)
+        (elim t.either [
+          | inl same ↦ ap (λ (fs : List Frame). talk_before_last place fs false t.replies) same
+          | inr starved ↦ ap (λ (fs : List Frame). talk_before_last place fs false t.replies) starved.0
+        ]) t.said;
+  }
 
   -- a frame stood next, and was answered
-  pub message_next : (place : ℕ) (before after : S) (left src : Option (List ℕ)) (held : List ℕ) (old new given told : Option (List ℕ)) (frame : Frame) (r : Option Ended) (P : Type 0) → P
-      → length held < most_held Request → Leads left (frame ∷ []) (stream_of held src) → Turns place grown before after old new given told frame r
-      → MatchOption r (P × Goes place (place + 1) grown before after left (stream_of held src) old new given told) (ServesFrom place grown before after left src old new given told)
-  message_next place before after left src held old new given told frame None P p few leads t =
-      (p, goes_on place before after left (stream_of held src) old new given told frame leads t)
-  message_next place before after left src held old new given told frame (Some ended) P p few leads t =
-      serves_turn place before after left src held old new given told frame ended few leads t
+  pub message_next : (place : ℕ) (before after : S) (left src : Option (List ℕ)) (held : List ℕ) (old new : Outside) (frame : Frame) (r : Option Ended) (P : Type 0) → P
+      → length held < most_held Request → IfSome left (λ bytes. IfSome src (ReadsLittle bytes))
+      → Leads left (frame ∷ []) (stream_of held src) → Turns place grown before after old new frame r
+      → MatchOption r
+      (P × Goes place (place + 1) grown before after (outside left old.written old.readings old.exchanges)
+      (outside (stream_of held src) new.written new.readings new.exchanges))
+      (ServesFrom place grown before after (outside left old.written old.readings old.exchanges)
+      (outside src new.written new.readings new.exchanges))
+  message_next place before after left src held old new frame None P p few little leads t =
+      (p, goes_on place before after left (stream_of held src) old new frame leads t)
+  message_next place before after left src held old new frame (Some ended) P p few little leads t =
+      serves_turn place before after left src held old new frame ended few little leads t
 
   module _ (nothing : (seat : S) → grown seat [] seat) where
     -- no frame stood yet
-    pub goes_none : (place : ℕ) (seat : S) (left : Option (List ℕ)) (held : List ℕ) (old given : Option (List ℕ)) → held ≡ []
-        → Goes place place grown seat seat left (stream_of held left) old old given given
-    goes_none place seat left held old given none = record {
+    pub goes_none : (place : ℕ) (seat : S) (left : Option (List ℕ)) (held : List ℕ) (old given : Option (List ℕ)) (link : Option (List Exchange)) → held ≡ []
+        → Goes place place grown seat seat (outside left old given link) (outside (stream_of held left) old given link)
+    goes_none place seat left held old given link none = record {
       heard = [];
       readings = [];
       outcomes = [];
+      replies = [];
+      exchanges = [];
       asked = AsksAll-nothing grown nothing seat;
       clock = Tells-nil given;
+      gives = refl;
+      link = Tells-nil link;
       places = omega arith;
       stays_on = refl;
       stream = rw none (start left);

@@ -1,9 +1,13 @@
 -- A connection on its way, joined with what comes next.
 use Rattle.std.proofs.Common.{◌≡◌, ℕ, ◌+◌, Bool, false, List, [], ◌∷◌, ◌++◌, length, map, Option, Some, None, IfSome, sym, ap, subst, ◌∙◌, arith, append_assoc, append-nil, length-append}
 use Rattle.std.proofs.KnownBytes.{Appends-trans}
-use Rattle.std.proofs.lemmas.List.{map-append, length-map}
+use Rattle.std.proofs.lemmas.List.{map-append}
 use Rattle.std.specs.Io.KnownBytes.{Appends}
+use Rattle.m2m_io.specs.Link.{Exchange}
+use Rattle.m2m_io.specs.Outside.{Outside}
 use Rattle.m2m_io.specs.Told.{Tells}
+use Rattle.primitive_json.specs.declared.reply.ReplyParts.{ReplyParts}
+use Rattle.primitive_json.specs.declared.request.RequestParts.{RequestParts}
 use Rattle.turn_desk.specs.Entries.{Marked}
 use Rattle.turn_desk.specs.Growth.{AsksAll}
 use Rattle.turn_desk.proofs.GrowthLemmas.{AsksAll-append}
@@ -13,21 +17,24 @@ use Rattle.cse_machine.specs.declared.event.Event.TheVariants.{Ask}
 use Rattle.cse_machine.specs.declared.event.Outcome.{Outcome}
 use Rattle.cse_server.specs.declared.connection.Ended.{Ended}
 use Rattle.cse_server.specs.declared.connection.Ended.TheVariants.{Closed, NoFrame, ReadFault, WriteFault, Memory}
-use Rattle.cse_server.specs.Talk.{requests_in, replies, talk, talk_before_last, some_closes}
+use Rattle.cse_server.specs.Talk.{requests_in, reply_texts, talk, talk_before_last, some_closes}
 use Rattle.cse_server.specs.Connection.{IsThese, RefusesRightly, EndsRightly, Says, ServesFrom}
+use Rattle.cse_server.specs.Replies.{GivesReplies}
 use Rattle.cse_server.specs.Way.{Leads, Goes}
-use Rattle.cse_server.proofs.TalkLemmas.{some_closes-append, ends_at_close-append, requests_in-append, replies-append, talk-append, before_last-joined}
+use Rattle.cse_server.proofs.TalkLemmas.{some_closes-append, ends_at_close-append, requests_in-append, reply_texts-append, talk-append, before_last-joined}
+use Rattle.cse_server.proofs.RepliesLemmas.{gives-append, gives-length}
 use Rattle.cse_server.proofs.PutLemmas.{cut_behind}
 
--- ---- readings
+-- ---- readings and exchanges
 
-pub Tells-append : (a b : List ℕ) (x y z : Option (List ℕ)) → Tells (λ given. given ++ a) x y → Tells (λ given. given ++ b) y z → Tells (λ given. given ++ (a ++ b)) x z
+pub Tells-append : {A : Type 0} (a b : List A) (x y z : Option (List A))
+    → Tells (λ given. given ++ a) x y → Tells (λ given. given ++ b) y z → Tells (λ given. given ++ (a ++ b)) x z
 Tells-append a b x y None p q = tt
 Tells-append a b x None (Some zs) p q = absurd q
 Tells-append a b None (Some ys) (Some zs) p q = absurd p
 Tells-append a b (Some xs) (Some ys) (Some zs) p q = q ∙ ap (λ v. v ++ b) p ∙ append_assoc xs a b
 
-pub Tells-nil : (x : Option (List ℕ)) → Tells (λ given. given ++ []) x x
+pub Tells-nil : {A : Type 0} (x : Option (List A)) → Tells (λ given. given ++ []) x x
 Tells-nil None = tt
 Tells-nil (Some xs) = sym (append-nil xs)
 
@@ -56,7 +63,7 @@ Ends-then place between NoFrame refused xs ys rest now stays places h = h
 Ends-then place between ReadFault refused xs ys rest now stays places h =
     (h.0, some_closes-append xs ys place stays ∙ ap (some_closes ys) places ∙ h.1, h.2)
 Ends-then place between WriteFault refused xs ys rest now stays places h = h
-Ends-then place between Memory refused xs ys rest now stays places h = tt
+Ends-then place between Memory refused xs ys rest now stays places h = h
 
 -- what the stream says of an end
 abbrev EndsOn : ℕ → Ended → Bool → List Frame → Option (List ℕ) → List ℕ → Type 0
@@ -80,6 +87,16 @@ Says-then ReadFault old put new replied before both more last joined a b = Appen
 Says-then WriteFault old put new replied before both more last joined a b = cut_behind old put new replied before both more last joined a b
 Says-then Memory old put new replied before both more last joined a b = cut_behind old put new replied before both more last joined a b
 
+-- ---- replies
+
+-- the replies to frames that are joined
+gave-append : (xs ys : List Frame) (os os' : List Outcome) (ps ps' : List ReplyParts) (es es' : List Exchange)
+    → GivesReplies (requests_in xs) os ps es → GivesReplies (requests_in ys) os' ps' es'
+    → GivesReplies (requests_in (xs ++ ys)) (os ++ os') (ps ++ ps') (es ++ es')
+gave-append xs ys os os' ps ps' es es' first then =
+    subst (λ (v : List RequestParts). GivesReplies v (os ++ os') (ps ++ ps') (es ++ es')) (sym (requests_in-append xs ys))
+    (gives-append (requests_in xs) (requests_in ys) os os' ps ps' es es' first then)
+
 -- ---- questions
 
 module _ {S : Type 0} (grown : S → List (Marked Event Outcome) → S → Type 0) (on : (before between after : S) (more then : List (Marked Event Outcome)) → grown before more between → grown between then after → grown before (more ++ then) after) where
@@ -90,50 +107,54 @@ module _ {S : Type 0} (grown : S → List (Marked Event Outcome) → S → Type 
       subst (λ (v : List Event). AsksAll grown before (rs ++ rs') v (os ++ os') after) (sym events)
       (AsksAll-append grown on first then)
 
-  -- each request has its outcome
-  outcomes_fit : (before after : S) (rs : List ℕ) (xs : List Frame) (os : List Outcome) → AsksAll grown before rs (map Ask (requests_in xs)) os after → length os ≡ length (requests_in xs)
-  outcomes_fit before after rs xs os a =
-      ap length (sym a.outcomes_are) ∙ length-map a.mine (λ e. e.outcome) ∙ sym (length-map a.mine (λ e. e.event))
-      ∙ ap length a.events_are ∙ length-map (requests_in xs) Ask
-
   -- ---- what goes on, and then goes on or ends
 
-  pub Goes-then : (place between next : ℕ) (before seat after : S) (left mid now : Option (List ℕ)) (old put new : Option (List ℕ)) (given told then : Option (List ℕ))
-      → Goes place between grown before seat left mid old put given told
-      → Goes between next grown seat after mid now put new told then
-      → Goes place next grown before after left now old new given then
-  Goes-then place between next before seat after left mid now old put new given told then a b = record {
+  pub Goes-then : (place between next : ℕ) (before seat after : S) (old mid new : Outside)
+      → Goes place between grown before seat old mid
+      → Goes between next grown seat after mid new
+      → Goes place next grown before after old new
+  Goes-then place between next before seat after old mid new a b = record {
     heard = a.heard ++ b.heard;
     readings = a.readings ++ b.readings;
     outcomes = a.outcomes ++ b.outcomes;
+    replies = a.replies ++ b.replies;
+    exchanges = a.exchanges ++ b.exchanges;
     asked = asked-append before seat after a.readings b.readings a.heard b.heard a.outcomes b.outcomes a.asked b.asked;
-    clock = Tells-append a.readings b.readings given told then a.clock b.clock;
+    clock = Tells-append a.readings b.readings old.readings mid.readings new.readings a.clock b.clock;
+    gives = gave-append a.heard b.heard a.outcomes b.outcomes a.replies b.replies a.exchanges b.exchanges a.gives b.gives;
+    link = Tells-append a.exchanges b.exchanges old.exchanges mid.exchanges new.exchanges a.link b.link;
     places = rw length-append (omega (arith, a.places, b.places));
     stays_on = some_closes-append a.heard b.heard place a.stays_on ∙ ap (some_closes b.heard) a.places ∙ b.stays_on;
-    stream = Leads-append a.heard b.heard left mid now a.stream b.stream;
-    said = rw (replies-append a.heard b.heard place a.outcomes b.outcomes a.stays_on (outcomes_fit before seat a.readings a.heard a.outcomes a.asked), a.places)
-        (Appends-trans old put new _ _ a.said b.said);
+    stream = Leads-append a.heard b.heard old.left mid.left new.left a.stream b.stream;
+    said =
+        let fit = gives-length (requests_in a.heard) a.outcomes a.replies a.exchanges a.gives in
+        rw (reply_texts-append a.heard b.heard place a.replies b.replies a.stays_on fit, a.places)
+        (Appends-trans old.written mid.written new.written _ _ a.said b.said);
   }
 
-  pub Serves-then : (place between : ℕ) (before seat after : S) (left mid now : Option (List ℕ)) (old put new : Option (List ℕ)) (given told then : Option (List ℕ)) (ended : Ended)
-      → Goes place between grown before seat left mid old put given told
-      → ServesFrom between grown seat after mid now put new told then ended
-      → ServesFrom place grown before after left now old new given then ended
-  Serves-then place between before seat after left mid now old put new given told then ended a b = record {
+  pub Serves-then : (place between : ℕ) (before seat after : S) (old mid new : Outside) (ended : Ended)
+      → Goes place between grown before seat old mid
+      → ServesFrom between grown seat after mid new ended
+      → ServesFrom place grown before after old new ended
+  Serves-then place between before seat after old mid new ended a b = record {
     heard = a.heard ++ b.heard;
     refused = b.refused;
     readings = a.readings ++ b.readings;
     outcomes = a.outcomes ++ b.outcomes;
+    replies = a.replies ++ b.replies;
+    exchanges = a.exchanges ++ b.exchanges;
     asked = asked-append before seat after a.readings b.readings a.heard b.heard a.outcomes b.outcomes a.asked b.asked;
-    clock = Tells-append a.readings b.readings given told then a.clock b.clock;
+    clock = Tells-append a.readings b.readings old.readings mid.readings new.readings a.clock b.clock;
+    gives = gave-append a.heard b.heard a.outcomes b.outcomes a.replies b.replies a.exchanges b.exchanges a.gives b.gives;
+    link = Tells-append a.exchanges b.exchanges old.exchanges mid.exchanges new.exchanges a.link b.link;
     up_to = ends_at_close-append a.heard b.heard place a.stays_on (rw a.places b.up_to);
-    stream = stream_then place between a.heard b.heard b.refused ended left mid now a.stays_on a.places a.stream b.stream;
+    stream = stream_then place between a.heard b.heard b.refused ended old.left mid.left new.left a.stays_on a.places a.stream b.stream;
     said =
-        let fit = outcomes_fit before seat a.readings a.heard a.outcomes a.asked in
-        let joined = before_last-joined a.heard b.heard place b.refused a.outcomes b.outcomes a.stays_on fit in
-        let before : replies a.heard place a.outcomes ++ talk_before_last between b.heard b.refused b.outcomes ≡ talk_before_last place (a.heard ++ b.heard) b.refused (a.outcomes ++ b.outcomes) ++ joined.0 =
-        ap (λ n. replies a.heard place a.outcomes ++ talk_before_last n b.heard b.refused b.outcomes) (sym a.places) ∙ joined.1 in
-        rw (talk-append a.heard b.heard place b.refused a.outcomes b.outcomes a.stays_on fit, a.places)
-        (Says-then ended old put new (replies a.heard place a.outcomes) (talk_before_last between b.heard b.refused b.outcomes) (talk_before_last place (a.heard ++ b.heard) b.refused (a.outcomes ++ b.outcomes))
-        (talk between b.heard b.refused b.outcomes) joined.0 before a.said b.said);
+        let fit = gives-length (requests_in a.heard) a.outcomes a.replies a.exchanges a.gives in
+        let joined = before_last-joined a.heard b.heard place b.refused a.replies b.replies a.stays_on fit in
+        let before : reply_texts a.heard place a.replies ++ talk_before_last between b.heard b.refused b.replies ≡ talk_before_last place (a.heard ++ b.heard) b.refused (a.replies ++ b.replies) ++ joined.0 =
+        ap (λ n. reply_texts a.heard place a.replies ++ talk_before_last n b.heard b.refused b.replies) (sym a.places) ∙ joined.1 in
+        rw (talk-append a.heard b.heard place b.refused a.replies b.replies a.stays_on fit, a.places)
+        (Says-then ended old.written mid.written new.written (reply_texts a.heard place a.replies) (talk_before_last between b.heard b.refused b.replies) (talk_before_last place (a.heard ++ b.heard) b.refused (a.replies ++ b.replies))
+        (talk between b.heard b.refused b.replies) joined.0 before a.said b.said);
   }

@@ -1,5 +1,6 @@
 -- When a connection ends behind a reply (RFC 9112, section 9.6).
-use Rattle.std.specs.Prelude.{ℕ, ◌==◌, nat_le, Bool, ◌&&◌, ◌||◌, List, [], ◌∷◌, take, drop, codes, if◌then◌else◌}
+use Rattle.std.specs.Prelude.{ℕ, ◌==◌, nat_le, Bool, ◌&&◌, ◌||◌, List, [], ◌∷◌, take, drop, codes}
+use Rattle.std.specs.Prelude.{if◌then◌else◌}
 use Rattle.std.specs.List.{list_all, list_any, slice_split}
 use Rattle.http_frames.specs.declared.frame.Frame.{Frame}
 use Rattle.http_frames.specs.declared.frame.Start.{Start}
@@ -23,7 +24,8 @@ is_close_word text = is_same_name (take 5 text) (codes "close") && list_all is_b
 abbrev pub is_close : List ℕ → Bool
 is_close element = is_close_word (behind_blanks element)
 
--- the list, whose elements stand between commas, has the option (RFC 9110, sections 5.6.1 and 7.6.1)
+-- the list, whose elements stand between commas, has the option (RFC 9110, sections 5.6.1 and
+-- 7.6.1)
 abbrev pub lists_close : List ℕ → Bool
 lists_close value = list_any is_close (slice_split (λ b. b == 44) value)
 
@@ -44,8 +46,8 @@ minor_of (Answer status minor) = minor
 abbrev pub most_frames : ℕ
 most_frames = 10000
 
--- The connection closes behind the reply to the frame at this place, from 1: to one that asks for it, to one of
--- HTTP/1.0, and to the last one that it may have.
+-- The connection closes behind the reply to the frame at this place, from 1: to one that asks for
+-- it, to one of HTTP/1.0, and to the last one that it may have.
 abbrev pub closes : ℕ → Frame → Bool
 closes place frame =
     asks_to_close frame.lines || (minor_of frame.start == 0) || nat_le most_frames place

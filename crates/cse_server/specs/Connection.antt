@@ -1,7 +1,12 @@
--- What serving a connection does: to its bytes, to the seat at the desk, and to the clock.
-use Rattle.std.specs.Prelude.{◌≡◌, ◌≢◌, ℕ, ◌<◌, Bool, true, false, List, [], ◌∷◌, ◌++◌, length, map, Option, IfSome, IsTrue, ⊤}
+-- What serving a connection does: to its bytes, to the seat at the desk, to the clock and to the
+-- link.
+use Rattle.std.specs.Prelude.{◌≡◌, ◌≢◌, ℕ, ◌<◌, Bool, true, false, List, [], ◌∷◌, ◌++◌, length, map}
+use Rattle.std.specs.Prelude.{Option, IfSome, IsTrue}
 use Rattle.std.specs.Io.KnownBytes.{Appends}
+use Rattle.m2m_io.specs.Link.{Exchange}
+use Rattle.m2m_io.specs.Outside.{Outside}
 use Rattle.m2m_io.specs.Told.{Tells}
+use Rattle.primitive_json.specs.declared.reply.ReplyParts.{ReplyParts}
 use Rattle.turn_desk.specs.Entries.{Marked}
 use Rattle.turn_desk.specs.Growth.{AsksAll}
 use Rattle.http_frames.specs.declared.frame.Frame.{Frame}
@@ -12,7 +17,9 @@ use Rattle.cse_machine.specs.declared.event.Event.{Event}
 use Rattle.cse_machine.specs.declared.event.Event.TheVariants.{Ask}
 use Rattle.cse_machine.specs.declared.event.Outcome.{Outcome}
 use Rattle.cse_server.specs.declared.connection.Ended.{Ended}
-use Rattle.cse_server.specs.declared.connection.Ended.TheVariants.{Closed, NoFrame, ReadFault, WriteFault, Memory}
+use Rattle.cse_server.specs.declared.connection.Ended.TheVariants.{Closed, NoFrame, ReadFault}
+use Rattle.cse_server.specs.declared.connection.Ended.TheVariants.{WriteFault, Memory}
+use Rattle.cse_server.specs.Replies.{GivesReplies}
 use Rattle.cse_server.specs.Talk.{requests_in, talk, talk_before_last, some_closes, ends_at_close}
 
 -- ---- streams
@@ -25,13 +32,14 @@ IsThese stream (frame ∷ frames) rest =
 
 -- ---- how it ends
 
--- The rest is refused only where no frame closed the connection, and something is left that begins with none; the first
--- of the frames stands at this place.
+-- The rest is refused only where no frame closed the connection, and something is left that begins
+-- with none; the first of the frames stands at this place.
 abbrev pub RefusesRightly : ℕ → Bool → List Frame → List ℕ → Type 0
 RefusesRightly place refused heard rest =
     refused ≡ true → (some_closes heard place ≡ false) × (rest ≢ []) × HasNoFrame Request rest
 
--- Of the rest some bytes were read, before those that are left now: fewer than the longest request and 4,096 more.
+-- Of the rest some bytes were read, before those that are left now: fewer than the longest request
+-- and 4,096 more.
 pub record ReadsLittle (rest left : List ℕ) : Type 0 where
   pub held : List ℕ
   pub rest_is : rest ≡ held ++ left
@@ -42,17 +50,19 @@ pub record HoldsBack (rest left : List ℕ) : Type 0 where
   pub reads : ReadsLittle rest left
   pub none : HasNoFrame Request reads.held
 
--- When a connection ends so, the frames that were heard, what is left behind them and what the source has left now
--- being these: it is closed where a frame closed it, or nothing is left; at a fault of reading all frames that were read
--- are among those that were heard; and little was read behind them, but for want of memory, of which nothing is said.
+-- When a connection ends so, the frames that were heard, what is left behind them and what the
+-- source has left now being these: it is closed where a frame closed it, or nothing is left; at a
+-- fault of reading all frames that were read are among those that were heard; and little was read
+-- behind them.
 abbrev pub EndsRightly : ℕ → Ended → Bool → List Frame → List ℕ → Option (List ℕ) → Type 0
 EndsRightly place Closed refused heard rest now =
-    (refused ≡ false) × (some_closes heard place ≡ false → rest ≡ []) × IfSome now (ReadsLittle rest)
+    (refused ≡ false) × (some_closes heard place ≡ false → rest ≡ [])
+    × IfSome now (ReadsLittle rest)
 EndsRightly place NoFrame refused heard rest now = (refused ≡ true) × IfSome now (ReadsLittle rest)
 EndsRightly place ReadFault refused heard rest now =
     (refused ≡ false) × (some_closes heard place ≡ false) × IfSome now (HoldsBack rest)
 EndsRightly place WriteFault refused heard rest now = IfSome now (ReadsLittle rest)
-EndsRightly place Memory refused heard rest now = ⊤
+EndsRightly place Memory refused heard rest now = IfSome now (ReadsLittle rest)
 
 -- The first of these texts is written, and then a part of what the second has behind it.
 pub record AppendsCut (old new : Option (List ℕ)) (before text : List ℕ) : Type 0 where
@@ -61,7 +71,8 @@ pub record AppendsCut (old new : Option (List ℕ)) (before text : List ℕ) : T
   pub text_is : text ≡ before ++ (part ++ missing)
   pub written : Appends old new (before ++ part)
 
--- The bytes that are written where it ends so: all of its talk; or all but what the talk ends with, and of that a part.
+-- The bytes that are written where it ends so: all of its talk; or all but what the talk ends with,
+-- and of that a part.
 abbrev pub Says : Ended → Option (List ℕ) → Option (List ℕ) → List ℕ → List ℕ → Type 0
 Says Closed old new before text = Appends old new text
 Says NoFrame old new before text = Appends old new text
@@ -69,27 +80,36 @@ Says ReadFault old new before text = Appends old new text
 Says WriteFault old new before text = AppendsCut old new before text
 Says Memory old new before text = AppendsCut old new before text
 
--- A connection was served at a seat, from the frame at this place on. Of the bytes that it had left, `heard` are the
--- requests that were read, and `now` are those that it has left now; `given` and `told` are the readings that the clock
--- had given before and has given now.
-pub record ServesFrom {S : Type 0} (place : ℕ) (grown : S → List (Marked Event Outcome) → S → Type 0) (before after : S)
-    (left now : Option (List ℕ)) (old new : Option (List ℕ)) (given told : Option (List ℕ)) (ended : Ended) : Type 0 where
+-- A connection was served at a seat, from the frame at this place on, what the objects outside told
+-- being first `old` and now `new`. Of the bytes that it had left, `heard` are the requests that
+-- were read.
+pub record ServesFrom {S : Type 0} (place : ℕ)
+    (grown : S → List (Marked Event Outcome) → S → Type 0) (before after : S)
+    (old new : Outside) (ended : Ended) : Type 0 where
   pub heard : List Frame
   pub refused : Bool
   pub readings : List ℕ
   pub outcomes : List Outcome
-  -- the seat asked each request to which one of them binds, in order, at the readings that the clock gave
+  pub replies : List ReplyParts
+  pub exchanges : List Exchange
+  -- the seat asked each request to which one of them binds, in order, at the readings that the
+  -- clock gave
   pub asked : AsksAll grown before readings (map Ask (requests_in heard)) outcomes after
-  pub clock : Tells (λ given. given ++ readings) given told
-  -- they are the requests of the stream up to the first that closes, and it ended as they and the rest say
+  pub clock : Tells (λ given. given ++ readings) old.readings new.readings
+  -- their outcomes gave the replies, at the cost of the exchanges that the link made
+  pub gives : GivesReplies (requests_in heard) outcomes replies exchanges
+  pub link : Tells (λ told. told ++ exchanges) old.exchanges new.exchanges
+  -- they are the requests of the stream up to the first that closes, and it ended as they and the
+  -- rest say
   pub up_to : IsTrue (ends_at_close heard place)
-  pub stream : IfSome left (λ bytes. (rest : List ℕ) × IsThese bytes heard rest
-      × RefusesRightly place refused heard rest × EndsRightly place ended refused heard rest now)
-  -- their talk by these outcomes is written
-  pub said : Says ended old new (talk_before_last place heard refused outcomes) (talk place heard refused outcomes)
+  pub stream : IfSome old.left (λ bytes. (rest : List ℕ) × IsThese bytes heard rest
+      × RefusesRightly place refused heard rest
+      × EndsRightly place ended refused heard rest new.left)
+  -- their talk by these replies is written
+  pub said : Says ended old.written new.written
+      (talk_before_last place heard refused replies) (talk place heard refused replies)
 
 -- A connection was served at a seat, from its first frame on.
 abbrev pub Serves : {S : Type 0} → (S → List (Marked Event Outcome) → S → Type 0) → S → S
-    → Option (List ℕ) → Option (List ℕ) → Option (List ℕ) → Option (List ℕ) → Option (List ℕ) → Option (List ℕ) → Ended → Type 0
-Serves grown before after left now old new given told ended =
-    ServesFrom 1 grown before after left now old new given told ended
+    → Outside → Outside → Ended → Type 0
+Serves grown before after old new ended = ServesFrom 1 grown before after old new ended

@@ -1,47 +1,57 @@
 -- Laws of the talk of a connection.
 use Rattle.std.specs.Prelude.{◌≡◌, ℕ, true, List, [], ◌∷◌, ◌++◌, length, map, Option, Some, ⊤}
 use Rattle.std.specs.List.{All}
+use Rattle.m2m_io.specs.Link.{Exchange}
+use Rattle.m2m_io.specs.Outside.{Outside, outside}
 use Rattle.turn_desk.specs.Entries.{readings_of, events_of, outcomes_of}
 use Rattle.turn_desk.specs.Growth.{IsOwnRun}
 use Rattle.primitive_json.specs.declared.reply.ReplyParts.{ReplyParts}
 use Rattle.primitive_json.specs.declared.request.RequestParts.{RequestParts}
 use Rattle.http_frames.specs.declared.frame.Frame.{Frame}
-use Rattle.create_delete.specs.Entity.{EntityData}
+use Rattle.create_delete.specs.Entity.{EntityData, swept}
 use Rattle.create_delete.specs.Sound.{IsSound}
 use Rattle.cse_machine.specs.declared.event.Event.TheVariants.{Ask}
 use Rattle.cse_machine.specs.declared.event.Outcome.{Outcome}
 use Rattle.cse_machine.specs.declared.event.Outcome.TheVariants.{Done}
-use Rattle.cse_machine.specs.Guard.{DoesShow, HasRetrieve}
+use Rattle.cse_machine.specs.Guard.{IsGuarded}
 use Rattle.cse_machine.specs.History.{History, Leaves, IsDone}
-use Rattle.cse_machine.specs.Sight.{sight}
+use Rattle.cse_machine.specs.Sight.{sight, IsRequestBy}
 use Rattle.cse_machine.specs.Step.{Step}
 use Rattle.cse_server.specs.declared.connection.Ended.{Ended}
-use Rattle.cse_server.specs.declared.connection.Ended.TheVariants.{Closed, NoFrame, ReadFault, WriteFault, Memory}
-use Rattle.cse_server.specs.Talk.{requests_in, replies, some_closes}
+use Rattle.cse_server.specs.declared.connection.Ended.TheVariants.{Closed, NoFrame, ReadFault}
+use Rattle.cse_server.specs.declared.connection.Ended.TheVariants.{WriteFault, Memory}
+use Rattle.cse_server.specs.Talk.{requests_in, reply_texts, some_closes}
 use Rattle.cse_server.specs.Connection.{Serves}
 
--- Where some frame closes, more frames behind these add no reply, whatever the outcomes (RFC 9112, section 9.6).
+-- Where some frame closes, more frames behind these add nothing to what is said, whatever the
+-- replies (RFC 9112, section 9.6).
 abbrev pub NothingIsAnsweredBehindClose : Type 0
 NothingIsAnsweredBehindClose =
-    (frames more : List Frame) (place : ℕ) (outcomes : List Outcome)
-    → some_closes frames place ≡ true → replies (frames ++ more) place outcomes ≡ replies frames place outcomes
+    (frames more : List Frame) (place : ℕ) (replies : List ReplyParts)
+    → some_closes frames place ≡ true
+    → reply_texts (frames ++ more) place replies ≡ reply_texts frames place replies
 
--- What a connection of an entity shows, it shows by a grant: where the outcome of a request that was heard is a reply
--- that shows something, the originator had RETRIEVE on the resource that it addressed, in the entity that the history of
--- the requests up to this one left, with the outcomes that they had and at the readings that the clock gave.
-abbrev pub ShowsByGrant : Type 0
-ShowsByGrant =
-    (opening after : EntityData) (left now old new given told : Option (List ℕ)) (ended : Ended)
-    (served : Serves (IsOwnRun Step) opening after left now old new given told ended)
+-- What a connection of an entity shows and changes is guarded: where the outcome of a request that
+-- was heard is a reply, this shows nothing and its step changed nothing but by a grant to the
+-- originator, judged on the entity that the history of the requests before it left, with the
+-- outcomes that these had and at the readings that the clock gave, and from which what was due is
+-- gone.
+abbrev pub ServesGuarded : Type 0
+ServesGuarded =
+    (opening after : EntityData) (old new : Outside) (ended : Ended)
+    (served : Serves (IsOwnRun Step) opening after old new ended)
     (earlier later : List RequestParts) (request : RequestParts)
     (before behind : List Outcome) (reply : ReplyParts)
     → requests_in served.heard ≡ earlier ++ request ∷ later
     → served.outcomes ≡ before ++ Done reply ∷ behind
-    → length earlier ≡ length before → DoesShow reply
-    → (history : History) × (e : EntityData) × (then : List ℕ)
-    × Leaves opening history e × (events_of history ≡ map Ask (earlier ++ request ∷ []))
-    × (outcomes_of history ≡ before ++ Done reply ∷ []) × (served.readings ≡ readings_of history ++ then)
-    × HasRetrieve e request
+    → length earlier ≡ length before
+    → (history : History) × (found : EntityData) × (left : EntityData)
+    × (reading : ℕ) × (then : List ℕ)
+    × Leaves opening history found × (events_of history ≡ map Ask earlier)
+    × (outcomes_of history ≡ before)
+    × (served.readings ≡ readings_of history ++ reading ∷ then)
+    × Step reading (Ask request) found (Done reply) left
+    × IsGuarded (swept reading found) request reply left
 
 -- nothing went wrong with the connection: it was closed, or nothing more can be heard
 abbrev pub IsWhole : Ended → Type 0
@@ -51,27 +61,39 @@ IsWhole ReadFault = ⊥
 IsWhole WriteFault = ⊥
 IsWhole Memory = ⊥
 
--- A stream is answered in one way: two connections that are served with it, by the same entity and at the same readings,
--- get the same bytes, end alike and leave the same entity, where nothing goes wrong and there is memory for each request.
+-- A stream is answered in one way: two connections that are served with it, by the same entity and
+-- at the same readings, get the same bytes, end alike, make the same exchanges and leave the same
+-- entity, where nothing goes wrong and there is memory for each request.
 abbrev pub IsAnsweredInOneWay : Type 0
 IsAnsweredInOneWay =
-    (opening after other : EntityData) (stream old new twin given told : List ℕ) (now gone : Option (List ℕ))
-    (ended end : Ended)
-    (first : Serves (IsOwnRun Step) opening after (Some stream) now (Some old) (Some new) (Some given) (Some told) ended)
-    (second : Serves (IsOwnRun Step) opening other (Some stream) gone (Some old) (Some twin) (Some given) (Some told) end)
+    (opening after other : EntityData) (stream old new twin given told : List ℕ)
+    (now gone : Option (List ℕ)) (link made other_made : Option (List Exchange)) (ended end : Ended)
+    (first : Serves (IsOwnRun Step) opening after
+    (outside (Some stream) (Some old) (Some given) link)
+    (outside now (Some new) (Some told) made) ended)
+    (second : Serves (IsOwnRun Step) opening other
+    (outside (Some stream) (Some old) (Some given) link)
+    (outside gone (Some twin) (Some told) other_made) end)
     → IsWhole ended → IsWhole end → All IsDone first.outcomes → All IsDone second.outcomes
-    → (new ≡ twin) × (ended ≡ end) × (after ≡ other)
+    → (new ≡ twin) × (ended ≡ end) × (first.exchanges ≡ second.exchanges) × (after ≡ other)
 
--- Equal sights are served alike: two connections that are served with one stream at the same readings, by sound entities
--- of which an originator sees the same, get the same bytes and end alike, where each request that was heard is by that
--- originator, nothing goes wrong, and there is memory for each request; and it sees the same of what they leave.
+-- Equal sights are served alike: two connections that are served with one stream at the same
+-- readings, by sound entities of which an originator sees the same, get the same bytes, end alike
+-- and make the same exchanges, where each request that was heard is by that originator and is one
+-- that is covered, nothing goes wrong, and there is memory for each request; and it sees the same
+-- of what they leave.
 abbrev pub EqualSightsAreServedAlike : Type 0
 EqualSightsAreServedAlike =
     (left right after other : EntityData) (o : List ℕ) (stream old new twin given told : List ℕ)
-    (now gone : Option (List ℕ)) (ended end : Ended)
-    (first : Serves (IsOwnRun Step) left after (Some stream) now (Some old) (Some new) (Some given) (Some told) ended)
-    (second : Serves (IsOwnRun Step) right other (Some stream) gone (Some old) (Some twin) (Some given) (Some told) end)
+    (now gone : Option (List ℕ)) (link made other_made : Option (List Exchange)) (ended end : Ended)
+    (first : Serves (IsOwnRun Step) left after
+    (outside (Some stream) (Some old) (Some given) link)
+    (outside now (Some new) (Some told) made) ended)
+    (second : Serves (IsOwnRun Step) right other
+    (outside (Some stream) (Some old) (Some given) link)
+    (outside gone (Some twin) (Some told) other_made) end)
     → IsSound left → IsSound right → sight o left ≡ sight o right
-    → All (λ request. request.fr ≡ Some o) (requests_in first.heard)
+    → All (IsRequestBy o) (requests_in first.heard)
     → IsWhole ended → IsWhole end → All IsDone first.outcomes → All IsDone second.outcomes
-    → (new ≡ twin) × (ended ≡ end) × (sight o after ≡ sight o other)
+    → (new ≡ twin) × (ended ≡ end) × (first.exchanges ≡ second.exchanges)
+    × (sight o after ≡ sight o other)

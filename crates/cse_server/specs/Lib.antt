@@ -1,5 +1,6 @@
 pub mod Closing
-pub mod Talk
 pub mod Connection
-pub mod Way
 pub mod Laws
+pub mod Replies
+pub mod Talk
+pub mod Way

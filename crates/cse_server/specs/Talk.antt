@@ -1,5 +1,7 @@
--- What a connection is answered, by its frames and the outcomes of their requests (TS-0009, 6; RFC 9112, 9.3).
-use Rattle.std.specs.Prelude.{ℕ, ◌+◌, Bool, true, false, not, ◌&&◌, ◌||◌, List, [], ◌∷◌, ◌++◌, Option, Some, None, Result, Ok, Err, if◌then◌else◌}
+-- What a connection is answered, by its frames and the replies to their requests (TS-0009, 6; RFC
+-- 9112, 9.3).
+use Rattle.std.specs.Prelude.{ℕ, ◌+◌, Bool, true, false, not, ◌&&◌, ◌||◌, List, [], ◌∷◌, ◌++◌}
+use Rattle.std.specs.Prelude.{Option, Some, None, Result, Ok, Err, if◌then◌else◌}
 use Rattle.std.specs.List.{filter_map}
 use Rattle.m2m_names.specs.declared.codes.Rsc.TheVariants.{BadRequest}
 use Rattle.primitive_json.specs.declared.reply.ReplyParts.{ReplyParts}
@@ -8,9 +10,6 @@ use Rattle.http_frames.specs.declared.frame.Frame.{Frame}
 use Rattle.http_binding.specs.Binding.{binding, echo_of}
 use Rattle.http_binding.specs.Replying.{reply_text}
 use Rattle.http_binding.specs.declared.fault.BindFault.{BindFault}
-use Rattle.cse_machine.specs.Answer.{starved}
-use Rattle.cse_machine.specs.declared.event.Outcome.{Outcome}
-use Rattle.cse_machine.specs.declared.event.Outcome.TheVariants.{Done, Starved}
 use Rattle.cse_server.specs.Closing.{closes}
 
 -- ---- the requests
@@ -30,38 +29,32 @@ requests_in frames = filter_map request_in frames
 
 -- ---- the replies
 
--- the reply to a request by the outcome of its event: where memory ran out, that it did
-abbrev pub reply_by : RequestParts → Outcome → ReplyParts
-reply_by request (Done reply) = reply
-reply_by request (Starved done) = starved request
-
 -- the refusal of what is no request, with an identifier where one is known
 abbrev pub malformed : Option (List ℕ) → ReplyParts
 malformed rqi = record { rsc = BadRequest; rqi = rqi; pc = None }
 
--- the reply to a request by the first of the outcomes that are left, of which it has one
-abbrev pub reply_by_first : RequestParts → List Outcome → ReplyParts
-reply_by_first request [] = starved request
-reply_by_first request (outcome ∷ outcomes) = reply_by request outcome
+-- the reply to a frame: where it binds to a request, the first of the replies to requests, of which
+-- it has one; and else a refusal with the identifier that it has
+abbrev pub reply_for : Frame → Option RequestParts → List ReplyParts → ReplyParts
+reply_for frame None replies = malformed (echo_of frame)
+reply_for frame (Some request) [] = malformed (Some request.rqi)
+reply_for frame (Some request) (reply ∷ replies) = reply
 
--- the reply to a frame by the request that it binds to, if any
-abbrev pub reply_for : Frame → Option RequestParts → List Outcome → ReplyParts
-reply_for frame None outcomes = malformed (echo_of frame)
-reply_for frame (Some request) outcomes = reply_by_first request outcomes
+-- the replies that are left behind it
+abbrev pub replies_behind : Option RequestParts → List ReplyParts → List ReplyParts
+replies_behind None replies = replies
+replies_behind (Some request) [] = []
+replies_behind (Some request) (reply ∷ replies) = replies
 
--- the outcomes that are left behind it
-abbrev pub outcomes_behind : Option RequestParts → List Outcome → List Outcome
-outcomes_behind None outcomes = outcomes
-outcomes_behind (Some request) [] = []
-outcomes_behind (Some request) (outcome ∷ outcomes) = outcomes
-
--- The replies to frames of which the first stands at this place, one after another, by the outcomes of the requests
--- among them, in order: up to and with the reply to the first frame that closes.
-abbrev pub replies : List Frame → ℕ → List Outcome → List ℕ
-replies [] place outcomes = []
-replies (frame ∷ frames) place outcomes =
-    reply_text (reply_for frame (request_in frame) outcomes) (closes place frame)
-    ++ (if closes place frame then [] else replies frames (place + 1) (outcomes_behind (request_in frame) outcomes))
+-- What is said to frames of which the first stands at this place, one after another, the replies to
+-- the requests among them being these, in order: up to and with the reply to the first frame that
+-- closes.
+abbrev pub reply_texts : List Frame → ℕ → List ReplyParts → List ℕ
+reply_texts [] place replies = []
+reply_texts (frame ∷ frames) place replies =
+    reply_text (reply_for frame (request_in frame) replies) (closes place frame)
+    ++ (if closes place frame then []
+    else reply_texts frames (place + 1) (replies_behind (request_in frame) replies))
 
 -- some frame closes, the first of them standing at this place
 abbrev pub some_closes : List Frame → ℕ → Bool
@@ -85,11 +78,15 @@ before_last [] = []
 before_last (frame ∷ []) = []
 before_last (frame ∷ next ∷ frames) = frame ∷ before_last (next ∷ frames)
 
--- The talk of a connection from the frame at this place on, which is the first of these: the replies to its frames, by
--- the outcomes of their requests, and the last reply where the rest of its stream is refused.
-abbrev pub talk : ℕ → List Frame → Bool → List Outcome → List ℕ
-talk place frames refused outcomes = replies frames place outcomes ++ (if refused then last_reply else [])
+-- The talk of a connection from the frame at this place on, which is the first of these: what is
+-- said to its frames, the replies to their requests being these, and the last reply where the rest
+-- of its stream is refused.
+abbrev pub talk : ℕ → List Frame → Bool → List ReplyParts → List ℕ
+talk place frames refused replies =
+    reply_texts frames place replies ++ (if refused then last_reply else [])
 
--- The talk but for what it ends with: the last reply where the rest is refused, else the reply to the last frame.
-abbrev pub talk_before_last : ℕ → List Frame → Bool → List Outcome → List ℕ
-talk_before_last place frames refused outcomes = replies (if refused then frames else before_last frames) place outcomes
+-- The talk but for what it ends with: the last reply where the rest is refused, else the reply to
+-- the last frame.
+abbrev pub talk_before_last : ℕ → List Frame → Bool → List ReplyParts → List ℕ
+talk_before_last place frames refused replies =
+    reply_texts (if refused then frames else before_last frames) place replies

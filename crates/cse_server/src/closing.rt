@@ -25,7 +25,7 @@ fn minor_of(start: &Start) -> u8
     }
 }
 
-// Whether a line `Connection` has the option `close`.
+/// Whether a line `Connection` has the option `close`.
 fn asks_to_close(lines: &Lines) -> bool
     ensures { result ≡ spec.asks_to_close lines.now }
 {
@@ -50,7 +50,7 @@ fn is_connection(name: &[u8]) -> bool
     name.eq_ignore_ascii_case(b"Connection")
 }
 
-// Whether the list, whose elements stand between commas, has the option `close`.
+/// Whether the list, whose elements stand between commas, has the option `close`.
 fn lists_close(value: &[u8]) -> bool
     ensures { result ≡ spec.lists_close value.now }
 {

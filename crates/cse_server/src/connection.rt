@@ -1,8 +1,9 @@
 //! One connection, from its first frame to its end.
-ghost use Rattle.std.specs.Prelude.{◌≡◌, ◌<◌, ◌≤◌, ◌+◌, length, false, Some, None, Err, IfOk, MatchOption};
+ghost use Rattle.std.specs.Prelude.{◌≡◌, ◌≢◌, ◌<◌, ◌≤◌, ◌+◌, length, false, Some, None, Err, IfOk};
+ghost use Rattle.std.specs.Prelude.{MatchOption};
 ghost use Rattle.m2m_io.specs.Counts.{Rose};
-ghost use Rattle.m2m_io.specs.Sides.{KeepsSides};
-ghost use Rattle.http_frames.specs.Inbox.{most_held, stream_of};
+ghost use Rattle.m2m_io.specs.Outside.{outside};
+ghost use Rattle.http_frames.specs.Inbox.{TakesNext, most_held, stream_of};
 ghost use Rattle.http_frames.specs.declared.frame.Side.TheVariants.{Request as AsRequest};
 ghost use Rattle.cse_server.specs.Talk.{request_in};
 ghost use Rattle.cse_server.specs.Connection.{Serves, ServesFrom};
@@ -10,10 +11,10 @@ ghost use Rattle.cse_server.specs.Way.{Goes, Hears, Refuses, Turns};
 
 use crate::closing::{MOST_FRAMES, closes};
 use crate::replying::{put_last_reply, put_reply, refusal_of, reply_by};
-use cse_machine::{Asked, Event, Outcome};
+use cse_machine::{Event, Outcome};
 use http_binding::{BindFault, to_request};
 use http_frames::{Frame, FrameFault, Inbox, Next, PutFault};
-use m2m_io::{Clock, Link, Sink, Source};
+use m2m_io::{Clock, Connection, Link};
 use primitive_json::{Reply, Request};
 use std::alloc::{AllocError as OutOfMemory, Global};
 use turn_desk::Desk;
@@ -60,59 +61,74 @@ fn asked_by(alloc: Global, frame: &Frame) -> Result<Option<Request>, OutOfMemory
 }
 
 /// The reply to a frame: by what the desk answers the request that it binds to, if any.
-fn reply_to<D, C>(
+fn reply_to<D, C, L>(
     alloc: Global,
     desk: &D,
     seat: &mut D::Seat,
     clock: &mut C,
+    link: &mut L,
     frame: &Frame,
     request: Option<Request>,
 ) -> Result<Reply, OutOfMemory>
 where
     D: Desk<Event = Event, Outcome = Outcome>,
     C: Clock,
+    L: Link,
     requires seats { D.seats desk.now seat.old }
     requires request { request ≡ request_in frame.now }
     ensures seats { D.seats desk.now seat.new }
     ensures hears { Hears D.grown seat.old seat.new
-        (C.readings clock.old) (C.readings clock.new) frame.now result }
+        (outside None None (C.readings clock.old) (L.exchanges link.old))
+        (outside None None (C.readings clock.new) (L.exchanges link.new)) frame.now result }
+    ensures link { L.faults link.new ≡ L.faults link.old }
 {
     match request {
         None => refusal_of(alloc, frame),
         Some(request) => {
             let reading = clock.now();
-            let outcome = desk.ask(seat, reading, Event::Ask(Asked::of(request)));
-            reply_by(alloc, frame, outcome)
+            let outcome = desk.ask(seat, reading, Event::Ask(request));
+            reply_by(alloc, link, frame, outcome)
         }
     }
 }
 
 /// Answers the frame at this place, from 1. None where the connection goes on.
-fn answer<D, X, C>(
+fn answer<D, X, C, L>(
     alloc: Global,
     desk: &D,
     seat: &mut D::Seat,
     conn: &mut X,
     clock: &mut C,
+    link: &mut L,
     place: u64,
     frame: &Frame,
 ) -> Option<Ended>
 where
     D: Desk<Event = Event, Outcome = Outcome>,
-    X: Sink,
+    X: Connection,
     C: Clock,
+    L: Link,
     requires { D.seats desk.now seat.old }
     ensures seats { D.seats desk.now seat.new }
-    ensures turns { Turns place D.grown seat.old seat.new (X.written conn.old) (X.written conn.new)
-        (C.readings clock.old) (C.readings clock.new) frame.now result }
-    ensures count { X.faults conn.old ≤ X.faults conn.new }
-    ensures cause { result ≡ Some Ended.WriteFault → Rose (X.faults conn.old) (X.faults conn.new) }
-    ensures beside { X.kept_by_put conn.new ≡ X.kept_by_put conn.old }
+    ensures turns { let old = outside (X.left conn.old) (X.written conn.old)
+        (C.readings clock.old) (L.exchanges link.old) in
+        let new = outside (X.left conn.new) (X.written conn.new)
+        (C.readings clock.new) (L.exchanges link.new) in
+        Turns place D.grown seat.old seat.new old new frame.now result }
+    ensures count { X.Sink.faults conn.old ≤ X.Sink.faults conn.new }
+    ensures cause { result ≡ Some Ended.WriteFault
+        → Rose (X.Sink.faults conn.old) (X.Sink.faults conn.new) }
+    ensures steady { result ≢ Some Ended.WriteFault
+        → X.Sink.faults conn.new ≡ X.Sink.faults conn.old }
+    ensures left { X.left conn.new ≡ X.left conn.old }
+    ensures read_faults { X.Source.faults conn.new ≡ X.Source.faults conn.old }
+    ensures holds { (X.kept_by_read conn.new).holds ≡ (X.kept_by_read conn.old).holds }
+    ensures link { L.faults link.new ≡ L.faults link.old }
 {
     let Ok(request) = asked_by(alloc, frame) else {
         return Some(Ended::Memory);
     };
-    let Ok(reply) = reply_to(alloc, desk, seat, clock, frame, request) else {
+    let Ok(reply) = reply_to(alloc, desk, seat, clock, link, frame, request) else {
         return Some(Ended::Memory);
     };
     let close = closes(place, frame);
@@ -124,11 +140,16 @@ where
 }
 
 /// Ends a connection on which no frame can stand.
-fn refuse<X: Sink>(alloc: Global, conn: &mut X) -> Ended
+fn refuse<X: Connection>(alloc: Global, conn: &mut X) -> Ended
     ensures refuses { Refuses (X.written conn.old) (X.written conn.new) result }
-    ensures count { X.faults conn.old ≤ X.faults conn.new }
-    ensures cause { result ≡ Ended.WriteFault → Rose (X.faults conn.old) (X.faults conn.new) }
-    ensures beside { X.kept_by_put conn.new ≡ X.kept_by_put conn.old }
+    ensures count { X.Sink.faults conn.old ≤ X.Sink.faults conn.new }
+    ensures cause { result ≡ Ended.WriteFault
+        → Rose (X.Sink.faults conn.old) (X.Sink.faults conn.new) }
+    ensures steady { result ≢ Ended.WriteFault
+        → X.Sink.faults conn.new ≡ X.Sink.faults conn.old }
+    ensures left { X.left conn.new ≡ X.left conn.old }
+    ensures read_faults { X.Source.faults conn.new ≡ X.Source.faults conn.old }
+    ensures holds { (X.kept_by_read conn.new).holds ≡ (X.kept_by_read conn.old).holds }
 {
     match put_last_reply(alloc, conn) {
         Ok(()) => Ended::NoFrame,
@@ -136,42 +157,72 @@ fn refuse<X: Sink>(alloc: Global, conn: &mut X) -> Ended
     }
 }
 
-/// Serves what stands next on a connection, where it has the place `place`, from 1. None where the connection goes on.
-fn serve_next<D, X, C>(
+/// Reads what stands next on a connection. What was written to it stays as it is.
+fn read_next<X: Connection>(
+    alloc: Global,
+    conn: &mut X,
+    inbox: &mut Inbox,
+) -> Result<Next, FrameFault>
+    ensures next { TakesNext AsRequest (X.left conn.old) (X.left conn.new)
+        inbox.old inbox.new result }
+    ensures count { X.Source.faults conn.old ≤ X.Source.faults conn.new }
+    ensures cause { result ≡ Err FrameFault.ReadFault
+        → Rose (X.Source.faults conn.old) (X.Source.faults conn.new) }
+    ensures steady { result ≢ Err FrameFault.ReadFault
+        → X.Source.faults conn.new ≡ X.Source.faults conn.old }
+    ensures written { X.written conn.new ≡ X.written conn.old }
+    ensures write_faults { X.Sink.faults conn.new ≡ X.Sink.faults conn.old }
+    ensures holds { (X.kept_by_read conn.new).holds ≡ (X.kept_by_read conn.old).holds }
+{
+    inbox.next_request(alloc, conn)
+}
+
+/// Serves what stands next on a connection, where it has the place `place`, from 1. None where the
+/// connection goes on.
+fn serve_next<D, X, C, L>(
     alloc: Global,
     desk: &D,
     seat: &mut D::Seat,
     conn: &mut X,
     clock: &mut C,
+    link: &mut L,
     inbox: &mut Inbox,
     place: u64,
 ) -> Option<Ended>
 where
     D: Desk<Event = Event, Outcome = Outcome>,
-    X: Source + Sink,
+    X: Connection,
     C: Clock,
+    L: Link,
     requires seats { D.seats desk.now seat.old }
-    requires sides { KeepsSides X.left X.Source.faults X.kept_by_read X.written X.Sink.faults X.kept_by_put }
-    requires open { inbox.old.refused ≡ false }
+    requires still_open { inbox.old.refused ≡ false }
     requires few { length inbox.old.held < most_held AsRequest }
     ensures few { length inbox.new.held < most_held AsRequest }
     ensures seats { D.seats desk.now seat.new }
-    ensures next { MatchOption result
-        ((inbox.new.refused ≡ false) × Goes place (place + 1) D.grown seat.old seat.new
-        (stream_of inbox.old.held (X.left conn.old)) (stream_of inbox.new.held (X.left conn.new))
-        (X.written conn.old) (X.written conn.new) (C.readings clock.old) (C.readings clock.new))
-        (ServesFrom place D.grown seat.old seat.new (stream_of inbox.old.held (X.left conn.old)) (X.left conn.new)
-        (X.written conn.old) (X.written conn.new) (C.readings clock.old) (C.readings clock.new)) }
+    ensures next { let stream = stream_of inbox.old.held (X.left conn.old) in
+        let old = outside stream (X.written conn.old)
+        (C.readings clock.old) (L.exchanges link.old) in
+        let new = outside (X.left conn.new) (X.written conn.new)
+        (C.readings clock.new) (L.exchanges link.new) in
+        let on = record new { left = stream_of inbox.new.held (X.left conn.new) } in
+        MatchOption result
+        ((inbox.new.refused ≡ false) × Goes place (place + 1) D.grown seat.old seat.new old on)
+        (ServesFrom place D.grown seat.old seat.new old new) }
     ensures read_count { X.Source.faults conn.old ≤ X.Source.faults conn.new }
     ensures read_cause { result ≡ Some Ended.ReadFault
         → Rose (X.Source.faults conn.old) (X.Source.faults conn.new) }
+    ensures read_steady { result ≢ Some Ended.ReadFault
+        → X.Source.faults conn.new ≡ X.Source.faults conn.old }
     ensures write_count { X.Sink.faults conn.old ≤ X.Sink.faults conn.new }
     ensures write_cause { result ≡ Some Ended.WriteFault
         → Rose (X.Sink.faults conn.old) (X.Sink.faults conn.new) }
+    ensures write_steady { result ≢ Some Ended.WriteFault
+        → X.Sink.faults conn.new ≡ X.Sink.faults conn.old }
     ensures holds { (X.kept_by_read conn.new).holds ≡ (X.kept_by_read conn.old).holds }
+    ensures link { L.faults link.new ≡ L.faults link.old }
 {
-    match inbox.next_request(alloc, conn) {
-        Ok(Next::Message(frame)) => answer(alloc, desk, seat, conn, clock, place, &frame),
+    match read_next(alloc, conn, inbox) {
+        Ok(Next::Message(frame)) => answer(alloc, desk, seat, conn, clock, link, place, &frame),
         Ok(Next::End) => Some(Ended::Closed),
         Err(FrameFault::NoFrame) => Some(refuse(alloc, conn)),
         Err(FrameFault::ReadFault) => Some(Ended::ReadFault),
@@ -181,11 +232,12 @@ where
 
 /// Serves one connection to its end: its frames are answered one after another, in order.
 ///
-/// A frame that binds to a request is asked at the desk, at a reading of the clock; one that doesn't is refused, and the
-/// connection goes on. It closes behind the reply to a frame that asks for it, to one of HTTP/1.0 and to the 10,000th.
-/// Where no frame can stand, one last reply says so. Each reply is written by one call of the connection. Where memory runs
-/// out in the event of a request, its reply says so and the connection goes on; elsewhere it ends the connection. The link
-/// is for requests that go on to another entity; none do as yet.
+/// A frame that binds to a request is asked at the desk, at a reading of the clock; one that
+/// doesn't is refused, and the connection goes on. It closes behind the reply to a frame that asks
+/// for it, to one of HTTP/1.0 and to the 10,000th. Where no frame can stand, one last reply says
+/// so. Each reply is written by one call of the connection. Where memory runs out in the event of a
+/// request, its reply says so and the connection goes on; elsewhere it ends the connection. The
+/// link is for requests that go on to another entity; none do as yet.
 pub fn serve_connection<D, X, C, L>(
     alloc: Global,
     desk: &D,
@@ -196,35 +248,39 @@ pub fn serve_connection<D, X, C, L>(
 ) -> Ended
 where
     D: Desk<Event = Event, Outcome = Outcome>,
-    X: Source + Sink,
+    X: Connection,
     C: Clock,
     L: Link,
-    requires seats { D.seats desk.now seat.old }
-
-    // Reading the connection leaves what was written to it, and writing it what is left to read.
-    requires sides { KeepsSides X.left X.Source.faults X.kept_by_read X.written X.Sink.faults X.kept_by_put }
+    requires { D.seats desk.now seat.old }
     ensures seats { D.seats desk.now seat.new }
-    ensures serves { Serves D.grown seat.old seat.new
-        (X.left conn.old) (X.left conn.new) (X.written conn.old) (X.written conn.new)
-        (C.readings clock.old) (C.readings clock.new) result }
+    ensures serves { let old = outside (X.left conn.old) (X.written conn.old)
+        (C.readings clock.old) (L.exchanges link.old) in
+        let new = outside (X.left conn.new) (X.written conn.new)
+        (C.readings clock.new) (L.exchanges link.new) in
+        Serves D.grown seat.old seat.new old new result }
 
-    // Faults come only where the connection failed in this call.
+    // A fault is answered where the connection failed in this call, and only there.
     ensures read_count { X.Source.faults conn.old ≤ X.Source.faults conn.new }
     ensures read_cause { result ≡ Ended.ReadFault
         → Rose (X.Source.faults conn.old) (X.Source.faults conn.new) }
+    ensures read_steady { result ≢ Ended.ReadFault
+        → X.Source.faults conn.new ≡ X.Source.faults conn.old }
     ensures write_count { X.Sink.faults conn.old ≤ X.Sink.faults conn.new }
     ensures write_cause { result ≡ Ended.WriteFault
         → Rose (X.Sink.faults conn.old) (X.Sink.faults conn.new) }
+    ensures write_steady { result ≢ Ended.WriteFault
+        → X.Sink.faults conn.new ≡ X.Sink.faults conn.old }
 
-    // A connection that borrows its sides still holds these, and nothing is exchanged over the link.
+    // A connection that borrows its sides still holds these, and no exchange failed, as none was
+    // made.
     ensures holds { (X.kept_by_read conn.new).holds ≡ (X.kept_by_read conn.old).holds }
-    ensures link { link.new ≡ link.old }
+    ensures link { L.faults link.new ≡ L.faults link.old }
 {
     let Ok(mut inbox) = Inbox::new(alloc) else {
         return Ended::Memory;
     };
     for place in 1..MOST_FRAMES + 1 {
-        if let Some(ended) = serve_next(alloc, desk, seat, conn, clock, &mut inbox, place) {
+        if let Some(ended) = serve_next(alloc, desk, seat, conn, clock, link, &mut inbox, place) {
             return ended;
         }
     }

@@ -1,18 +1,20 @@
 //! Replies, and their way into a connection.
-ghost use Rattle.std.specs.Prelude.{◌≡◌, ◌≤◌, Ok, Err, Some, IfOk, IfSome, OnOk, OnErr, IsUtf8};
+ghost use Rattle.std.specs.Prelude.{◌≡◌, ◌≢◌, ◌≤◌, Ok, Err, IfOk, IfSome, OnOk, OnErr, IsUtf8};
 ghost use Rattle.std.specs.Io.KnownBytes.{Appends};
 ghost use Rattle.m2m_io.specs.Counts.{Rose};
 ghost use Rattle.m2m_io.specs.Told.{AppendsPrefix};
 ghost use Rattle.primitive_json.specs.declared.request.RequestParts.{RequestParts};
 ghost use Rattle.http_binding.specs.Binding.{binding, echo_of};
 ghost use Rattle.http_binding.specs.Replying.{reply_text};
+ghost use Rattle.cse_machine.specs.Answer.{starved};
 ghost use Rattle.cse_server.specs.Talk as spec;
 ghost use Rattle.cse_server.specs.Talk.{last_reply};
+ghost use Rattle.cse_server.specs.Way.{RepliesOver};
 
 use cse_machine::Outcome;
 use http_binding::{echo_id, of_reply};
 use http_frames::{Frame, PutFault, write_frame};
-use m2m_io::Sink;
+use m2m_io::{Connection, Link};
 use m2m_names::Rsc;
 use m2m_value::Text;
 use primitive_json::{Reply, ReplyParts};
@@ -32,7 +34,7 @@ fn echo_of(alloc: Global, frame: &Frame) -> Result<Option<Text>, OutOfMemory>
     ensures utf8 { IfOk result (λ id. IfSome id IsUtf8) }
 {
     match echo_id(frame) {
-        Some(id) => Ok(Some(Text::of(Vec::from_slice(alloc, id)?))),
+        Some(id) => Ok(Some(Text::from_slice(alloc, id)?)),
         None => Ok(None),
     }
 }
@@ -45,46 +47,70 @@ pub(crate) fn refusal_of(alloc: Global, frame: &Frame) -> Result<Reply, OutOfMem
     Ok(bare_reply(Rsc::BadRequest, rqi))
 }
 
-/// The reply to the request of a frame by the outcome of its event.
-pub(crate) fn reply_by(alloc: Global, frame: &Frame, outcome: Outcome) -> Result<Reply, OutOfMemory>
+/// The reply to the request of a frame where memory ran out in its event.
+fn starved_reply(alloc: Global, frame: &Frame) -> Result<Reply, OutOfMemory>
     ensures { (request : RequestParts) → binding frame.now ≡ Ok request
-        → IfOk result (λ r. r ≡ spec.reply_by request outcome) }
+        → IfOk result (λ r. r ≡ starved request) }
+{
+    let rqi = echo_of(alloc, frame)?;
+    Ok(bare_reply(Rsc::Internal, rqi))
+}
+
+/// The reply to the request of a frame by the outcome of its event. The link is for requests that
+/// go on to another entity; none do as yet.
+pub(crate) fn reply_by<L: Link>(
+    alloc: Global,
+    link: &mut L,
+    frame: &Frame,
+    outcome: Outcome,
+) -> Result<Reply, OutOfMemory>
+    ensures replies { (request : RequestParts) → binding frame.now ≡ Ok request
+        → RepliesOver request outcome (L.exchanges link.old) (L.exchanges link.new) result }
+    ensures link { L.faults link.new ≡ L.faults link.old }
 {
     match outcome {
         Outcome::Done(reply) => Ok(reply),
-        Outcome::Starved { .. } => {
-            let rqi = echo_of(alloc, frame)?;
-            Ok(bare_reply(Rsc::Internal, rqi))
-        }
+        Outcome::Starved { .. } => starved_reply(alloc, frame),
     }
 }
 
-/// Writes a reply by one call of the sink.
-pub(crate) fn put_reply<K: Sink>(
+/// Writes a reply by one call of the connection. What is left to read stays as it is.
+pub(crate) fn put_reply<X: Connection>(
     alloc: Global,
-    sink: &mut K,
+    conn: &mut X,
     reply: &Reply,
     close: bool,
 ) -> Result<(), PutFault>
     ensures ok { OnOk result
-        (Appends (K.written sink.old) (K.written sink.new) (reply_text reply.now close)) }
+        (Appends (X.written conn.old) (X.written conn.new) (reply_text reply.now close)) }
     ensures err { OnErr result
-        (AppendsPrefix (K.written sink.old) (K.written sink.new) (reply_text reply.now close)) }
-    ensures count { K.faults sink.old ≤ K.faults sink.new }
-    ensures cause { result ≡ Err PutFault.WriteFault → Rose (K.faults sink.old) (K.faults sink.new) }
-    ensures beside { K.kept_by_put sink.new ≡ K.kept_by_put sink.old }
+        (AppendsPrefix (X.written conn.old) (X.written conn.new) (reply_text reply.now close)) }
+    ensures count { X.Sink.faults conn.old ≤ X.Sink.faults conn.new }
+    ensures cause { result ≡ Err PutFault.WriteFault
+        → Rose (X.Sink.faults conn.old) (X.Sink.faults conn.new) }
+    ensures steady { result ≢ Err PutFault.WriteFault
+        → X.Sink.faults conn.new ≡ X.Sink.faults conn.old }
+    ensures left { X.left conn.new ≡ X.left conn.old }
+    ensures read_faults { X.Source.faults conn.new ≡ X.Source.faults conn.old }
+    ensures holds { (X.kept_by_read conn.new).holds ≡ (X.kept_by_read conn.old).holds }
 {
     let frame = of_reply(alloc, reply, close)?;
-    write_frame(alloc, &frame, sink)
+    write_frame(alloc, &frame, conn)
 }
 
 /// Writes the last reply of a connection on which no frame can stand.
-pub(crate) fn put_last_reply<K: Sink>(alloc: Global, sink: &mut K) -> Result<(), PutFault>
-    ensures ok { OnOk result (Appends (K.written sink.old) (K.written sink.new) last_reply) }
-    ensures err { OnErr result (AppendsPrefix (K.written sink.old) (K.written sink.new) last_reply) }
-    ensures count { K.faults sink.old ≤ K.faults sink.new }
-    ensures cause { result ≡ Err PutFault.WriteFault → Rose (K.faults sink.old) (K.faults sink.new) }
-    ensures beside { K.kept_by_put sink.new ≡ K.kept_by_put sink.old }
+pub(crate) fn put_last_reply<X: Connection>(alloc: Global, conn: &mut X) -> Result<(), PutFault>
+    ensures ok { OnOk result (Appends (X.written conn.old) (X.written conn.new) last_reply) }
+    ensures err { OnErr result
+        (AppendsPrefix (X.written conn.old) (X.written conn.new) last_reply) }
+    ensures count { X.Sink.faults conn.old ≤ X.Sink.faults conn.new }
+    ensures cause { result ≡ Err PutFault.WriteFault
+        → Rose (X.Sink.faults conn.old) (X.Sink.faults conn.new) }
+    ensures steady { result ≢ Err PutFault.WriteFault
+        → X.Sink.faults conn.new ≡ X.Sink.faults conn.old }
+    ensures left { X.left conn.new ≡ X.left conn.old }
+    ensures read_faults { X.Source.faults conn.new ≡ X.Source.faults conn.old }
+    ensures holds { (X.kept_by_read conn.new).holds ≡ (X.kept_by_read conn.old).holds }
 {
-    put_reply(alloc, sink, &bare_reply(Rsc::BadRequest, None), true)
+    put_reply(alloc, conn, &bare_reply(Rsc::BadRequest, None), true)
 }

@@ -8,7 +8,8 @@ use std::marker::Model;
 use tree_model::Tree;
 use turn_desk::Object;
 
-/// An entity that takes one event at a time; contracts see it as that entity. Its steps are those of the machine.
+/// An entity that takes one event at a time; contracts see it as that entity. Its steps are those
+/// of the machine.
 #[derive(Drop)]
 pub struct Served<T: Tree> {
     alloc: Global,

@@ -1,12 +1,12 @@
 -- The frame of a reply is sound, so that it is read back from its text.
-use Rattle.std.proofs.Common.{◌≡◌, ℕ, zero, suc, ◌*◌, ◌<◌, ◌≤◌, ◌^◌, Bool, true, false, ◌&&◌, leb, ltb, List, [], ◌∷◌, ◌++◌, length, reverse, codes, Option, Some, None, IsTrue, IfSome, inl, inr, refl, sym, ap, subst, ◌∙◌, arith}
+use Rattle.std.proofs.Common.{◌≡◌, ℕ, zero, suc, ◌*◌, ◌<◌, ◌≤◌, ◌^◌, Bool, true, false, ◌&&◌, leb, ltb, List, [], ◌∷◌, ◌++◌, length, reverse, codes, Option, Some, None, IsTrue, IfSome, refl, sym, ap, subst, ◌∙◌, arith}
 use Rattle.std.specs.Prelude.{All}
 use Rattle.std.specs.Fmt.{decimal}
 use Rattle.std.specs.Char.{is_ascii_digit}
 use Rattle.std.specs.Int.{is_in_range, IsInRange}
 use Rattle.std.specs.List.{list_all, flat_map}
 use Rattle.std.specs.Str.Parse.{AllDigits}
-use Rattle.std.proofs.lemmas.Bool.{cases_Bool, and_parts, and_from, le-leb, leb-true, ltb-true, cond-true, cond-false}
+use Rattle.std.proofs.lemmas.Bool.{and_parts, and_from, le-leb, leb-true, ltb-true, cond-true, cond-false}
 use Rattle.std.proofs.lemmas.Bool.Decides.{Decides-below_and, nat_tests}
 use Rattle.std.proofs.lemmas.Fmt.{decimal_is_IsNumeral, length-decimal-le}
 use Rattle.std.proofs.lemmas.List.{length-append, reverse-reverse}
@@ -15,10 +15,9 @@ use Rattle.std.proofs.lemmas.List.Sums.{AllPass-from_list_all, list_all-from_All
 use Rattle.std.proofs.lemmas.Str.Parse.{digit_from_value}
 use Rattle.httparse.specs.Grammar.{AllPass, is_token, is_token_byte, is_value_byte, is_ows, skip_ows, trim_ows}
 use Rattle.httparse.proofs.TrimLemmas.{AllPass-reverse}
-use Rattle.m2m_names.specs.StatusCodes.{rsc_row, http_status_of_other}
-use Rattle.m2m_names.specs.StatusNumbers.{is_other}
+use Rattle.m2m_names.specs.StatusCodes.{rsc_row}
 use Rattle.m2m_names.specs.declared.codes.Rsc.{Rsc}
-use Rattle.m2m_names.specs.declared.codes.Rsc.TheVariants.{Ok as Fine, Created, Deleted, Updated, BadRequest, NotFound, NotAllowed, RequestTimeout, NoPrivilege, Conflict, BadChild, Internal, NotImplemented, NotReachable, NotSubscribable, NonBlocking, NotAcceptable, TooManyMembers, WrongMember, Other}
+use Rattle.m2m_names.proofs.StatusLemmas.{number_in_range, http_in_range}
 use Rattle.m2m_value.specs.Data.{Data}
 use Rattle.primitive_json.specs.Bounds.{is_graphic, is_request_id}
 use Rattle.primitive_json.specs.declared.reply.ReplyParts.{ReplyParts}
@@ -30,7 +29,8 @@ use Rattle.http_frames.specs.Frame.{body_limit}
 use Rattle.http_frames.specs.Stream.{BeginsWith}
 use Rattle.http_frames.specs.Text.{phrase_of, start_text, line_text, frame_text, IsLine, IsSound}
 use Rattle.http_frames.proofs.TextLemmas.{written_is_read}
-use Rattle.http_binding.specs.Headers.{id_field, code_field, type_field, length_field, connection_field}
+use Rattle.http_binding.specs.declared.headers.Field.TheVariants.{Id, ContentType}
+use Rattle.http_binding.specs.Headers.{field_name, code_field, length_field, connection_field}
 use Rattle.http_binding.specs.Replying.{body_of, id_lines, type_lines, close_lines, reply_lines, reply_frame, reply_text}
 use Rattle.http_binding.specs.Laws.{IsWithinLimits}
 use Rattle.http_binding.proofs.ReplyLemmas.{text_is}
@@ -90,43 +90,8 @@ length_is n small =
     (and_from _ _ (le-leb (length (decimal n)) 18 (omega (arith, length-decimal-le 7 n (omega arith) small (omega arith))))
     (list_all-from_AllPass is_ascii_digit (decimal n) (digits_pass is_ascii_digit digit_is (decimal n) numeral.1)))
 
--- the numbers of the table
-other_http : (n : ℕ) → http_status_of_other n < 1000
-other_http n =
-    elim (cases_Bool (is_in_range 2000 2999 n)) [
-      | inl fine ↦ rw fine (omega arith)
-      | inr other ↦ elim (cases_Bool (is_in_range 4000 4999 n)) [
-        | inl bad ↦ rw (other, bad) (omega arith)
-        | inr neither ↦ rw (other, neither) (omega arith)
-      ]
-    ]
-
-other_number : (n : ℕ) → IsTrue (is_other n) → n < 10000
-other_number n h =
-    let range = (and_parts (is_in_range 1000 9999 n) _ h).0 in
-    omega (arith, leb-true n 9999 (and_parts (leb 1000 n) (leb n 9999) range).1)
-
-row_small : (rsc : Rsc) → ((rsc_row rsc).number < 10000) × ((rsc_row rsc).http < 1000)
-row_small Fine = (omega arith, omega arith)
-row_small Created = (omega arith, omega arith)
-row_small Deleted = (omega arith, omega arith)
-row_small Updated = (omega arith, omega arith)
-row_small BadRequest = (omega arith, omega arith)
-row_small NotFound = (omega arith, omega arith)
-row_small NotAllowed = (omega arith, omega arith)
-row_small RequestTimeout = (omega arith, omega arith)
-row_small NoPrivilege = (omega arith, omega arith)
-row_small Conflict = (omega arith, omega arith)
-row_small BadChild = (omega arith, omega arith)
-row_small Internal = (omega arith, omega arith)
-row_small NotImplemented = (omega arith, omega arith)
-row_small NotReachable = (omega arith, omega arith)
-row_small NotSubscribable = (omega arith, omega arith)
-row_small NonBlocking = (omega arith, omega arith)
-row_small NotAcceptable = (omega arith, omega arith)
-row_small TooManyMembers = (omega arith, omega arith)
-row_small WrongMember = (omega arith, omega arith)
-row_small (Other o) = (other_number o.number o.outside, other_http o.number)
+http_small : (rsc : Rsc) → (rsc_row rsc).http < 1000
+http_small rsc = omega (arith, (http_in_range rsc).1)
 
 -- each phrase is short
 abbrev phrases_short : ℕ → Bool
@@ -147,14 +112,14 @@ short_id None h = All-nil IsShortLine
 short_id (Some id) h =
     let parts = and_parts (is_in_range 1 128 (length id)) (list_all is_graphic id) h in
     let short = leb-true (length id) 128 (and_parts (leb 1 (length id)) _ parts.0).1 in
-    All-cons IsShortLine (id_field, id) [] (short_line id_field id refl (omega arith) (AllPass-from_list_all is_graphic id parts.1) short) (All-nil IsShortLine)
+    All-cons IsShortLine (field_name Id, id) [] (short_line (field_name Id) id refl (omega arith) (AllPass-from_list_all is_graphic id parts.1) short) (All-nil IsShortLine)
 
 short_type : (content : Option Data) → All IsShortLine (type_lines content)
 unfolding is_token_byte
 short_type None = All-nil IsShortLine
 short_type (Some content) =
     let value = codes "application/json" in
-    All-cons IsShortLine (type_field, value) [] (short_line type_field value refl (omega arith) (AllPass-from_list_all is_graphic value refl) (omega arith)) (All-nil IsShortLine)
+    All-cons IsShortLine (field_name ContentType, value) [] (short_line (field_name ContentType) value refl (omega arith) (AllPass-from_list_all is_graphic value refl) (omega arith)) (All-nil IsShortLine)
 
 short_close : (close : Bool) → All IsShortLine (close_lines close)
 unfolding is_token_byte
@@ -177,7 +142,7 @@ unfolding is_token_byte
 short_lines reply close h =
     let number = (rsc_row reply.rsc).number in
     let size = length (body_of reply.pc) in
-    let row = (row_small reply.rsc).0 in
+    let row = (number_in_range reply.rsc).1 in
     let last = (length_field, decimal size) ∷ close_lines close in
     All-cons IsShortLine (code_field, decimal number) _ (short_number code_field number refl (omega arith) (omega arith))
     (All-append IsShortLine (id_lines reply.rqi) (type_lines reply.pc ++ last) (short_id reply.rqi h.rqi)
@@ -227,9 +192,9 @@ reply_sound reply close h =
     let says = announces (decimal (rsc_row reply.rsc).number) reply.rqi reply.pc (decimal size) close in
     let framing = framing_is size lines (body_small size h.body) says in
     record {
-      start = ((row_small reply.rsc).1, omega arith);
+      start = (http_small reply.rsc, omega arith);
       lines = All-weaker IsShortLine IsLine (λ line s. s.0) lines short;
-      head_fits = omega (arith, length-append (start_text (Answer http 1)) (flat_map line_text lines ++ 13 ∷ 10 ∷ []), length-append (flat_map line_text lines) (13 ∷ 10 ∷ []), start_length http (row_small reply.rsc).1, lines_length lines short, says.count);
+      head_fits = omega (arith, length-append (start_text (Answer http 1)) (flat_map line_text lines ++ 13 ∷ 10 ∷ []), length-append (flat_map line_text lines) (13 ∷ 10 ∷ []), start_length http (http_small reply.rsc), lines_length lines short, says.count);
       lines_fit = omega (arith, says.count);
       body = subst (λ f. CarriesBody (body_limit Reply) f (body_of reply.pc) (body_of reply.pc)) (sym framing) (refl, refl, h.body);
     }

@@ -1,82 +1,157 @@
 -- What is known of a frame that binds.
-use Rattle.std.proofs.Common.{◌≡◌, ◌≢◌, ℕ, true, false, not, ◌&&◌, nat_eq, List, [], ◌∷◌, drop, codes, Option, Some, None, is_some, unwrap_or, Ok, IsTrue, IfSome, inl, inr, refl, sym, ap, subst, ◌∙◌}
-use Rattle.std.specs.Prelude.{⊤}
+use Rattle.std.proofs.Common.{◌≡◌, ◌⊎◌, ℕ, Bool, true, false, not, ◌&&◌, ◌||◌, nat_eq, List, [], ◌∷◌, drop, bytes_eq, length, codes, Option, Some, None, is_some, Result, Ok, Err, IfSome, inl, inr, refl, sym, ap, subst, ◌∙◌}
+use Rattle.std.specs.Bool.{if◌then◌else◌}
 use Rattle.std.specs.List.{starts_with}
+use Rattle.std.specs.Str.{IsUtf8}
 use Rattle.std.specs.Result.{result_unwrap_or, is_ok}
-use Rattle.std.proofs.lemmas.Bool.{cases_Bool, and_parts, not-true, false≢true, true≢false}
-use Rattle.m2m_names.specs.Name.{is_name, is_originator}
+use Rattle.std.proofs.lemmas.Bool.{and_parts, false≢true}
+use Rattle.std.specs.Int.{is_in_range}
+use Rattle.m2m_names.specs.Name.{is_name, is_filled, is_originator}
+use Rattle.m2m_names.proofs.NameLemmas.{unreserved_is_utf8, graphic_is_utf8}
+use Rattle.m2m_names.specs.declared.operations.Op.{Op}
+use Rattle.m2m_names.specs.declared.operations.Op.TheVariants.{Retrieve, Delete}
 use Rattle.primitive_json.specs.Bounds.{is_request_id}
+use Rattle.m2m_names.proofs.NameLemmas.{graphic_is_utf8 as id_is_utf8}
 use Rattle.primitive_json.specs.declared.request.RequestParts.{RequestParts}
+use Rattle.http_frames.specs.declared.frame.Start.{Start}
+use Rattle.http_frames.specs.declared.frame.Start.TheVariants.{Ask, Answer}
 use Rattle.http_frames.specs.declared.frame.Frame.{Frame}
-use Rattle.http_frames.specs.Lines.{values_named}
+use Rattle.http_frames.specs.Lines.{Line, values_named}
 use Rattle.http_binding.specs.declared.fault.BindFault.{BindFault}
-use Rattle.http_binding.specs.Headers.{origin_field, id_field, is_one_that, first_value, has_text, is_local_originator, is_origin_value}
-use Rattle.http_binding.specs.Binding.{Check, name_in, target_of, lone_id, echo_of, checks, first_fault, unless_fault, request_of, Binds}
-use Rattle.http_binding.specs.Laws.{IsPlainRetrieve}
+use Rattle.http_binding.specs.declared.fault.BindFault.TheVariants.{Method}
+use Rattle.http_binding.specs.declared.headers.Field.{Field}
+use Rattle.http_binding.specs.declared.headers.Field.TheVariants.{Origin, Id}
+use Rattle.http_binding.specs.Headers.{field_name, admits, is_some_text}
+use Rattle.http_binding.specs.Binding.{and_then, operation_of, target_name, lone_value, header_value, other_headers, HeaderValues, header_values, required, unless_empty, Caller, caller_of, plain_request, Binds, echo_of}
+use Rattle.http_binding.specs.Laws.{IsPlain}
 
 pub binds_to_one : (frame : Frame) (request other : RequestParts) → Binds frame request → Binds frame other → request ≡ other
 binds_to_one frame request other h g = ap (λ r. result_unwrap_or r request) (sym h ∙ g)
 
--- where there is a request there is no fault, and the request is the one that was made
-bound_parts : (fault : Option BindFault) (made request : RequestParts) → unless_fault fault made ≡ Ok request → (fault ≡ None) × (made ≡ request)
-bound_parts None made request h = (refl, ap (λ r. result_unwrap_or r made) h)
-bound_parts (Some fault) made request h = absurd (false≢true (ap is_ok h))
+-- what a chain that gives a value has read first, and what it has gone on to
+record Reads {T U : Type 0} (part : Result T BindFault) (next : T → Result U BindFault) (value : U) : Type 0 where
+  first : T
+  read : part ≡ Ok first
+  rest : next first ≡ Ok value
 
--- each test is passed
-abbrev AreClear : List Check → Type 0
-AreClear [] = ⊤
-AreClear (check ∷ checks) = (check.0 ≡ true) × AreClear checks
+reads : {T U : Type 0} (part : Result T BindFault) (next : T → Result U BindFault) (value : U) → and_then part next ≡ Ok value → Reads part next value
+reads (Ok first) next value h = record { first = first; read = refl; rest = h }
+reads (Err fault) next value h = absurd (false≢true (ap is_ok h))
 
-are_clear : (checks : List Check) → first_fault checks ≡ None → AreClear checks
-are_clear [] h = tt
-are_clear ((true, fault) ∷ checks) h = (refl, are_clear checks h)
-are_clear ((false, fault) ∷ checks) h = absurd (true≢false (ap is_some h))
+-- a choice that gives a value has passed its test
+passed : {T : Type 0} (test : Bool) (value read : T) (fault : BindFault) → (if test then Ok value else Err fault) ≡ Ok read → (test ≡ true) × (value ≡ read)
+passed true value read fault h = (refl, ap (λ r. result_unwrap_or r value) h)
+passed false value read fault h = absurd (false≢true (ap is_ok h))
 
--- what there is under a name of which the first value has to be there
-named_one : (text : List ℕ) → is_some (name_in text) ≡ true → is_name (unwrap_or (name_in text) []) ≡ true
-named_one text h =
-    elim (cases_Bool (starts_with nat_eq text (codes "/") && is_name (drop 1 text))) [
-      | inl found ↦ rw found (and_parts (starts_with nat_eq text (codes "/")) _ found).1
-      | inr none ↦ absurd (false≢true (rw none at h))
-    ]
+asks_by : (get delete : Bool) (op : Op) → (if get then Ok Retrieve else (if delete then Ok Delete else Err Method)) ≡ Ok op
+    → (op ≡ Retrieve) ⊎ (op ≡ Delete)
+asks_by true delete op h = inl (sym (ap (λ r. result_unwrap_or r Retrieve) h))
+asks_by false delete op h = inr (sym (passed delete Delete op Method h).1)
 
-lone_originator : (values : List (List ℕ)) → is_one_that is_origin_value values ≡ true → has_text (first_value values) ≡ true → IfSome (first_value values) (λ o. IsTrue (is_local_originator o)) × (first_value values ≢ None)
-lone_originator [] one there = absurd (false≢true there)
-lone_originator (value ∷ []) one there = (rw there (rw there at one), λ none. true≢false (ap is_some none))
-lone_originator (value ∷ next ∷ values) one there = absurd (false≢true one)
+asks : (start : Start) (op : Op) → operation_of start ≡ Ok op → (op ≡ Retrieve) ⊎ (op ≡ Delete)
+asks (Ask method target minor) op h = asks_by (bytes_eq method (codes "GET")) (bytes_eq method (codes "DELETE")) op h
+asks (Answer status minor) op h = absurd (false≢true (ap is_ok h))
 
-lone_request_id : (values : List (List ℕ)) → is_one_that is_request_id values ≡ true → is_some (first_value values) ≡ true → (is_request_id (unwrap_or (first_value values) []) ≡ true) × (lone_id values ≡ Some (unwrap_or (first_value values) []))
-lone_request_id [] one there = absurd (false≢true there)
-lone_request_id (value ∷ []) one there = (one, rw one refl)
-lone_request_id (value ∷ next ∷ values) one there = absurd (false≢true one)
+named : (start : Start) (to : List ℕ) → target_name start ≡ Ok to → is_name to ≡ true
+named (Ask method target minor) to h =
+    let p = passed (starts_with nat_eq target (codes "/") && is_name (drop 1 target)) (drop 1 target) to _ h in
+    subst (λ t. is_name t ≡ true) p.1 (and_parts (starts_with nat_eq target (codes "/")) _ p.0).1
+named (Answer status minor) to h = absurd (false≢true (ap is_ok h))
 
--- what a frame that binds has, by its tests
-record Passes (frame : Frame) : Type 0 where
-  named : is_some (name_in (target_of frame.start)) ≡ true
-  origin : is_one_that is_origin_value (values_named origin_field frame.lines) ≡ true
-  id : is_one_that is_request_id (values_named id_field frame.lines) ≡ true
-  has_id : is_some (first_value (values_named id_field frame.lines)) ≡ true
-  has_origin : has_text (first_value (values_named origin_field frame.lines)) ≡ true
+-- the only value of a field is one that it admits
+admitted : (field : Field) (values : List (List ℕ)) (value : List ℕ) → lone_value field values ≡ Ok (Some value) → admits field value ≡ true
+admitted field [] value h = absurd (false≢true (ap (λ r. is_some (result_unwrap_or r None)) h))
+admitted field (v ∷ []) value h =
+    let p = passed (admits field v) (Some v) (Some value) _ h in
+    subst (λ t. admits field t ≡ true) (ap (λ (o : Option (List ℕ)). elim o [ None ↦ v | Some t ↦ t ]) p.1) p.0
+admitted field (v ∷ next ∷ values) value h = absurd (false≢true (ap is_ok h))
 
-passes : (frame : Frame) → first_fault (checks frame) ≡ None → Passes frame
-passes frame h =
-    let all = are_clear (checks frame) h in record {
-      named = all.1.0;
-      origin = all.1.1.0;
-      id = all.1.1.1.0;
-      has_id = all.1.1.1.1.1.1.1.0;
-      has_origin = all.1.1.1.1.1.1.1.1.0;
+-- a value that has to be there is there
+there : (field : Field) (value : Option (List ℕ)) (text : List ℕ) → required field value ≡ Ok text → value ≡ Some text
+there field None text h = absurd (false≢true (ap is_ok h))
+there field (Some v) text h = ap (λ r. Some (result_unwrap_or r v)) h
+
+implied : (a b : Bool) → (not a || b) ≡ true → a ≡ true → b ≡ true
+implied true b h is = h
+implied false b h is = absurd (false≢true is)
+
+-- an originator that says something is one
+abbrev IsNamed : Option (List ℕ) → Type 0
+IsNamed value = IfSome value (λ o. is_originator o ≡ true)
+
+named_by_test : (o : List ℕ) (some : Bool) → (some ≡ true → is_originator o ≡ true) → IsNamed (if some then Some o else None)
+named_by_test o true one = one refl
+named_by_test o false one = tt
+
+named_by : (value : Option (List ℕ)) → IfSome value (λ o. admits Origin o ≡ true) → IsNamed (unless_empty value)
+named_by None one = tt
+named_by (Some o) one = named_by_test o (is_some_text o) (implied (is_some_text o) (is_originator o) one)
+
+-- what the lines say of a field is what it admits
+admitted_any : (field : Field) (lines : List Line) (value : Option (List ℕ)) → header_value field lines ≡ Ok value
+    → IfSome value (λ v. admits field v ≡ true)
+admitted_any field lines None h = tt
+admitted_any field lines (Some v) h = admitted field (values_named (field_name field) lines) v h
+
+-- what is known of the caller that lines name
+pub record IsCaller (lines : List Line) (caller : Caller) : Type 0 where
+  pub originator : IfSome caller.originator (λ o. is_originator o ≡ true)
+  pub id : is_request_id caller.id ≡ true
+  pub id_is : header_value Id lines ≡ Ok (Some caller.id)
+
+pub is_caller : (lines : List Line) (caller : Caller) → caller_of lines ≡ Ok caller → IsCaller lines caller
+is_caller lines caller h =
+    let values = reads (header_values lines) _ caller h in
+    let id = reads (required Id values.first.id) _ caller values.rest in
+    let made : Caller = record { originator = unless_empty values.first.origin; id = id.first } in
+    let is : made ≡ caller = ap (λ r. result_unwrap_or r made) id.rest in
+    let origin_read = reads (header_value Origin lines) _ values.first values.read in
+    let id_read = reads (header_value Id lines) _ values.first origin_read.rest in
+    let others = reads (other_headers lines) _ values.first id_read.rest in
+    let found : HeaderValues = record { origin = origin_read.first; id = id_read.first } in
+    let found_is : found ≡ values.first = ap (λ r. result_unwrap_or r found) others.rest in
+    let id_is : header_value Id lines ≡ Ok (Some id.first) =
+    id_read.read ∙ ap Ok (ap (λ v. v.id) found_is ∙ there Id values.first.id id.first id.read) in
+    let origin_is : header_value Origin lines ≡ Ok values.first.origin = origin_read.read ∙ ap Ok (ap (λ v. v.origin) found_is) in
+    subst (IsCaller lines) is (record {
+      originator = named_by values.first.origin (admitted_any Origin lines values.first.origin origin_is);
+      id = admitted Id (values_named (field_name Id) lines) id.first id_is;
+      id_is = id_is;
+    })
+
+-- what a frame that binds has said
+record Said (frame : Frame) (request : RequestParts) : Type 0 where
+  op : Op
+  to : List ℕ
+  caller : Caller
+  op_is : (op ≡ Retrieve) ⊎ (op ≡ Delete)
+  to_is : target_name frame.start ≡ Ok to
+  caller_is : IsCaller frame.lines caller
+  request_is : plain_request op to caller ≡ request
+
+says : (frame : Frame) (request : RequestParts) → Binds frame request → Said frame request
+says frame request h =
+    let op = reads (operation_of frame.start) _ request h in
+    let to = reads (target_name frame.start) _ request op.rest in
+    let caller = reads (caller_of frame.lines) _ request to.rest in
+    record {
+      op = op.first;
+      to = to.first;
+      caller = caller.first;
+      op_is = asks frame.start op.first op.read;
+      to_is = to.read;
+      caller_is = is_caller frame.lines caller.first caller.read;
+      request_is = ap (λ r. result_unwrap_or r (plain_request op.first to.first caller.first)) caller.rest;
     }
 
-served : (frame : Frame) → Passes frame → IsPlainRetrieve (request_of frame)
-served frame p =
-    let origin = lone_originator (values_named origin_field frame.lines) p.origin p.has_origin in
-    record {
-      op = refl;
-      to = named_one (target_of frame.start) p.named;
-      fr = origin.1;
-      originator = origin.0;
-      rqi = (lone_request_id (values_named id_field frame.lines) p.id p.has_id).0;
+pub binds_to_plain : (frame : Frame) (request : RequestParts) → Binds frame request → IsPlain request
+binds_to_plain frame request h =
+    let s = says frame request h in
+    subst IsPlain s.request_is (record {
+      op = s.op_is;
+      to = named frame.start s.to s.to_is;
+      fr = s.caller_is.originator;
+      rqi = s.caller_is.id;
       ty = refl;
       pc = refl;
       rqet = refl;
@@ -84,23 +159,24 @@ served frame p =
       rcn = refl;
       fc = refl;
       drt = refl;
-    }
-
-pub binds_to_served : (frame : Frame) (request : RequestParts) → Binds frame request → IsPlainRetrieve request
-binds_to_served frame request h =
-    let parts = bound_parts (first_fault (checks frame)) (request_of frame) request h in
-    subst IsPlainRetrieve parts.1 (served frame (passes frame parts.0))
+    })
 
 pub echo_is_id : (frame : Frame) (request : RequestParts) → Binds frame request → echo_of frame ≡ Some request.rqi
 echo_is_id frame request h =
-    let parts = bound_parts (first_fault (checks frame)) (request_of frame) request h in
-    let p = passes frame parts.0 in
-    (lone_request_id (values_named id_field frame.lines) p.id p.has_id).1 ∙ ap (λ r. Some r.rqi) parts.1
+    let s = says frame request h in
+    ap (λ r. result_unwrap_or r None) s.caller_is.id_is ∙ ap (λ r. Some r.rqi) s.request_is
 
--- an originator of this entity is one
-pub local_is_originator : (text : List ℕ) → is_local_originator text ≡ true → is_originator text ≡ true
-local_is_originator text h = (and_parts (is_originator text) _ h).0
+-- the texts of a request are UTF-8
+pub name_utf8 : (start : Start) (to : List ℕ) → target_name start ≡ Ok to → IsUtf8 to
+name_utf8 start to h = unreserved_is_utf8 to (and_parts (is_filled 64 to) _ (named start to h)).1
 
--- and doesn't begin with `/`
-pub local_is_plain : (text : List ℕ) → is_local_originator text ≡ true → starts_with nat_eq text (codes "/") ≡ false
-local_is_plain text h = not-true _ (and_parts (is_originator text) (not (starts_with nat_eq text (codes "/"))) h).1
+text_utf8 : (text : Option (List ℕ)) → IfSome text (λ o. is_originator o ≡ true) → IfSome text IsUtf8
+text_utf8 None one = tt
+text_utf8 (Some o) one = graphic_is_utf8 o (and_parts (is_filled 256 o) _ one).1
+
+pub originator_utf8 : (lines : List Line) (caller : Caller) → caller_of lines ≡ Ok caller → IfSome caller.originator IsUtf8
+originator_utf8 lines caller h = text_utf8 caller.originator (is_caller lines caller h).originator
+
+pub id_utf8 : (lines : List Line) (caller : Caller) → caller_of lines ≡ Ok caller → IsUtf8 caller.id
+id_utf8 lines caller h =
+    id_is_utf8 caller.id (and_parts (is_in_range 1 128 (length caller.id)) _ (is_caller lines caller h).id).1

@@ -1,4 +1,3 @@
 pub mod BackLemmas
 pub mod LawLemmas
 pub mod ReplyLemmas
-pub mod TargetLemmas

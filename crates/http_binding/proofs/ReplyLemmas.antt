@@ -1,21 +1,19 @@
 -- The text of a reply is that of its frame.
-use Rattle.std.proofs.Common.{◌≡◌, ℕ, ◌+◌, ◌/◌, ◌%◌, ◌<◌, ◌≤◌, Bool, true, false, List, [], ◌∷◌, ◌++◌, length, codes, Option, Some, None, inl, inr, refl, sym, ap, ap₂, ◌∙◌, arith, append_assoc, append-nil}
+use Rattle.std.proofs.Common.{◌≡◌, ℕ, ◌+◌, ◌/◌, ◌%◌, ◌<◌, ◌≤◌, Bool, true, false, List, [], ◌∷◌, ◌++◌, length, codes, Option, Some, None, refl, sym, ap, ap₂, ◌∙◌, arith, append_assoc, append-nil}
 use Rattle.std.specs.Fmt.{decimal}
 use Rattle.std.specs.List.{flat_map}
-use Rattle.std.specs.Int.{is_in_range}
-use Rattle.std.proofs.lemmas.Bool.{cases_Bool}
 use Rattle.std.proofs.lemmas.Fmt.{decimal_step, decimal_digit}
 use Rattle.std.proofs.lemmas.List.Concat.{flat_map-append}
-use Rattle.m2m_names.specs.StatusCodes.{rsc_row, http_status_of_other}
+use Rattle.m2m_names.specs.StatusCodes.{rsc_row}
+use Rattle.m2m_names.proofs.StatusLemmas.{http_in_range}
 use Rattle.m2m_names.specs.declared.codes.Rsc.{Rsc}
-use Rattle.m2m_names.specs.declared.codes.Rsc.TheVariants.{Ok as Fine, Created, Deleted, Updated, BadRequest, NotFound, NotAllowed, RequestTimeout, NoPrivilege, Conflict, BadChild, Internal, NotImplemented, NotReachable, NotSubscribable, NonBlocking, NotAcceptable, TooManyMembers, WrongMember, Other}
 use Rattle.m2m_value.specs.Data.{Data}
 use Rattle.primitive_json.specs.declared.reply.ReplyParts.{ReplyParts}
 use Rattle.http_frames.specs.Text.{status_digits, phrase_of, start_text, line_text, frame_text}
 use Rattle.http_frames.specs.Lines.{Line}
 use Rattle.http_frames.specs.declared.frame.Start.TheVariants.{Answer}
 use Rattle.http_binding.specs.Headers.{length_field}
-use Rattle.http_binding.specs.Replying.{body_of, id_lines, type_lines, close_lines, line_end, status_line, id_text, type_text, close_text, reply_lines, reply_frame, reply_text}
+use Rattle.http_binding.specs.Replying.{body_of, id_lines, type_lines, close_lines, line_end, status_line, code_text, id_text, type_text, length_text, close_text, reply_lines, reply_frame, reply_text}
 
 -- a number of three digits
 three_digits : (n : ℕ) → 100 ≤ n → n < 1000 → decimal n ≡ (48 + n / 10 / 10) ∷ (48 + n / 10 % 10) ∷ (48 + n % 10) ∷ []
@@ -24,38 +22,16 @@ three_digits n low high =
     ∙ ap (λ t. t ++ (48 + n % 10) ∷ []) (decimal_step (n / 10) (omega arith) (omega arith)
     ∙ ap (λ t. t ++ (48 + n / 10 % 10) ∷ []) (decimal_digit (n / 10 / 10) (omega arith)))
 
-other_digits : (n : ℕ) → decimal (http_status_of_other n) ≡ status_digits (http_status_of_other n)
-other_digits n =
-    elim (cases_Bool (is_in_range 2000 2999 n)) [
-      | inl fine ↦ rw fine (three_digits 200 (omega arith) (omega arith))
-      | inr other ↦ elim (cases_Bool (is_in_range 4000 4999 n)) [
-        | inl bad ↦ rw (other, bad) (three_digits 400 (omega arith) (omega arith))
-        | inr neither ↦ rw (other, neither) (three_digits 500 (omega arith) (omega arith))
-      ]
-    ]
+hundreds : (n : ℕ) → n < 1000 → n / 10 / 10 ≡ n / 100 % 10
+hundreds n small = omega arith
 
 -- an HTTP status has three digits
 status_is : (rsc : Rsc) → decimal (rsc_row rsc).http ≡ status_digits (rsc_row rsc).http
-status_is Fine = three_digits 200 (omega arith) (omega arith)
-status_is Created = three_digits 201 (omega arith) (omega arith)
-status_is Deleted = three_digits 200 (omega arith) (omega arith)
-status_is Updated = three_digits 200 (omega arith) (omega arith)
-status_is BadRequest = three_digits 400 (omega arith) (omega arith)
-status_is NotFound = three_digits 404 (omega arith) (omega arith)
-status_is NotAllowed = three_digits 405 (omega arith) (omega arith)
-status_is RequestTimeout = three_digits 408 (omega arith) (omega arith)
-status_is NoPrivilege = three_digits 403 (omega arith) (omega arith)
-status_is Conflict = three_digits 409 (omega arith) (omega arith)
-status_is BadChild = three_digits 403 (omega arith) (omega arith)
-status_is Internal = three_digits 500 (omega arith) (omega arith)
-status_is NotImplemented = three_digits 501 (omega arith) (omega arith)
-status_is NotReachable = three_digits 404 (omega arith) (omega arith)
-status_is NotSubscribable = three_digits 403 (omega arith) (omega arith)
-status_is NonBlocking = three_digits 501 (omega arith) (omega arith)
-status_is NotAcceptable = three_digits 406 (omega arith) (omega arith)
-status_is TooManyMembers = three_digits 400 (omega arith) (omega arith)
-status_is WrongMember = three_digits 400 (omega arith) (omega arith)
-status_is (Other o) = other_digits o.number
+status_is rsc =
+    let http = (rsc_row rsc).http in
+    let range = http_in_range rsc in
+    three_digits http range.0 (omega (arith, range.1))
+    ∙ ap (λ d. (48 + d) ∷ (48 + http / 10 % 10) ∷ (48 + http % 10) ∷ []) (hundreds http (omega (arith, range.1)))
 
 id_is : (id : Option (List ℕ)) → flat_map line_text (id_lines id) ≡ id_text id
 id_is None = refl
@@ -70,12 +46,6 @@ close_is false = refl
 close_is true = refl
 
 -- the texts of the lines, one after another
-abbrev code_text : ℕ → List ℕ
-code_text number = codes "X-M2M-RSC: " ++ (decimal number ++ line_end)
-
-abbrev length_text : ℕ → List ℕ
-length_text n = codes "Content-Length: " ++ (decimal n ++ line_end)
-
 lines_are : (reply : ReplyParts) (close : Bool) → flat_map line_text (reply_lines reply close) ≡ code_text (rsc_row reply.rsc).number ++ (id_text reply.rqi ++ (type_text reply.pc ++ (length_text (length (body_of reply.pc)) ++ close_text close)))
 lines_are reply close =
     let code = code_text (rsc_row reply.rsc).number in
@@ -98,3 +68,21 @@ text_is reply close =
     regrouped (status_line http) (code_text (rsc_row reply.rsc).number) (id_text reply.rqi) (type_text reply.pc) (length_text (length body)) (close_text close) line_end body
     ∙ ap (λ s. (s ++ (lines ++ line_end)) ++ body) start
     ∙ ap (λ l. (start_text (Answer http 1) ++ (l ++ line_end)) ++ body) (sym (lines_are reply close))
+
+-- what is appended in three parts
+in_parts : (start code id type size close end body : List ℕ) → (([] ++ (start ++ (code ++ id))) ++ (type ++ (size ++ close))) ++ (end ++ body) ≡ start ++ (code ++ (id ++ (type ++ (size ++ (close ++ (end ++ body))))))
+in_parts start code id type size close end body = simp append_assoc refl
+
+-- three parts that were appended are the text of a reply
+pub reply_made : (reply : ReplyParts) (close : Bool) (http number len : ℕ) (start body one two three : List ℕ) → start ≡ []
+    → http ≡ (rsc_row reply.rsc).http → number ≡ (rsc_row reply.rsc).number → len ≡ length body → body ≡ body_of reply.pc
+    → one ≡ start ++ (status_line http ++ (code_text number ++ id_text reply.rqi))
+    → two ≡ one ++ (type_text reply.pc ++ (length_text len ++ close_text close))
+    → three ≡ two ++ (line_end ++ body) → three ≡ reply_text reply close
+reply_made reply close http number len start body one two three empty http_is number_is len_is body_is one_is two_is three_is =
+    let size_is : len ≡ length (body_of reply.pc) = len_is ∙ ap length body_is in
+    three_is
+    ∙ ap (λ t. t ++ (line_end ++ body)) (two_is ∙ ap (λ t. t ++ (type_text reply.pc ++ (length_text len ++ close_text close))) one_is)
+    ∙ (λ i. ((empty i ++ (status_line (http_is i) ++ (code_text (number_is i) ++ id_text reply.rqi))) ++ (type_text reply.pc ++ (length_text (size_is i) ++ close_text close))) ++ (line_end ++ body_is i))
+    ∙ in_parts (status_line (rsc_row reply.rsc).http) (code_text (rsc_row reply.rsc).number) (id_text reply.rqi) (type_text reply.pc)
+    (length_text (length (body_of reply.pc))) (close_text close) line_end (body_of reply.pc)

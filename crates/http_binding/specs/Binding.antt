@@ -1,92 +1,106 @@
 -- The request that a frame binds to, or the first fault of the frame (TS-0009, 6.2 and 6.4).
-use Rattle.std.specs.Prelude.{◌≡◌, ℕ, nat_eq, Bool, false, ◌&&◌, ◌⊎◌, List, [], ◌∷◌, ◌++◌, drop, bytes_eq, codes, is_some, unwrap_or, Option, Some, None, Result, Ok, Err, if◌then◌else◌}
+use Rattle.std.specs.Prelude.{◌≡◌, ℕ, nat_eq, ◌&&◌, ◌⊎◌, List, [], ◌∷◌, drop, bytes_eq, codes}
+use Rattle.std.specs.Prelude.{Option, Some, None, Result, Ok, Err, if◌then◌else◌}
 use Rattle.std.specs.List.{starts_with}
+use Rattle.std.specs.Result.{result_unwrap_or}
 use Rattle.m2m_names.specs.Name.{is_name}
-use Rattle.m2m_names.specs.declared.operations.Op.TheVariants.{Retrieve}
-use Rattle.primitive_json.specs.Bounds.{is_request_id}
+use Rattle.m2m_names.specs.declared.operations.Op.{Op}
+use Rattle.m2m_names.specs.declared.operations.Op.TheVariants.{Retrieve, Delete}
 use Rattle.primitive_json.specs.declared.request.RequestParts.{RequestParts}
 use Rattle.http_frames.specs.declared.frame.Start.{Start}
 use Rattle.http_frames.specs.declared.frame.Start.TheVariants.{Ask, Answer}
 use Rattle.http_frames.specs.declared.frame.Frame.{Frame}
 use Rattle.http_frames.specs.Lines.{Line, values_named}
 use Rattle.http_binding.specs.declared.fault.BindFault.{BindFault}
-use Rattle.http_binding.specs.declared.fault.BindFault.TheVariants.{Method, Target, Header, Missing, OutOfMemory}
-use Rattle.http_binding.specs.Headers.{origin_field, id_field, expiry_field, type_field, encoding_field, is_absent, is_one_that, is_any, first_value, has_text, is_origin_value}
+use Rattle.http_binding.specs.declared.fault.BindFault.TheVariants.{Method, Target, Header}
+use Rattle.http_binding.specs.declared.fault.BindFault.TheVariants.{Missing, OutOfMemory}
+use Rattle.http_binding.specs.declared.headers.Field.{Field}
+use Rattle.http_binding.specs.declared.headers.Field.TheVariants.{Origin, Id, Expiry, ContentType}
+use Rattle.http_binding.specs.declared.headers.Field.TheVariants.{ContentEncoding}
+use Rattle.http_binding.specs.Headers.{field_name, admits, is_some_text}
 
--- the frame asks by GET, which is a Retrieve; methods are compared exactly (TS-0009, 6.2.1; RFC 9110, section 9.1)
-abbrev pub is_get : Start → Bool
-is_get (Ask method target minor) = bytes_eq method (codes "GET")
-is_get (Answer status minor) = false
+-- what is read next, of the value of a part; the fault of a part ends the reading
+abbrev pub and_then :
+    {T U : Type 0} → Result T BindFault → (T → Result U BindFault) → Result U BindFault
+and_then (Ok value) next = next value
+and_then (Err fault) next = Err fault
 
--- the target of a request
-abbrev pub target_of : Start → List ℕ
-target_of (Ask method target minor) = target
-target_of (Answer status minor) = []
+-- the operation: GET is Retrieve and DELETE is Delete, and methods are compared exactly (TS-0009,
+-- 6.2.1; RFC 9110, section 9.1)
+abbrev pub operation_of : Start → Result Op BindFault
+operation_of (Ask method target minor) =
+    if bytes_eq method (codes "GET") then Ok Retrieve
+    else (if bytes_eq method (codes "DELETE") then Ok Delete else Err Method)
+operation_of (Answer status minor) = Err Method
 
 -- the name that stands alone behind `/` (TS-0009, 6.2.2; RFC 9112, section 3.2.1)
-abbrev pub name_in : List ℕ → Option (List ℕ)
-name_in target =
-    if starts_with nat_eq target (codes "/") && is_name (drop 1 target) then Some (drop 1 target) else None
+abbrev pub target_name : Start → Result (List ℕ) BindFault
+target_name (Ask method target minor) =
+    if starts_with nat_eq target (codes "/") && is_name (drop 1 target)
+    then Ok (drop 1 target) else Err Target
+target_name (Answer status minor) = Err Target
 
--- the originator and the identifier that the lines name: the first value under each name
-abbrev pub origin_of : List Line → Option (List ℕ)
-origin_of lines = first_value (values_named origin_field lines)
+-- of the values of a field: none, or the only one, which the field admits
+abbrev pub lone_value : Field → List (List ℕ) → Result (Option (List ℕ)) BindFault
+lone_value field [] = Ok None
+lone_value field (value ∷ []) =
+    if admits field value then Ok (Some value) else Err (Header (field_name field))
+lone_value field (value ∷ next ∷ values) = Err (Header (field_name field))
 
-abbrev pub id_of : List Line → Option (List ℕ)
-id_of lines = first_value (values_named id_field lines)
+-- what the lines say of a field (TS-0009, 6.4; RFC 9110, section 5.3)
+abbrev pub header_value : Field → List Line → Result (Option (List ℕ)) BindFault
+header_value field lines = lone_value field (values_named (field_name field) lines)
 
--- a test of a frame, and the fault of a frame that fails it
-abbrev pub Check : Type 0
-Check = Bool × BindFault
+-- the fields that are judged alone
+abbrev pub other_headers : List Line → Result (Unit {0}) BindFault
+other_headers lines =
+    and_then (header_value Expiry lines) λ expiry.
+    and_then (header_value ContentType lines) λ type.
+    and_then (header_value ContentEncoding lines) λ encoding.
+    Ok tt
 
--- the fault of the first test that fails
-abbrev pub first_fault : List Check → Option BindFault
-first_fault [] = None
-first_fault (check ∷ checks) = if check.0 then first_fault checks else Some check.1
+-- what the lines say of the originator and of the request's identifier
+pub record HeaderValues : Type 0 where
+  pub origin : Option (List ℕ)
+  pub id : Option (List ℕ)
 
--- the tests of the request line (TS-0009, 6.2)
-abbrev pub start_checks : Start → List Check
-start_checks start = (is_get start, Method) ∷ (is_some (name_in (target_of start)), Target) ∷ []
+-- the fields in the order in which their faults are told
+abbrev pub header_values : List Line → Result HeaderValues BindFault
+header_values lines =
+    and_then (header_value Origin lines) λ origin.
+    and_then (header_value Id lines) λ id.
+    and_then (other_headers lines) λ others.
+    Ok (record { origin = origin; id = id })
 
--- the tests of the lines under each name (TS-0009, 6.4)
-abbrev pub origin_check : List Line → Check
-origin_check lines = (is_one_that is_origin_value (values_named origin_field lines), Header origin_field)
+-- the value of a field that has to be there (TS-0001, 8.1.2)
+abbrev pub required : Field → Option (List ℕ) → Result (List ℕ) BindFault
+required field None = Err (Missing (field_name field))
+required field (Some value) = Ok value
 
-abbrev pub id_check : List Line → Check
-id_check lines = (is_one_that is_request_id (values_named id_field lines), Header id_field)
+-- a value that is empty says nothing (TS-0009, 6.4)
+abbrev pub unless_empty : Option (List ℕ) → Option (List ℕ)
+unless_empty None = None
+unless_empty (Some value) = if is_some_text value then Some value else None
 
-abbrev pub expiry_check : List Line → Check
-expiry_check lines = (is_absent (values_named expiry_field lines), Header expiry_field)
+-- who asks, where that is said, and the identifier of the request
+pub record Caller : Type 0 where
+  pub originator : Option (List ℕ)
+  pub id : List ℕ
 
-abbrev pub type_check : List Line → Check
-type_check lines = (is_one_that is_any (values_named type_field lines), Header type_field)
+-- the caller that the lines name
+abbrev pub caller_of : List Line → Result Caller BindFault
+caller_of lines =
+    and_then (header_values lines) λ values.
+    and_then (required Id values.id) λ id.
+    Ok (record { originator = unless_empty values.origin; id = id })
 
-abbrev pub encoding_check : List Line → Check
-encoding_check lines = (is_absent (values_named encoding_field lines), Header encoding_field)
-
-abbrev pub header_checks : List Line → List Check
-header_checks lines =
-    origin_check lines ∷ id_check lines ∷ expiry_check lines ∷ type_check lines ∷ encoding_check lines ∷ []
-
--- the tests that an identifier and an originator are there (TS-0001, 8.1.2)
-abbrev pub presence_checks : Option (List ℕ) → Option (List ℕ) → List Check
-presence_checks id origin = (is_some id, Missing id_field) ∷ (has_text origin, Missing origin_field) ∷ []
-
--- the tests of the lines
-abbrev pub line_checks : List Line → List Check
-line_checks lines = header_checks lines ++ presence_checks (id_of lines) (origin_of lines)
-
--- all tests of a frame, in their order
-abbrev pub checks : Frame → List Check
-checks frame = start_checks frame.start ++ line_checks frame.lines
-
--- a Retrieve without content or parameters
-abbrev pub retrieve_of : List ℕ → Option (List ℕ) → List ℕ → RequestParts
-retrieve_of name originator id = record {
-  op = Retrieve;
-  to = name;
-  fr = originator;
-  rqi = id;
+-- a request without content or parameters
+abbrev pub plain_request : Op → List ℕ → Caller → RequestParts
+plain_request op to caller = record {
+  op = op;
+  to = to;
+  fr = caller.originator;
+  rqi = caller.id;
   ty = None;
   pc = None;
   rqet = None;
@@ -96,40 +110,24 @@ retrieve_of name originator id = record {
   drt = None;
 }
 
--- the request of a frame that passes the tests
-abbrev pub request_of : Frame → RequestParts
-request_of frame =
-    retrieve_of (unwrap_or (name_in (target_of frame.start)) []) (origin_of frame.lines) (unwrap_or (id_of frame.lines) [])
-
--- a request, unless there is a fault
-abbrev pub unless_fault : Option BindFault → RequestParts → Result RequestParts BindFault
-unless_fault None request = Ok request
-unless_fault (Some fault) request = Err fault
-
 -- the request that a frame binds to, or its first fault (TS-0009, 6)
 abbrev pub binding : Frame → Result RequestParts BindFault
-binding frame = unless_fault (first_fault (checks frame)) (request_of frame)
+binding frame =
+    and_then (operation_of frame.start) λ op.
+    and_then (target_name frame.start) λ to.
+    and_then (caller_of frame.lines) λ caller.
+    Ok (plain_request op to caller)
 
 -- The frame binds to this request, and so to no other.
 abbrev pub Binds : Frame → RequestParts → Type 0
 Binds frame request = binding frame ≡ Ok request
 
--- a value where it is a request identifier, and stands alone
-abbrev pub lone_id : List (List ℕ) → Option (List ℕ)
-lone_id [] = None
-lone_id (value ∷ []) = if is_request_id value then Some value else None
-lone_id (value ∷ next ∷ values) = None
-
--- the identifier that a reply to the frame repeats: the value of its only X-M2M-RI line (TS-0009, 6.4)
+-- the identifier that a reply to the frame repeats: what the lines say of it, where they say it
+-- without a fault
 abbrev pub echo_of : Frame → Option (List ℕ)
-echo_of frame = lone_id (values_named id_field frame.lines)
+echo_of frame = result_unwrap_or (header_value Id frame.lines) None
 
--- The answer is the one that is told, unless memory ran out.
-abbrev pub Answers : Result RequestParts BindFault → Result RequestParts BindFault → Type 0
-Answers (Ok request) told = told ≡ Ok request
-Answers (Err fault) told = (fault ≡ OutOfMemory) ⊎ (told ≡ Err fault)
-
--- The answer comes of passing these tests, or is the fault of the first that fails, unless memory ran out.
-abbrev pub Judges : {T : Type 0} → List Check → Result T BindFault → Type 0
-Judges checks (Ok value) = first_fault checks ≡ None
-Judges checks (Err fault) = (fault ≡ OutOfMemory) ⊎ (first_fault checks ≡ Some fault)
+-- What is answered is what is told, seen so, unless memory ran out.
+abbrev pub Gives : {T U : Type 0} → (T → U) → Result T BindFault → Result U BindFault → Type 0
+Gives view (Ok value) told = told ≡ Ok (view value)
+Gives view (Err fault) told = (fault ≡ OutOfMemory) ⊎ (told ≡ Err fault)

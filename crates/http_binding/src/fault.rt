@@ -23,6 +23,11 @@ pub enum BindFault {
 }
 
 impl fmt::Display for BindFault {
+    ghost use Rattle.std.specs.Prelude.{Some};
+    ghost use Rattle.http_binding.specs.Faults.{bind_fault_text};
+
+    ghost output = { λ fault. Some (bind_fault_text fault) };
+
     fn fmt<W: fmt::Write>(&self, f: &mut fmt::Formatter<W>) -> fmt::Result {
         f.write_str(match self {
             BindFault::Method => "the method is not served",

@@ -1,7 +1,7 @@
 //! Laws of the definitions.
 ghost use Rattle.http_binding.specs.Laws.{
   BindsToOne,
-  BindsToServed,
+  BindsToPlain,
   EchoIsId,
   ReplyIsReadBack,
   TextIsFrames,
@@ -12,9 +12,10 @@ pub fn a_frame_binds_to_one_request()
     ensures { BindsToOne }
 {}
 
-/// A frame binds to a Retrieve of a name by an originator of this entity, and to nothing else.
-pub fn a_frame_binds_to_served_requests()
-    ensures { BindsToServed }
+/// A frame binds to a Retrieve or a Delete of a name, by an originator where one is named, and to
+/// nothing else.
+pub fn a_frame_binds_to_plain_requests()
+    ensures { BindsToPlain }
 {}
 
 /// The identifier that is told of a frame that binds is the request's.

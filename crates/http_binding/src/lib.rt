@@ -1,25 +1,30 @@
-//! The HTTP binding of oneM2M (TS-0009), between frames and primitives: `to_request` gives the request
-//! that a frame binds to, or the first fault of the frame; `echo_id` the identifier that a reply to it
-//! repeats, also where it binds to none; `of_reply` the frame of a reply. So far a frame binds where it is
-//! a GET of `/` and one name, which is a Retrieve. Callers see the binding as a function of the frame
-//! (`binding`, its tests listed in their order by `checks`), and the bytes of a reply written out
-//! (`reply_text`). They answer a frame that binds to nothing themselves, and say whether the connection
-//! closes behind a reply.
+//! The HTTP binding of oneM2M (TS-0009), between frames and primitives: `to_request` gives the
+//! request that a frame binds to, or the first fault of the frame; `echo_id` the identifier that a
+//! reply to it repeats, also where it binds to none; `of_reply` the frame of a reply, and
+//! `write_reply` its bytes. So far a frame binds where it is a GET or a DELETE of `/` and one
+//! name, with an X-M2M-RI. Callers see the binding as a function of the frame (`binding`, the
+//! chain of the parts of a request in the order of their faults), and the bytes of a reply written
+//! out (`reply_text`). They answer a frame that binds to nothing themselves, and say whether the
+//! connection closes behind a reply.
 #![tactic(auto)]
 
 mod fault;
+mod headers;
 mod laws;
 mod reply;
 mod request;
+mod writing;
 
 pub use fault::BindFault;
+pub use headers::echo_id;
 pub use laws::{
-    a_frame_binds_to_one_request, a_frame_binds_to_served_requests, a_reply_is_read_back,
+    a_frame_binds_to_one_request, a_frame_binds_to_plain_requests, a_reply_is_read_back,
     a_reply_is_written_as_its_frame, the_echo_is_the_request_id,
 };
 pub use reply::of_reply;
-pub use request::{echo_id, to_request};
+pub use request::to_request;
 pub use std::alloc::AllocError as OutOfMemory;
+pub use writing::write_reply;
 
 #[cfg(test)]
 mod tests;

@@ -1,5 +1,5 @@
 //! The frame of a reply.
-ghost use Rattle.std.specs.Prelude.{◌≡◌, ◌++◌, ◌∷◌, [], IfOk, OnOk, length, codes};
+ghost use Rattle.std.specs.Prelude.{◌≡◌, ◌++◌, ◌∷◌, [], IfOk, OnOk, length};
 ghost use Rattle.std.specs.Fmt.{decimal};
 ghost use Rattle.m2m_names.specs.StatusCodes.{rsc_row};
 ghost use Rattle.http_binding.specs.Headers.{code_field, length_field};
@@ -18,17 +18,21 @@ type Line = (Text, Text);
 /// The minor version of HTTP that replies have.
 const MINOR: u8 = 1;
 
+/// Room for most contents.
+const CONTENT_ROOM: usize = 512;
+
 /// A reply has at most so many lines.
 const MOST_LINES: usize = 5;
 
 /// The bytes of the body.
-fn body_text(alloc: Global, content: &Option<Val>) -> Result<Vec<u8>, OutOfMemory>
+pub(crate) fn body_text(alloc: Global, content: &Option<Val>) -> Result<Vec<u8>, OutOfMemory>
     ensures { IfOk result (λ bytes. bytes.items ≡ body_of content.now) }
 {
-    let mut bytes = Vec::new(alloc);
-    if let Some(value) = content {
-        write(value, &mut bytes)?;
-    }
+    let Some(value) = content else {
+        return Ok(Vec::new(alloc));
+    };
+    let mut bytes = Vec::with_capacity(alloc, CONTENT_ROOM)?;
+    write(value, &mut bytes)?;
     Ok(bytes)
 }
 
@@ -41,9 +45,8 @@ fn push_line(
 ) -> Result<(), OutOfMemory>
     ensures { OnOk result (lines.new.items ≡ lines.old.items ++ (name.now, value.now) ∷ []) }
 {
-    let name = Text::of(Vec::from_slice(alloc, name.as_bytes())?);
-    let value = Text::of(Vec::from_slice(alloc, value)?);
-    lines.push((name, value))?;
+    let name = Text::from_slice(alloc, name.as_bytes())?;
+    lines.push((name, Text::from_slice(alloc, value)?))?;
     Ok(())
 }
 

@@ -1,5 +1,5 @@
 -- What a call answers, by the one list of frames that begin the stream.
-use Rattle.std.proofs.Common.{◌≡◌, ◌≢◌, ℕ, List, [], ◌∷◌, ◌++◌, Option, None, Some, Result, Ok, Err, refl, sym, ap, subst, ◌∙◌, arith, append_assoc}
+use Rattle.std.proofs.Common.{◌≡◌, ◌≢◌, ℕ, ◌<◌, length, length-append, List, [], ◌∷◌, ◌++◌, Option, None, Some, Result, Ok, Err, refl, sym, ap, subst, ◌∙◌, arith, append_assoc}
 use Rattle.std.specs.Io.KnownBytes.{IsAtEnd}
 use Rattle.http_frames.specs.declared.frame.Side.{Side}
 use Rattle.http_frames.specs.declared.frame.Frame.{Frame}
@@ -8,10 +8,12 @@ use Rattle.http_frames.specs.declared.frame.Next.TheVariants.{Message, End}
 use Rattle.http_frames.specs.declared.fault.FrameFault.{FrameFault}
 use Rattle.http_frames.specs.declared.fault.FrameFault.TheVariants.{NoFrame, ReadFault, OutOfMemory}
 use Rattle.http_frames.specs.Stream.{BeginsWith, HasNoFrame, Frames}
-use Rattle.http_frames.specs.Inbox.{Reads, Gives, HoldsNoFrame, IfMessage, UnlessMessage, Answers, GivesNext, stream_of}
+use Rattle.http_frames.specs.Inbox.{Reads, Gives, GivesAsNeeded, HoldsNoFrame, IfMessage, UnlessMessage, AnswersNext, GivesNext, stream_of, most_held}
+use Rattle.http_frames.specs.Waiting.{piece_limit, ReadsAsNeeded}
 use Rattle.http_frames.proofs.FrameLemmas.{BeginsWith_unique, BeginsWith-append}
 use Rattle.http_frames.proofs.LookLemmas.{some_bytes}
 use Rattle.http_frames.proofs.InboxLemmas.{none_within}
+use Rattle.http_frames.proofs.WaitLemmas.{little_left, stays_small}
 
 -- what was read moved from the source to those held
 same_stream : (s t held now : List ℕ) → (r : Reads (Some s) (Some t) held now) → held ++ s ≡ now ++ t
@@ -45,7 +47,7 @@ answers_told : (side : Side) (result : Result Next FrameFault) (s t held now : L
     → IfMessage result (Gives side (Some s) (Some t) held now) → UnlessMessage result (Reads (Some s) (Some t) held now)
     → (result ≡ Ok End → (now ≡ []) × IsAtEnd (Some t)) → (result ≡ Err NoFrame → HoldsNoFrame side now (Some t))
     → (frames : List Frame) (tail : List ℕ) → Frames side (held ++ s) frames tail
-    → Answers side result frames tail (Some (now ++ t))
+    → AnswersNext side result frames tail (Some (now ++ t))
 answers_told side (Ok (Message frame)) s t held now message kept end none frames tail f =
     let stream = same_stream s t held message.all message.reads in
     let begins = BeginsWith-append side message.all frame now t message.begins in
@@ -83,3 +85,27 @@ gives_next side result None rest held now message kept end none = tt
 gives_next side result (Some s) None held now message kept end none = absurd (still_told side result s held now message kept)
 gives_next side result (Some s) (Some t) held now message kept end none =
     answers_told side result s t held now message kept end none
+
+-- what a message of which each read was needed leaves
+pub message_given : {S : Type 0} (side : Side) (left rest : Option (List ℕ)) (held now : List ℕ) (src after : S) (result : Result Next FrameFault)
+    → IfMessage result (GivesAsNeeded side left rest held now src after) → IfMessage result (Gives side left rest held now)
+message_given side left rest held now src after (Ok (Message frame)) g = g.given
+message_given side left rest held now src after (Ok End) g = tt
+message_given side left rest held now src after (Err fault) g = tt
+
+pub few_left : {S : Type 0} (side : Side) (left rest : Option (List ℕ)) (held now : List ℕ) (src after : S) (result : Result Next FrameFault)
+    → IfMessage result (GivesAsNeeded side left rest held now src after) → HasNoFrame side held → IfMessage result (λ frame. length now < piece_limit)
+few_left side left rest held now src after (Ok (Message frame)) g none =
+    little_left side held g.given.all now src after frame g.needed g.given.begins none
+few_left side left rest held now src after (Ok End) g none = tt
+few_left side left rest held now src after (Err fault) g none = tt
+
+pub stays_few : {S : Type 0} (side : Side) (left rest : Option (List ℕ)) (held now : List ℕ) (src after : S) (result : Result Next FrameFault)
+    → IfMessage result (GivesAsNeeded side left rest held now src after) → UnlessMessage result (ReadsAsNeeded side held now src after)
+    → length held < most_held side → length now < most_held side
+stays_few side left rest held now src after (Ok (Message frame)) g u small =
+    let all = stays_small side held g.given.all src after g.needed small in
+    let begins = g.given.begins in
+    omega (arith, ap length begins.stream_is, length-append begins.bytes now)
+stays_few side left rest held now src after (Ok End) g u small = stays_small side held now src after u small
+stays_few side left rest held now src after (Err fault) g u small = stays_small side held now src after u small

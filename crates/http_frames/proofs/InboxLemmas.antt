@@ -1,15 +1,14 @@
 -- What the bytes held tell of the stream that they begin.
-use Rattle.std.proofs.Common.{◌≡◌, ◌≢◌, ℕ, ◌+◌, ◌<◌, ◌≤◌, ◌⊎◌, List, [], ◌++◌, length, take, drop, Option, None, Some, refl, sym, ap, subst, ◌∙◌, inl, inr, arith, append_assoc}
-use Rattle.std.proofs.lemmas.List.{length-append, length-take, append-nil, take-append-drop}
+use Rattle.std.proofs.Common.{◌≡◌, ◌≢◌, ℕ, ◌+◌, ◌<◌, ◌≤◌, List, [], ◌++◌, length, take, drop, Option, None, Some, refl, sym, ap, subst, ◌∙◌, arith, append_assoc}
+use Rattle.std.proofs.lemmas.List.{length-append, append-nil, take-append-drop}
 use Rattle.std.specs.Io.KnownBytes.{Consumes, IsAtEnd}
 use Rattle.httparse.specs.declared.spans.HeaderSpan.{HeaderSpan}
 use Rattle.m2m_io.specs.Counts.{Rose}
 use Rattle.http_frames.specs.declared.frame.Side.{Side}
 use Rattle.http_frames.specs.declared.look.FrameSpans.{FrameSpans}
-use Rattle.http_frames.specs.Frame.{body_limit}
-use Rattle.http_frames.specs.Stream.{BeginsWith, HasFrame, HasNoFrame}
+use Rattle.http_frames.specs.Stream.{BeginsWith, HasNoFrame}
 use Rattle.http_frames.specs.Spans.{frame_at, IsFrameAt, NeedsBytes, CanNotBegin}
-use Rattle.http_frames.specs.Inbox.{Reads, HoldsNoFrame, most_held}
+use Rattle.http_frames.specs.Inbox.{Reads, HoldsNoFrame}
 
 -- one read and then another
 Consumes_trans : (a b c : Option (List ℕ)) (x y : List ℕ) → Consumes a b x → Consumes b c y → Consumes a c (x ++ y)
@@ -78,51 +77,6 @@ none_ever side held (Some s) some never = record {
   none_left = λ frame rest b. never.none s b.bytes rest frame b.is_frame b.stream_is;
 }
 
--- Something was read, since no frame was held at first; and only as long as that was so.
-pub record Waited (side : Side) (first held : List ℕ) : Type 0 where
-  pub none : HasNoFrame side first
-  pub need : ℕ
-  pub needs : NeedsBytes side held need
-  pub most : length held < need + 4096
-  pub least : need ≤ 16384 + body_limit side
-
--- nothing was read, or something was
-abbrev pub IsFresh : {S : Type 0} → Side → List ℕ → List ℕ → S → S → Type 0
-IsFresh side first held src now = ((held ≡ first) × (now ≡ src)) ⊎ Waited side first held
-
--- where less is held than a frame needs, none was held at first
-pub none_at_first : {S : Type 0} (side : Side) (first held : List ℕ) (src now : S) (need : ℕ) → IsFresh side first held src now
-    → NeedsBytes side held need → length held < need → HasNoFrame side first
-none_at_first side first held src now need (inl same) needs short =
-    subst (λ (v : List ℕ). HasNoFrame side v) same.0 (none_within side held need needs short)
-none_at_first side first held src now need (inr waited) needs short = waited.none
-
--- a frame that was held leaves the source as it was
-pub untouched : {S : Type 0} (side : Side) (first held : List ℕ) (src now : S) → IsFresh side first held src now
-    → HasFrame side first → now ≡ src
-untouched side first held src now (inl same) has = same.1
-untouched side first held src now (inr waited) has = absurd (waited.none has.0 has.1 has.2)
-
--- a frame that had to be read leaves less than a piece
-pub little_left : {S : Type 0} (side : Side) (first held : List ℕ) (src now : S) (headers : List HeaderSpan) (spans : FrameSpans)
-    → IsFresh side first held src now → IsFrameAt side held headers spans → HasNoFrame side first
-    → length held < spans.end + 4096
-little_left side first held src now headers spans (inl same) f none =
-    let begins = frame_begins side held headers spans f in
-    absurd (none _ _ (subst (λ (v : List ℕ). BeginsWith side v (frame_at held headers spans) (drop spans.end held)) same.0 begins))
-little_left side first held src now headers spans (inr waited) f none =
-    let least = waited.needs.at_least [] (take spans.end held) (drop spans.end held) (frame_at held headers spans) f.is_frame
-    (append-nil held ∙ sym (take-append-drop spans.end held)) in
-    let len : length (take spans.end held) ≤ spans.end = simp length-take (omega arith) in
-    omega (arith, waited.most)
-
 -- a count that rose since rose from before
 pub Rose-earlier : (a b n : ℕ) → a ≤ b → Rose b n → Rose a n
 Rose-earlier a b n earlier rose = omega arith
-
--- little is held
-pub stays_small : {S : Type 0} (side : Side) (first held : List ℕ) (src now : S) → IsFresh side first held src now
-    → length first < most_held side → length held < most_held side
-stays_small side first held src now (inl same) small =
-    subst (λ (v : List ℕ). length v < most_held side) (sym same.0) small
-stays_small side first held src now (inr waited) small = omega (arith, waited.most, waited.least)

@@ -6,3 +6,4 @@ pub mod InboxLemmas
 pub mod LinesLemmas
 pub mod LookLemmas
 pub mod TextLemmas
+pub mod WaitLemmas

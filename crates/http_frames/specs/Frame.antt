@@ -1,6 +1,7 @@
 -- One message on the stream: a head, and the body that its lines announce (RFC 9112, section 2.1).
 use Rattle.std.specs.Prelude.{◌≡◌, ◌≤◌, ℕ, List, ◌++◌, length, map}
-use Rattle.httparse.specs.Grammar.{RequestHead, IsRequestHead, print_request, ResponseHead, IsResponseHead, print_response, status_code}
+use Rattle.httparse.specs.Grammar.{RequestHead, IsRequestHead, print_request, ResponseHead}
+use Rattle.httparse.specs.Grammar.{IsResponseHead, print_response, status_code}
 use Rattle.httparse.specs.Spans.{name_and_value}
 use Rattle.http_frames.specs.declared.frame.Side.{Side}
 use Rattle.http_frames.specs.declared.frame.Side.TheVariants.{Request, Reply}

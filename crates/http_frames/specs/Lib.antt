@@ -1,4 +1,5 @@
 pub mod Body
+pub mod Faults
 pub mod Frame
 pub mod Inbox
 pub mod Lines
@@ -6,3 +7,4 @@ pub mod Settled
 pub mod Spans
 pub mod Stream
 pub mod Text
+pub mod Waiting

@@ -1,5 +1,6 @@
 -- Header lines by their name (RFC 9110, section 5).
-use Rattle.std.specs.Prelude.{◌≡◌, ◌≤◌, ℕ, Bool, List, [], ◌∷◌, length, map, bytes_eq, if◌then◌else◌, ⊤}
+use Rattle.std.specs.Prelude.{◌≡◌, ◌≤◌, ℕ, Bool, List, [], ◌∷◌, length, map, bytes_eq}
+use Rattle.std.specs.Prelude.{if◌then◌else◌, ⊤}
 use Rattle.std.specs.Char.{to_ascii_lowercase}
 use Rattle.http_frames.specs.declared.lines.Found.{Found}
 use Rattle.http_frames.specs.declared.lines.Found.TheVariants.{Absent, One, Repeated}

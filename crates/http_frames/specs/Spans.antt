@@ -1,5 +1,6 @@
 -- What the offsets that a look at the bytes answers say of them.
-use Rattle.std.specs.Prelude.{◌≡◌, ℕ, ◌<◌, ◌≤◌, List, ◌++◌, length, take, map, slice_range, Option, Some, None, ⊤}
+use Rattle.std.specs.Prelude.{◌≡◌, ℕ, ◌<◌, ◌≤◌, List, ◌++◌, length, take, map, slice_range}
+use Rattle.std.specs.Prelude.{Option, Some, None, ⊤}
 use Rattle.httparse.specs.declared.spans.HeaderSpan.{HeaderSpan}
 use Rattle.httparse.specs.Spans.{header_bytes, span_bytes, IsWithin, IsSectionWithin}
 use Rattle.http_frames.specs.declared.frame.Side.{Side}
@@ -29,7 +30,8 @@ pub record CarriesNoBody (limit : ℕ) (framing : Framing) : Type 0 where
 
 -- what the spans of a start line cover
 abbrev pub start_at : List ℕ → StartSpans → Start
-start_at bytes (Ask method target minor) = start.Ask (span_bytes bytes method) (span_bytes bytes target) minor
+start_at bytes (Ask method target minor) =
+    start.Ask (span_bytes bytes method) (span_bytes bytes target) minor
 start_at bytes (Answer status minor) = start.Answer status minor
 
 -- they lie in the first n bytes
@@ -42,8 +44,10 @@ abbrev pub lines_at : List ℕ → List HeaderSpan → ℕ → List Line
 lines_at bytes headers count = map (header_bytes bytes) (take count headers)
 
 -- A head stands at the front of the bytes, and the spans cover its parts.
-pub record IsHeadAt (side : Side) (bytes : List ℕ) (headers : List HeaderSpan) (head : HeadSpans) : Type 0 where
-  pub is_head : IsHead side (take head.len bytes) (start_at bytes head.start) (lines_at bytes headers head.lines)
+pub record IsHeadAt
+    (side : Side) (bytes : List ℕ) (headers : List HeaderSpan) (head : HeadSpans) : Type 0 where
+  pub is_head : IsHead side (take head.len bytes) (start_at bytes head.start)
+      (lines_at bytes headers head.lines)
   pub start_fits : IsStartWithin head.len head.start
   pub lines_fit : IsSectionWithin bytes headers head.len head.lines
 
@@ -84,14 +88,16 @@ frame_at bytes headers spans = record {
 }
 
 -- The spans lie in the bytes.
-pub record AreWithin (bytes : List ℕ) (headers : List HeaderSpan) (spans : FrameSpans) : Type 0 where
+pub record AreWithin
+    (bytes : List ℕ) (headers : List HeaderSpan) (spans : FrameSpans) : Type 0 where
   pub start_fits : IsStartWithin spans.body spans.start
   pub lines_fit : IsSectionWithin bytes headers spans.body spans.lines
   pub ordered : spans.body ≤ spans.end
   pub end_fits : spans.end ≤ length bytes
 
 -- A frame stands at the front of the bytes, and the spans cover its parts.
-pub record IsFrameAt (side : Side) (bytes : List ℕ) (headers : List HeaderSpan) (spans : FrameSpans) : Type 0 where
+pub record IsFrameAt
+    (side : Side) (bytes : List ℕ) (headers : List HeaderSpan) (spans : FrameSpans) : Type 0 where
   pub is_frame : IsFrame side (take spans.end bytes) (frame_at bytes headers spans)
   pub within : AreWithin bytes headers spans
 
@@ -102,7 +108,8 @@ pub record NeedsBytes (side : Side) (bytes : List ℕ) (need : ℕ) : Type 0 whe
 
 -- whatever follows, no frame stands at the front
 pub record CanNotBegin (side : Side) (bytes : List ℕ) : Type 0 where
-  pub none : (more text rest : List ℕ) (frame : Frame) → IsFrame side text frame → ¬ (bytes ++ more ≡ text ++ rest)
+  pub none : (more text rest : List ℕ) (frame : Frame)
+      → IsFrame side text frame → ¬ (bytes ++ more ≡ text ++ rest)
 
 -- P of the spans, if there is a whole frame
 abbrev pub IfWholeFrame : Look → (FrameSpans → Type 0) → Type 0

@@ -28,7 +28,8 @@ Frames side stream (frame ∷ frames) rest =
 abbrev pub FramesAreUnique : Type 0
 FramesAreUnique =
     (side : Side) (stream : List ℕ) (frames others : List Frame) (rest other : List ℕ)
-    → Frames side stream frames rest → Frames side stream others other → (frames ≡ others) × (rest ≡ other)
+    → Frames side stream frames rest → Frames side stream others other
+    → (frames ≡ others) × (rest ≡ other)
 
 -- No frame's bytes begin the bytes of another frame.
 abbrev pub NoFrameBeginsAnother : Type 0

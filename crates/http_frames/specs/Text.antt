@@ -1,5 +1,6 @@
 -- The text that is written for a message (RFC 9112, sections 2 to 5).
-use Rattle.std.specs.Prelude.{◌≡◌, ℕ, ◌+◌, ◌/◌, ◌%◌, ◌<◌, ◌≤◌, ◌&&◌, nat_le, nat_lt, List, [], ◌∷◌, ◌++◌, length, All, IsUtf8, unwrap_or, codes, if◌then◌else◌}
+use Rattle.std.specs.Prelude.{◌≡◌, ℕ, ◌+◌, ◌/◌, ◌%◌, ◌<◌, ◌≤◌, ◌&&◌, nat_le, nat_lt, List, []}
+use Rattle.std.specs.Prelude.{◌∷◌, ◌++◌, length, All, IsUtf8, unwrap_or, codes, if◌then◌else◌}
 use Rattle.std.specs.List.{flat_map}
 use Rattle.http.specs.StatusCode.{reason_phrase}
 use Rattle.httparse.specs.Ascii.{space, colon, digit_zero, crlf_bytes}
@@ -19,9 +20,12 @@ version_text minor = codes "HTTP/1." ++ (digit_zero + minor % 10) ∷ []
 
 -- status-code, the three last digits of the number (RFC 9112, section 4)
 abbrev pub status_digits : ℕ → List ℕ
-status_digits status = (digit_zero + status / 100 % 10) ∷ (digit_zero + status / 10 % 10) ∷ (digit_zero + status % 10) ∷ []
+status_digits status =
+    (digit_zero + status / 100 % 10) ∷ (digit_zero + status / 10 % 10)
+    ∷ (digit_zero + status % 10) ∷ []
 
--- reason-phrase: that of the crate http for a status from 100 to 999, and none where it has none (RFC 9110, section 15)
+-- reason-phrase: that of the crate http for a status from 100 to 999, and none where it has none
+-- (RFC 9110, section 15)
 unfoldable pub phrase_of : ℕ → List ℕ
 phrase_of status =
     if nat_le 100 status && nat_lt status 1000 then unwrap_or (reason_phrase status) [] else []
@@ -53,11 +57,13 @@ IsStart Request (Answer status minor) = ⊥
 IsStart Reply (Ask method target minor) = ⊥
 IsStart Reply (Answer status minor) = (status < 1000) × (minor ≤ 1)
 
--- a line whose name is a token, and whose value has no control byte but the tab and no white space around it
+-- a line whose name is a token, and whose value has no control byte but the tab and no white
+-- space around it
 abbrev pub IsLine : Line → Type 0
 IsLine line = IsToken line.0 × AllPass is_value_byte line.1 × (trim_ows line.1 ≡ line.1)
 
--- A message of the grammar and within the limits, whose body has the length that its lines announce.
+-- A message of the grammar and within the limits, whose body has the length that its lines
+-- announce.
 pub record IsSound (side : Side) (frame : Frame) : Type 0 where
   pub start : IsStart side frame.start
   pub lines : All IsLine frame.lines
@@ -67,4 +73,5 @@ pub record IsSound (side : Side) (frame : Frame) : Type 0 where
 
 -- What is written of a sound message is read as that message.
 abbrev pub WrittenIsRead : Type 0
-WrittenIsRead = (side : Side) (frame : Frame) → IsSound side frame → IsFrame side (frame_text frame) frame
+WrittenIsRead =
+    (side : Side) (frame : Frame) → IsSound side frame → IsFrame side (frame_text frame) frame

@@ -63,7 +63,8 @@ fn announced_length(buf: &[u8], headers: &[HeaderSpan]) -> Option<u64>
 /// How many bytes of the stream carry the body, where a body of at most `limit` bytes is announced.
 pub(crate) fn carried_length(buf: &[u8], headers: &[HeaderSpan], limit: usize) -> Option<usize>
     requires { All (IsHeaderWithin (length buf.now)) headers.now }
-    ensures some { IfSome result (λ n. framing_of (map (header_bytes buf.now) headers.now) ≡ counted n) }
+    ensures some { IfSome result
+        (λ n. framing_of (map (header_bytes buf.now) headers.now) ≡ counted n) }
     ensures fits { IfSome result (λ n. n ≤ limit) }
     ensures none { IfNone result
         (CarriesNoBody limit (framing_of (map (header_bytes buf.now) headers.now))) }

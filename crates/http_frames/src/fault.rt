@@ -7,7 +7,8 @@ use std::fmt;
 /// Why no frame was read.
 #[derive(Clone, Copy, Debug, PartialEq, Eq)]
 pub enum FrameFault {
-    /// Bytes are left, and no frame stands at their front: not in those held, nor in these and all that is left to read.
+    /// Bytes are left, and no frame stands at their front: not in those held, nor in these and all
+    /// that is left to read.
     NoFrame,
     /// The source failed: its count of faults rose in the call.
     ReadFault,
@@ -15,6 +16,11 @@ pub enum FrameFault {
 }
 
 impl fmt::Display for FrameFault {
+    ghost use Rattle.std.specs.Prelude.{Some};
+    ghost use Rattle.http_frames.specs.Faults.{frame_fault_text};
+
+    ghost output = { λ fault. Some (frame_fault_text fault) };
+
     fn fmt<W: fmt::Write>(&self, f: &mut fmt::Formatter<W>) -> fmt::Result {
         f.write_str(match self {
             FrameFault::NoFrame => "no message stands here",
@@ -57,6 +63,11 @@ pub enum PutFault {
 }
 
 impl fmt::Display for PutFault {
+    ghost use Rattle.std.specs.Prelude.{Some};
+    ghost use Rattle.http_frames.specs.Faults.{put_fault_text};
+
+    ghost output = { λ fault. Some (put_fault_text fault) };
+
     fn fmt<W: fmt::Write>(&self, f: &mut fmt::Formatter<W>) -> fmt::Result {
         f.write_str(match self {
             PutFault::WriteFault => "the sink failed",

@@ -9,7 +9,8 @@ pub enum Side {
     Reply,
 }
 
-/// What a message begins with (RFC 9112, sections 3 and 4). `minor` is 0 in HTTP/1.0 and 1 in HTTP/1.1.
+/// What a message begins with (RFC 9112, sections 3 and 4). `minor` is 0 in HTTP/1.0 and 1 in
+/// HTTP/1.1.
 #[derive(Debug, Drop)]
 pub enum Start {
     /// A request.

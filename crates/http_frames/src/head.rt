@@ -1,6 +1,8 @@
 //! A look for a head at the front of some bytes.
 ghost use Rattle.std.specs.Prelude.{length};
-ghost use Rattle.http_frames.specs.Spans.{IfWhole, OnNotYet, OnNever, IsHeadAt, HasNoHead, HeadExceeds};
+ghost use Rattle.http_frames.specs.Spans.{IfWhole, OnNotYet, OnNever, IsHeadAt, HasNoHead};
+ghost use Rattle.http_frames.specs.Spans.{HeadExceeds};
+ghost use Rattle.http_frames.specs.Waiting.{MayBecomeHead};
 
 use crate::Side;
 use httparse::Status;
@@ -43,6 +45,7 @@ pub(crate) enum HeadLook {
 fn look_for_request(bytes: &[u8], headers: &mut [HeaderSpan]) -> HeadLook
     ensures whole { IfWhole result (IsHeadAt Side.Request bytes.now headers.new) }
     ensures not_yet { OnNotYet result (HasNoHead Side.Request bytes.now) }
+    ensures may { OnNotYet result (MayBecomeHead Side.Request bytes.now) }
     ensures never { OnNever result (HeadExceeds Side.Request (length headers.old) bytes.now) }
 {
     match parse_request(bytes, headers) {
@@ -64,6 +67,7 @@ fn look_for_request(bytes: &[u8], headers: &mut [HeaderSpan]) -> HeadLook
 fn look_for_reply(bytes: &[u8], headers: &mut [HeaderSpan]) -> HeadLook
     ensures whole { IfWhole result (IsHeadAt Side.Reply bytes.now headers.new) }
     ensures not_yet { OnNotYet result (HasNoHead Side.Reply bytes.now) }
+    ensures may { OnNotYet result (MayBecomeHead Side.Reply bytes.now) }
     ensures never { OnNever result (HeadExceeds Side.Reply (length headers.old) bytes.now) }
 {
     match parse_response(bytes, headers) {
@@ -80,10 +84,12 @@ fn look_for_reply(bytes: &[u8], headers: &mut [HeaderSpan]) -> HeadLook
     }
 }
 
-/// What head of that side stands at the front of the bytes. Where its lines are is written to `headers`.
+/// What head of that side stands at the front of the bytes. Where its lines are is written to
+/// `headers`.
 pub(crate) fn look_for_head(side: Side, bytes: &[u8], headers: &mut [HeaderSpan]) -> HeadLook
     ensures whole { IfWhole result (IsHeadAt side bytes.now headers.new) }
     ensures not_yet { OnNotYet result (HasNoHead side bytes.now) }
+    ensures may { OnNotYet result (MayBecomeHead side bytes.now) }
     ensures never { OnNever result (HeadExceeds side (length headers.old) bytes.now) }
 {
     match side {

@@ -1,8 +1,10 @@
 //! The bytes that were read and are not yet given.
-ghost use Rattle.std.specs.Prelude.{◌≡◌, ◌≢◌, ◌+◌, ◌<◌, ◌≤◌, [], Ok, Err, false, IsTrue, IfOk, OnOk, OnErr, length, drop, vec_len, vec_capacity};
+ghost use Rattle.std.specs.Prelude.{◌≡◌, ◌≢◌, ◌+◌, ◌<◌, ◌≤◌, [], Ok, Err, false, IsTrue, IfOk};
+ghost use Rattle.std.specs.Prelude.{OnOk, OnErr, length, drop, vec_len, vec_capacity};
 ghost use Rattle.std.specs.Io.KnownBytes.{IsAtEnd};
 ghost use Rattle.m2m_io.specs.Counts.{Rose};
 ghost use Rattle.http_frames.specs.Inbox.{Reads};
+ghost use Rattle.http_frames.specs.Waiting.{EndsBelow, piece_limit};
 
 use crate::FrameFault;
 use m2m_io::Source;
@@ -15,7 +17,8 @@ const PIECE: usize = 4_096;
 /// Room for the longest head and a piece, so that few streams need more.
 const ROOM: usize = 20_480;
 
-/// The bytes that were read and are not yet given. Those that are given stay at the front until room is needed.
+/// The bytes that were read and are not yet given. Those that are given stay at the front until
+/// room is needed.
 #[derive(Debug, Drop)]
 pub(crate) struct Held {
     bytes: Vec<u8>,
@@ -50,7 +53,7 @@ fn make_room(bytes: &mut Vec<u8>, start: &mut usize) -> Result<(), AllocError>
     requires { start.old ≤ length bytes.old.items }
     ensures bytes { drop start.new bytes.new.items ≡ drop start.old bytes.old.items }
     ensures start { start.new ≤ length bytes.new.items }
-    ensures room { OnOk result (vec_len bytes.new + 4096 ≤ vec_capacity bytes.new) }
+    ensures room { OnOk result (vec_len bytes.new + piece_limit ≤ vec_capacity bytes.new) }
 {
     if bytes.capacity().saturating_sub(bytes.len()) < PIECE {
         move_to_front(bytes, start);
@@ -87,12 +90,14 @@ impl Held {
     fn read_once<S: Source>(&mut self, src: &mut S) -> Result<usize, FrameFault>
         ensures reads { Reads (S.left src.old) (S.left src.new) self.old self.new }
         ensures count { IfOk result (λ n. length self.new ≡ length self.old + n) }
-        ensures most { IfOk result (λ n. n ≤ 4096) }
+        ensures most { IfOk result (λ n. n ≤ piece_limit) }
         ensures end { result ≡ Ok 0 → IsAtEnd (S.left src.new) }
         ensures err { OnErr result (self.new ≡ self.old) }
         ensures faults { S.faults src.old ≤ S.faults src.new }
         ensures beside { S.kept_by_read src.new ≡ S.kept_by_read src.old }
-        ensures cause { result ≡ Err FrameFault.ReadFault → Rose (S.faults src.old) (S.faults src.new) }
+        ensures cause { result ≡ Err FrameFault.ReadFault
+            → Rose (S.faults src.old) (S.faults src.new) }
+        ensures steady { result ≢ Err FrameFault.ReadFault → S.faults src.new ≡ S.faults src.old }
         ensures other { result ≢ Err FrameFault.NoFrame }
     {
         make_room(&mut self.bytes, &mut self.start)?;
@@ -101,17 +106,20 @@ impl Held {
         Ok(n)
     }
 
-    /// Reads until so many bytes are held, and answers whether they are: they aren't only at the end.
+    /// Reads until so many bytes are held, and answers whether they are: they aren't only at the
+    /// end.
     pub(crate) fn fill<S: Source>(&mut self, src: &mut S, need: usize) -> Result<bool, FrameFault>
         requires { length self.old < need }
         ensures reads { Reads (S.left src.old) (S.left src.new) self.old self.new }
         ensures enough { IfOk result (λ enough. IsTrue enough → need ≤ length self.new) }
-        ensures most { length self.new < need + 4096 }
+        ensures ends { EndsBelow need self.old self.new }
         ensures ended { result ≡ Ok false → (length self.new < need) × IsAtEnd (S.left src.new) }
         ensures err { OnErr result (length self.new < need) }
         ensures faults { S.faults src.old ≤ S.faults src.new }
         ensures beside { S.kept_by_read src.new ≡ S.kept_by_read src.old }
-        ensures cause { result ≡ Err FrameFault.ReadFault → Rose (S.faults src.old) (S.faults src.new) }
+        ensures cause { result ≡ Err FrameFault.ReadFault
+            → Rose (S.faults src.old) (S.faults src.new) }
+        ensures steady { result ≢ Err FrameFault.ReadFault → S.faults src.new ≡ S.faults src.old }
         ensures other { result ≢ Err FrameFault.NoFrame }
     {
         while self.bytes().len() < need {

@@ -1,10 +1,14 @@
 //! Frames, one after another, out of what a source gives.
-ghost use Rattle.std.specs.Prelude.{◌≡◌, ◌≢◌, ◌+◌, ◌<◌, ◌≤◌, [], false, true, None, Some, Ok, Err, IfOk, IfSome, OnOk, OnErr, length, drop};
+ghost use Rattle.std.specs.Prelude.{◌≡◌, ◌≢◌, ◌<◌, ◌≤◌, [], false, true, Ok};
+ghost use Rattle.std.specs.Prelude.{Err, IfOk, OnOk, OnErr, length, drop};
 ghost use Rattle.std.specs.Io.KnownBytes.{IsAtEnd};
 ghost use Rattle.m2m_io.specs.Counts.{Rose};
-ghost use Rattle.http_frames.specs.Stream.{HasFrame, HasNoFrame, Frames};
+ghost use Rattle.http_frames.specs.Frame.{lines_limit};
+ghost use Rattle.http_frames.specs.Stream.{HasNoFrame};
 ghost use Rattle.http_frames.specs.Spans.{IsFrameAt, AreWithin, frame_at};
-ghost use Rattle.http_frames.specs.Inbox.{Reads, Gives, HoldsNoFrame, IfMessage, UnlessMessage, is_refusal, most_held, TakesNext};
+ghost use Rattle.http_frames.specs.Inbox.{Reads, GivesAsNeeded, HoldsNoFrame, IfMessage};
+ghost use Rattle.http_frames.specs.Inbox.{UnlessMessage, is_refusal, TakesNext};
+ghost use Rattle.http_frames.specs.Waiting.{ReadsAsNeeded};
 ghost use Rattle.http_frames.specs.Settled.{IfSettled, OnSettledEnd, OnSettledNever, IsNoFrame};
 
 use crate::held::Held;
@@ -38,28 +42,26 @@ fn settled_at_end(held: &Held) -> Settled
     }
 }
 
-/// Reads until it is settled what stands at the front of the stream: only while the bytes held are no whole frame.
-/// Where a frame's lines are is written to `headers`.
+/// Reads until it is settled what stands at the front of the stream: only while the bytes held
+/// settle nothing. Where a frame's lines are is written to `headers`.
 fn settle<S: Source>(
     held: &mut Held,
     src: &mut S,
     side: Side,
     headers: &mut [HeaderSpan],
 ) -> Result<Settled, FrameFault>
-    requires { length headers.old ≡ 64 }
+    requires { length headers.old ≡ lines_limit }
     ensures reads { Reads (S.left src.old) (S.left src.new) held.old held.new }
+    ensures needed { ReadsAsNeeded side held.old held.new src.old src.new }
     ensures whole { IfSettled result (IsFrameAt side held.new headers.new) }
     ensures end { OnSettledEnd result (held.new ≡ []) }
     ensures at_end { OnSettledEnd result (IsAtEnd (S.left src.new)) }
     ensures never { OnSettledNever result (HoldsNoFrame side held.new (S.left src.new)) }
     ensures waiting { OnErr result (HasNoFrame side held.new) }
-    ensures ready { HasFrame side held.old → src.new ≡ src.old }
-    ensures short { IfSettled result
-        (λ spans. HasNoFrame side held.old → length held.new < spans.end + 4096) }
-    ensures small { length held.old < most_held side → length held.new < most_held side }
     ensures faults { S.faults src.old ≤ S.faults src.new }
     ensures beside { S.kept_by_read src.new ≡ S.kept_by_read src.old }
     ensures cause { result ≡ Err FrameFault.ReadFault → Rose (S.faults src.old) (S.faults src.new) }
+    ensures steady { result ≢ Err FrameFault.ReadFault → S.faults src.new ≡ S.faults src.old }
     ensures other { result ≢ Err FrameFault.NoFrame }
 {
     'reads: loop {
@@ -100,17 +102,18 @@ fn read_next<S: Source>(
     side: Side,
 ) -> Result<Next, FrameFault>
     ensures message { IfMessage result
-        (Gives side (S.left src.old) (S.left src.new) held.old held.new) }
-    ensures kept { UnlessMessage result (Reads (S.left src.old) (S.left src.new) held.old held.new) }
+        (GivesAsNeeded side (S.left src.old) (S.left src.new) held.old held.new src.old src.new) }
+    ensures kept { UnlessMessage result
+        (Reads (S.left src.old) (S.left src.new) held.old held.new) }
+    ensures needed { UnlessMessage result (ReadsAsNeeded side held.old held.new src.old src.new) }
     ensures end { result ≡ Ok Next.End → (held.new ≡ []) × IsAtEnd (S.left src.new) }
-    ensures no_frame { result ≡ Err FrameFault.NoFrame → HoldsNoFrame side held.new (S.left src.new) }
+    ensures no_frame { result ≡ Err FrameFault.NoFrame
+        → HoldsNoFrame side held.new (S.left src.new) }
     ensures waiting { result ≡ Err FrameFault.ReadFault → HasNoFrame side held.new }
-    ensures ready { HasFrame side held.old → src.new ≡ src.old }
-    ensures short { HasNoFrame side held.old → IfMessage result (λ frame. length held.new < 4096) }
-    ensures small { length held.old < most_held side → length held.new < most_held side }
     ensures faults { S.faults src.old ≤ S.faults src.new }
     ensures beside { S.kept_by_read src.new ≡ S.kept_by_read src.old }
     ensures cause { result ≡ Err FrameFault.ReadFault → Rose (S.faults src.old) (S.faults src.new) }
+    ensures steady { result ≢ Err FrameFault.ReadFault → S.faults src.new ≡ S.faults src.old }
 {
     let mut headers = [EMPTY_HEADER_SPAN; LINES_LIMIT];
     match settle(held, src, side, &mut headers)? {
@@ -142,7 +145,8 @@ impl Model for Inbox {
 }
 
 impl Inbox {
-    /// An inbox that holds nothing. It has room for a head, so that reads need memory only for long bodies.
+    /// An inbox that holds nothing. It has room for a head, so that reads need memory only for
+    /// long bodies.
     pub fn new(alloc: Global) -> Result<Inbox, OutOfMemory>
         ensures held { IfOk result (λ inbox. inbox.held ≡ []) }
         ensures refused { IfOk result (λ inbox. inbox.refused ≡ false) }
@@ -160,9 +164,12 @@ impl Inbox {
         side: Side,
     ) -> Result<Next, FrameFault>
         ensures message { IfMessage result
-            (Gives side (S.left src.old) (S.left src.new) self.old.held self.new.held) }
+            (GivesAsNeeded side (S.left src.old) (S.left src.new)
+            self.old.held self.new.held src.old src.new) }
         ensures kept { UnlessMessage result
             (Reads (S.left src.old) (S.left src.new) self.old.held self.new.held) }
+        ensures needed { UnlessMessage result
+            (ReadsAsNeeded side self.old.held self.new.held src.old src.new) }
         ensures end { result ≡ Ok Next.End → (self.new.held ≡ []) × IsAtEnd (S.left src.new) }
         ensures no_frame { self.old.refused ≡ false → result ≡ Err FrameFault.NoFrame
             → HoldsNoFrame side self.new.held (S.left src.new) }
@@ -170,14 +177,11 @@ impl Inbox {
         ensures over { self.old.refused ≡ true → result ≡ Err FrameFault.NoFrame }
         ensures over_still { self.old.refused ≡ true → (self.new ≡ self.old) × (src.new ≡ src.old) }
         ensures waiting { result ≡ Err FrameFault.ReadFault → HasNoFrame side self.new.held }
-        ensures ready { HasFrame side self.old.held → src.new ≡ src.old }
-        ensures short { HasNoFrame side self.old.held
-            → IfMessage result (λ frame. length self.new.held < 4096) }
-        ensures small { length self.old.held < most_held side
-            → length self.new.held < most_held side }
         ensures faults { S.faults src.old ≤ S.faults src.new }
         ensures beside { S.kept_by_read src.new ≡ S.kept_by_read src.old }
-        ensures cause { result ≡ Err FrameFault.ReadFault → Rose (S.faults src.old) (S.faults src.new) }
+        ensures cause { result ≡ Err FrameFault.ReadFault
+            → Rose (S.faults src.old) (S.faults src.new) }
+        ensures steady { result ≢ Err FrameFault.ReadFault → S.faults src.new ≡ S.faults src.old }
     {
         if self.refused {
             return Err(FrameFault::NoFrame);
@@ -187,23 +191,34 @@ impl Inbox {
         next
     }
 
-    /// The next request of the stream, which is the bytes held and then those that the source has left. It reads at
-    /// most 4,096 bytes at a time, and only while the bytes held are no whole request. After `NoFrame` each call
-    /// answers it; after another fault the next call goes on where this one stopped.
+    /// The next request of the stream, which is the bytes held and then those that the source has
+    /// left. It reads at most 4,096 bytes at a time, and only while the bytes held neither hold a
+    /// request nor exclude one. After `NoFrame` each call answers it; after another fault the
+    /// next call goes on where this one stopped.
     pub fn next_request<S: Source>(
         &mut self,
         alloc: Global,
         src: &mut S,
     ) -> Result<Next, FrameFault>
-        ensures next { TakesNext Side.Request (S.left src.old) (S.left src.new) self.old self.new result }
+        ensures next { TakesNext Side.Request (S.left src.old) (S.left src.new)
+            self.old self.new result }
 
-        // The source stays as it is where a request is held, and after NoFrame the inbox too.
-        ensures ready { HasFrame Side.Request self.old.held → src.new ≡ src.old }
+        // A read is made only where the bytes held neither hold a request nor exclude one, and
+        // gives a piece at most.
+        ensures message { IfMessage result
+            (GivesAsNeeded Side.Request (S.left src.old) (S.left src.new)
+            self.old.held self.new.held src.old src.new) }
+        ensures needed { UnlessMessage result
+            (ReadsAsNeeded Side.Request self.old.held self.new.held src.old src.new) }
+
+        // After NoFrame the source and the inbox stay as they are.
         ensures over { self.old.refused ≡ true → (self.new ≡ self.old) × (src.new ≡ src.old) }
 
-        // ReadFault comes only where the source failed in this call.
+        // ReadFault comes where the source failed in this call, and only there.
         ensures count { S.faults src.old ≤ S.faults src.new }
-        ensures cause { result ≡ Err FrameFault.ReadFault → Rose (S.faults src.old) (S.faults src.new) }
+        ensures cause { result ≡ Err FrameFault.ReadFault
+            → Rose (S.faults src.old) (S.faults src.new) }
+        ensures steady { result ≢ Err FrameFault.ReadFault → S.faults src.new ≡ S.faults src.old }
 
         // The side that is written, of a source that is a sink as well, stays as it is.
         ensures beside { S.kept_by_read src.new ≡ S.kept_by_read src.old }
@@ -213,15 +228,25 @@ impl Inbox {
 
     /// The next reply of the stream, as `next_request` has the next request.
     pub fn next_reply<S: Source>(&mut self, alloc: Global, src: &mut S) -> Result<Next, FrameFault>
-        ensures next { TakesNext Side.Reply (S.left src.old) (S.left src.new) self.old self.new result }
+        ensures next { TakesNext Side.Reply (S.left src.old) (S.left src.new)
+            self.old self.new result }
 
-        // The source stays as it is where a reply is held, and after NoFrame the inbox too.
-        ensures ready { HasFrame Side.Reply self.old.held → src.new ≡ src.old }
+        // A read is made only where the bytes held neither hold a reply nor exclude one, and
+        // gives a piece at most.
+        ensures message { IfMessage result
+            (GivesAsNeeded Side.Reply (S.left src.old) (S.left src.new)
+            self.old.held self.new.held src.old src.new) }
+        ensures needed { UnlessMessage result
+            (ReadsAsNeeded Side.Reply self.old.held self.new.held src.old src.new) }
+
+        // After NoFrame the source and the inbox stay as they are.
         ensures over { self.old.refused ≡ true → (self.new ≡ self.old) × (src.new ≡ src.old) }
 
-        // ReadFault comes only where the source failed in this call.
+        // ReadFault comes where the source failed in this call, and only there.
         ensures count { S.faults src.old ≤ S.faults src.new }
-        ensures cause { result ≡ Err FrameFault.ReadFault → Rose (S.faults src.old) (S.faults src.new) }
+        ensures cause { result ≡ Err FrameFault.ReadFault
+            → Rose (S.faults src.old) (S.faults src.new) }
+        ensures steady { result ≢ Err FrameFault.ReadFault → S.faults src.new ≡ S.faults src.old }
 
         // The side that is written, of a source that is a sink as well, stays as it is.
         ensures beside { S.kept_by_read src.new ≡ S.kept_by_read src.old }

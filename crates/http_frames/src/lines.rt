@@ -61,7 +61,8 @@ impl Lines {
         &self.lines
     }
 
-    /// What the lines have of this name, which is compared without regard to case (RFC 9110, section 5.1).
+    /// What the lines have of this name, which is compared without regard to case (RFC 9110,
+    /// section 5.1).
     pub fn find(&self, name: &[u8]) -> Found<&[u8]>
         ensures { IsFound (λ value. value.now) result (values_named name.now self.now) }
     {

@@ -1,7 +1,9 @@
 //! A look for a frame at the front of some bytes.
 ghost use Rattle.std.specs.Prelude.{◌≡◌, ◌≢◌, [], ◌+◌, ◌<◌, ◌≤◌, length};
-ghost use Rattle.http_frames.specs.Frame.{body_limit};
-ghost use Rattle.http_frames.specs.Spans.{IsHeadAt, IfWholeFrame, IfShort, OnNeverFrame, IsFrameAt, NeedsBytes, CanNotBegin};
+ghost use Rattle.http_frames.specs.Frame.{head_limit, lines_limit, body_limit};
+ghost use Rattle.http_frames.specs.Spans.{IsHeadAt, IfWholeFrame, IfShort, OnNeverFrame};
+ghost use Rattle.http_frames.specs.Spans.{IsFrameAt, NeedsBytes, CanNotBegin};
+ghost use Rattle.http_frames.specs.Waiting.{StaysUnsettled};
 
 use crate::Side;
 use crate::body::carried_length;
@@ -52,15 +54,16 @@ fn body_limit(side: Side) -> usize
 }
 
 /// What frame has this head.
-#[tactic(auto, using(crate::proofs::LookLemmas::no_body, crate::proofs::LookLemmas::short_of_body, crate::proofs::LookLemmas::whole_frame))]
+#[tactic(auto, using(crate::proofs::LookLemmas::no_body, crate::proofs::LookLemmas::short_of_body, crate::proofs::LookLemmas::whole_frame, crate::proofs::WaitLemmas::body_stays))]
 fn look_behind(side: Side, bytes: &[u8], headers: &[HeaderSpan], head: HeadSpans) -> Look
     requires is_head { IsHeadAt side bytes.now headers.now head }
-    requires head_fits { head.len ≤ 16384 }
-    requires room { length headers.now ≤ 64 }
+    requires head_fits { head.len ≤ head_limit }
+    requires room { length headers.now ≤ lines_limit }
     ensures whole { IfWholeFrame result (IsFrameAt side bytes.now headers.now) }
     ensures short { IfShort result (λ need. NeedsBytes side bytes.now need) }
     ensures more { IfShort result (λ need. length bytes.now < need) }
-    ensures most { IfShort result (λ need. need ≤ 16384 + body_limit side) }
+    ensures stays { IfShort result (λ need. StaysUnsettled side bytes.now need) }
+    ensures most { IfShort result (λ need. need ≤ head_limit + body_limit side) }
     ensures never { OnNeverFrame result (CanNotBegin side bytes.now) }
 {
     let Some(len) = carried_length(bytes, &headers[..head.lines], body_limit(side)) else {
@@ -78,14 +81,16 @@ fn look_behind(side: Side, bytes: &[u8], headers: &[HeaderSpan], head: HeadSpans
     })
 }
 
-/// What frame of that side stands at the front of the bytes. Where its lines are is written to `headers`.
-#[tactic(auto, using(crate::proofs::LookLemmas::some_bytes, crate::proofs::LookLemmas::short_of_head, crate::proofs::LookLemmas::no_head_within, crate::proofs::LookLemmas::head_too_long, crate::proofs::LookLemmas::too_many_lines))]
+/// What frame of that side stands at the front of the bytes. Where its lines are is written to
+/// `headers`.
+#[tactic(auto, using(crate::proofs::LookLemmas::some_bytes, crate::proofs::LookLemmas::short_of_head, crate::proofs::LookLemmas::no_head_within, crate::proofs::LookLemmas::head_too_long, crate::proofs::LookLemmas::too_many_lines, crate::proofs::WaitLemmas::empty_stays, crate::proofs::WaitLemmas::head_stays))]
 pub(crate) fn look_for_frame(side: Side, bytes: &[u8], headers: &mut [HeaderSpan]) -> Look
-    requires { length headers.old ≡ 64 }
+    requires { length headers.old ≡ lines_limit }
     ensures whole { IfWholeFrame result (IsFrameAt side bytes.now headers.new) }
     ensures short { IfShort result (λ need. NeedsBytes side bytes.now need) }
     ensures more { IfShort result (λ need. length bytes.now < need) }
-    ensures most { IfShort result (λ need. need ≤ 16384 + body_limit side) }
+    ensures stays { IfShort result (λ need. StaysUnsettled side bytes.now need) }
+    ensures most { IfShort result (λ need. need ≤ head_limit + body_limit side) }
     ensures never { OnNeverFrame result (CanNotBegin side bytes.now) }
     ensures some { OnNeverFrame result (bytes.now ≢ []) }
 {

@@ -15,7 +15,7 @@ fn text_of(alloc: Global, bytes: &[u8], span: Span) -> Result<Text, AllocError>
     requires { IsWithin (length bytes.now) span }
     ensures { IfOk result (λ text. text ≡ span_bytes bytes.now span) }
 {
-    Ok(Text::of(Vec::from_slice(alloc, span.of(bytes))?))
+    Text::from_slice(alloc, span.of(bytes))
 }
 
 fn start_of(alloc: Global, bytes: &[u8], start: StartSpans) -> Result<Start, AllocError>

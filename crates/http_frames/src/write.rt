@@ -1,9 +1,11 @@
 //! The text of a frame, and its way into a sink.
-ghost use Rattle.std.specs.Prelude.{◌≡◌, ◌+◌, ◌<◌, ◌≤◌, ◌++◌, [], ◌∷◌, Err, IfOk, OnOk, flat_map};
+ghost use Rattle.std.specs.Prelude.{◌≡◌, ◌≢◌, ◌+◌, ◌<◌, ◌≤◌, ◌++◌, [], ◌∷◌, Err, IfOk, OnOk};
+ghost use Rattle.std.specs.Prelude.{flat_map};
 ghost use Rattle.std.specs.Io.KnownBytes.{Appends};
 ghost use Rattle.m2m_io.specs.Counts.{Rose};
 ghost use Rattle.m2m_io.specs.Told.{AppendsPrefix};
-ghost use Rattle.http_frames.specs.Text.{version_text, status_digits, phrase_of, start_text, line_text, frame_text};
+ghost use Rattle.http_frames.specs.Text.{version_text, status_digits, phrase_of, start_text};
+ghost use Rattle.http_frames.specs.Text.{line_text, frame_text};
 
 use crate::{Frame, Lines, PutFault, Start};
 use http::StatusCode;
@@ -14,7 +16,7 @@ use std::alloc::{AllocError, Global};
 const ROOM: usize = 512;
 
 /// The reason phrase of a status, which is empty where it has none.
-fn phrase_of(status: u16) -> &'static str
+pub fn phrase_of(status: u16) -> &'static str
     ensures { result.now ≡ phrase_of status }
 {
     match StatusCode::from_u16(status) {
@@ -78,7 +80,8 @@ fn append_phrase(out: &mut Vec<u8>, status: u16) -> Result<(), AllocError>
 
 fn append_status_line(out: &mut Vec<u8>, status: u16, minor: u8) -> Result<(), AllocError>
     ensures { OnOk result (out.new.items ≡ out.old.items
-        ++ (version_text minor ++ (32 ∷ status_digits status ++ (32 ∷ phrase_of status ++ 13 ∷ 10 ∷ [])))) }
+        ++ (version_text minor
+        ++ (32 ∷ status_digits status ++ (32 ∷ phrase_of status ++ 13 ∷ 10 ∷ [])))) }
 {
     append_version(out, minor)?;
     out.push(b' ')?;
@@ -131,19 +134,22 @@ fn text_of(alloc: Global, frame: &Frame) -> Result<Vec<u8>, AllocError>
     Ok(out)
 }
 
-/// Writes a frame by one call of the sink: its head with the lines as they are, and its body as it is. It adds no
-/// line, so the lines have to say how long the body is.
+/// Writes a frame by one call of the sink: its head with the lines as they are, and its body as
+/// it is. It adds no line, so the lines have to say how long the body is.
 pub fn write_frame<O: Sink>(alloc: Global, frame: &Frame, sink: &mut O) -> Result<(), PutFault>
-    ensures ok { OnOk result (Appends (O.written sink.old) (O.written sink.new) (frame_text frame.now)) }
+    ensures ok { OnOk result
+        (Appends (O.written sink.old) (O.written sink.new) (frame_text frame.now)) }
 
     // Where the sink failed, a prefix is written; after want of memory, nothing.
     ensures fault { result ≡ Err PutFault.WriteFault
         → AppendsPrefix (O.written sink.old) (O.written sink.new) (frame_text frame.now) }
     ensures memory { result ≡ Err PutFault.OutOfMemory → sink.new ≡ sink.old }
 
-    // WriteFault comes only where the sink failed in this call.
+    // WriteFault comes where the sink failed in this call, and only there.
     ensures count { O.faults sink.old ≤ O.faults sink.new }
-    ensures cause { result ≡ Err PutFault.WriteFault → Rose (O.faults sink.old) (O.faults sink.new) }
+    ensures cause { result ≡ Err PutFault.WriteFault
+        → Rose (O.faults sink.old) (O.faults sink.new) }
+    ensures steady { result ≢ Err PutFault.WriteFault → O.faults sink.new ≡ O.faults sink.old }
 
     // The side that is read, of a sink that is a source as well, stays as it is.
     ensures beside { O.kept_by_put sink.new ≡ O.kept_by_put sink.old }

@@ -1,8 +1,8 @@
 -- What a clock tells after one more reading.
-use Rattle.std.proofs.Common.{◌≡◌, ℕ, suc, ◌+◌, ◌-◌, ◌<◌, ◌^◌, ◌⊎◌, min, List, ◌∷◌, [], ◌++◌, true, false, Some, None, arith, ap, subst, refl, add-one, inl, inr}
+use Rattle.std.proofs.Common.{◌≡◌, ℕ, suc, ◌-◌, ◌<◌, ◌^◌, List, ◌∷◌, [], ◌++◌, true, arith, refl, inl, inr}
 use Rattle.std.proofs.lemmas.Bool.{cases_Bool, ltb-true, lt-ltb}
 use Rattle.m2m_io.specs.Counts.{one_more, is_exact}
-use Rattle.m2m_io.specs.Clock.{Dial, reading_after, first_readings, told_readings}
+use Rattle.m2m_io.specs.Clock.{reading_after, told_readings}
 use Rattle.m2m_io.specs.Told.{Tells}
 
 -- one more reading is told behind the others, as long as the calls can be counted

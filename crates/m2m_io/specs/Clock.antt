@@ -1,9 +1,10 @@
 -- A clock in memory.
-use Rattle.std.specs.Prelude.{ℕ, zero, suc, ◌+◌, ◌-◌, min, List, [], ◌∷◌, ◌++◌, length, slice_index, Option, None, Some, if◌then◌else◌}
+use Rattle.std.specs.Prelude.{ℕ, zero, suc, ◌-◌, min, List, [], ◌∷◌, ◌++◌, length, slice_index}
+use Rattle.std.specs.Prelude.{Option, None, Some, if◌then◌else◌}
 use Rattle.m2m_io.specs.Counts.{is_exact}
 
 -- the readings that a clock is to give, and how many calls it has had
-pub record Dial : Type 0 where
+pub record ClockData : Type 0 where
   pub set : List ℕ
   pub made : ℕ
 
@@ -17,5 +18,6 @@ first_readings set zero = []
 first_readings set (suc k) = first_readings set k ++ reading_after set k ∷ []
 
 -- the readings given so far, told while the calls can be counted
-abbrev pub told_readings : Dial → Option (List ℕ)
-told_readings dial = if is_exact dial.made then Some (first_readings dial.set dial.made) else None
+abbrev pub told_readings : ClockData → Option (List ℕ)
+told_readings clock =
+    if is_exact clock.made then Some (first_readings clock.set clock.made) else None

@@ -1,4 +1,5 @@
--- Counts that rise by one and stop at the greatest number of 64 bits, and the calls of an object in memory.
+-- Counts that rise by one and stop at the greatest number of 64 bits, and the calls of an object in
+-- memory.
 use Rattle.std.specs.Prelude.{ℕ, ◌+◌, ◌-◌, ◌^◌, ◌==◌, ◌≤◌, min, Bool, nat_lt, List}
 use Rattle.std.specs.List.{list_any}
 
@@ -14,7 +15,8 @@ Rose before now = one_more before ≤ now
 abbrev pub is_exact : ℕ → Bool
 is_exact made = nat_lt made (2 ^ 64 - 1)
 
--- the calls that an object in memory has had, the numbers of those that are to fail, and how many have failed
+-- the calls that an object in memory has had, the numbers of those that are to fail, and how many
+-- have failed
 pub record Calls : Type 0 where
   pub made : ℕ
   pub fails : List ℕ

@@ -1,5 +1,5 @@
 -- What a door has given.
-use Rattle.std.specs.Prelude.{◌≡◌, ℕ, ◌+◌, List, Bool, true, Option, Some, None, if◌then◌else◌}
+use Rattle.std.specs.Prelude.{ℕ, ◌+◌, List, Bool, true, Option, Some, None, if◌then◌else◌}
 use Rattle.std.specs.declared.result.Result.{Result}
 use Rattle.std.specs.declared.result.Result.TheVariants.{Ok, Err}
 use Rattle.m2m_io.specs.Counts.{Calls, is_exact}
@@ -16,9 +16,9 @@ ended_after (Ok (Some conn)) ended = ended
 ended_after (Ok None) ended = true
 ended_after (Err e) ended = ended
 
--- A door in memory: the connections that it has still to give, whether it was opened, how many it gave, whether
--- it gave None, and the calls so far.
-pub record Porch (X : Type 0) : Type 0 where
+-- A door in memory: the connections that it has still to give, whether it was opened, how many it
+-- gave, whether it gave None, and the calls so far.
+pub record DoorData (X : Type 0) : Type 0 where
   pub conns : List X
   pub opened : Bool
   pub given : ℕ
@@ -26,5 +26,5 @@ pub record Porch (X : Type 0) : Type 0 where
   pub calls : Calls
 
 -- how many connections were given, told while the calls can be counted
-abbrev pub told_given : {X : Type 0} → Porch X → Option ℕ
-told_given porch = if is_exact porch.calls.made then Some porch.given else None
+abbrev pub told_given : {X : Type 0} → DoorData X → Option ℕ
+told_given door = if is_exact door.calls.made then Some door.given else None

@@ -4,8 +4,9 @@ pub mod Counts
 pub mod Door
 pub mod Link
 pub mod LinkFault
+pub mod Outside
+pub mod Sides
 pub mod Sink
 pub mod Source
 pub mod Status
 pub mod Told
-pub mod Sides

@@ -1,5 +1,6 @@
 -- What a link has exchanged with neighbours.
-use Rattle.std.specs.Prelude.{◌≡◌, ℕ, List, [], ◌∷◌, ◌++◌, Bool, true, false, ◌||◌, Option, Some, None, if◌then◌else◌}
+use Rattle.std.specs.Prelude.{◌≡◌, ℕ, List, [], ◌∷◌, ◌++◌, Bool, true, false, ◌||◌, Option, Some}
+use Rattle.std.specs.Prelude.{None, if◌then◌else◌}
 use Rattle.std.specs.Option.{option_map}
 use Rattle.std.specs.declared.result.Result.{Result}
 use Rattle.std.specs.declared.result.Result.TheVariants.{Ok, Err}
@@ -8,7 +9,8 @@ use Rattle.m2m_io.specs.declared.fault.LinkFault.TheVariants.{Failed, OutOfMemor
 use Rattle.m2m_io.specs.Counts.{Calls, one_more, is_exact, fails_next, after_call, after_fault}
 use Rattle.m2m_io.specs.Told.{Tells}
 
--- one exchange: the host and port as written, the request's bytes, and the answer's, or None where it failed
+-- one exchange: the host as it was named, the request's bytes, and the answer's, or None where it
+-- failed
 pub record Exchange : Type 0 where
   pub host : List ℕ
   pub request : List ℕ
@@ -19,12 +21,14 @@ abbrev pub TellsExchange : Option (List Exchange) → Option (List Exchange) →
 TellsExchange old new exchange = Tells (λ told. told ++ exchange ∷ []) old new
 
 -- some bytes were appended to the reply, and are told as the answer
-abbrev pub Answers : Option (List Exchange) → Option (List Exchange) → List ℕ → List ℕ → List ℕ → List ℕ → Type 0
-Answers old new host request before after = (answer : List ℕ) × (after ≡ before ++ answer)
+abbrev pub TellsAnswer : Option (List Exchange) → Option (List Exchange) → List ℕ → List ℕ
+    → List ℕ → List ℕ → Type 0
+TellsAnswer old new host request before after = (answer : List ℕ) × (after ≡ before ++ answer)
     × TellsExchange old new (record { host = host; request = request; answer = Some answer })
 
--- a link in memory: the answers that are left, the exchanges where it tells them, and the calls so far
-pub record Wire : Type 0 where
+-- a link in memory: the answers that are left, the exchanges where it tells them, and the calls so
+-- far
+pub record LinkData : Type 0 where
   pub answers : List (List ℕ)
   pub told : Option (List Exchange)
   pub calls : Calls
@@ -35,13 +39,15 @@ has_no_answer [] = true
 has_no_answer (answer ∷ rest) = false
 
 -- the next exchange fails: it is one of those that are to fail, or no answer is left
-abbrev pub fails_next_exchange : Wire → Bool
-fails_next_exchange wire = fails_next wire.calls || has_no_answer wire.answers
+abbrev pub fails_next_exchange : LinkData → Bool
+fails_next_exchange link = fails_next link.calls || has_no_answer link.answers
 
--- what is told after one more exchange: it stands behind the others, as long as the calls can be counted
-abbrev pub told_after : Wire → Exchange → Option (List Exchange)
-told_after wire exchange =
-    if is_exact (one_more wire.calls.made) then option_map (λ told. told ++ exchange ∷ []) wire.told else None
+-- what is told after one more exchange: it stands behind the others, as long as the calls can be
+-- counted
+abbrev pub told_after : LinkData → Exchange → Option (List Exchange)
+told_after link exchange =
+    if is_exact (one_more link.calls.made)
+    then option_map (λ told. told ++ exchange ∷ []) link.told else None
 
 -- the calls after an exchange with this result: it counts as a fault where it failed
 abbrev pub calls_after : {T : Type 0} → Calls → Result T LinkFault → Calls
@@ -50,7 +56,8 @@ calls_after calls (Err Failed) = after_fault calls
 calls_after calls (Err OutOfMemory) = after_call calls
 
 -- An exchange that was answered took the first answer, appended it to the reply and told it.
-abbrev pub TakesAnswer : Wire → Wire → List ℕ → List ℕ → List ℕ → List ℕ → Type 0
-TakesAnswer old new host request before after = (answer : List ℕ) × (old.answers ≡ answer ∷ new.answers)
+abbrev pub TakesAnswer : LinkData → LinkData → List ℕ → List ℕ → List ℕ → List ℕ → Type 0
+TakesAnswer old new host request before after = (answer : List ℕ)
+    × (old.answers ≡ answer ∷ new.answers)
     × (after ≡ before ++ answer)
     × (new.told ≡ told_after old (record { host = host; request = request; answer = Some answer }))

@@ -1,7 +1,8 @@
 -- The status with which the program ends: its number, and what it writes to standard error.
 use Rattle.std.specs.Prelude.{ℕ, List, [], ◌∷◌, ◌++◌, codes, decimal}
 use Rattle.m2m_io.specs.declared.status.Status.{Status}
-use Rattle.m2m_io.specs.declared.status.Status.TheVariants.{Done, Usage, BadLine, ReadFault, WriteFault, Memory, BadStream}
+use Rattle.m2m_io.specs.declared.status.Status.TheVariants.{Done, Usage, BadLine, ReadFault}
+use Rattle.m2m_io.specs.declared.status.Status.TheVariants.{WriteFault, Memory, BadStream}
 
 -- the number that the process ends with
 abbrev pub status_number : Status → ℕ

@@ -1,11 +1,12 @@
 //! The numbered calls of an object in memory.
-ghost use Rattle.std.specs.Prelude.{◌≡◌, ◌≤◌, is_err, is_ok, OnErr, if◌then◌else◌};
+ghost use Rattle.std.specs.Prelude.{◌≡◌, ◌≤◌, is_err, is_ok, OnOk, OnErr, if◌then◌else◌};
 ghost use Rattle.m2m_io.specs.Counts.{Rose, fails_next, after_call, after_fault, no_calls};
 
 use crate::Failed;
 use std::marker::Model;
 
-/// How many calls were made, which of them are to fail, and how many failed. Both counts stop at `u64::MAX`.
+/// How many calls were made, which of them are to fail, and how many failed. Both counts stop at
+/// `u64::MAX`.
 #[derive(Debug, Drop)]
 pub struct Calls {
     made: u64,
@@ -65,9 +66,11 @@ impl Calls {
     /// Counts a call, and fails where it is one of those that are to fail.
     pub fn next(&mut self) -> Result<(), Failed>
         ensures variant { is_err result ≡ fails_next self.old }
-        ensures after { self.new ≡ (if is_ok result then after_call self.old else after_fault self.old) }
+        ensures after { self.new
+            ≡ (if is_ok result then after_call self.old else after_fault self.old) }
         ensures count { self.old.faults ≤ self.new.faults }
         ensures cause { OnErr result (Rose self.old.faults self.new.faults) }
+        ensures steady { OnOk result (self.new.faults ≡ self.old.faults) }
     {
         if self.is_next_to_fail() {
             self.count_fault();

@@ -24,15 +24,16 @@ pub struct MemClock {
 }
 
 impl Model for MemClock {
-    ghost use Rattle.m2m_io.specs.Clock.{Dial};
+    ghost use Rattle.m2m_io.specs.Clock.{ClockData};
 
-    ghost Value = { Dial };
+    ghost Value = { ClockData };
 
     ghost view = { λ c. record { set = c.readings.items; made = c.made } };
 }
 
 impl MemClock {
-    /// A clock that gives these readings in order, and the last one again and again; 0 where there is none.
+    /// A clock that gives these readings in order, and the last one again and again; 0 where there
+    /// is none.
     pub fn new(readings: Vec<u64>) -> Self
         ensures set { result.set ≡ readings.items }
         ensures made { result.made ≡ 0 }
@@ -53,7 +54,8 @@ impl Clock for MemClock {
     ghost readings = { told_readings };
 
     fn now(&mut self) -> u64
-        ensures told { Tells (λ given. given ++ result ∷ []) (told_readings self.old) (told_readings self.new) }
+        ensures told { Tells (λ given. given ++ result ∷ []) (told_readings self.old)
+            (told_readings self.new) }
         ensures reading { result ≡ reading_after self.old.set self.old.made }
         ensures set { self.new.set ≡ self.old.set }
         ensures made { self.new.made ≡ one_more self.old.made }

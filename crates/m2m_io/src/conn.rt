@@ -1,11 +1,12 @@
-//! A connection in memory.
-ghost use Rattle.std.specs.Prelude.{◌≡◌, ◌<◌, ◌≤◌, ◌++◌, ◌||◌, ◌&&◌, [], Some, false, length, is_err, is_ok, IfOk, OnOk, OnErr, if◌then◌else◌};
+//! Connections: what is read and written.
+ghost use Rattle.std.specs.Prelude.{◌≡◌, ◌<◌, ◌≤◌, ◌++◌, ◌||◌, ◌&&◌, [], Some, false, length};
+ghost use Rattle.std.specs.Prelude.{is_err, is_ok, IfOk, OnOk, OnErr, if◌then◌else◌};
 ghost use Rattle.std.specs.Io.{ReadsAtMost};
 ghost use Rattle.std.specs.Io.KnownBytes.{ReadConsumes, Appends};
 ghost use Rattle.std.specs.Str.{bytes_eq};
 ghost use Rattle.m2m_io.specs.Counts.{Rose, fails_next, after_call, after_fault};
-ghost use Rattle.m2m_io.specs.Source.{count_of};
-ghost use Rattle.m2m_io.specs.Sides.{side_of};
+ghost use Rattle.m2m_io.specs.Source.{next_count};
+ghost use Rattle.m2m_io.specs.Sides.{KeepsSides, side_of};
 ghost use Rattle.m2m_io.specs.Told.{AppendsPrefix};
 
 use crate::{Failed, MemSink, MemSource, Sink, Source};
@@ -13,8 +14,16 @@ use std::marker::Model;
 use std::sync::Arc;
 use std::sync::atomic::{AtomicU64, Ordering};
 
-/// A connection in memory, for doors: it is read from a source and written to a sink, and reports when what was
-/// written is what was expected.
+/// A stream that is read and written. Reading it leaves what was written and how often writing
+/// failed, and writing it what is left to read and how often reading failed.
+pub trait Connection: Source + Sink {
+    /// Both sides are kept so.
+    ghost keeps_sides: { KeepsSides Self.left Self.Source.faults Self.kept_by_read
+        Self.written Self.Sink.faults Self.kept_by_put };
+}
+
+/// A connection in memory, for doors: it is read from a source and written to a sink, and reports
+/// when what was written is what was expected.
 #[derive(Drop)]
 pub struct MemConn {
     input: MemSource,
@@ -25,9 +34,9 @@ pub struct MemConn {
 }
 
 impl Model for MemConn {
-    ghost use Rattle.m2m_io.specs.Conn.{Talk};
+    ghost use Rattle.m2m_io.specs.Conn.{ConnData};
 
-    ghost Value = { Talk };
+    ghost Value = { ConnData };
 
     ghost view = { λ c. record {
       input = c.input;
@@ -38,7 +47,8 @@ impl Model for MemConn {
 }
 
 impl MemConn {
-    /// A connection that adds one to `right` at the first put that leaves just the bytes `expected` in `out`.
+    /// A connection that adds one to `right` at the first put that leaves just the bytes `expected`
+    /// in `out`.
     pub fn new(input: MemSource, out: MemSink, expected: Vec<u8>, right: Arc<AtomicU64>) -> Self
         ensures input { result.input ≡ input }
         ensures out { result.out ≡ out }
@@ -65,18 +75,22 @@ impl Source for MemConn {
     fn read(&mut self, buf: &mut [u8]) -> Result<usize, Failed>
         requires room { 0 < length buf.old }
         ensures bound { ReadsAtMost result buf.new }
-        ensures bytes { ReadConsumes (Some self.old.input.left) (Some self.new.input.left) result buf.new }
+        ensures bytes { ReadConsumes (Some self.old.input.left)
+            (Some self.new.input.left) result buf.new }
         ensures count { self.old.input.calls.faults ≤ self.new.input.calls.faults }
-        ensures cause { OnErr result (Rose self.old.input.calls.faults self.new.input.calls.faults) }
+        ensures cause { OnErr result
+            (Rose self.old.input.calls.faults self.new.input.calls.faults) }
+        ensures steady { OnOk result (self.new.input.calls.faults ≡ self.old.input.calls.faults) }
 
         // It is read as its input is, and nothing else of it changes.
         ensures variant { is_err result ≡ fails_next self.old.input.calls }
-        ensures given { IfOk result (λ n. n ≡ count_of self.old.input (length buf.old)) }
+        ensures given { IfOk result (λ n. n ≡ next_count self.old.input (length buf.old)) }
         ensures same { self.new ≡ record self.old {
           input = record {
             left = self.new.input.left;
             cuts = self.old.input.cuts;
-            calls = if is_ok result then after_call self.old.input.calls else after_fault self.old.input.calls;
+            calls = if is_ok result then after_call self.old.input.calls
+                else after_fault self.old.input.calls;
           };
         } }
     {
@@ -92,20 +106,25 @@ impl Sink for MemConn {
     ghost kept_by_put = { λ c. side_of (Some c.input.left) c.input.calls.faults [] };
 
     fn put(&mut self, bytes: &[u8]) -> Result<(), Failed>
-        ensures ok { OnOk result (Appends (Some self.old.out.written) (Some self.new.out.written) bytes.now) }
+        ensures ok { OnOk result
+            (Appends (Some self.old.out.written) (Some self.new.out.written) bytes.now) }
         ensures err { OnErr result
             (AppendsPrefix (Some self.old.out.written) (Some self.new.out.written) bytes.now) }
         ensures count { self.old.out.calls.faults ≤ self.new.out.calls.faults }
         ensures cause { OnErr result (Rose self.old.out.calls.faults self.new.out.calls.faults) }
+        ensures steady { OnOk result (self.new.out.calls.faults ≡ self.old.out.calls.faults) }
 
-        // It is written as its sink is, and was right from the first put on that left just what was expected.
+        // It is written as its sink is, and was right from the first put on that left just what was
+        // expected.
         ensures fails { OnOk result (fails_next self.old.out.calls ≡ false) }
         ensures whole { self.new.out.written
             ≡ (if is_ok result then self.old.out.written ++ bytes.now else self.old.out.written) }
         ensures calls { self.new.out.calls
-            ≡ (if is_ok result then after_call self.old.out.calls else after_fault self.old.out.calls) }
+            ≡ (if is_ok result then after_call self.old.out.calls
+            else after_fault self.old.out.calls) }
         ensures right { self.new.was_right
-            ≡ (self.old.was_right || (is_ok result && bytes_eq self.new.out.written self.old.expected)) }
+            ≡ (self.old.was_right ||
+            (is_ok result && bytes_eq self.new.out.written self.old.expected)) }
         ensures input { self.new.input ≡ self.old.input }
         ensures expected { self.new.expected ≡ self.old.expected }
     {
@@ -116,4 +135,10 @@ impl Sink for MemConn {
         }
         Ok(())
     }
+}
+
+impl Connection for MemConn {
+    ghost use Rattle.std.specs.Prelude.{refl};
+
+    ghost keeps_sides = { record { read = λ c. refl; put = λ c. refl } };
 }

@@ -1,18 +1,20 @@
 //! What accepts connections.
-ghost use Rattle.std.specs.Prelude.{◌≡◌, ◌≤◌, ◌++◌, [], ℕ, Bool, Option, None, Some, true, false, is_err, is_ok, OnOk, OnErr, IfOk, IsNone, if◌then◌else◌};
+ghost use Rattle.std.specs.Prelude.{◌≡◌, ◌≤◌, ◌++◌, [], ℕ, Bool, Option, None, Some, true, false};
+ghost use Rattle.std.specs.Prelude.{is_err, is_ok, OnOk, OnErr, IfOk, IsNone, if◌then◌else◌};
 ghost use Rattle.std.specs.Option.{option_to_list};
 ghost use Rattle.m2m_io.specs.Counts.{Rose, no_calls, fails_next, after_call, after_fault};
 ghost use Rattle.m2m_io.specs.Door.{given_after, ended_after, told_given};
 ghost use Rattle.m2m_io.specs.Told.{Tells, TellsStill};
 
 use crate::calls::Calls;
-use crate::{Failed, Sink, Source};
+use crate::{Connection, Failed};
 use std::collections::VecDeque;
 use std::marker::Model;
 
-/// What accepts connections. It is opened once; then it gives them one by one, and None ends the service.
+/// What accepts connections. It is opened once; then it gives them one by one, and None ends the
+/// service.
 pub trait Door {
-    type Conn: Source + Sink + Send + Drop;
+    type Conn: Connection + Send + Drop;
 
     /// Whether `open` has answered Ok, where the door tells it.
     ghost opened: { Self → Option Bool };
@@ -23,7 +25,8 @@ pub trait Door {
     /// Whether None was given, where the door tells it.
     ghost ended: { Self → Option Bool };
 
-    /// How often the door has failed. The count stops at 2^64 - 1.
+    /// How often the door has failed: the count rises in the calls that fail, and in no other. It
+    /// stops at 2^64 - 1.
     ghost faults: { Self → ℕ };
 
     /// Opens the door at an address, which stands as `host:port`.
@@ -33,7 +36,8 @@ pub trait Door {
         ensures given { TellsStill (given self.old) (given self.new) }
         ensures ended { TellsStill (ended self.old) (ended self.new) }
         ensures count { faults self.old ≤ faults self.new }
-        ensures cause { OnErr result (Rose (faults self.old) (faults self.new)) };
+        ensures cause { OnErr result (Rose (faults self.old) (faults self.new)) }
+        ensures steady { OnOk result (faults self.new ≡ faults self.old) };
 
     /// The next connection, or None, after which no other is given.
     fn next(&mut self) -> Result<Option<Self::Conn>, Failed>
@@ -42,11 +46,12 @@ pub trait Door {
         ensures over { ended self.old ≡ Some true → IfOk result (λ conn. IsNone conn) }
         ensures opened { TellsStill (opened self.old) (opened self.new) }
         ensures count { faults self.old ≤ faults self.new }
-        ensures cause { OnErr result (Rose (faults self.old) (faults self.new)) };
+        ensures cause { OnErr result (Rose (faults self.old) (faults self.new)) }
+        ensures steady { OnOk result (faults self.new ≡ faults self.old) };
 }
 
-/// A door in memory, which gives these connections in order and then None. It tells how many it gave until it has
-/// had 2^64 - 1 calls.
+/// A door in memory, which gives these connections in order and then None. It tells how many it
+/// gave until it has had 2^64 - 1 calls.
 #[derive(Drop)]
 pub struct MemDoor<X> {
     conns: VecDeque<X>,
@@ -58,9 +63,9 @@ pub struct MemDoor<X> {
 
 impl<X> Model for MemDoor<X> {
     ghost use Rattle.std.specs.Prelude.{◌≡◌, ◌≤◌, true, length};
-    ghost use Rattle.m2m_io.specs.Door.{Porch};
+    ghost use Rattle.m2m_io.specs.Door.{DoorData};
 
-    ghost Value = { Porch X };
+    ghost Value = { DoorData X };
 
     ghost view = { λ d. record {
       conns = d.conns.items;
@@ -70,12 +75,13 @@ impl<X> Model for MemDoor<X> {
       calls = d.calls;
     } };
 
-    ghost invariant = { λ d. (d.given ≤ d.calls.made) × (d.ended ≡ true → length d.conns.items ≡ 0) };
+    ghost invariant = { λ d. (d.given ≤ d.calls.made)
+        × (d.ended ≡ true → length d.conns.items ≡ 0) };
 }
 
 impl<X> MemDoor<X> {
-    /// A door that gives these connections. The calls whose numbers, from 1, are in `fails` fail, those of `open`
-    /// counted with those of `next`.
+    /// A door that gives these connections. The calls whose numbers, from 1, are in `fails` fail,
+    /// those of `open` counted with those of `next`.
     pub fn new(conns: Vec<X>, fails: Vec<u64>) -> Self
         ensures conns { result.conns ≡ conns.items }
         ensures opened { result.opened ≡ false }
@@ -93,7 +99,7 @@ impl<X> MemDoor<X> {
     }
 }
 
-impl<X: Source + Sink + Send + Drop> Door for MemDoor<X> {
+impl<X: Connection + Send + Drop> Door for MemDoor<X> {
     type Conn = X;
 
     ghost opened = { λ d. Some d.opened };
@@ -111,6 +117,7 @@ impl<X: Source + Sink + Send + Drop> Door for MemDoor<X> {
         ensures ended { TellsStill (Some self.old.ended) (Some self.new.ended) }
         ensures count { self.old.calls.faults ≤ self.new.calls.faults }
         ensures cause { OnErr result (Rose self.old.calls.faults self.new.calls.faults) }
+        ensures steady { OnOk result (self.new.calls.faults ≡ self.old.calls.faults) }
 
         // Which calls fail, and what they leave.
         ensures variant { is_err result ≡ fails_next self.old.calls }
@@ -131,10 +138,12 @@ impl<X: Source + Sink + Send + Drop> Door for MemDoor<X> {
         ensures opened { TellsStill (Some self.old.opened) (Some self.new.opened) }
         ensures count { self.old.calls.faults ≤ self.new.calls.faults }
         ensures cause { OnErr result (Rose self.old.calls.faults self.new.calls.faults) }
+        ensures steady { OnOk result (self.new.calls.faults ≡ self.old.calls.faults) }
 
         // Which calls fail, and which connection each other one gives.
         ensures variant { is_err result ≡ fails_next self.old.calls }
-        ensures first { IfOk result (λ conn. self.old.conns ≡ option_to_list conn ++ self.new.conns) }
+        ensures first { IfOk result
+            (λ conn. self.old.conns ≡ option_to_list conn ++ self.new.conns) }
         ensures last { IfOk result (λ conn. IsNone conn → self.old.conns ≡ []) }
         ensures kept { OnErr result (self.new.conns ≡ self.old.conns) }
         ensures calls { self.new.calls

@@ -1,8 +1,9 @@
-//! The world outside the server: where bytes come from and go to, what tells the time, what carries a request to
-//! a neighbour, and what accepts connections. Each is a trait whose ghost members say what it has given and
-//! taken, where it tells that, and how often it has failed. A caller may rest on an object failing only where
-//! its count of faults rose, and on nothing that an object doesn't tell. Beside each trait stands an object in
-//! memory that tells all of it, made without memory, and the status with which the program ends.
+//! The world outside the server: where bytes come from and go to, what tells the time, what carries
+//! a request to a neighbour, and what accepts connections. Each is a trait whose ghost members say
+//! what it has given and taken, where it tells that, and how often it has failed. A caller may rest
+//! on an object failing where its count of faults rose, and only there, and on nothing that an
+//! object doesn't tell. Beside each trait stands an object in memory that tells all of it, made
+//! without memory, and the status with which the program ends.
 #![tactic(auto)]
 
 mod calls;
@@ -16,7 +17,7 @@ mod source;
 mod status;
 
 pub use clock::{Clock, MemClock};
-pub use conn::MemConn;
+pub use conn::{Connection, MemConn};
 pub use door::{Door, MemDoor};
 pub use fault::{Failed, LinkFault};
 pub use link::{Exchanged, Link, MemLink};

@@ -1,9 +1,13 @@
 //! What carries a request to a neighbour and brings its answer.
-ghost use Rattle.std.specs.Prelude.{◌≡◌, ◌≤◌, ◌++◌, ◌∷◌, [], ℕ, List, Option, None, Some, false, true, map, OnOk, OnErr, IfOk, IsErr, IsErrOf, IsNone, if◌then◌else◌};
+ghost use Rattle.std.specs.Prelude.{◌≡◌, ◌≤◌, ◌++◌, ◌∷◌, [], ℕ, List, Option, None, Some, false};
+ghost use Rattle.std.specs.Prelude.{true, map, OnOk, OnErr, IfOk, IsErr, IsErrOf, IsNone};
+ghost use Rattle.std.specs.Prelude.{if◌then◌else◌};
 ghost use Rattle.std.specs.Option.{option_map};
-ghost use Rattle.m2m_io.specs.declared.fault.LinkFault.TheVariants.{Failed as failed, OutOfMemory as starved};
+ghost use Rattle.m2m_io.specs.declared.fault.LinkFault.TheVariants.{Failed as failed};
+ghost use Rattle.m2m_io.specs.declared.fault.LinkFault.TheVariants.{OutOfMemory as starved};
 ghost use Rattle.m2m_io.specs.Counts.{Rose, is_exact, no_calls};
-ghost use Rattle.m2m_io.specs.Link.{Exchange, TellsExchange, Answers, TakesAnswer, fails_next_exchange, told_after, calls_after};
+ghost use Rattle.m2m_io.specs.Link.{Exchange, TellsExchange, TellsAnswer, TakesAnswer};
+ghost use Rattle.m2m_io.specs.Link.{fails_next_exchange, told_after, calls_after};
 
 use crate::LinkFault;
 use crate::calls::Calls;
@@ -16,11 +20,12 @@ pub trait Link {
     /// The exchanges made so far, in order, where the link tells them.
     ghost exchanges: { Self → Option (List Exchange) };
 
-    /// How often the link has failed. The count stops at 2^64 - 1.
+    /// How often the link has failed: the count rises in the exchanges that fail, and in no other.
+    /// It stops at 2^64 - 1.
     ghost faults: { Self → ℕ };
 
-    /// Sends the bytes of a request to a host, which stands as in a URL, with its port or without, and appends the
-    /// bytes of the answer to `reply`. After a fault `reply` is as it was.
+    /// Sends the bytes of a request to a host, which stands as in a URL, with its port or without,
+    /// and appends the bytes of the answer to `reply`. After a fault `reply` is as it was.
     fn exchange(
         &mut self,
         alloc: Global,
@@ -28,14 +33,17 @@ pub trait Link {
         request: &[u8],
         reply: &mut Vec<u8>,
     ) -> Result<(), LinkFault>
-        ensures ok { OnOk result (Answers (exchanges self.old) (exchanges self.new)
+        ensures ok { OnOk result (TellsAnswer (exchanges self.old) (exchanges self.new)
             host.now request.now reply.old.items reply.new.items) }
         ensures err { OnErr result (reply.new.items ≡ reply.old.items) }
-        ensures fails { IsErrOf result failed → TellsExchange (exchanges self.old) (exchanges self.new)
+        ensures fails { IsErrOf result failed
+            → TellsExchange (exchanges self.old) (exchanges self.new)
             (record { host = host.now; request = request.now; answer = None }) }
         ensures memory { IsErrOf result starved → IsNone (exchanges self.new) }
         ensures count { faults self.old ≤ faults self.new }
-        ensures cause { IsErrOf result failed → Rose (faults self.old) (faults self.new) };
+        ensures cause { IsErrOf result failed → Rose (faults self.old) (faults self.new) }
+        ensures steady { OnOk result (faults self.new ≡ faults self.old) }
+        ensures starved { IsErrOf result starved → faults self.new ≡ faults self.old };
 }
 
 /// One exchange that a link in memory has made.
@@ -85,7 +93,7 @@ impl Exchanged {
         })
     }
 
-    /// The host and port that were asked, as `host:port`.
+    /// The host that was asked, as it was named: with its port or without.
     pub fn host(&self) -> &[u8]
         ensures { result.now ≡ self.now.host }
     {
@@ -110,8 +118,8 @@ impl Exchanged {
     }
 }
 
-/// A link in memory. It gives its answers in order, and tells its exchanges until memory runs out in one of them
-/// or it has had 2^64 - 1 calls.
+/// A link in memory. It gives its answers in order, and tells its exchanges until memory runs out
+/// in one of them or it has had 2^64 - 1 calls.
 #[derive(Debug, Drop)]
 pub struct MemLink {
     answers: VecDeque<Vec<u8>>,
@@ -122,9 +130,9 @@ pub struct MemLink {
 impl Model for MemLink {
     ghost use Rattle.std.specs.Prelude.{map};
     ghost use Rattle.std.specs.Option.{option_map};
-    ghost use Rattle.m2m_io.specs.Link.{Wire};
+    ghost use Rattle.m2m_io.specs.Link.{LinkData};
 
-    ghost Value = { Wire };
+    ghost Value = { LinkData };
 
     ghost view = { λ s. record {
       answers = map (λ a. a.items) s.answers.items;
@@ -141,11 +149,12 @@ fn tell(
     request: &[u8],
     answer: Option<&[u8]>,
 ) -> Result<(), AllocError>
-    ensures ok { OnOk result (option_map (λ t. t.items) told.new ≡ option_map (λ t. t.items ++ record {
-      host = host.now;
-      request = request.now;
-      answer = option_map (λ a. a.now) answer.entry;
-    } ∷ []) told.old) }
+    ensures ok { OnOk result (option_map (λ t. t.items) told.new
+        ≡ option_map (λ t. t.items ++ record {
+          host = host.now;
+          request = request.now;
+          answer = option_map (λ a. a.now) answer.entry;
+        } ∷ []) told.old) }
     ensures err { OnErr result (IsNone told.new) }
 {
     let Some(list) = told else {
@@ -178,7 +187,8 @@ fn keep(
     Ok(())
 }
 
-/// Appends an answer to the reply, and tells the exchange. After want of memory the reply is as it was.
+/// Appends an answer to the reply, and tells the exchange. After want of memory the reply is as it
+/// was.
 fn hand_over(
     alloc: Global,
     told: &mut Option<Vec<Exchanged>>,
@@ -187,11 +197,12 @@ fn hand_over(
     answer: &[u8],
     reply: &mut Vec<u8>,
 ) -> Result<(), AllocError>
-    ensures told { OnOk result (option_map (λ t. t.items) told.new ≡ option_map (λ t. t.items ++ record {
-      host = host.now;
-      request = request.now;
-      answer = Some answer.now;
-    } ∷ []) told.old) }
+    ensures told { OnOk result (option_map (λ t. t.items) told.new
+        ≡ option_map (λ t. t.items ++ record {
+          host = host.now;
+          request = request.now;
+          answer = Some answer.now;
+        } ∷ []) told.old) }
     ensures reply { OnOk result (reply.new.items ≡ reply.old.items ++ answer.now) }
     ensures err { OnErr result (reply.new.items ≡ reply.old.items) }
 {
@@ -205,8 +216,8 @@ fn hand_over(
 }
 
 impl MemLink {
-    /// A link that gives these answers, one at each exchange that isn't to fail. The exchanges whose numbers,
-    /// from 1, are in `fails` fail, and so does each one when no answer is left.
+    /// A link that gives these answers, one at each exchange that isn't to fail. The exchanges
+    /// whose numbers, from 1, are in `fails` fail, and so does each one when no answer is left.
     pub fn new(answers: Vec<Vec<u8>>, fails: Vec<u64>) -> Self
         ensures answers { result.answers ≡ map (λ a. a.items) answers.items }
         ensures told { result.told ≡ Some [] }
@@ -251,6 +262,8 @@ impl MemLink {
         ensures calls { self.new.calls ≡ calls_after self.old.calls result }
         ensures count { self.old.calls.faults ≤ self.new.calls.faults }
         ensures cause { IsErrOf result failed → Rose self.old.calls.faults self.new.calls.faults }
+        ensures steady { OnOk result (self.new.calls.faults ≡ self.old.calls.faults) }
+        ensures starved { IsErrOf result starved → self.new.calls.faults ≡ self.old.calls.faults }
     {
         if let Err(_) = tell(alloc, &mut self.told, host, request, None) {
             self.calls.count();
@@ -263,7 +276,7 @@ impl MemLink {
 }
 
 impl Link for MemLink {
-    ghost use Rattle.m2m_io.specs.Link.{Wire};
+    ghost use Rattle.m2m_io.specs.Link.{LinkData};
 
     ghost exchanges = { λ s. s.told };
 
@@ -277,13 +290,16 @@ impl Link for MemLink {
         reply: &mut Vec<u8>,
     ) -> Result<(), LinkFault>
         ensures ok { OnOk result
-            (Answers self.old.told self.new.told host.now request.now reply.old.items reply.new.items) }
+            (TellsAnswer self.old.told self.new.told host.now request.now
+            reply.old.items reply.new.items) }
         ensures err { OnErr result (reply.new.items ≡ reply.old.items) }
         ensures fails { IsErrOf result failed → TellsExchange self.old.told self.new.told
             (record { host = host.now; request = request.now; answer = None }) }
         ensures memory { IsErrOf result starved → IsNone self.new.told }
         ensures count { self.old.calls.faults ≤ self.new.calls.faults }
         ensures cause { IsErrOf result failed → Rose self.old.calls.faults self.new.calls.faults }
+        ensures steady { OnOk result (self.new.calls.faults ≡ self.old.calls.faults) }
+        ensures starved { IsErrOf result starved → self.new.calls.faults ≡ self.old.calls.faults }
 
         // An exchange that is answered takes the first answer; one that isn't takes none.
         ensures answered { OnOk result

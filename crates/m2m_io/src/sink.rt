@@ -1,5 +1,6 @@
 //! Where bytes go to.
-ghost use Rattle.std.specs.Prelude.{◌≡◌, ◌≤◌, ◌++◌, ℕ, List, Option, Some, false, is_ok, OnOk, OnErr, if◌then◌else◌};
+ghost use Rattle.std.specs.Prelude.{◌≡◌, ◌≤◌, ◌++◌, ℕ, List, Option, Some, false, is_ok, OnOk};
+ghost use Rattle.std.specs.Prelude.{OnErr, if◌then◌else◌};
 ghost use Rattle.std.specs.Io.KnownBytes.{Appends};
 ghost use Rattle.m2m_io.specs.Counts.{Rose, no_calls, fails_next, after_call, after_fault};
 ghost use Rattle.m2m_io.specs.Sides.{Side, no_side};
@@ -14,24 +15,26 @@ pub trait Sink {
     /// The bytes that were written, where the sink tells them.
     ghost written: { Self → Option (List ℕ) };
 
-    /// How often the sink has failed. The count stops at 2^64 - 1.
+    /// How often the sink has failed: the count rises in the calls that fail, and in no other. It
+    /// stops at 2^64 - 1.
     ghost faults: { Self → ℕ };
 
     /// What a put leaves as it is: the side that is read, of an object that is a source as well.
     ghost kept_by_put: { Self → Side };
 
-    /// Writes all the bytes. A call that failed wrote a prefix of them; a device that takes none of what is
-    /// left of them has failed.
+    /// Writes all the bytes. A call that failed wrote a prefix of them; a device that takes none of
+    /// what is left of them has failed.
     fn put(&mut self, bytes: &[u8]) -> Result<(), Failed>
         ensures ok { OnOk result (Appends (written self.old) (written self.new) bytes.now) }
         ensures err { OnErr result (AppendsPrefix (written self.old) (written self.new) bytes.now) }
         ensures count { faults self.old ≤ faults self.new }
         ensures cause { OnErr result (Rose (faults self.old) (faults self.new)) }
+        ensures steady { OnOk result (faults self.new ≡ faults self.old) }
         ensures kept { kept_by_put self.new ≡ kept_by_put self.old };
 }
 
-/// A sink in memory. It fails at the calls that are to fail, and where the growth that a call needs is refused;
-/// then nothing was written.
+/// A sink in memory. It fails at the calls that are to fail, and where the growth that a call needs
+/// is refused; then nothing was written.
 #[derive(Debug, Drop)]
 pub struct MemSink {
     out: Vec<u8>,
@@ -39,15 +42,16 @@ pub struct MemSink {
 }
 
 impl Model for MemSink {
-    ghost use Rattle.m2m_io.specs.Sink.{Tape};
+    ghost use Rattle.m2m_io.specs.Sink.{SinkData};
 
-    ghost Value = { Tape };
+    ghost Value = { SinkData };
 
     ghost view = { λ s. record { written = s.out.items; calls = s.calls } };
 }
 
 impl MemSink {
-    /// A sink that writes behind the bytes of `out`. The calls whose numbers, from 1, are in `fails` fail.
+    /// A sink that writes behind the bytes of `out`. The calls whose numbers, from 1, are in
+    /// `fails` fail.
     pub fn new(out: Vec<u8>, fails: Vec<u64>) -> Self
         ensures written { result.written ≡ out.items }
         ensures calls { result.calls ≡ no_calls fails.items }
@@ -74,11 +78,13 @@ impl Sink for MemSink {
     ghost kept_by_put = { λ _. no_side };
 
     fn put(&mut self, bytes: &[u8]) -> Result<(), Failed>
-        ensures ok { OnOk result (Appends (Some self.old.written) (Some self.new.written) bytes.now) }
+        ensures ok { OnOk result
+            (Appends (Some self.old.written) (Some self.new.written) bytes.now) }
         ensures err { OnErr result
             (AppendsPrefix (Some self.old.written) (Some self.new.written) bytes.now) }
         ensures count { self.old.calls.faults ≤ self.new.calls.faults }
         ensures cause { OnErr result (Rose self.old.calls.faults self.new.calls.faults) }
+        ensures steady { OnOk result (self.new.calls.faults ≡ self.old.calls.faults) }
 
         // A call that is to fail fails, and one that failed wrote nothing.
         ensures fails { OnOk result (fails_next self.old.calls ≡ false) }

@@ -1,10 +1,11 @@
 //! Where bytes come from.
-ghost use Rattle.std.specs.Prelude.{◌≡◌, ◌<◌, ◌≤◌, ℕ, List, Option, Some, All, length, take, drop, is_err, is_ok, IfOk, OnErr, if◌then◌else◌};
+ghost use Rattle.std.specs.Prelude.{◌≡◌, ◌<◌, ◌≤◌, ℕ, List, Option, Some, All, length, take, drop};
+ghost use Rattle.std.specs.Prelude.{is_err, is_ok, IfOk, OnOk, OnErr, if◌then◌else◌};
 ghost use Rattle.std.specs.Io.{ReadsAtMost};
 ghost use Rattle.std.specs.Io.KnownBytes.{ReadConsumes};
 ghost use Rattle.m2m_io.specs.Counts.{Rose, no_calls, fails_next, after_call, after_fault};
 ghost use Rattle.m2m_io.specs.Sides.{Side, no_side};
-ghost use Rattle.m2m_io.specs.Source.{count_of};
+ghost use Rattle.m2m_io.specs.Source.{next_count};
 
 use crate::Failed;
 use crate::calls::Calls;
@@ -15,20 +16,22 @@ pub trait Source {
     /// The bytes that reads will give from here on, where the source tells them.
     ghost left: { Self → Option (List ℕ) };
 
-    /// How often the source has failed. The count stops at 2^64 - 1.
+    /// How often the source has failed: the count rises in the calls that fail, and in no other. It
+    /// stops at 2^64 - 1.
     ghost faults: { Self → ℕ };
 
     /// What a read leaves as it is: the side that is written, of an object that is a sink as well.
     ghost kept_by_read: { Self → Side };
 
-    /// Reads some bytes to the front of `buf` and answers how many; 0 only at the end. A read that failed took
-    /// nothing.
+    /// Reads some bytes to the front of `buf` and answers how many; 0 only at the end. A read that
+    /// failed took nothing.
     fn read(&mut self, buf: &mut [u8]) -> Result<usize, Failed>
         requires room { 0 < length buf.old }
         ensures bound { ReadsAtMost result buf.new }
         ensures bytes { ReadConsumes (left self.old) (left self.new) result buf.new }
         ensures count { faults self.old ≤ faults self.new }
         ensures cause { OnErr result (Rose (faults self.old) (faults self.new)) }
+        ensures steady { OnOk result (faults self.new ≡ faults self.old) }
         ensures kept { kept_by_read self.new ≡ kept_by_read self.old };
 }
 
@@ -43,18 +46,22 @@ pub struct MemSource {
 
 impl Model for MemSource {
     ghost use Rattle.std.specs.Prelude.{◌<◌, ◌≤◌, All, length, drop};
-    ghost use Rattle.m2m_io.specs.Source.{Feed};
+    ghost use Rattle.m2m_io.specs.Source.{SourceData};
 
-    ghost Value = { Feed };
+    ghost Value = { SourceData };
 
-    ghost view = { λ s. record { left = drop s.taken s.bytes.items; cuts = s.cuts.items; calls = s.calls } };
+    ghost view = { λ s. record {
+      left = drop s.taken s.bytes.items;
+      cuts = s.cuts.items;
+      calls = s.calls;
+    } };
 
     ghost invariant = { λ s. (s.taken ≤ length s.bytes.items) × All (λ cut. 0 < cut) s.cuts.items };
 }
 
 impl MemSource {
-    /// A source of these bytes. Read k, from 1, gives at most the k-th of `cuts` bytes, and a read after the
-    /// last cut as many as fit. The reads whose numbers are in `fails` fail.
+    /// A source of these bytes. Read k, from 1, gives at most the k-th of `cuts` bytes, and a read
+    /// after the last cut as many as fit. The reads whose numbers are in `fails` fail.
     pub fn new(bytes: Vec<u8>, cuts: Vec<usize>, fails: Vec<u64>) -> Self
         requires some { All (λ cut. 0 < cut) cuts.items }
         ensures left { result.left ≡ bytes.items }
@@ -78,7 +85,7 @@ impl MemSource {
 
     /// How many bytes the next read gives, where there is room for so many.
     fn next_count(&self, room: usize) -> usize
-        ensures { result ≡ count_of self.now room }
+        ensures { result ≡ next_count self.now room }
     {
         let whole = room.min(self.left().len());
         match self.cuts.get(self.calls.made() as usize) {
@@ -111,10 +118,11 @@ impl Source for MemSource {
         ensures bytes { ReadConsumes (Some self.old.left) (Some self.new.left) result buf.new }
         ensures count { self.old.calls.faults ≤ self.new.calls.faults }
         ensures cause { OnErr result (Rose self.old.calls.faults self.new.calls.faults) }
+        ensures steady { OnOk result (self.new.calls.faults ≡ self.old.calls.faults) }
 
         // Which reads fail, and how much each other one gives.
         ensures variant { is_err result ≡ fails_next self.old.calls }
-        ensures given { IfOk result (λ n. n ≡ count_of self.old (length buf.old)) }
+        ensures given { IfOk result (λ n. n ≡ next_count self.old (length buf.old)) }
         ensures cuts { self.new.cuts ≡ self.old.cuts }
         ensures calls { self.new.calls
             ≡ (if is_ok result then after_call self.old.calls else after_fault self.old.calls) }

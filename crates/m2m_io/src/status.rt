@@ -12,8 +12,8 @@ use std::process::ExitCode;
 /// How the program ends.
 #[derive(Clone, Copy, Debug, PartialEq, Eq)]
 pub enum Status {
-    /// The input was read to its end or to a closing frame, or the door gave its last connection, and all was
-    /// written.
+    /// The input was read to its end or to a closing frame, or the door gave its last connection,
+    /// and all was written.
     Done,
     /// The words are no command.
     Usage,
@@ -25,7 +25,8 @@ pub enum Status {
     WriteFault,
     /// Memory ran out.
     Memory,
-    /// No message closed the connection, and something is left of the input that begins with no HTTP message.
+    /// No message closed the connection, and something is left of the input that begins with no
+    /// HTTP message.
     BadStream,
 }
 
@@ -47,11 +48,17 @@ impl Status {
 
     /// Writes the text and a line feed, where the status has a text.
     pub fn put_line<K: Sink>(self, sink: &mut K) -> Result<(), Failed>
-        ensures ok { OnOk result (Appends (K.written sink.old) (K.written sink.new) (status_line self)) }
+        ensures ok { OnOk result
+            (Appends (K.written sink.old) (K.written sink.new) (status_line self)) }
         ensures err { OnErr result
             (AppendsPrefix (K.written sink.old) (K.written sink.new) (status_line self)) }
         ensures count { K.faults sink.old ≤ K.faults sink.new }
         ensures cause { OnErr result (Rose (K.faults sink.old) (K.faults sink.new)) }
+        ensures steady { OnOk result (K.faults sink.new ≡ K.faults sink.old) }
+
+        // A status without a text makes no call of the sink, and what a put keeps is kept.
+        ensures none { self ≡ Status.Done → sink.new ≡ sink.old }
+        ensures kept { K.kept_by_put sink.new ≡ K.kept_by_put sink.old }
     {
         match self {
             Status::Done => Ok(()),
@@ -84,11 +91,14 @@ impl From<Status> for ExitCode {
 /// Writes a text, and then two others.
 #[tactic(auto, using(crate::proofs::ToldLemmas::prefix_front, crate::proofs::ToldLemmas::prefix_behind))]
 fn put_three<K: Sink>(sink: &mut K, a: &[u8], b: &[u8], c: &[u8]) -> Result<(), Failed>
-    ensures ok { OnOk result (Appends (K.written sink.old) (K.written sink.new) (a.now ++ (b.now ++ c.now))) }
+    ensures ok { OnOk result (Appends (K.written sink.old) (K.written sink.new)
+        (a.now ++ (b.now ++ c.now))) }
     ensures err { OnErr result
         (AppendsPrefix (K.written sink.old) (K.written sink.new) (a.now ++ (b.now ++ c.now))) }
     ensures count { K.faults sink.old ≤ K.faults sink.new }
     ensures cause { OnErr result (Rose (K.faults sink.old) (K.faults sink.new)) }
+    ensures steady { OnOk result (K.faults sink.new ≡ K.faults sink.old) }
+    ensures kept { K.kept_by_put sink.new ≡ K.kept_by_put sink.old }
 {
     sink.put(a)?;
     put_two(sink, b, c)?;
@@ -99,9 +109,12 @@ fn put_three<K: Sink>(sink: &mut K, a: &[u8], b: &[u8], c: &[u8]) -> Result<(), 
 #[tactic(auto, using(crate::proofs::ToldLemmas::prefix_front, crate::proofs::ToldLemmas::prefix_behind))]
 fn put_two<K: Sink>(sink: &mut K, a: &[u8], b: &[u8]) -> Result<(), Failed>
     ensures ok { OnOk result (Appends (K.written sink.old) (K.written sink.new) (a.now ++ b.now)) }
-    ensures err { OnErr result (AppendsPrefix (K.written sink.old) (K.written sink.new) (a.now ++ b.now)) }
+    ensures err { OnErr result (AppendsPrefix (K.written sink.old) (K.written sink.new)
+        (a.now ++ b.now)) }
     ensures count { K.faults sink.old ≤ K.faults sink.new }
     ensures cause { OnErr result (Rose (K.faults sink.old) (K.faults sink.new)) }
+    ensures steady { OnOk result (K.faults sink.new ≡ K.faults sink.old) }
+    ensures kept { K.kept_by_put sink.new ≡ K.kept_by_put sink.old }
 {
     sink.put(a)?;
     sink.put(b)?;

@@ -4,7 +4,8 @@ use std::sync::Arc;
 use std::sync::atomic::{AtomicU64, Ordering};
 use std::test::Fail;
 
-/// Reads with room for four bytes, and tells what each read gave, `-` for a failed one and `.` for the end.
+/// Reads with room for four bytes, and tells what each read gave, `-` for a failed one and `.` for
+/// the end.
 fn reads(alloc: Global, source: &mut MemSource, times: usize) -> Result<String, AllocError> {
     let mut told = String::new(alloc);
     for _ in 0..times {

@@ -1,11 +1,13 @@
 pub mod AttributeLemmas
 pub mod CalendarLemmas
 pub mod DayLemmas
+pub mod IdLemmas
 pub mod LookupLemmas
 pub mod NameLemmas
 pub mod OperationLemmas
 pub mod StampLemmas
 pub mod StampReadingLemmas
+pub mod StampTextLemmas
 pub mod StatusLemmas
 pub mod StepLemmas
 pub mod TypeLemmas

@@ -1,7 +1,8 @@
 -- The table of status codes, and the numbers outside it.
-use Rattle.std.proofs.Common.{◌≡◌, ℕ, ◌∙◌, sym, ap, subst, Bool, true, false, ◌&&◌, ◌||◌, not, cond, List, [], ◌∷◌, Option, Some, None, refl, IsTrue, eqb}
+use Rattle.std.proofs.Common.{◌≡◌, ℕ, ◌∙◌, sym, ap, subst, Bool, true, false, ◌&&◌, ◌||◌, not, cond, List, [], ◌∷◌, Option, Some, None, refl, IsTrue, eqb, leb, inl, inr, lit≤}
 use Rattle.std.specs.List.{list_any, find}
-use Rattle.std.specs.Int.{is_in_range}
+use Rattle.std.specs.Int.{IsInRange, is_in_range}
+use Rattle.std.proofs.lemmas.Bool.{and_parts, cases_Bool, leb-true}
 use Rattle.std.specs.Option.{option_or}
 use Rattle.std.proofs.Props.{props}
 use mathlib.Core.HLevel.{is_prop→PathP}
@@ -10,14 +11,14 @@ use Rattle.m2m_names.specs.StatusNumbers.{is_other}
 use Rattle.m2m_names.specs.declared.codes.OtherNumber.{OtherNumber}
 use Rattle.m2m_names.specs.declared.codes.Rsc.{Rsc}
 use Rattle.m2m_names.specs.declared.codes.Rsc.TheVariants.{Ok as Fine, Created, Deleted, Updated, BadRequest, NotFound, NotAllowed, RequestTimeout, NoPrivilege, Conflict, BadChild, Internal, NotImplemented, NotReachable, NotSubscribable, NonBlocking, NotAcceptable, TooManyMembers, WrongMember, Other}
-use Rattle.m2m_names.specs.StatusCodes.{rsc_row, named_codes, named_code, other_code, rsc_of_number}
+use Rattle.m2m_names.specs.StatusCodes.{rsc_row, http_status_of_other, named_codes, named_code, other_code, rsc_of_number}
 
 none_step : {X : Type 0} (x : X) (here rest : Bool) (found : Option X) → (rest ≡ false → found ≡ None) → (here || rest) ≡ false → cond here (Some x) found ≡ None
 none_step x true rest found later e = let h : true ≡ false = e in cc
 none_step x false rest found later e = later e
 
 -- where no element passes, none is found
-find_none : {X : Type 0} (p : X → Bool) (xs : List X) → list_any p xs ≡ false → find p xs ≡ None
+pub find_none : {X : Type 0} (p : X → Bool) (xs : List X) → list_any p xs ≡ false → find p xs ≡ None
 find_none p [] e = refl
 find_none p (x ∷ xs) e = none_step x (p x) (list_any p xs) (find p xs) (find_none p xs) e
 
@@ -100,3 +101,65 @@ rsc_again (Other o) = other_again o o.number refl (unnamed_where o.number o.outs
 -- status codes with one number are one status code
 pub same_rsc : (a b : Rsc) → (rsc_row a).number ≡ (rsc_row b).number → a ≡ b
 same_rsc = same_key (λ r. (rsc_row r).number) rsc_of_number rsc_again
+
+-- ---- how many digits the numbers have
+
+other_four : (n : ℕ) → IsTrue (is_other n) → IsInRange 1000 9999 n
+other_four n h =
+    let range = and_parts (leb 1000 n) (leb n 9999) (and_parts (is_in_range 1000 9999 n) _ h).0 in
+    (leb-true 1000 n range.0, leb-true n 9999 range.1)
+
+other_three : (n : ℕ) → IsInRange 100 999 (http_status_of_other n)
+other_three n = elim (cases_Bool (is_in_range 2000 2999 n)) [
+  | inl fine ↦ rw fine (lit≤ tt, lit≤ tt)
+  | inr other ↦ elim (cases_Bool (is_in_range 4000 4999 n)) [
+    | inl bad ↦ rw (other, bad) (lit≤ tt, lit≤ tt)
+    | inr neither ↦ rw (other, neither) (lit≤ tt, lit≤ tt)
+  ]
+]
+
+-- a status number has four digits
+pub number_in_range : (r : Rsc) → IsInRange 1000 9999 (rsc_row r).number
+number_in_range Fine = (lit≤ tt, lit≤ tt)
+number_in_range Created = (lit≤ tt, lit≤ tt)
+number_in_range Deleted = (lit≤ tt, lit≤ tt)
+number_in_range Updated = (lit≤ tt, lit≤ tt)
+number_in_range BadRequest = (lit≤ tt, lit≤ tt)
+number_in_range NotFound = (lit≤ tt, lit≤ tt)
+number_in_range NotAllowed = (lit≤ tt, lit≤ tt)
+number_in_range RequestTimeout = (lit≤ tt, lit≤ tt)
+number_in_range NoPrivilege = (lit≤ tt, lit≤ tt)
+number_in_range Conflict = (lit≤ tt, lit≤ tt)
+number_in_range BadChild = (lit≤ tt, lit≤ tt)
+number_in_range Internal = (lit≤ tt, lit≤ tt)
+number_in_range NotImplemented = (lit≤ tt, lit≤ tt)
+number_in_range NotReachable = (lit≤ tt, lit≤ tt)
+number_in_range NotSubscribable = (lit≤ tt, lit≤ tt)
+number_in_range NonBlocking = (lit≤ tt, lit≤ tt)
+number_in_range NotAcceptable = (lit≤ tt, lit≤ tt)
+number_in_range TooManyMembers = (lit≤ tt, lit≤ tt)
+number_in_range WrongMember = (lit≤ tt, lit≤ tt)
+number_in_range (Other o) = other_four o.number o.outside
+
+-- and an HTTP status three
+pub http_in_range : (r : Rsc) → IsInRange 100 999 (rsc_row r).http
+http_in_range Fine = (lit≤ tt, lit≤ tt)
+http_in_range Created = (lit≤ tt, lit≤ tt)
+http_in_range Deleted = (lit≤ tt, lit≤ tt)
+http_in_range Updated = (lit≤ tt, lit≤ tt)
+http_in_range BadRequest = (lit≤ tt, lit≤ tt)
+http_in_range NotFound = (lit≤ tt, lit≤ tt)
+http_in_range NotAllowed = (lit≤ tt, lit≤ tt)
+http_in_range RequestTimeout = (lit≤ tt, lit≤ tt)
+http_in_range NoPrivilege = (lit≤ tt, lit≤ tt)
+http_in_range Conflict = (lit≤ tt, lit≤ tt)
+http_in_range BadChild = (lit≤ tt, lit≤ tt)
+http_in_range Internal = (lit≤ tt, lit≤ tt)
+http_in_range NotImplemented = (lit≤ tt, lit≤ tt)
+http_in_range NotReachable = (lit≤ tt, lit≤ tt)
+http_in_range NotSubscribable = (lit≤ tt, lit≤ tt)
+http_in_range NonBlocking = (lit≤ tt, lit≤ tt)
+http_in_range NotAcceptable = (lit≤ tt, lit≤ tt)
+http_in_range TooManyMembers = (lit≤ tt, lit≤ tt)
+http_in_range WrongMember = (lit≤ tt, lit≤ tt)
+http_in_range (Other o) = other_three o.number

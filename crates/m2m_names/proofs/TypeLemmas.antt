@@ -8,7 +8,7 @@ use Rattle.std.proofs.lemmas.List.Elements.{Decides-contains}
 use Rattle.m2m_names.proofs.LookupLemmas.{same_key}
 use Rattle.m2m_names.specs.declared.types.Ty.{Ty}
 use Rattle.m2m_names.specs.declared.types.Ty.TheVariants.{AccessControlPolicy, Ae, Container, ContentInstance, CseBase, Group, PollingChannel, RemoteCse, Subscription, AccessControlPolicyAnnc, AeAnnc, ContainerAnnc, ContentInstanceAnnc, GroupAnnc}
-use Rattle.m2m_names.specs.Types.{ty_row, ty_of_number, does_take, Takes}
+use Rattle.m2m_names.specs.Types.{ty_row, ty_of_number, ty_of_word, does_take, Takes}
 
 -- each type is found at its number
 pub ty_again : (ty : Ty) → ty_of_number (ty_row ty).number ≡ Some ty
@@ -42,3 +42,20 @@ does_take-Takes parent child =
     let types = (ty_row parent).takes in
     Decides-contains types child (list_any p types)
     (Decides-by_or p (λ ty. ty ≡ child) (list_any p) (same_number child) refl (λ _ _. refl) types)
+
+-- each type is found at its word
+pub ty_of_word-word : (ty : Ty) → ty_of_word (ty_row ty).word ≡ Some ty
+ty_of_word-word AccessControlPolicy = refl
+ty_of_word-word Ae = refl
+ty_of_word-word Container = refl
+ty_of_word-word ContentInstance = refl
+ty_of_word-word CseBase = refl
+ty_of_word-word Group = refl
+ty_of_word-word PollingChannel = refl
+ty_of_word-word RemoteCse = refl
+ty_of_word-word Subscription = refl
+ty_of_word-word AccessControlPolicyAnnc = refl
+ty_of_word-word AeAnnc = refl
+ty_of_word-word ContainerAnnc = refl
+ty_of_word-word ContentInstanceAnnc = refl
+ty_of_word-word GroupAnnc = refl

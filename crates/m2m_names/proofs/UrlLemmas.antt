@@ -36,7 +36,7 @@ Stops p [] = Unit {0}
 Stops p (x ∷ xs) = p x ≡ false
 
 -- bytes of the kind, and no more after them, are the longest front
-front_is : (p : ℕ → Bool) (xs rest : List ℕ) → list_all p xs ≡ true → Stops p rest → prefix_len p (xs ++ rest) ≡ length xs
+pub front_is : (p : ℕ → Bool) (xs rest : List ℕ) → list_all p xs ≡ true → Stops p rest → prefix_len p (xs ++ rest) ≡ length xs
 front_is p [] [] all stops = refl
 front_is p [] (x ∷ rest) all stops = rw stops refl
 front_is p (x ∷ xs) rest all stops =

@@ -1,10 +1,17 @@
 -- The attributes of resources.
-use Rattle.std.specs.Prelude.{ℕ, Bool, true, ◌&&◌, List, [], ◌∷◌, Option, find, codes}
+use Rattle.std.specs.Prelude.{ℕ, List, [], ◌∷◌, Option, find, codes}
 use Rattle.std.specs.Cmp.Lexicographic.{slice_cmp}
-use Rattle.std.specs.Ordering.{is_lt, nat_cmp}
+use Rattle.std.specs.Ordering.{nat_cmp}
+use Rattle.std.specs.declared.cmp.Ordering.{Ordering}
 use Rattle.std.specs.Str.{bytes_eq}
 use Rattle.m2m_names.specs.declared.attributes.Attr.{Attr}
-use Rattle.m2m_names.specs.declared.attributes.Attr.TheVariants.{Aa, Acpi, Aei, Api, Apn, At, Cb, Cbs, Cnf, Cni, Cnm, Con, Cr, Cs, Csi, Cst, Csy, Ct, Enc, Et, Gn, Lbl, Lnk, Lt, Macp, Mbs, Mia, Mid, Mni, Mnm, Mt, Mtv, Nct, Nu, Pi, Poa, Pv, Pvs, Ri, Rn, Rr, Srt, Srv, St, Su, Ty}
+use Rattle.m2m_names.specs.declared.attributes.Attr.TheVariants.{Aa, Acpi, Aei, Api, Apn, At, Cb}
+use Rattle.m2m_names.specs.declared.attributes.Attr.TheVariants.{Cbs, Cnf, Cni, Cnm, Con, Cr, Cs}
+use Rattle.m2m_names.specs.declared.attributes.Attr.TheVariants.{Csi, Cst, Csy, Ct, Enc, Et, Gn}
+use Rattle.m2m_names.specs.declared.attributes.Attr.TheVariants.{Lbl, Lnk, Lt, Macp, Mbs, Mia, Mid}
+use Rattle.m2m_names.specs.declared.attributes.Attr.TheVariants.{Mni, Mnm, Mt, Mtv, Nct, Nu, Pi}
+use Rattle.m2m_names.specs.declared.attributes.Attr.TheVariants.{Poa, Pv, Pvs, Ri, Rn, Rr, Srt, Srv}
+use Rattle.m2m_names.specs.declared.attributes.Attr.TheVariants.{St, Su, Ty}
 
 -- the table: the short name of each attribute (TS-0004, 8.2.3)
 abbrev pub attr_short : Attr → List ℕ
@@ -66,9 +73,6 @@ all_attrs =
 abbrev pub attr_of_short : List ℕ → Option Attr
 attr_of_short text = find (λ a. bytes_eq (attr_short a) text) all_attrs
 
--- whether each text comes before the next in byte order
-abbrev pub are_in_byte_order : List (List ℕ) → Bool
-are_in_byte_order [] = true
-are_in_byte_order (text ∷ []) = true
-are_in_byte_order (text ∷ next ∷ rest) =
-    is_lt (slice_cmp nat_cmp text next) && are_in_byte_order (next ∷ rest)
+-- which of two attributes has the smaller short name, in the order of bytes
+abbrev pub attr_cmp : Attr → Attr → Ordering
+attr_cmp a b = slice_cmp nat_cmp (attr_short a) (attr_short b)

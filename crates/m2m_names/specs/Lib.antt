@@ -1,5 +1,6 @@
 pub mod Attributes
 pub mod Calendar
+pub mod Ids
 pub mod Name
 pub mod Operations
 pub mod StampReading

@@ -1,5 +1,6 @@
 -- Names, resource ids and originators as texts.
-use Rattle.std.specs.Prelude.{ℕ, ◌==◌, nat_eq, nat_lt, nat_le, Bool, not, ◌&&◌, ◌||◌, List, [], ◌∷◌, length, drop, codes}
+use Rattle.std.specs.Prelude.{ℕ, ◌==◌, nat_eq, nat_lt, nat_le, Bool, not, ◌&&◌, ◌||◌, List, [], ◌∷◌}
+use Rattle.std.specs.Prelude.{length, drop, codes}
 use Rattle.std.specs.List.{list_all, list_any, starts_with}
 use Rattle.std.specs.Char.{is_ascii_alphanumeric, is_ascii_digit, is_ascii_graphic}
 use Rattle.std.specs.Str.{bytes_eq}
@@ -13,11 +14,13 @@ is_filled most text = nat_lt 0 (length text) && nat_le (length text) most
 abbrev pub is_unreserved : ℕ → Bool
 is_unreserved byte = is_ascii_alphanumeric byte || list_any (λ mark. mark == byte) (codes "-._~")
 
--- a name of a resource: 1 to 64 unreserved characters (TS-0001, 9.6.1.3; the length is the profile's)
+-- a name of a resource: 1 to 64 unreserved characters (TS-0001, 9.6.1.3; the length is the
+-- profile's)
 abbrev pub is_name : List ℕ → Bool
 is_name text = is_filled 64 text && list_all is_unreserved text
 
--- the names of virtual resources (TS-0001, 9.6): the newest and the oldest instance, the fan-out point, the poll point
+-- the names of virtual resources (TS-0001, 9.6): the newest and the oldest instance, the fan-out
+-- point, the poll point
 abbrev pub virtual_names : List (List ℕ)
 virtual_names = codes "la" ∷ codes "ol" ∷ codes "fopt" ∷ codes "pcu" ∷ []
 
@@ -31,7 +34,8 @@ is_one_of texts text = list_any (bytes_eq text) texts
 
 -- a name that a resource may be given: it addresses nothing else
 abbrev pub is_free_name : List ℕ → Bool
-is_free_name text = is_name text && not (is_one_of virtual_names text || is_one_of address_marks text)
+is_free_name text = is_name text
+    && not (is_one_of virtual_names text || is_one_of address_marks text)
 
 -- a word and then at least one digit
 abbrev pub is_numbered : List ℕ → List ℕ → Bool
@@ -45,3 +49,7 @@ is_resource_id text = list_any (λ ty. is_numbered (ty_row ty).word text) all_ty
 -- an originator: 1 to 256 printable ASCII characters without a space (TS-0004, 6.3.3)
 abbrev pub is_originator : List ℕ → Bool
 is_originator text = is_filled 256 text && list_all is_ascii_graphic text
+
+-- an originator that doesn't begin with `/`
+abbrev pub is_local_originator : List ℕ → Bool
+is_local_originator text = is_originator text && not (starts_with nat_eq text (codes "/"))

@@ -2,7 +2,8 @@
 use Rattle.std.specs.Prelude.{ℕ, List, [], ◌∷◌, Option, ℤ, pos, find}
 use Rattle.std.specs.Ordering.{int_eq}
 use Rattle.m2m_names.specs.declared.operations.Op.{Op}
-use Rattle.m2m_names.specs.declared.operations.Op.TheVariants.{Create, Retrieve, Update, Delete, Notify}
+use Rattle.m2m_names.specs.declared.operations.Op.TheVariants.{Create, Retrieve, Update, Delete}
+use Rattle.m2m_names.specs.declared.operations.Op.TheVariants.{Notify}
 
 -- what stands for an operation: its number in a request, and its bit in `acop`
 pub record OpRow : Type 0 where

@@ -1,11 +1,19 @@
--- Response status codes (TS-0004, 6.6.3), and the HTTP status that goes with each (TS-0009, 6.3.2). Where the standard
--- has none, for 4008, 4108, 5203, 6010, 6011 and numbers without a name, it is the profile's own.
-use Rattle.std.specs.Prelude.{ℕ, Bool, true, false, List, [], ◌∷◌, Option, Some, None, find, ◌==◌, if◌then◌else◌, IsTrue, refl}
+-- Response status codes (TS-0004, 6.6.3), and the HTTP status that goes with each (TS-0009, 6.3.2).
+-- Where the standard has none, for 4008, 4108, 5203, 6010, 6011 and numbers without a name, it is
+-- the profile's own.
+use Rattle.std.specs.Prelude.{ℕ, Bool, true, false, List, [], ◌∷◌, Option, Some, None, find, ◌==◌}
+use Rattle.std.specs.Prelude.{if◌then◌else◌, IsTrue, refl}
 use Rattle.std.specs.Int.{is_in_range}
 use Rattle.std.specs.Option.{option_or}
 use Rattle.m2m_names.specs.StatusNumbers.{is_other}
 use Rattle.m2m_names.specs.declared.codes.Rsc.{Rsc}
-use Rattle.m2m_names.specs.declared.codes.Rsc.TheVariants.{Ok as Fine, Created, Deleted, Updated, BadRequest, NotFound, NotAllowed, RequestTimeout, NoPrivilege, Conflict, BadChild, Internal, NotImplemented, NotReachable, NotSubscribable, NonBlocking, NotAcceptable, TooManyMembers, WrongMember, Other}
+use Rattle.m2m_names.specs.declared.codes.Rsc.TheVariants.{Ok as Fine, Created, Deleted, Updated}
+use Rattle.m2m_names.specs.declared.codes.Rsc.TheVariants.{BadRequest, NotFound, NotAllowed}
+use Rattle.m2m_names.specs.declared.codes.Rsc.TheVariants.{RequestTimeout, NoPrivilege, Conflict}
+use Rattle.m2m_names.specs.declared.codes.Rsc.TheVariants.{BadChild, Internal, NotImplemented}
+use Rattle.m2m_names.specs.declared.codes.Rsc.TheVariants.{NotReachable, NotSubscribable}
+use Rattle.m2m_names.specs.declared.codes.Rsc.TheVariants.{NonBlocking, NotAcceptable}
+use Rattle.m2m_names.specs.declared.codes.Rsc.TheVariants.{TooManyMembers, WrongMember, Other}
 
 -- what stands for a status code: its number, and its HTTP status
 pub record RscRow : Type 0 where

@@ -1,8 +1,14 @@
 -- The resource types.
 use Rattle.std.specs.Prelude.{ℕ, List, [], ◌∷◌, ◌++◌, Option, Bool, find, Contains, codes, ◌==◌}
 use Rattle.std.specs.List.{list_any}
+use Rattle.std.specs.Str.{bytes_eq}
 use Rattle.m2m_names.specs.declared.types.Ty.{Ty}
-use Rattle.m2m_names.specs.declared.types.Ty.TheVariants.{AccessControlPolicy, Ae, Container, ContentInstance, CseBase, Group, PollingChannel, RemoteCse, Subscription, AccessControlPolicyAnnc, AeAnnc, ContainerAnnc, ContentInstanceAnnc, GroupAnnc}
+use Rattle.m2m_names.specs.declared.types.Ty.TheVariants.{AccessControlPolicy, Ae, Container}
+use Rattle.m2m_names.specs.declared.types.Ty.TheVariants.{ContentInstance, CseBase, Group}
+use Rattle.m2m_names.specs.declared.types.Ty.TheVariants.{PollingChannel, RemoteCse, Subscription}
+use Rattle.m2m_names.specs.declared.types.Ty.TheVariants.{AccessControlPolicyAnnc, AeAnnc}
+use Rattle.m2m_names.specs.declared.types.Ty.TheVariants.{ContainerAnnc, ContentInstanceAnnc}
+use Rattle.m2m_names.specs.declared.types.Ty.TheVariants.{GroupAnnc}
 
 -- what stands for a type: its number, its short word, and the types of child that it takes
 pub record TyRow : Type 0 where
@@ -13,7 +19,8 @@ pub record TyRow : Type 0 where
 abbrev pub ty_entry : ℕ → List ℕ → List Ty → TyRow
 ty_entry number word takes = record { number = number; word = word; takes = takes }
 
--- the table: a row for each type (TS-0004, 6.3.4.2.1), with the children that the profile has of those in TS-0001, 9.6
+-- the table: a row for each type (TS-0004, 6.3.4.2.1), with the children that the profile has of
+-- those in TS-0001, 9.6
 abbrev pub ty_row : Ty → TyRow
 ty_row AccessControlPolicy = ty_entry 1 (codes "acp") (Subscription ∷ [])
 ty_row Ae = ty_entry 2 (codes "ae")
@@ -44,6 +51,10 @@ all_types =
 -- the type of a number
 abbrev pub ty_of_number : ℕ → Option Ty
 ty_of_number n = find (λ ty. (ty_row ty).number == n) all_types
+
+-- the type of a short word
+abbrev pub ty_of_word : List ℕ → Option Ty
+ty_of_word word = find (λ ty. bytes_eq (ty_row ty).word word) all_types
 
 -- the name of a type in JSON: `m2m:` and its word (TS-0004, 8.2.4)
 abbrev pub ty_member : Ty → List ℕ

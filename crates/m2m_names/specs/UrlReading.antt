@@ -1,5 +1,6 @@
 -- Reading a URL from left to right.
-use Rattle.std.specs.Prelude.{ℕ, ◌+◌, ◌&&◌, ◌==◌, nat_le, List, [], ◌∷◌, length, take, drop, Option, Some, None, if◌then◌else◌, codes}
+use Rattle.std.specs.Prelude.{ℕ, ◌+◌, ◌&&◌, ◌==◌, nat_le, List, [], ◌∷◌, length, take, drop, Option}
+use Rattle.std.specs.Prelude.{Some, None, if◌then◌else◌, codes}
 use Rattle.std.specs.Char.{is_ascii_digit}
 use Rattle.std.specs.Int.{is_in_range}
 use Rattle.std.specs.List.{prefix_len}

@@ -1,13 +1,14 @@
 //! The attributes of resources.
-ghost use Rattle.std.specs.Prelude.{◌≡◌, ◌≢◌, IfSome, IfNone, IsTrue, Some, map};
+ghost use Rattle.std.specs.Prelude.{◌≡◌, ◌≢◌, IfSome, IfNone, Some};
 ghost use Rattle.m2m_names.specs.declared.attributes.Attr.{Attr};
-ghost use Rattle.m2m_names.specs.Attributes.{attr_short, attr_of_short, all_attrs, are_in_byte_order};
+ghost use Rattle.m2m_names.specs.Attributes.{attr_short, attr_of_short, attr_cmp};
+
+use std::cmp::Ordering;
 
 /// An attribute of a resource, named by its short name (TS-0004, 8.2.3).
 ///
-/// The variants stand, and are ordered, in byte order of their short names, as the keys of an
-/// object in canonical JSON are.
-#[derive(Clone, Copy, Debug, PartialEq, Eq, PartialOrd, Ord)]
+/// `order` is that of the keys of an object in canonical JSON.
+#[derive(Clone, Copy, Debug, PartialEq, Eq)]
 pub enum Attr {
     Aa,
     Acpi,
@@ -108,14 +109,23 @@ const ALL: [Attr; 46] = [
 
 impl Attr {
     /// The attribute that `ALL` has at a short name.
-    fn find(text: &str) -> Option<Attr>
+    fn find(text: &[u8]) -> Option<Attr>
         ensures { result ≡ attr_of_short text.now }
     {
-        ALL.iter().copied().find(|a| a.short() == text)
+        ALL.iter().copied().find(|a| a.short().as_bytes() == text)
     }
 
     /// The attribute of a short name.
     pub fn from_short(text: &str) -> Option<Attr>
+        ensures value { result ≡ attr_of_short text.now }
+        ensures found { IfSome result (λ a. attr_short a ≡ text.now) }
+        ensures none { IfNone result ((a : Attr) → attr_short a ≢ text.now) }
+    {
+        Attr::from_short_bytes(text.as_bytes())
+    }
+
+    /// The attribute of a short name that stands as bytes.
+    pub fn from_short_bytes(text: &[u8]) -> Option<Attr>
         ensures value { result ≡ attr_of_short text.now }
         ensures found { IfSome result (λ a. attr_short a ≡ text.now) }
         ensures none { IfNone result ((a : Attr) → attr_short a ≢ text.now) }
@@ -177,9 +187,11 @@ impl Attr {
             Attr::Ty => "ty",
         }
     }
-}
 
-/// The table of attributes stands in byte order of the short names, and has each name once.
-pub fn attributes_stand_in_byte_order()
-    ensures { IsTrue (are_in_byte_order (map attr_short all_attrs)) }
-{}
+    /// How it stands to another: as their short names do in the order of bytes.
+    pub fn order(self, other: Attr) -> Ordering
+        ensures { result ≡ attr_cmp self other }
+    {
+        self.short().cmp(other.short())
+    }
+}

@@ -131,7 +131,8 @@ impl Rsc {
         self.row().0
     }
 
-    /// The HTTP status that goes with it (TS-0009, 6.3.2; where the standard has none, the profile's).
+    /// The HTTP status that goes with it (TS-0009, 6.3.2; where the standard has none, the
+    /// profile's).
     pub fn http_status(self) -> u16
         ensures { result ≡ (rsc_row self).http }
     {

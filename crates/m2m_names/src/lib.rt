@@ -11,6 +11,8 @@
 
 mod attributes;
 mod codes;
+mod ids;
+mod laws;
 mod name;
 mod operations;
 mod stamps;
@@ -19,10 +21,15 @@ mod tests;
 mod types;
 mod urls;
 
-pub use attributes::{Attr, attributes_stand_in_byte_order};
+pub use attributes::Attr;
 pub use codes::{OtherNumber, Rsc};
-pub use name::{is_free_name, is_name, is_originator, is_resource_id};
-pub use operations::{DISCOVERY, Op};
-pub use stamps::{read_stamp, write_stamp};
+pub use ids::{read_digits, read_id};
+pub use laws::status_numbers_have_their_digits;
+pub use name::{
+    are_graphic, is_filled, is_free_name, is_local_originator, is_name, is_originator,
+    is_resource_id,
+};
+pub use operations::Op;
+pub use stamps::{LAST_MOMENT, read_stamp, write_stamp};
 pub use types::Ty;
 pub use urls::{UrlParts, read_url};

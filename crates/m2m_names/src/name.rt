@@ -9,7 +9,7 @@ ghost use Rattle.m2m_names.specs.Name.{virtual_names, address_marks};
 use crate::Ty;
 
 /// Whether the text has 1 to `most` bytes.
-fn is_filled(text: &[u8], most: usize) -> bool
+pub fn is_filled(text: &[u8], most: usize) -> bool
     ensures { result ≡ spec.is_filled most text.now }
 {
     0 < text.len() && text.len() <= most
@@ -72,13 +72,14 @@ fn is_numbered(text: &[u8], word: &[u8]) -> bool
     text.starts_with(word) && word.len() < text.len() && are_digits(&text[word.len()..])
 }
 
-fn are_digits(text: &[u8]) -> bool
+pub(crate) fn are_digits(text: &[u8]) -> bool
     ensures { result ≡ list_all chars.is_ascii_digit text.now }
 {
     text.iter().all(|byte| byte.is_ascii_digit())
 }
 
-/// Whether the text is an originator: 1 to 256 printable ASCII characters without a space (TS-0004, 6.3.3).
+/// Whether the text is an originator: 1 to 256 printable ASCII characters without a space
+/// (TS-0004, 6.3.3).
 #[tactic(auto, using(crate::proofs::NameLemmas::graphic_is_utf8))]
 pub fn is_originator(text: &[u8]) -> bool
     ensures value { result ≡ spec.is_originator text.now }
@@ -87,7 +88,24 @@ pub fn is_originator(text: &[u8]) -> bool
     is_filled(text, 256) && are_graphic(text)
 }
 
-fn are_graphic(text: &[u8]) -> bool
+/// Whether the text is an originator that doesn't begin with `/`.
+pub fn is_local_originator(text: &[u8]) -> bool
+    ensures value { result ≡ spec.is_local_originator text.now }
+    ensures utf8 { OnTrue result (IsUtf8 text.now) }
+{
+    is_originator(text) && !text.starts_with(b"/")
+}
+
+/// Whether the text is of printable ASCII characters without a space.
+#[tactic(auto, using(crate::proofs::NameLemmas::graphic_is_utf8))]
+pub fn are_graphic(text: &[u8]) -> bool
+    ensures value { result ≡ list_all chars.is_ascii_graphic text.now }
+    ensures utf8 { OnTrue result (IsUtf8 text.now) }
+{
+    all_graphic(text)
+}
+
+fn all_graphic(text: &[u8]) -> bool
     ensures { result ≡ list_all chars.is_ascii_graphic text.now }
 {
     text.iter().all(|byte| byte.is_ascii_graphic())

@@ -3,9 +3,6 @@ ghost use Rattle.std.specs.Prelude.{◌≡◌, ◌≢◌, IfSome, IfNone, Some};
 ghost use Rattle.m2m_names.specs.declared.operations.Op.{Op};
 ghost use Rattle.m2m_names.specs.Operations.{op_row, op_of_number};
 
-/// The bit of DISCOVERY in `acop`, which no operation has (TS-0001, 9.6.2).
-pub const DISCOVERY: u32 = 32;
-
 /// An operation of a request.
 #[derive(Clone, Copy, Debug, PartialEq, Eq)]
 pub enum Op {

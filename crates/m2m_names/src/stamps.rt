@@ -1,19 +1,21 @@
 //! Timestamps in UTC (TS-0004, 6.3.3).
-ghost use Rattle.std.specs.Prelude.{◌≡◌, ◌↔◌, ◌<◌, ◌≤◌, ℕ, take, IfSome, IfNone, IsTrue, Some, pos, ◌≤ℤ◌, unsigned_abs};
+ghost use Rattle.std.specs.Prelude.{◌≡◌, ◌↔◌, ◌<◌, ◌≤◌, ℕ, take, IfSome, IfNone, IsTrue, Some, pos};
+ghost use Rattle.std.specs.Prelude.{◌≤ℤ◌, unsigned_abs};
 ghost use Rattle.jiff.specs.Words.{epoch_day};
 ghost use Rattle.std.specs.Option.{option_map};
 ghost use Rattle.std.specs.Bool.{OnTrue, OnFalse};
-ghost use Rattle.std.specs.Char.{is_ascii_digit};
-ghost use Rattle.std.specs.List.{list_all};
 ghost use Rattle.m2m_names.specs.Calendar.{day_number, day_of};
-ghost use Rattle.m2m_names.specs.Stamps.{IsTimestamp, is_fraction, is_stamp, stamp_bytes, stamp_of, last_moment, timestamp, two};
-ghost use Rattle.m2m_names.specs.StampReading.{two_at, four_at, past_t, stamp_at, stamp_of_fields, checked_day, checked_moment, moment_at};
+ghost use Rattle.m2m_names.specs.Stamps.{IsTimestamp, is_fraction, is_stamp, stamp_bytes, stamp_of};
+ghost use Rattle.m2m_names.specs.Stamps.{last_moment, timestamp, two};
+ghost use Rattle.m2m_names.specs.StampReading.{two_at, four_at, past_t, stamp_at, stamp_of_fields};
+ghost use Rattle.m2m_names.specs.StampReading.{checked_day, checked_moment, moment_at};
 
+use crate::name::are_digits;
 use jiff::ToSpan;
 use jiff::civil::{Date, date};
 
-/// The last moment that a timestamp has: the end of 9999.
-const LAST_MOMENT: u64 = 253_402_300_799;
+/// The last moment that a timestamp has, in seconds since 1970: the end of 9999.
+pub const LAST_MOMENT: u64 = 253_402_300_799;
 
 /// The numbers that stand in a timestamp.
 #[derive(Clone, Copy)]
@@ -83,12 +85,6 @@ fn read_fields(bytes: &[u8]) -> Option<(Fields, &[u8])>
         },
         rest,
     ))
-}
-
-fn are_digits(bytes: &[u8]) -> bool
-    ensures { result ≡ list_all is_ascii_digit bytes.now }
-{
-    bytes.iter().all(|b| b.is_ascii_digit())
 }
 
 fn ends_stamp(bytes: &[u8]) -> bool

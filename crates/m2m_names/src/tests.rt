@@ -1,5 +1,6 @@
 //! Values from outside: dates as a calendar has them, and the tables as they are published.
 use super::*;
+use std::cmp::Ordering;
 use std::test::*;
 
 #[test]
@@ -19,7 +20,6 @@ fn operations_have_numbers_and_bits(rt: HostRuntime) {
     for number in [-1i64, 0, 6] {
         assert_eq!(rt; Op::from_number(number), None);
     }
-    assert_eq!(rt; DISCOVERY, 32);
 }
 
 #[test]
@@ -133,18 +133,12 @@ fn attributes_have_short_names(rt: HostRuntime) {
 
 #[test]
 fn attributes_go_by_their_short_names(rt: HostRuntime) {
-    let some = [
-        Attr::Aa,
-        Attr::Acpi,
-        Attr::Cs,
-        Attr::Csi,
-        Attr::Mt,
-        Attr::Mtv,
-        Attr::Ty,
-    ];
-    for pair in some.windows(2) {
-        assert!(rt; pair[0] < pair[1]);
-        assert!(rt; pair[0].short() < pair[1].short());
+    for (one, other, order) in [
+        (Attr::Cs, Attr::Csi, Ordering::Less),
+        (Attr::Ty, Attr::Aa, Ordering::Greater),
+        (Attr::Mt, Attr::Mt, Ordering::Equal),
+    ] {
+        assert!(rt; one.order(other) == order);
     }
 }
 
@@ -287,4 +281,27 @@ fn names_and_originators_have_their_forms(rt: HostRuntime) {
     assert!(rt; is_originator(&[b'!'; 256]));
     assert!(rt; !is_originator(&[b'!'; 257]));
     assert!(rt; !is_originator(&[127]));
+}
+
+#[test]
+fn resource_ids_have_a_type_and_a_number(rt: HostRuntime) {
+    let rows = [
+        ("cb1", Some((Ty::CseBase, 1u64))),
+        ("cntA20", Some((Ty::ContainerAnnc, 20))),
+        (
+            "cnt9223372036854775807",
+            Some((Ty::Container, 9_223_372_036_854_775_807)),
+        ),
+        ("cnt9223372036854775808", None),
+        ("cnt0", Some((Ty::Container, 0))),
+        ("cnt07", None),
+        ("cnt", None),
+        ("7", None),
+        ("cnt7x", None),
+        ("Cnt7", None),
+    ];
+    for (text, id) in rows {
+        assert!(rt; read_id(text.as_bytes()) == id, "{text}");
+    }
+    assert_eq!(rt; Attr::from_short_bytes(b"lbl"), Some(Attr::Lbl));
 }

@@ -1,7 +1,8 @@
 //! The resource types.
 ghost use Rattle.std.specs.Prelude.{◌≡◌, ◌≢◌, ◌↔◌, IfSome, IfNone, IsTrue, Some};
 ghost use Rattle.m2m_names.specs.declared.types.Ty.{Ty};
-ghost use Rattle.m2m_names.specs.Types.{ty_row, ty_of_number, ty_member, Takes, does_take};
+ghost use Rattle.m2m_names.specs.Types.{ty_row, ty_of_number, ty_of_word, ty_member, Takes};
+ghost use Rattle.m2m_names.specs.Types.{does_take};
 
 /// A resource type, by the standard's own names (TS-0001, 9.6; `Annc` ends those of announced
 /// resources).
@@ -58,6 +59,16 @@ impl Ty {
         ensures { result ≡ ty_of_number n }
     {
         Ty::ALL.iter().copied().find(|ty| ty.number() == n)
+    }
+
+    /// The type that `ALL` has at a short word.
+    fn find_word(word: &[u8]) -> Option<Ty>
+        ensures { result ≡ ty_of_word word.now }
+    {
+        Ty::ALL
+            .iter()
+            .copied()
+            .find(|ty| ty.word().as_bytes() == word)
     }
 
     /// Its row of the table.
@@ -200,6 +211,15 @@ impl Ty {
         ensures { result.now ≡ (ty_row self).word }
     {
         self.row().word
+    }
+
+    /// The type of a short word.
+    pub fn from_word(word: &[u8]) -> Option<Ty>
+        ensures value { result ≡ ty_of_word word.now }
+        ensures found { IfSome result (λ ty. (ty_row ty).word ≡ word.now) }
+        ensures none { IfNone result ((ty : Ty) → (ty_row ty).word ≢ word.now) }
+    {
+        Ty::find_word(word)
     }
 
     /// Its name in JSON, `m2m:` and the short word (TS-0004, 8.2.4).

@@ -5,7 +5,8 @@ ghost use Rattle.std.specs.List.{list_all, prefix_len};
 ghost use Rattle.std.specs.Option.{option_map};
 ghost use Rattle.m2m_names.specs.Urls as spec;
 ghost use Rattle.m2m_names.specs.Urls.{IsUrl, number_of};
-ghost use Rattle.m2m_names.specs.UrlReading.{past_scheme, host_at, port_digits_at, port_at, host_end_at};
+ghost use Rattle.m2m_names.specs.UrlReading.{past_scheme, host_at, port_digits_at, port_at};
+ghost use Rattle.m2m_names.specs.UrlReading.{host_end_at};
 
 /// The parts of a URL.
 #[derive(Clone, Copy, Debug, PartialEq, Eq)]

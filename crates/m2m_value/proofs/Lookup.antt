@@ -1,5 +1,5 @@
 -- A key among keys in order, found by halving.
-use Rattle.std.proofs.Common.{◌≡◌, ℕ, zero, suc, ◌+◌, ◌<◌, ◌≢◌, List, [], ◌∷◌, length, get_or, set, true, false, bytes_eq, Some, None, Result, Ok, Err, IfOk, IfErr, IsUtf8, Ordering, Less, Equal, Greater, is_eq, nat_cmp, inl, inr, refl, sym, ap, ◌∙◌, arith}
+use Rattle.std.proofs.Common.{◌≡◌, ℕ, zero, suc, ◌+◌, ◌<◌, ◌≢◌, List, [], ◌∷◌, length, get_or, set, true, false, cond, bytes_eq, Some, None, Result, Ok, Err, IfOk, IfErr, IsUtf8, Ordering, Less, Equal, Greater, is_eq, nat_cmp, inl, inr, refl, sym, ap, ◌∙◌, arith}
 use Rattle.std.proofs.lemmas.Bool.{cases_lt, false_from_ne_true}
 use Rattle.std.proofs.lemmas.Cmp.{nat_list_cmp_total, tied_itself}
 use Rattle.std.proofs.lemmas.List.Sorted.{searchable_from_sorted}
@@ -153,6 +153,19 @@ found_at Greater key e es rest v is more = rw (apart e.0 key (less_not_equal _ (
 pub member_of-put : (key : List ℕ) (es : List Entry) (v : Data) → member_of key (insert_entry compared es key v) ≡ Some v
 member_of-put key [] v = rw (bytes_eq_itself key) refl
 member_of-put key (e ∷ es) v = found_at _ key e es _ v refl (member_of-put key es v)
+
+other_at : (o : Ordering) (key other : List ℕ) (e : Entry) (es rest : List Entry) (v : Data) → compared key e.0 ≡ o → bytes_eq other key ≡ false → member_of other rest ≡ member_of other es
+    → member_of other (match_ordering o ((key, v) ∷ e ∷ es) ((e.0, v) ∷ es) (e ∷ rest)) ≡ member_of other (e ∷ es)
+other_at Less key other e es rest v is apart more = rw apart refl
+other_at Equal key other e es rest v is apart more =
+    let off : bytes_eq other e.0 ≡ false = ap (bytes_eq other) (sym (same_key key e.0 is)) ∙ apart in
+    rw off refl
+other_at Greater key other e es rest v is apart more = ap (cond (bytes_eq other e.0) (Some e.1)) more
+
+-- what was at another key is found there still
+pub member_of-put_other : (key other : List ℕ) (es : List Entry) (v : Data) → bytes_eq other key ≡ false → member_of other (insert_entry compared es key v) ≡ member_of other es
+member_of-put_other key other [] v apart = rw apart refl
+member_of-put_other key other (e ∷ es) v apart = other_at _ key other e es _ v refl apart (member_of-put_other key other es v apart)
 
 -- a search by halving ends at the key, or at the gap for it
 pub searched : (es : List Entry) → AreSorted es → (key : List ℕ) (r : Result ℕ ℕ) → IsSearchInRange r (length es) → IsBinarySearchResult (λ e. compared e.0 key) es r

@@ -2,7 +2,8 @@
 use Rattle.std.specs.Prelude.{◌≡◌, ℕ, ◌==◌, ℤ, pos, List, [], ◌∷◌, Bool, true, false, cond, refl}
 use Rattle.std.specs.Coded.{Coded, code_by, coded×, coded_ℕ, coded_ℤ, coded_list}
 use Rattle.std.proofs.Common.{ap, ◌∙◌}
-use Rattle.m2m_value.specs.Data.{Data, null, boolean, number, text, list, object, Elements, no_elements, element, Pairs, no_pairs, pair, Entry}
+use Rattle.m2m_value.specs.Data.{Data, null, boolean, number, text, list, object, Elements}
+use Rattle.m2m_value.specs.Data.{no_elements, element, Pairs, no_pairs, pair, Entry}
 
 -- a kind, a number and bytes
 abbrev pub Mark : Type 0
@@ -15,7 +16,8 @@ abbrev truth_mark : Bool → Mark
 truth_mark false = bare 1
 truth_mark true = bare 2
 
--- the marks of a value, then others: each list and each object follows the mark that joins its parts
+-- the marks of a value, then others: each list and each object follows the mark that joins its
+-- parts
 abbrev mutual
   pub marks_onto : Data → List Mark → List Mark
   marks_onto null rest = bare 0 ∷ rest
@@ -52,9 +54,12 @@ joined_pair k (d ∷ rest) = with_pair k d rest
 
 abbrev step : ℕ → ℤ → List ℕ → List Data → List Data
 step kind z s after =
-    cond (kind == 0) (null ∷ after) (cond (kind == 1) (boolean false ∷ after) (cond (kind == 2) (boolean true ∷ after)
-    (cond (kind == 3) (number z ∷ after) (cond (kind == 4) (text s ∷ after) (cond (kind == 5) (list no_elements ∷ after)
-    (cond (kind == 6) (joined_element after) (cond (kind == 7) (object no_pairs ∷ after) (joined_pair s after))))))))
+    cond (kind == 0) (null ∷ after)
+    (cond (kind == 1) (boolean false ∷ after) (cond (kind == 2) (boolean true ∷ after)
+    (cond (kind == 3) (number z ∷ after)
+    (cond (kind == 4) (text s ∷ after) (cond (kind == 5) (list no_elements ∷ after)
+    (cond (kind == 6) (joined_element after)
+    (cond (kind == 7) (object no_pairs ∷ after) (joined_pair s after))))))))
 
 -- the values that the marks stand for
 abbrev pub values_of : List Mark → List Data
@@ -65,12 +70,14 @@ abbrev first : List Data → Data
 first [] = null
 first (d ∷ ds) = d
 
-truth_back : (b : Bool) (rest : List Mark) → values_of (truth_mark b ∷ rest) ≡ boolean b ∷ values_of rest
+truth_back : (b : Bool) (rest : List Mark) →
+    values_of (truth_mark b ∷ rest) ≡ boolean b ∷ values_of rest
 truth_back false rest = refl
 truth_back true rest = refl
 
 mutual
-  pub marks_back : (d : Data) (rest : List Mark) → values_of (marks_onto d rest) ≡ d ∷ values_of rest
+  pub marks_back : (d : Data) (rest : List Mark) →
+      values_of (marks_onto d rest) ≡ d ∷ values_of rest
   marks_back null rest = refl
   marks_back (boolean b) rest = truth_back b rest
   marks_back (number z) rest = refl
@@ -78,17 +85,23 @@ mutual
   marks_back (list es) rest = element_marks_back es rest
   marks_back (object ps) rest = pair_marks_back ps rest
 
-  pub element_marks_back : (es : Elements) (rest : List Mark) → values_of (element_marks_onto es rest) ≡ list es ∷ values_of rest
+  pub element_marks_back : (es : Elements) (rest : List Mark) →
+      values_of (element_marks_onto es rest) ≡ list es ∷ values_of rest
   element_marks_back no_elements rest = refl
-  element_marks_back (element d es) rest = ap joined_element (marks_back d (element_marks_onto es rest)) ∙ ap (with_element d) (element_marks_back es rest)
+  element_marks_back (element d es) rest =
+      ap joined_element (marks_back d (element_marks_onto es rest))
+      ∙ ap (with_element d) (element_marks_back es rest)
 
-  pub pair_marks_back : (ps : Pairs) (rest : List Mark) → values_of (pair_marks_onto ps rest) ≡ object ps ∷ values_of rest
+  pub pair_marks_back : (ps : Pairs) (rest : List Mark) →
+      values_of (pair_marks_onto ps rest) ≡ object ps ∷ values_of rest
   pair_marks_back no_pairs rest = refl
-  pair_marks_back (pair k d ps) rest = ap (joined_pair k) (marks_back d (pair_marks_onto ps rest)) ∙ ap (with_pair k d) (pair_marks_back ps rest)
+  pair_marks_back (pair k d ps) rest = ap (joined_pair k) (marks_back d (pair_marks_onto ps rest))
+      ∙ ap (with_pair k d) (pair_marks_back ps rest)
 
 abbrev pub data_code : Coded Data
 data_code =
-    code_by (List Mark) (coded_list (coded× coded_ℕ (coded× coded_ℤ (coded_list coded_ℕ)))) (λ d. marks_onto d []) (λ ms. first (values_of ms)) (λ d. ap first (marks_back d []))
+    code_by (List Mark) (coded_list (coded× coded_ℕ (coded× coded_ℤ (coded_list coded_ℕ))))
+    (λ d. marks_onto d []) (λ ms. first (values_of ms)) (λ d. ap first (marks_back d []))
 
 abbrev pub entry_code : Coded Entry
 entry_code = coded× (coded_list coded_ℕ) data_code

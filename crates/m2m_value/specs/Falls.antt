@@ -2,19 +2,25 @@
 use Rattle.std.specs.Prelude.{◌+◌, ◌*◌, ◌≤◌, max, List, [], ◌∷◌}
 use Rattle.std.proofs.Common.{arith}
 use denote.Param.Weighed.{most}
-use Rattle.m2m_value.specs.Data.{Data, Entry, depth, elements_of, elements_depth, pairs_of, pairs_depth}
+use Rattle.m2m_value.specs.Data.{Data, Entry, depth, elements_of, elements_depth, pairs_of}
+use Rattle.m2m_value.specs.Data.{pairs_depth}
 use Rattle.m2m_value.specs.Node.{data_of}
 use Rattle.m2m_value.specs.declared.value.Node.{Node}
-use Rattle.m2m_value.specs.declared.value.Node.TheVariants.{Null, Bool, Num, Text, List as ListNode, Obj}
+use Rattle.m2m_value.specs.declared.value.Node.TheVariants.{Null, Bool, Num, Text, List as ListNode}
+use Rattle.m2m_value.specs.declared.value.Node.TheVariants.{Obj}
 use Rattle.m2m_value.specs.declared.value.Items.TheDeep.{deep-Node, deep-Members}
 use Rattle.m2m_value.specs.declared.value.Items.TheShapes.{weighed-Members-entries-at-2}
 use Rattle.m2m_value.specs.declared.value.Members.TheInside.{Inside}
 
-pub elements_fall : (ds : List Data) → most (λ d. 2 * depth d + 1) ds ≤ 2 * elements_depth (elements_of ds) + 1
+pub elements_fall : (ds : List Data) →
+    most (λ d. 2 * depth d + 1) ds ≤ 2 * elements_depth (elements_of ds) + 1
 elements_fall [] = omega arith
 elements_fall (d ∷ ds) = omega (arith, elements_fall ds)
 
-members_fall_in : (es : List Entry) → max (most {X = Entry} (λ e. weighed-Members-entries-at-2.weight Data (λ d. 2 * depth d + 1) e) es) 0 ≤ 2 * pairs_depth (pairs_of es) + 1
+members_fall_in : (es : List Entry) →
+    max (most {X = Entry}
+    (λ e. weighed-Members-entries-at-2.weight Data
+    (λ d. 2 * depth d + 1) e) es) 0 ≤ 2 * pairs_depth (pairs_of es) + 1
 members_fall_in [] = omega arith
 members_fall_in (e ∷ es) = omega (arith, members_fall_in es)
 

@@ -3,6 +3,8 @@ pub mod Code
 pub mod Node
 pub mod Falls
 pub mod View
+pub mod Same
+pub mod Shapes
 pub mod Spelling
 pub mod Sound
 pub mod Reading

@@ -5,9 +5,11 @@ use Rattle.std.specs.List.{AllByRecursion}
 use Rattle.std.specs.List.Sorted.{IsStrictlySortedBy}
 use Rattle.std.specs.Map.{keys_of}
 use Rattle.std.specs.Ordering.{nat_cmp}
-use Rattle.m2m_value.specs.Data.{Data, null, boolean, number, text, list, object, Entry, elements_of, pairs_of}
+use Rattle.m2m_value.specs.Data.{Data, null, boolean, number, text, list, object, Entry}
+use Rattle.m2m_value.specs.Data.{elements_of, pairs_of}
 use Rattle.m2m_value.specs.declared.value.Node.{Node}
-use Rattle.m2m_value.specs.declared.value.Node.TheVariants.{Null, Bool, Num, Text, List as ListNode, Obj}
+use Rattle.m2m_value.specs.declared.value.Node.TheVariants.{Null, Bool, Num, Text, List as ListNode}
+use Rattle.m2m_value.specs.declared.value.Node.TheVariants.{Obj}
 
 -- the data of a value, from its top
 abbrev pub data_of : Node → Data

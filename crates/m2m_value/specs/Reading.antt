@@ -1,14 +1,18 @@
 -- The value that bytes spell, over the values that `serde_json` keeps.
-use Rattle.std.specs.Prelude.{◌≡◌, ℕ, ◌^◌, ◌⊎◌, ℤ, pos, List, nat_lt, if◌then◌else◌, Option, Some, None, Result, Ok, Err}
+use Rattle.std.specs.Prelude.{◌≡◌, ℕ, ◌^◌, ◌⊎◌, ℤ, pos, List, nat_lt, if◌then◌else◌, Option, Some}
+use Rattle.std.specs.Prelude.{None, Result, Ok, Err}
 use Rattle.std.specs.Str.{is_utf8}
 use Rattle.serde_json.specs.Data as json
 use Rattle.serde_json.specs.Read.{read}
-use Rattle.m2m_value.specs.Data.{Data, null, boolean, number, text, list, object, Elements, no_elements, element, Pairs, no_pairs, pair}
+use Rattle.m2m_value.specs.Data.{Data, null, boolean, number, text, list, object, Elements}
+use Rattle.m2m_value.specs.Data.{no_elements, element, Pairs, no_pairs, pair}
 use Rattle.m2m_value.specs.declared.fault.ValFault.{ValFault}
-use Rattle.m2m_value.specs.declared.fault.ValFault.TheVariants.{NotJson, TooWide, Fraction, OutOfMemory}
+use Rattle.m2m_value.specs.declared.fault.ValFault.TheVariants.{NotJson, TooWide, Fraction}
+use Rattle.m2m_value.specs.declared.fault.ValFault.TheVariants.{OutOfMemory}
 
 -- what comes of the first, or its fault
-abbrev pub followed : {A B : Type 0} → Result A ValFault → (A → Result B ValFault) → Result B ValFault
+abbrev pub followed : {A B : Type 0} → Result A ValFault → (A → Result B ValFault) →
+    Result B ValFault
 followed (Ok a) next = next a
 followed (Err fault) next = Err fault
 
@@ -18,7 +22,8 @@ whole_of (json.unsigned n) = if nat_lt n (2 ^ 63) then Ok (pos n) else Err TooWi
 whole_of (json.negative z) = Ok z
 whole_of (json.float x) = Err Fraction
 
--- the value, or the fault of its first number that has one: lists in order, members in the order of their keys
+-- the value, or the fault of its first number that has one: lists in order, members in the order of
+-- their keys
 abbrev mutual
   pub value_of : json.Data → Result Data ValFault
   value_of json.null = Ok null
@@ -30,11 +35,13 @@ abbrev mutual
 
   pub elements_in : json.Items → Result Elements ValFault
   elements_in json.no_items = Ok no_elements
-  elements_in (json.item d ds) = followed (value_of d) (λ e. followed (elements_in ds) (λ es. Ok (element e es)))
+  elements_in (json.item d ds) =
+      followed (value_of d) (λ e. followed (elements_in ds) (λ es. Ok (element e es)))
 
   pub pairs_in : json.Members → Result Pairs ValFault
   pairs_in json.no_members = Ok no_pairs
-  pairs_in (json.member k d ms) = followed (value_of d) (λ e. followed (pairs_in ms) (λ ps. Ok (pair k e ps)))
+  pairs_in (json.member k d ms) =
+      followed (value_of d) (λ e. followed (pairs_in ms) (λ ps. Ok (pair k e ps)))
 
 -- of what was read, if anything was
 abbrev pub value_if : Option json.Data → Result Data ValFault
@@ -46,6 +53,6 @@ abbrev pub reading : List ℕ → Result Data ValFault
 reading bytes = value_if (if is_utf8 bytes then read bytes else None)
 
 -- the answer is the one that is told, unless memory ran out
-abbrev pub Answers : {A B : Type 0} → (A → B) → Result A ValFault → Result B ValFault → Type 0
-Answers seen (Ok a) told = told ≡ Ok (seen a)
-Answers seen (Err fault) told = (fault ≡ OutOfMemory) ⊎ (told ≡ Err fault)
+abbrev pub Gives : {A B : Type 0} → (A → B) → Result A ValFault → Result B ValFault → Type 0
+Gives seen (Ok a) told = told ≡ Ok (seen a)
+Gives seen (Err fault) told = (fault ≡ OutOfMemory) ⊎ (told ≡ Err fault)

@@ -4,7 +4,8 @@ use Rattle.std.specs.Cmp.Lexicographic.{slice_cmp}
 use Rattle.std.specs.List.{AllByRecursion}
 use Rattle.std.specs.List.Sorted.{IsStrictlySortedBy}
 use Rattle.std.specs.Ordering.{nat_cmp}
-use Rattle.m2m_value.specs.Data.{Data, null, boolean, number, text, list, object, Elements, no_elements, element, Pairs, no_pairs, pair}
+use Rattle.m2m_value.specs.Data.{Data, null, boolean, number, text, list, object, Elements}
+use Rattle.m2m_value.specs.Data.{no_elements, element, Pairs, no_pairs, pair}
 use lib.Signed.{mag}
 
 -- the keys, in order
@@ -12,7 +13,8 @@ abbrev pub pair_keys : Pairs → List (List ℕ)
 pair_keys no_pairs = []
 pair_keys (pair k d ps) = k ∷ pair_keys ps
 
--- numbers have 64 bits, texts and keys are UTF-8, and an object's keys are distinct and in the order of their bytes
+-- numbers have 64 bits, texts and keys are UTF-8, and an object's keys are distinct and in the
+-- order of their bytes
 abbrev mutual
   pub IsSound : Data → Type 0
   IsSound null = ⊤
@@ -20,7 +22,8 @@ abbrev mutual
   IsSound (number z) = mag z < 2 ^ 63
   IsSound (text s) = IsUtf8 s
   IsSound (list es) = AreSound es
-  IsSound (object ps) = IsStrictlySortedBy (slice_cmp nat_cmp) (pair_keys ps) × AllByRecursion IsUtf8 (pair_keys ps) × HaveSound ps
+  IsSound (object ps) = IsStrictlySortedBy (slice_cmp nat_cmp) (pair_keys ps)
+      × AllByRecursion IsUtf8 (pair_keys ps) × HaveSound ps
 
   pub AreSound : Elements → Type 0
   AreSound no_elements = ⊤

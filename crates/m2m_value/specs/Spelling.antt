@@ -1,9 +1,12 @@
 -- The text of a value: compact JSON (RFC 8259), with no blank outside of texts.
-use Rattle.std.specs.Prelude.{ℕ, ◌+◌, ◌-◌, ◌^◌, min, ◌/◌, ◌%◌, ◌==◌, nat_lt, List, [], ◌∷◌, ◌++◌, length, flat_map, Bool, true, false, if◌then◌else◌, Option, Some, None, codes}
+use Rattle.std.specs.Prelude.{ℕ, ◌+◌, ◌-◌, ◌^◌, min, ◌/◌, ◌%◌, ◌==◌, nat_lt, List, [], ◌∷◌, ◌++◌}
+use Rattle.std.specs.Prelude.{length, flat_map, Bool, true, false, if◌then◌else◌, Option, Some}
+use Rattle.std.specs.Prelude.{None, codes}
 use Rattle.std.specs.Char.{digit_char}
 use Rattle.std.specs.Fmt.{signed_decimal}
 use Rattle.std.specs.Map.{lookup}
-use Rattle.m2m_value.specs.Data.{Data, null, boolean, number, text, list, object, Elements, no_elements, element, Pairs, no_pairs, pair}
+use Rattle.m2m_value.specs.Data.{Data, null, boolean, number, text, list, object, Elements}
+use Rattle.m2m_value.specs.Data.{no_elements, element, Pairs, no_pairs, pair}
 
 -- the bytes that have a short escape, each with the letter after its backslash (section 7)
 abbrev pub short_escapes : List (ℕ × ℕ)
@@ -17,7 +20,8 @@ short_escape byte = lookup (λ b. byte == b) short_escapes
 abbrev pub long_escape : ℕ → List ℕ
 long_escape byte = codes "\\u00" ++ digit_char (byte / 16) ∷ digit_char (byte % 16) ∷ []
 
--- what stands for a byte, given its letter: only control characters need an escape beyond the short ones
+-- what stands for a byte, given its letter: only control characters need an escape beyond the short
+-- ones
 abbrev pub escaped_by : Option ℕ → ℕ → List ℕ
 escaped_by (Some letter) byte = 92 ∷ letter ∷ []
 escaped_by None byte = if nat_lt byte 32 then long_escape byte else byte ∷ []
@@ -57,9 +61,11 @@ abbrev mutual
   -- of members, the first of which stands at a place
   pub pairs_from : Pairs → ℕ → List ℕ
   pairs_from no_pairs place = []
-  pairs_from (pair k d ps) place = comma_at place ++ (quoted k ++ 58 ∷ (text_of d ++ pairs_from ps (place + 1)))
+  pairs_from (pair k d ps) place = comma_at place
+      ++ (quoted k ++ 58 ∷ (text_of d ++ pairs_from ps (place + 1)))
 
--- the bytes that count for a value: of a text those that it has, of any other value those of its text
+-- the bytes that count for a value: of a text those that it has, of any other value those of its
+-- text
 abbrev pub size_of : Data → ℕ
 size_of null = length (text_of null)
 size_of (boolean b) = length (text_of (boolean b))

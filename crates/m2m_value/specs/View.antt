@@ -1,10 +1,12 @@
 -- Looking at a value, and into an object.
-use Rattle.std.specs.Prelude.{◌≡◌, ℕ, ◌<◌, ◌≤◌, ℤ, List, [], ◌∷◌, length, slice_index_or, Bool, bytes_eq, Option, Some, None}
+use Rattle.std.specs.Prelude.{◌≡◌, ℕ, ◌<◌, ◌≤◌, ℤ, List, [], ◌∷◌, length, slice_index_or, Bool}
+use Rattle.std.specs.Prelude.{bytes_eq, Option, Some, None}
 use Rattle.std.specs.Cmp.Lexicographic.{slice_cmp}
 use Rattle.std.specs.Ordering.{nat_cmp}
 use Rattle.std.specs.declared.cmp.Ordering.TheVariants.{Less, Equal, Greater}
 use Rattle.std.specs.Map.{lookup}
-use Rattle.m2m_value.specs.Data.{Data, null, boolean, number, text, list, object, Elements, no_elements, element, Pairs, no_pairs, pair, Entry}
+use Rattle.m2m_value.specs.Data.{Data, null, boolean, number, text, list, object, Elements}
+use Rattle.m2m_value.specs.Data.{no_elements, element, Pairs, no_pairs, pair, Entry}
 
 -- the elements of a list, as a list of them
 abbrev pub elements : Elements → List Data
@@ -63,10 +65,13 @@ member_of key es = lookup (bytes_eq key) es
 
 -- the entry at a place has the key
 abbrev pub IsPlaceOf : List ℕ → List Entry → ℕ → Type 0
-IsPlaceOf key es place = (place < length es) × ((d : Entry) → slice_cmp nat_cmp (slice_index_or es place d).0 key ≡ Equal)
+IsPlaceOf key es place = (place < length es)
+    × ((d : Entry) → slice_cmp nat_cmp (slice_index_or es place d).0 key ≡ Equal)
 
 -- the key would go at a place: smaller keys stand before it, and greater keys from it on
 pub record IsGapFor (key : List ℕ) (es : List Entry) (place : ℕ) : Type 0 where
   pub within : place ≤ length es
-  pub below : (k : ℕ) (d : Entry) → k < place → slice_cmp nat_cmp (slice_index_or es k d).0 key ≡ Less
-  pub above : (k : ℕ) (d : Entry) → place ≤ k → k < length es → slice_cmp nat_cmp (slice_index_or es k d).0 key ≡ Greater
+  pub below : (k : ℕ) (d : Entry) → k < place →
+      slice_cmp nat_cmp (slice_index_or es k d).0 key ≡ Less
+  pub above : (k : ℕ) (d : Entry) → place ≤ k → k < length es →
+      slice_cmp nat_cmp (slice_index_or es k d).0 key ≡ Greater

@@ -1,4 +1,5 @@
-// Copies, written out since a derived clone of a type that holds itself says nothing of the result.
+//! Copies, written out since a derived clone of a type that holds itself says nothing of the
+//! result.
 ghost use Rattle.std.specs.Prelude.{◌≡◌, IfOk};
 
 use crate::text::Text;

@@ -1,4 +1,4 @@
-// Why bytes were not read.
+//! Why bytes were not read.
 ghost use Rattle.std.specs.Prelude.{◌≡◌};
 ghost use Rattle.m2m_value.specs.declared.fault.ValFault.TheVariants.{OutOfMemory};
 

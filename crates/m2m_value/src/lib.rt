@@ -20,6 +20,8 @@
 mod copy;
 mod fault;
 mod reading;
+mod same;
+mod shapes;
 mod size;
 #[cfg(test)]
 mod tests;
@@ -29,7 +31,8 @@ mod writing;
 
 pub use fault::ValFault;
 pub use reading::read;
+pub use shapes::count_of;
 pub use std::alloc::AllocError as OutOfMemory;
-pub use text::{Numbers, Text};
+pub use text::{Labels, Numbers, Text};
 pub use value::{Items, Members, Node, Val};
 pub use writing::write;

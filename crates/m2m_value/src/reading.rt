@@ -1,9 +1,10 @@
-// From bytes to a value, over what `serde_json` keeps.
+//! From bytes to a value, over what `serde_json` keeps.
 ghost use Rattle.std.specs.Prelude.{◌≡◌, ◌≤◌, IfOk, IsUtf8, string_bytes};
 ghost use Rattle.serde_json.specs.View.{view, number_view, items_view, members_view};
 ghost use Rattle.m2m_value.specs.Data.{depth, elements_of, pairs_of};
 ghost use Rattle.m2m_value.specs.Node.{HaveTextKeys};
-ghost use Rattle.m2m_value.specs.Reading.{whole_of, value_of, elements_in, pairs_in, reading, Answers};
+ghost use Rattle.m2m_value.specs.Reading.{whole_of, value_of, elements_in, pairs_in, reading};
+ghost use Rattle.m2m_value.specs.Reading.{Gives};
 
 use crate::fault::ValFault;
 use crate::text::Text;
@@ -14,7 +15,7 @@ use std::alloc::Global;
 /// The value that the bytes spell, at most 127 deep. Of members with one key the last stays. Of
 /// faults in numbers the first is told: lists in order, members in the order of their keys.
 pub fn read(alloc: Global, bytes: &[u8]) -> Result<Val, ValFault>
-    ensures value { Answers (λ v. v) result (reading bytes.now) }
+    ensures value { Gives (λ v. v) result (reading bytes.now) }
     ensures nests { IfOk result (λ v. depth v ≤ 127) }
 {
     match Value::from_slice(alloc, bytes) {
@@ -26,7 +27,7 @@ pub fn read(alloc: Global, bytes: &[u8]) -> Result<Val, ValFault>
 
 #[cycle(kept)]
 fn kept(alloc: Global, value: Value) -> Result<Val, ValFault>
-    ensures { Answers (λ v. v) result (value_of (view value)) }
+    ensures { Gives (λ v. v) result (value_of (view value)) }
 {
     match value {
         Value::Null => Ok(Val::of(Node::Null)),
@@ -39,7 +40,7 @@ fn kept(alloc: Global, value: Value) -> Result<Val, ValFault>
 }
 
 fn whole(n: Number) -> Result<i64, ValFault>
-    ensures { Answers (λ z. z) result (whole_of (number_view n)) }
+    ensures { Gives (λ z. z) result (whole_of (number_view n)) }
 {
     match n.as_i64() {
         Some(z) => Ok(z),
@@ -57,7 +58,7 @@ fn text(s: String) -> Text
 
 #[cycle(kept)]
 fn kept_items(alloc: Global, items: Vec<Value>) -> Result<Items, ValFault>
-    ensures { Answers elements_of result (elements_in (items_view items.items)) }
+    ensures { Gives elements_of result (elements_in (items_view items.items)) }
 {
     let mut values = Vec::with_capacity(alloc, items.len())?;
     for item in items {
@@ -68,7 +69,7 @@ fn kept_items(alloc: Global, items: Vec<Value>) -> Result<Items, ValFault>
 
 #[cycle(kept)]
 fn kept_members(alloc: Global, members: Map<String, Value>) -> Result<Members, ValFault>
-    ensures value { Answers pairs_of result (pairs_in (members_view members.entries)) }
+    ensures value { Gives pairs_of result (pairs_in (members_view members.entries)) }
     ensures texts { IfOk result HaveTextKeys }
 {
     let mut entries = Vec::with_capacity(alloc, members.len())?;

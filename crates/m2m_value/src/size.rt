@@ -1,8 +1,9 @@
-// The length of a value's text, which is not built for it.
+//! The length of a value's text, which is not built for it.
 ghost use Rattle.std.specs.Prelude.{◌≡◌, ◌+◌, ◌≤◌, length};
 ghost use Rattle.std.specs.Fmt.{decimal, signed_decimal};
 ghost use Rattle.m2m_value.specs.Data.{elements_of, pairs_of};
-ghost use Rattle.m2m_value.specs.Spelling.{escaped, quoted, comma_at, text_of, elements_from, pairs_from, size_of, capped};
+ghost use Rattle.m2m_value.specs.Spelling.{escaped, quoted, comma_at, text_of, elements_from};
+ghost use Rattle.m2m_value.specs.Spelling.{pairs_from, size_of, capped};
 
 use crate::text::Text;
 use crate::value::{Items, Members, Node, Val};
@@ -62,7 +63,7 @@ fn members_len(members: &Members) -> u64
     len
 }
 
-// With the colon.
+/// With the colon.
 #[cycle(text_len)]
 fn member_len(key: &Text, value: &Val) -> u64
     ensures { result ≡ capped (length (quoted key.now) + 1 + length (text_of value.now)) }

@@ -1,4 +1,4 @@
-// Lists of bytes and of numbers, which clauses see as the lists themselves.
+//! Lists of bytes, of numbers and of texts, which clauses see as the lists themselves.
 ghost use Rattle.std.specs.Prelude.{◌≡◌, IfOk, nat_eq};
 ghost use Rattle.std.specs.Cmp.Rules.{comparing};
 ghost use Rattle.std.specs.Cmp.Lexicographic.{pointwise};
@@ -29,12 +29,21 @@ impl Text {
         Text { bytes }
     }
 
+    /// A text of these bytes.
+    pub fn from_slice(alloc: Global, bytes: &[u8]) -> Result<Text, OutOfMemory>
+        ensures { IfOk result (λ t. t ≡ bytes.now) }
+    {
+        Ok(Text::of(Vec::from_slice(alloc, bytes)?))
+    }
+
+    /// Its bytes; nothing is copied.
     pub fn into_vec(self) -> Vec<u8>
         ensures { result.items ≡ self }
     {
         self.bytes
     }
 
+    /// Its bytes.
     pub fn entries(&self) -> &[u8]
         ensures { result.now ≡ self.now }
     {
@@ -45,7 +54,7 @@ impl Text {
     pub fn copy(&self, alloc: Global) -> Result<Text, OutOfMemory>
         ensures { IfOk result (λ t. t ≡ self.now) }
     {
-        Ok(Text::of(Vec::from_slice(alloc, &self.bytes)?))
+        Text::from_slice(alloc, &self.bytes)
     }
 }
 
@@ -71,16 +80,67 @@ impl Numbers {
         Numbers { numbers }
     }
 
+    /// Its numbers; nothing is copied.
     pub fn into_vec(self) -> Vec<u64>
         ensures { result.items ≡ self }
     {
         self.numbers
     }
 
+    /// Its numbers.
     pub fn entries(&self) -> &[u64]
         ensures { result.now ≡ self.now }
     {
         &self.numbers
+    }
+}
+
+/// A list of texts, such as labels or the segments of an address. Clauses see it as the list of
+/// their bytes.
+#[derive(Debug, Drop)]
+pub struct Labels {
+    texts: Vec<Text>,
+}
+
+impl Model for Labels {
+    ghost use Rattle.std.specs.Prelude.{List, ℕ};
+
+    ghost Value = { List (List ℕ) };
+
+    ghost view = { λ l. l.texts.items };
+}
+
+impl Labels {
+    /// Takes no memory.
+    pub fn of(texts: Vec<Text>) -> Labels
+        ensures { result ≡ texts.items }
+    {
+        Labels { texts }
+    }
+
+    /// Its texts; nothing is copied.
+    pub fn into_vec(self) -> Vec<Text>
+        ensures { result.items ≡ self }
+    {
+        self.texts
+    }
+
+    /// Its texts.
+    pub fn entries(&self) -> &[Text]
+        ensures { result.now ≡ self.now }
+    {
+        &self.texts
+    }
+
+    /// An equal list.
+    pub fn copy(&self, alloc: Global) -> Result<Labels, OutOfMemory>
+        ensures { IfOk result (λ l. l ≡ self.now) }
+    {
+        let mut texts = Vec::with_capacity(alloc, self.texts.len())?;
+        for text in &self.texts {
+            texts.push(text.copy(alloc)?)?;
+        }
+        Ok(Labels::of(texts))
     }
 }
 
@@ -109,5 +169,19 @@ impl PartialEq for Numbers {
 }
 
 impl Eq for Numbers {
+    ghost laws = { Prim.search (comparing, rules) };
+}
+
+impl PartialEq for Labels {
+    ghost eq = { pointwise (pointwise nat_eq) };
+
+    ghost laws = { Prim.search (comparing, rules) };
+
+    fn eq(&self, other: &Labels) -> bool {
+        self.texts == other.texts
+    }
+}
+
+impl Eq for Labels {
     ghost laws = { Prim.search (comparing, rules) };
 }

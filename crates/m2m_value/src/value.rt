@@ -1,4 +1,4 @@
-// JSON values, and how they are made and taken apart.
+//! JSON values, and how they are made and taken apart.
 ghost use Rattle.std.specs.Prelude.{◌≡◌};
 ghost use Rattle.std.specs.Cmp.Lexicographic.{slice_cmp};
 ghost use Rattle.std.specs.Ordering.{nat_cmp};
@@ -7,6 +7,7 @@ use crate::text::Text;
 use std::alloc::{AllocError as OutOfMemory, Global};
 use std::cmp::Ordering;
 use std::marker::Model;
+use std::mem;
 
 /// A JSON value (RFC 8259) whose numbers are whole and have 64 bits with their sign. Its texts and
 /// keys are UTF-8. Clauses see it as `Data`.
@@ -258,10 +259,13 @@ impl Items {
 }
 
 impl Members {
-    ghost use Rattle.std.specs.Prelude.{◌≡◌, [], IfOk, IfErr, OnOk, OnErr, IsUtf8, option_map};
+    ghost use Rattle.std.specs.Prelude.{OnSome, IfNone};
+    ghost use Rattle.std.specs.Prelude.{◌≡◌, [], IfOk, IfErr, IsOk, IsSome, OnOk, OnErr, IsUtf8};
+    ghost use Rattle.std.specs.Prelude.{option_map};
     ghost use Rattle.std.specs.BTreeMap.{insert_entry};
     ghost use Rattle.std.specs.Cmp.Lexicographic.{slice_cmp};
     ghost use Rattle.std.specs.Ordering.{nat_cmp};
+    ghost use Rattle.m2m_value.specs.Data.{null};
     ghost use Rattle.m2m_value.specs.Node.{AreSorted, HaveTextKeys};
     ghost use Rattle.m2m_value.specs.View.{member_of, IsPlaceOf, IsGapFor};
 
@@ -307,8 +311,9 @@ impl Members {
     }
 
     /// Puts the value at the key, in place of the one that is there, if any. The entries behind a
-    /// new key move up by one.
+    /// new key move up by one. It takes memory only where the key is new.
     pub fn put(&mut self, key: Text, value: Val) -> Result<(), OutOfMemory>
+        ensures succeeds { IsSome (member_of key self.old) → IsOk result }
         ensures ok { OnOk result
             (self.new ≡ insert_entry (slice_cmp nat_cmp) self.old key value) }
         ensures err { OnErr result (self.new ≡ self.old) }
@@ -324,7 +329,21 @@ impl Members {
         }
     }
 
-    // Where the key is, or where it would go.
+    /// Takes the value at the key away, if there is one, and leaves null in its place. Nothing is
+    /// copied, and no entry moves.
+    pub fn take(&mut self, key: &[u8]) -> Option<Val>
+        ensures value { result ≡ member_of key.now self.old }
+        ensures taken { OnSome result
+            (self.new ≡ insert_entry (slice_cmp nat_cmp) self.old key.now null) }
+        ensures absent { IfNone result (self.new ≡ self.old) }
+    {
+        match self.place_of(key) {
+            Ok(place) => Some(mem::replace(&mut self.entries[place].1, Val::null())),
+            Err(_) => None,
+        }
+    }
+
+    /// Where the key is, or where it would go.
     fn place_of(&self, key: &[u8]) -> Result<usize, usize>
         ensures found { IfOk result (IsPlaceOf key.now self.now) }
         ensures absent { IfErr result (IsGapFor key.now self.now) }
@@ -334,7 +353,7 @@ impl Members {
     }
 }
 
-// How the entry's key and the key stand in the order of bytes.
+/// How the entry's key and the key stand in the order of bytes.
 fn key_order(entry: &(Text, Val), key: &[u8]) -> Ordering
     ensures { result ≡ slice_cmp nat_cmp entry.now.0 key.now }
 {

@@ -1,4 +1,4 @@
-// From a value to its text.
+//! From a value to its text.
 ghost use Rattle.std.specs.Prelude.{◌≡◌, ◌<◌, ◌≤◌, ◌++◌, ◌∷◌, [], OnOk, OnErr};
 ghost use Rattle.std.specs.Char.{digit_char};
 ghost use Rattle.std.specs.Fmt.{decimal, signed_decimal};
@@ -6,7 +6,8 @@ ghost use Rattle.m2m_value.specs.Data.{depth, elements_of, pairs_of};
 ghost use Rattle.m2m_value.specs.Node.{AreSorted};
 ghost use Rattle.m2m_value.specs.Reading.{reading};
 ghost use Rattle.m2m_value.specs.Sound.{IsSound, AreSound, HaveSound, BeginsWith};
-ghost use Rattle.m2m_value.specs.Spelling.{short_escape, escaped, quoted, comma_at, text_of, elements_from, pairs_from};
+ghost use Rattle.m2m_value.specs.Spelling.{short_escape, escaped, quoted, comma_at, text_of};
+ghost use Rattle.m2m_value.specs.Spelling.{elements_from, pairs_from};
 
 use crate::text::Text;
 use crate::value::{Items, Members, Node, Val};
@@ -154,7 +155,7 @@ fn write_byte(byte: u8, out: &mut Vec<u8>) -> Result<(), OutOfMemory>
     }
 }
 
-// The letter after the backslash, where the byte has a short escape.
+/// The letter after the backslash, where the byte has a short escape.
 pub(crate) fn short_escape(byte: u8) -> Option<u8>
     ensures { result ≡ short_escape byte }
 {

@@ -11,8 +11,8 @@ use Rattle.m2m_names.specs.declared.attributes.Attr.TheVariants.{Mia, Pv}
 use Rattle.m2m_names.specs.declared.types.Ty.{Ty}
 use Rattle.m2m_names.specs.declared.types.Ty.TheVariants.{Ae, Container, ContentInstance, CseBase, RemoteCse}
 use Rattle.m2m_value.specs.Data.{Data}
-use Rattle.m2m_value.specs.View.{as_number}
-use Rattle.resource_model.specs.Attributes.{count_of, value_of}
+use Rattle.m2m_value.specs.Shapes.{as_count}
+use Rattle.resource_model.specs.Attributes.{value_of}
 use Rattle.resource_model.specs.Home.{HomeData}
 use Rattle.resource_model.specs.Resource.{ResourceData, is_ty, has_number}
 use Rattle.tree_model.specs.Tree.{at, due, due_under, lesser, is_due, live, are_below, fits, fits_in, is_taken, is_well_formed}
@@ -146,7 +146,7 @@ module _ (home : HomeData) (nodes : List ResourceData) (o : List ℕ) (r p : Res
 
 -- the end of an instance by its own expiry, its creation and the greatest age
 abbrev pub end_of : ℕ → ℕ → Option Data → ℕ
-end_of et ct age = lesser et (option_map (λ n. ct + n) (option_and_then count_of (option_and_then as_number age)))
+end_of et ct age = lesser et (option_map (λ n. ct + n) (option_and_then as_count age))
 
 pub due_instance : (p s : ResourceData) → is_ty s.ty ContentInstance ≡ true → due_under (Some p) s ≡ Some (end_of s.et s.ct (value_of Mia p.attrs))
 due_instance p s instance = rw (number_of s.ty ContentInstance instance) refl

@@ -11,3 +11,4 @@ pub mod TwiceLemmas
 pub mod LookupLemmas
 pub mod AppendLemmas
 pub mod ReplaceLemmas
+pub mod ShapeLemmas

@@ -68,7 +68,7 @@ joined_option : {X : Type 0} (f : X → Option X) (x y : Option X) (xs : List X)
 joined_option f None y xs e = rw (sym e) refl
 joined_option f (Some x) y xs e = rw (sym e) refl
 
-twice_filtered : {X : Type 0} (f g h : X → Option X) → ((x : X) → option_and_then f (g x) ≡ h x) → (xs : List X) → filter_map f (filter_map g xs) ≡ filter_map h xs
+pub twice_filtered : {X : Type 0} (f g h : X → Option X) → ((x : X) → option_and_then f (g x) ≡ h x) → (xs : List X) → filter_map f (filter_map g xs) ≡ filter_map h xs
 twice_filtered f g h same [] = refl
 twice_filtered f g h same (x ∷ xs) = joined_option f (g x) (h x) (filter_map g xs) (same x) ∙ ap (cons_option (h x)) (twice_filtered f g h same xs)
 
@@ -84,7 +84,7 @@ points_twice d = by_first (first_url (Some d)) (first_passes d)
     by_first None passes = refl
     by_first (Some u) passes = ap (option_map only_point) (one_point u (passes u refl))
 
-owner_twice : (home : HomeData) (o : List ℕ) (r : ResourceData) → cond (is_same home o (seen_owner home o r)) o (another o) ≡ seen_owner home o r
+pub owner_twice : (home : HomeData) (o : List ℕ) (r : ResourceData) → cond (is_same home o (seen_owner home o r)) o (another o) ≡ seen_owner home o r
 owner_twice home o r = ap (λ b. cond b o (another o)) (owner_seen home o r)
 
 -- what is seen of a value, by whether it is shown, lists rules, or is a way
@@ -92,7 +92,7 @@ abbrev pub value_by : HomeData → List ℕ → Bool → Bool → Bool → Data 
 value_by home o shows rules way d =
     cond shows (Some d) (cond rules (Some (seen_rules home o d)) (cond way (seen_points d) None))
 
-value_twice : (home : HomeData) (o : List ℕ) (less more rules way : Bool) (d : Data) → (less ≡ true → more ≡ true) → option_and_then (value_by home o less rules way) (value_by home o more rules way d) ≡ value_by home o less rules way d
+pub value_twice : (home : HomeData) (o : List ℕ) (less more rules way : Bool) (d : Data) → (less ≡ true → more ≡ true) → option_and_then (value_by home o less rules way) (value_by home o more rules way d) ≡ value_by home o less rules way d
 value_twice home o less true rules way d kept = refl
 value_twice home o true false rules way d kept = absurd (both_ways false refl (kept refl))
 value_twice home o false false true way d kept = ap (λ x. Some x) (rules_twice home o d)

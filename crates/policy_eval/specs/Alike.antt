@@ -41,9 +41,11 @@ pub record Alike (home : HomeData) (o : List ℕ) (s r : ResourceData) : Type 0 
   pub owned : is_same home o s.owner ≡ is_same home o r.owner
   pub shape : Agree (shape_attrs r.ty) s r
   pub pv : is_ty r.ty AccessControlPolicy ≡ true →
-      bits_by home o (rules_in (value_of Pv s.attrs)) ≡ bits_by home o (rules_in (value_of Pv r.attrs))
+      bits_by home o (rules_in (value_of Pv s.attrs))
+      ≡ bits_by home o (rules_in (value_of Pv r.attrs))
   pub pvs : is_ty r.ty AccessControlPolicy ≡ true →
-      bits_by home o (rules_in (value_of Pvs s.attrs)) ≡ bits_by home o (rules_in (value_of Pvs r.attrs))
+      bits_by home o (rules_in (value_of Pvs s.attrs))
+      ≡ bits_by home o (rules_in (value_of Pvs r.attrs))
 
 -- two lists are alike, place by place
 abbrev pub AreAlike : HomeData → List ℕ → List ResourceData → List ResourceData → Type 0

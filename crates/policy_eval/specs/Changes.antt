@@ -1,5 +1,7 @@
--- What a change of a list has to leave alone, so that an originator still sees the same of two lists.
-use Rattle.std.specs.Prelude.{◌≡◌, ℕ, Bool, true, false, ◌&&◌, ◌||◌, List, [], ◌∷◌, map, Option, Some, None, option_and_then, unwrap_or}
+-- What a change of a list has to leave alone, so that an originator still sees the same of two
+-- lists.
+use Rattle.std.specs.Prelude.{◌≡◌, ℕ, Bool, true, false, ◌&&◌, ◌||◌, List, [], ◌∷◌, map, Option}
+use Rattle.std.specs.Prelude.{Some, None, option_and_then, unwrap_or}
 use Rattle.std.specs.List.{list_any}
 use Rattle.std.specs.Option.{option_map_or}
 use Rattle.m2m_names.specs.declared.attributes.Attr.{Attr}
@@ -61,8 +63,9 @@ changed changes lt et r = record r {
   et = unwrap_or et r.et;
 }
 
--- an attribute of a resource of the type says by which rules somebody is judged, there or elsewhere,
--- but for a fan-out: which policies hold for it, a policy's rules, and whose a polling channel is
+-- an attribute of a resource of the type says by which rules somebody is judged, there or
+-- elsewhere, but for a fan-out: which policies hold for it, a policy's rules, and whose a polling
+-- channel is
 abbrev pub does_judge : Ty → Attr → Bool
 does_judge ty a = is_one_of (Acpi ∷ Pv ∷ Pvs ∷ id_attrs ty) a
 
@@ -76,13 +79,14 @@ abbrev pub do_reach : List NewValue → Bool
 do_reach changes = list_any (λ c. is_one_of (Mia ∷ Macp ∷ []) c.0) changes
 
 -- what the originator sees of changes of a resource
-abbrev pub seen_changes : HomeData → List ResourceData → List ℕ → ResourceData → List NewValue → List NewValue
+abbrev pub seen_changes : HomeData → List ResourceData → List ℕ → ResourceData → List NewValue →
+    List NewValue
 seen_changes home nodes o r changes =
     map (λ c. (c.0, option_and_then (seen_value home nodes o r c.0) c.1)) changes
 
--- the changes of the resource show the originator nothing but themselves: it is no content instance,
--- no change is of an attribute by which somebody is judged, and one by which something else is seen
--- is made with UPDATE
+-- the changes of the resource show the originator nothing but themselves: it is no content
+-- instance, no change is of an attribute by which somebody is judged, and one by which something
+-- else is seen is made with UPDATE
 pub record ShowNoMore (home : HomeData) (nodes : List ResourceData) (o : List ℕ)
     (r : ResourceData) (changes : List NewValue) : Type 0 where
   pub other : is_ty r.ty ContentInstance ≡ false

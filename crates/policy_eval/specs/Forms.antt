@@ -10,4 +10,5 @@ use Rattle.policy_eval.specs.declared.originators.Form.TheVariants.{Own, Other}
 abbrev pub IsForm : HomeData → List ℕ → Form → Type 0
 IsForm home text (Own own) = full_form home text ≡ codes "/" ++ (own_lead home ++ own.now)
 IsForm home text (Other path) =
-    (full_form home text ≡ codes "/" ++ path.now) × (starts_with nat_eq path.now (own_lead home) ≡ false)
+    (full_form home text ≡ codes "/" ++ path.now)
+    × (starts_with nat_eq path.now (own_lead home) ≡ false)

@@ -6,3 +6,4 @@ pub mod Laws
 pub mod Alike
 pub mod Seen
 pub mod Changes
+pub mod Shape

@@ -1,5 +1,6 @@
 -- Originators, and the entries of a rule that name them.
-use Rattle.std.specs.Prelude.{ℕ, ◌-◌, nat_eq, Bool, ◌&&◌, ◌||◌, List, ◌++◌, length, take, codes, if◌then◌else◌}
+use Rattle.std.specs.Prelude.{ℕ, ◌-◌, nat_eq, Bool, ◌&&◌, ◌||◌, List, ◌++◌, length, take, codes}
+use Rattle.std.specs.Prelude.{if◌then◌else◌}
 use Rattle.std.specs.List.{starts_with, ends_with}
 use Rattle.std.specs.Str.{bytes_eq}
 use Rattle.resource_model.specs.Home.{HomeData}

@@ -35,7 +35,8 @@ abbrev pub do_give : HomeData → List ℕ → ℕ → List Rule → Bool
 do_give home o wanted rules = has_bits (bits_by home o rules) wanted
 
 -- whether the rules of the resource of a number do; nobody has a right on what isn't there
-abbrev pub gives_at : (ResourceData → List Rule) → HomeData → List ResourceData → List ℕ → ℕ → ℕ → Bool
+abbrev pub gives_at : (ResourceData → List Rule) → HomeData → List ResourceData → List ℕ → ℕ → ℕ →
+    Bool
 gives_at rules home nodes o wanted n =
     option_map_or (λ r. do_give home o wanted (rules r)) (at n nodes) false
 

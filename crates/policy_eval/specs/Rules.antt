@@ -1,11 +1,14 @@
 -- The rules of a resource.
-use Rattle.std.specs.Prelude.{ℕ, ◌+◌, ◌*◌, ◌-◌, ◌^◌, nat_eq, nat_lt, ◌==◌, ℤ, pos, negsuc, Bool, false, not, ◌&&◌, ◌||◌, List, [], ◌∷◌, length, map, drop, codes, Option, Some, None, option_and_then, unwrap_or, if◌then◌else◌}
-use Rattle.std.specs.Char.{is_ascii_digit}
-use Rattle.std.specs.List.{filter_map, flat_map, starts_with}
+use Rattle.std.specs.Prelude.{ℕ, nat_lt, ℤ, pos, negsuc, Bool, List, [], ◌∷◌, length, map, codes}
+use Rattle.std.specs.Prelude.{Option, Some, None, option_and_then, unwrap_or, if◌then◌else◌}
+use Rattle.std.specs.List.{filter_map, flat_map}
 use Rattle.std.specs.Option.{option_map_or}
 use Rattle.m2m_names.specs.declared.attributes.Attr.{Attr}
 use Rattle.m2m_names.specs.declared.attributes.Attr.TheVariants.{Acpi, Aei, Csi, Macp, Pv, Pvs}
-use Rattle.m2m_names.specs.declared.types.Ty.TheVariants.{AccessControlPolicy, Ae, ContentInstance, PollingChannel, RemoteCse}
+use Rattle.m2m_names.specs.declared.types.Ty.TheVariants.{AccessControlPolicy, Ae, ContentInstance}
+use Rattle.m2m_names.specs.declared.types.Ty.TheVariants.{PollingChannel, RemoteCse}
+use Rattle.m2m_names.specs.declared.types.Ty.{Ty}
+use Rattle.m2m_names.specs.Ids.{id_parts}
 use Rattle.m2m_value.specs.Data.{Data}
 use Rattle.m2m_value.specs.View.{as_list, as_number, as_object, as_text, member_of}
 use Rattle.resource_model.specs.Attributes.{value_of, text_at}
@@ -27,7 +30,8 @@ pub record Rule : Type 0 where
 abbrev pub rule_for : Subjects → ℕ → Rule
 rule_for subjects bits = record { subjects = subjects; bits = bits }
 
--- all six bits: CREATE 1, RETRIEVE 2, UPDATE 4, DELETE 8, NOTIFY 16, DISCOVERY 32 (TS-0001, 9.6.2.1.2)
+-- all six bits: CREATE 1, RETRIEVE 2, UPDATE 4, DELETE 8, NOTIFY 16, DISCOVERY 32 (TS-0001,
+-- 9.6.2.1.2)
 abbrev pub all_bits : ℕ
 all_bits = 63
 
@@ -63,28 +67,11 @@ rules_in d = map rule_of (elements_in (option_and_then (member_at (codes "acr"))
 
 -- ---- the policies that a list of resource ids names
 
--- the number with one more decimal digit, where it can be a resource's
-abbrev pub with_digit : ℕ → ℕ → Option ℕ
-with_digit n digit =
-    if is_ascii_digit digit && nat_lt (10 * n + (digit - 48)) (2 ^ 63)
-    then Some (10 * n + (digit - 48)) else None
-
--- the number that decimal digits spell, after those already read
-abbrev pub number_from : ℕ → List ℕ → Option ℕ
-number_from n [] = Some n
-number_from n (digit ∷ digits) =
-    option_and_then (λ m. number_from m digits) (with_digit n digit)
-
--- digits as a number is written: one at least, and no 0 before others
-abbrev pub is_written : List ℕ → Bool
-is_written [] = false
-is_written (digit ∷ digits) = not (digit == 48) || length digits == 0
-
 -- the number in the resource id of a policy, as 4 in `acp4`
 abbrev pub policy_number : List ℕ → Option ℕ
 policy_number id =
-    if starts_with nat_eq id (codes "acp") && is_written (drop 3 id)
-    then number_from 0 (drop 3 id) else None
+    option_and_then (λ (p : Ty × ℕ). if is_ty p.0 AccessControlPolicy then Some p.1 else None)
+    (id_parts id)
 
 -- the policy of a number
 abbrev pub policy_at : List ResourceData → ℕ → Option ResourceData
@@ -151,8 +138,8 @@ rules_of nodes r =
     if is_ty r.ty ContentInstance then rules_above (linked_rules Pv nodes) nodes r else
     if is_ty r.ty PollingChannel then rules_above channel_rules nodes r else linked_rules Pv nodes r
 
--- the rules by which a fan-out to a group is judged: by `macp`, or the group's own where it is absent
--- or empty (TS-0001, 9.6.13)
+-- the rules by which a fan-out to a group is judged: by `macp`, or the group's own where it is
+-- absent or empty (TS-0001, 9.6.13)
 abbrev pub fan_rules : List ResourceData → ResourceData → List Rule
 fan_rules nodes group =
     if lists_ids Macp group then joined Pv nodes (ids_at Macp group) else rules_of nodes group

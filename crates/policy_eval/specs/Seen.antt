@@ -1,13 +1,17 @@
 -- What an originator sees of a list of resources. Whatever its rights, it sees of each resource the
--- number, type, name and parent, when it is due, `acpi`, `macp` and whether it owns it; the `aei` of
--- an AE; the `csi` of a remote CSE and the first http URL of its `poa`; and of a policy the bits that
--- it has by `pv` and by `pvs`. Besides, it sees what its rights show, and nothing else.
-use Rattle.std.specs.Prelude.{◌≡◌, ℕ, pos, nat_lt, Bool, true, false, ◌&&◌, ◌||◌, List, [], ◌∷◌, ◌++◌, map, codes, Option, Some, None, option_map, unwrap_or, find, is_some, if◌then◌else◌}
+-- number, type, name and parent, when it is due, `acpi`, `macp` and whether it owns it; the `aei`
+-- of an AE; the `csi` of a remote CSE and the first http URL of its `poa`; and of a policy the bits
+-- that it has by `pv` and by `pvs`. Besides, it sees what its rights show, and nothing else.
+use Rattle.std.specs.Prelude.{◌≡◌, ℕ, pos, nat_lt, Bool, true, false, ◌&&◌, ◌||◌, List, [], ◌∷◌}
+use Rattle.std.specs.Prelude.{◌++◌, map, codes, Option, Some, None, option_map, unwrap_or, find}
+use Rattle.std.specs.Prelude.{is_some, if◌then◌else◌}
 use Rattle.std.specs.List.{filter_map}
 use Rattle.std.specs.Option.{option_map_or, option_or}
 use Rattle.m2m_names.specs.declared.attributes.Attr.{Attr}
-use Rattle.m2m_names.specs.declared.attributes.Attr.TheVariants.{Cs, Csy, Lbl, Mbs, Mia, Mid, Mni, Mnm, Mt, Poa, Pv, Pvs, St}
-use Rattle.m2m_names.specs.declared.types.Ty.TheVariants.{AccessControlPolicy, Container, ContentInstance, Group, RemoteCse}
+use Rattle.m2m_names.specs.declared.attributes.Attr.TheVariants.{Cs, Csy, Lbl, Mbs, Mia, Mid, Mni}
+use Rattle.m2m_names.specs.declared.attributes.Attr.TheVariants.{Mnm, Mt, Poa, Pv, Pvs, St}
+use Rattle.m2m_names.specs.declared.types.Ty.TheVariants.{AccessControlPolicy, Container}
+use Rattle.m2m_names.specs.declared.types.Ty.TheVariants.{ContentInstance, Group, RemoteCse}
 use Rattle.m2m_names.specs.UrlReading.{host_end_at}
 use Rattle.m2m_value.specs.Data.{Data, list, number, object, text, elements_of, pairs_of}
 use Rattle.resource_model.specs.Attributes.{Row, is_attr, value_of}
@@ -88,7 +92,8 @@ plain_rules bits =
     object (pairs_of ((
       codes "acr",
       list (elements_of (object (pairs_of (
-          (codes "acop", number (pos bits)) ∷ (codes "acor", list (elements_of (text (codes "all") ∷ []))) ∷ [])) ∷ [])),
+          (codes "acop", number (pos bits)) ∷
+          (codes "acor", list (elements_of (text (codes "all") ∷ []))) ∷ [])) ∷ [])),
     ) ∷ []))
 
 -- of the rules of a policy the originator sees what they give it
@@ -115,7 +120,8 @@ only_point url = list (elements_of (text url ∷ []))
 abbrev pub seen_points : Data → Option Data
 seen_points points = option_map only_point (first_url (Some points))
 
--- the first URL in rows of `poa`; where rows are in order, one at most is of `poa`, and it is that one's
+-- the first URL in rows of `poa`; where rows are in order, one at most is of `poa`, and it is that
+-- one's
 abbrev pub way_in : List Row → Option (List ℕ)
 way_in [] = None
 way_in (row ∷ rows) =
@@ -126,7 +132,8 @@ abbrev pub is_way : ResourceData → Attr → Bool
 is_way r a = is_ty r.ty RemoteCse && is_attr a Poa
 
 -- what it sees of a value
-abbrev pub seen_value : HomeData → List ResourceData → List ℕ → ResourceData → Attr → Data → Option Data
+abbrev pub seen_value : HomeData → List ResourceData → List ℕ → ResourceData → Attr → Data →
+    Option Data
 seen_value home nodes o r a d =
     if is_shown home nodes o r a then Some d else
     if is_rules r a then Some (seen_rules home o d) else
@@ -140,7 +147,8 @@ seen_row home nodes o r row =
 abbrev pub another : List ℕ → List ℕ
 another o = o ++ codes " "
 
--- whether it owns the resource: its own text where it does, however the owner's is spelled, else another
+-- whether it owns the resource: its own text where it does, however the owner's is spelled, else
+-- another
 abbrev pub seen_owner : HomeData → List ℕ → ResourceData → List ℕ
 seen_owner home o r = if is_same home o r.owner then o else another o
 
@@ -151,7 +159,8 @@ with_seen_owner home o r = record r { owner = seen_owner home o r }
 -- its moments
 abbrev pub seen_ct : HomeData → List ResourceData → List ℕ → ResourceData → ℕ
 seen_ct home nodes o r =
-    if may home nodes o retrieve_bit r || may home nodes o discovery_bit r || is_filled_in home nodes o r
+    if may home nodes o retrieve_bit r || may home nodes o discovery_bit r
+    || is_filled_in home nodes o r
     then r.ct else 0
 
 abbrev pub seen_lt : HomeData → List ResourceData → List ℕ → ResourceData → ℕ
@@ -185,7 +194,8 @@ seen_list home nodes o = map (seen home nodes o) nodes
 -- ---- the same, as a reader would say it
 
 -- what a resource s, seen by the originator, shows of the resource r
-pub record Shows (home : HomeData) (nodes : List ResourceData) (o : List ℕ) (r s : ResourceData) : Type 0 where
+pub record Shows (home : HomeData) (nodes : List ResourceData) (o : List ℕ)
+    (r s : ResourceData) : Type 0 where
   -- always: where it stands, whether the originator owns it, by what it is judged and named, what
   -- the rules of a policy give the originator, and the first URL of a remote CSE
   pub always : Alike home o s r
@@ -214,9 +224,11 @@ pub record Shows (home : HomeData) (nodes : List ResourceData) (o : List ℕ) (r
   pub hidden : (a : Attr) → is_shown home nodes o r a ≡ false →
       is_rules r a ≡ false → is_way r a ≡ false → value_of a s.attrs ≡ None
   -- hidden moments are 0, but when it is due is seen
-  pub silent_ct : may home nodes o retrieve_bit r ≡ false → may home nodes o discovery_bit r ≡ false →
+  pub silent_ct : may home nodes o retrieve_bit r ≡ false →
+      may home nodes o discovery_bit r ≡ false →
       is_filled_in home nodes o r ≡ false → s.ct ≡ 0
-  pub silent_lt : may home nodes o retrieve_bit r ≡ false → may home nodes o discovery_bit r ≡ false →
+  pub silent_lt : may home nodes o retrieve_bit r ≡ false →
+      may home nodes o discovery_bit r ≡ false →
       s.lt ≡ 0
   pub silent_et : may home nodes o retrieve_bit r ≡ false → is_filled_in home nodes o r ≡ false →
       s.et ≡ unwrap_or (due nodes r) 0

@@ -1,16 +1,21 @@
-// Laws of rights, over every list.
-ghost use Rattle.std.specs.Prelude.{◌≡◌, ◌<◌, ◌^◌, ◌++◌, ◌∷◌, [], Bool, false, List, ℕ, Option, Some, IsTrue, map, option_map};
+//! Laws of rights, over every list.
+ghost use Rattle.std.specs.Prelude.{◌≡◌, ◌<◌, ◌^◌, ◌++◌, ◌∷◌, [], Bool, false, List, ℕ, Option};
+ghost use Rattle.std.specs.Prelude.{Some, IsTrue, map, option_map};
 ghost use Rattle.resource_model.specs.Home.{HomeData};
-ghost use Rattle.m2m_names.specs.declared.types.Ty.TheVariants.{AccessControlPolicy, ContentInstance};
+ghost use Rattle.m2m_names.specs.declared.types.Ty.TheVariants.{AccessControlPolicy};
+ghost use Rattle.m2m_names.specs.declared.types.Ty.TheVariants.{ContentInstance};
 ghost use Rattle.resource_model.specs.Resource.{ResourceData, ae_id, id_of, is_ty};
 ghost use Rattle.tree_model.specs.Shown.{attributes_of};
-ghost use Rattle.tree_model.specs.Tree.{at, child_of, has, due, is_due, live, is_well_formed, replaced, without};
+ghost use Rattle.tree_model.specs.Tree.{at, child_of, has, due, is_due, live, is_well_formed};
+ghost use Rattle.tree_model.specs.Tree.{replaced, without};
 ghost use Rattle.policy_eval.specs.Alike.{AreAlike};
-ghost use Rattle.policy_eval.specs.Changes.{NewValue, ShowNoMore, changed, is_linked, learns_limits, seen_changes};
+ghost use Rattle.policy_eval.specs.Changes.{NewValue, ShowNoMore, changed, is_linked};
+ghost use Rattle.policy_eval.specs.Changes.{learns_limits, seen_changes};
 ghost use Rattle.policy_eval.specs.Laws.{IsNeverGained};
 ghost use Rattle.policy_eval.specs.Rules.{policy_named, policy_number};
 ghost use Rattle.policy_eval.specs.Rights.{grants, relinks, fan_grants};
 ghost use Rattle.policy_eval.specs.Seen.{Shows, retrieve_bit, seen, seen_list, with_seen_owner};
+ghost use Rattle.policy_eval.specs.Shape.{SightHasShape};
 
 /// A removal grants nothing to anyone, whatever goes: not that of a policy to those whose resource
 /// names it, nor to the owner of that resource.
@@ -25,9 +30,9 @@ pub fn removal_grants_nothing()
 
 /// The list as an originator sees it has of each resource what is always seen and what its rights
 /// show, and nothing else, and the originator finds the same on it and has the same rights. Always
-/// seen are number, type, name and parent, when it is due, `acpi`, `macp` and whether the originator
-/// owns it; the `aei` of an AE; the `csi` of a remote CSE and the first http URL of its `poa`; and of
-/// a policy the bits that the originator has by `pv` and by `pvs`.
+/// seen are number, type, name and parent, when it is due, `acpi`, `macp` and whether the
+/// originator owns it; the `aei` of an AE; the `csi` of a remote CSE and the first http URL of its
+/// `poa`; and of a policy the bits that the originator has by `pv` and by `pvs`.
 pub fn sight_keeps_rights()
     ensures shown { (home : HomeData) (nodes : List ResourceData) (o : List ℕ) (r : ResourceData) →
         Shows home nodes o r (seen home nodes o r) }
@@ -36,7 +41,8 @@ pub fn sight_keeps_rights()
     ensures children { (home : HomeData) (nodes : List ResourceData) (o : List ℕ)
         (parent : ℕ) (name : List ℕ) →
         child_of parent name (seen_list home nodes o) ≡ child_of parent name nodes }
-    ensures entities { (home : HomeData) (nodes : List ResourceData) (o : List ℕ) (r : ResourceData) →
+    ensures entities { (home : HomeData) (nodes : List ResourceData) (o : List ℕ)
+        (r : ResourceData) →
         ae_id (seen home nodes o r) ≡ ae_id r }
     ensures rights { (home : HomeData) (nodes : List ResourceData) (o : List ℕ) (bit n : ℕ) →
         grants home (seen_list home nodes o) o bit n ≡ grants home nodes o bit n }
@@ -48,8 +54,8 @@ pub fn sight_keeps_rights()
 
 /// On the list as an originator sees it each resource is due when it is due, so that the same
 /// resources are live at each moment, and the originator has the same rights on what is live. What
-/// it may then retrieve it sees whole, but for the owner's name, and with the same attributes as they
-/// are shown, the count and the sizes of a container's instances among them.
+/// it may then retrieve it sees whole, but for the owner's name, and with the same attributes as
+/// they are shown, the count and the sizes of a container's instances among them.
 pub fn sight_keeps_what_is_live()
     ensures due { (home : HomeData) (nodes : List ResourceData) (o : List ℕ) (r : ResourceData) →
         IsTrue (is_well_formed nodes) → at r.number nodes ≡ Some r →
@@ -96,6 +102,12 @@ pub fn alike_lists_give_the_same_rights()
         fan_grants home ss o bit n ≡ fan_grants home rs o bit n }
 {}
 
+/// What an originator sees of a well-formed list has the shape of that list, which is what it sees
+/// whatever its rights. So two lists of which it sees the same have the same shape.
+pub fn sight_has_the_shape_of_the_list()
+    ensures { SightHasShape }
+{}
+
 /// Two lists of which an originator sees the same have resources of the same numbers, and show it
 /// the same of each: what shows it the one resource shows it the other.
 pub fn equal_sights_show_the_same()
@@ -122,8 +134,8 @@ pub fn equal_sights_stay_equal_under_a_removal()
 
 /// A resource that is appended changes nothing of what an originator sees of the others, where no
 /// `acpi` or `macp` names it yet as a policy. So where it sees the same of two lists, it still does
-/// after the same resource is appended to both. It sees when a content instance is due, and so it has
-/// to learn the limits of that one's container.
+/// after the same resource is appended to both. It sees when a content instance is due, and so it
+/// has to learn the limits of that one's container.
 pub fn equal_sights_stay_equal_under_an_append()
     ensures others { (home : HomeData) (nodes : List ResourceData) (o : List ℕ)
         (r : ResourceData) →

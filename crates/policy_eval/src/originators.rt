@@ -1,4 +1,4 @@
-// Originators, and the entries of a rule that name them.
+//! Originators, and the entries of a rule that name them.
 ghost use Rattle.std.specs.Prelude.{◌≡◌, ◌++◌, nat_eq, false, MatchOption};
 ghost use Rattle.std.specs.List.{starts_with};
 ghost use Rattle.policy_eval.specs.Forms.{IsForm};
@@ -28,7 +28,7 @@ fn form_of<'a>(home: &Home, text: &'a [u8]) -> Form<'a>
     }
 }
 
-// What stands in a path behind own CSE-ID and `/`.
+/// What stands in a path behind own CSE-ID and `/`.
 fn own_part<'a>(home: &Home, path: &'a [u8]) -> Option<&'a [u8]>
     ensures { MatchOption result (starts_with nat_eq path.now (own_lead home.now) ≡ false)
         (λ own. path.now ≡ own_lead home.now ++ own.now) }
@@ -49,7 +49,7 @@ pub fn is_same(home: &Home, a: &[u8], b: &[u8]) -> bool
     }
 }
 
-// Whether the full form of a text stands at the front of the originator's.
+/// Whether the full form of a text stands at the front of the originator's.
 fn is_front(home: &Home, o: &[u8], text: &[u8]) -> bool
     ensures { result ≡ spec.is_front home.now o.now text.now }
 {

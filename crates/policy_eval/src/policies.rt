@@ -1,20 +1,22 @@
-// Rules and policies as resources keep them.
-ghost use Rattle.std.specs.Prelude.{◌≡◌, ◌<◌, ◌^◌, codes, map, option_map, IfSome};
+//! Rules and policies as resources keep them.
+ghost use Rattle.std.specs.Prelude.{◌≡◌, codes, map, option_map};
+ghost use Rattle.m2m_names.specs.declared.types.Ty.TheVariants.{AccessControlPolicy};
+ghost use Rattle.resource_model.specs.Resource.{is_ty};
 ghost use Rattle.std.specs.Option.{option_map_or};
 ghost use Rattle.policy_eval.specs.Rules as spec;
 
-use m2m_names::{Attr, Ty};
+use m2m_names::{Attr, Ty, read_id};
 use m2m_value::Val;
 use tree_model::{Resource, Tree};
 
-// The member of an object.
+/// The member of an object.
 fn member_at<'a>(value: &'a Val, key: &[u8]) -> Option<&'a Val>
     ensures { option_map (λ v. v.now) result ≡ spec.member_at key.now value.now }
 {
     value.as_obj()?.get(key)
 }
 
-// The elements of a list; of what is no list none.
+/// The elements of a list; of what is no list none.
 fn elements_in(value: Option<&Val>) -> &[Val]
     ensures { result.now ≡ spec.elements_in (option_map (λ v. v.now) value.entry) }
 {
@@ -72,51 +74,18 @@ fn sum_of_bits(n: i64) -> u32
     if n < 0 || n > 63 { 0 } else { n as u32 }
 }
 
-fn with_digit(n: u64, digit: u8) -> Option<u64>
-    requires { n < 2 ^ 63 }
-    ensures value { result ≡ spec.with_digit n digit }
-    ensures bound { IfSome result (λ m. m < 2 ^ 63) }
-{
-    if !digit.is_ascii_digit() {
-        return None;
-    }
-    let number = 10 * u128::from(n) + u128::from(digit - b'0');
-    if number < 1 << 63 {
-        Some(number as u64)
-    } else {
-        None
-    }
-}
-
-fn number_in(digits: &[u8]) -> Option<u64>
-    ensures { result ≡ spec.number_from 0 digits.now }
-{
-    let mut number = 0;
-    for digit in digits {
-        number = with_digit(number, *digit)?;
-    }
-    Some(number)
-}
-
-// Digits as a number is written: one at least, and no 0 before others.
-fn is_written(digits: &[u8]) -> bool
-    ensures { result ≡ spec.is_written digits.now }
-{
-    match digits {
-        [] => false,
-        [digit, digits @ ..] => *digit != b'0' || digits.is_empty(),
-    }
-}
-
-// The number in the resource id of a policy.
+/// The number in the resource id of a policy.
 fn policy_number(id: &[u8]) -> Option<u64>
     ensures { result ≡ spec.policy_number id.now }
 {
-    if id.starts_with(b"acp".as_slice()) && is_written(&id[3..]) {
-        number_in(&id[3..])
-    } else {
-        None
-    }
+    let (ty, number) = read_id(id)?;
+    if is_policy(ty) { Some(number) } else { None }
+}
+
+fn is_policy(ty: Ty) -> bool
+    ensures { result ≡ is_ty ty AccessControlPolicy }
+{
+    ty.number() == Ty::AccessControlPolicy.number()
 }
 
 fn policy_at<T: Tree>(tree: &T, number: u64) -> Option<&Resource>

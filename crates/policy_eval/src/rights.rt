@@ -14,7 +14,7 @@ use tree_model::{Home, Resource, Tree};
 
 const ALL_BITS: u32 = 63;
 
-// Whether an entry of `acor` names the originator.
+/// Whether an entry of `acor` names the originator.
 fn is_named(home: &Home, o: &[u8], entries: &[Val]) -> bool
     ensures { result ≡ spec.is_among home.now o.now (named (texts_of entries.now)) }
 {
@@ -38,7 +38,7 @@ fn with_rule(home: &Home, o: &[u8], bits: u32, rule: &Val) -> u32
     }
 }
 
-// The bits, and those that rules give the originator besides.
+/// The bits, and those that rules give the originator besides.
 fn with_rules(home: &Home, o: &[u8], bits: u32, rules: &[Val]) -> u32
     ensures { result ≡ spec.with_rules home.now o.now bits (map spec_rules.rule_of rules.now) }
 {
@@ -49,9 +49,10 @@ fn with_rules(home: &Home, o: &[u8], bits: u32, rules: &[Val]) -> u32
     bits
 }
 
-// The bits that the policies which ids name give by one of their lists of spec_rules.
+/// The bits that the policies which ids name give by one of their lists of rules.
 fn joined<T: Tree>(tree: &T, home: &Home, o: &[u8], attr: Attr, ids: &[Val]) -> u32
-    ensures { result ≡ spec.bits_by home.now o.now (spec_rules.joined attr (T.nodes tree.now) ids.now) }
+    ensures { result
+        ≡ spec.bits_by home.now o.now (spec_rules.joined attr (T.nodes tree.now) ids.now) }
 {
     let mut bits = 0;
     for id in ids {
@@ -62,7 +63,7 @@ fn joined<T: Tree>(tree: &T, home: &Home, o: &[u8], attr: Attr, ids: &[Val]) -> 
     bits
 }
 
-// All bits to one originator, and none to any other.
+/// All bits to one originator, and none to any other.
 fn only(home: &Home, o: &[u8], text: &[u8]) -> u32
     ensures { result ≡ spec.bits_by home.now o.now
         (spec_rules.rule_for (spec_rules.only text.now) spec_rules.all_bits ∷ []) }
@@ -70,8 +71,8 @@ fn only(home: &Home, o: &[u8], text: &[u8]) -> u32
     if is_same(home, o, text) { ALL_BITS } else { 0 }
 }
 
-// By one of the two lists of the policies that `acpi` names, or the owner's where it is absent
-// or empty.
+/// By one of the two lists of the policies that `acpi` names, or the owner's where it is absent
+/// or empty.
 fn linked<T: Tree>(tree: &T, home: &Home, o: &[u8], attr: Attr, resource: &Resource) -> u32
     ensures { result ≡ spec.bits_by home.now o.now
         (spec_rules.linked_rules attr (T.nodes tree.now) resource.now) }
@@ -93,9 +94,10 @@ fn of_channel(home: &Home, o: &[u8], parent: &Resource) -> u32
     }
 }
 
-// By the rules of the resource.
+/// By the rules of the resource.
 fn bits<T: Tree>(tree: &T, home: &Home, o: &[u8], resource: &Resource) -> u32
-    ensures { result ≡ spec.bits_by home.now o.now (spec_rules.rules_of (T.nodes tree.now) resource.now) }
+    ensures { result
+        ≡ spec.bits_by home.now o.now (spec_rules.rules_of (T.nodes tree.now) resource.now) }
 {
     if resource.is(Ty::AccessControlPolicy) {
         return with_rules(home, o, 0, rules_in(resource.attrs().get(Attr::Pvs)));
@@ -115,9 +117,10 @@ fn bits<T: Tree>(tree: &T, home: &Home, o: &[u8], resource: &Resource) -> u32
     linked(tree, home, o, Attr::Pv, resource)
 }
 
-// By the rules of a fan-out to the group.
+/// By the rules of a fan-out to the group.
 fn fan_bits<T: Tree>(tree: &T, home: &Home, o: &[u8], group: &Resource) -> u32
-    ensures { result ≡ spec.bits_by home.now o.now (spec_rules.fan_rules (T.nodes tree.now) group.now) }
+    ensures { result
+        ≡ spec.bits_by home.now o.now (spec_rules.fan_rules (T.nodes tree.now) group.now) }
 {
     let ids = ids_at(Attr::Macp, group);
     if ids.is_empty() {

@@ -56,6 +56,42 @@ impl<'a, R: Abort> Tree for Known<'a, R> {
         self.rt.abort()
     }
 
+    fn kid(&self, _: u64, _: u64) -> Option<u64> {
+        self.rt.abort()
+    }
+
+    fn sub(&self, _: u64, _: u64) -> Option<u64> {
+        self.rt.abort()
+    }
+
+    fn instance(&self, _: u64, _: bool) -> Option<u64> {
+        self.rt.abort()
+    }
+
+    fn instance_at(&self, _: u64, _: u64) -> Option<u64> {
+        self.rt.abort()
+    }
+
+    fn instance_count(&self, _: u64) -> u64 {
+        self.rt.abort()
+    }
+
+    fn instance_sizes(&self, _: u64) -> u128 {
+        self.rt.abort()
+    }
+
+    fn ae(&self, _: &[u8]) -> Option<u64> {
+        self.rt.abort()
+    }
+
+    fn cse(&self, _: &[u8]) -> Option<u64> {
+        self.rt.abort()
+    }
+
+    fn quiet_until(&self) -> u64 {
+        self.rt.abort()
+    }
+
     fn insert(&mut self, _: Resource) -> Result<(), (Resource, OutOfMemory)> {
         self.rt.abort()
     }
@@ -64,7 +100,15 @@ impl<'a, R: Abort> Tree for Known<'a, R> {
         self.rt.abort()
     }
 
+    fn restamp(&mut self, _: u64, _: u64, _: u64) {
+        self.rt.abort()
+    }
+
     fn remove_subtree(&mut self, _: u64) {
+        self.rt.abort()
+    }
+
+    fn expire(&mut self, _: u64) {
         self.rt.abort()
     }
 }
@@ -72,7 +116,7 @@ impl<'a, R: Abort> Tree for Known<'a, R> {
 fn text(alloc: Global, text: &str) -> Result<Text, OutOfMemory>
     ensures { IfOk result (λ t. t ≡ text.now) }
 {
-    Ok(Text::of(Vec::from_slice(alloc, text.as_bytes())?))
+    Text::from_slice(alloc, text.as_bytes())
 }
 
 fn none(alloc: Global) -> Attrs {

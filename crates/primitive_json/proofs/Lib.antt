@@ -1,1 +1,10 @@
-pub mod Graphic
+pub mod Among
+pub mod Lists
+pub mod Numerals
+pub mod Present
+pub mod KindLemmas
+pub mod FaultLemmas
+pub mod FilterLemmas
+pub mod RoundTrip
+pub mod ReplyLemmas
+pub mod Taken

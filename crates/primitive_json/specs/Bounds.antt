@@ -16,6 +16,7 @@ IsCount n = n < 2 ^ 63
 abbrev pub is_graphic : ℕ → Bool
 is_graphic b = is_in_range 33 126 b
 
--- a request identifier: 1 to 128 printable ASCII characters without a space (TS-0001, 8.1.2; the length is the profile's)
+-- a request identifier: 1 to 128 printable ASCII characters without a space (TS-0001, 8.1.2; the
+-- length is the profile's)
 abbrev pub is_request_id : List ℕ → Bool
 is_request_id text = is_in_range 1 128 (length text) && list_all is_graphic text

@@ -1,5 +1,11 @@
 pub mod Bounds
+pub mod Conditions
 pub mod Filters
+pub mod Kinds
+pub mod Laws
+pub mod Members
 pub mod Notes
+pub mod Reading
 pub mod Replies
 pub mod Requests
+pub mod Writing

@@ -2,26 +2,26 @@
 ghost use Rattle.std.specs.Prelude.{◌≡◌, ◌↔◌, IsTrue, IsUtf8};
 ghost use Rattle.std.specs.Bool.{OnTrue};
 ghost use Rattle.std.specs.List.{list_all};
+ghost use Rattle.std.specs.Char.{is_ascii_digit};
 ghost use Rattle.primitive_json.specs.Bounds as spec;
 ghost use Rattle.primitive_json.specs.Bounds.{IsMoment, IsCount};
 
-/// The last moment that a timestamp has: the end of 9999.
-const LAST_MOMENT: u64 = 253_402_300_799;
+use m2m_names::{LAST_MOMENT, are_graphic};
 
 /// Whether the text is a request identifier: 1 to 128 printable ASCII characters without a space.
-#[tactic(auto, using(crate::proofs::Graphic::graphic_is_utf8))]
+#[tactic(auto, using(m2m_names::proofs::NameLemmas::graphic_is_utf8))]
 pub fn is_request_id(text: &[u8]) -> bool
     ensures value { result ≡ spec.is_request_id text.now }
     ensures utf8 { OnTrue result (IsUtf8 text.now) }
 {
-    are_graphic(text) && (1..=128).contains(&text.len())
+    (1..=128).contains(&text.len()) && are_graphic(text)
 }
 
-/// Whether all bytes are printable ASCII characters but spaces.
-fn are_graphic(text: &[u8]) -> bool
-    ensures { result ≡ list_all spec.is_graphic text.now }
+/// Whether all bytes are decimal digits.
+pub(crate) fn are_digits(text: &[u8]) -> bool
+    ensures { result ≡ list_all is_ascii_digit text.now }
 {
-    text.iter().all(u8::is_ascii_graphic)
+    text.iter().all(u8::is_ascii_digit)
 }
 
 /// Whether a timestamp has the moment, in seconds since 1970.

@@ -1,8 +1,7 @@
 //! The filter of a request: conditions on resources, and how they are used.
 ghost use Rattle.std.specs.Prelude.{◌≡◌, IfOk};
 
-use crate::labels::Labels;
-use m2m_value::Numbers;
+use m2m_value::{Labels, Numbers};
 use std::alloc::{AllocError as OutOfMemory, Global};
 use std::marker::Model;
 

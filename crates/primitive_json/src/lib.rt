@@ -1,5 +1,5 @@
 //! The primitives of oneM2M as types: requests with their filters, replies, and the items of the
-//! outbox.
+//! outbox; and requests and replies as JSON values.
 //!
 //! Each of `Request`, `Filter`, `Reply` and `Note` is a struct of public fields (`RequestParts`
 //! and its kin) that keeps a fact: callers build the parts, owe the fact to `of`, read the fields
@@ -9,21 +9,44 @@
 //! the parts must keep (`IsSoundRequest` and its kin) can be tested: texts by `str::from_utf8`,
 //! request identifiers by `is_request_id`, moments by `is_moment`, counts by `is_count`, URLs by
 //! `m2m_names::read_url`.
+//!
+//! `read_request` and `read_reply` read a value that is lent, and copy what they keep;
+//! `request_from` and `reply_into` move texts and content. The members of a request and the
+//! conditions of a filter stand in one table each, in byte order of their names, in which a name
+//! is looked up; a request is judged member by member before anything is copied, so that a fault
+//! takes memory for its name alone. Reading and writing are linear in the value.
 #![tactic(auto)]
 
 mod bounds;
+mod condition;
+mod fault;
 mod filter;
-mod labels;
+mod filter_reading;
+mod filter_writing;
+mod judging;
+mod kinds;
+mod laws;
+mod member;
+mod moving;
 mod note;
+mod reading;
+#[cfg(test)]
+mod reading_tests;
 mod reply;
 mod request;
 #[cfg(test)]
 mod tests;
+mod writing;
 
 pub use bounds::{is_count, is_moment, is_request_id};
+pub use fault::PrimFault;
 pub use filter::{Filter, FilterParts, FilterUsage};
-pub use labels::Labels;
+pub use laws::{replies_are_read_back, requests_are_read_back};
+pub use m2m_value::Labels;
+pub use moving::request_from;
 pub use note::{Dest, Kind, Note, NoteParts};
+pub use reading::{read_reply, read_request};
 pub use reply::{Reply, ReplyParts};
 pub use request::{Request, RequestParts, When};
 pub use std::alloc::AllocError as OutOfMemory;
+pub use writing::{reply_into, write_reply, write_request};

@@ -47,8 +47,8 @@ impl ReplyParts {
     {
         Ok(ReplyParts {
             rsc: self.rsc,
-            rqi: copied_text(alloc, &self.rqi)?,
-            pc: copied_content(alloc, &self.pc)?,
+            rqi: copied_text(alloc, self.rqi.as_ref())?,
+            pc: copied_content(alloc, self.pc.as_ref())?,
         })
     }
 }

@@ -1,5 +1,6 @@
 //! Requests.
 ghost use Rattle.std.specs.Prelude.{◌≡◌, IfOk};
+ghost use Rattle.std.specs.Option.{option_copied};
 
 use crate::filter::Filter;
 use m2m_names::Op;
@@ -63,20 +64,20 @@ impl Model for Request {
 }
 
 /// An equal text, where there is one.
-pub(crate) fn copied_text(alloc: Global, text: &Option<Text>) -> Result<Option<Text>, OutOfMemory>
-    ensures { IfOk result (λ t. t ≡ text.now) }
+pub(crate) fn copied_text(alloc: Global, text: Option<&Text>) -> Result<Option<Text>, OutOfMemory>
+    ensures { IfOk result (λ t. t ≡ option_copied text.entry) }
 {
-    text.as_ref().map(|t| t.copy(alloc)).transpose()
+    text.map(|t| t.copy(alloc)).transpose()
 }
 
 /// Equal content, where there is some.
 pub(crate) fn copied_content(
     alloc: Global,
-    content: &Option<Val>,
+    content: Option<&Val>,
 ) -> Result<Option<Val>, OutOfMemory>
-    ensures { IfOk result (λ v. v ≡ content.now) }
+    ensures { IfOk result (λ v. v ≡ option_copied content.entry) }
 {
-    content.as_ref().map(|v| v.copy(alloc)).transpose()
+    content.map(|v| v.copy(alloc)).transpose()
 }
 
 /// An equal filter, where there is one.
@@ -94,10 +95,10 @@ impl RequestParts {
         Ok(RequestParts {
             op: self.op,
             to: self.to.copy(alloc)?,
-            fr: copied_text(alloc, &self.fr)?,
+            fr: copied_text(alloc, self.fr.as_ref())?,
             rqi: self.rqi.copy(alloc)?,
             ty: self.ty,
-            pc: copied_content(alloc, &self.pc)?,
+            pc: copied_content(alloc, self.pc.as_ref())?,
             rqet: self.rqet,
             rt: self.rt,
             rcn: self.rcn,

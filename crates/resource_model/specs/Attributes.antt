@@ -1,27 +1,28 @@
 -- Lists of attributes, each with its value.
-use Rattle.std.specs.Prelude.{◌≡◌, ℕ, ◌+◌, ◌<◌, ◌≤◌, ℤ, pos, negsuc, List, ◌∷◌, ◌++◌, length, take, drop, filter, slice_index_or, Bool, Option, Some, None, option_and_then}
-use Rattle.std.specs.Cmp.Lexicographic.{slice_cmp}
+use Rattle.std.specs.Prelude.{◌≡◌, ℕ, ◌+◌, ◌<◌, ◌≤◌, List, ◌∷◌, ◌++◌, length, take, drop, filter}
+use Rattle.std.specs.Prelude.{slice_index_or, Bool, ◌&&◌, bytes_eq, Option, Some, None}
+use Rattle.std.specs.Prelude.{option_and_then}
 use Rattle.std.specs.List.Sorted.{IsStrictlySortedBy}
 use Rattle.std.specs.Map.{keys_of, lookup}
-use Rattle.std.specs.Ordering.{nat_cmp, is_eq, is_lt}
-use Rattle.std.specs.declared.cmp.Ordering.{Ordering}
+use Rattle.std.specs.Ordering.{is_eq, is_lt}
 use Rattle.m2m_names.specs.Attributes.{attr_short}
+pub use Rattle.m2m_names.specs.Attributes.{attr_cmp}
 use Rattle.m2m_names.specs.declared.attributes.Attr.{Attr}
 use Rattle.m2m_value.specs.Data.{Data}
-use Rattle.m2m_value.specs.View.{as_number, as_text}
+use Rattle.m2m_value.specs.Same.{same}
+use Rattle.m2m_value.specs.Shapes.{as_count}
+pub use Rattle.m2m_value.specs.Shapes.{count_of}
+use Rattle.m2m_value.specs.View.{as_text}
 
 -- an attribute and its value
 abbrev pub Row : Type 0
 Row = Attr × Data
 
--- attributes stand in byte order of their short names (TS-0004, 8.2.3)
-abbrev pub attr_cmp : Attr → Attr → Ordering
-attr_cmp a b = slice_cmp nat_cmp (attr_short a) (attr_short b)
-
+-- two are one attribute
 abbrev pub is_attr : Attr → Attr → Bool
 is_attr a b = is_eq (attr_cmp a b)
 
--- each attribute stands before those that follow it, and so stands once
+-- attributes stand in byte order of their short names, and so each stands once (TS-0004, 8.2.3)
 abbrev pub AreInOrder : List Row → Type 0
 AreInOrder rows = IsStrictlySortedBy attr_cmp (keys_of rows)
 
@@ -44,14 +45,9 @@ with_value a d rows = rows_before a rows ++ (a, d) ∷ rows_after a rows
 abbrev pub without_value : Attr → List Row → List Row
 without_value a rows = rows_before a rows ++ rows_after a rows
 
--- the count of a whole number from 0 on
-abbrev pub count_of : ℤ → Option ℕ
-count_of (pos n) = Some n
-count_of (negsuc n) = None
-
 -- the value as a count, and as a text
 abbrev pub count_at : Attr → List Row → Option ℕ
-count_at a rows = option_and_then count_of (option_and_then as_number (value_of a rows))
+count_at a rows = option_and_then as_count (value_of a rows)
 
 abbrev pub text_at : Attr → List Row → Option (List ℕ)
 text_at a rows = option_and_then as_text (value_of a rows)
@@ -69,3 +65,7 @@ pub record LacksRow (a : Attr) (rows : List Row) (i : ℕ) : Type 0 where
   pub before : rows_before a rows ≡ take i rows
   pub after : rows_after a rows ≡ drop i rows
   pub value : value_of a rows ≡ None
+
+-- two rows are equal: their attributes have one short name, and their values are equal
+abbrev pub same_row : Row → Row → Bool
+same_row x y = bytes_eq (attr_short x.0) (attr_short y.0) && same x.1 y.1

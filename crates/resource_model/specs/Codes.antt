@@ -33,6 +33,8 @@ of_parts p = record {
 abbrev pub resource_code : Coded ResourceData
 resource_code =
     code_by Parts
-    (coded× coded_ℕ (coded× ty.the_row.coded (coded× (coded_list coded_ℕ) (coded× coded_ℕ (coded× (coded_list coded_ℕ)
+    (coded× coded_ℕ
+    (coded× ty.the_row.coded
+    (coded× (coded_list coded_ℕ) (coded× coded_ℕ (coded× (coded_list coded_ℕ)
     (coded× coded_ℕ (coded× coded_ℕ (coded× coded_ℕ rows_code))))))))
     parts_of of_parts (λ _. refl)

@@ -1,9 +1,10 @@
 -- The home of an entity: what it is called, and who runs it.
-use Rattle.std.specs.Prelude.{◌≡◌, ℕ, ℤ, pos, int_le, Bool, not, ◌&&◌, List, codes, Option, Some, None, IsUtf8, if◌then◌else◌}
+use Rattle.std.specs.Prelude.{◌≡◌, ℕ, ℤ, pos, int_le, Bool, not, ◌&&◌, List, codes, Option, Some}
+use Rattle.std.specs.Prelude.{None, IsUtf8, if◌then◌else◌}
 use Rattle.m2m_names.specs.Name.{is_free_name, is_resource_id, is_originator}
 
--- A home: the service provider, the CSE-ID without its slash, the name of the CSEBase, the CSE type, and the
--- administrator (TS-0001, 6.2.3 and 9.6.3).
+-- A home: the service provider, the CSE-ID without its slash, the name of the CSEBase, the CSE
+-- type, and the administrator (TS-0001, 6.2.3 and 9.6.3).
 pub record HomeData : Type 0 where
   pub sp : List ℕ
   pub csi : List ℕ

@@ -3,3 +3,4 @@ pub mod Codes
 pub mod Home
 pub mod Parts
 pub mod Resource
+pub mod SameRows

@@ -1,11 +1,12 @@
 -- A resource (TS-0001, 9.6).
-use Rattle.std.specs.Prelude.{ℕ, ◌^◌, ◌<◌, ◌≤◌, ◌==◌, List, ◌++◌, Bool, Option, None, if◌then◌else◌, IsUtf8}
+use Rattle.std.specs.Prelude.{ℕ, ◌^◌, ◌<◌, ◌≤◌, ◌==◌, List, ◌++◌, Bool, Option, None, if◌then◌else◌}
+use Rattle.std.specs.Prelude.{IsUtf8}
 use Rattle.std.specs.Fmt.{decimal}
 use Rattle.m2m_names.specs.Stamps.{last_moment}
 use Rattle.m2m_names.specs.Types.{ty_row}
-use Rattle.m2m_names.specs.declared.attributes.Attr.TheVariants.{Aei}
+use Rattle.m2m_names.specs.declared.attributes.Attr.TheVariants.{Aei, Csi}
 use Rattle.m2m_names.specs.declared.types.Ty.{Ty}
-use Rattle.m2m_names.specs.declared.types.Ty.TheVariants.{Ae}
+use Rattle.m2m_names.specs.declared.types.Ty.TheVariants.{Ae, RemoteCse}
 use Rattle.resource_model.specs.Attributes.{Row, text_at}
 
 -- `number` is never used again, and `parent` is that of the parent, or 0 for the CSEBase; `ct`,
@@ -36,6 +37,10 @@ id_of r = (ty_row r.ty).word ++ decimal r.number
 -- the AE-ID of an application entity (TS-0001, 7.1.2)
 abbrev pub ae_id : ResourceData → Option (List ℕ)
 ae_id r = if is_ty r.ty Ae then text_at Aei r.attrs else None
+
+-- the CSE-ID of a remote CSE, with its slash (TS-0001, 9.6.4)
+abbrev pub cse_id : ResourceData → Option (List ℕ)
+cse_id r = if is_ty r.ty RemoteCse then text_at Csi r.attrs else None
 
 -- texts are UTF-8, numbers are counts, and moments end with the year 9999
 pub record IsResource (r : ResourceData) : Type 0 where

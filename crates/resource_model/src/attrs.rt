@@ -1,6 +1,12 @@
-// Attributes with their values, and sets of attributes.
-ghost use Rattle.std.specs.Prelude.{◌≡◌, ◌<◌, ◌^◌, [], IfOk, OnOk, OnErr, IfSome, IsUtf8, MatchResult, option_map};
-ghost use Rattle.resource_model.specs.Attributes.{attr_cmp, AreInOrder, HoldsRow, LacksRow, value_of, with_value, without_value, count_at, count_of, text_at};
+//! Attributes with their values, and sets of attributes.
+ghost use Rattle.std.specs.Prelude.{◌≡◌, ◌↔◌, ◌<◌, ◌^◌, [], IsTrue, IfOk, IsOk, IsSome, OnOk};
+ghost use Rattle.std.specs.Prelude.{OnErr, IfSome, IsUtf8, MatchResult, option_map};
+ghost use Rattle.std.specs.Cmp.{decided, partial_equiv_from_equiv};
+ghost use Rattle.std.specs.Cmp.Lexicographic.{pointwise};
+ghost use Rattle.resource_model.specs.SameRows.{same_rows-Decides};
+ghost use Rattle.resource_model.specs.Attributes.{attr_cmp, AreInOrder, HoldsRow, LacksRow};
+ghost use Rattle.resource_model.specs.Attributes.{value_of, with_value, without_value, count_at};
+ghost use Rattle.resource_model.specs.Attributes.{same_row, text_at};
 
 use m2m_names::Attr;
 use m2m_value::{Text, Val};
@@ -79,12 +85,13 @@ impl Attrs {
         ensures value { result ≡ count_at attr self.now }
         ensures bound { IfSome result (λ n. n < 2 ^ 63) }
     {
-        count_of(self.get(attr)?.as_num()?)
+        self.get(attr)?.as_count()
     }
 
     /// Gives an attribute a value, in place of the one that it may have. It takes memory only
     /// where it has none.
     pub fn set(&mut self, attr: Attr, value: Val) -> Result<(), OutOfMemory>
+        ensures succeeds { IsSome (value_of attr self.old) → IsOk result }
         ensures ok { OnOk result (self.new ≡ with_value attr value self.old) }
         ensures err { OnErr result (self.new ≡ self.old) }
     {
@@ -106,21 +113,14 @@ impl Attrs {
     }
 }
 
-// Which of two attributes stands first.
-fn order(a: Attr, b: Attr) -> Ordering
-    ensures { result ≡ attr_cmp a b }
-{
-    a.short().cmp(b.short())
-}
-
-// How the attribute of a row and an attribute stand.
+/// How the attribute of a row and an attribute stand.
 fn row_order(row: &(Attr, Val), attr: Attr) -> Ordering
     ensures { result ≡ attr_cmp row.now.0 attr }
 {
-    order(row.0, attr)
+    row.0.order(attr)
 }
 
-// Where the attribute's row stands, or else where one would stand.
+/// Where the attribute's row stands, or else where one would stand.
 fn place(rows: &[(Attr, Val)], attr: Attr) -> Result<usize, usize>
     requires { AreInOrder rows.now }
     ensures { MatchResult result (HoldsRow attr rows.now) (LacksRow attr rows.now) }
@@ -130,6 +130,7 @@ fn place(rows: &[(Attr, Val)], attr: Attr) -> Result<usize, usize>
 
 fn put(rows: &mut Vec<(Attr, Val)>, attr: Attr, value: Val) -> Result<(), OutOfMemory>
     requires { AreInOrder rows.old.items }
+    ensures succeeds { IsSome (value_of attr rows.old.items) → IsOk result }
     ensures ok { OnOk result (rows.new.items ≡ with_value attr value rows.old.items) }
     ensures err { OnErr result (rows.new.items ≡ rows.old.items) }
     ensures order { AreInOrder rows.new.items }
@@ -163,11 +164,47 @@ fn value_in(rows: &[(Attr, Val)], attr: Attr) -> Option<&Val>
     }
 }
 
-fn count_of(n: i64) -> Option<u64>
-    ensures value { result ≡ count_of n }
-    ensures bound { IfSome result (λ n. n < 2 ^ 63) }
+impl PartialEq for Attrs {
+    ghost eq = { pointwise same_row };
+
+    ghost laws = { partial_equiv_from_equiv (decided (pointwise same_row) same_rows-Decides) };
+
+    fn eq(&self, other: &Attrs) -> bool
+        ensures value { result ≡ pointwise same_row self.now other.now }
+        ensures means { IsTrue result ↔ (self.now ≡ other.now) }
+    {
+        have_same_rows(self, other)
+    }
+}
+
+impl Eq for Attrs {
+    ghost laws = { decided (pointwise same_row) same_rows-Decides };
+}
+
+fn have_same_rows(one: &Attrs, other: &Attrs) -> bool
+    ensures { result ≡ pointwise same_row one.now other.now }
 {
-    if n < 0 { None } else { Some(n as u64) }
+    are_same(&one.rows, &other.rows)
+}
+
+fn are_same(one: &[(Attr, Val)], other: &[(Attr, Val)]) -> bool
+    ensures { result ≡ pointwise same_row one.now other.now }
+{
+    if one.len() != other.len() {
+        return false;
+    }
+    for (i, row) in one.iter().enumerate() {
+        if !is_same_row(row, &other[i]) {
+            return false;
+        }
+    }
+    true
+}
+
+fn is_same_row(one: &(Attr, Val), other: &(Attr, Val)) -> bool
+    ensures { result ≡ same_row one.now other.now }
+{
+    one.0.short() == other.0.short() && one.1 == other.1
 }
 
 fn copied(alloc: Global, rows: &[(Attr, Val)]) -> Result<Vec<(Attr, Val)>, OutOfMemory>

@@ -42,8 +42,8 @@ impl From<OutOfMemory> for HomeFault {
     }
 }
 
-/// A home: the service provider, the CSE-ID without its slash, the name of the CSEBase, the CSE type and the
-/// administrator. Each is admitted.
+/// A home: the service provider, the CSE-ID without its slash, the name of the CSEBase, the CSE
+/// type and the administrator. Each is admitted.
 #[derive(Debug, Drop)]
 pub struct Home {
     sp: Text,
@@ -58,7 +58,13 @@ impl Model for Home {
 
     ghost Value = { HomeData };
 
-    ghost view = { λ h. record { sp = h.sp; csi = h.csi; base = h.base; cst = h.cst; admin = h.admin } };
+    ghost view = { λ h. record {
+      sp = h.sp;
+      csi = h.csi;
+      base = h.base;
+      cst = h.cst;
+      admin = h.admin;
+    } };
 
     ghost invariant = { λ h. IsHome (record {
       sp = h.sp;
@@ -111,8 +117,9 @@ impl Home {
     ghost use Rattle.resource_model.specs.declared.home.HomeFault.TheVariants.{Bad};
     ghost use Rattle.resource_model.specs.Home.{first_bad, default_home};
 
-    /// A home of these parts. The service provider, the CSE-ID, here without its slash, and the name of the CSEBase
-    /// are free names, the last of them no resource id; the CSE type is 1, 2 or 3; the administrator is an originator.
+    /// A home of these parts. The service provider, the CSE-ID, here without its slash, and the
+    /// name of the CSEBase are free names, the last of them no resource id; the CSE type is 1, 2 or
+    /// 3; the administrator is an originator.
     pub fn new(
         alloc: Global,
         sp: &[u8],
@@ -140,11 +147,11 @@ impl Home {
             return Err(HomeFault::Bad(place));
         }
         Ok(Home {
-            sp: text_of(alloc, sp)?,
-            csi: text_of(alloc, csi)?,
-            base: text_of(alloc, base)?,
+            sp: Text::from_slice(alloc, sp)?,
+            csi: Text::from_slice(alloc, csi)?,
+            base: Text::from_slice(alloc, base)?,
             cst,
-            admin: text_of(alloc, admin)?,
+            admin: Text::from_slice(alloc, admin)?,
         })
     }
 
@@ -153,11 +160,11 @@ impl Home {
         ensures { IfOk result (λ home. home ≡ default_home) }
     {
         Ok(Home {
-            sp: text_of(alloc, SERVICE_PROVIDER.as_bytes())?,
-            csi: text_of(alloc, CSE_ID.as_bytes())?,
-            base: text_of(alloc, BASE.as_bytes())?,
+            sp: Text::from_slice(alloc, SERVICE_PROVIDER.as_bytes())?,
+            csi: Text::from_slice(alloc, CSE_ID.as_bytes())?,
+            base: Text::from_slice(alloc, BASE.as_bytes())?,
             cst: CSE_TYPE,
-            admin: text_of(alloc, ADMIN.as_bytes())?,
+            admin: Text::from_slice(alloc, ADMIN.as_bytes())?,
         })
     }
 
@@ -212,10 +219,4 @@ impl Home {
             admin: self.admin.copy(alloc)?,
         })
     }
-}
-
-fn text_of(alloc: Global, bytes: &[u8]) -> Result<Text, OutOfMemory>
-    ensures { IfOk result (λ text. text ≡ bytes.now) }
-{
-    Ok(Text::of(Vec::from_slice(alloc, bytes)?))
 }

@@ -11,6 +11,8 @@ mod home;
 #[cfg(test)]
 mod home_tests;
 mod resource;
+#[cfg(test)]
+mod tests;
 
 pub use attrs::{AttrSet, Attrs};
 pub use home::{ADMIN, BASE, CSE_ID, CSE_TYPE, Home, HomeFault, SERVICE_PROVIDER};

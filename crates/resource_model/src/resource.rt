@@ -1,8 +1,9 @@
-// A resource, and a change of one.
-ghost use Rattle.std.specs.Prelude.{◌≡◌, ◌<◌, ◌≤◌, ◌^◌, IfOk, OnOk, OnErr, IsUtf8, option_map};
+//! A resource, and a change of one.
+ghost use Rattle.std.specs.Prelude.{◌≡◌, ◌<◌, ◌≤◌, ◌^◌, IfOk, IsOk, IsSome, OnOk, OnErr};
+ghost use Rattle.std.specs.Prelude.{IsUtf8, option_map};
 ghost use Rattle.m2m_names.specs.Stamps.{last_moment};
-ghost use Rattle.resource_model.specs.Attributes.{with_value, without_value};
-ghost use Rattle.resource_model.specs.Resource.{ResourceData, is_ty, ae_id, id_of};
+ghost use Rattle.resource_model.specs.Attributes.{value_of, with_value, without_value};
+ghost use Rattle.resource_model.specs.Resource.{ResourceData, is_ty, ae_id, cse_id, id_of};
 
 use crate::attrs::{AttrSet, Attrs};
 use m2m_names::{Attr, Ty};
@@ -173,6 +174,17 @@ impl Resource {
         }
     }
 
+    /// The CSE-ID of a remote CSE, with its slash (TS-0001, 9.6.4).
+    pub fn cse_id(&self) -> Option<&Text>
+        ensures { option_map (λ t. t.now) result ≡ cse_id self.now }
+    {
+        if self.is(Ty::RemoteCse) {
+            self.attrs.text(Attr::Csi)
+        } else {
+            None
+        }
+    }
+
     /// Its resource identifier: the short word of its type, and its number.
     pub fn id(&self, alloc: Global) -> Result<Text, OutOfMemory>
         ensures value { IfOk result (λ t. t ≡ id_of self.now) }
@@ -200,7 +212,9 @@ impl Resource {
 
     /// Gives an attribute a value. It takes memory only where the attribute has none.
     pub fn set(&mut self, attr: Attr, value: Val) -> Result<(), OutOfMemory>
-        ensures ok { OnOk result (self.new ≡ record self.old { attrs = with_value attr value self.old.attrs }) }
+        ensures succeeds { IsSome (value_of attr self.old.attrs) → IsOk result }
+        ensures ok { OnOk result
+            (self.new ≡ record self.old { attrs = with_value attr value self.old.attrs }) }
         ensures err { OnErr result (self.new ≡ self.old) }
     {
         self.attrs.set(attr, value)

@@ -3,14 +3,15 @@ use Rattle.std.specs.Prelude.{◌==◌, nat_lt}
 use Rattle.std.proofs.Common.{◌≡◌, ℕ, ◌<◌, List, [], ◌∷◌, ◌++◌, map, Bool, true, false, cond, not, ◌&&◌, ◌||◌, Option, Some, None, Less, inl, inr, refl, sym, ap, ◌∙◌, subst, arith, append_assoc}
 use Rattle.std.proofs.lemmas.Bool.{cases_Bool, and_parts, and_from, or_cases, or_from, or_left, not-true, not_from_false, eqb-true, eq-eqb, ne_eqb, ltb-true, both_ways, false_from_ne_true}
 use Rattle.std.proofs.lemmas.List.{append-nil, map-append, reverse-append}
+use Rattle.std.proofs.lemmas.List.Elements.{filter-append}
 use Rattle.std.proofs.lemmas.Option.{same_Some}
 use Rattle.std.specs.List.Sorted.{IsStrictlySortedBy}
 use Rattle.std.specs.Ordering.{nat_cmp}
 use Rattle.std.specs.List.{AllByRecursion, list_any, filter}
 use Rattle.std.specs.Option.{option_or}
 use Rattle.m2m_names.specs.declared.types.Ty.TheVariants.{CseBase}
-use Rattle.resource_model.specs.Resource.{ResourceData, is_ty, has_number, ae_id}
-use Rattle.tree_model.specs.Tree.{at, has, line_from, line_of, stays, without, is_spared, are_below, is_root, is_placed, has_child, has_ae_id, fits, fits_in, grows, is_tree, is_well_formed, AreAscending}
+use Rattle.resource_model.specs.Resource.{ResourceData, is_ty, has_number, ae_id, cse_id}
+use Rattle.tree_model.specs.Tree.{at, has, line_from, line_of, stays, without, is_spared, are_below, is_root, is_placed, has_child, has_ae_id, has_cse_id, fits, fits_in, grows, is_tree, is_well_formed, AreAscending}
 use Rattle.tree_model.proofs.TreeLemmas.{at_has, at_none, at-append, has-append, staying-append}
 
 -- ---- growing
@@ -62,17 +63,19 @@ pub record IsNext (nodes : List ResourceData) (r : ResourceData) : Type 0 where
   pub parent : is_placed nodes r ≡ true
   pub name : has_child r.parent r.name nodes ≡ false
   pub ae : has_ae_id (ae_id r) nodes ≡ false
+  pub cse : has_cse_id (cse_id r) nodes ≡ false
 
 pub next_fits : (nodes : List ResourceData) (r : ResourceData) → fits nodes r ≡ true → IsNext nodes r
 next_fits nodes r h =
-    let three = and_parts (are_below r.number nodes && is_placed nodes r && not (has_child r.parent r.name nodes)) _ h in
+    let four = and_parts (are_below r.number nodes && is_placed nodes r && not (has_child r.parent r.name nodes) && not (has_ae_id (ae_id r) nodes)) _ h in
+    let three = and_parts (are_below r.number nodes && is_placed nodes r && not (has_child r.parent r.name nodes)) _ four.0 in
     let two = and_parts (are_below r.number nodes && is_placed nodes r) _ three.0 in
     let one = and_parts (are_below r.number nodes) _ two.0 in
-    record { number = one.0; parent = one.1; name = not-true _ two.1; ae = not-true _ three.1 }
+    record { number = one.0; parent = one.1; name = not-true _ two.1; ae = not-true _ three.1; cse = not-true _ four.1 }
 
 pub fits_next : (nodes : List ResourceData) (r : ResourceData) → IsNext nodes r → fits nodes r ≡ true
 fits_next nodes r h =
-    and_from _ _ (and_from _ _ (and_from _ _ h.number h.parent) (not_from_false _ h.name)) (not_from_false _ h.ae)
+    and_from _ _ (and_from _ _ (and_from _ _ (and_from _ _ h.number h.parent) (not_from_false _ h.name)) (not_from_false _ h.ae)) (not_from_false _ h.cse)
 
 -- ---- numbers
 
@@ -186,13 +189,6 @@ stands = growth fits (λ nodes. (n : ℕ) (r : ResourceData) → at n nodes ≡ 
     ])
 
 -- ---- the reader's words for a removal
-
-filter-append : (p : ResourceData → Bool) (xs ys : List ResourceData) → filter p (xs ++ ys) ≡ filter p xs ++ filter p ys
-filter-append p [] ys = refl
-filter-append p (x ∷ xs) ys = elim (cases_Bool (p x)) [
-  | inl t ↦ rw t (ap (λ rest. x ∷ rest) (filter-append p xs ys))
-  | inr f ↦ rw f (filter-append p xs ys)
-]
 
 filter_agree : (n : ℕ) (p q : ResourceData → Bool) → ((s : ResourceData) → s.number < n → p s ≡ q s) → (nodes : List ResourceData) → are_below n nodes ≡ true → filter p nodes ≡ filter q nodes
 filter_agree n p q agree [] below = refl

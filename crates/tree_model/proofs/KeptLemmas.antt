@@ -7,13 +7,13 @@ use Rattle.std.proofs.lemmas.Option.{same_Some}
 use Rattle.std.specs.List.{list_any, list_all}
 use Rattle.std.specs.Option.{option_map_or}
 use Rattle.m2m_names.specs.Types.{does_take}
-use Rattle.m2m_names.specs.declared.attributes.Attr.TheVariants.{Aei}
+use Rattle.m2m_names.specs.declared.attributes.Attr.TheVariants.{Aei, Csi}
 use Rattle.m2m_names.specs.declared.types.Ty.{Ty}
-use Rattle.m2m_names.specs.declared.types.Ty.TheVariants.{Ae, CseBase}
+use Rattle.m2m_names.specs.declared.types.Ty.TheVariants.{Ae, CseBase, RemoteCse}
 use Rattle.m2m_value.specs.Data.{text}
 use Rattle.resource_model.specs.Attributes.{Row, text_at}
-use Rattle.resource_model.specs.Resource.{ResourceData, is_ty, has_number, ae_id}
-use Rattle.tree_model.specs.Tree.{at, has, is_child, child_of, replaced, stays, without, is_spared, are_below, is_root, is_placed, has_child, same_text, has_ae_id, fits, is_taken, fits_in, grows, is_tree, is_well_formed, standing}
+use Rattle.resource_model.specs.Resource.{ResourceData, is_ty, has_number, ae_id, cse_id}
+use Rattle.tree_model.specs.Tree.{at, has, is_child, child_of, replaced, stays, without, is_spared, are_below, is_root, is_placed, has_child, same_text, has_ae_id, has_cse_id, fits, is_taken, fits_in, grows, is_tree, is_well_formed, standing}
 use Rattle.tree_model.proofs.TreeLemmas.{list_any-same, list_all-same, has_at, at_has, at-map, has-map, staying-append, staying_all, staying_any}
 use Rattle.tree_model.proofs.GrowthLemmas.{IsNext, next_fits, fits_next, grown, growth, zero_lacks, root_parent, at-without, tree_from_well_formed}
 
@@ -33,6 +33,7 @@ pub record KeepsStanding (g : ResourceData → ResourceData) : Type 0 where
   pub name : (r : ResourceData) → (g r).name ≡ r.name
   pub parent : (r : ResourceData) → (g r).parent ≡ r.parent
   pub ae : (r : ResourceData) → ae_id (g r) ≡ ae_id r
+  pub cse : (r : ResourceData) → cse_id (g r) ≡ cse_id r
 
 module _ (g : ResourceData → ResourceData) (keeps : KeepsStanding g) where
   below-map : (n : ℕ) (nodes : List ResourceData) → are_below n (map g nodes) ≡ are_below n nodes
@@ -46,6 +47,9 @@ module _ (g : ResourceData → ResourceData) (keeps : KeepsStanding g) where
 
   pub has_ae_id-map : (aei : Option (List ℕ)) (nodes : List ResourceData) → has_ae_id aei (map g nodes) ≡ has_ae_id aei nodes
   has_ae_id-map aei nodes = list_any-map (λ s. same_text (ae_id s) aei) g nodes ∙ list_any-same (λ s. same_text (ae_id (g s)) aei) (λ s. same_text (ae_id s) aei) (λ s. ap (λ (o : Option (List ℕ)). same_text o aei) (keeps.ae s)) nodes
+
+  pub has_cse_id-map : (csi : Option (List ℕ)) (nodes : List ResourceData) → has_cse_id csi (map g nodes) ≡ has_cse_id csi nodes
+  has_cse_id-map csi nodes = list_any-map (λ s. same_text (cse_id s) csi) g nodes ∙ list_any-same (λ s. same_text (cse_id (g s)) csi) (λ s. same_text (cse_id s) csi) (λ s. ap (λ (o : Option (List ℕ)). same_text o csi) (keeps.cse s)) nodes
 
   is_root-map : (nodes : List ResourceData) (r : ResourceData) → is_root (map g nodes) (g r) ≡ is_root nodes r
   is_root-map [] r =
@@ -67,10 +71,12 @@ module _ (g : ResourceData → ResourceData) (keeps : KeepsStanding g) where
       ap (λ (m : ℕ). has_child m (g r).name (map g nodes)) (keeps.parent r) ∙ ap (λ (t : List ℕ). has_child r.parent t (map g nodes)) (keeps.name r) ∙ has_child-map r.parent r.name nodes in
       let ae : has_ae_id (ae_id (g r)) (map g nodes) ≡ has_ae_id (ae_id r) nodes =
       ap (λ (o : Option (List ℕ)). has_ae_id o (map g nodes)) (keeps.ae r) ∙ has_ae_id-map (ae_id r) nodes in
-      ap (λ b. b && is_placed (map g nodes) (g r) && not (has_child (g r).parent (g r).name (map g nodes)) && not (has_ae_id (ae_id (g r)) (map g nodes))) below
-      ∙ ap (λ b. are_below r.number nodes && b && not (has_child (g r).parent (g r).name (map g nodes)) && not (has_ae_id (ae_id (g r)) (map g nodes))) (placed-map nodes r)
-      ∙ ap (λ b. are_below r.number nodes && is_placed nodes r && not b && not (has_ae_id (ae_id (g r)) (map g nodes))) child
-      ∙ ap (λ b. are_below r.number nodes && is_placed nodes r && not (has_child r.parent r.name nodes) && not b) ae
+      let cse : has_cse_id (cse_id (g r)) (map g nodes) ≡ has_cse_id (cse_id r) nodes =
+      ap (λ (o : Option (List ℕ)). has_cse_id o (map g nodes)) (keeps.cse r) ∙ has_cse_id-map (cse_id r) nodes in
+      all_same below (placed-map nodes r) child ae cse
+    where
+      all_same : {a b c d e a' b' c' d' e' : Bool} → a ≡ a' → b ≡ b' → c ≡ c' → d ≡ d' → e ≡ e' → (a && b && not c && not d && not e) ≡ (a' && b' && not c' && not d' && not e')
+      all_same p q r s t = cc
 
   taken_by-map : (o : Option ResourceData) (r : ResourceData) → option_map_or (λ p. does_take p.ty (g r).ty) (option_map g o) true ≡ option_map_or (λ p. does_take p.ty r.ty) o true
   taken_by-map None r = refl
@@ -97,30 +103,47 @@ module _ (g : ResourceData → ResourceData) (keeps : KeepsStanding g) where
 
 -- ---- a replacement
 
-aei_rows : Option (List ℕ) → List Row
-aei_rows None = []
-aei_rows (Some t) = (Aei, text t) ∷ []
+id_rows : Option (List ℕ) → Option (List ℕ) → List Row
+id_rows None None = []
+id_rows None (Some c) = (Csi, text c) ∷ []
+id_rows (Some a) None = (Aei, text a) ∷ []
+id_rows (Some a) (Some c) = (Aei, text a) ∷ (Csi, text c) ∷ []
 
 -- a resource of which only number and standing are left
-abbrev stripped : ℕ → Ty × List ℕ × ℕ × Option (List ℕ) → ResourceData
-stripped n s = record { number = n; ty = s.0; name = s.1; parent = s.2; owner = []; ct = 0; lt = 0; et = 0; attrs = aei_rows s.3 }
+abbrev stripped : ℕ → Ty × List ℕ × ℕ × Option (List ℕ) × Option (List ℕ) → ResourceData
+stripped n s = record { number = n; ty = s.0; name = s.1; parent = s.2; owner = []; ct = 0; lt = 0; et = 0; attrs = id_rows s.3 s.4 }
 
 abbrev strip : ResourceData → ResourceData
 strip r = stripped r.number (standing r)
 
-aei_back : (o : Option (List ℕ)) → text_at Aei (aei_rows o) ≡ o
-unfolding aei_rows
-aei_back None = refl
-aei_back (Some t) = refl
+aei_back : (a c : Option (List ℕ)) → text_at Aei (id_rows a c) ≡ a
+unfolding id_rows
+aei_back None None = refl
+aei_back None (Some c) = refl
+aei_back (Some a) None = refl
+aei_back (Some a) (Some c) = refl
+
+csi_back : (a c : Option (List ℕ)) → text_at Csi (id_rows a c) ≡ c
+unfolding id_rows
+csi_back None None = refl
+csi_back None (Some c) = refl
+csi_back (Some a) None = refl
+csi_back (Some a) (Some c) = refl
 
 strip-ae : (r : ResourceData) → ae_id (strip r) ≡ ae_id r
 strip-ae r = elim (cases_Bool (is_ty r.ty Ae)) [
-  | inl t ↦ rw t (aei_back (text_at Aei r.attrs))
+  | inl t ↦ rw t (aei_back (text_at Aei r.attrs) (cse_id r))
+  | inr f ↦ rw f refl
+]
+
+strip-cse : (r : ResourceData) → cse_id (strip r) ≡ cse_id r
+strip-cse r = elim (cases_Bool (is_ty r.ty RemoteCse)) [
+  | inl t ↦ rw t (csi_back (ae_id r) (text_at Csi r.attrs))
   | inr f ↦ rw f refl
 ]
 
 strip_keeps : KeepsStanding strip
-strip_keeps = record { number = λ r. refl; ty = λ r. refl; name = λ r. refl; parent = λ r. refl; ae = strip-ae }
+strip_keeps = record { number = λ r. refl; ty = λ r. refl; name = λ r. refl; parent = λ r. refl; ae = strip-ae; cse = strip-cse }
 
 -- what a resource keeps in another's place, the list keeps
 pub map-replaced_same : {X : Type 0} (h : ResourceData → X) (r : ResourceData) (nodes : List ResourceData) → ((s : ResourceData) → at r.number nodes ≡ Some s → h s ≡ h r) → map h (replaced r nodes) ≡ map h nodes
@@ -194,6 +217,7 @@ still_next p before r tree next stayed = record {
   parent = still_placed p before r tree next.parent stayed;
   name = false_from_ne_true _ (λ t. both_ways _ next.name (staying_any p (is_child r.parent r.name) [] before t));
   ae = false_from_ne_true _ (λ t. both_ways _ next.ae (staying_any p (λ s. same_text (ae_id s) (ae_id r)) [] before t));
+  cse = false_from_ne_true _ (λ t. both_ways _ next.cse (staying_any p (λ s. same_text (cse_id s) (cse_id r)) [] before t));
 }
 
 pub is_tree-without : (p : ResourceData → Bool) (nodes : List ResourceData) → is_tree nodes ≡ true → is_tree (without p nodes) ≡ true

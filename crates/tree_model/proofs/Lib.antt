@@ -6,3 +6,9 @@ pub mod SweepLemmas
 pub mod TextLemmas
 pub mod ShownLemmas
 pub mod LiveLemmas
+pub mod FoundLemmas
+pub mod RemovalLemmas
+pub mod QuietLemmas
+pub mod StampLemmas
+pub mod ChangeLemmas
+pub mod ApartLemmas

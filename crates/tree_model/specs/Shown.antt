@@ -1,11 +1,14 @@
 -- The attributes of a resource as they are shown (TS-0001, 9.6; TS-0004, 7.4 and 8.2.3).
-use Rattle.std.specs.Prelude.{ℕ, ◌-◌, ◌^◌, min, pos, List, [], ◌∷◌, ◌++◌, length, map, codes, if◌then◌else◌}
+use Rattle.std.specs.Prelude.{ℕ, ◌-◌, ◌^◌, min, pos, List, [], ◌∷◌, ◌++◌, length, map, codes}
+use Rattle.std.specs.Prelude.{if◌then◌else◌}
 use Rattle.std.specs.Option.{option_map_or}
 use Rattle.m2m_names.specs.Attributes.{attr_short}
 use Rattle.m2m_names.specs.Stamps.{timestamp}
 use Rattle.m2m_names.specs.Types.{ty_row, ty_member, all_types}
 use Rattle.m2m_names.specs.declared.attributes.Attr.{Attr}
-use Rattle.m2m_names.specs.declared.attributes.Attr.TheVariants.{Cbs, Cni, Csi, Cst, Csy, Ct, Et, Lt, Mt, Pi, Ri, Rn, Srt, Ty as TyAttr}
+use Rattle.m2m_names.specs.declared.attributes.Attr.TheVariants.{Cbs, Cni, Csi, Cst, Csy, Ct, Et}
+use Rattle.m2m_names.specs.declared.attributes.Attr.TheVariants.{Lt, Mt, Pi, Ri, Rn, Srt}
+use Rattle.m2m_names.specs.declared.attributes.Attr.TheVariants.{Ty as TyAttr}
 use Rattle.m2m_names.specs.declared.types.Ty.{Ty}
 use Rattle.m2m_names.specs.declared.types.Ty.TheVariants.{CseBase, Container, Group}
 use Rattle.m2m_value.specs.Data.{Data, number, text, list, object, Entry, elements_of, pairs_of}

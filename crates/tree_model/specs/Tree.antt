@@ -1,16 +1,21 @@
 -- A tree of resources: the list of them in order of creation (TS-0001, 9.6).
-use Rattle.std.specs.Prelude.{◌≡◌, ◌<◌, map, slice_index_or, slice_set, ℕ, ◌+◌, ◌==◌, nat_le, nat_lt, min, List, [], ◌∷◌, ◌++◌, length, filter, find, reverse, sum_by, Bool, true, false, not, ◌&&◌, ◌||◌, if◌then◌else◌, Option, Some, None, option_map, unwrap_or}
+use Rattle.std.specs.Prelude.{◌≡◌, ◌<◌, map, pos, is_some, slice_index_or, slice_get, slice_set, ℕ}
+use Rattle.std.specs.Prelude.{◌+◌, ◌-◌, ◌==◌, nat_le, nat_lt, min, List, [], ◌∷◌, ◌++◌, length}
+use Rattle.std.specs.Prelude.{filter, find, reverse, sum_by, Bool, true, false, not, ◌&&◌, ◌||◌}
+use Rattle.std.specs.Prelude.{if◌then◌else◌, Option, Some, None, option_map, unwrap_or}
 use Rattle.std.specs.List.{list_all, list_any}
 use Rattle.std.specs.List.Sorted.{IsStrictlySortedBy}
 use Rattle.std.specs.Option.{option_map_or}
 use Rattle.std.specs.Ordering.{nat_cmp}
 use Rattle.std.specs.Str.{bytes_eq}
 use Rattle.m2m_names.specs.Types.{does_take}
-use Rattle.m2m_names.specs.declared.attributes.Attr.TheVariants.{Mia, Cs}
+use Rattle.m2m_names.specs.declared.attributes.Attr.TheVariants.{Mia, Cs, St}
 use Rattle.m2m_names.specs.declared.types.Ty.{Ty}
-use Rattle.m2m_names.specs.declared.types.Ty.TheVariants.{CseBase, ContentInstance}
-use Rattle.resource_model.specs.Attributes.{count_at}
-use Rattle.resource_model.specs.Resource.{ResourceData, is_ty, has_number, ae_id}
+use Rattle.m2m_names.specs.declared.types.Ty.TheVariants.{CseBase, ContentInstance, PollingChannel}
+use Rattle.m2m_names.specs.declared.types.Ty.TheVariants.{Subscription}
+use Rattle.m2m_value.specs.Data.{number}
+use Rattle.resource_model.specs.Attributes.{count_at, value_of, with_value}
+use Rattle.resource_model.specs.Resource.{ResourceData, is_ty, has_number, ae_id, cse_id}
 
 -- ---- what stands in a list
 
@@ -30,13 +35,24 @@ is_under parent r = r.parent == parent
 abbrev pub children_of : ℕ → List ResourceData → List ResourceData
 children_of parent nodes = filter (is_under parent) nodes
 
+-- it is a child of this type
+abbrev pub is_kin : Ty → ℕ → ResourceData → Bool
+is_kin ty parent r = is_under parent r && is_ty r.ty ty
+
+abbrev pub kin_of : Ty → ℕ → List ResourceData → List ResourceData
+kin_of ty parent nodes = filter (is_kin ty parent) nodes
+
+-- the subscriptions of a resource, in order of creation (TS-0001, 9.6.8)
+abbrev pub subs_of : ℕ → List ResourceData → List ResourceData
+subs_of parent nodes = kin_of Subscription parent nodes
+
 -- it is a content instance of this container
 abbrev pub is_instance : ℕ → ResourceData → Bool
-is_instance container r = is_under container r && is_ty r.ty ContentInstance
+is_instance container r = is_kin ContentInstance container r
 
 -- the content instances of a container, oldest first (TS-0001, 9.6.6)
 abbrev pub instances_of : ℕ → List ResourceData → List ResourceData
-instances_of container nodes = filter (is_instance container) nodes
+instances_of container nodes = kin_of ContentInstance container nodes
 
 -- the size of an instance in bytes, and of all the instances of a container
 abbrev pub size_of : ResourceData → ℕ
@@ -48,6 +64,54 @@ sizes_of container nodes = sum_by size_of (instances_of container nodes)
 -- it is the child of this name
 abbrev pub is_child : ℕ → List ℕ → ResourceData → Bool
 is_child parent name r = is_under parent r && bytes_eq r.name name
+
+-- the number of a resource, where there is one
+abbrev pub number_of : Option ResourceData → Option ℕ
+number_of found = option_map (λ r. r.number) found
+
+-- the number of the resource at a place, from 0
+abbrev pub number_at : ℕ → List ResourceData → Option ℕ
+number_at k rs = number_of (slice_get rs k)
+
+-- the number of the last resource, and of the first
+abbrev pub last_of : List ResourceData → Option ℕ
+last_of rs = number_at (length rs - 1) rs
+
+abbrev pub first_of : List ResourceData → Option ℕ
+first_of rs = number_at 0 rs
+
+-- the number of the newest or of the oldest instance of a container
+abbrev pub instance_of : Bool → ℕ → List ResourceData → Option ℕ
+instance_of newest container nodes =
+    if newest then last_of (instances_of container nodes)
+    else first_of (instances_of container nodes)
+
+-- both are given, and they are one
+abbrev pub same_text : Option (List ℕ) → Option (List ℕ) → Bool
+same_text (Some a) (Some b) = bytes_eq a b
+same_text (Some a) None = false
+same_text None (Some b) = false
+same_text None None = false
+
+-- it has this AE-ID
+abbrev pub is_ae : List ℕ → ResourceData → Bool
+is_ae aei r = same_text (ae_id r) (Some aei)
+
+-- the number of the application entity that has an AE-ID
+abbrev pub ae_of : List ℕ → List ResourceData → Option ℕ
+ae_of aei nodes = number_of (find (is_ae aei) nodes)
+
+-- it has this CSE-ID
+abbrev pub is_cse : List ℕ → ResourceData → Bool
+is_cse csi r = same_text (cse_id r) (Some csi)
+
+-- the number of the remote CSE that has a CSE-ID
+abbrev pub cse_of : List ℕ → List ResourceData → Option ℕ
+cse_of csi nodes = number_of (find (is_cse csi) nodes)
+
+-- the polling channels of a resource, in order of creation (TS-0001, 9.6.21)
+abbrev pub channels_of : ℕ → List ResourceData → List ResourceData
+channels_of parent nodes = kin_of PollingChannel parent nodes
 
 -- the number of the child of a name
 abbrev pub child_of : ℕ → List ℕ → List ResourceData → Option ℕ
@@ -73,12 +137,26 @@ abbrev pub replaced : ResourceData → List ResourceData → List ResourceData
 replaced r [] = []
 replaced r (s ∷ nodes) = if has_number r.number s then r ∷ nodes else s ∷ replaced r nodes
 
+-- the resource, last changed at this moment, with this state tag (TS-0001, 9.6.1.3.2)
+abbrev pub restamped : ℕ → ℕ → ResourceData → ResourceData
+restamped lt st r = record r { lt = lt; attrs = with_value St (number (pos st)) r.attrs }
+
+-- the resource of a number is so, where it is there
+abbrev pub restamped_at : ℕ → ℕ → ℕ → List ResourceData → List ResourceData
+restamped_at n lt st nodes = option_map_or (λ r. replaced (restamped lt st r) nodes)
+    (at n nodes) nodes
+
+-- it is there, and has a state tag
+abbrev pub has_state : ℕ → List ResourceData → Bool
+has_state n nodes = option_map_or (λ r. is_some (value_of St r.attrs)) (at n nodes) false
+
 -- a resource stays where it isn't picked and its parent stayed
 abbrev pub stays : (ResourceData → Bool) → List ResourceData → ResourceData → Bool
 stays picks stayed r = not (picks r) && ((r.parent == 0) || has r.parent stayed)
 
 -- in order of creation, after those that stayed
-abbrev pub staying : (ResourceData → Bool) → List ResourceData → List ResourceData → List ResourceData
+abbrev pub staying : (ResourceData → Bool) → List ResourceData → List ResourceData
+    → List ResourceData
 staying picks stayed [] = []
 staying picks stayed (r ∷ nodes) =
     if stays picks stayed r
@@ -121,6 +199,14 @@ is_due nodes moment r = option_map_or (λ at. nat_le at moment) (due nodes r) fa
 abbrev pub live : ℕ → List ResourceData → List ResourceData
 live moment nodes = without (is_due nodes moment) nodes
 
+-- it isn't due before this moment
+abbrev pub is_quiet : List ResourceData → ℕ → ResourceData → Bool
+is_quiet nodes until r = option_map_or (λ at. nat_le until at) (due nodes r) true
+
+-- nothing is due before this moment
+abbrev pub are_quiet : ℕ → List ResourceData → Bool
+are_quiet until nodes = list_all (is_quiet nodes until) nodes
+
 -- ---- which lists are trees
 
 -- every number is below this one
@@ -140,22 +226,21 @@ is_placed nodes r = has r.parent nodes || is_root nodes r
 abbrev pub has_child : ℕ → List ℕ → List ResourceData → Bool
 has_child parent name nodes = list_any (is_child parent name) nodes
 
--- both are given, and they are one
-abbrev pub same_text : Option (List ℕ) → Option (List ℕ) → Bool
-same_text (Some a) (Some b) = bytes_eq a b
-same_text (Some a) None = false
-same_text None (Some b) = false
-same_text None None = false
-
 -- an application entity has this AE-ID
 abbrev pub has_ae_id : Option (List ℕ) → List ResourceData → Bool
 has_ae_id aei nodes = list_any (λ s. same_text (ae_id s) aei) nodes
 
--- what may come next: its number is new, its parent is there, and its name and AE-ID are free
+-- a remote CSE has this CSE-ID
+abbrev pub has_cse_id : Option (List ℕ) → List ResourceData → Bool
+has_cse_id csi nodes = list_any (λ s. same_text (cse_id s) csi) nodes
+
+-- what may come next: its number is new, its parent is there, and its name, AE-ID and CSE-ID are
+-- free
 abbrev pub fits : List ResourceData → ResourceData → Bool
 fits nodes r =
     are_below r.number nodes && is_placed nodes r
     && not (has_child r.parent r.name nodes) && not (has_ae_id (ae_id r) nodes)
+    && not (has_cse_id (cse_id r) nodes)
 
 -- its parent, where it has one, takes its type (TS-0001, 9.6)
 abbrev pub is_taken : List ResourceData → ResourceData → Bool
@@ -165,12 +250,13 @@ abbrev pub fits_in : List ResourceData → ResourceData → Bool
 fits_in nodes r = fits nodes r && is_taken nodes r
 
 -- each resource could come after those before it
-abbrev pub grows : (List ResourceData → ResourceData → Bool) → List ResourceData → List ResourceData → Bool
+abbrev pub grows : (List ResourceData → ResourceData → Bool) → List ResourceData
+    → List ResourceData → Bool
 grows may before [] = true
 grows may before (r ∷ nodes) = may before r && grows may (before ++ r ∷ []) nodes
 
 -- a CSEBase first, numbers ascend, each other resource has its parent before it, and names of
--- siblings and AE-IDs differ: what every tree keeps
+-- siblings, AE-IDs and CSE-IDs differ: what every tree keeps
 abbrev pub is_tree : List ResourceData → Bool
 is_tree nodes = grows fits [] nodes
 
@@ -179,8 +265,8 @@ abbrev pub is_well_formed : List ResourceData → Bool
 is_well_formed nodes = grows fits_in [] nodes
 
 -- what a replacement leaves as it was
-abbrev pub standing : ResourceData → Ty × List ℕ × ℕ × Option (List ℕ)
-standing r = (r.ty, r.name, r.parent, ae_id r)
+abbrev pub standing : ResourceData → Ty × List ℕ × ℕ × Option (List ℕ) × Option (List ℕ)
+standing r = (r.ty, r.name, r.parent, ae_id r, cse_id r)
 
 -- numbers ascend
 abbrev pub AreAscending : List ResourceData → Type 0

@@ -1,31 +1,40 @@
 // What a caller may test before it changes a tree.
-ghost use Rattle.std.specs.Prelude.{◌≡◌, ◌↔◌, [], not, ◌&&◌, false, IsTrue, None, Some, option_map};
+ghost use Rattle.std.specs.Prelude.{◌≡◌, ◌-◌, ◌↔◌, [], not, nat_lt, ◌&&◌, length, slice_get};
+ghost use Rattle.std.specs.Prelude.{is_some, true, false, IsTrue, None, Some, option_map};
 ghost use Rattle.std.specs.Bool.{OnTrue};
-ghost use Rattle.resource_model.specs.Resource.{ResourceData, ae_id};
-ghost use Rattle.tree_model.specs.Tree.{at, has, child_of, are_below, is_root, is_placed, has_child, same_text, has_ae_id, fits, standing};
+ghost use Rattle.std.specs.Option.{option_map_or};
+ghost use Rattle.m2m_names.specs.declared.attributes.Attr.TheVariants.{St};
+ghost use Rattle.resource_model.specs.Attributes.{value_of};
+ghost use Rattle.resource_model.specs.Resource.{ResourceData, ae_id, cse_id};
+ghost use Rattle.tree_model.specs.Tree.{at, has, child_of, are_below, is_root, is_placed};
+ghost use Rattle.tree_model.specs.Tree.{has_child, has_ae_id, has_cse_id, has_state, fits};
+ghost use Rattle.tree_model.specs.Tree.{standing};
 
-use crate::nodes::is_named;
+use crate::steps::child_named;
 use crate::tree::Tree;
-use crate::walk::over;
-use m2m_names::Ty;
+use m2m_names::{Attr, Ty};
+use m2m_value::Text;
 use resource_model::Resource;
 
 /// Whether the resource may be inserted: its number is greater than every other, its parent is
-/// there (or it is the CSEBase and the first), and its name and its AE-ID are free.
+/// there (or it is the CSEBase and the first), and its name, its AE-ID and its CSE-ID are free.
 pub fn may_insert<T: Tree>(tree: &T, resource: &Resource) -> bool
     ensures value { result ≡ fits (T.nodes tree.now) resource.now }
     ensures number { OnTrue result (IsTrue (are_below resource.now.number (T.nodes tree.now))) }
     ensures parent { OnTrue result (IsTrue (is_placed (T.nodes tree.now) resource.now)) }
-    ensures name { OnTrue result (child_of resource.now.parent resource.now.name (T.nodes tree.now) ≡ None) }
+    ensures name { OnTrue result (child_of resource.now.parent resource.now.name
+        (T.nodes tree.now) ≡ None) }
     ensures ae { OnTrue result (has_ae_id (ae_id resource.now) (T.nodes tree.now) ≡ false) }
+    ensures cse { OnTrue result (has_cse_id (cse_id resource.now) (T.nodes tree.now) ≡ false) }
 {
     is_above(tree, resource.number()) && has_place(tree, resource) && is_free(tree, resource)
 }
 
 /// Whether the resource may replace the one of its number: that one has the same type, name,
-/// parent and AE-ID.
+/// parent, AE-ID and CSE-ID.
 pub fn may_replace<T: Tree>(tree: &T, resource: &Resource) -> bool
-    ensures { IsTrue result ↔ (option_map standing (at resource.now.number (T.nodes tree.now)) ≡ Some (standing resource.now)) }
+    ensures { IsTrue result ↔ (option_map standing (at resource.now.number
+        (T.nodes tree.now)) ≡ Some (standing resource.now)) }
 {
     match tree.get(resource.number()) {
         Some(old) => stand_alike(old, resource),
@@ -33,15 +42,41 @@ pub fn may_replace<T: Tree>(tree: &T, resource: &Resource) -> bool
     }
 }
 
+/// Whether the resource of a number may be stamped anew: it is there, and has a state tag.
+pub fn may_restamp<T: Tree>(tree: &T, number: u64) -> bool
+    ensures { result ≡ has_state number (T.nodes tree.now) }
+{
+    match tree.get(number) {
+        Some(resource) => has_tag(resource),
+        None => false,
+    }
+}
+
+fn has_tag(resource: &Resource) -> bool
+    ensures { result ≡ is_some (value_of St resource.now.attrs) }
+{
+    match resource.attrs().get(Attr::St) {
+        Some(_) => true,
+        None => false,
+    }
+}
+
+// Numbers ascend, so that the last one decides.
 fn is_above<T: Tree>(tree: &T, number: u64) -> bool
     ensures { result ≡ are_below number (T.nodes tree.now) }
 {
-    for other in over(tree) {
-        if other.number() >= number {
-            return false;
-        }
+    let count = tree.len();
+    is_below(tree.nth(count.saturating_sub(1)), number)
+}
+
+fn is_below(last: Option<&Resource>, number: u64) -> bool
+    ensures { result ≡ option_map_or (λ (r : ResourceData). nat_lt r.number number) (option_map
+        (λ r. r.now) last.entry) true }
+{
+    match last {
+        Some(last) => last.number() < number,
+        None => true,
     }
-    true
 }
 
 fn has_place<T: Tree>(tree: &T, resource: &Resource) -> bool
@@ -70,41 +105,62 @@ fn is_first(resource: &Resource) -> bool
 }
 
 fn is_free<T: Tree>(tree: &T, resource: &Resource) -> bool
-    ensures value { result ≡ (not (has_child resource.now.parent resource.now.name (T.nodes tree.now))
-        && not (has_ae_id (ae_id resource.now) (T.nodes tree.now))) }
-    ensures name { OnTrue result (child_of resource.now.parent resource.now.name (T.nodes tree.now) ≡ None) }
+    ensures value { result ≡ (not (has_child resource.now.parent resource.now.name
+        (T.nodes tree.now))
+        && (not (has_ae_id (ae_id resource.now) (T.nodes tree.now))
+        && not (has_cse_id (cse_id resource.now) (T.nodes tree.now)))) }
+    ensures name { OnTrue result (child_of resource.now.parent resource.now.name
+        (T.nodes tree.now) ≡ None) }
 {
-    !is_taken_name(tree, resource) && !is_taken_ae_id(tree, resource)
+    !is_taken_name(tree, resource) && has_free_ids(tree, resource)
+}
+
+fn has_free_ids<T: Tree>(tree: &T, resource: &Resource) -> bool
+    ensures { result ≡ (not (has_ae_id (ae_id resource.now) (T.nodes tree.now))
+        && not (has_cse_id (cse_id resource.now) (T.nodes tree.now))) }
+{
+    !is_taken_ae_id(tree, resource.ae_id()) && !is_taken_cse_id(tree, resource.cse_id())
 }
 
 fn is_taken_name<T: Tree>(tree: &T, resource: &Resource) -> bool
     ensures { result ≡ has_child resource.now.parent resource.now.name (T.nodes tree.now) }
 {
-    for other in over(tree) {
-        if is_named(other, resource.parent(), resource.name().entries()) {
-            return true;
-        }
-    }
-    false
+    has_child(tree, resource.parent(), resource.name().entries())
 }
 
-fn is_taken_ae_id<T: Tree>(tree: &T, resource: &Resource) -> bool
-    ensures { result ≡ has_ae_id (ae_id resource.now) (T.nodes tree.now) }
+fn has_child<T: Tree>(tree: &T, parent: u64, name: &[u8]) -> bool
+    ensures { result ≡ has_child parent name.now (T.nodes tree.now) }
 {
-    for other in over(tree) {
-        if have_one_ae_id(other, resource) {
-            return true;
-        }
-    }
-    false
+    child_named(tree, parent, name).is_some()
 }
 
-fn have_one_ae_id(a: &Resource, b: &Resource) -> bool
-    ensures { result ≡ same_text (ae_id a.now) (ae_id b.now) }
+fn has_ae<T: Tree>(tree: &T, aei: &[u8]) -> bool
+    ensures { result ≡ has_ae_id (Some aei.now) (T.nodes tree.now) }
 {
-    match (a.ae_id(), b.ae_id()) {
-        (Some(x), Some(y)) => x.entries() == y.entries(),
-        _ => false,
+    tree.ae(aei).is_some()
+}
+
+fn has_cse<T: Tree>(tree: &T, csi: &[u8]) -> bool
+    ensures { result ≡ has_cse_id (Some csi.now) (T.nodes tree.now) }
+{
+    tree.cse(csi).is_some()
+}
+
+fn is_taken_ae_id<T: Tree>(tree: &T, aei: Option<&Text>) -> bool
+    ensures { result ≡ has_ae_id (option_map (λ t. t.now) aei.entry) (T.nodes tree.now) }
+{
+    match aei {
+        Some(aei) => has_ae(tree, aei.entries()),
+        None => false,
+    }
+}
+
+fn is_taken_cse_id<T: Tree>(tree: &T, csi: Option<&Text>) -> bool
+    ensures { result ≡ has_cse_id (option_map (λ t. t.now) csi.entry) (T.nodes tree.now) }
+{
+    match csi {
+        Some(csi) => has_cse(tree, csi.entries()),
+        None => false,
     }
 }
 
@@ -114,13 +170,14 @@ fn stand_alike(a: &Resource, b: &Resource) -> bool
     a.is(b.ty())
         && a.name().entries() == b.name().entries()
         && a.parent() == b.parent()
-        && have_equal_ae_ids(a, b)
+        && are_equal(a.ae_id(), b.ae_id())
+        && are_equal(a.cse_id(), b.cse_id())
 }
 
-fn have_equal_ae_ids(a: &Resource, b: &Resource) -> bool
-    ensures { IsTrue result ↔ (ae_id a.now ≡ ae_id b.now) }
+fn are_equal(a: Option<&Text>, b: Option<&Text>) -> bool
+    ensures { IsTrue result ↔ (option_map (λ t. t.now) a.entry ≡ option_map (λ t. t.now) b.entry) }
 {
-    match (a.ae_id(), b.ae_id()) {
+    match (a, b) {
         (Some(x), Some(y)) => x.entries() == y.entries(),
         (None, None) => true,
         _ => false,

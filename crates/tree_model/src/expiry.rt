@@ -1,5 +1,5 @@
 // When resources are due.
-ghost use Rattle.std.specs.Prelude.{◌≡◌};
+ghost use Rattle.std.specs.Prelude.{◌≡◌, option_map};
 ghost use Rattle.tree_model.specs.Tree as spec;
 
 use crate::tree::Tree;
@@ -12,13 +12,7 @@ use resource_model::Resource;
 pub fn due<T: Tree>(tree: &T, resource: &Resource) -> Option<u64>
     ensures { result ≡ spec.due (T.nodes tree.now) resource.now }
 {
-    if resource.is(Ty::CseBase) {
-        return None;
-    }
-    if resource.is(Ty::ContentInstance) {
-        return Some(due_of_instance(tree, resource));
-    }
-    Some(resource.et())
+    due_under(tree.get(resource.parent()), resource)
 }
 
 /// Whether a resource is due at a moment.
@@ -31,19 +25,39 @@ pub fn is_due<T: Tree>(tree: &T, resource: &Resource, moment: u64) -> bool
     }
 }
 
-fn due_of_instance<T: Tree>(tree: &T, resource: &Resource) -> u64
-    ensures { result ≡ spec.lesser resource.now.et (spec.age_end (spec.at resource.now.parent (T.nodes tree.now)) resource.now) }
+// When a resource with this parent is due.
+pub(crate) fn due_under(parent: Option<&Resource>, resource: &Resource) -> Option<u64>
+    ensures { result ≡ spec.due_under (option_map (λ r. r.now) parent.entry) resource.now }
 {
-    match age_end(tree, resource) {
-        Some(end) => resource.et().min(end),
-        None => resource.et(),
+    if resource.is(Ty::CseBase) {
+        return None;
     }
+    if resource.is(Ty::ContentInstance) {
+        return Some(due_of_instance(parent, resource));
+    }
+    Some(resource.et())
 }
 
-fn age_end<T: Tree>(tree: &T, resource: &Resource) -> Option<u64>
-    ensures { result ≡ spec.age_end (spec.at resource.now.parent (T.nodes tree.now)) resource.now }
+fn due_of_instance(container: Option<&Resource>, resource: &Resource) -> u64
+    ensures { result ≡ spec.lesser resource.now.et (spec.age_end (option_map
+        (λ r. r.now) container.entry) resource.now) }
 {
-    let container = tree.get(resource.parent())?;
-    let age = container.attrs().count(Attr::Mia)?;
+    earlier(resource.et(), age_end(container, resource))
+}
+
+fn age_end(container: Option<&Resource>, resource: &Resource) -> Option<u64>
+    ensures { result ≡ spec.age_end (option_map (λ r. r.now) container.entry) resource.now }
+{
+    let age = container?.attrs().count(Attr::Mia)?;
     Some(resource.ct() + age)
+}
+
+/// The lesser of a moment and another, where there is one.
+pub(crate) fn earlier(moment: u64, other: Option<u64>) -> u64
+    ensures { result ≡ spec.lesser moment other }
+{
+    match other {
+        Some(other) => moment.min(other),
+        None => moment,
+    }
 }

@@ -6,16 +6,24 @@
 //! every definition of `specs/Tree` and `specs/Shown` takes the list and never what keeps it. A
 //! tree is gone over by `for r in over(&tree)`, whose iterator is seen as the list of what is left.
 //!
-//! Callers owe the conditions of `insert` and `replace`, which `may_insert` and `may_replace` test,
-//! and that a resource which they remove stands in the tree (`stands_in`). Only `insert` and what
-//! builds values take memory. Steps are counted by `Steps`, on a ledger of the caller's, at no cost.
+//! What procedures ask is a call of the tree (children, subscriptions, instances with their count
+//! and the sum of their sizes, AE-IDs, CSE-IDs, and a moment before which nothing is due), so that
+//! none of them walks. `ListTree` answers most by walks of its own, and keeps that moment.
+//!
+//! Callers owe the conditions of `insert` and `replace`, which `may_insert` and `may_replace` test
+//! by look-ups, and that a resource which they remove stands in the tree (`stands_in`). Only
+//! `insert` and what builds values take memory. Steps are counted by `Steps`, on a ledger of the
+//! caller's, at no cost; who counts none asks `child_named`.
 #![tactic(auto)]
 
 mod conditions;
 mod expiry;
+mod finding;
 mod laws;
 mod list_tree;
 mod nodes;
+mod placing;
+mod removing;
 mod showing;
 mod steps;
 #[cfg(test)]
@@ -23,11 +31,12 @@ mod tests;
 mod tree;
 mod walk;
 
-pub use conditions::{may_insert, may_replace, stands_in};
+pub use conditions::{may_insert, may_replace, may_restamp, stands_in};
 pub use expiry::{due, is_due};
 pub use laws::{
     a_line_goes_up_from_parent_to_parent, a_removal_takes_what_is_picked_and_what_stands_below,
-    a_well_formed_tree_stays_one,
+    a_well_formed_tree_stays_one, all_is_live_while_it_is_quiet,
+    no_two_resources_share_what_stands_once,
 };
 pub use list_tree::ListTree;
 pub use nodes::Nodes;
@@ -37,6 +46,6 @@ pub use resource_model::{
 };
 pub use showing::{attributes, content, shown};
 pub use std::alloc::AllocError as OutOfMemory;
-pub use steps::Steps;
+pub use steps::{Steps, child_named};
 pub use tree::Tree;
 pub use walk::{Walk, over};

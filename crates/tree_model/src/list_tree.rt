@@ -1,18 +1,21 @@
 // The plain tree.
 ghost use Rattle.std.specs.Prelude.{◌≡◌, []};
 
+use crate::expiry::earlier;
 use crate::nodes::Nodes;
 use crate::steps::Steps;
 use crate::tree::Tree;
+use m2m_names::Attr;
 use resource_model::Resource;
 use std::alloc::{AllocError as OutOfMemory, Global};
 use std::marker::Model;
 use std::sync::ledger::Ledger;
 
-/// The plain tree: the list of its resources, and nothing beside it.
+/// The plain tree: the list of its resources, and a moment before which none of them is due.
 #[derive(Drop)]
 pub struct ListTree {
     nodes: Nodes,
+    quiet: u64,
 }
 
 impl Model for ListTree {
@@ -25,7 +28,12 @@ impl Model for ListTree {
 
     ghost coded = { coded_list resource_code };
 
+    ghost use Rattle.std.specs.Prelude.{IsTrue};
+    ghost use Rattle.tree_model.specs.Tree.{are_quiet};
+
     ghost view = { λ t. t.nodes };
+
+    ghost invariant = { λ t. IsTrue (are_quiet t.quiet t.nodes) };
 }
 
 impl ListTree {
@@ -35,6 +43,7 @@ impl ListTree {
     {
         ListTree {
             nodes: Nodes::new(alloc),
+            quiet: u64::MAX,
         }
     }
 }
@@ -61,15 +70,64 @@ impl Tree for ListTree {
         self.nodes.child(parent, name)
     }
 
+    fn kid(&self, parent: u64, k: u64) -> Option<u64> {
+        self.nodes.kid(parent, k)
+    }
+
+    fn sub(&self, parent: u64, k: u64) -> Option<u64> {
+        self.nodes.sub(parent, k)
+    }
+
+    fn instance(&self, container: u64, newest: bool) -> Option<u64> {
+        self.nodes.instance(container, newest)
+    }
+
+    fn instance_at(&self, container: u64, k: u64) -> Option<u64> {
+        self.nodes.instance_at(container, k)
+    }
+
+    fn instance_count(&self, container: u64) -> u64 {
+        self.nodes.instance_count(container)
+    }
+
+    fn instance_sizes(&self, container: u64) -> u128 {
+        self.nodes.instance_sizes(container)
+    }
+
+    fn ae(&self, aei: &[u8]) -> Option<u64> {
+        self.nodes.ae(aei)
+    }
+
+    fn cse(&self, csi: &[u8]) -> Option<u64> {
+        self.nodes.cse(csi)
+    }
+
+    fn quiet_until(&self) -> u64 {
+        self.quiet
+    }
+
     fn insert(&mut self, resource: Resource) -> Result<(), (Resource, OutOfMemory)> {
+        self.quiet = earlier(self.quiet, self.nodes.due(&resource));
         self.nodes.push(resource)
     }
 
     fn replace(&mut self, resource: Resource) {
+        // A container may make its instances due earlier, though none before its `mia`.
+        let own = earlier(self.quiet, self.nodes.due(&resource));
+        self.quiet = earlier(own, resource.attrs().count(Attr::Mia));
         self.nodes.replace(resource)
+    }
+
+    fn restamp(&mut self, number: u64, lt: u64, st: u64) {
+        self.nodes.restamp(number, lt, st)
     }
 
     fn remove_subtree(&mut self, number: u64) {
         self.nodes.remove_subtree(number)
+    }
+
+    fn expire(&mut self, moment: u64) {
+        self.nodes.expire(moment);
+        self.quiet = self.nodes.quiet();
     }
 }

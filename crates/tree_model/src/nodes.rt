@@ -1,13 +1,25 @@
 // The list of resources that every tree keeps.
-ghost use Rattle.std.specs.Prelude.{◌≡◌, ◌+◌, List, [], ◌∷◌, ◌++◌, length, slice_get, Bool, false, IsTrue, OnOk, OnErr, IfErr, None, Some, option_map, MatchResult};
-ghost use Rattle.resource_model.specs.Resource.{ResourceData, has_number, ae_id};
-ghost use Rattle.tree_model.specs.Tree.{at, has, child_of, is_child, replaced, without, stays, are_below, is_placed, has_ae_id, is_tree, standing, AreAscending, StandsAt};
-ghost use Rattle.std.specs.Ordering.{nat_cmp};
+ghost use Rattle.std.specs.Prelude.{◌≡◌, ◌+◌, ◌^◌, ◌<◌, ◌≤◌, IsSome, List, [], ◌∷◌, ◌++◌, length};
+ghost use Rattle.std.specs.Prelude.{slice_get, Bool, false, IsTrue, OnOk, OnErr, IfErr, None, Some};
+ghost use Rattle.std.specs.Prelude.{option_map};
+ghost use Rattle.m2m_names.specs.Stamps.{last_moment};
+ghost use Rattle.m2m_names.specs.declared.attributes.Attr.TheVariants.{St};
+ghost use Rattle.resource_model.specs.Attributes.{value_of};
+ghost use Rattle.resource_model.specs.Resource.{ResourceData, has_number, ae_id, cse_id};
+ghost use Rattle.tree_model.specs.Tree.{at, child_of, children_of, subs_of, number_at, instance_of};
+ghost use Rattle.tree_model.specs.Tree.{instances_of, sizes_of, ae_of, cse_of, due, are_quiet};
+ghost use Rattle.tree_model.specs.Tree.{live, replaced, restamped, restamped_at, has_state};
+ghost use Rattle.tree_model.specs.Tree.{without, are_below, is_placed, has_ae_id, has_cse_id};
+ghost use Rattle.tree_model.specs.Tree.{is_tree, standing, AreAscending};
 
+use crate::finding::{ae_in, child_in, count_in, cse_in, kid_in, kin_in, last_kin_in, sizes_in};
+use crate::placing::{due_in, found, place};
+use crate::removing::{Removal, quiet_in, sweep_out};
 use crate::steps::Steps;
+use m2m_names::{Attr, Ty};
+use m2m_value::Val;
 use resource_model::Resource;
 use std::alloc::{AllocError as OutOfMemory, Global};
-use std::cmp::Ordering;
 use std::marker::Model;
 use std::sync::ledger::Ledger;
 
@@ -75,19 +87,88 @@ impl Nodes {
         found(&self.resources, number)
     }
 
+    // When a resource is due whose parent stands there.
+    pub(crate) fn due(&self, resource: &Resource) -> Option<u64>
+        ensures value { result ≡ due self.now resource.now }
+        ensures tree { IsTrue (is_tree self.now) }
+    {
+        due_in(&self.resources, resource)
+    }
+
+    // A moment before which nothing is due.
+    pub(crate) fn quiet(&self) -> u64
+        ensures { IsTrue (are_quiet result self.now) }
+    {
+        quiet_in(&self.resources)
+    }
+
     pub(crate) fn child(&self, parent: u64, name: &[u8]) -> Option<u64>
         ensures { result ≡ child_of parent name.now self.now }
     {
         child_in(&self.resources, parent, name)
     }
 
+    pub(crate) fn kid(&self, parent: u64, k: u64) -> Option<u64>
+        ensures { result ≡ number_at k (children_of parent self.now) }
+    {
+        kid_in(&self.resources, parent, k)
+    }
+
+    pub(crate) fn sub(&self, parent: u64, k: u64) -> Option<u64>
+        ensures { result ≡ number_at k (subs_of parent self.now) }
+    {
+        kin_in(&self.resources, Ty::Subscription, parent, k)
+    }
+
+    pub(crate) fn instance(&self, container: u64, newest: bool) -> Option<u64>
+        ensures { result ≡ instance_of newest container self.now }
+    {
+        if newest {
+            last_kin_in(&self.resources, Ty::ContentInstance, container)
+        } else {
+            kin_in(&self.resources, Ty::ContentInstance, container, 0)
+        }
+    }
+
+    pub(crate) fn instance_at(&self, container: u64, k: u64) -> Option<u64>
+        ensures { result ≡ number_at k (instances_of container self.now) }
+    {
+        kin_in(&self.resources, Ty::ContentInstance, container, k)
+    }
+
+    pub(crate) fn instance_count(&self, container: u64) -> u64
+        ensures { result ≡ length (instances_of container self.now) }
+    {
+        count_in(&self.resources, container)
+    }
+
+    pub(crate) fn instance_sizes(&self, container: u64) -> u128
+        ensures value { result ≡ sizes_of container self.now }
+        ensures bound { result < 2 ^ 127 }
+    {
+        sizes_in(&self.resources, container)
+    }
+
+    pub(crate) fn ae(&self, aei: &[u8]) -> Option<u64>
+        ensures { result ≡ ae_of aei.now self.now }
+    {
+        ae_in(&self.resources, aei)
+    }
+
+    pub(crate) fn cse(&self, csi: &[u8]) -> Option<u64>
+        ensures { result ≡ cse_of csi.now self.now }
+    {
+        cse_in(&self.resources, csi)
+    }
+
     /// Puts a resource last. Its number is greater than every other, its parent is there (or it is
-    /// the CSEBase and the first), and its name and its AE-ID are free.
+    /// the CSEBase and the first), and its name, its AE-ID and its CSE-ID are free.
     pub fn push(&mut self, resource: Resource) -> Result<(), (Resource, OutOfMemory)>
         requires number { IsTrue (are_below resource.number self.old) }
         requires parent { IsTrue (is_placed self.old resource) }
         requires name { child_of resource.parent resource.name self.old ≡ None }
         requires ae { has_ae_id (ae_id resource) self.old ≡ false }
+        requires cse { has_cse_id (cse_id resource) self.old ≡ false }
         ensures ok { OnOk result (self.new ≡ self.old ++ resource ∷ []) }
         ensures err { OnErr result (self.new ≡ self.old) }
         ensures back { IfErr result (λ e. e.0 ≡ resource) }
@@ -99,7 +180,7 @@ impl Nodes {
     }
 
     /// Puts a resource in the place of the one of its number, which has the same type, name,
-    /// parent and AE-ID.
+    /// parent, AE-ID and CSE-ID.
     pub fn replace(&mut self, resource: Resource)
         requires { option_map standing (at resource.number self.old) ≡ Some (standing resource) }
         ensures { self.new ≡ replaced resource self.old }
@@ -107,53 +188,31 @@ impl Nodes {
         write_over(&mut self.resources, resource)
     }
 
+    /// Sets the moment of the last change and the state tag of a resource that has one, in place.
+    pub fn restamp(&mut self, number: u64, lt: u64, st: u64)
+        requires there { IsTrue (has_state number self.old) }
+        requires lt { lt ≤ last_moment }
+        requires st { st < 2 ^ 63 }
+        ensures value { self.new ≡ restamped_at number lt st self.old }
+        ensures tree { IsTrue (is_tree self.old) }
+    {
+        restamp_in(&mut self.resources, number, lt, st)
+    }
+
     /// Removes a resource with all that stands below it.
     pub fn remove_subtree(&mut self, number: u64)
-        ensures { self.new ≡ without (has_number number) self.old }
+        ensures value { self.new ≡ without (has_number number) self.old }
+        ensures tree { IsTrue (is_tree self.old) }
     {
-        sweep_out(&mut self.resources, number)
+        sweep_out(&mut self.resources, Removal::Of(number))
     }
-}
 
-fn number_order(resource: &Resource, number: u64) -> Ordering
-    ensures { result ≡ nat_cmp resource.now.number number }
-{
-    resource.number().cmp(&number)
-}
-
-// Where the resource of a number stands, or else where one would stand.
-fn place(resources: &[Resource], number: u64) -> Result<usize, usize>
-    requires { AreAscending resources.now }
-    ensures { MatchResult result (StandsAt number resources.now) (λ _. at number resources.now ≡ None) }
-{
-    resources.binary_search_by(|resource| number_order(resource, number))
-}
-
-fn found(resources: &[Resource], number: u64) -> Option<&Resource>
-    requires { AreAscending resources.now }
-    ensures { option_map (λ r. r.now) result ≡ at number resources.now }
-{
-    match place(resources, number) {
-        Ok(at) => Some(&resources[at]),
-        Err(_) => None,
+    // Removes what is due at a moment, with all that stands below it.
+    pub(crate) fn expire(&mut self, moment: u64)
+        ensures { self.new ≡ live moment self.old }
+    {
+        sweep_out(&mut self.resources, Removal::Due(moment))
     }
-}
-
-pub(crate) fn is_named(resource: &Resource, parent: u64, name: &[u8]) -> bool
-    ensures { result ≡ is_child parent name.now resource.now }
-{
-    resource.parent() == parent && resource.name().entries() == name
-}
-
-fn child_in(resources: &[Resource], parent: u64, name: &[u8]) -> Option<u64>
-    ensures { result ≡ child_of parent name.now resources.now }
-{
-    for resource in resources {
-        if is_named(resource, parent, name) {
-            return Some(resource.number());
-        }
-    }
-    None
 }
 
 // Puts the resource in the place of the one of its number, where there is one.
@@ -166,33 +225,25 @@ fn write_over(resources: &mut Vec<Resource>, resource: Resource)
     }
 }
 
-// Whether there is a resource of this number.
-fn stands(resources: &[Resource], number: u64) -> bool
-    requires { AreAscending resources.now }
-    ensures { result ≡ has number resources.now }
+fn restamp_in(resources: &mut Vec<Resource>, number: u64, lt: u64, st: u64)
+    requires order { AreAscending resources.old.items }
+    requires there { IsTrue (has_state number resources.old.items) }
+    requires lt { lt ≤ last_moment }
+    requires st { st < 2 ^ 63 }
+    ensures { resources.new.items ≡ restamped_at number lt st resources.old.items }
 {
-    place(resources, number).is_ok()
-}
-
-// Whether the resource stays where the one of that number is removed and these stayed.
-fn does_stay(stayed: &[Resource], resource: &Resource, number: u64) -> bool
-    requires { AreAscending stayed.now }
-    ensures { result ≡ stays (has_number number) stayed.now resource.now }
-{
-    resource.number() != number && (resource.parent() == 0 || stands(stayed, resource.parent()))
-}
-
-// Removes a resource with all that stands below it, in one pass.
-fn sweep_out(resources: &mut Vec<Resource>, number: u64)
-    requires { AreAscending resources.old.items }
-    ensures { resources.new.items ≡ without (has_number number) resources.old.items }
-{
-    let mut stayed = 0;
-    for at in 0..resources.len() {
-        if does_stay(&resources[..stayed], &resources[at], number) {
-            resources.swap(stayed, at);
-            stayed += 1;
-        }
+    if let Ok(at) = place(resources, number) {
+        restamp(&mut resources[at], lt, st);
     }
-    resources.truncate(stayed);
+}
+
+fn restamp(resource: &mut Resource, lt: u64, st: u64)
+    requires there { IsSome (value_of St resource.old.attrs) }
+    requires lt { lt ≤ last_moment }
+    requires st { st < 2 ^ 63 }
+    ensures { resource.new ≡ restamped lt st resource.old }
+{
+    resource.set_lt(lt);
+    // It has a value, so that this takes no memory.
+    let _set = resource.set(Attr::St, Val::of_num(st as i64));
 }

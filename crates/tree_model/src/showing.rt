@@ -1,5 +1,5 @@
 // The attributes of a resource as they are shown.
-ghost use Rattle.std.specs.Prelude.{◌≡◌, ℕ, ◌+◌, ◌-◌, ◌^◌, ◌≤◌, min, pos, [], ◌++◌, length, codes, map, IfOk, OnOk, IsUtf8};
+ghost use Rattle.std.specs.Prelude.{◌≡◌, ◌≤◌, ◌++◌, codes, map, IfOk, OnOk, IsUtf8};
 ghost use Rattle.m2m_names.specs.Attributes.{attr_short};
 ghost use Rattle.m2m_names.specs.Stamps.{last_moment};
 ghost use Rattle.m2m_names.specs.Types as types;
@@ -7,18 +7,22 @@ ghost use Rattle.m2m_value.specs.Data.{text, number, list, object, elements_of, 
 ghost use Rattle.m2m_value.specs.Node.{AreSorted};
 ghost use Rattle.resource_model.specs.Attributes.{with_value};
 ghost use Rattle.resource_model.specs.Resource.{is_ty};
-ghost use Rattle.tree_model.specs.Shown.{shown_types, shown_moment, shown_ty, shown_count, parent_id, common_rows, base_rows, expiry_rows, container_rows, default_row, group_rows, added_rows, with_rows, shown_rows, members_of, wrapped, attributes_of};
-ghost use Rattle.tree_model.specs.Tree.{is_instance, instances_of, size_of, sizes_of};
+ghost use Rattle.tree_model.specs.Shown.{shown_types, shown_moment, shown_ty, shown_count};
+ghost use Rattle.tree_model.specs.Shown.{parent_id, common_rows, base_rows, expiry_rows};
+ghost use Rattle.tree_model.specs.Shown.{container_rows, default_row, group_rows, added_rows};
+ghost use Rattle.tree_model.specs.Shown.{with_rows, shown_rows, members_of, wrapped, attributes_of};
 
 use crate::tree::Tree;
-use crate::walk::over;
 use m2m_names::{Attr, Ty, write_stamp};
 use m2m_value::{Items, Members, Text, Val};
 use resource_model::{Attrs, Home, Resource};
 use std::alloc::{AllocError as OutOfMemory, Global};
 
 // The largest count that a value has.
-const LARGEST: u64 = 9_223_372_036_854_775_807;
+const LARGEST: u128 = 9_223_372_036_854_775_807;
+
+// The CSEBase has as many attributes added, and no other resource more.
+const MOST_ADDED: usize = 9;
 
 /// The object of a resource: one member, named by its type, with all attributes that are shown.
 /// Its parent and its instances are read from the tree, in which it needn't stand itself.
@@ -42,7 +46,7 @@ pub fn shown<T: Tree>(
 ) -> Result<Attrs, OutOfMemory>
     ensures { IfOk result (λ a. a ≡ shown_rows home.now (T.nodes tree.now) resource.now) }
 {
-    let mut attrs = resource.attrs().copy(alloc)?;
+    let mut attrs = copied(alloc, resource.attrs())?;
     add_common(alloc, tree, resource, &mut attrs)?;
     if resource.is(Ty::CseBase) {
         add_base(alloc, home, &mut attrs)?;
@@ -58,11 +62,28 @@ pub fn shown<T: Tree>(
     Ok(attrs)
 }
 
+// Equal attributes, with room for all that are added.
+fn copied(alloc: Global, attrs: &Attrs) -> Result<Attrs, OutOfMemory>
+    ensures { IfOk result (λ a. a ≡ attrs.now) }
+{
+    Ok(Attrs::of(copied_rows(alloc, attrs.entries())?))
+}
+
+fn copied_rows(alloc: Global, rows: &[(Attr, Val)]) -> Result<Vec<(Attr, Val)>, OutOfMemory>
+    ensures { IfOk result (λ v. v.items ≡ rows.now) }
+{
+    let mut copies = Vec::with_capacity(alloc, rows.len().saturating_add(MOST_ADDED))?;
+    for row in rows {
+        copies.push((row.0, row.1.copy(alloc)?))?;
+    }
+    Ok(copies)
+}
+
 /// The object of these attributes: one member, named by the type.
 pub fn content(alloc: Global, ty: Ty, attrs: Attrs) -> Result<Val, OutOfMemory>
     ensures { IfOk result (λ v. v ≡ wrapped ty attrs) }
 {
-    let name = Text::of(Vec::from_slice(alloc, ty.member().as_bytes())?);
+    let name = Text::from_slice(alloc, ty.member().as_bytes())?;
     let mut members = Vec::with_capacity(alloc, 1)?;
     members.push((name, object_of(alloc, attrs)?))?;
     Ok(Val::of_obj(Members::of(members)))
@@ -88,7 +109,7 @@ fn named(alloc: Global, attrs: Attrs) -> Result<Vec<(Text, Val)>, OutOfMemory>
 fn key(alloc: Global, attr: Attr) -> Result<Text, OutOfMemory>
     ensures { IfOk result (λ t. t ≡ attr_short attr) }
 {
-    Ok(Text::of(Vec::from_slice(alloc, attr.short().as_bytes())?))
+    Text::from_slice(alloc, attr.short().as_bytes())
 }
 
 fn add_common<T: Tree>(
@@ -97,7 +118,8 @@ fn add_common<T: Tree>(
     resource: &Resource,
     attrs: &mut Attrs,
 ) -> Result<(), OutOfMemory>
-    ensures { OnOk result (attrs.new ≡ with_rows (common_rows (T.nodes tree.now) resource.now) attrs.old) }
+    ensures { OnOk result (attrs.new ≡ with_rows (common_rows
+        (T.nodes tree.now) resource.now) attrs.old) }
 {
     set_moment(alloc, attrs, Attr::Ct, resource.ct())?;
     set_moment(alloc, attrs, Attr::Lt, resource.lt())?;
@@ -116,11 +138,19 @@ fn add_base(alloc: Global, home: &Home, attrs: &mut Attrs) -> Result<(), OutOfMe
 }
 
 fn add_counts<T: Tree>(tree: &T, resource: &Resource, attrs: &mut Attrs) -> Result<(), OutOfMemory>
-    ensures { OnOk result (attrs.new ≡ with_rows (container_rows (T.nodes tree.now) resource.now) attrs.old) }
+    ensures { OnOk result (attrs.new ≡ with_rows (container_rows
+        (T.nodes tree.now) resource.now) attrs.old) }
 {
-    let (count, size) = tally(tree, resource.number());
-    attrs.set(Attr::Cbs, Val::of_num(size as i64))?;
-    attrs.set(Attr::Cni, Val::of_num(count as i64))
+    let sizes = tree.instance_sizes(resource.number());
+    let count = tree.instance_count(resource.number());
+    attrs.set(Attr::Cbs, count_val(sizes))?;
+    attrs.set(Attr::Cni, count_val(count as u128))
+}
+
+fn count_val(n: u128) -> Val
+    ensures { result ≡ shown_count n }
+{
+    Val::of_num(n.min(LARGEST) as i64)
 }
 
 fn add_defaults(resource: &Resource, attrs: &mut Attrs) -> Result<(), OutOfMemory>
@@ -136,7 +166,8 @@ fn add_default(
     attr: Attr,
     n: u32,
 ) -> Result<(), OutOfMemory>
-    ensures { OnOk result (attrs.new ≡ with_rows (default_row attr n resource.now.attrs) attrs.old) }
+    ensures { OnOk result (attrs.new ≡ with_rows
+        (default_row attr n resource.now.attrs) attrs.old) }
 {
     match resource.attrs().get(attr) {
         Some(_) => Ok(()),
@@ -202,41 +233,4 @@ fn all_numbers(alloc: Global) -> Result<Vec<Val>, OutOfMemory>
         numbers.push(number_of(*ty))?;
     }
     Ok(numbers)
-}
-
-// How many instances a container has, and the sum of their sizes in bytes.
-fn tally<T: Tree>(tree: &T, container: u64) -> (u64, u64)
-    ensures count { result.0 ≡ min (length (instances_of container (T.nodes tree.now))) LARGEST }
-    ensures size { result.1 ≡ min (sizes_of container (T.nodes tree.now)) LARGEST }
-{
-    let mut count = 0;
-    let mut size = 0;
-    for resource in over(tree) {
-        if belongs_to(resource, container) {
-            count = add_counted(count, 1);
-            size = add_counted(size, size_in_bytes(resource));
-        }
-    }
-    (count, size)
-}
-
-fn add_counted(a: u64, b: u64) -> u64
-    requires a { a ≤ LARGEST }
-    requires b { b ≤ LARGEST }
-    ensures { result ≡ min (a + b) LARGEST }
-{
-    (a + b).min(LARGEST)
-}
-
-fn belongs_to(resource: &Resource, container: u64) -> bool
-    ensures { result ≡ is_instance container resource.now }
-{
-    resource.parent() == container && resource.is(Ty::ContentInstance)
-}
-
-fn size_in_bytes(resource: &Resource) -> u64
-    ensures value { result ≡ size_of resource.now }
-    ensures bound { result ≤ LARGEST }
-{
-    resource.attrs().count(Attr::Cs).unwrap_or(0)
 }

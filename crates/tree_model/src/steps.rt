@@ -1,7 +1,9 @@
 // Steps that are counted, at no cost.
-ghost use Rattle.std.specs.Prelude.{◌≡◌, ◌+◌};
+ghost use Rattle.std.specs.Prelude.{◌≡◌, ◌+◌, ◌<◌};
+ghost use Rattle.tree_model.specs.Tree.{child_of};
 
-use std::marker::Model;
+use crate::tree::Tree;
+use std::marker::{Brand, Model};
 use std::sync::ledger::{Blank, Book, Ledger, Share};
 
 /// How many steps were taken. It takes no bytes, and only `Nodes::at` adds to it.
@@ -41,4 +43,21 @@ impl<L: Ledger> Steps<L> {
     {
         self.book.add(&mut self.share, 1);
     }
+}
+
+/// The number of the child of a name, for a caller that counts no steps.
+pub fn child_named<T: Tree>(tree: &T, parent: u64, name: &[u8]) -> Option<u64>
+    ensures { result ≡ child_of parent name.now (T.nodes tree.now) }
+{
+    child_by::<T, Brand>(tree, parent, name, Blank::new(1))
+}
+
+fn child_by<T: Tree, L: Ledger>(tree: &T, parent: u64, name: &[u8], blank: Blank) -> Option<u64>
+    requires name { blank.name ≡ L.name }
+    requires parts { blank.parts ≡ L.parts }
+    requires some { 0 < blank.parts }
+    ensures { result ≡ child_of parent name.now (T.nodes tree.now) }
+{
+    let mut steps = Steps::<L>::new(blank);
+    tree.child(parent, name, &mut steps)
 }

@@ -1,7 +1,14 @@
 // What a tree is, whatever keeps it.
-ghost use Rattle.std.specs.Prelude.{◌≡◌, ℕ, ◌+◌, ◌≤◌, List, [], ◌∷◌, ◌++◌, length, slice_get, false, IsTrue, OnOk, OnErr, IfErr, None, Some, option_map};
-ghost use Rattle.resource_model.specs.Resource.{ResourceData, has_number, ae_id};
-ghost use Rattle.tree_model.specs.Tree.{at, has, child_of, replaced, without, are_below, is_placed, has_ae_id, is_tree, standing};
+ghost use Rattle.std.specs.Prelude.{◌≡◌, ℕ, ◌+◌, ◌^◌, ◌<◌, ◌≤◌, List, [], ◌∷◌, ◌++◌, length};
+ghost use Rattle.std.specs.Prelude.{slice_get, false, IsTrue, OnOk, OnErr, IfErr, None, Some};
+ghost use Rattle.std.specs.Prelude.{option_map};
+ghost use Rattle.m2m_names.specs.Stamps.{last_moment};
+ghost use Rattle.resource_model.specs.Resource.{ResourceData, has_number, ae_id, cse_id};
+ghost use Rattle.tree_model.specs.Tree.{at, has, child_of, children_of, subs_of, number_at};
+ghost use Rattle.tree_model.specs.Tree.{instance_of, instances_of, sizes_of, ae_of, cse_of};
+ghost use Rattle.tree_model.specs.Tree.{are_quiet, live, replaced, restamped_at, has_state};
+ghost use Rattle.tree_model.specs.Tree.{without, are_below, is_placed, has_ae_id, has_cse_id};
+ghost use Rattle.tree_model.specs.Tree.{is_tree, standing};
 
 use crate::steps::Steps;
 use resource_model::Resource;
@@ -21,7 +28,7 @@ pub trait Tree: Drop {
         ensures value { result ≡ length (nodes self.now) }
 
         // A CSEBase first, numbers ascend, each other resource comes after its parent, and names
-        // of siblings and AE-IDs differ.
+        // of siblings, AE-IDs and CSE-IDs differ.
         ensures tree { IsTrue (is_tree (nodes self.now)) };
 
     /// The resource at place k in order of creation, from 0.
@@ -38,25 +45,77 @@ pub trait Tree: Drop {
         ensures counted { steps.old ≤ steps.new }
         ensures cost { steps.new ≤ steps.old + child_steps };
 
+    /// The number of the child at place k in order of creation, from 0.
+    fn kid(&self, parent: u64, k: u64) -> Option<u64>
+        ensures { result ≡ number_at k (children_of parent (nodes self.now)) };
+
+    /// The same among its subscriptions.
+    fn sub(&self, parent: u64, k: u64) -> Option<u64>
+        ensures { result ≡ number_at k (subs_of parent (nodes self.now)) };
+
+    /// The number of the newest or of the oldest instance of a container.
+    fn instance(&self, container: u64, newest: bool) -> Option<u64>
+        ensures { result ≡ instance_of newest container (nodes self.now) };
+
+    /// The number of the instance of a container at place k from the oldest, from 0.
+    fn instance_at(&self, container: u64, k: u64) -> Option<u64>
+        ensures { result ≡ number_at k (instances_of container (nodes self.now)) };
+
+    /// How many instances a container has.
+    fn instance_count(&self, container: u64) -> u64
+        ensures { result ≡ length (instances_of container (nodes self.now)) };
+
+    /// What the sizes of a container's instances add up to, in bytes.
+    fn instance_sizes(&self, container: u64) -> u128
+        ensures value { result ≡ sizes_of container (nodes self.now) }
+        ensures bound { result < 2 ^ 127 };
+
+    /// The number of the application entity of an AE-ID.
+    fn ae(&self, aei: &[u8]) -> Option<u64>
+        ensures { result ≡ ae_of aei.now (nodes self.now) };
+
+    /// The number of the remote CSE of a CSE-ID, which begins with its slash.
+    fn cse(&self, csi: &[u8]) -> Option<u64>
+        ensures { result ≡ cse_of csi.now (nodes self.now) };
+
+    /// A moment before which nothing is due, in seconds since 1970. It may be too early, and is
+    /// never too late.
+    fn quiet_until(&self) -> u64
+        ensures { IsTrue (are_quiet result (nodes self.now)) };
+
     /// Puts a resource last. Its number is greater than every other, its parent is there (or it is
-    /// the CSEBase and the first), and its name and its AE-ID are free.
+    /// the CSEBase and the first), and its name, its AE-ID and its CSE-ID are free.
     fn insert(&mut self, resource: Resource) -> Result<(), (Resource, OutOfMemory)>
         requires number { IsTrue (are_below resource.number (nodes self.old)) }
         requires parent { IsTrue (is_placed (nodes self.old) resource) }
         requires name { child_of resource.parent resource.name (nodes self.old) ≡ None }
         requires ae { has_ae_id (ae_id resource) (nodes self.old) ≡ false }
+        requires cse { has_cse_id (cse_id resource) (nodes self.old) ≡ false }
         ensures ok { OnOk result (nodes self.new ≡ nodes self.old ++ resource ∷ []) }
         ensures err { OnErr result (nodes self.new ≡ nodes self.old) }
         ensures back { IfErr result (λ e. e.0 ≡ resource) };
 
     /// Puts a resource in the place of the one of its number, which has the same type, name,
-    /// parent and AE-ID.
+    /// parent, AE-ID and CSE-ID.
     fn replace(&mut self, resource: Resource)
-        requires { option_map standing (at resource.number (nodes self.old)) ≡ Some (standing resource) }
+        requires { option_map standing (at resource.number (nodes self.old)) ≡ Some
+            (standing resource) }
         ensures { nodes self.new ≡ replaced resource (nodes self.old) };
+
+    /// Sets the moment of the last change and the state tag of a resource that has one, in place.
+    fn restamp(&mut self, number: u64, lt: u64, st: u64)
+        requires there { IsTrue (has_state number (nodes self.old)) }
+        requires lt { lt ≤ last_moment }
+        requires st { st < 2 ^ 63 }
+        ensures { nodes self.new ≡ restamped_at number lt st (nodes self.old) };
 
     /// Removes a resource with all that stands below it.
     fn remove_subtree(&mut self, number: u64)
         requires { IsTrue (has number (nodes self.old)) }
         ensures { nodes self.new ≡ without (has_number number) (nodes self.old) };
+
+    /// Removes what is due at a moment, with all that stands below it, and finds anew when what is
+    /// left is due.
+    fn expire(&mut self, moment: u64)
+        ensures { nodes self.new ≡ live moment (nodes self.old) };
 }

@@ -4,7 +4,7 @@ use Rattle.std.specs.List.{filter, All}
 use Rattle.std.proofs.lemmas.List.{map-append}
 use Rattle.std.proofs.lemmas.List.Elements.{filter-append, All-head, All-tail}
 use Rattle.turn_desk.specs.Entries.{Entry, Marked, as_own, as_others, IsOwn, all_entries, own_entries, Runs}
-use Rattle.turn_desk.specs.Growth.{Asked, Grew, AsksAll, IsOwnRun}
+use Rattle.turn_desk.specs.Growth.{Asks, Grew, AsksAll, IsOwnRun}
 
 -- the own entries of two lists are those of the first and then those of the second
 pub own_entries-append : {E O : Type 0} (xs ys : List (Marked E O)) → own_entries (xs ++ ys) ≡ own_entries xs ++ own_entries ys
@@ -38,7 +38,7 @@ Grew-runs step {before = before} {after = after} g =
 -- What growth by nothing and growth in a row give of the own entries, from the two laws of a desk.
 module _ {S E O : Type 0} (grown : S → List (Marked E O) → S → Type 0) where
   -- an answer is growth by that one own entry
-  pub Grew-asked : {before : S} {answer : Entry E O} {after : S} → Asked grown before answer after → Grew grown before (answer ∷ []) after
+  pub Grew-asked : {before : S} {answer : Entry E O} {after : S} → Asks grown before answer after → Grew grown before (answer ∷ []) after
   Grew-asked {answer = answer} a = record {
     more = map as_others a.others ++ as_own answer ∷ [];
     grew = a.grew;
@@ -66,7 +66,7 @@ module _ {S E O : Type 0} (grown : S → List (Marked E O) → S → Type 0) whe
 
     -- growth, and then one question
     pub Grew-ask : {before between after : S} {es : List (Entry E O)} {answer : Entry E O}
-        → Grew grown before es between → Asked grown between answer after → Grew grown before (es ++ answer ∷ []) after
+        → Grew grown before es between → Asks grown between answer after → Grew grown before (es ++ answer ∷ []) after
     Grew-ask first then = Grew-append first (Grew-asked then)
 
     -- all that was asked, and then all that was asked after it
@@ -83,7 +83,7 @@ module _ {S E O : Type 0} (grown : S → List (Marked E O) → S → Type 0) whe
 
     -- all that was asked so far, and then one question
     pub AsksAll-ask : {before between after : S} {rs : List ℕ} {es : List E} {os : List O} {answer : Entry E O}
-        → AsksAll grown before rs es os between → Asked grown between answer after
+        → AsksAll grown before rs es os between → Asks grown between answer after
         → AsksAll grown before (rs ++ answer.reading ∷ []) (es ++ answer.event ∷ []) (os ++ answer.outcome ∷ []) after
     AsksAll-ask {answer = answer} first then =
         AsksAll-append first (record {

@@ -1,12 +1,7 @@
 -- What is asked of an object and answered by it, and runs of that.
 use Rattle.std.specs.Prelude.{◌≡◌, ℕ, Bool, true, false, List, [], ◌∷◌, map}
 use Rattle.std.specs.List.{filter}
-
--- an event, the reading of the clock that came with it, and what was answered
-pub record Entry (E O : Type 0) : Type 0 where
-  pub reading : ℕ
-  pub event : E
-  pub outcome : O
+pub use Rattle.turn_desk.specs.declared.entry.Entry.{Entry}
 
 -- an entry, and whether it is the seat's own or another's
 pub record Marked (E O : Type 0) : Type 0 where
@@ -49,9 +44,11 @@ events_of entries = map (λ e. e.event) entries
 abbrev pub outcomes_of : {E O : Type 0} → List (Entry E O) → List O
 outcomes_of entries = map (λ e. e.outcome) entries
 
--- The entries are a run of a relation, from the object before to the one after: each is a step from what the one
--- before it left.
-abbrev pub Runs : {E O X : Type 0} → (ℕ → E → X → O → X → Type 0) → X → List (Entry E O) → X → Type 0
+-- The entries are a run of a relation, from the object before to the one after: each is a step from
+-- what the one before it left.
+abbrev pub Runs : {E O X : Type 0} → (ℕ → E → X → O → X → Type 0) → X → List (Entry E O) → X
+    → Type 0
 Runs step before [] after = after ≡ before
 Runs {X = X} step before (e ∷ entries) after =
-    (between : X) × step e.reading e.event before e.outcome between × Runs step between entries after
+    (between : X) × step e.reading e.event before e.outcome between
+    × Runs step between entries after

@@ -8,6 +8,7 @@ use std::alloc::{AllocError, Global};
 use std::test::Fail;
 use tank::{Answer, Litres, Order, Tank};
 
+mod shared;
 mod tank;
 
 /// Asks at each reading its event, in order, and collects the outcomes.

@@ -1,4 +1,5 @@
-//! An object for the tests: a tank, seen as a number, whose events and outcomes hold numbers seen through a model.
+//! An object for the tests: a tank, seen as a number, whose events and outcomes hold numbers seen
+//! through a model.
 ghost use Rattle.std.specs.Prelude.{◌≡◌, ℕ, ◌+◌, ◌≤◌};
 
 use crate::Object;

@@ -1,4 +1,4 @@
-use Rattle.std.proofs.Common.{Bool, Some, sym, subst, ◌∙◌}
+use Rattle.std.proofs.Common.{Bool, Some, refl, sym, subst, ◌∙◌}
 use Rattle.std.specs.Io.KnownBytes.{Appends}
 use Rattle.m2m_io.specs.Told.{AppendsPrefix}
 use Rattle.http_binding.specs.Replying.{reply_text}
@@ -8,33 +8,32 @@ use Rattle.cse_server.proofs.connection.answer.Goals as goal
 
 pub returns-in_default-clause-turns : goal.returns-in_default-clause-turns
 returns-in_default-clause-turns g c =
-    unheard_turn g.D.Desk.grown g.met.D.Desk.grown_by_nothing c.args.place c.args.seat.now (g.X.Sink.written c.args.conn.now) (g.C.Clock.readings c.args.clock.now) c.args.frame.now
+    unheard_turn g.D.Desk.grown g.met.D.Desk.grown_by_nothing c.args.place c.args.seat.now _ c.args.frame.now
 
 pub returns-in_default-reply_to-clause-turns : goal.returns-in_default-reply_to-clause-turns
 returns-in_default-reply_to-clause-turns g c =
-    starved_turn g.D.Desk.grown c.args.place c.args.seat.now c.reply_to.new.seat (g.X.Sink.written c.args.conn.now)
-    (g.C.Clock.readings c.args.clock.now) (g.C.Clock.readings c.reply_to.new.clock) c.args.frame.now c.reply_to.result c.reply_to.ensures.hears
+    starved_turn g.D.Desk.grown c.args.place c.args.seat.now c.reply_to.new.seat _ _ c.args.frame.now
+    c.reply_to.result c.reply_to.ensures.hears refl
 
 pub returns-in-Ok-put_reply-clause-turns : goal.returns-in-Ok-put_reply-clause-turns
 returns-in-Ok-put_reply-clause-turns g c =
-    turned g.D.Desk.grown c.args.place c.args.seat.now c.reply_to.new.seat (g.X.Sink.written c.args.conn.now) (g.X.Sink.written c.put_reply.new.sink)
-    (g.C.Clock.readings c.args.clock.now) (g.C.Clock.readings c.reply_to.new.clock) c.args.frame.now c.in-Ok-reply_to.reply (Some Closed) c.in-Ok-reply_to.ensures.hears (
+    turned g.D.Desk.grown c.args.place c.args.seat.now c.reply_to.new.seat _ _
+    c.args.frame.now c.in-Ok-reply_to.reply (Some Closed) c.in-Ok-reply_to.ensures.hears (
       sym c.closes-close.ensures ∙ c.if-close.true,
-      subst (λ (b : Bool). Appends (g.X.Sink.written c.args.conn.now) (g.X.Sink.written c.put_reply.new.sink) (reply_text c.in-Ok-reply_to.reply b)) c.closes-close.ensures c.in-Ok-put_reply.ensures.ok,
+      subst (λ (b : Bool). Appends (g.X.Sink.written c.args.conn.now) (g.X.Sink.written c.put_reply.new.conn) (reply_text c.in-Ok-reply_to.reply b)) c.closes-close.ensures c.in-Ok-put_reply.ensures.ok,
     )
 
 pub returns-in-Ok-2-clause-turns : goal.returns-in-Ok-2-clause-turns
 returns-in-Ok-2-clause-turns g c =
-    turned g.D.Desk.grown c.args.place c.args.seat.now c.reply_to.new.seat (g.X.Sink.written c.args.conn.now) (g.X.Sink.written c.put_reply.new.sink)
-    (g.C.Clock.readings c.args.clock.now) (g.C.Clock.readings c.reply_to.new.clock) c.args.frame.now c.in-Ok-reply_to.reply _ c.in-Ok-reply_to.ensures.hears (
+    turned g.D.Desk.grown c.args.place c.args.seat.now c.reply_to.new.seat _ _
+    c.args.frame.now c.in-Ok-reply_to.reply _ c.in-Ok-reply_to.ensures.hears (
       sym c.closes-close.ensures ∙ c.if-close.false,
-      subst (λ (b : Bool). Appends (g.X.Sink.written c.args.conn.now) (g.X.Sink.written c.put_reply.new.sink) (reply_text c.in-Ok-reply_to.reply b)) c.closes-close.ensures c.in-Ok-2.ensures.ok,
+      subst (λ (b : Bool). Appends (g.X.Sink.written c.args.conn.now) (g.X.Sink.written c.put_reply.new.conn) (reply_text c.in-Ok-reply_to.reply b)) c.closes-close.ensures c.in-Ok-2.ensures.ok,
     )
 
 pub returns-clause-turns : goal.returns-clause-turns
 returns-clause-turns g c =
     rw c.from.ensures
-    (turned g.D.Desk.grown c.args.place c.args.seat.now c.reply_to.new.seat (g.X.Sink.written c.args.conn.now) (g.X.Sink.written c.put_reply.new.sink)
-    (g.C.Clock.readings c.args.clock.now) (g.C.Clock.readings c.reply_to.new.clock) c.args.frame.now c.in-Ok-reply_to.reply _ c.in-Ok-reply_to.ensures.hears
+    (turned g.D.Desk.grown c.args.place c.args.seat.now c.reply_to.new.seat _ _ c.args.frame.now c.in-Ok-reply_to.reply _ c.in-Ok-reply_to.ensures.hears
     (put_says c.args.place c.args.frame.now _ _ _ c.in-Err.fault
-    (subst (λ (b : Bool). AppendsPrefix (g.X.Sink.written c.args.conn.now) (g.X.Sink.written c.put_reply.new.sink) (reply_text c.in-Ok-reply_to.reply b)) c.closes-close.ensures c.in-Err.ensures.err)))
+    (subst (λ (b : Bool). AppendsPrefix (g.X.Sink.written c.args.conn.now) (g.X.Sink.written c.put_reply.new.conn) (reply_text c.in-Ok-reply_to.reply b)) c.closes-close.ensures c.in-Err.ensures.err)))

@@ -1,11 +1,12 @@
-use Rattle.std.proofs.Common.{[], ◌∷◌, sym, ◌∙◌}
+use Rattle.std.proofs.Common.{◌≡◌, List, [], ◌∷◌, IfOk, refl, sym, subst, ◌∙◌}
+use Rattle.primitive_json.specs.declared.reply.ReplyParts.{ReplyParts}
+use Rattle.primitive_json.specs.declared.request.RequestParts.{RequestParts}
 use Rattle.turn_desk.proofs.GrowthLemmas.{AsksAll-nothing, AsksAll-ask}
-use Rattle.cse_server.proofs.RequestLemmas.{binds, request_served}
+use Rattle.cse_server.specs.Replies.{GivesReplies}
+use Rattle.cse_server.proofs.RepliesLemmas.{gives-one}
+use Rattle.cse_server.proofs.RequestLemmas.{binds, requests_in-one, reply_for-one}
 use Rattle.cse_server.proofs.WayLemmas.{Tells-nil}
 use Rattle.cse_server.proofs.connection.reply_to.Goals as goal
-
-pub of-requires : goal.of-requires
-of-requires g c = request_served c.args.frame.now c.in-Some.request (sym c.requires.request ∙ c.in-Some.is)
 
 pub returns-in-None-clause-hears : goal.returns-in-None-clause-hears
 returns-in-None-clause-hears g c =
@@ -13,18 +14,30 @@ returns-in-None-clause-hears g c =
     record {
       readings = [];
       outcomes = [];
+      replies = [];
+      exchanges = [];
       asked = rw none (AsksAll-nothing g.D.Desk.grown g.met.D.Desk.grown_by_nothing c.args.seat.now);
       clock = Tells-nil (g.C.Clock.readings c.args.clock.now);
+      gives = rw none refl;
+      link = Tells-nil (g.L.Link.exchanges c.args.link.now);
       replied = rw none c.refusal_of.ensures;
     }
 
 pub returns-in-Some-clause-hears : goal.returns-in-Some-clause-hears
 returns-in-Some-clause-hears g c =
     let some = sym c.requires.request ∙ c.in-Some.is in
+    let by = c.reply_by.ensures.replies c.in-Some.request (binds c.args.frame.now c.in-Some.request some) in
     record {
       readings = c.now-reading.result ∷ [];
       outcomes = c.ask-outcome.result ∷ [];
-      asked = rw (some, sym c.of.ensures) (AsksAll-ask g.D.Desk.grown g.met.D.Desk.grown_on (AsksAll-nothing g.D.Desk.grown g.met.D.Desk.grown_by_nothing c.args.seat.now) c.ask-outcome.ensures.asked);
+      replies = by.reply ∷ [];
+      exchanges = by.exchanges;
+      asked = rw some (AsksAll-ask g.D.Desk.grown g.met.D.Desk.grown_on (AsksAll-nothing g.D.Desk.grown g.met.D.Desk.grown_by_nothing c.args.seat.now) c.ask-outcome.ensures.asked);
       clock = c.now-reading.ensures;
-      replied = rw some (c.reply_by.ensures c.in-Some.request (binds c.args.frame.now c.in-Some.request some));
+      gives = subst (λ (rs : List RequestParts). GivesReplies rs (c.ask-outcome.result ∷ []) (by.reply ∷ []) by.exchanges)
+          (sym (requests_in-one c.args.frame.now c.in-Some.request some))
+          (gives-one c.in-Some.request c.ask-outcome.result by.reply by.exchanges by.gives);
+      link = by.link;
+      replied = subst (λ (p : ReplyParts). IfOk c.reply_by.result (λ r. r ≡ p))
+          (sym (reply_for-one c.args.frame.now c.in-Some.request by.reply some)) by.replied;
     }

@@ -1,9 +1,9 @@
-use Rattle.std.proofs.Common.{get_or, set, sym, ap, ◌∙◌, subst}
+use Rattle.std.proofs.Common.{IsSome, true≢false, get_or, set, sym, ap, ◌∙◌, subst}
 use Rattle.std.specs.List.{insert}
 use Rattle.m2m_value.specs.Data.{Entry}
 use Rattle.m2m_value.specs.Node.{AreSorted, HaveTextKeys}
 use Rattle.m2m_value.specs.View.{IsPlaceOf, IsGapFor}
-use Rattle.m2m_value.proofs.Lookup.{put-place, put-gap, put_sorted, put_texts}
+use Rattle.m2m_value.proofs.Lookup.{member_of-gap, put-place, put-gap, put_sorted, put_texts}
 use Rattle.m2m_value.proofs.value.Members.put.Goals as goal
 
 -- the key was there, and its value is written over
@@ -33,3 +33,9 @@ invariant_of-self-in-Err c = subst AreSorted (sym (returns-in_ok-insert-in-Err-c
 
 pub returns-in_ok-insert-in-Err-clause-texts : goal.returns-in_ok-insert-in-Err-clause-texts
 returns-in_ok-insert-in-Err-clause-texts c texts utf8 = subst HaveTextKeys (sym (returns-in_ok-insert-in-Err-clause-ok c)) (put_texts c.args.self.now c.args.key c.args.value texts utf8)
+
+-- a key that is there takes no memory
+pub returns-in_err-insert-in-Err-clause-succeeds : goal.returns-in_err-insert-in-Err-clause-succeeds
+returns-in_err-insert-in-Err-clause-succeeds c there =
+    let gap = subst (λ key. IsGapFor key c.args.self.now c.in-Err.place) c.entries.ensures c.in-Err.ensures.absent in
+    absurd (true≢false (sym (subst IsSome (member_of-gap c.args.key c.args.self.now c.in-Err.place gap) there)))

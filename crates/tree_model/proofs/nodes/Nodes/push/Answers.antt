@@ -12,6 +12,7 @@ invariant_of-self c =
       parent = c.requires.parent;
       name = no_child c.args.resource.parent c.args.resource.name c.args.self.now c.requires.name;
       ae = c.requires.ae;
+      cse = c.requires.cse;
     } in
     is_tree-push (is_ok c.push.result) c.self.inside.resources.items c.push.new.self.items c.args.resource c.push.ensures.items c.self.invariant
     (subst (λ (nodes : List ResourceData). IsNext nodes c.args.resource) (sym c.self.view_is) next)

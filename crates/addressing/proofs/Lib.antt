@@ -1,0 +1,7 @@
+pub mod PartLemmas
+pub mod BackLemmas
+pub mod NameLemmas
+pub mod SightLemmas
+pub mod ShortLemmas
+pub mod ReadLemmas
+pub mod CostLemmas

@@ -1,0 +1,89 @@
+-- Texts between slashes.
+use Rattle.std.specs.Prelude.{bytes_eq, drop, nat_lt, take}
+use Rattle.std.proofs.Common.{◌≡◌, ℕ, zero, suc, ◌+◌, ◌<◌, ◌≤◌, ◌==◌, Bool, true, false, cond, not, List, [], ◌∷◌, ◌++◌, length, Option, Some, None, inl, inr, refl, sym, ap, ◌∙◌, arith, map, Bor}
+use Rattle.std.specs.List.{All, after_first, before_first, join_with_byte, list_all, position_or_len, slice_split, onto_first}
+use Rattle.std.proofs.lemmas.Bool.{and_parts, cases_Bool, ltb-true, ltb-false, ne_eqb, eqb-true, both_ways}
+use Rattle.std.proofs.lemmas.List.{append-nil, append_assoc}
+use Rattle.std.proofs.lemmas.List.Elements.{All-weaker}
+use Rattle.std.proofs.lemmas.List.Splits.{join_with_byte-slice_split, slice_split-cons_no, slice_split_at, slice_split_first, slice_split_none}
+use Rattle.std.proofs.lemmas.List.Sums.{AllPass-from_list_all}
+use Rattle.m2m_names.specs.Name.{is_name, is_unreserved, is_filled}
+use Rattle.addressing.specs.Addresses.{are_names, cut_at, is_slash, joined, parts_left, parts_of, slash_at}
+
+-- ---- taken apart
+
+-- the parts of a text, by what stands before its first slash and behind it
+abbrev pub parts_by : Option (List ℕ × List ℕ) → List ℕ → List (List ℕ)
+parts_by None text = text ∷ []
+parts_by (Some cut) text = cut.0 ∷ parts_of cut.1
+
+unsplit : (text : List ℕ) → length text ≤ position_or_len is_slash text → slice_split is_slash text ≡ text ∷ []
+unsplit [] most = refl
+unsplit (x ∷ text) most = elim (cases_Bool (is_slash x)) [
+  | inl t ↦ (let none : length (x ∷ text) ≤ 0 = rw t at most in absurd (omega (arith, none)))
+  | inr f ↦
+      let later : length (x ∷ text) ≤ 1 + position_or_len is_slash text = rw f at most in
+      slice_split-cons_no is_slash x text f ∙ ap (onto_first x) (unsplit text (omega (arith, later)))
+]
+
+pub parts_by_cut : (text : List ℕ) → parts_of text ≡ parts_by (cut_at text) text
+parts_by_cut text = elim (cases_Bool (nat_lt (position_or_len is_slash text) (length text))) [
+  | inl t ↦ rw t (slice_split_first is_slash text 0 (ltb-true (position_or_len is_slash text) (length text) t))
+  | inr f ↦ rw f (unsplit text (ltb-false (position_or_len is_slash text) (length text) f))
+]
+
+-- parts with their slashes are the text again
+pub joined-parts_of : (text : List ℕ) → joined (parts_of text) ≡ text
+joined-parts_of text = join_with_byte-slice_split 47 text
+
+-- ---- put together
+
+-- parts, the first of which has this place
+abbrev pub parts_from : List (List ℕ) → ℕ → List ℕ
+parts_from [] place = []
+parts_from (part ∷ parts) place = (slash_at place ++ part) ++ parts_from parts (place + 1)
+
+parts_from-later : (part : List ℕ) (parts : List (List ℕ)) (place : ℕ) → 0 < place → parts_from (part ∷ parts) place ≡ 47 ∷ joined (part ∷ parts)
+parts_from-later part [] place later =
+    rw (ne_eqb place 0 (λ e. omega (arith, later, e))) (ap (λ t. 47 ∷ t) (append-nil part))
+parts_from-later part (next ∷ parts) place later =
+    rw (ne_eqb place 0 (λ e. omega (arith, later, e)))
+    (ap (λ t. (47 ∷ part) ++ t) (parts_from-later next parts (place + 1) (omega arith)))
+
+pub joined_by_places : (parts : List (List ℕ)) → parts_from parts 0 ≡ joined parts
+joined_by_places [] = refl
+joined_by_places (part ∷ []) = append-nil part
+joined_by_places (part ∷ next ∷ parts) = ap (λ t. part ++ t) (parts_from-later next parts (0 + 1) (omega arith))
+
+dropped_all : {A : Type 0} (xs : List A) (n : ℕ) → length xs ≤ n → drop n xs ≡ []
+dropped_all [] zero le = refl
+dropped_all [] (suc n) le = refl
+dropped_all (x ∷ xs) zero le = absurd (omega (arith, le))
+dropped_all (x ∷ xs) (suc n) le = dropped_all xs n (omega (arith, le))
+
+-- where no part is left, all are written
+pub written : (text : List ℕ) (place : ℕ) (parts : List (List ℕ)) → length parts ≤ place → text ++ parts_from (drop place parts) place ≡ parts_from parts 0 → text ≡ joined parts
+written text place parts past all =
+    sym (append-nil text) ∙ ap (λ ps. text ++ parts_from ps place) (sym (dropped_all parts place past)) ∙ all ∙ joined_by_places parts
+
+pub names_written : (text : List ℕ) (place : ℕ) (names : List (Bor (List ℕ))) → length names ≤ place → text ++ parts_from (map (λ t. t.now) (drop place names)) place ≡ parts_from (map (λ t. t.now) names) 0 → text ≡ joined (map (λ t. t.now) names)
+names_written text place names past all =
+    sym (append-nil text) ∙ ap (λ ns. text ++ parts_from (map (λ (t : Bor (List ℕ)). t.now) ns) place) (sym (dropped_all names place past)) ∙ all ∙ joined_by_places (map (λ (t : Bor (List ℕ)). t.now) names)
+
+-- ---- names have no slash
+
+pub no_slash : (b : ℕ) → is_unreserved b ≡ true → is_slash b ≡ false
+no_slash b is = ne_eqb b 47 (λ e. both_ways (is_unreserved 47) refl (ap is_unreserved (sym e) ∙ is))
+
+pub name_has_no_slash : (name : List ℕ) → is_name name ≡ true → All (λ b. is_slash b ≡ false) name
+name_has_no_slash name is =
+    All-weaker (λ b. is_unreserved b ≡ true) (λ b. is_slash b ≡ false) no_slash name
+    (AllPass-from_list_all is_unreserved name (and_parts (is_filled 64 name) (list_all is_unreserved name) is).1)
+
+-- names with slashes between them are read as themselves
+pub parts_of-joined : (name : List ℕ) (names : List (List ℕ)) → are_names (name ∷ names) ≡ true → parts_of (joined (name ∷ names)) ≡ name ∷ names
+parts_of-joined name [] is = slice_split_none is_slash name (name_has_no_slash name (and_parts (is_name name) _ is).0)
+parts_of-joined name (next ∷ names) is =
+    let parts = and_parts (is_name name) (are_names (next ∷ names)) is in
+    slice_split_at is_slash name 47 (joined (next ∷ names)) (name_has_no_slash name parts.0) refl
+    ∙ ap (λ rest. name ∷ rest) (parts_of-joined next names parts.1)

@@ -1,0 +1,58 @@
+-- The steps by which a text is read.
+use Rattle.std.proofs.Common.{◌≡◌, ℕ, Bool, true, false, ◌&&◌, List, [], ◌∷◌, ◌++◌, Option, Some, None, Result, Ok, Err, inl, inr, refl, sym, ap, subst, ◌∙◌, append_assoc, append-nil}
+use Rattle.std.specs.List.{list_all}
+use Rattle.std.specs.Option.{option_and_then}
+use Rattle.std.proofs.lemmas.Bool.{and_from, false_from_ne_true, and_parts, both_ways}
+use Rattle.std.proofs.lemmas.List.Folds.{list_all-append}
+use Rattle.m2m_names.specs.Name.{is_name}
+use Rattle.resource_model.specs.Home.{HomeData}
+use Rattle.addressing.specs.declared.addr.Addr.{Addr}
+use Rattle.addressing.specs.declared.addr.AddrFault.{AddrFault}
+use Rattle.addressing.specs.declared.addr.AddrFault.TheVariants.{Shape}
+use Rattle.addressing.specs.Addresses.{Gives, are_names, by_cse, by_provider, cut_at, of_provider, parts_left, parts_of, under, unless_shapeless}
+use Rattle.addressing.proofs.PartLemmas.{parts_by, parts_by_cut}
+
+-- ---- the first part
+
+pub parts_cut : (text : List ℕ) (cut : List ℕ × List ℕ) → Some cut ≡ cut_at text → parts_of text ≡ cut.0 ∷ parts_of cut.1
+parts_cut text cut is = parts_by_cut text ∙ ap (λ o. parts_by o text) (sym is)
+
+pub parts_alone : (text : List ℕ) → None ≡ cut_at text → parts_of text ≡ text ∷ []
+parts_alone text is = parts_by_cut text ∙ ap (λ o. parts_by o text) (sym is)
+
+-- ---- behind slashes
+
+pub by_cse_cut : (home : HomeData) (rest front behind : List ℕ) (r : Result Addr AddrFault) → Some (front, behind) ≡ cut_at rest → Gives r (unless_shapeless (under home rest (front ∷ parts_of behind))) → Gives r (unless_shapeless (by_cse home rest))
+by_cse_cut home rest front behind r is gives =
+    let cut : List ℕ × List ℕ = (front, behind) in
+    subst (λ parts. Gives r (unless_shapeless (under home rest parts))) (sym (parts_cut rest cut is)) gives
+
+pub by_cse_alone : (home : HomeData) (rest : List ℕ) (r : Result Addr AddrFault) → None ≡ cut_at rest → Gives r (unless_shapeless (under home rest (rest ∷ []))) → Gives r (unless_shapeless (by_cse home rest))
+by_cse_alone home rest r is gives =
+    subst (λ parts. Gives r (unless_shapeless (under home rest parts))) (sym (parts_alone rest is)) gives
+
+pub by_provider_cut : (home : HomeData) (rest sp behind : List ℕ) (r : Result Addr AddrFault) → Some (sp, behind) ≡ cut_at rest → Gives r (unless_shapeless (of_provider home sp behind)) → Gives r (unless_shapeless (by_provider home rest))
+by_provider_cut home rest sp behind r is gives =
+    subst (λ (o : Option (List ℕ × List ℕ)). Gives r (unless_shapeless (option_and_then (λ (cut : List ℕ × List ℕ). of_provider home cut.0 cut.1) o))) is gives
+
+pub by_provider_alone : (home : HomeData) (rest : List ℕ) → None ≡ cut_at rest → unless_shapeless (by_provider home rest) ≡ Err Shape
+by_provider_alone home rest is =
+    ap (λ (o : Option (List ℕ × List ℕ)). unless_shapeless (option_and_then (λ (cut : List ℕ × List ℕ). of_provider home cut.0 cut.1) o)) (sym is)
+
+-- ---- names, one after another
+
+pub names_push : (names : List (List ℕ)) (name : List ℕ) → are_names names ≡ true → is_name name ≡ true → are_names (names ++ name ∷ []) ≡ true
+names_push names name are is = list_all-append is_name names (name ∷ []) ∙ and_from _ _ are (and_from _ _ is refl)
+
+pub parts_push : (names parts rest all : List (List ℕ)) (name : List ℕ) → names ++ parts ≡ all → parts ≡ name ∷ rest → (names ++ name ∷ []) ++ rest ≡ all
+parts_push names parts rest all name before is =
+    append_assoc names (name ∷ []) rest ∙ ap (λ ps. names ++ ps) (sym is) ∙ before
+
+pub names_fail : (names parts rest all : List (List ℕ)) (name : List ℕ) → names ++ parts ≡ all → parts ≡ name ∷ rest → is_name name ≡ false → are_names all ≡ false
+names_fail names parts rest all name before is none = false_from_ne_true _ (λ are.
+    let split : (are_names names && are_names (name ∷ rest)) ≡ true = sym (list_all-append is_name names (name ∷ rest)) ∙ ap (λ ps. are_names (names ++ ps)) (sym is) ∙ ap are_names before ∙ are in
+    let later = (and_parts (are_names names) (are_names (name ∷ rest)) split).1 in
+    both_ways (is_name name) none (and_parts (is_name name) (are_names rest) later).0)
+
+pub all_read : (names all : List (List ℕ)) → names ++ [] ≡ all → names ≡ all
+all_read names all is = sym (append-nil names) ∙ is

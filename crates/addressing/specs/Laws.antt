@@ -1,0 +1,27 @@
+-- What holds of addresses on every list.
+use Rattle.std.specs.Prelude.{ℕ, Bool, List, Option, None, Result, Ok, Err}
+use Rattle.std.specs.List.{list_all}
+use Rattle.m2m_names.specs.Name.{is_free_name}
+use Rattle.resource_model.specs.Home.{HomeData}
+use Rattle.resource_model.specs.Resource.{ResourceData}
+use Rattle.addressing.specs.Addresses.{address_of}
+use Rattle.addressing.specs.Names.{spot_of}
+use Rattle.addressing.specs.declared.addr.Addr.{Addr}
+use Rattle.addressing.specs.declared.addr.Addr.TheVariants.{Local, Foreign, OtherProvider}
+use Rattle.addressing.specs.declared.addr.AddrFault.{AddrFault}
+use Rattle.addressing.specs.declared.spot.Spot.{Spot}
+
+-- what an address that was read names here
+abbrev pub named_here : Result Addr AddrFault → List ResourceData → Option Spot
+named_here (Ok (Local segments)) nodes = spot_of segments nodes
+named_here (Ok (Foreign text)) nodes = None
+named_here (Ok OtherProvider) nodes = None
+named_here (Err fault) nodes = None
+
+-- what a text names
+abbrev pub named_by : HomeData → List ℕ → List ResourceData → Option Spot
+named_by home text nodes = named_here (address_of home text) nodes
+
+-- each resource has a name that addresses nothing else
+abbrev pub have_free_names : List ResourceData → Bool
+have_free_names nodes = list_all (λ (r : ResourceData). is_free_name r.name) nodes

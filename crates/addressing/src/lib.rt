@@ -1,0 +1,34 @@
+//! Addresses (TS-0001, 7.2 and 9.3.1): their texts, what they name in a tree, and the short form of
+//! originators.
+//!
+//! `parse` reads a text as an address: local segments, a foreign text, or one of another provider;
+//! `print` writes it back. `resolve` tells what local segments name: a resource, the fan-out point
+//! of a group with the place where the rest begins, or a poll point. `structured` writes the names
+//! down to a resource. Each is exactly its definition, which takes the home and the plain list of
+//! resources, and speaks of parents and names alone.
+//!
+//! Callers owe that `resolve` gets local segments, `print` an address that keeps its text, and
+//! `structured` a number that the tree has. `resolve` and `short_fr` take no memory.
+#![tactic(auto)]
+
+mod addr;
+mod laws;
+mod naming;
+mod reading;
+mod resolving;
+mod short;
+mod spot;
+#[cfg(test)]
+mod tests;
+
+pub use addr::{Addr, AddrFault, print};
+pub use laws::{
+    a_resource_is_named_by_its_addresses, sight_keeps_what_is_named, what_is_printed_is_read_back,
+};
+pub use m2m_value::Labels as Segments;
+pub use naming::structured;
+pub use reading::parse;
+pub use resolving::resolve;
+pub use short::short_fr;
+pub use spot::Spot;
+pub use std::alloc::AllocError as OutOfMemory;

@@ -1,0 +1,190 @@
+//! How a text is read as an address.
+ghost use Rattle.std.specs.Prelude.{◌≡◌, ◌<◌, ◌≤◌, ◌⊎◌, [], ◌∷◌, length, Some, option_map, false};
+ghost use Rattle.std.specs.Prelude.{IsTrue, IfOk, IfErr, IfSome};
+ghost use Rattle.std.specs.List.{position_or_len};
+ghost use Rattle.addressing.specs.declared.addr.AddrFault.TheVariants.{OutOfMemory, Shape};
+ghost use Rattle.addressing.specs.Addresses as spec;
+ghost use Rattle.addressing.specs.Addresses.{Gives, address_of, are_names, parts_left, parts_of};
+ghost use Rattle.addressing.specs.Addresses.{unless_shapeless};
+
+use crate::addr::{Addr, AddrFault, slashed};
+use m2m_names::is_name;
+use m2m_value::{Labels, Text};
+use std::alloc::Global;
+use tree_model::Home;
+
+/// The most bytes that an address has (the length is the profile's).
+const LONGEST: usize = 512;
+
+/// Reads a text as an address. It is too long where it has over 512 bytes, and else shapeless where
+/// it has none of the three forms.
+pub fn parse(alloc: Global, text: &[u8], home: &Home) -> Result<Addr, AddrFault>
+    ensures { Gives result (address_of home.now text.now) }
+{
+    if text.len() > LONGEST {
+        return Err(AddrFault::TooLong);
+    }
+    shaped(alloc, text, home)
+}
+
+fn shaped(alloc: Global, text: &[u8], home: &Home) -> Result<Addr, AddrFault>
+    ensures { Gives result (unless_shapeless (spec.shaped home.now text.now)) }
+{
+    if text.starts_with(b"//") {
+        return by_provider(alloc, &text[2..], home);
+    }
+    if text.starts_with(b"/") {
+        return by_cse(alloc, &text[1..], home);
+    }
+    by_names(alloc, text)
+}
+
+/// What stands before the first slash, and behind it.
+fn cut(text: &[u8]) -> Option<(&[u8], &[u8])>
+    ensures parts { option_map (λ c. (c.0.now, c.1.now)) result ≡ spec.cut_at text.now }
+    ensures shorter { IfSome result (λ c. length c.1.now < length text.now) }
+{
+    let at = first_slash(text);
+    if at < text.len() {
+        Some((&text[..at], &text[at + 1..]))
+    } else {
+        None
+    }
+}
+
+/// The place of the first slash, or the length where there is none.
+fn first_slash(text: &[u8]) -> usize
+    ensures value { result ≡ position_or_len spec.is_slash text.now }
+    ensures bound { result ≤ length text.now }
+{
+    text.iter().take_while(|byte| !is_slash(**byte)).count()
+}
+
+fn is_slash(byte: u8) -> bool
+    ensures { result ≡ spec.is_slash byte }
+{
+    byte == b'/'
+}
+
+/// A provider, and behind it the slash of an SP-relative address.
+#[tactic(auto, using(crate::proofs::ReadLemmas::by_provider_cut, crate::proofs::ReadLemmas::by_provider_alone))]
+fn by_provider(alloc: Global, rest: &[u8], home: &Home) -> Result<Addr, AddrFault>
+    ensures { Gives result (unless_shapeless (spec.by_provider home.now rest.now)) }
+{
+    match cut(rest) {
+        Some((sp, behind)) => of_provider(alloc, sp, behind, home),
+        None => Err(AddrFault::Shape),
+    }
+}
+
+fn of_provider(alloc: Global, sp: &[u8], behind: &[u8], home: &Home) -> Result<Addr, AddrFault>
+    ensures { Gives result
+        (unless_shapeless (spec.of_provider home.now sp.now behind.now)) }
+{
+    if !is_name(sp) {
+        return Err(AddrFault::Shape);
+    }
+    if sp == home.sp().entries() {
+        return by_cse(alloc, behind, home);
+    }
+    if are_names(behind) {
+        Ok(Addr::OtherProvider)
+    } else {
+        Err(AddrFault::Shape)
+    }
+}
+
+/// A CSE-ID without its slash, and behind it nothing, or a slash and names.
+#[tactic(auto, using(crate::proofs::ReadLemmas::by_cse_cut, crate::proofs::ReadLemmas::by_cse_alone))]
+fn by_cse(alloc: Global, rest: &[u8], home: &Home) -> Result<Addr, AddrFault>
+    ensures { Gives result (unless_shapeless (spec.by_cse home.now rest.now)) }
+{
+    match cut(rest) {
+        Some((csi, behind)) => under(alloc, rest, csi, behind, home),
+        None => alone(alloc, rest, home),
+    }
+}
+
+fn under(
+    alloc: Global,
+    rest: &[u8],
+    csi: &[u8],
+    behind: &[u8],
+    home: &Home,
+) -> Result<Addr, AddrFault>
+    ensures { Gives result
+        (unless_shapeless (spec.under home.now rest.now (csi.now ∷ parts_of behind.now))) }
+{
+    if !is_name(csi) {
+        return Err(AddrFault::Shape);
+    }
+    if csi == home.csi().entries() {
+        return by_names(alloc, behind);
+    }
+    if are_names(behind) {
+        Ok(Addr::Foreign(slashed(alloc, rest)?))
+    } else {
+        Err(AddrFault::Shape)
+    }
+}
+
+fn alone(alloc: Global, csi: &[u8], home: &Home) -> Result<Addr, AddrFault>
+    ensures { Gives result
+        (unless_shapeless (spec.under home.now csi.now (csi.now ∷ []))) }
+{
+    if !is_name(csi) {
+        return Err(AddrFault::Shape);
+    }
+    if csi == home.csi().entries() {
+        Ok(Addr::Local(Labels::of(Vec::new(alloc))))
+    } else {
+        Ok(Addr::Foreign(slashed(alloc, csi)?))
+    }
+}
+
+/// Whether what stands between the slashes is names.
+fn are_names(text: &[u8]) -> bool
+    ensures { result ≡ are_names (parts_of text.now) }
+{
+    text.split(|byte| *byte == b'/').all(|part| is_name(part))
+}
+
+/// Names with a slash between them.
+fn by_names(alloc: Global, text: &[u8]) -> Result<Addr, AddrFault>
+    ensures { Gives result (unless_shapeless (spec.by_names text.now)) }
+{
+    Ok(Addr::Local(names_in(alloc, text)?))
+}
+
+#[tactic(auto, using(crate::proofs::ReadLemmas::names_push, crate::proofs::ReadLemmas::parts_push, crate::proofs::ReadLemmas::names_fail, crate::proofs::ReadLemmas::all_read))]
+fn names_in(alloc: Global, text: &[u8]) -> Result<Labels, AddrFault>
+    ensures ok { IfOk result (λ names.
+        (names ≡ parts_of text.now) × IsTrue (are_names (parts_of text.now))) }
+    ensures err { IfErr result (λ fault. (fault ≡ OutOfMemory)
+        ⊎ ((fault ≡ Shape) × (are_names (parts_of text.now) ≡ false))) }
+{
+    let mut names = Vec::new(alloc);
+    let mut left = Some(text);
+    while let Some(rest) = left {
+        let (name, behind) = first_part(rest);
+        if !is_name(name) {
+            return Err(AddrFault::Shape);
+        }
+        names.push(Text::from_slice(alloc, name)?)?;
+        left = behind;
+    }
+    Ok(Labels::of(names))
+}
+
+/// What stands before the first slash, and behind it, where there is one.
+#[tactic(auto, using(crate::proofs::ReadLemmas::parts_cut, crate::proofs::ReadLemmas::parts_alone))]
+fn first_part(text: &[u8]) -> (&[u8], Option<&[u8]>)
+    ensures parts { parts_of text.now
+        ≡ result.0.now ∷ parts_left (option_map (λ t. t.now) result.1) }
+    ensures shorter { IfSome result.1 (λ t. length t.now < length text.now) }
+{
+    match cut(text) {
+        Some((front, behind)) => (front, Some(behind)),
+        None => (text, None),
+    }
+}

@@ -1,0 +1,157 @@
+//! What an address names in a tree.
+ghost use Rattle.std.specs.Prelude.{◌≡◌, ◌+◌, ◌*◌, ◌≤◌, length};
+ghost use Rattle.addressing.specs.Names as spec;
+ghost use Rattle.addressing.specs.Names.{IsLocal, segments_of};
+
+use crate::addr::Addr;
+use crate::spot::Spot;
+use m2m_names::{Ty, read_id};
+use m2m_value::Text;
+use std::sync::ledger::Ledger;
+use tree_model::{Steps, Tree};
+
+/// What a local address names. It asks for one child for each segment at most, and else looks up.
+pub fn resolve<T: Tree, L: Ledger>(tree: &T, addr: &Addr, steps: &mut Steps<L>) -> Option<Spot>
+    requires { IsLocal addr.now }
+    ensures value { result ≡ spec.spot_of (segments_of addr.now) (T.nodes tree.now) }
+    ensures counted { steps.old ≤ steps.new }
+    ensures cost { steps.new ≤ steps.old + T.child_steps * length (segments_of addr.now) }
+{
+    match addr {
+        Addr::Local(segments) => spot_of(tree, segments.entries(), steps),
+        _ => unreachable!(),
+    }
+}
+
+#[tactic(auto, using(crate::proofs::CostLemmas::cost_of_first, crate::proofs::CostLemmas::cost_of_all))]
+fn spot_of<T: Tree, L: Ledger>(tree: &T, segments: &[Text], steps: &mut Steps<L>) -> Option<Spot>
+    ensures value { result ≡ spec.spot_of segments.now (T.nodes tree.now) }
+    ensures counted { steps.old ≤ steps.new }
+    ensures cost { steps.new ≤ steps.old + T.child_steps * length segments.now }
+{
+    match segments {
+        [] => Some(Spot::Resource(tree.kid(0, 0)?)),
+        [segment, names @ ..] => {
+            let number = first_named(tree, segment.entries(), steps)?;
+            spot_behind(tree, number, names, steps)
+        }
+    }
+}
+
+fn first_named<T: Tree, L: Ledger>(tree: &T, segment: &[u8], steps: &mut Steps<L>) -> Option<u64>
+    ensures value { result ≡ spec.first_named segment.now (T.nodes tree.now) }
+    ensures counted { steps.old ≤ steps.new }
+    ensures cost { steps.new ≤ steps.old + T.child_steps }
+{
+    if let Some(base) = base_named(tree, segment, steps) {
+        return Some(base);
+    }
+    if let Some(number) = id_named(tree, segment) {
+        return Some(number);
+    }
+    tree.ae(segment)
+}
+
+/// The CSEBase by its name or `-`.
+fn base_named<T: Tree, L: Ledger>(tree: &T, segment: &[u8], steps: &mut Steps<L>) -> Option<u64>
+    ensures value { result ≡ spec.base_named segment.now (T.nodes tree.now) }
+    ensures counted { steps.old ≤ steps.new }
+    ensures cost { steps.new ≤ steps.old + T.child_steps }
+{
+    if segment == b"-".as_slice() {
+        tree.kid(0, 0)
+    } else {
+        tree.child(0, segment, steps)
+    }
+}
+
+/// The resource of an id.
+fn id_named<T: Tree>(tree: &T, segment: &[u8]) -> Option<u64>
+    ensures { result ≡ spec.id_named segment.now (T.nodes tree.now) }
+{
+    let (ty, number) = read_id(segment)?;
+    if is_at(tree, ty, number) {
+        Some(number)
+    } else {
+        None
+    }
+}
+
+fn is_at<T: Tree>(tree: &T, ty: Ty, number: u64) -> bool
+    ensures { result ≡ spec.is_at ty number (T.nodes tree.now) }
+{
+    match tree.get(number) {
+        Some(resource) => resource.is(ty),
+        None => false,
+    }
+}
+
+/// What names say from a resource on, the first of which has place 1.
+#[tactic(auto, using(crate::proofs::CostLemmas::cost_so_far))]
+fn spot_behind<T: Tree, L: Ledger>(
+    tree: &T,
+    number: u64,
+    names: &[Text],
+    steps: &mut Steps<L>,
+) -> Option<Spot>
+    ensures value { result ≡ spec.spot_from 1 number names.now (T.nodes tree.now) }
+    ensures counted { steps.old ≤ steps.new }
+    ensures cost { steps.new ≤ steps.old + T.child_steps * length names.now }
+{
+    let mut at = number;
+    for (place, name) in names.iter().enumerate() {
+        let name = name.entries();
+        if is_fan(tree, at, name) {
+            return Some(Spot::Fan {
+                group: at,
+                rest: place as u64 + 2,
+            });
+        }
+        if is_poll(tree, at, name) {
+            return poll_point(at, &names[place + 1..]);
+        }
+        at = next_named(tree, at, name, steps)?;
+    }
+    Some(Spot::Resource(at))
+}
+
+fn is_fan<T: Tree>(tree: &T, number: u64, name: &[u8]) -> bool
+    ensures { result ≡ spec.is_fan number name.now (T.nodes tree.now) }
+{
+    name == b"fopt".as_slice() && is_at(tree, Ty::Group, number)
+}
+
+fn is_poll<T: Tree>(tree: &T, number: u64, name: &[u8]) -> bool
+    ensures { result ≡ spec.is_poll number name.now (T.nodes tree.now) }
+{
+    name == b"pcu".as_slice() && is_at(tree, Ty::PollingChannel, number)
+}
+
+fn poll_point(number: u64, behind: &[Text]) -> Option<Spot>
+    ensures { result ≡ spec.poll_point number behind.now }
+{
+    match behind {
+        [] => Some(Spot::Poll(number)),
+        _ => None,
+    }
+}
+
+/// The newest or the oldest instance, or the child of a name.
+fn next_named<T: Tree, L: Ledger>(
+    tree: &T,
+    number: u64,
+    name: &[u8],
+    steps: &mut Steps<L>,
+) -> Option<u64>
+    ensures value { result ≡ spec.next_named number name.now (T.nodes tree.now) }
+    ensures counted { steps.old ≤ steps.new }
+    ensures cost { steps.new ≤ steps.old + T.child_steps }
+{
+    if name == b"la".as_slice() {
+        return tree.instance(number, true);
+    }
+    if name == b"ol".as_slice() {
+        return tree.instance(number, false);
+    }
+    tree.child(number, name, steps)
+}

@@ -1,0 +1,225 @@
+//! Addresses as they are written, and what they name.
+ghost use Rattle.std.specs.Prelude.{◌≡◌, ◌<◌, IfOk, IsUtf8};
+
+use super::*;
+use m2m_names::{Attr, Ty};
+use m2m_value::{Text, Val};
+use std::alloc::Global;
+use std::marker::Brand;
+use std::sync::ledger::{Blank, Ledger};
+use std::test::Fail;
+use tree_model::{Attrs, Home, ListTree, Moments, Resource, Steps, Tree, may_insert};
+
+fn text(alloc: Global, words: &[u8]) -> Result<Text, OutOfMemory>
+    ensures { IfOk result (λ t. IsUtf8 t) }
+{
+    Ok(Text::of(String::from_utf8_lossy(alloc, words)?.into_bytes()))
+}
+
+// A resource of a number, type, name and parent.
+type Row = (u32, Ty, &'static str, u32);
+
+const ROWS: [Row; 9] = [
+    (1, Ty::CseBase, "cse-in", 0),
+    (3, Ty::Ae, "dev", 1),
+    (4, Ty::Container, "c", 3),
+    (5, Ty::Container, "empty", 3),
+    (6, Ty::ContentInstance, "old", 4),
+    (7, Ty::ContentInstance, "new", 4),
+    (8, Ty::Group, "g", 3),
+    (9, Ty::PollingChannel, "p", 3),
+    (11, Ty::Ae, "odd", 1),
+];
+
+// What an application entity is called: one by a text that looks like an id.
+fn ae_id(number: u32) -> &'static str {
+    if number == 11 { "cnt10" } else { "CDev" }
+}
+
+fn resource(alloc: Global, row: Row) -> Result<Resource, OutOfMemory> {
+    let (number, ty, name, parent) = row;
+    let moments = Moments {
+        ct: 0,
+        lt: 0,
+        et: 0,
+    };
+    let name = text(alloc, name.as_bytes())?;
+    let owner = text(alloc, b"")?;
+    let attrs = Attrs::new(alloc);
+    let mut made = Resource::of(
+        number as u64,
+        ty,
+        name,
+        parent as u64,
+        owner,
+        moments,
+        attrs,
+    );
+    if made.is(Ty::Ae) {
+        let id = text(alloc, ae_id(number).as_bytes())?;
+        made.set(Attr::Aei, Val::of_text(id))?;
+    }
+    Ok(made)
+}
+
+fn tree(alloc: Global) -> Result<ListTree, OutOfMemory> {
+    let mut tree = ListTree::new(alloc);
+    for row in ROWS {
+        let resource = resource(alloc, row)?;
+        if may_insert(&tree, &resource) {
+            let _inserted = tree.insert(resource);
+        }
+    }
+    Ok(tree)
+}
+
+/// What comes of a text.
+#[derive(Clone, Copy, Debug, PartialEq, Eq)]
+enum Answer {
+    Names(Spot),
+    Nothing,
+    Foreign,
+    OtherProvider,
+    Fault(AddrFault),
+}
+
+fn of_addr<L: Ledger>(tree: &ListTree, addr: &Addr, steps: &mut Steps<L>) -> Answer {
+    match addr {
+        Addr::Local(_) => match resolve(tree, addr, steps) {
+            Some(spot) => Answer::Names(spot),
+            None => Answer::Nothing,
+        },
+        Addr::Foreign(_) => Answer::Foreign,
+        Addr::OtherProvider => Answer::OtherProvider,
+    }
+}
+
+fn answer_by<L: Ledger>(tree: &ListTree, addr: &Addr, blank: Blank) -> Answer
+    requires name { blank.name ≡ L.name }
+    requires parts { blank.parts ≡ L.parts }
+    requires some { 0 < blank.parts }
+{
+    let mut steps = Steps::<L>::new(blank);
+    of_addr(tree, addr, &mut steps)
+}
+
+fn answer_to(alloc: Global, tree: &ListTree, home: &Home, text: &str) -> Answer {
+    match parse(alloc, text.as_bytes(), home) {
+        Ok(addr) => answer_by::<Brand>(tree, &addr, Blank::new(1)),
+        Err(fault) => Answer::Fault(fault),
+    }
+}
+
+const LONGEST_NAME: &str = "a123456789-123456789-123456789-123456789-123456789-123456789-123";
+
+const ANSWERS: [(&str, Answer); 27] = [
+    ("cse-in", Answer::Names(Spot::Resource(1))),
+    ("-", Answer::Names(Spot::Resource(1))),
+    ("/id-in", Answer::Names(Spot::Resource(1))),
+    ("//sp.example/id-in", Answer::Names(Spot::Resource(1))),
+    ("cse-in/dev/c", Answer::Names(Spot::Resource(4))),
+    ("//sp.example/id-in/cnt4", Answer::Names(Spot::Resource(4))),
+    ("CDev/c", Answer::Names(Spot::Resource(4))),
+    ("cnt10", Answer::Names(Spot::Resource(11))),
+    ("cnt04", Answer::Nothing),
+    ("ae4", Answer::Nothing),
+    ("cnt2", Answer::Nothing),
+    ("cnt4/la", Answer::Names(Spot::Resource(7))),
+    ("cnt4/ol", Answer::Names(Spot::Resource(6))),
+    ("cnt5/la", Answer::Nothing),
+    ("grp8/fopt", Answer::Names(Spot::Fan { group: 8, rest: 2 })),
+    (
+        "cse-in/dev/g/fopt/la",
+        Answer::Names(Spot::Fan { group: 8, rest: 4 }),
+    ),
+    ("cnt4/fopt", Answer::Nothing),
+    ("pch9/pcu", Answer::Names(Spot::Poll(9))),
+    ("pch9/pcu/x", Answer::Nothing),
+    ("/id-mn", Answer::Foreign),
+    ("//sp.example/id-mn/a", Answer::Foreign),
+    ("//other/id-in/cse-in", Answer::OtherProvider),
+    ("//other/id-in/a b", Answer::Fault(AddrFault::Shape)),
+    ("//sp.example", Answer::Fault(AddrFault::Shape)),
+    ("", Answer::Fault(AddrFault::Shape)),
+    ("cse-in//dev", Answer::Fault(AddrFault::Shape)),
+    (LONGEST_NAME, Answer::Nothing),
+];
+
+#[test]
+fn addresses_name_what_stands(rt: HostRuntime) -> Result<(), Fail> {
+    let alloc = rt.alloc();
+    let home = Home::with_defaults(alloc)?;
+    let tree = tree(alloc)?;
+    for (text, want) in ANSWERS {
+        assert_eq!(rt; answer_to(alloc, &tree, &home, text), want, "{text}");
+    }
+    Ok(())
+}
+
+#[test]
+fn addresses_have_limits(rt: HostRuntime) -> Result<(), Fail> {
+    let alloc = rt.alloc();
+    let home = Home::with_defaults(alloc)?;
+    assert!(rt; matches!(parse(alloc, &[b'a'; 513], &home), Err(AddrFault::TooLong)));
+    assert!(rt; matches!(parse(alloc, &[b'a'; 512], &home), Err(AddrFault::Shape)));
+    assert!(rt; matches!(parse(alloc, &[b'a'; 65], &home), Err(AddrFault::Shape)));
+    Ok(())
+}
+
+#[test]
+fn addresses_print(rt: HostRuntime) -> Result<(), Fail> {
+    let alloc = rt.alloc();
+    let home = Home::with_defaults(alloc)?;
+    for (text, want) in [
+        ("cse-in/dev", "cse-in/dev"),
+        ("/id-mn/x", "/id-mn/x"),
+        ("//sp.example/id-in/-/la", "-/la"),
+        ("//sp.example/id-in", "/id-in"),
+    ] {
+        assert_eq!(rt;
+            printed_again(alloc, text, &home)?.as_slice(),
+            want.as_bytes()
+        );
+    }
+    let tree = tree(alloc)?;
+    assert!(rt; tree_model::stands_in(&tree, 7));
+    assert_eq!(rt;
+        structured(alloc, &tree, 7)?.entries(),
+        b"cse-in/dev/c/new".as_slice()
+    );
+    Ok(())
+}
+
+fn printed_again(alloc: Global, text: &str, home: &Home) -> Result<Vec<u8>, OutOfMemory> {
+    match parse(alloc, text.as_bytes(), home) {
+        Ok(Addr::Local(segments)) => { Ok(print(alloc, &Addr::Local(segments), home)?.into_vec()) }
+        Ok(Addr::Foreign(text)) => Ok(print(alloc, &Addr::Foreign(text), home)?.into_vec()),
+        Ok(Addr::OtherProvider) => Ok(Vec::new(alloc)),
+        Err(_) => Ok(Vec::new(alloc)),
+    }
+}
+
+#[test]
+fn originators_are_made_short(rt: HostRuntime) -> Result<(), Fail> {
+    let home = Home::with_defaults(rt.alloc())?;
+    for (text, short) in [
+        ("CDev", Some("CDev")),
+        ("/id-in/CDev", Some("CDev")),
+        ("//sp.example/id-in/CDev", Some("CDev")),
+        ("/id-in//id-in/x", Some("/id-in/x")),
+        ("/id-in", Some("/id-in")),
+        ("/id-mn/CDev", Some("/id-mn/CDev")),
+        ("//sp.example/id-mn", Some("/id-mn")),
+        ("//sp.examples/id-in/x", Some("//sp.examples/id-in/x")),
+        ("//other/id-in/x", Some("//other/id-in/x")),
+        ("//sp.example", None),
+        ("/id-in/", None),
+        ("//sp.example/id-in/", None),
+        ("", None),
+        ("a b", None),
+    ] {
+        let found = short_fr(text.as_bytes(), &home);
+        assert!(rt; found == short.map(|short| short.as_bytes()), "{text}");
+    }
+    Ok(())
+}

@@ -1,0 +1,248 @@
+-- What admitted contents give a resource is of the kinds that it keeps.
+use Rattle.std.proofs.Common.{◌≡◌, List, [], ◌∷◌, ◌++◌, Bool, true, false, not, ◌&&◌, ◌||◌, Option, Some, None, option_map, option_and_then, unwrap_or, if◌then◌else◌, inl, inr, refl, sym, ap, ◌∙◌, subst}
+use Rattle.std.proofs.lemmas.Bool.{cases_Bool, and_parts, and_from, or_cases, or_parts, not-true, both_ways, false_from_ne_true}
+use Rattle.std.proofs.lemmas.List.Folds.{list_all-append}
+use Rattle.std.proofs.lemmas.Option.{same_Some}
+use Rattle.std.specs.List.{cons_option, filter, filter_map, find, list_all}
+use Rattle.std.specs.Option.{option_or, option_map_or}
+use Rattle.std.specs.Ordering.{is_lt}
+use Rattle.m2m_names.specs.Attributes.{attr_of_short}
+use Rattle.m2m_names.specs.declared.attributes.Attr.{Attr}
+use Rattle.m2m_names.specs.declared.attributes.Attr.TheVariants.{Et}
+use Rattle.m2m_names.specs.declared.types.Ty.{Ty}
+use Rattle.m2m_value.specs.Data.{Data, Entry}
+use Rattle.resource_model.specs.Attributes.{Row, attr_cmp, is_attr, rows_before, rows_after, with_value, without_value}
+use Rattle.resource_model.proofs.AttributeLemmas.{is_attr-same}
+use Rattle.attribute_rules.specs.Kinds.{has_kind, kept_kind, opening_kind, is_attr_kind, have_kinds}
+use Rattle.attribute_rules.specs.Table.{AttrRow, attr_rows, is_among, is_row_for, table_rule, inherited_rule, rule_of, announced_rule, announced_source, original_of, is_permitted}
+use Rattle.attribute_rules.specs.Admission.{is_null, is_given, is_clearable, column_of, does_fit, rule_at, is_fit, is_complete, are_admitted, is_admitted, attributes_in}
+use Rattle.attribute_rules.specs.Contents.{is_apart, is_no_policy, does_clear, kept_row, set_row, cleared_attr, wanted_of, edit_of, set_all, clear_all, edited}
+use Rattle.attribute_rules.specs.declared.table.Rule.{Rule}
+use Rattle.attribute_rules.specs.declared.table.Source.{Source}
+use Rattle.attribute_rules.specs.declared.table.Source.TheVariants.{Given, Apart, Creator, Assigned, Derived}
+use Rattle.attribute_rules.specs.declared.table.Writing.{Writing}
+use Rattle.attribute_rules.specs.declared.table.Writing.TheVariants.{Create, Update}
+use Rattle.attribute_rules.proofs.ContentsLemmas.{seen, no_some, kept_choice, set_choice}
+
+-- ---- a fact of the table
+
+-- the value is asked for, but not kept as it is given
+abbrev is_beside : Source → Bool
+is_beside (Given kind) = false
+is_beside (Apart kind) = true
+is_beside Creator = true
+is_beside (Assigned kind) = false
+is_beside Derived = false
+
+-- what isn't kept as it is given is told apart in a creation, and of it an update names `et` alone
+abbrev is_fair : Attr → Rule → Bool
+is_fair attr r = not (is_beside r.source) || (is_apart attr && (not (is_permitted r.update) || is_attr attr Et))
+
+-- what can be announced is kept as it is given
+abbrev is_fair_original : Rule → Bool
+is_fair_original r = not r.announced || not (is_beside r.source)
+
+abbrev is_fair_row : AttrRow → Bool
+is_fair_row row = is_fair row.attr row.rule && is_fair_original row.rule
+
+rows_fair : list_all is_fair_row attr_rows ≡ true
+rows_fair = refl
+
+found_row : (p q : AttrRow → Bool) (rows : List AttrRow) (row : AttrRow) → list_all q rows ≡ true → find p rows ≡ Some row → (p row ≡ true) × (q row ≡ true)
+found_row p q [] row all found = absurd (no_some row found)
+found_row p q (r ∷ rows) row all found =
+    let parts = and_parts (q r) (list_all q rows) all in
+    elim (cases_Bool (p r)) [
+      | inl t ↦
+          let same : r ≡ row = same_Some r row (rw t at found) in
+          (ap p (sym same) ∙ t, ap q (sym same) ∙ parts.0)
+      | inr f ↦ found_row p q rows row parts.1 (rw f at found)
+    ]
+
+abbrev IsFairRule : Attr → Rule → Type 0
+IsFairRule a r = (is_fair a r ≡ true) × (is_fair_original r ≡ true)
+
+fair_in : (rows : List AttrRow) → list_all is_fair_row rows ≡ true → (ty : Ty) (a : Attr) (o : Option AttrRow) → find (is_row_for ty a) rows ≡ o → (r : Rule) → option_map (λ (row : AttrRow). row.rule) o ≡ Some r → IsFairRule a r
+fair_in rows all ty a None is r h = absurd (no_some r h)
+fair_in rows all ty a (Some row) is r h =
+    let found = found_row (is_row_for ty a) is_fair_row rows row all is in
+    let same : a ≡ row.attr = is_attr-same a row.attr (and_parts _ _ found.0).0 in
+    let fair = and_parts (is_fair row.attr row.rule) (is_fair_original row.rule) found.1 in
+    let rule_is : row.rule ≡ r = same_Some row.rule r h in
+    (ap (λ b. is_fair b r) same ∙ ap (is_fair row.attr) (sym rule_is) ∙ fair.0, ap is_fair_original (sym rule_is) ∙ fair.1)
+
+table_fair : (ty : Ty) (a : Attr) (r : Rule) → table_rule ty a ≡ Some r → IsFairRule a r
+table_fair ty a r h = fair_in attr_rows rows_fair ty a (find (is_row_for ty a) attr_rows) refl r h
+
+beside_announced : (s : Source) → is_beside s ≡ false → is_beside (announced_source s) ≡ false
+beside_announced (Given kind) h = refl
+beside_announced (Apart kind) h = cc
+beside_announced Creator h = cc
+beside_announced (Assigned kind) h = refl
+beside_announced Derived h = refl
+
+announced_fair : (q r : Rule) → is_fair_original q ≡ true → announced_rule q ≡ Some r → is_beside r.source ≡ false
+announced_fair q r fair h = elim (cases_Bool q.announced) [
+  | inl t ↦
+      let kept : is_beside q.source ≡ false = not-true _ (rw t at fair) in
+      let is = same_Some _ r (rw t at h) in
+      ap (λ (x : Rule). is_beside x.source) (sym is) ∙ beside_announced q.source kept
+  | inr f ↦ absurd (no_some r (rw f at h))
+]
+
+inherited_fair : (o : Option Rule) → ((q : Rule) → o ≡ Some q → is_fair_original q ≡ true) → (r : Rule) → option_and_then announced_rule o ≡ Some r → is_beside r.source ≡ false
+inherited_fair None fair r h = absurd (no_some r h)
+inherited_fair (Some q) fair r h = announced_fair q r (fair q refl) h
+
+looked_up : (look : Ty → Option Rule) (o : Option Ty) (q : Rule) → option_and_then look o ≡ Some q → (x : Ty) × (look x ≡ Some q)
+looked_up look None q h = absurd (no_some q h)
+looked_up look (Some x) q h = (x, h)
+
+either_fair : (a : Attr) (o p : Option Rule) → ((q : Rule) → o ≡ Some q → is_fair a q ≡ true) → ((q : Rule) → p ≡ Some q → is_fair a q ≡ true) → (r : Rule) → option_or o p ≡ Some r → is_fair a r ≡ true
+either_fair a None p first second r h = second r h
+either_fair a (Some q) p first second r h = first r h
+
+rule_fair : (ty : Ty) (a : Attr) (r : Rule) → rule_of ty a ≡ Some r → is_fair a r ≡ true
+rule_fair ty a r h =
+    either_fair a (table_rule ty a) (inherited_rule ty a) (λ q is. (table_fair ty a q is).0)
+    (λ q is.
+    let kept : is_beside q.source ≡ false = inherited_fair (option_and_then (λ original. table_rule original a) (original_of ty)) (λ x found. let at = looked_up (λ original. table_rule original a) (original_of ty) x found in (table_fair at.0 a x at.1).1) q is in
+    rw kept refl)
+    r h
+
+-- ---- a value that was asked for and is kept as it is given
+
+source_kind : (s : Source) (d : Data) → is_beside s ≡ false → is_given s d ≡ true → option_map_or (λ kind. has_kind kind d) (kept_kind s) false ≡ true
+source_kind (Given kind) d kept given = given
+source_kind (Apart kind) d kept given = cc
+source_kind Creator d kept given = cc
+source_kind (Assigned kind) d kept given = cc
+source_kind Derived d kept given = cc
+
+given_kind : (ty : Ty) (a : Attr) (d : Data) (r : Rule) → rule_of ty a ≡ Some r → is_beside r.source ≡ false → is_given r.source d ≡ true → is_attr_kind ty (a, d) ≡ true
+given_kind ty a d r is kept given =
+    ap (λ (o : Option Rule). option_map_or (λ kind. has_kind kind d) (option_map_or (λ (x : Rule). kept_kind x.source) o (opening_kind ty a)) false) is
+    ∙ source_kind r.source d kept given
+
+-- the rule of a member that fits
+record Fitting (writing : Writing) (d : Data) (o : Option Rule) : Type 0 where
+  rule : Rule
+  is : o ≡ Some rule
+  permitted : is_permitted (column_of writing rule) ≡ true
+  fits : does_fit writing rule d ≡ true
+
+fitting : (writing : Writing) (a : Attr) (d : Data) (o : Option Rule) → option_map_or (λ (p : Attr × Rule). is_permitted (column_of writing p.1) && does_fit writing p.1 d) (option_map (λ rule. (a, rule)) o) false ≡ true → Fitting writing d o
+fitting writing a d None h = absurd (both_ways false refl h)
+fitting writing a d (Some r) h =
+    let parts = and_parts (is_permitted (column_of writing r)) (does_fit writing r d) h in
+    record { rule = r; is = refl; permitted = parts.0; fits = parts.1 }
+
+fit_rule : (writing : Writing) (ty : Ty) (e : Entry) (a : Attr) → attr_of_short e.0 ≡ Some a → is_fit writing ty e ≡ true → Fitting writing e.1 (rule_of ty a)
+fit_rule writing ty e a is fit =
+    fitting writing a e.1 (rule_of ty a)
+    (sym (ap (λ (o : Option Attr). option_map_or (λ (p : Attr × Rule). is_permitted (column_of writing p.1) && does_fit writing p.1 e.1) (option_and_then (λ attr. option_map (λ rule. (attr, rule)) (rule_of ty attr)) o) false) is) ∙ fit)
+
+pub created_kind : (ty : Ty) (e : Entry) (row : Row) → is_fit Create ty e ≡ true → kept_row e ≡ Some row → is_attr_kind ty row ≡ true
+created_kind ty e row fit h =
+    let choice = kept_choice e row h in
+    let at = fit_rule Create ty e row.0 choice.attr fit in
+    let stays = (or_parts (is_apart row.0) (is_no_policy row.0 e.1) choice.stays).0 in
+    let kept : is_beside at.rule.source ≡ false = elim (or_cases _ _ (rule_fair ty row.0 at.rule at.is)) [
+      | inl t ↦ not-true _ t
+      | inr t ↦ absurd (both_ways _ stays (and_parts _ _ t).0)
+    ] in
+    let given : is_given at.rule.source e.1 ≡ true = elim (or_cases _ _ at.fits) [
+      | inl t ↦ absurd (both_ways false refl (and_parts (is_null e.1) false t).1)
+      | inr t ↦ t
+    ] in
+    ap (λ d. is_attr_kind ty (row.0, d)) choice.value ∙ given_kind ty row.0 e.1 at.rule at.is kept given
+
+pub updated_kind : (ty : Ty) (e : Entry) (row : Row) → is_fit Update ty e ≡ true → set_row e ≡ Some row → is_attr row.0 Et ≡ false → is_attr_kind ty row ≡ true
+updated_kind ty e row fit h other =
+    let choice = set_choice e row h in
+    let at = fit_rule Update ty e row.0 choice.attr fit in
+    let something = (or_parts (is_null e.1) (is_no_policy row.0 e.1) choice.stays).0 in
+    let kept : is_beside at.rule.source ≡ false = elim (or_cases _ _ (rule_fair ty row.0 at.rule at.is)) [
+      | inl t ↦ not-true _ t
+      | inr t ↦ elim (or_cases _ _ (and_parts _ _ t).1) [
+        | inl n ↦ absurd (both_ways _ (not-true _ n) at.permitted)
+        | inr s ↦ absurd (both_ways _ other s)
+      ]
+    ] in
+    let given : is_given at.rule.source e.1 ≡ true = elim (or_cases _ _ at.fits) [
+      | inl t ↦ absurd (both_ways _ something (and_parts _ _ t).0)
+      | inr t ↦ t
+    ] in
+    ap (λ d. is_attr_kind ty (row.0, d)) choice.value ∙ given_kind ty row.0 e.1 at.rule at.is kept given
+
+-- ---- the attributes of a resource
+
+created_all : (ty : Ty) (es : List Entry) → list_all (is_fit Create ty) es ≡ true → have_kinds ty (filter_map kept_row es) ≡ true
+created_all ty [] fit = refl
+created_all ty (e ∷ es) fit =
+    let parts = and_parts (is_fit Create ty e) (list_all (is_fit Create ty) es) fit in
+    elim (seen (kept_row e)) [
+      | inl none ↦ ap (λ o. have_kinds ty (cons_option o (filter_map kept_row es))) none ∙ created_all ty es parts.1
+      | inr found ↦ ap (λ o. have_kinds ty (cons_option o (filter_map kept_row es))) found.1 ∙ and_from _ _ (created_kind ty e found.0 parts.0 found.1) (created_all ty es parts.1)
+    ]
+
+created_in : (ty : Ty) (o : Option (List Entry)) → option_map_or (are_admitted Create ty) o false ≡ true → have_kinds ty (filter_map kept_row (unwrap_or o [])) ≡ true
+created_in ty None h = refl
+created_in ty (Some es) h = created_all ty es (and_parts (list_all (is_fit Create ty) es) (is_complete Create ty es) h).0
+
+-- what an admitted creation gives a resource is of the kinds that its type keeps
+pub created_kinds : (ty : Ty) (content : Data) → is_admitted Create ty content ≡ true → have_kinds ty (wanted_of ty content).attrs ≡ true
+created_kinds ty content h = created_in ty (attributes_in ty content) h
+
+all_filtered : {X : Type 0} (p q : X → Bool) (xs : List X) → list_all p xs ≡ true → list_all p (filter q xs) ≡ true
+all_filtered p q [] all = refl
+all_filtered p q (x ∷ xs) all =
+    let parts = and_parts (p x) (list_all p xs) all in
+    elim (cases_Bool (q x)) [
+      | inl t ↦ rw t (and_from _ _ parts.0 (all_filtered p q xs parts.1))
+      | inr f ↦ rw f (all_filtered p q xs parts.1)
+    ]
+
+-- one attribute that gets a value of its kind, and one that is cleared
+pub kinds-with_value : (ty : Ty) (row : Row) (rows : List Row) → is_attr_kind ty row ≡ true → have_kinds ty rows ≡ true → have_kinds ty (with_value row.0 row.1 rows) ≡ true
+kinds-with_value ty row rows one all =
+    list_all-append (is_attr_kind ty) (rows_before row.0 rows) (row ∷ rows_after row.0 rows)
+    ∙ and_from _ _ (all_filtered (is_attr_kind ty) (λ r. is_lt (attr_cmp r.0 row.0)) rows all)
+    (and_from _ _ one (all_filtered (is_attr_kind ty) (λ r. is_lt (attr_cmp row.0 r.0)) rows all))
+
+pub kinds-without_value : (ty : Ty) (a : Attr) (rows : List Row) → have_kinds ty rows ≡ true → have_kinds ty (without_value a rows) ≡ true
+kinds-without_value ty a rows all =
+    list_all-append (is_attr_kind ty) (rows_before a rows) (rows_after a rows)
+    ∙ and_from _ _ (all_filtered (is_attr_kind ty) (λ r. is_lt (attr_cmp r.0 a)) rows all)
+    (all_filtered (is_attr_kind ty) (λ r. is_lt (attr_cmp a r.0)) rows all)
+
+cleared_all : (ty : Ty) (attrs : List Attr) (rows : List Row) → have_kinds ty rows ≡ true → have_kinds ty (clear_all attrs rows) ≡ true
+cleared_all ty [] rows all = all
+cleared_all ty (a ∷ attrs) rows all = cleared_all ty attrs (without_value a rows) (kinds-without_value ty a rows all)
+
+set_one : (ty : Ty) (e : Entry) (row : Row) (rows : List Row) → is_fit Update ty e ≡ true → set_row e ≡ Some row → have_kinds ty rows ≡ true → have_kinds ty (if is_attr row.0 Et then rows else with_value row.0 row.1 rows) ≡ true
+set_one ty e row rows fit h all = elim (cases_Bool (is_attr row.0 Et)) [
+  | inl t ↦ rw t all
+  | inr f ↦ rw f (kinds-with_value ty row rows (updated_kind ty e row fit h f) all)
+]
+
+updated_all : (ty : Ty) (es : List Entry) (rows : List Row) → list_all (is_fit Update ty) es ≡ true → have_kinds ty rows ≡ true → have_kinds ty (set_all (filter_map set_row es) rows) ≡ true
+updated_all ty [] rows fit all = all
+updated_all ty (e ∷ es) rows fit all =
+    let parts = and_parts (is_fit Update ty e) (list_all (is_fit Update ty) es) fit in
+    elim (seen (set_row e)) [
+      | inl none ↦ ap (λ o. have_kinds ty (set_all (cons_option o (filter_map set_row es)) rows)) none ∙ updated_all ty es rows parts.1 all
+      | inr found ↦
+          ap (λ o. have_kinds ty (set_all (cons_option o (filter_map set_row es)) rows)) found.1
+          ∙ updated_all ty es (if is_attr found.0.0 Et then rows else with_value found.0.0 found.0.1 rows) parts.1 (set_one ty e found.0 rows parts.0 found.1 all)
+    ]
+
+updated_in : (ty : Ty) (o : Option (List Entry)) (rows : List Row) → option_map_or (are_admitted Update ty) o false ≡ true → have_kinds ty rows ≡ true → have_kinds ty (clear_all (filter_map cleared_attr (unwrap_or o [])) (set_all (filter_map set_row (unwrap_or o [])) rows)) ≡ true
+updated_in ty None rows h all = all
+updated_in ty (Some es) rows h all =
+    cleared_all ty (filter_map cleared_attr es) (set_all (filter_map set_row es) rows)
+    (updated_all ty es rows (and_parts (list_all (is_fit Update ty) es) (is_complete Update ty es) h).0 all)
+
+-- attributes of their kinds stay so after an admitted update
+pub updated_kinds : (ty : Ty) (content : Data) (rows : List Row) → is_admitted Update ty content ≡ true → have_kinds ty rows ≡ true → have_kinds ty (edited (edit_of ty content) rows) ≡ true
+updated_kinds ty content rows h all = updated_in ty (attributes_in ty content) rows h all

@@ -1,0 +1,3 @@
+pub mod ContentsLemmas
+pub mod FaultLemmas
+pub mod KindLemmas

@@ -1,0 +1,263 @@
+//! Which contents are admitted, and what is wrong with the others.
+ghost use Rattle.std.specs.Prelude.{◌≡◌, Some, None, IfOk, OnOk, IfErr, false, option_map};
+ghost use Rattle.std.specs.List.{filter_map, list_all};
+ghost use Rattle.std.specs.Option.{option_map_or};
+ghost use Rattle.m2m_value.specs.View as views;
+ghost use Rattle.attribute_rules.specs.Admission as spec;
+
+use crate::faults::AttrFault;
+use crate::table::{Rule, Writing, mandatory, rule_of};
+use m2m_names::{Attr, Ty};
+use m2m_value::{Members, Node, Text, Val};
+
+// The value of the one member, where it has this name.
+fn only_value<'a>(name: &str, entries: &'a [(Text, Val)]) -> Option<&'a Val>
+    ensures { option_map (λ v. v.now) result ≡ spec.only_value name.now entries.now }
+{
+    match entries {
+        [entry] if entry.0.entries() == name.as_bytes() => Some(&entry.1),
+        _ => None,
+    }
+}
+
+/// The attributes that a content names, with their values.
+pub fn attributes_in(ty: Ty, content: &Val) -> Option<&Members>
+    ensures { option_map (λ m. m.now) result ≡ spec.attributes_in ty content.now }
+{
+    only_value(ty.member(), content.as_obj()?.entries())?.as_obj()
+}
+
+fn members_of(value: Val) -> Option<Members>
+    ensures { result ≡ views.as_object value }
+{
+    match value.into_node() {
+        Node::Obj(members) => Some(members),
+        _ => None,
+    }
+}
+
+fn take_only(name: &str, members: Members) -> Option<Val>
+    ensures { result ≡ spec.only_value name.now members }
+{
+    let mut entries = members.into_vec();
+    if entries.len() != 1 {
+        return None;
+    }
+    let (key, value) = entries.pop()?;
+    if key.entries() == name.as_bytes() {
+        Some(value)
+    } else {
+        None
+    }
+}
+
+/// The same attributes, taken out of the content.
+pub fn take_attributes(ty: Ty, content: Val) -> Option<Members>
+    ensures { result ≡ spec.attributes_in ty content }
+{
+    members_of(take_only(ty.member(), members_of(content)?)?)
+}
+
+fn is_named(attr: Attr, members: &Members) -> bool
+    ensures { result ≡ spec.is_named attr members.now }
+{
+    members.get(attr.short().as_bytes()).is_some()
+}
+
+fn is_alone(members: &Members) -> bool
+    ensures { result ≡ spec.is_alone members.now }
+{
+    matches!(members.entries(), [_])
+}
+
+fn rule_at(ty: Ty, key: &Text) -> Option<(Attr, Rule)>
+    ensures { result ≡ spec.rule_at ty key.now }
+{
+    let attr = Attr::from_short_bytes(key.entries())?;
+    Some((attr, rule_of(ty, attr)?))
+}
+
+fn is_fit(writing: Writing, ty: Ty, entry: &(Text, Val)) -> bool
+    ensures { result ≡ spec.is_fit writing ty entry.now }
+{
+    match rule_at(ty, &entry.0) {
+        Some((_, rule)) => rule.permits(writing) && rule.fits(writing, &entry.1),
+        None => false,
+    }
+}
+
+fn are_fit(writing: Writing, ty: Ty, entries: &[(Text, Val)]) -> bool
+    ensures { result ≡ list_all (spec.is_fit writing ty) entries.now }
+{
+    entries.iter().all(|entry| is_fit(writing, ty, entry))
+}
+
+fn are_named(attrs: &[Attr], members: &Members) -> bool
+    ensures { result ≡ list_all (λ attr. spec.is_named attr members.now) attrs.now }
+{
+    attrs.iter().all(|attr| is_named(*attr, members))
+}
+
+fn is_complete(writing: Writing, ty: Ty, members: &Members) -> bool
+    ensures { result ≡ spec.is_complete writing ty members.now }
+{
+    match writing {
+        Writing::Create => are_named(mandatory(ty), members),
+        Writing::Update => !is_named(Attr::Acpi, members) || is_alone(members),
+    }
+}
+
+fn are_admitted(writing: Writing, ty: Ty, members: &Members) -> bool
+    ensures { result ≡ spec.are_admitted writing ty members.now }
+{
+    are_fit(writing, ty, members.entries()) && is_complete(writing, ty, members)
+}
+
+/// Whether the content is admitted.
+pub fn is_admitted(writing: Writing, ty: Ty, content: &Val) -> bool
+    ensures { result ≡ spec.is_admitted writing ty content.now }
+{
+    match attributes_in(ty, content) {
+        Some(members) => are_admitted(writing, ty, members),
+        None => false,
+    }
+}
+
+fn key_fault(writing: Writing, ty: Ty, key: Text, value: &Val) -> Option<AttrFault>
+    ensures { result ≡ spec.key_fault writing ty (key, value.now) }
+{
+    match rule_at(ty, &key) {
+        None => Some(AttrFault::Unknown(key)),
+        Some((attr, rule)) => value_fault(writing, attr, rule, value),
+    }
+}
+
+// What is wrong at an attribute that the type has.
+fn value_fault(writing: Writing, attr: Attr, rule: Rule, value: &Val) -> Option<AttrFault>
+    ensures { result ≡ spec.value_fault writing attr rule value.now }
+{
+    if !rule.permits(writing) {
+        Some(AttrFault::NotAllowed(attr))
+    } else if !rule.fits(writing, value) {
+        Some(AttrFault::Kind(attr))
+    } else {
+        None
+    }
+}
+
+fn is_unknown(fault: &Option<AttrFault>) -> bool
+    ensures { result ≡ option_map_or spec.is_unknown fault.now false }
+{
+    matches!(fault, Some(AttrFault::Unknown(_)))
+}
+
+fn is_not_allowed(fault: &Option<AttrFault>) -> bool
+    ensures { result ≡ option_map_or spec.is_not_allowed fault.now false }
+{
+    matches!(fault, Some(AttrFault::NotAllowed(_)))
+}
+
+// Of each kind of fault that a key may have, the first.
+#[derive(Drop)]
+struct Firsts {
+    unknown: Option<AttrFault>,
+    not_allowed: Option<AttrFault>,
+    wrong: Option<AttrFault>,
+}
+
+// The same after the next key, which has this fault or none.
+fn with_fault(firsts: Firsts, fault: Option<AttrFault>) -> Firsts
+    ensures { result ≡ spec.with_fault firsts fault }
+{
+    let Firsts {
+        unknown,
+        not_allowed,
+        wrong,
+    } = firsts;
+    if is_unknown(&fault) {
+        Firsts {
+            unknown: unknown.or(fault),
+            not_allowed,
+            wrong,
+        }
+    } else if is_not_allowed(&fault) {
+        Firsts {
+            unknown,
+            not_allowed: not_allowed.or(fault),
+            wrong,
+        }
+    } else {
+        Firsts {
+            unknown,
+            not_allowed,
+            wrong: wrong.or(fault),
+        }
+    }
+}
+
+fn with_entry(writing: Writing, ty: Ty, firsts: Firsts, entry: (Text, Val)) -> Firsts
+    ensures { result ≡ spec.with_fault firsts (spec.key_fault writing ty entry) }
+{
+    let (key, value) = entry;
+    with_fault(firsts, key_fault(writing, ty, key, &value))
+}
+
+fn first_key_fault(writing: Writing, ty: Ty, members: Members) -> Option<AttrFault>
+    ensures { result ≡ spec.first_of (filter_map (spec.key_fault writing ty) members) }
+{
+    let mut firsts = Firsts {
+        unknown: None,
+        not_allowed: None,
+        wrong: None,
+    };
+    for entry in members.into_vec() {
+        firsts = with_entry(writing, ty, firsts, entry);
+    }
+    firsts.unknown.or(firsts.not_allowed.or(firsts.wrong))
+}
+
+fn missing(ty: Ty, members: &Members) -> Option<Attr>
+    ensures { result ≡ spec.missing ty members.now }
+{
+    mandatory(ty)
+        .iter()
+        .copied()
+        .find(|attr| !is_named(*attr, members))
+}
+
+fn rest_fault(writing: Writing, ty: Ty, members: &Members) -> Option<AttrFault>
+    ensures { result ≡ spec.rest_fault writing ty members.now }
+{
+    match writing {
+        Writing::Create => Some(AttrFault::Missing(missing(ty, members)?)),
+        Writing::Update if is_named(Attr::Acpi, members) && !is_alone(members) => {
+            Some(AttrFault::AcpiNotAlone)
+        }
+        Writing::Update => None,
+    }
+}
+
+fn fault_in(writing: Writing, ty: Ty, members: Members) -> Option<AttrFault>
+    ensures { result ≡ spec.fault_in writing ty members }
+{
+    let rest = rest_fault(writing, ty, &members);
+    first_key_fault(writing, ty, members).or(rest)
+}
+
+/// The attributes that an admitted content names; of any other content its first fault.
+pub fn sort_out(writing: Writing, ty: Ty, content: Val) -> Result<Members, AttrFault>
+    ensures attributes { IfOk result (λ es. spec.attributes_in ty content ≡ Some es) }
+    ensures admitted { OnOk result (spec.fault_of writing ty content ≡ None) }
+    ensures refused { IfErr result (λ fault. spec.fault_of writing ty content ≡ Some fault) }
+{
+    let Some(members) = take_attributes(ty, content) else {
+        return Err(AttrFault::Shape);
+    };
+    if are_admitted(writing, ty, &members) {
+        return Ok(members);
+    }
+    match fault_in(writing, ty, members) {
+        Some(fault) => Err(fault),
+        None => unreachable!(),
+    }
+}

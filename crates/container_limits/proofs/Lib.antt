@@ -1,0 +1,4 @@
+pub mod PlaceLemmas
+pub mod LimitLemmas
+pub mod QuietLemmas
+pub mod OverdueLemmas

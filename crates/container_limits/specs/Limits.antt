@@ -1,0 +1,83 @@
+-- What the limits of a container leave of its instances (TS-0001, 9.6.6).
+use Rattle.std.specs.Prelude.{◌≡◌, ℕ, ◌+◌, ◌==◌, nat_le, List, [], ◌∷◌, ◌++◌, length, take, drop}
+use Rattle.std.specs.Prelude.{map, filter, find, sum_by, Bool, true, false, not, ◌&&◌, ◌||◌}
+use Rattle.std.specs.Prelude.{if◌then◌else◌, Option, option_map, option_to_list, unwrap_or}
+use Rattle.std.specs.Bool.{OnTrue}
+use Rattle.std.specs.List.{list_any}
+use Rattle.std.specs.Option.{option_map_or}
+use Rattle.m2m_names.specs.declared.attributes.Attr.TheVariants.{Mia}
+use Rattle.resource_model.specs.Attributes.{count_at}
+use Rattle.resource_model.specs.Resource.{ResourceData}
+use Rattle.tree_model.specs.Tree.{has, size_of, lesser}
+use Rattle.container_limits.specs.declared.limits.Limits.{Limits}
+
+-- at most the limit, where there is one
+abbrev pub is_within : ℕ → Option ℕ → Bool
+is_within n limit = option_map_or (λ most. nat_le n most) limit true
+
+-- these instances, and one of this size that follows them, if any, are within the limits on their
+-- count and on the sum of their sizes
+abbrev pub do_fit : Limits → Option ℕ → List ResourceData → Bool
+do_fit limits new rs =
+    is_within (length rs + length (option_to_list new)) limits.mni
+    && is_within (sum_by size_of rs + unwrap_or new 0) limits.mbs
+
+-- all suffixes of a list, the longest first
+abbrev pub suffixes : List ResourceData → List (List ResourceData)
+suffixes [] = [] ∷ []
+suffixes (r ∷ rs) = (r ∷ rs) ∷ suffixes rs
+
+-- the longest suffix that fits; none, where not even the one that follows fits
+abbrev pub longest_fit : Limits → Option ℕ → List ResourceData → List ResourceData
+longest_fit limits new rs = unwrap_or (find (do_fit limits new) (suffixes rs)) []
+
+-- when an instance is due that may reach this age: when it expires, or at that age
+abbrev pub end_by : Option ℕ → ResourceData → ℕ
+end_by mia r = lesser r.et (option_map (λ age. r.ct + age) mia)
+
+abbrev pub is_due_by : Option ℕ → ℕ → ResourceData → Bool
+is_due_by mia moment r = nat_le (end_by mia r) moment
+
+-- it isn't due yet
+abbrev pub lasts : Option ℕ → ℕ → ResourceData → Bool
+lasts mia moment r = not (is_due_by mia moment r)
+
+-- whether it is due, where that is asked, or isn't
+abbrev pub is_in_state : Bool → Option ℕ → ℕ → ResourceData → Bool
+is_in_state due mia moment r =
+    if due then is_due_by mia moment r else lasts mia moment r
+
+-- it goes where it stands outside or is due
+abbrev pub goes : Bool → Option ℕ → ℕ → ResourceData → Bool
+goes outside mia moment r = outside || is_due_by mia moment r
+
+-- a container allows this age
+abbrev pub is_age : Option ℕ → ℕ → Bool
+is_age mia age = option_map_or (λ own. own == age) mia false
+
+abbrev pub has_mia : Option ResourceData → ℕ → Bool
+has_mia container age = option_map_or (λ c. is_age (count_at Mia c.attrs) age) container false
+
+-- no greatest age is asked for, or the one that the container allows
+abbrev pub is_mia_of : Option ResourceData → Option ℕ → Bool
+is_mia_of container mia = option_map_or (has_mia container) mia true
+
+-- what stays of these instances: of those that aren't due, the longest suffix that fits
+abbrev pub kept : Limits → Option ℕ → ℕ → List ResourceData → List ResourceData
+kept limits new moment rs = longest_fit limits new (filter (lasts limits.mia moment) rs)
+
+abbrev pub numbers_of : List ResourceData → List ℕ
+numbers_of rs = map (λ (r : ResourceData). r.number) rs
+
+-- the numbers of those that go, oldest first
+abbrev pub evicted : Limits → Option ℕ → ℕ → List ResourceData → List ℕ
+evicted limits new moment rs =
+    numbers_of (filter (λ r. not (has r.number (kept limits new moment rs))) rs)
+
+-- where it is known so, none of them is due
+abbrev pub IsQuiet : Bool → Option ℕ → ℕ → List ResourceData → Type 0
+IsQuiet quiet mia moment rs = OnTrue quiet (list_any (is_due_by mia moment) rs ≡ false)
+
+-- the oldest ones, and those after them that are due
+abbrev pub going : ℕ → Option ℕ → ℕ → List ResourceData → List ResourceData
+going outside mia moment rs = take outside rs ++ filter (is_due_by mia moment) (drop outside rs)

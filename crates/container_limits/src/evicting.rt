@@ -1,0 +1,147 @@
+// What the limits of a container push out.
+ghost use Rattle.std.specs.Prelude.{◌≡◌, ◌^◌, ◌<◌, [], ◌∷◌, ◌++◌, length, filter, sum_by, drop};
+ghost use Rattle.std.specs.Prelude.{option_map, option_to_list, IfOk, OnOk};
+ghost use Rattle.tree_model.specs.Tree.{instances_of, size_of};
+ghost use Rattle.container_limits.specs.Limits.{lasts, goes, going, kept, evicted, numbers_of};
+ghost use Rattle.container_limits.specs.Limits.{IsQuiet};
+
+use crate::instances::{instance, is_quiet, lasting_total, total, with_new, without};
+use crate::limits::{Limits, Total, fits, is_due_by};
+use m2m_value::Numbers;
+use resource_model::Resource;
+use std::alloc::{AllocError as OutOfMemory, Global};
+use tree_model::Tree;
+
+/// The numbers of the instances of a container that these limits push out at a moment, oldest
+/// first: those that are due, and then those outside the longest suffix that fits, where one of
+/// this size follows them.
+pub fn evictions<T: Tree>(
+    alloc: Global,
+    tree: &T,
+    container: u64,
+    limits: Limits,
+    new_size: Option<u64>,
+    moment: u64,
+) -> Result<Numbers, OutOfMemory>
+    ensures { IfOk result (λ n. n
+        ≡ evicted limits new_size moment (instances_of container (T.nodes tree.now))) }
+{
+    // That it is a tree is told by its length.
+    let _count = tree.len();
+    let quiet = is_quiet(tree, container, limits.mia, moment);
+    let outside = count_outside(tree, container, limits, new_size, moment, quiet);
+    Ok(Numbers::of(gone(alloc, tree, container, limits.mia, moment, outside, quiet)?))
+}
+
+// How many of the oldest instances stand before those that stay.
+fn count_outside<T: Tree>(
+    tree: &T,
+    container: u64,
+    limits: Limits,
+    new_size: Option<u64>,
+    moment: u64,
+    quiet: bool,
+) -> u64
+    requires { IsQuiet quiet limits.mia moment (instances_of container (T.nodes tree.now)) }
+    ensures { kept limits new_size moment (instances_of container (T.nodes tree.now))
+        ≡ filter (lasts limits.mia moment) (drop result
+        (instances_of container (T.nodes tree.now))) }
+{
+    let lasting = total_of(tree, container, limits.mia, moment, quiet);
+    let mut left = with_new(lasting, new_size);
+    let count = tree.instance_count(container);
+    for k in 0..count {
+        if fits(limits, left) {
+            return k;
+        }
+        left = without(
+            left,
+            instance(tree, container, k),
+            false,
+            limits.mia,
+            moment,
+        );
+    }
+    count
+}
+
+// The total of those that aren't due.
+fn total_of<T: Tree>(tree: &T, container: u64, mia: Option<u64>, moment: u64, quiet: bool) -> Total
+    requires { IsQuiet quiet mia moment (instances_of container (T.nodes tree.now)) }
+    ensures count { result.count
+        ≡ length (filter (lasts mia moment) (instances_of container (T.nodes tree.now))) }
+    ensures sizes { result.sizes
+        ≡ sum_by size_of (filter (lasts mia moment) (instances_of container (T.nodes tree.now))) }
+    ensures few { result.count < 2 ^ 64 }
+    ensures small { result.sizes < 2 ^ 127 }
+{
+    if quiet {
+        total(tree, container)
+    } else {
+        lasting_total(tree, container, mia, moment)
+    }
+}
+
+// The numbers of the oldest ones, and of those after them that are due.
+fn gone<T: Tree>(
+    alloc: Global,
+    tree: &T,
+    container: u64,
+    mia: Option<u64>,
+    moment: u64,
+    outside: u64,
+    quiet: bool,
+) -> Result<Vec<u64>, OutOfMemory>
+    requires { IsQuiet quiet mia moment (instances_of container (T.nodes tree.now)) }
+    ensures { IfOk result (λ v. v.items
+        ≡ numbers_of (going outside mia moment (instances_of container (T.nodes tree.now)))) }
+{
+    let mut numbers = Vec::new(alloc);
+    for k in 0..tree.instance_count(container) {
+        if k >= outside && quiet {
+            return Ok(numbers);
+        }
+        push_gone(
+            &mut numbers,
+            instance(tree, container, k),
+            k < outside,
+            mia,
+            moment,
+        )?;
+    }
+    Ok(numbers)
+}
+
+fn push_gone(
+    numbers: &mut Vec<u64>,
+    resource: Option<&Resource>,
+    outside: bool,
+    mia: Option<u64>,
+    moment: u64,
+) -> Result<(), OutOfMemory>
+    ensures { OnOk result (numbers.new.items
+        ≡ numbers.old.items
+        ++ numbers_of (filter (goes outside mia moment)
+        (option_to_list (option_map (λ r. r.now) resource.entry)))) }
+{
+    match resource {
+        Some(resource) => push_number(numbers, resource, outside, mia, moment),
+        None => Ok(()),
+    }
+}
+
+fn push_number(
+    numbers: &mut Vec<u64>,
+    resource: &Resource,
+    outside: bool,
+    mia: Option<u64>,
+    moment: u64,
+) -> Result<(), OutOfMemory>
+    ensures { OnOk result (numbers.new.items
+        ≡ numbers.old.items ++ numbers_of (filter (goes outside mia moment) (resource.now ∷ []))) }
+{
+    if outside || is_due_by(resource, mia, moment) {
+        numbers.push(resource.number())?;
+    }
+    Ok(())
+}

@@ -1,0 +1,161 @@
+// The instances of a container, one by one, and what they add up to.
+ghost use Rattle.std.specs.Prelude.{◌≡◌, ◌+◌, ◌-◌, ◌^◌, ◌<◌, length, filter, sum_by, slice_get};
+ghost use Rattle.std.specs.Prelude.{option_map, option_to_list, unwrap_or};
+ghost use Rattle.tree_model.specs.Tree.{instances_of, size_of};
+ghost use Rattle.container_limits.specs.Limits.{lasts, is_in_state, is_age, has_mia, is_mia_of};
+ghost use Rattle.container_limits.specs.Limits.{IsQuiet};
+
+use crate::limits::{Total, is_due_by};
+use m2m_names::Attr;
+use resource_model::Resource;
+use tree_model::Tree;
+
+/// The instance of a container at a place from the oldest.
+pub(crate) fn instance<T: Tree>(tree: &T, container: u64, k: u64) -> Option<&Resource>
+    ensures { option_map (λ r. r.now) result
+        ≡ slice_get (instances_of container (T.nodes tree.now)) k }
+{
+    // That it is a tree is told by its length.
+    let _count = tree.len();
+    let number = tree.instance_at(container, k)?;
+    tree.get(number)
+}
+
+fn size(resource: &Resource) -> u64
+    ensures { result ≡ size_of resource.now }
+{
+    resource.attrs().count(Attr::Cs).unwrap_or(0)
+}
+
+fn less(total: Total, resource: &Resource) -> Total
+    ensures count { result.count ≡ total.count - 1 }
+    ensures sizes { result.sizes ≡ total.sizes - size_of resource.now }
+{
+    Total {
+        count: total.count.saturating_sub(1),
+        sizes: total.sizes.saturating_sub(size(resource) as u128),
+    }
+}
+
+fn is_in_state(resource: &Resource, due: bool, mia: Option<u64>, moment: u64) -> bool
+    ensures { result ≡ is_in_state due mia moment resource.now }
+{
+    if due {
+        is_due_by(resource, mia, moment)
+    } else {
+        !is_due_by(resource, mia, moment)
+    }
+}
+
+/// The total without an instance, where it is due, or where it isn't.
+pub(crate) fn without(
+    total: Total,
+    resource: Option<&Resource>,
+    due: bool,
+    mia: Option<u64>,
+    moment: u64,
+) -> Total
+    ensures count { result.count
+        ≡ total.count - length (filter (is_in_state due mia moment)
+        (option_to_list (option_map (λ r. r.now) resource.entry))) }
+    ensures sizes { result.sizes
+        ≡ total.sizes - sum_by size_of (filter (is_in_state due mia moment)
+        (option_to_list (option_map (λ r. r.now) resource.entry))) }
+{
+    match resource {
+        Some(resource) => {
+            if is_in_state(resource, due, mia, moment) {
+                less(total, resource)
+            } else {
+                total
+            }
+        }
+        None => total,
+    }
+}
+
+/// The total with one of this size besides, if any.
+pub(crate) fn with_new(total: Total, new_size: Option<u64>) -> Total
+    requires count { total.count < 2 ^ 64 }
+    requires sizes { total.sizes < 2 ^ 127 }
+    ensures count { result.count ≡ total.count + length (option_to_list new_size) }
+    ensures sizes { result.sizes ≡ total.sizes + unwrap_or new_size 0 }
+{
+    match new_size {
+        Some(size) => Total {
+            count: total.count + 1,
+            sizes: total.sizes + size as u128,
+        },
+        None => total,
+    }
+}
+
+/// The total of a container's instances.
+pub(crate) fn total<T: Tree>(tree: &T, container: u64) -> Total
+    ensures count { result.count ≡ length (instances_of container (T.nodes tree.now)) }
+    ensures sizes { result.sizes ≡ sum_by size_of (instances_of container (T.nodes tree.now)) }
+    ensures few { result.count < 2 ^ 64 }
+    ensures small { result.sizes < 2 ^ 127 }
+{
+    Total {
+        count: tree.instance_count(container) as u128,
+        sizes: tree.instance_sizes(container),
+    }
+}
+
+/// The total of those that aren't due.
+pub(crate) fn lasting_total<T: Tree>(
+    tree: &T,
+    container: u64,
+    mia: Option<u64>,
+    moment: u64,
+) -> Total
+    ensures count { result.count
+        ≡ length (filter (lasts mia moment) (instances_of container (T.nodes tree.now))) }
+    ensures sizes { result.sizes
+        ≡ sum_by size_of (filter (lasts mia moment) (instances_of container (T.nodes tree.now))) }
+    ensures few { result.count < 2 ^ 64 }
+    ensures small { result.sizes < 2 ^ 127 }
+{
+    let mut total = total(tree, container);
+    for k in 0..tree.instance_count(container) {
+        total = without(total, instance(tree, container, k), true, mia, moment);
+    }
+    total
+}
+
+/// Whether the tree knows that none of a container's instances is due at the moment, where they may
+/// reach this age.
+pub(crate) fn is_quiet<T: Tree>(tree: &T, container: u64, mia: Option<u64>, moment: u64) -> bool
+    ensures { IsQuiet result mia moment (instances_of container (T.nodes tree.now)) }
+{
+    let until = tree.quiet_until();
+    moment < until && is_mia_of(tree.get(container), mia)
+}
+
+fn is_mia_of(container: Option<&Resource>, mia: Option<u64>) -> bool
+    ensures { result ≡ is_mia_of (option_map (λ r. r.now) container.entry) mia }
+{
+    match mia {
+        Some(age) => has_mia(container, age),
+        None => true,
+    }
+}
+
+fn has_mia(container: Option<&Resource>, age: u64) -> bool
+    ensures { result ≡ has_mia (option_map (λ r. r.now) container.entry) age }
+{
+    match container {
+        Some(container) => is_age(container.attrs().count(Attr::Mia), age),
+        None => false,
+    }
+}
+
+fn is_age(mia: Option<u64>, age: u64) -> bool
+    ensures { result ≡ is_age mia age }
+{
+    match mia {
+        Some(own) => own == age,
+        None => false,
+    }
+}

@@ -1,0 +1,25 @@
+//! What the limits of a container push out, and what is overdue in a tree (TS-0001, 9.6.6 and
+//! 9.6.1.3.2).
+//!
+//! Callers ask `evictions` after a new instance and after a change of a container, and `overdue` at
+//! an event. Each answers exactly its definition over the plain list of resources (`evicted` of
+//! `specs/Limits`, `overdue_numbers` of `specs/Overdue`): numbers in order of creation. What stays
+//! of a container's instances is the longest suffix, in order of creation, of those that aren't due
+//! that is within the limits on their count and on the sum of their sizes; a law says that it fits,
+//! and that no longer one does. Both take memory only for what goes, and look at nothing else where
+//! the tree knows that nothing is due.
+#![tactic(auto)]
+
+mod evicting;
+mod expiring;
+mod instances;
+mod laws;
+mod limits;
+#[cfg(test)]
+mod tests;
+
+pub use evicting::evictions;
+pub use expiring::overdue;
+pub use laws::what_stays_is_the_longest_suffix_that_fits;
+pub use limits::Limits;
+pub use std::alloc::AllocError as OutOfMemory;

@@ -1,0 +1,68 @@
+-- Replies that outcomes give, joined and compared.
+use Rattle.std.proofs.Common.{◌≡◌, List, [], ◌∷◌, ◌++◌, length, refl, sym, ap, subst, ◌∙◌, arith, append_assoc, append-nil}
+use Rattle.m2m_io.specs.Link.{Exchange}
+use Rattle.primitive_json.specs.declared.reply.ReplyParts.{ReplyParts}
+use Rattle.primitive_json.specs.declared.request.RequestParts.{RequestParts}
+use Rattle.cse_machine.specs.Answer.{starved}
+use Rattle.cse_machine.specs.declared.event.Outcome.{Outcome}
+use Rattle.cse_machine.specs.declared.event.Outcome.TheVariants.{Done, Starved}
+use Rattle.cse_server.specs.Replies.{GivesReply, GivesReplies}
+
+-- one outcome
+pub gives-one : (request : RequestParts) (outcome : Outcome) (reply : ReplyParts) (exchanges : List Exchange)
+    → GivesReply request outcome reply exchanges → GivesReplies (request ∷ []) (outcome ∷ []) (reply ∷ []) exchanges
+gives-one request outcome reply exchanges g = (exchanges, [], sym (append-nil exchanges), g, refl)
+
+-- the outcomes of some requests, and of others behind them
+pub gives-append : (xs ys : List RequestParts) (os os' : List Outcome) (ps ps' : List ReplyParts) (es es' : List Exchange)
+    → GivesReplies xs os ps es → GivesReplies ys os' ps' es' → GivesReplies (xs ++ ys) (os ++ os') (ps ++ ps') (es ++ es')
+gives-append [] ys [] os' [] ps' es es' first then =
+    subst (λ (v : List Exchange). GivesReplies ys os' ps' (v ++ es')) (sym first) then
+gives-append [] ys [] os' (p ∷ ps) ps' es es' first then = absurd first
+gives-append [] ys (o ∷ os) os' [] ps' es es' first then = absurd first
+gives-append [] ys (o ∷ os) os' (p ∷ ps) ps' es es' first then = absurd first
+gives-append (x ∷ xs) ys [] os' [] ps' es es' first then = absurd first
+gives-append (x ∷ xs) ys [] os' (p ∷ ps) ps' es es' first then = absurd first
+gives-append (x ∷ xs) ys (o ∷ os) os' [] ps' es es' first then = absurd first
+gives-append (x ∷ xs) ys (o ∷ os) os' (p ∷ ps) ps' es es' first then = (
+  first.0,
+  first.1 ++ es',
+  ap (λ (v : List Exchange). v ++ es') first.2 ∙ append_assoc first.0 first.1 es',
+  first.3,
+  gives-append xs ys os os' ps ps' first.1 es' first.4 then,
+)
+
+-- each request has its reply
+pub gives-length : (xs : List RequestParts) (os : List Outcome) (ps : List ReplyParts) (es : List Exchange)
+    → GivesReplies xs os ps es → length ps ≡ length xs
+gives-length [] [] [] es g = refl
+gives-length [] [] (p ∷ ps) es g = absurd g
+gives-length [] (o ∷ os) [] es g = absurd g
+gives-length [] (o ∷ os) (p ∷ ps) es g = absurd g
+gives-length (x ∷ xs) [] [] es g = absurd g
+gives-length (x ∷ xs) [] (p ∷ ps) es g = absurd g
+gives-length (x ∷ xs) (o ∷ os) [] es g = absurd g
+gives-length (x ∷ xs) (o ∷ os) (p ∷ ps) es g = let rest = gives-length xs os ps g.1 g.4 in omega (arith, rest)
+
+-- one outcome gives one reply, at one cost
+reply_one_way : (request : RequestParts) (outcome : Outcome) (reply other : ReplyParts) (es fs : List Exchange)
+    → GivesReply request outcome reply es → GivesReply request outcome other fs → (reply ≡ other) × (es ≡ fs)
+reply_one_way request (Done answered) reply other es fs g h = (g.0 ∙ sym h.0, g.1 ∙ sym h.1)
+reply_one_way request (Starved done) reply other es fs g h = (g.0 ∙ sym h.0, g.1 ∙ sym h.1)
+
+-- the same outcomes of the same requests give the same replies, at the same cost
+pub gives_one_way : (xs : List RequestParts) (os : List Outcome) (ps qs : List ReplyParts) (es fs : List Exchange)
+    → GivesReplies xs os ps es → GivesReplies xs os qs fs → (ps ≡ qs) × (es ≡ fs)
+gives_one_way [] [] [] [] es fs g h = (refl, g ∙ sym h)
+gives_one_way [] [] [] (q ∷ qs) es fs g h = absurd h
+gives_one_way [] [] (p ∷ ps) qs es fs g h = absurd g
+gives_one_way [] (o ∷ os) [] qs es fs g h = absurd g
+gives_one_way [] (o ∷ os) (p ∷ ps) qs es fs g h = absurd g
+gives_one_way (x ∷ xs) [] [] qs es fs g h = absurd g
+gives_one_way (x ∷ xs) [] (p ∷ ps) qs es fs g h = absurd g
+gives_one_way (x ∷ xs) (o ∷ os) [] qs es fs g h = absurd g
+gives_one_way (x ∷ xs) (o ∷ os) (p ∷ ps) [] es fs g h = absurd h
+gives_one_way (x ∷ xs) (o ∷ os) (p ∷ ps) (q ∷ qs) es fs g h =
+    let first = reply_one_way x o p q g.0 h.0 g.3 h.3 in
+    let rest = gives_one_way xs os ps qs g.1 h.1 g.4 h.4 in
+    (cc (first.0, rest.0), g.2 ∙ (λ i. first.1 i ++ rest.1 i) ∙ sym h.2)

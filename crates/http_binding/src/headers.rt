@@ -1,0 +1,168 @@
+//! The header fields of a request, and what lines say of each.
+ghost use Rattle.std.specs.Prelude.{◌≡◌, ◌⊎◌, IfOk, IfSome, IsUtf8};
+ghost use Rattle.std.specs.Option.{option_copied};
+ghost use Rattle.http_binding.specs.Headers as spec;
+ghost use Rattle.http_binding.specs.Binding.{header_value, header_values, other_headers};
+ghost use Rattle.http_binding.specs.Binding.{required, unless_empty, caller_of, echo_of, Gives};
+ghost use Rattle.http_binding.specs.declared.fault.BindFault.TheVariants as fault;
+
+use crate::{BindFault, OutOfMemory};
+use http_frames::{Found, Frame, Lines};
+use m2m_names::is_originator;
+use m2m_value::Text;
+use primitive_json::is_request_id;
+use std::alloc::Global;
+
+/// A field that is read.
+#[derive(Clone, Copy)]
+pub(crate) enum Field {
+    Origin,
+    Id,
+    Expiry,
+    ContentType,
+    ContentEncoding,
+}
+
+impl Field {
+    fn name(self) -> &'static [u8]
+        ensures { result.now ≡ spec.field_name self }
+    {
+        match self {
+            Field::Origin => b"X-M2M-Origin",
+            Field::Id => b"X-M2M-RI",
+            Field::Expiry => b"X-M2M-RET",
+            Field::ContentType => b"Content-Type",
+            Field::ContentEncoding => b"Content-Encoding",
+        }
+    }
+
+    fn admits(self, value: &[u8]) -> bool
+        ensures { result ≡ spec.admits self value.now }
+    {
+        match self {
+            Field::Origin => value.is_empty() || is_originator(value),
+            Field::Id => is_request_id(value),
+            Field::ContentType => true,
+            Field::Expiry | Field::ContentEncoding => false,
+        }
+    }
+
+    fn name_text(self, alloc: Global) -> Result<Text, OutOfMemory>
+        ensures { IfOk result (λ text. text ≡ spec.field_name self) }
+    {
+        Text::from_slice(alloc, self.name())
+    }
+
+    /// The fault of lines of this field.
+    fn malformed(self, alloc: Global) -> BindFault
+        ensures { (result ≡ fault.OutOfMemory) ⊎ (result ≡ fault.Header (spec.field_name self)) }
+    {
+        match self.name_text(alloc) {
+            Ok(name) => BindFault::Header(name),
+            Err(_) => BindFault::OutOfMemory,
+        }
+    }
+
+    /// The fault of lines that say nothing of this field.
+    fn missing(self, alloc: Global) -> BindFault
+        ensures { (result ≡ fault.OutOfMemory) ⊎ (result ≡ fault.Missing (spec.field_name self)) }
+    {
+        match self.name_text(alloc) {
+            Ok(name) => BindFault::Missing(name),
+            Err(_) => BindFault::OutOfMemory,
+        }
+    }
+
+    /// What the lines say of the field.
+    fn value(self, alloc: Global, lines: &Lines) -> Result<Option<&[u8]>, BindFault>
+        ensures { Gives option_copied result (header_value self lines.now) }
+    {
+        match lines.find(self.name()) {
+            Found::Absent => Ok(None),
+            Found::One(value) if self.admits(value) => Ok(Some(value)),
+            Found::One(_) | Found::Repeated => Err(self.malformed(alloc)),
+        }
+    }
+
+    /// The value, which has to be there.
+    fn required<'a>(self, alloc: Global, value: Option<&'a [u8]>) -> Result<&'a [u8], BindFault>
+        ensures { Gives (λ text. text.now) result (required self (option_copied value.entry)) }
+    {
+        match value {
+            Some(text) => Ok(text),
+            None => Err(self.missing(alloc)),
+        }
+    }
+}
+
+/// What lines say of the originator and of the request's identifier, where they do.
+#[derive(Clone, Copy)]
+struct HeaderValues<'a> {
+    origin: Option<&'a [u8]>,
+    id: Option<&'a [u8]>,
+}
+
+/// Who asks, where that is said, and the identifier of the request.
+#[derive(Clone, Copy)]
+pub(crate) struct Caller<'a> {
+    pub(crate) originator: Option<&'a [u8]>,
+    pub(crate) id: &'a [u8],
+}
+
+/// Judges the fields that are judged alone.
+fn other_headers(alloc: Global, lines: &Lines) -> Result<(), BindFault>
+    ensures { Gives (λ unit. unit) result (other_headers lines.now) }
+{
+    Field::Expiry.value(alloc, lines)?;
+    Field::ContentType.value(alloc, lines)?;
+    Field::ContentEncoding.value(alloc, lines)?;
+    Ok(())
+}
+
+/// The fields in the order in which their faults are told.
+fn header_values(alloc: Global, lines: &Lines) -> Result<HeaderValues<'_>, BindFault>
+    ensures { Gives
+        (λ values. record { origin = option_copied values.origin; id = option_copied values.id })
+        result (header_values lines.now) }
+{
+    let origin = Field::Origin.value(alloc, lines)?;
+    let id = Field::Id.value(alloc, lines)?;
+    other_headers(alloc, lines)?;
+    Ok(HeaderValues { origin, id })
+}
+
+/// The value, unless it is empty.
+fn unless_empty(value: Option<&[u8]>) -> Option<&[u8]>
+    ensures { option_copied result ≡ unless_empty (option_copied value.entry) }
+{
+    match value {
+        Some(text) if !text.is_empty() => Some(text),
+        _ => None,
+    }
+}
+
+/// The caller that the lines name.
+pub(crate) fn caller_of(alloc: Global, lines: &Lines) -> Result<Caller<'_>, BindFault>
+    ensures { Gives
+        (λ caller. record { originator = option_copied caller.originator; id = caller.id.now })
+        result (caller_of lines.now) }
+{
+    let values = header_values(alloc, lines)?;
+    let id = Field::Id.required(alloc, values.id)?;
+    Ok(Caller {
+        originator: unless_empty(values.origin),
+        id,
+    })
+}
+
+/// The identifier that a reply to the frame repeats: the value of its only X-M2M-RI line, if that
+/// is a request identifier. It takes no memory.
+pub fn echo_id(frame: &Frame) -> Option<&[u8]>
+    ensures value { option_copied result ≡ echo_of frame.now }
+    ensures utf8 { IfSome (option_copied result) IsUtf8 }
+{
+    match frame.lines.find(Field::Id.name()) {
+        Found::One(value) if is_request_id(value) => Some(value),
+        _ => None,
+    }
+}

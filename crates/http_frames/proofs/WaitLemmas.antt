@@ -1,0 +1,196 @@
+-- What settles nothing, and what reads that were needed leave.
+use Rattle.std.proofs.Common.{◌≡◌, ℕ, ◌+◌, ◌-◌, ◌<◌, ◌≤◌, List, [], ◌∷◌, ◌++◌, length, take, drop, codes, Option, refl, sym, ap, subst, ◌∙◌, inl, inr, arith, append_assoc}
+use Rattle.std.proofs.lemmas.List.{length-append, length-take, length-map, append-nil, take-append-drop}
+use Rattle.std.proofs.lemmas.Bool.{cases_lt}
+use Rattle.std.proofs.lemmas.List.Elements.{All-nil, All-cons}
+use Rattle.std.proofs.lemmas.List.Sums.{AllPass-from_list_all}
+use Rattle.std.specs.Str.{IsUtf8}
+use Rattle.std.proofs.lemmas.Str.{IsUtf8-from_ascii}
+use Rattle.std.proofs.lemmas.Str.Ascii.{IsAscii-from_all}
+use Rattle.httparse.specs.declared.spans.HeaderSpan.{HeaderSpan}
+use Rattle.httparse.specs.Grammar.{is_token_byte, is_uri_byte}
+use Rattle.http_frames.specs.declared.frame.Side.{Side}
+use Rattle.http_frames.specs.declared.frame.Side.TheVariants.{Request, Reply}
+use Rattle.http_frames.specs.declared.frame.Start.TheVariants.{Ask, Answer}
+use Rattle.http_frames.specs.declared.frame.Frame.{Frame}
+use Rattle.http_frames.specs.declared.head.HeadSpans.{HeadSpans}
+use Rattle.http_frames.specs.declared.look.FrameSpans.{FrameSpans}
+use Rattle.http_frames.specs.Body.{counted, framing_of}
+use Rattle.http_frames.specs.Frame.{head_limit, lines_limit, body_limit, IsFrame}
+use Rattle.http_frames.specs.Stream.{BeginsWith, HasNoFrame}
+use Rattle.http_frames.specs.Text.{IsSound, phrase_of, IsLine}
+use Rattle.http_frames.specs.Spans.{start_at, lines_at, frame_at, IsFrameAt, IsHeadAt, HasNoHead}
+use Rattle.http_frames.specs.Waiting.{piece_limit, MayBecomeHead, IsUnsettled, EndsInRead, ReadsAsNeeded, StaysUnsettled, EndsBelow}
+use Rattle.http_frames.specs.Inbox.{Reads, GivesAsNeeded, most_held}
+use Rattle.http_frames.proofs.LookLemmas.{some_bytes, short_of_head, short_of_body, front_within}
+use Rattle.http_frames.proofs.InboxLemmas.{NeedsBytes-more, none_within, frame_begins}
+use Rattle.http_frames.proofs.TextLemmas.{written_is_read}
+
+-- some message, of which nothing at all is a front
+abbrev plain_request : Frame
+plain_request = record { start = Ask (codes "GET") (codes "/") 1; lines = []; body = [] }
+
+abbrev plain_reply : Frame
+plain_reply = record { start = Answer 200 1; lines = []; body = [] }
+
+slash_is_utf8 : IsUtf8 (codes "/")
+slash_is_utf8 = IsUtf8-from_ascii (codes "/") (IsAscii-from_all (codes "/") (All-cons (λ b. b < 128) 47 [] (omega arith) (All-nil (λ b. b < 128))))
+
+request_sound : IsSound Request plain_request
+unfolding is_token_byte
+request_sound = record {
+  start = ((omega arith, AllPass-from_list_all is_token_byte (codes "GET") refl), omega arith, AllPass-from_list_all is_uri_byte (codes "/") refl, slash_is_utf8, omega arith);
+  lines = All-nil IsLine;
+  head_fits = omega arith;
+  lines_fit = omega arith;
+  body = (refl, refl, omega arith);
+}
+
+reply_sound : IsSound Reply plain_reply
+unfolding phrase_of
+reply_sound = record {
+  start = (omega arith, omega arith);
+  lines = All-nil IsLine;
+  head_fits = omega arith;
+  lines_fit = omega arith;
+  body = (refl, refl, omega arith);
+}
+
+nothing_may : (side : Side) → MayBecomeHead side []
+nothing_may Request =
+    let f = written_is_read Request plain_request request_sound in
+    inl (f.head, f.is_head.head, (f.is_head.valid, f.is_head.text_is ∙ sym (append-nil _)))
+nothing_may Reply =
+    let f = written_is_read Reply plain_reply reply_sound in
+    (f.head, f.is_head.head, (f.is_head.valid, f.is_head.text_is ∙ sym (append-nil _)))
+
+-- as long as no more than the first bytes are there
+only_first : (side : Side) (bytes : List ℕ) → IsUnsettled side bytes → StaysUnsettled side bytes (length bytes + 1)
+only_first side bytes open_yet = record {
+  stays = λ more. elim more as (λ m. length (bytes ++ m) < length bytes + 1 → IsUnsettled side (bytes ++ m)) [
+    | [] ↦ λ h. subst (IsUnsettled side) (sym (append-nil bytes)) open_yet
+    | x ∷ xs ↦ λ h. absurd (omega (arith, length-append bytes (x ∷ xs)))
+  ];
+}
+
+pub empty_stays : (side : Side) (bytes : List ℕ) → length bytes ≡ 0 → StaysUnsettled side bytes 1
+empty_stays side [] h = only_first side [] (none_within side [] 1 (some_bytes side []) (omega arith), inl (record { few = omega arith; may = nothing_may side }))
+empty_stays side (b ∷ bytes) h = absurd (omega arith)
+
+pub head_stays : (side : Side) (bytes : List ℕ) → HasNoHead side bytes → MayBecomeHead side bytes → length bytes < head_limit → StaysUnsettled side bytes (length bytes + 1)
+head_stays side bytes none may few =
+    only_first side bytes (none_within side bytes (length bytes + 1) (short_of_head side bytes none) (omega arith), inl (record { few = few; may = may }))
+
+pub body_stays : (side : Side) (bytes : List ℕ) (headers : List HeaderSpan) (head : HeadSpans) (n : ℕ)
+    → IsHeadAt side bytes headers head → head.len ≤ head_limit → length headers ≤ lines_limit
+    → framing_of (lines_at bytes headers head.lines) ≡ counted n → n ≤ body_limit side
+    → StaysUnsettled side bytes (head.len + n)
+body_stays side bytes headers head n h short room e fits = record {
+  stays = λ more few.
+      let len = head.len in
+      let needs = NeedsBytes-more side bytes more (bytes ++ more) (len + n) (short_of_body side bytes headers head n h e) refl in
+      let parts : bytes ++ more ≡ take len bytes ++ (drop len bytes ++ more) =
+      ap (λ t. t ++ more) (sym (take-append-drop len bytes)) ∙ append_assoc (take len bytes) (drop len bytes) more in
+      let front : length (take len bytes) ≡ len = length-take len bytes ∙ omega (arith, h.lines_fit.len_fits) in
+      let whole : length (bytes ++ more) ≡ length (take len bytes) + length (drop len bytes ++ more) =
+      ap length parts ∙ length-append (take len bytes) (drop len bytes ++ more) in
+      let lines_few : length (lines_at bytes headers head.lines) ≤ lines_limit = simp (length-map, length-take) (omega arith) in (
+        none_within side (bytes ++ more) (len + n) needs few,
+        inr (record {
+          head = take len bytes;
+          part = drop len bytes ++ more;
+          start = start_at bytes head.start;
+          lines = lines_at bytes headers head.lines;
+          announced = n;
+          bytes_are = parts;
+          is_head = h.is_head;
+          head_fits = omega arith;
+          lines_fit = lines_few;
+          framing = e;
+          body_fits = fits;
+          lacks = omega arith;
+        }),
+      );
+}
+
+-- reads behind bytes that were read before
+pub ends_in_read : (side : Side) (first held now read : List ℕ) (need : ℕ) → held ≡ first ++ read → IsUnsettled side first
+    → StaysUnsettled side held need → EndsBelow need held now → EndsInRead side first now
+ends_in_read side first held now read need is opens stays ends =
+    let all : held ++ ends.earlier ≡ first ++ (read ++ ends.earlier) = ap (λ t. t ++ ends.earlier) is ∙ append_assoc first read ends.earlier in
+    record {
+      opens = opens;
+      earlier = read ++ ends.earlier;
+      piece = ends.piece;
+      all_is = ends.all_is ∙ ap (λ t. t ++ ends.piece) all;
+      unsettled = subst (IsUnsettled side) all (stays.stays ends.earlier ends.below);
+      small = ends.small;
+    }
+
+-- the first bytes settle nothing where some were read behind them, or where more are needed
+pub opens_at : {S : Type 0} (side : Side) (first held : List ℕ) (src now : S) (need : ℕ) → ReadsAsNeeded side first held src now
+    → StaysUnsettled side held need → length held < need → IsUnsettled side first
+opens_at side first held src now need (inl same) stays few =
+    subst (IsUnsettled side) (append-nil held ∙ same.0) (stays.stays [] (subst (λ (t : List ℕ). length t < need) (sym (append-nil held)) few))
+opens_at side first held src now need (inr read) stays few = read.opens
+
+-- a reading that goes on where nothing is settled was needed
+pub needed_on : {S : Type 0} (side : Side) (first held now read : List ℕ) (src mid after : S) (need : ℕ) → held ≡ first ++ read
+    → ReadsAsNeeded side first held src mid → StaysUnsettled side held need → length held < need → EndsBelow need held now
+    → ReadsAsNeeded side first now src after
+needed_on side first held now read src mid after need is needed stays few ends =
+    inr (ends_in_read side first held now read need is (opens_at side first held src mid need needed stays few) stays ends)
+
+-- little is held
+pub stays_small : {S : Type 0} (side : Side) (first all : List ℕ) (src after : S) → ReadsAsNeeded side first all src after
+    → length first < most_held side → length all < most_held side
+stays_small side first all src after (inl same) small = subst (λ (v : List ℕ). length v < most_held side) (sym same.0) small
+stays_small side first all src after (inr read) small =
+    let before = first ++ read.earlier in
+    let whole : length all ≡ length before + length read.piece = ap length read.all_is ∙ length-append before read.piece in
+    elim read.unsettled.1 [
+      | inl lack ↦ omega (arith, lack.few, read.small)
+      | inr lack ↦
+          let parts : length before ≡ length lack.head + length lack.part = ap length lack.bytes_are ∙ length-append lack.head lack.part in
+          omega (arith, lack.head_fits, lack.lacks, lack.body_fits, read.small)
+    ]
+
+-- a message that was taken off the front of what reads gave
+pub taken : {S : Type 0} (side : Side) (left rest : Option (List ℕ)) (held all now : List ℕ) (src after : S) (headers : List HeaderSpan)
+    (spans : FrameSpans) (frame : Frame) → Reads left rest held all → ReadsAsNeeded side held all src after
+    → IsFrameAt side all headers spans → frame ≡ frame_at all headers spans → now ≡ drop spans.end all
+    → GivesAsNeeded side left rest held now src after frame
+taken side left rest held all now src after headers spans frame reads needed f is now_is =
+    let begins = frame_begins side all headers spans f in
+    record {
+      given = record {
+        all = all;
+        reads = reads;
+        few = stays_small side held all src after needed;
+        begins = record {
+          bytes = begins.bytes;
+          is_frame = subst (IsFrame side begins.bytes) (sym is) begins.is_frame;
+          stream_is = begins.stream_is ∙ ap (λ t. begins.bytes ++ t) (sym now_is);
+        };
+      };
+      needed = needed;
+    }
+
+-- a message that had to be read leaves less than a piece
+pub little_left : {S : Type 0} (side : Side) (first all now : List ℕ) (src after : S) (frame : Frame)
+    → ReadsAsNeeded side first all src after → BeginsWith side all frame now → HasNoFrame side first → length now < piece_limit
+little_left side first all now src after frame (inl same) begins none =
+    absurd (none frame now (subst (λ (v : List ℕ). BeginsWith side v frame now) same.0 begins))
+little_left side first all now src after frame (inr read) begins none =
+    let before = first ++ read.earlier in
+    let same : before ++ read.piece ≡ begins.bytes ++ now = sym read.all_is ∙ begins.stream_is in
+    let whole : length before + length read.piece ≡ length begins.bytes + length now =
+    sym (length-append before read.piece) ∙ ap length same ∙ length-append begins.bytes now in
+    elim (cases_lt (length before) (length begins.bytes)) [
+      | inl longer ↦ omega (arith, read.small)
+      | inr inside ↦ absurd (read.unsettled.0 frame (drop (length begins.bytes) before) (record {
+        bytes = begins.bytes;
+        is_frame = begins.is_frame;
+        stream_is = front_within before read.piece begins.bytes now same inside;
+      }))
+    ]

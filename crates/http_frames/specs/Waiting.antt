@@ -1,0 +1,70 @@
+-- When more bytes have to be read, and where the last read began.
+use Rattle.std.specs.Prelude.{◌≡◌, ◌<◌, ◌≤◌, ◌⊎◌, ℕ, List, ◌++◌, length}
+use Rattle.httparse.specs.Grammar.{MayBecomeRequest, MayBecomeResponse}
+use Rattle.http_frames.specs.declared.frame.Side.{Side}
+use Rattle.http_frames.specs.declared.frame.Side.TheVariants.{Request, Reply}
+use Rattle.http_frames.specs.declared.frame.Start.{Start}
+use Rattle.http_frames.specs.Lines.{Line}
+use Rattle.http_frames.specs.Body.{framing_of, counted}
+use Rattle.http_frames.specs.Frame.{head_limit, lines_limit, body_limit, IsHead}
+use Rattle.http_frames.specs.Stream.{HasNoFrame}
+
+-- a read gives at most so many bytes
+abbrev pub piece_limit : ℕ
+piece_limit = 4096
+
+-- Some bytes can follow that make these a head; or these end inside the target of a request, of
+-- which it is judged at its end only whether it is UTF-8.
+abbrev pub MayBecomeHead : Side → List ℕ → Type 0
+MayBecomeHead Request bytes = MayBecomeRequest bytes
+MayBecomeHead Reply bytes = MayBecomeResponse bytes
+
+-- They are fewer than a head may have, and may become one.
+pub record LackHead (side : Side) (bytes : List ℕ) : Type 0 where
+  pub few : length bytes < head_limit
+  pub may : MayBecomeHead side bytes
+
+-- They are a head within the limits and a part of the body that its lines announce.
+pub record LackBody (side : Side) (bytes : List ℕ) : Type 0 where
+  pub head : List ℕ
+  pub part : List ℕ
+  pub start : Start
+  pub lines : List Line
+  pub announced : ℕ
+  pub bytes_are : bytes ≡ head ++ part
+  pub is_head : IsHead side head start lines
+  pub head_fits : length head ≤ head_limit
+  pub lines_fit : length lines ≤ lines_limit
+  pub framing : framing_of lines ≡ counted announced
+  pub body_fits : announced ≤ body_limit side
+  pub lacks : length part < announced
+
+-- These bytes neither hold a message nor exclude one.
+abbrev pub IsUnsettled : Side → List ℕ → Type 0
+IsUnsettled side bytes = HasNoFrame side bytes × (LackHead side bytes ⊎ LackBody side bytes)
+
+-- Some reads gave all that stands behind the first bytes: neither the first read nor the last
+-- began where anything was settled, and the last gave a piece.
+pub record EndsInRead (side : Side) (first all : List ℕ) : Type 0 where
+  pub opens : IsUnsettled side first
+  pub earlier : List ℕ
+  pub piece : List ℕ
+  pub all_is : all ≡ (first ++ earlier) ++ piece
+  pub unsettled : IsUnsettled side (first ++ earlier)
+  pub small : length piece ≤ piece_limit
+
+-- Nothing was read behind the first bytes, and the source is as it was; or each read was needed.
+abbrev pub ReadsAsNeeded : {S : Type 0} → Side → List ℕ → List ℕ → S → S → Type 0
+ReadsAsNeeded side first all src now = ((all ≡ first) × (now ≡ src)) ⊎ EndsInRead side first all
+
+-- As long as there are fewer bytes than these, nothing is settled.
+pub record StaysUnsettled (side : Side) (bytes : List ℕ) (need : ℕ) : Type 0 where
+  pub stays : (more : List ℕ) → length (bytes ++ more) < need → IsUnsettled side (bytes ++ more)
+
+-- The last read began where fewer bytes than these were there.
+pub record EndsBelow (need : ℕ) (first all : List ℕ) : Type 0 where
+  pub earlier : List ℕ
+  pub piece : List ℕ
+  pub all_is : all ≡ (first ++ earlier) ++ piece
+  pub below : length (first ++ earlier) < need
+  pub small : length piece ≤ piece_limit

@@ -1,0 +1,97 @@
+//! Numbers in decimal, and resource ids.
+ghost use Rattle.std.specs.Prelude.{◌≡◌, ℕ, ◌<◌, ◌≤◌, ◌^◌, length, IfSome, Some};
+ghost use Rattle.std.specs.Fmt.{decimal};
+ghost use Rattle.m2m_names.specs.declared.types.Ty.{Ty};
+ghost use Rattle.m2m_names.specs.Ids as spec;
+ghost use Rattle.m2m_names.specs.Ids.{id_text};
+
+use crate::Ty;
+
+fn with_digit(n: u64, digit: u8) -> Option<u64>
+    requires { n < 2 ^ 63 }
+    ensures value { result ≡ spec.with_digit n digit }
+    ensures bound { IfSome result (λ m. m < 2 ^ 63) }
+{
+    if !digit.is_ascii_digit() {
+        return None;
+    }
+    let number = 10 * u128::from(n) + u128::from(digit - b'0');
+    if number < 1 << 63 {
+        Some(number as u64)
+    } else {
+        None
+    }
+}
+
+fn number_in(digits: &[u8]) -> Option<u64>
+    ensures value { result ≡ spec.number_from 0 digits.now }
+    ensures bound { IfSome result (λ n. n < 2 ^ 63) }
+{
+    let mut number = 0;
+    for digit in digits {
+        number = with_digit(number, *digit)?;
+    }
+    Some(number)
+}
+
+/// Digits as a number is written: one at least, and no 0 before others.
+fn is_written(digits: &[u8]) -> bool
+    ensures { result ≡ spec.is_written digits.now }
+{
+    match digits {
+        [] => false,
+        [digit, digits @ ..] => *digit != b'0' || digits.is_empty(),
+    }
+}
+
+/// The number below 2^63 of which this is the text in decimal.
+pub fn read_digits(text: &[u8]) -> Option<u64>
+    ensures value { result ≡ spec.number_written text.now }
+    ensures found { IfSome result (λ n. decimal n ≡ text.now) }
+    ensures only { (n : ℕ) → n < 2 ^ 63 → text.now ≡ decimal n → result ≡ Some n }
+    ensures bound { IfSome result (λ n. n < 2 ^ 63) }
+{
+    number_written(text)
+}
+
+fn number_written(text: &[u8]) -> Option<u64>
+    ensures value { result ≡ spec.number_written text.now }
+    ensures bound { IfSome result (λ n. n < 2 ^ 63) }
+{
+    if is_written(text) {
+        number_in(text)
+    } else {
+        None
+    }
+}
+
+/// How many bytes stand before the first digit.
+fn word_len(text: &[u8]) -> usize
+    ensures value { result ≡ spec.word_len text.now }
+    ensures bound { result ≤ length text.now }
+{
+    text.iter()
+        .take_while(|byte| !byte.is_ascii_digit())
+        .count()
+}
+
+/// The type and the number below 2^63 of which this is the resource id: the short word of the
+/// type, and the number in decimal.
+pub fn read_id(text: &[u8]) -> Option<(Ty, u64)>
+    ensures value { result ≡ spec.id_parts text.now }
+    ensures found { IfSome result (λ id. id_text id.0 id.1 ≡ text.now) }
+    ensures only { (ty : Ty) (n : ℕ) →
+        n < 2 ^ 63 → text.now ≡ id_text ty n → result ≡ Some (ty, n) }
+    ensures bound { IfSome result (λ id. id.1 < 2 ^ 63) }
+{
+    id_of_parts(text)
+}
+
+fn id_of_parts(text: &[u8]) -> Option<(Ty, u64)>
+    ensures value { result ≡ spec.id_parts text.now }
+    ensures bound { IfSome result (λ id. id.1 < 2 ^ 63) }
+{
+    let len = word_len(text);
+    let ty = Ty::from_word(&text[..len])?;
+    Some((ty, read_digits(&text[len..])?))
+}

@@ -1,0 +1,54 @@
+-- What values are: texts, counts, lists and objects of such.
+use Rattle.std.specs.Prelude.{◌&&◌, ℕ, ℤ, pos, negsuc, nat_lt, Bool, true, false, List, length}
+use Rattle.std.specs.Prelude.{Option, Some, None, option_and_then}
+use Rattle.std.specs.List.{list_all}
+use Rattle.std.specs.Option.{option_map_or}
+use Rattle.m2m_names.specs.Name.{is_filled, is_one_of}
+use Rattle.m2m_value.specs.Data.{Data, Entry}
+use Rattle.m2m_value.specs.View.{as_list, as_number, as_object, as_text, member_of}
+
+-- the count of a whole number from 0 on
+abbrev pub count_of : ℤ → Option ℕ
+count_of (pos n) = Some n
+count_of (negsuc n) = None
+
+-- the value as a count
+abbrev pub as_count : Data → Option ℕ
+as_count d = option_and_then count_of (as_number d)
+
+-- a text that is such a one
+abbrev pub is_text_of : (List ℕ → Bool) → Data → Bool
+is_text_of fits d = option_map_or fits (as_text d) false
+
+-- a list of such values
+abbrev pub is_list_of : (Data → Bool) → Data → Bool
+is_list_of fits d = option_map_or (list_all fits) (as_list d) false
+
+-- a list of such values that has at least one
+abbrev pub is_some_of : (Data → Bool) → Data → Bool
+is_some_of fits d =
+    option_map_or (λ ds. nat_lt 0 (length ds) && list_all fits ds) (as_list d) false
+
+-- a whole number from 0 on that is such a one
+abbrev pub is_count_of : (ℕ → Bool) → Data → Bool
+is_count_of fits d = option_map_or fits (option_and_then count_of (as_number d)) false
+
+-- an object with such members
+abbrev pub is_object_of : (List Entry → Bool) → Data → Bool
+is_object_of fits d = option_map_or fits (as_object d) false
+
+-- its keys are among these
+abbrev pub are_keys_among : List (List ℕ) → List Entry → Bool
+are_keys_among keys es = list_all (λ e. is_one_of keys e.0) es
+
+-- it has a member of this key, and its value is such a one
+abbrev pub has_member : List ℕ → (Data → Bool) → List Entry → Bool
+has_member key fits es = option_map_or fits (member_of key es) false
+
+-- it has no member of this key, or its value is such a one
+abbrev pub may_have_member : List ℕ → (Data → Bool) → List Entry → Bool
+may_have_member key fits es = option_map_or fits (member_of key es) true
+
+-- a text of 1 to 256 bytes (the length is the profile's)
+abbrev pub is_label : Data → Bool
+is_label d = is_text_of (is_filled 256) d

@@ -1,0 +1,34 @@
+//! What values are: counts and labels.
+ghost use Rattle.std.specs.Prelude.{◌≡◌, ◌<◌, ◌^◌, IfSome};
+ghost use Rattle.m2m_value.specs.Shapes as spec;
+
+use crate::value::Val;
+use m2m_names::is_filled;
+
+/// The count of a whole number from 0 on.
+pub fn count_of(n: i64) -> Option<u64>
+    ensures value { result ≡ spec.count_of n }
+    ensures bound { IfSome result (λ n. n < 2 ^ 63) }
+{
+    if n < 0 { None } else { Some(n as u64) }
+}
+
+impl Val {
+    /// The value as a count: a whole number from 0 on.
+    pub fn as_count(&self) -> Option<u64>
+        ensures value { result ≡ spec.as_count self.now }
+        ensures bound { IfSome result (λ n. n < 2 ^ 63) }
+    {
+        count_of(self.as_num()?)
+    }
+
+    /// Whether it is a label: a text of 1 to 256 bytes.
+    pub fn is_label(&self) -> bool
+        ensures { result ≡ spec.is_label self.now }
+    {
+        match self.as_text() {
+            Some(text) => is_filled(text.entries(), 256),
+            None => false,
+        }
+    }
+}

@@ -1,0 +1,45 @@
+-- What an originator sees of a list of resources whatever its rights: of each the number, type,
+-- name and parent, when it is due, `acpi`, `macp` and whether it owns it; the `aei` of an AE; the
+-- `csi` of a remote CSE and the first http URL of its `poa`; and of a policy the bits that it has
+-- by `pv` and by `pvs`. By this it is judged.
+use Rattle.std.specs.Prelude.{◌≡◌, ℕ, List, map, Option, Some, None, option_map, unwrap_or, IsTrue}
+use Rattle.std.specs.Prelude.{if◌then◌else◌}
+use Rattle.std.specs.List.{filter_map}
+use Rattle.m2m_names.specs.declared.attributes.Attr.{Attr}
+use Rattle.m2m_value.specs.Data.{Data}
+use Rattle.resource_model.specs.Attributes.{Row}
+use Rattle.resource_model.specs.Home.{HomeData}
+use Rattle.resource_model.specs.Resource.{ResourceData}
+use Rattle.tree_model.specs.Tree.{due, is_well_formed}
+use Rattle.policy_eval.specs.Alike.{is_one_of, shape_attrs}
+use Rattle.policy_eval.specs.Seen.{seen_rules, seen_points, is_rules, is_way, seen_owner, seen_list}
+
+-- of a value
+abbrev pub shape_value : HomeData → List ℕ → ResourceData → Attr → Data → Option Data
+shape_value home o r a d =
+    if is_one_of (shape_attrs r.ty) a then Some d else
+    if is_rules r a then Some (seen_rules home o d) else
+    if is_way r a then seen_points d else None
+
+abbrev pub shape_row : HomeData → List ℕ → ResourceData → Row → Option Row
+shape_row home o r row = option_map (λ d. (row.0, d)) (shape_value home o r row.0 row.1)
+
+-- of a resource; its expiry is when it is due, and its other moments are hidden
+abbrev pub shape_of : HomeData → List ResourceData → List ℕ → ResourceData → ResourceData
+shape_of home nodes o r = record r {
+  owner = seen_owner home o r;
+  ct = 0;
+  lt = 0;
+  et = unwrap_or (due nodes r) 0;
+  attrs = filter_map (shape_row home o r) r.attrs;
+}
+
+-- of the list
+abbrev pub shape_list : HomeData → List ResourceData → List ℕ → List ResourceData
+shape_list home nodes o = map (shape_of home nodes o) nodes
+
+-- What an originator sees of a well-formed list has the shape of that list.
+abbrev pub SightHasShape : Type 0
+SightHasShape =
+    (home : HomeData) (nodes : List ResourceData) (o : List ℕ) → IsTrue (is_well_formed nodes)
+    → shape_list home (seen_list home nodes o) o ≡ shape_list home nodes o

@@ -1,0 +1,105 @@
+-- Replies are read back from what is written of them, and what is read is of its kinds.
+use Rattle.std.proofs.Common.{◌≡◌, ℕ, ◌==◌, nat_le, List, [], ◌∷◌, Bool, true, false, not, ◌&&◌, is_some, is_none, if◌then◌else◌, Option, Some, None, option_map, option_and_then, unwrap_or, IfSome, IsTrue, Ok, refl, sym, ap, ◌∙◌, subst, arith}
+use Rattle.std.proofs.lemmas.Bool.{and_parts}
+use Rattle.std.proofs.lemmas.Bool.Decides.{nat_tests}
+use Rattle.std.specs.Int.{is_in_range}
+use Rattle.m2m_names.specs.StatusCodes.{rsc_row, rsc_of_number}
+use Rattle.std.specs.List.{list_any}
+use Rattle.m2m_names.specs.StatusNumbers.{is_other, named_numbers}
+use Rattle.m2m_names.specs.declared.codes.Rsc.{Rsc}
+use Rattle.m2m_names.specs.declared.codes.Rsc.TheVariants.{Ok as Fine, Created, Deleted, Updated, BadRequest, NotFound, NotAllowed, RequestTimeout, NoPrivilege, Conflict, BadChild, Internal, NotImplemented, NotReachable, NotSubscribable, NonBlocking, NotAcceptable, TooManyMembers, WrongMember, Other}
+use Rattle.m2m_names.proofs.StatusLemmas.{rsc_again}
+use Rattle.m2m_value.specs.Data.{Data, text, Entry}
+use Rattle.m2m_value.specs.View.{as_text, member_of}
+use Rattle.primitive_json.specs.Bounds.{is_request_id}
+use Rattle.primitive_json.specs.Kinds.{members_in, request_id_of, status_of}
+use Rattle.primitive_json.specs.Laws.{IsReplyOfKinds}
+use Rattle.primitive_json.specs.Reading.{read_as, rsc_name, rqi_name, pc_name, fits_if_there, reply_fault_in, reply_in, reply_of, read_reply}
+use Rattle.primitive_json.specs.Writing.{present, whole, reply_rows, written_reply}
+use Rattle.primitive_json.specs.declared.fault.PrimFault.{PrimFault}
+use Rattle.primitive_json.specs.declared.fault.PrimFault.TheVariants.{Missing, Bad}
+use Rattle.primitive_json.specs.declared.reply.ReplyParts.{ReplyParts}
+use Rattle.primitive_json.proofs.FaultLemmas.{read_without_fault, read_if_no_fault}
+use Rattle.primitive_json.proofs.KindLemmas.{where_kept, where_passes, passes_along, each_back}
+use Rattle.primitive_json.proofs.Present.{member_of-present, members_in-object_of}
+
+-- ---- the number of a status code has four digits
+
+in_range : (n : ℕ) → is_in_range 1000 9999 n ≡ true → nat_le n 9_999 ≡ true
+in_range n h = grind (arith, nat_tests)
+
+four_digits : (n : ℕ) → is_other n ≡ true → nat_le n 9_999 ≡ true
+four_digits n h = in_range n (and_parts (is_in_range 1000 9999 n) (not (list_any (λ m. m == n) named_numbers)) h).0
+
+few_digits : (r : Rsc) → nat_le (rsc_row r).number 9_999 ≡ true
+few_digits Fine = refl
+few_digits Created = refl
+few_digits Deleted = refl
+few_digits Updated = refl
+few_digits BadRequest = refl
+few_digits NotFound = refl
+few_digits NotAllowed = refl
+few_digits RequestTimeout = refl
+few_digits NoPrivilege = refl
+few_digits Conflict = refl
+few_digits BadChild = refl
+few_digits Internal = refl
+few_digits NotImplemented = refl
+few_digits NotReachable = refl
+few_digits NotSubscribable = refl
+few_digits NonBlocking = refl
+few_digits NotAcceptable = refl
+few_digits TooManyMembers = refl
+few_digits WrongMember = refl
+few_digits (Other o) = four_digits o.number o.outside
+
+status_back : (r : Rsc) → status_of (whole (rsc_row r).number) ≡ Some r
+status_back r = ap (option_and_then rsc_of_number) (where_kept (λ n. nat_le n 9_999) (rsc_row r).number (few_digits r)) ∙ rsc_again r
+
+-- ---- a reply is read back
+
+id_fits : (id : Option (List ℕ)) → IfSome id (λ s. is_request_id s ≡ true) → fits_if_there request_id_of (option_map text id) ≡ true
+id_fits None h = refl
+id_fits (Some s) h = ap is_some (where_kept is_request_id s h)
+
+-- the fault that three tests find
+abbrev fault_by : Bool → Bool → Bool → Option PrimFault
+fault_by absent id_bad status_bad =
+    if absent then Some (Missing rsc_name) else (if id_bad then Some (Bad rqi_name) else (if status_bad then Some (Bad rsc_name) else None))
+
+module _ (r : ReplyParts) (kind : IsReplyOfKinds r) where
+  abbrev es : List Entry
+  es = present (reply_rows r)
+
+  status_there : member_of rsc_name es ≡ Some (whole (rsc_row r.rsc).number)
+  status_there = member_of-present rsc_name (reply_rows r) refl
+
+  id_there : member_of rqi_name es ≡ option_map text r.rqi
+  id_there = member_of-present rqi_name (reply_rows r) refl
+
+  content_there : member_of pc_name es ≡ r.pc
+  content_there = member_of-present pc_name (reply_rows r) refl
+
+  without_fault : reply_fault_in es ≡ None
+  without_fault =
+      let absent = ap is_none status_there in
+      let id = ap (λ (d : Option Data). not (fits_if_there request_id_of d)) id_there ∙ ap not (id_fits r.rqi kind) in
+      let status = ap (λ (d : Option Data). not (fits_if_there status_of d)) status_there ∙ ap (λ (s : Option Rsc). not (is_some s)) (status_back r.rsc) in
+      λ i. fault_by (absent i) (id i) (status i)
+
+  same_reply : reply_in es ≡ r
+  same_reply =
+      let rsc = ap (λ (d : Option Data). unwrap_or (option_and_then status_of d) Internal) status_there ∙ ap (λ (s : Option Rsc). unwrap_or s Internal) (status_back r.rsc) in
+      let rqi = ap (option_and_then request_id_of) id_there ∙ each_back request_id_of text (λ s. is_request_id s ≡ true) (where_kept is_request_id) r.rqi kind in
+      let pc = content_there in
+      λ i. record { rsc = rsc i; rqi = rqi i; pc = pc i }
+
+  pub reply_back : read_reply (written_reply r) ≡ Ok r
+  reply_back = ap reply_of (members_in-object_of (reply_rows r)) ∙ read_if_no_fault (reply_fault_in es) (reply_in es) r without_fault same_reply
+
+pub reply_of_kinds : (d : Data) (r : ReplyParts) → read_reply d ≡ Ok r → IsReplyOfKinds r
+reply_of_kinds d r is =
+    let es = members_in d in
+    let made = (read_without_fault (reply_fault_in es) (reply_in es) r is).1 in
+    let P : ReplyParts → Type 0 = IsReplyOfKinds in
+    subst P made (passes_along (λ s. is_request_id s ≡ true) request_id_of (λ e. where_passes is_request_id (as_text e)) (member_of rqi_name es))

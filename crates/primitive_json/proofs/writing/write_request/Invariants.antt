@@ -1,0 +1,7 @@
+use Rattle.std.proofs.Common.{◌≡◌, map, take}
+use Rattle.primitive_json.specs.Members.{all_members}
+use Rattle.primitive_json.specs.Writing.{present, member_row}
+use Rattle.primitive_json.proofs.writing.write_request.Given as goal
+
+abbrev pub invariant-loop-member : goal.invariant-loop-member
+invariant-loop-member l = l.entries.items ≡ present (map (member_row l.parts) (take l.member-index all_members))

@@ -1,0 +1,156 @@
+-- The conditions of a filter, as a table, and the filter that members make (TS-0004, 8.2.5).
+use Rattle.std.specs.Prelude.{ℕ, ◌==◌, Bool, false, ℤ, pos, List, [], ◌∷◌, Option, Some, None, find}
+use Rattle.std.specs.Prelude.{is_some, if◌then◌else◌, codes, option_and_then}
+use Rattle.std.specs.List.{list_all, filter_map}
+use Rattle.std.specs.Option.{option_map_or}
+use Rattle.std.specs.Str.{bytes_eq}
+use Rattle.m2m_names.specs.Name.{is_filled}
+use Rattle.m2m_names.specs.StampReading.{moment_at}
+use Rattle.m2m_value.specs.Data.{Data, null, boolean, number, text, list, object, Entry}
+use Rattle.m2m_value.specs.Shapes.{as_count}
+use Rattle.m2m_value.specs.View.{as_number, as_text, as_object, elements, member_of}
+use Rattle.primitive_json.specs.Kinds.{where_it, type_number_of}
+use Rattle.primitive_json.specs.declared.condition.Condition.{Condition}
+use Rattle.primitive_json.specs.declared.condition.Condition.TheVariants.{CreatedAfter}
+use Rattle.primitive_json.specs.declared.condition.Condition.TheVariants.{CreatedBefore}
+use Rattle.primitive_json.specs.declared.condition.Condition.TheVariants.{ExpireAfter, ExpireBefore}
+use Rattle.primitive_json.specs.declared.condition.Condition.TheVariants.{Usage, OneLabel, Limit}
+use Rattle.primitive_json.specs.declared.condition.Condition.TheVariants.{ModifiedSince}
+use Rattle.primitive_json.specs.declared.condition.Condition.TheVariants.{StateTagBigger}
+use Rattle.primitive_json.specs.declared.condition.Condition.TheVariants.{StateTagSmaller}
+use Rattle.primitive_json.specs.declared.condition.Condition.TheVariants.{SizeAbove, SizeBelow}
+use Rattle.primitive_json.specs.declared.condition.Condition.TheVariants.{OneType, UnmodifiedSince}
+use Rattle.primitive_json.specs.declared.condition.Sort.{Sort}
+use Rattle.primitive_json.specs.declared.condition.Sort.TheVariants.{Moment, Count, Labels, Types}
+use Rattle.primitive_json.specs.declared.condition.Sort.TheVariants.{Use}
+use Rattle.primitive_json.specs.declared.filter.FilterParts.{FilterParts}
+use Rattle.primitive_json.specs.declared.filter.FilterUsage.{FilterUsage}
+use Rattle.primitive_json.specs.declared.filter.FilterUsage.TheVariants.{Discovery, Conditional}
+
+-- ---- what the value of a condition is read as
+
+-- the moment of a timestamp
+abbrev pub moment_of : Data → Option ℕ
+moment_of d = option_and_then moment_at (as_text d)
+
+-- a label: a text of 1 to 256 bytes
+abbrev pub label_of : Data → Option (List ℕ)
+label_of d = where_it (is_filled 256) (as_text d)
+
+-- how a filter is used, by its number (TS-0004, 6.3.4.2.31)
+abbrev pub usage_of_number : ℤ → Option FilterUsage
+usage_of_number (pos n) =
+    if n == 1 then Some Discovery else (if n == 2 then Some Conditional else None)
+usage_of_number z = None
+
+abbrev pub usage_of : Data → Option FilterUsage
+usage_of d = option_and_then usage_of_number (as_number d)
+
+-- the elements of a list, and any other value alone
+abbrev pub parts_of : Data → List Data
+parts_of null = null ∷ []
+parts_of (boolean b) = boolean b ∷ []
+parts_of (number z) = number z ∷ []
+parts_of (text s) = text s ∷ []
+parts_of (list es) = elements es
+parts_of (object ps) = object ps ∷ []
+
+-- each part is read as something
+abbrev pub are_all : {A : Type 0} → (Data → Option A) → Data → Bool
+are_all read d = list_all (λ part. is_some (read part)) (parts_of d)
+
+-- what the parts are read as
+abbrev pub all_of : {A : Type 0} → (Data → Option A) → Data → List A
+all_of read d = filter_map read (parts_of d)
+
+-- ---- the table
+
+-- what stands for a condition: its short name, and the sort of its value
+pub record ConditionRow : Type 0 where
+  pub name : List ℕ
+  pub sort : Sort
+
+abbrev pub condition_row : List ℕ → Sort → ConditionRow
+condition_row name sort = record { name = name; sort = sort }
+
+abbrev pub row_of : Condition → ConditionRow
+row_of CreatedAfter = condition_row (codes "cra") Moment
+row_of CreatedBefore = condition_row (codes "crb") Moment
+row_of ExpireAfter = condition_row (codes "exa") Moment
+row_of ExpireBefore = condition_row (codes "exb") Moment
+row_of Usage = condition_row (codes "fu") Use
+row_of OneLabel = condition_row (codes "lbl") Labels
+row_of Limit = condition_row (codes "lim") Count
+row_of ModifiedSince = condition_row (codes "ms") Moment
+row_of StateTagBigger = condition_row (codes "stb") Count
+row_of StateTagSmaller = condition_row (codes "sts") Count
+row_of SizeAbove = condition_row (codes "sza") Count
+row_of SizeBelow = condition_row (codes "szb") Count
+row_of OneType = condition_row (codes "ty") Types
+row_of UnmodifiedSince = condition_row (codes "us") Moment
+
+-- all conditions, in byte order of their short names
+abbrev pub all_conditions : List Condition
+all_conditions =
+    CreatedAfter ∷ CreatedBefore ∷ ExpireAfter ∷ ExpireBefore ∷ Usage ∷ OneLabel ∷ Limit ∷
+    ModifiedSince ∷ StateTagBigger ∷ StateTagSmaller ∷ SizeAbove ∷ SizeBelow ∷ OneType ∷
+    UnmodifiedSince ∷ []
+
+abbrev pub name_of : Condition → List ℕ
+name_of condition = (row_of condition).name
+
+-- the condition of a short name
+abbrev pub condition_named : List ℕ → Option Condition
+condition_named name = find (λ condition. bytes_eq (name_of condition) name) all_conditions
+
+-- the value is of the sort
+abbrev pub is_of : Sort → Data → Bool
+is_of Moment d = is_some (moment_of d)
+is_of Count d = is_some (as_count d)
+is_of Labels d = are_all label_of d
+is_of Types d = are_all type_number_of d
+is_of Use d = is_some (usage_of d)
+
+-- the member is a condition, and its value of the sort of it
+abbrev pub is_condition : Entry → Bool
+is_condition e =
+    option_map_or (λ condition. is_of (row_of condition).sort e.1) (condition_named e.0) false
+
+-- an object of conditions
+abbrev pub is_filter : Data → Bool
+is_filter d = option_map_or (λ es. list_all is_condition es) (as_object d) false
+
+-- ---- the filter that the members make
+
+abbrev pub moment_in : Condition → List Entry → Option ℕ
+moment_in condition es = option_and_then moment_of (member_of (name_of condition) es)
+
+abbrev pub count_in : Condition → List Entry → Option ℕ
+count_in condition es = option_and_then as_count (member_of (name_of condition) es)
+
+abbrev pub usage_in : List Entry → Option FilterUsage
+usage_in es = option_and_then usage_of (member_of (name_of Usage) es)
+
+abbrev pub labels_in : List Entry → List (List ℕ)
+labels_in es = option_map_or (all_of label_of) (member_of (name_of OneLabel) es) []
+
+abbrev pub types_in : List Entry → List ℕ
+types_in es = option_map_or (all_of type_number_of) (member_of (name_of OneType) es) []
+
+abbrev pub filter_in : List Entry → FilterParts
+filter_in es = record {
+  crb = moment_in CreatedBefore es;
+  cra = moment_in CreatedAfter es;
+  ms = moment_in ModifiedSince es;
+  us = moment_in UnmodifiedSince es;
+  sts = count_in StateTagSmaller es;
+  stb = count_in StateTagBigger es;
+  exb = moment_in ExpireBefore es;
+  exa = moment_in ExpireAfter es;
+  lbl = labels_in es;
+  ty = types_in es;
+  sza = count_in SizeAbove es;
+  szb = count_in SizeBelow es;
+  fu = usage_in es;
+  lim = count_in Limit es;
+}

@@ -1,0 +1,104 @@
+-- What the value of a member is read as, where it is of the member's kind (TS-0004, 6.3 and 8.2.2).
+use Rattle.std.specs.Prelude.{ℕ, ◌==◌, nat_le, Bool, true, false, ◌&&◌, ℤ, pos, negsuc, List, []}
+use Rattle.std.specs.Prelude.{◌∷◌, Option, Some, None, if◌then◌else◌, is_some, codes, option_map}
+use Rattle.std.specs.Prelude.{option_and_then, unwrap_or}
+use Rattle.std.specs.Char.{is_ascii_digit}
+use Rattle.std.specs.List.{list_all, list_any}
+use Rattle.std.specs.Option.{option_or}
+use Rattle.std.specs.Ordering.{int_eq}
+use Rattle.std.specs.Str.Parse.{digits_value}
+use Rattle.m2m_names.specs.Name.{is_filled, is_originator}
+use Rattle.m2m_names.specs.Operations.{op_of_number}
+use Rattle.m2m_names.specs.StampReading.{moment_at}
+use Rattle.m2m_names.specs.StatusCodes.{rsc_of_number}
+use Rattle.m2m_names.specs.declared.codes.Rsc.{Rsc}
+use Rattle.m2m_names.specs.declared.operations.Op.{Op}
+use Rattle.m2m_names.specs.declared.operations.Op.TheVariants.{Create, Retrieve, Update, Delete}
+use Rattle.m2m_names.specs.declared.operations.Op.TheVariants.{Notify}
+use Rattle.m2m_value.specs.Data.{Data, null, boolean, number, text, list, object, Entry}
+use Rattle.m2m_value.specs.Shapes.{as_count}
+use Rattle.m2m_value.specs.View.{as_number, as_text, as_object, entries, member_of}
+use Rattle.primitive_json.specs.Bounds.{is_request_id}
+use Rattle.primitive_json.specs.declared.request.When.{When}
+use Rattle.primitive_json.specs.declared.request.When.TheVariants.{At, Millis}
+
+-- the value, where it passes the test
+abbrev pub where_it : {A : Type 0} → (A → Bool) → Option A → Option A
+where_it test None = None
+where_it test (Some a) = if test a then Some a else None
+
+-- the members of a value: none where it is no object
+abbrev pub members_in : Data → List Entry
+members_in d = unwrap_or (as_object d) []
+
+-- ---- texts
+
+-- the target of a request: a text of 1 to 1,024 bytes
+abbrev pub target_of : Data → Option (List ℕ)
+target_of d = where_it (is_filled 1024) (as_text d)
+
+abbrev pub originator_of : Data → Option (List ℕ)
+originator_of d = where_it is_originator (as_text d)
+
+abbrev pub request_id_of : Data → Option (List ℕ)
+request_id_of d = where_it is_request_id (as_text d)
+
+-- ---- numbers
+
+-- the number of a resource type: 0 to 65,535
+abbrev pub type_number_of : Data → Option ℕ
+type_number_of d = where_it (λ n. nat_le n 65_535) (as_count d)
+
+-- one of these numbers
+abbrev pub number_among : List ℤ → Data → Option ℤ
+number_among numbers d = where_it (λ z. list_any (λ n. int_eq n z) numbers) (as_number d)
+
+abbrev pub operation_of : Data → Option Op
+operation_of d = option_and_then op_of_number (as_number d)
+
+-- what the result content of an operation may be (TS-0004, 6.3.4.2.7; the choice is the profile's)
+abbrev pub result_contents : Op → List ℤ
+result_contents Create = pos 0 ∷ pos 1 ∷ pos 2 ∷ pos 3 ∷ []
+result_contents Retrieve = pos 1 ∷ pos 4 ∷ pos 5 ∷ pos 6 ∷ []
+result_contents Update = pos 0 ∷ pos 1 ∷ []
+result_contents Delete = pos 0 ∷ []
+result_contents Notify = []
+
+abbrev pub result_content_of : Op → Data → Option ℤ
+result_content_of op d = number_among (result_contents op) d
+
+-- structured or unstructured (TS-0004, 6.3.4.2.8)
+abbrev pub address_forms : List ℤ
+address_forms = pos 1 ∷ pos 2 ∷ []
+
+-- a number, or an object that has one at `rtv` (TS-0004, 6.3.5.30)
+abbrev pub response_type_of : Data → Option ℤ
+response_type_of d =
+    option_or (as_number d) (option_and_then as_number (member_of (codes "rtv") (members_in d)))
+
+-- ---- expiry
+
+-- 1 to 18 decimal digits
+abbrev pub is_numeral : List ℕ → Bool
+is_numeral s = is_filled 18 s && list_all is_ascii_digit s
+
+-- milliseconds by digits, else a timestamp
+abbrev pub expiry_in : List ℕ → Option When
+expiry_in s =
+    if is_numeral s then Some (Millis (digits_value 10 s)) else option_map At (moment_at s)
+
+-- or milliseconds by a number (TS-0004, 6.3.3)
+abbrev pub expiry_of : Data → Option When
+expiry_of d = option_or (option_map Millis (as_count d)) (option_and_then expiry_in (as_text d))
+
+-- ---- content
+
+-- an object
+abbrev pub is_object : Data → Bool
+is_object d = is_some (as_object d)
+
+-- ---- of a reply
+
+-- the status code of a number with at most four digits
+abbrev pub status_of : Data → Option Rsc
+status_of d = option_and_then rsc_of_number (where_it (λ n. nat_le n 9_999) (as_count d))

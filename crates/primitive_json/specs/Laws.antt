@@ -1,0 +1,81 @@
+-- What is read is of its kinds, and is read back from the value that is written of it.
+use Rattle.std.specs.Prelude.{◌≡◌, ℕ, ◌<◌, ◌^◌, nat_le, Bool, IsTrue, Option, IfSome, is_some, Ok}
+use Rattle.std.specs.Prelude.{⊤}
+use Rattle.std.specs.List.{list_all, list_any}
+use Rattle.std.specs.Ordering.{int_eq}
+use Rattle.m2m_names.specs.Name.{is_filled, is_originator}
+use Rattle.m2m_value.specs.Data.{Data}
+use Rattle.primitive_json.specs.Bounds.{IsMoment, is_request_id}
+use Rattle.primitive_json.specs.Kinds.{is_object, result_contents, address_forms}
+use Rattle.primitive_json.specs.Members.{creates, retrieves, has_content}
+use Rattle.primitive_json.specs.Reading.{read_request, read_reply}
+use Rattle.primitive_json.specs.Writing.{written_request, written_reply}
+use Rattle.primitive_json.specs.declared.filter.FilterParts.{FilterParts}
+use Rattle.primitive_json.specs.declared.request.RequestParts.{RequestParts}
+use Rattle.primitive_json.specs.declared.request.When.{When}
+use Rattle.primitive_json.specs.declared.request.When.TheVariants.{At, Millis}
+use Rattle.primitive_json.specs.declared.reply.ReplyParts.{ReplyParts}
+
+-- each condition of the filter is of its kind
+pub record IsFilterOfKinds (f : FilterParts) : Type 0 where
+  pub crb : IfSome f.crb IsMoment
+  pub cra : IfSome f.cra IsMoment
+  pub ms : IfSome f.ms IsMoment
+  pub us : IfSome f.us IsMoment
+  pub exb : IfSome f.exb IsMoment
+  pub exa : IfSome f.exa IsMoment
+  pub lbl : IsTrue (list_all (is_filled 256) f.lbl)
+  pub ty : IsTrue (list_all (λ n. nat_le n 65_535) f.ty)
+
+-- a moment is one of a timestamp
+abbrev pub IsWhenOfKind : When → Type 0
+IsWhenOfKind (At at) = IsMoment at
+IsWhenOfKind (Millis n) = ⊤
+
+-- each parameter is of its kind, and those are there that the operation needs, and no others that
+-- it doesn't read
+pub record IsOfKinds (r : RequestParts) : Type 0 where
+  pub to : IsTrue (is_filled 1024 r.to)
+  pub fr : IfSome r.fr (λ s. IsTrue (is_originator s))
+  pub rqi : IsTrue (is_request_id r.rqi)
+  pub ty : IfSome r.ty (λ n. IsTrue (nat_le n 65_535))
+  pub ty_there : is_some r.ty ≡ creates r.op
+  pub pc : IfSome r.pc (λ d. IsTrue (is_object d))
+  pub pc_there : is_some r.pc ≡ has_content r.op
+  pub rqet : IfSome r.rqet IsWhenOfKind
+  pub rcn : IfSome r.rcn (λ z. IsTrue (list_any (λ n. int_eq n z) (result_contents r.op)))
+  pub fc : IfSome r.fc (λ f. IsTrue (retrieves r.op) × IsFilterOfKinds f)
+  pub drt : IfSome r.drt (λ z. IsTrue (list_any (λ n. int_eq n z) address_forms))
+
+-- milliseconds have at most 18 digits
+abbrev pub IsShortWhen : When → Type 0
+IsShortWhen (At at) = ⊤
+IsShortWhen (Millis n) = n < 10 ^ 18
+
+abbrev pub HasShortExpiry : RequestParts → Type 0
+HasShortExpiry r = IfSome r.rqet IsShortWhen
+
+-- what is read as a request is of its kinds
+abbrev pub RequestsAreOfKinds : Type 0
+RequestsAreOfKinds = (d : Data) (r : RequestParts) → read_request d ≡ Ok r → IsOfKinds r
+
+-- a request of its kinds is read from what is written of it
+abbrev pub RequestsAreReadBack : Type 0
+RequestsAreReadBack =
+    (r : RequestParts) → IsOfKinds r → HasShortExpiry r → read_request (written_request r) ≡ Ok r
+
+-- and so is every reading
+abbrev pub ReadingsAreReadBack : Type 0
+ReadingsAreReadBack =
+    (d : Data) (r : RequestParts) → read_request d ≡ Ok r → HasShortExpiry r
+    → read_request (written_request r) ≡ Ok r
+
+-- the request identifier of a reply is of its kind
+abbrev pub IsReplyOfKinds : ReplyParts → Type 0
+IsReplyOfKinds r = IfSome r.rqi (λ s. IsTrue (is_request_id s))
+
+abbrev pub RepliesAreOfKinds : Type 0
+RepliesAreOfKinds = (d : Data) (r : ReplyParts) → read_reply d ≡ Ok r → IsReplyOfKinds r
+
+abbrev pub RepliesAreReadBack : Type 0
+RepliesAreReadBack = (r : ReplyParts) → IsReplyOfKinds r → read_reply (written_reply r) ≡ Ok r

@@ -1,0 +1,142 @@
+-- Requests and replies as values (TS-0004, 8.2.2): the members that are there, in byte order of
+-- their names.
+use Rattle.std.specs.Prelude.{ℕ, Bool, ℤ, pos, List, [], ◌∷◌, map, Option, Some, None}
+use Rattle.std.specs.Prelude.{if◌then◌else◌, option_map}
+use Rattle.std.specs.Fmt.{decimal}
+use Rattle.std.specs.List.{filter_map}
+use Rattle.m2m_names.specs.Operations.{op_row}
+use Rattle.m2m_names.specs.Stamps.{timestamp}
+use Rattle.m2m_names.specs.StatusCodes.{rsc_row}
+use Rattle.m2m_value.specs.Data.{Data, number, text, list, object, Entry, elements_of, pairs_of}
+use Rattle.primitive_json.specs.Conditions as conditions
+use Rattle.primitive_json.specs.Conditions.{all_conditions}
+use Rattle.primitive_json.specs.Members.{creates, retrieves, has_content, all_members, name_of}
+use Rattle.primitive_json.specs.Reading.{rsc_name, rqi_name, pc_name}
+use Rattle.primitive_json.specs.declared.condition.Condition.{Condition}
+use Rattle.primitive_json.specs.declared.condition.Condition.TheVariants.{CreatedAfter}
+use Rattle.primitive_json.specs.declared.condition.Condition.TheVariants.{CreatedBefore}
+use Rattle.primitive_json.specs.declared.condition.Condition.TheVariants.{ExpireAfter, ExpireBefore}
+use Rattle.primitive_json.specs.declared.condition.Condition.TheVariants.{Usage, OneLabel, Limit}
+use Rattle.primitive_json.specs.declared.condition.Condition.TheVariants.{ModifiedSince}
+use Rattle.primitive_json.specs.declared.condition.Condition.TheVariants.{StateTagBigger}
+use Rattle.primitive_json.specs.declared.condition.Condition.TheVariants.{StateTagSmaller}
+use Rattle.primitive_json.specs.declared.condition.Condition.TheVariants.{SizeAbove, SizeBelow}
+use Rattle.primitive_json.specs.declared.condition.Condition.TheVariants.{OneType, UnmodifiedSince}
+use Rattle.primitive_json.specs.declared.filter.FilterParts.{FilterParts}
+use Rattle.primitive_json.specs.declared.filter.FilterUsage.{FilterUsage}
+use Rattle.primitive_json.specs.declared.filter.FilterUsage.TheVariants.{Discovery, Conditional}
+use Rattle.primitive_json.specs.declared.member.Member.{Member}
+use Rattle.primitive_json.specs.declared.member.Member.TheVariants.{DesiredForm, FilterCriteria}
+use Rattle.primitive_json.specs.declared.member.Member.TheVariants.{Originator, Operation, Content}
+use Rattle.primitive_json.specs.declared.member.Member.TheVariants.{ResultContent, Expiry}
+use Rattle.primitive_json.specs.declared.member.Member.TheVariants.{RequestId, ResponseType, Target}
+use Rattle.primitive_json.specs.declared.member.Member.TheVariants.{ResourceType}
+use Rattle.primitive_json.specs.declared.request.RequestParts.{RequestParts}
+use Rattle.primitive_json.specs.declared.request.When.{When}
+use Rattle.primitive_json.specs.declared.request.When.TheVariants.{At, Millis}
+use Rattle.primitive_json.specs.declared.reply.ReplyParts.{ReplyParts}
+
+-- a name, and the value that is to stand there, if any
+abbrev pub Row : Type 0
+Row = List ℕ × Option Data
+
+abbrev pub entry_of : Row → Option Entry
+entry_of row = option_map (λ d. (row.0, d)) row.1
+
+-- the entries of those that are there
+abbrev pub present : List Row → List Entry
+present rows = filter_map entry_of rows
+
+abbrev pub object_of : List Row → Data
+object_of rows = object (pairs_of (present rows))
+
+-- the value, on the operations that it is for
+abbrev pub only_where : {A : Type 0} → Bool → Option A → Option A
+only_where is_there value = if is_there then value else None
+
+-- ---- the parts
+
+abbrev pub whole : ℕ → Data
+whole n = number (pos n)
+
+abbrev pub moment_data : ℕ → Data
+moment_data at = text (timestamp at)
+
+-- a list with an element at least
+abbrev pub filled_list : List Data → Option Data
+filled_list [] = None
+filled_list (d ∷ ds) = Some (list (elements_of (d ∷ ds)))
+
+abbrev pub usage_number : FilterUsage → ℤ
+usage_number Discovery = pos 1
+usage_number Conditional = pos 2
+
+-- when a request expires: a timestamp, or milliseconds by their digits in a text
+abbrev pub expiry_data : When → Data
+expiry_data (At at) = text (timestamp at)
+expiry_data (Millis n) = text (decimal n)
+
+-- ---- a filter
+
+abbrev pub condition_value : FilterParts → Condition → Option Data
+condition_value f CreatedAfter = option_map moment_data f.cra
+condition_value f CreatedBefore = option_map moment_data f.crb
+condition_value f ExpireAfter = option_map moment_data f.exa
+condition_value f ExpireBefore = option_map moment_data f.exb
+condition_value f Usage = option_map (λ usage. number (usage_number usage)) f.fu
+condition_value f OneLabel = filled_list (map text f.lbl)
+condition_value f Limit = option_map whole f.lim
+condition_value f ModifiedSince = option_map moment_data f.ms
+condition_value f StateTagBigger = option_map whole f.stb
+condition_value f StateTagSmaller = option_map whole f.sts
+condition_value f SizeAbove = option_map whole f.sza
+condition_value f SizeBelow = option_map whole f.szb
+condition_value f OneType = filled_list (map whole f.ty)
+condition_value f UnmodifiedSince = option_map moment_data f.us
+
+abbrev pub condition_row : FilterParts → Condition → Row
+condition_row f condition = (conditions.name_of condition, condition_value f condition)
+
+abbrev pub written_filter : FilterParts → Data
+written_filter f = object_of (map (condition_row f) all_conditions)
+
+-- ---- a request
+
+abbrev pub filter_value : RequestParts → Option Data
+filter_value r = only_where (retrieves r.op) (option_map written_filter r.fc)
+
+abbrev pub content_value : RequestParts → Option Data
+content_value r = only_where (has_content r.op) r.pc
+
+abbrev pub type_value : RequestParts → Option Data
+type_value r = only_where (creates r.op) (option_map whole r.ty)
+
+-- what is written of a member
+abbrev pub member_value : RequestParts → Member → Option Data
+member_value r DesiredForm = option_map number r.drt
+member_value r FilterCriteria = filter_value r
+member_value r Originator = option_map text r.fr
+member_value r Operation = Some (number (op_row r.op).number)
+member_value r Content = content_value r
+member_value r ResultContent = option_map number r.rcn
+member_value r Expiry = option_map expiry_data r.rqet
+member_value r RequestId = Some (text r.rqi)
+member_value r ResponseType = option_map number r.rt
+member_value r Target = Some (text r.to)
+member_value r ResourceType = type_value r
+
+abbrev pub member_row : RequestParts → Member → Row
+member_row r member = (name_of member, member_value r member)
+
+abbrev pub written_request : RequestParts → Data
+written_request r = object_of (map (member_row r) all_members)
+
+-- ---- a reply
+
+abbrev pub reply_rows : ReplyParts → List Row
+reply_rows r =
+    (pc_name, r.pc) ∷ (rqi_name, option_map text r.rqi) ∷
+    (rsc_name, Some (whole (rsc_row r.rsc).number)) ∷ []
+
+abbrev pub written_reply : ReplyParts → Data
+written_reply r = object_of (reply_rows r)

@@ -1,0 +1,117 @@
+//! Filters as values.
+ghost use Rattle.std.specs.Prelude.{◌≡◌, map, IfOk, IsUtf8, option_map};
+ghost use Rattle.std.specs.List.{AllByRecursion};
+ghost use Rattle.std.specs.Option.{ForSome};
+ghost use Rattle.m2m_value.specs.Data as plain;
+ghost use Rattle.primitive_json.specs.Bounds.{IsMoment, IsCount};
+ghost use Rattle.primitive_json.specs.Filters.{IsSoundFilter};
+ghost use Rattle.primitive_json.specs.Writing as spec;
+
+use crate::condition::Condition;
+use crate::filter::{FilterParts, FilterUsage};
+use crate::writing::{moment_value, object_of, push_member, text_value};
+use m2m_value::{Items, Text, Val};
+use std::alloc::{AllocError as OutOfMemory, Global};
+
+fn moment(alloc: Global, at: Option<u64>) -> Result<Option<Val>, OutOfMemory>
+    requires { ForSome at IsMoment }
+    ensures { IfOk result (λ v. v ≡ option_map spec.moment_data at) }
+{
+    match at {
+        Some(at) => Ok(Some(moment_value(alloc, at)?)),
+        None => Ok(None),
+    }
+}
+
+fn count(n: Option<u64>) -> Option<Val>
+    requires { ForSome n IsCount }
+    ensures { result ≡ option_map spec.whole n }
+{
+    match n {
+        Some(n) => Some(Val::of_num(n as i64)),
+        None => None,
+    }
+}
+
+fn usage(usage: Option<FilterUsage>) -> Option<Val>
+    ensures { result ≡ option_map (λ u. plain.number (spec.usage_number u)) usage }
+{
+    match usage {
+        Some(FilterUsage::Discovery) => Some(Val::of_num(1)),
+        Some(FilterUsage::Conditional) => Some(Val::of_num(2)),
+        None => None,
+    }
+}
+
+/// A list with an element at least.
+fn filled_list(values: Vec<Val>) -> Option<Val>
+    ensures { result ≡ spec.filled_list values.items }
+{
+    if values.is_empty() {
+        None
+    } else {
+        Some(Val::of_list(Items::of(values)))
+    }
+}
+
+fn labels(alloc: Global, labels: &[Text]) -> Result<Option<Val>, OutOfMemory>
+    requires { AllByRecursion IsUtf8 labels.now }
+    ensures { IfOk result (λ v. v ≡ spec.filled_list (map plain.text labels.now)) }
+{
+    let mut values = Vec::with_capacity(alloc, labels.len())?;
+    for label in labels {
+        values.push(text_value(alloc, label)?)?;
+    }
+    Ok(filled_list(values))
+}
+
+fn types(alloc: Global, types: &[u64]) -> Result<Option<Val>, OutOfMemory>
+    requires { AllByRecursion IsCount types.now }
+    ensures { IfOk result (λ v. v ≡ spec.filled_list (map spec.whole types.now)) }
+{
+    let mut values = Vec::with_capacity(alloc, types.len())?;
+    for number in types {
+        values.push(Val::of_num(*number as i64))?;
+    }
+    Ok(filled_list(values))
+}
+
+/// What is written of a condition.
+fn condition_value(
+    alloc: Global,
+    filter: &FilterParts,
+    condition: Condition,
+) -> Result<Option<Val>, OutOfMemory>
+    requires { IsSoundFilter filter.now }
+    ensures { IfOk result (λ v. v ≡ spec.condition_value filter.now condition) }
+{
+    match condition {
+        Condition::CreatedAfter => moment(alloc, filter.cra),
+        Condition::CreatedBefore => moment(alloc, filter.crb),
+        Condition::ExpireAfter => moment(alloc, filter.exa),
+        Condition::ExpireBefore => moment(alloc, filter.exb),
+        Condition::Usage => Ok(usage(filter.fu)),
+        Condition::OneLabel => labels(alloc, filter.lbl.entries()),
+        Condition::Limit => Ok(count(filter.lim)),
+        Condition::ModifiedSince => moment(alloc, filter.ms),
+        Condition::StateTagBigger => Ok(count(filter.stb)),
+        Condition::StateTagSmaller => Ok(count(filter.sts)),
+        Condition::SizeAbove => Ok(count(filter.sza)),
+        Condition::SizeBelow => Ok(count(filter.szb)),
+        Condition::OneType => types(alloc, filter.ty.entries()),
+        Condition::UnmodifiedSince => moment(alloc, filter.us),
+    }
+}
+
+/// The filter as a value: an object of the conditions that are there.
+pub fn write_filter(alloc: Global, filter: &FilterParts) -> Result<Val, OutOfMemory>
+    requires { IsSoundFilter filter.now }
+    ensures { IfOk result (λ v. v ≡ spec.written_filter filter.now) }
+{
+    let mut entries = Vec::with_capacity(alloc, Condition::ALL.len())?;
+    for condition in Condition::ALL {
+        let value = condition_value(alloc, filter, condition)?;
+        push_member(alloc, &mut entries, condition.name(), value)?;
+    }
+    Ok(object_of(entries))
+}
