@@ -95,7 +95,7 @@ fn object_of(alloc: Global, attrs: Attrs) -> Result<Val, OutOfMemory>
     Ok(Val::of_obj(Members::of(named(alloc, attrs)?)))
 }
 
-// Each key is a text that owns its bytes, so that each takes memory of its exact length, once.
+// Each key is a text that owns its bytes, so that each takes memory of its own.
 fn named(alloc: Global, attrs: Attrs) -> Result<Vec<(Text, Val)>, OutOfMemory>
     ensures value { IfOk result (λ v. v.items ≡ members_of attrs) }
     ensures order { IfOk result (λ v. AreSorted v.items) }
