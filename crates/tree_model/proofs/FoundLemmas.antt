@@ -8,7 +8,7 @@ use Rattle.std.proofs.lemmas.Option.{slice_get-get_or}
 use Rattle.std.specs.List.{filter, slice_get, list_any}
 use Rattle.std.specs.Option.{option_map_or, option_or}
 use Rattle.resource_model.specs.Resource.{ResourceData}
-use Rattle.tree_model.specs.Tree.{number_of, last_of, same_text, are_below, fits, is_tree}
+use Rattle.tree_model.specs.Tree.{number_of, last_number, same_text, are_below, fits, is_tree}
 use Rattle.tree_model.proofs.GrowthLemmas.{growth, next_fits}
 
 -- ---- the last of a filter
@@ -50,7 +50,7 @@ end-push [] r = refl
 end-push (s ∷ rs) r = sym (end-cons s (rs ++ r ∷ [])) ∙ ap (λ (o : Option ResourceData). option_or o (Some s)) (end-push rs r)
 
 -- the first from the end is the last
-pub last_from_the_end : (p : ResourceData → Bool) (nodes : List ResourceData) → number_of (find p (reverse nodes)) ≡ last_of (filter p nodes)
+pub last_from_the_end : (p : ResourceData → Bool) (nodes : List ResourceData) → number_of (find p (reverse nodes)) ≡ last_number (filter p nodes)
 last_from_the_end p nodes = ap number_of (last-found p nodes)
 
 -- ---- whether something is found

@@ -252,7 +252,7 @@ parent_stays p before r grew next law = elim (or_cases (has r.parent before) _ n
       or_left _ _ (eq-eqb r.parent 0 parts.0) ∙ sym (ap (λ (nodes : List ResourceData). is_spared p nodes r.parent) parts.2)
 ]
 
-spared_new : (p : ResourceData → Bool) (before : List ResourceData) (r : ResourceData) → is_spared p (before ++ r ∷ []) r.number ≡ (not (p r) && is_spared p before r.parent)
+pub spared_new : (p : ResourceData → Bool) (before : List ResourceData) (r : ResourceData) → is_spared p (before ++ r ∷ []) r.number ≡ (not (p r) && is_spared p before r.parent)
 spared_new p before r =
     let own : line_of r.number (before ++ r ∷ []) ≡ r ∷ line_of r.parent before = line-append r.number before r ∙ rw (eq-eqb r.number r.number refl) refl in
     ap (λ line. not (list_any p line)) own ∙ not_or (p r) (list_any p (line_of r.parent before))
@@ -273,6 +273,11 @@ without-spared p = growth fits (λ nodes. without p nodes ≡ filter (λ r. is_s
     ∙ rw same refl
     ∙ ap (λ front. front ++ filter (λ s. is_spared p (before ++ r ∷ []) s.number) (r ∷ [])) (law ∙ sym (filter_agree r.number (λ s. is_spared p (before ++ r ∷ []) s.number) (λ s. is_spared p before s.number) (λ s below. spared_old p before r s.number below) before fact.number))
     ∙ sym (filter-append (λ s. is_spared p (before ++ r ∷ []) s.number) before (r ∷ [])))
+
+-- what comes last stays where nothing in its line is picked
+pub stays_spared : (p : ResourceData → Bool) (before : List ResourceData) (r : ResourceData) → is_tree before ≡ true → IsNext before r → stays p (without p before) r ≡ is_spared p (before ++ r ∷ []) r.number
+stays_spared p before r tree next =
+    ap (λ b. not (p r) && b) (parent_stays p before r tree next (without-spared p before tree)) ∙ sym (spared_new p before r)
 
 -- what is at a number after a removal
 pub at-without : (p : ResourceData → Bool) (n : ℕ) (nodes : List ResourceData) → is_tree nodes ≡ true → at n (without p nodes) ≡ cond (is_spared p nodes n) (at n nodes) None

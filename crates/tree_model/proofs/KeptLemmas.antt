@@ -197,7 +197,7 @@ no_child parent name (s ∷ nodes) none = elim (cases_Bool (is_child parent name
 
 -- ---- a removal
 
-without-snoc : (p : ResourceData → Bool) (before : List ResourceData) (r : ResourceData) → without p (before ++ r ∷ []) ≡ without p before ++ cond (stays p (without p before) r) (r ∷ []) []
+pub without-snoc : (p : ResourceData → Bool) (before : List ResourceData) (r : ResourceData) → without p (before ++ r ∷ []) ≡ without p before ++ cond (stays p (without p before) r) (r ∷ []) []
 without-snoc p before r = staying-append p [] before (r ∷ [])
 
 still_placed : (p : ResourceData → Bool) (before : List ResourceData) (r : ResourceData) → is_tree before ≡ true → is_placed before r ≡ true → stays p (without p before) r ≡ true → is_placed (without p before) r ≡ true

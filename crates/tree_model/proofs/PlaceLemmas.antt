@@ -40,9 +40,9 @@ written_at r [] i d within earlier is = absurd (omega arith)
 written_at r (s ∷ nodes) zero d within earlier is = rw (eq-eqb s.number r.number is) refl
 written_at r (s ∷ nodes) (suc i) d within earlier is = rw (ne_eqb s.number r.number (earlier 0 (omega arith))) (ap (λ rest. s ∷ rest) (written_at r nodes i d (omega arith) (λ k low. earlier (suc k) (omega arith)) is))
 
-missing : (n : ℕ) (nodes : List ResourceData) → ((k : ℕ) (d : ResourceData) → k < length nodes → (get_or nodes k d).number ≢ n) → at n nodes ≡ None
-missing n [] none = refl
-missing n (s ∷ nodes) none = rw (ne_eqb s.number n (none 0 s (omega arith))) (missing n nodes (λ k d within. none (suc k) d (omega arith)))
+none_at : (n : ℕ) (nodes : List ResourceData) → ((k : ℕ) (d : ResourceData) → k < length nodes → (get_or nodes k d).number ≢ n) → at n nodes ≡ None
+none_at n [] none = refl
+none_at n (s ∷ nodes) none = rw (ne_eqb s.number n (none 0 s (omega arith))) (none_at n nodes (λ k d within. none (suc k) d (omega arith)))
 
 equal_is : (m n : ℕ) → nat_cmp m n ≡ Equal → m ≡ n
 equal_is m n e = grind (arith, nat_tests)
@@ -71,7 +71,7 @@ searched n nodes (Ok i) sorted within found =
     }
 searched n nodes (Err i) sorted within found =
     let parted = found (searchable nodes n sorted) in
-    missing n nodes (λ k d inside e. elim (cases_lt k i) [
+    none_at n nodes (λ k d inside e. elim (cases_lt k i) [
       | inl before ↦ let less : (get_or nodes k d).number < n = less_is _ _ (parted.0 k d (omega arith) before) in omega arith
       | inr after ↦ let more : n < (get_or nodes k d).number = greater_is _ _ (parted.1 k d after inside) in omega arith
     ])

@@ -124,6 +124,14 @@ quiet_pushed (Err _) nodes after r until ok err tree next quiet = ap (are_quiet 
 
 -- ---- a replacement
 
+-- what stands below another resource is due as before, and what stands below the new one as that
+-- says
+pub due-replaced_other : (nodes : List ResourceData) (r s : ResourceData) → s.parent ≢ r.number → due (replaced r nodes) s ≡ due nodes s
+due-replaced_other nodes r s apart = ap (λ (o : Option ResourceData). due_under o s) (at-replaced_other s.parent r nodes apart)
+
+pub due-replaced : (nodes : List ResourceData) (r s : ResourceData) → has r.number nodes ≡ true → s.parent ≡ r.number → due (replaced r nodes) s ≡ due_under (Some r) s
+due-replaced nodes r s there under = ap (λ (o : Option ResourceData). due_under o s) (ap (λ (n : ℕ). at n (replaced r nodes)) under ∙ at-replaced r nodes there)
+
 -- an instance whose container allows another age is due when it expires, or at that age
 aged_from : (until : ℕ) (o : Option ResourceData) (r s : ResourceData) → from until (count_at Mia r.attrs) ≡ true → from until (due_under o s) ≡ true → from until (due_under (Some r) s) ≡ true
 aged_from until o r s young old = elim (cases_Bool (is_ty s.ty CseBase)) [

@@ -181,7 +181,6 @@ staying-same p q same stayed (r ∷ nodes) = elim (cases_Bool (stays q stayed r)
   | inr f ↦ rw (same r, f) (staying-same p q same stayed nodes)
 ]
 
--- where nothing is picked and every parent is there, all stay: nothing changes
 -- a map that keeps number, parent and pick goes through a pass
 stays-map : (g : ResourceData → ResourceData) (p q : ResourceData → Bool) → ((r : ResourceData) → (g r).number ≡ r.number) → ((r : ResourceData) → (g r).parent ≡ r.parent) → ((r : ResourceData) → q (g r) ≡ p r) → (stayed : List ResourceData) (r : ResourceData) → stays q (map g stayed) (g r) ≡ stays p stayed r
 stays-map g p q number parent pick stayed r = rw (pick r, parent r, has-map g number r.parent stayed) refl

@@ -74,17 +74,17 @@ abbrev pub number_at : ℕ → List ResourceData → Option ℕ
 number_at k rs = number_of (slice_get rs k)
 
 -- the number of the last resource, and of the first
-abbrev pub last_of : List ResourceData → Option ℕ
-last_of rs = number_at (length rs - 1) rs
+abbrev pub last_number : List ResourceData → Option ℕ
+last_number rs = number_at (length rs - 1) rs
 
-abbrev pub first_of : List ResourceData → Option ℕ
-first_of rs = number_at 0 rs
+abbrev pub first_number : List ResourceData → Option ℕ
+first_number rs = number_at 0 rs
 
 -- the number of the newest or of the oldest instance of a container
 abbrev pub instance_of : Bool → ℕ → List ResourceData → Option ℕ
 instance_of newest container nodes =
-    if newest then last_of (instances_of container nodes)
-    else first_of (instances_of container nodes)
+    if newest then last_number (instances_of container nodes)
+    else first_number (instances_of container nodes)
 
 -- both are given, and they are one
 abbrev pub same_text : Option (List ℕ) → Option (List ℕ) → Bool

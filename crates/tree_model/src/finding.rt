@@ -1,7 +1,7 @@
 // What a list of resources has, found by a walk.
 ghost use Rattle.std.specs.Prelude.{◌≡◌, ◌^◌, ◌<◌, length, find, reverse};
 ghost use Rattle.tree_model.specs.Tree.{is_child, is_kin, is_ae, is_cse, number_of, number_at};
-ghost use Rattle.tree_model.specs.Tree.{last_of, children_of, child_of, ae_of, cse_of, kin_of};
+ghost use Rattle.tree_model.specs.Tree.{last_number, children_of, child_of, ae_of, cse_of, kin_of};
 ghost use Rattle.tree_model.specs.Tree.{instances_of, size_of, sizes_of};
 
 use m2m_names::{Attr, Ty};
@@ -102,7 +102,7 @@ pub(crate) fn kin_in(resources: &[Resource], ty: Ty, parent: u64, k: u64) -> Opt
 
 /// The last child of a type.
 pub(crate) fn last_kin_in(resources: &[Resource], ty: Ty, parent: u64) -> Option<u64>
-    ensures { result ≡ last_of (kin_of ty parent resources.now) }
+    ensures { result ≡ last_number (kin_of ty parent resources.now) }
 {
     first_from_the_end(resources, ty, parent)
 }

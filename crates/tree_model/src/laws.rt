@@ -1,9 +1,18 @@
 // What holds of every tree, whatever keeps it.
 ghost use Rattle.std.specs.Prelude.{◌≡◌, ℕ, ◌<◌, List, [], ◌∷◌, ◌++◌, filter, Bool, IsTrue, Some};
-ghost use Rattle.std.specs.Prelude.{option_map};
-ghost use Rattle.resource_model.specs.Resource.{ResourceData, ae_id, cse_id};
+ghost use Rattle.std.specs.Prelude.{length, option_map};
+ghost use Rattle.std.specs.Option.{option_or};
+ghost use Rattle.m2m_names.specs.declared.attributes.Attr.{Attr};
+ghost use Rattle.m2m_names.specs.declared.attributes.Attr.TheVariants.{Cbs, Cni, Ri};
+ghost use Rattle.m2m_names.specs.declared.types.Ty.TheVariants.{Container};
+ghost use Rattle.m2m_value.specs.Data.{text};
+ghost use Rattle.resource_model.specs.Attributes.{value_of, AreInOrder};
+ghost use Rattle.resource_model.specs.Home.{HomeData};
+ghost use Rattle.resource_model.specs.Resource.{ResourceData, ae_id, cse_id, id_of, is_ty};
+ghost use Rattle.tree_model.specs.Shown.{added_rows, shown_rows, shown_count};
 ghost use Rattle.tree_model.specs.Tree.{at, line_of, replaced, without, is_spared, fits_in};
 ghost use Rattle.tree_model.specs.Tree.{is_tree, is_well_formed, standing, are_quiet, live};
+ghost use Rattle.tree_model.specs.Tree.{instances_of, sizes_of};
 
 /// A removal takes exactly the resources that are picked, and those with a picked resource among
 /// the ones that they stand under.
@@ -52,4 +61,23 @@ pub fn no_two_resources_share_what_stands_once()
 pub fn all_is_live_while_it_is_quiet()
     ensures { (until moment : ℕ) (nodes : List ResourceData) → IsTrue (is_tree nodes)
         → IsTrue (are_quiet until nodes) → moment < until → live moment nodes ≡ nodes }
+{}
+
+/// What is shown of an attribute is what the entity adds, where it adds that one, and else what the
+/// resource keeps; attributes are shown in their order, each once. A resource shows its own
+/// identifier, and a container how many instances it has and what their sizes add up to.
+pub fn an_attribute_is_shown_as_added_or_else_as_kept()
+    ensures value { (home : HomeData) (nodes : List ResourceData) (r : ResourceData) (a : Attr)
+        → value_of a (shown_rows home nodes r)
+        ≡ option_or (value_of a (added_rows home nodes r)) (value_of a r.attrs) }
+    ensures order { (home : HomeData) (nodes : List ResourceData) (r : ResourceData)
+        → AreInOrder r.attrs → AreInOrder (shown_rows home nodes r) }
+    ensures identifier { (home : HomeData) (nodes : List ResourceData) (r : ResourceData)
+        → value_of Ri (shown_rows home nodes r) ≡ Some (text (id_of r)) }
+    ensures count { (home : HomeData) (nodes : List ResourceData) (r : ResourceData)
+        → IsTrue (is_ty r.ty Container) → value_of Cni (shown_rows home nodes r)
+        ≡ Some (shown_count (length (instances_of r.number nodes))) }
+    ensures sizes { (home : HomeData) (nodes : List ResourceData) (r : ResourceData)
+        → IsTrue (is_ty r.ty Container) → value_of Cbs (shown_rows home nodes r)
+        ≡ Some (shown_count (sizes_of r.number nodes)) }
 {}

@@ -36,7 +36,7 @@ pub use expiry::{due, is_due};
 pub use laws::{
     a_line_goes_up_from_parent_to_parent, a_removal_takes_what_is_picked_and_what_stands_below,
     a_well_formed_tree_stays_one, all_is_live_while_it_is_quiet,
-    no_two_resources_share_what_stands_once,
+    an_attribute_is_shown_as_added_or_else_as_kept, no_two_resources_share_what_stands_once,
 };
 pub use list_tree::ListTree;
 pub use nodes::Nodes;

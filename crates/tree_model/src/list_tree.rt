@@ -2,10 +2,11 @@
 ghost use Rattle.std.specs.Prelude.{◌≡◌, []};
 
 use crate::expiry::earlier;
+use crate::finding::{ae_in, child_in, count_in, cse_in, kid_in, kin_in, last_kin_in, sizes_in};
 use crate::nodes::Nodes;
 use crate::steps::Steps;
 use crate::tree::Tree;
-use m2m_names::Attr;
+use m2m_names::{Attr, Ty};
 use resource_model::Resource;
 use std::alloc::{AllocError as OutOfMemory, Global};
 use std::marker::Model;
@@ -67,39 +68,43 @@ impl Tree for ListTree {
     }
 
     fn child<L: Ledger>(&self, parent: u64, name: &[u8], _steps: &mut Steps<L>) -> Option<u64> {
-        self.nodes.child(parent, name)
+        child_in(self.nodes.entries(), parent, name)
     }
 
     fn kid(&self, parent: u64, k: u64) -> Option<u64> {
-        self.nodes.kid(parent, k)
+        kid_in(self.nodes.entries(), parent, k)
     }
 
     fn sub(&self, parent: u64, k: u64) -> Option<u64> {
-        self.nodes.sub(parent, k)
+        kin_in(self.nodes.entries(), Ty::Subscription, parent, k)
     }
 
     fn instance(&self, container: u64, newest: bool) -> Option<u64> {
-        self.nodes.instance(container, newest)
+        if newest {
+            last_kin_in(self.nodes.entries(), Ty::ContentInstance, container)
+        } else {
+            kin_in(self.nodes.entries(), Ty::ContentInstance, container, 0)
+        }
     }
 
     fn instance_at(&self, container: u64, k: u64) -> Option<u64> {
-        self.nodes.instance_at(container, k)
+        kin_in(self.nodes.entries(), Ty::ContentInstance, container, k)
     }
 
     fn instance_count(&self, container: u64) -> u64 {
-        self.nodes.instance_count(container)
+        count_in(self.nodes.entries(), container)
     }
 
     fn instance_sizes(&self, container: u64) -> u128 {
-        self.nodes.instance_sizes(container)
+        sizes_in(self.nodes.entries(), container)
     }
 
     fn ae(&self, aei: &[u8]) -> Option<u64> {
-        self.nodes.ae(aei)
+        ae_in(self.nodes.entries(), aei)
     }
 
     fn cse(&self, csi: &[u8]) -> Option<u64> {
-        self.nodes.cse(csi)
+        cse_in(self.nodes.entries(), csi)
     }
 
     fn quiet_until(&self) -> u64 {

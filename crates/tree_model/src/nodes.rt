@@ -6,17 +6,14 @@ ghost use Rattle.m2m_names.specs.Stamps.{last_moment};
 ghost use Rattle.m2m_names.specs.declared.attributes.Attr.TheVariants.{St};
 ghost use Rattle.resource_model.specs.Attributes.{value_of};
 ghost use Rattle.resource_model.specs.Resource.{ResourceData, has_number, ae_id, cse_id};
-ghost use Rattle.tree_model.specs.Tree.{at, child_of, children_of, subs_of, number_at, instance_of};
-ghost use Rattle.tree_model.specs.Tree.{instances_of, sizes_of, ae_of, cse_of, due, are_quiet};
-ghost use Rattle.tree_model.specs.Tree.{live, replaced, restamped, restamped_at, has_state};
-ghost use Rattle.tree_model.specs.Tree.{without, are_below, is_placed, has_ae_id, has_cse_id};
-ghost use Rattle.tree_model.specs.Tree.{is_tree, standing, AreAscending};
+ghost use Rattle.tree_model.specs.Tree.{at, child_of, due, are_quiet, live, replaced, restamped};
+ghost use Rattle.tree_model.specs.Tree.{restamped_at, has_state, without, are_below, is_placed};
+ghost use Rattle.tree_model.specs.Tree.{has_ae_id, has_cse_id, is_tree, standing, AreAscending};
 
-use crate::finding::{ae_in, child_in, count_in, cse_in, kid_in, kin_in, last_kin_in, sizes_in};
 use crate::placing::{due_in, found, place};
 use crate::removing::{Removal, quiet_in, sweep_out};
 use crate::steps::Steps;
-use m2m_names::{Attr, Ty};
+use m2m_names::Attr;
 use m2m_value::Val;
 use resource_model::Resource;
 use std::alloc::{AllocError as OutOfMemory, Global};
@@ -71,6 +68,13 @@ impl Nodes {
         self.resources.get(k as usize)
     }
 
+    // All of them, for what the plain tree finds by a walk.
+    pub(crate) fn entries(&self) -> &[Resource]
+        ensures { result.now ≡ self.now }
+    {
+        &self.resources
+    }
+
     /// The resource of a number, found by halving: one step.
     pub fn at<L: Ledger>(&self, number: u64, steps: &mut Steps<L>) -> Option<&Resource>
         ensures value { option_map (λ r. r.now) result ≡ at number self.now }
@@ -100,65 +104,6 @@ impl Nodes {
         ensures { IsTrue (are_quiet result self.now) }
     {
         quiet_in(&self.resources)
-    }
-
-    pub(crate) fn child(&self, parent: u64, name: &[u8]) -> Option<u64>
-        ensures { result ≡ child_of parent name.now self.now }
-    {
-        child_in(&self.resources, parent, name)
-    }
-
-    pub(crate) fn kid(&self, parent: u64, k: u64) -> Option<u64>
-        ensures { result ≡ number_at k (children_of parent self.now) }
-    {
-        kid_in(&self.resources, parent, k)
-    }
-
-    pub(crate) fn sub(&self, parent: u64, k: u64) -> Option<u64>
-        ensures { result ≡ number_at k (subs_of parent self.now) }
-    {
-        kin_in(&self.resources, Ty::Subscription, parent, k)
-    }
-
-    pub(crate) fn instance(&self, container: u64, newest: bool) -> Option<u64>
-        ensures { result ≡ instance_of newest container self.now }
-    {
-        if newest {
-            last_kin_in(&self.resources, Ty::ContentInstance, container)
-        } else {
-            kin_in(&self.resources, Ty::ContentInstance, container, 0)
-        }
-    }
-
-    pub(crate) fn instance_at(&self, container: u64, k: u64) -> Option<u64>
-        ensures { result ≡ number_at k (instances_of container self.now) }
-    {
-        kin_in(&self.resources, Ty::ContentInstance, container, k)
-    }
-
-    pub(crate) fn instance_count(&self, container: u64) -> u64
-        ensures { result ≡ length (instances_of container self.now) }
-    {
-        count_in(&self.resources, container)
-    }
-
-    pub(crate) fn instance_sizes(&self, container: u64) -> u128
-        ensures value { result ≡ sizes_of container self.now }
-        ensures bound { result < 2 ^ 127 }
-    {
-        sizes_in(&self.resources, container)
-    }
-
-    pub(crate) fn ae(&self, aei: &[u8]) -> Option<u64>
-        ensures { result ≡ ae_of aei.now self.now }
-    {
-        ae_in(&self.resources, aei)
-    }
-
-    pub(crate) fn cse(&self, csi: &[u8]) -> Option<u64>
-        ensures { result ≡ cse_of csi.now self.now }
-    {
-        cse_in(&self.resources, csi)
     }
 
     /// Puts a resource last. Its number is greater than every other, its parent is there (or it is

@@ -95,6 +95,7 @@ fn object_of(alloc: Global, attrs: Attrs) -> Result<Val, OutOfMemory>
     Ok(Val::of_obj(Members::of(named(alloc, attrs)?)))
 }
 
+// Each key is a text that owns its bytes, so that each takes memory of its own.
 fn named(alloc: Global, attrs: Attrs) -> Result<Vec<(Text, Val)>, OutOfMemory>
     ensures value { IfOk result (λ v. v.items ≡ members_of attrs) }
     ensures order { IfOk result (λ v. AreSorted v.items) }
@@ -208,8 +209,10 @@ fn cse_id(alloc: Global, home: &Home) -> Result<Text, OutOfMemory>
     ensures value { IfOk result (λ t. t ≡ codes "/" ++ home.now.csi) }
     ensures utf8 { IfOk result (λ t. IsUtf8 t) }
 {
-    let mut bytes = Vec::from_slice(alloc, b"/")?;
-    bytes.extend_from_slice(home.csi().entries())?;
+    let csi = home.csi().entries();
+    let mut bytes = Vec::with_capacity(alloc, csi.len().saturating_add(1))?;
+    bytes.push(b'/')?;
+    bytes.extend_from_slice(csi)?;
     Ok(Text::of(bytes))
 }
 

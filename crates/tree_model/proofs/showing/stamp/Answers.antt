@@ -1,8 +1,8 @@
 use Rattle.std.proofs.Common.{◌≡◌, true, ap, ◌∙◌}
 use Rattle.std.proofs.lemmas.Bool.{OnTrue_at}
+use Rattle.m2m_names.proofs.StampTextLemmas.{stamp_utf8}
 use Rattle.m2m_value.specs.Data.{text}
 use Rattle.tree_model.specs.Shown.{shown_moment}
-use Rattle.tree_model.proofs.TextLemmas.{stamp_utf8}
 use Rattle.tree_model.proofs.showing.stamp.Goals as goal
 
 pub of_text-requires : goal.of_text-requires
