@@ -13,9 +13,9 @@ use Rattle.addressing.specs.declared.addr.Addr.{Addr}
 use Rattle.addressing.specs.declared.addr.Addr.TheVariants.{Local, Foreign, OtherProvider}
 use Rattle.addressing.specs.declared.addr.AddrFault.{AddrFault}
 use Rattle.addressing.specs.declared.addr.AddrFault.TheVariants.{TooLong, Shape}
-use Rattle.addressing.specs.Addresses.{KeepsText, address_of, are_names, by_cse, by_names, by_provider, cut_at, is_slash, joined, longest, of_provider, parts_of, printed, shaped, under, unless_shapeless}
+use Rattle.addressing.specs.Addresses.{KeepsText, address_of, are_names, by_cse, by_names, by_provider, cut_at, is_slash, joined, longest, of_provider, between_slashes, printed, shaped, under, unless_shapeless}
 use Rattle.policy_eval.proofs.FormLemmas.{starts_rest}
-use Rattle.addressing.proofs.PartLemmas.{joined-parts_of, no_slash, parts_of-joined, parts_by_cut}
+use Rattle.addressing.proofs.PartLemmas.{joined-between_slashes, no_slash, between_slashes-joined, parts_by_cut}
 
 -- ---- a name is no empty text, and doesn't begin with a slash
 
@@ -54,7 +54,7 @@ shown home text a short is =
 -- segments with slashes between them are read as these segments
 pub joined_back : (home : HomeData) (name : List ℕ) (names : List (List ℕ)) → are_names (name ∷ names) ≡ true → length (joined (name ∷ names)) ≤ longest → address_of home (joined (name ∷ names)) ≡ Ok (Local (name ∷ names))
 joined_back home name names are short =
-    let parts : parts_of (joined (name ∷ names)) ≡ name ∷ names = parts_of-joined name names are in
+    let parts : between_slashes (joined (name ∷ names)) ≡ name ∷ names = between_slashes-joined name names are in
     shown home (joined (name ∷ names)) (Local (name ∷ names)) short
     (shaped-plain home (joined (name ∷ names)) (joined_begins name names (and_parts (is_name name) (are_names names) are).0)
     ∙ ap (λ ps. cond (are_names ps) (Some (Local ps)) None) parts ∙ ap (λ b. cond b (Some (Local (name ∷ names))) None) are)
@@ -64,7 +64,7 @@ alone_back : (home : HomeData) → is_name home.csi ≡ true → address_of home
 alone_back home name =
     let filled = (and_parts (is_filled 64 home.csi) _ name).0 in
     let size : length home.csi ≤ 64 = leb-true (length home.csi) 64 (and_parts (ltb 0 (length home.csi)) _ filled).1 in
-    let parts : parts_of home.csi ≡ home.csi ∷ [] = parts_of-joined home.csi [] (and_from _ _ name refl) in
+    let parts : between_slashes home.csi ≡ home.csi ∷ [] = between_slashes-joined home.csi [] (and_from _ _ name refl) in
     shown home (47 ∷ home.csi) (Local []) (omega (arith, size))
     (shaped-slash home home.csi (name_begins home.csi name)
     ∙ ap (under home home.csi) parts
@@ -88,7 +88,7 @@ length-joined : (name : List ℕ) (names : List (List ℕ)) → length (joined n
 length-joined name [] = omega arith
 length-joined name (next ∷ names) = omega (arith, length-append name (47 ∷ joined (next ∷ names)))
 
-under_made : (home : HomeData) (rest : List ℕ) (parts : List (List ℕ)) (a : Addr) → parts_of rest ≡ parts → under home rest parts ≡ Some a → Made home (1 + length rest) a
+under_made : (home : HomeData) (rest : List ℕ) (parts : List (List ℕ)) (a : Addr) → between_slashes rest ≡ parts → under home rest parts ≡ Some a → Made home (1 + length rest) a
 under_made home rest [] a are is = let none : None ≡ Some a = is in cc
 under_made home rest (csi ∷ segments) a are is = elim (cases_Bool (are_names (csi ∷ segments))) [
   | inr f ↦ (let none : None ≡ Some a = rw f at is in cc)
@@ -100,20 +100,20 @@ under_made home rest (csi ∷ segments) a are is = elim (cases_Bool (are_names (
     by_own : (b : Bool) → bytes_eq csi home.csi ≡ b → are_names (csi ∷ segments) ≡ true → Made home (1 + length rest) (cond b (Local segments) (Foreign (47 ∷ rest)))
     by_own true own names = (
       (and_parts (is_name csi) (are_names segments) names).1,
-      omega (arith, length-joined csi segments, ap length (ap joined (sym are) ∙ joined-parts_of rest)),
+      omega (arith, length-joined csi segments, ap length (ap joined (sym are) ∙ joined-between_slashes rest)),
     )
     by_own false own names =
         (rest, refl, ap (under home rest) are ∙ rw (names, own) refl, omega arith)
 
 by_cse_made : (home : HomeData) (rest : List ℕ) (a : Addr) → by_cse home rest ≡ Some a → Made home (1 + length rest) a
-by_cse_made home rest a is = under_made home rest (parts_of rest) a refl is
+by_cse_made home rest a is = under_made home rest (between_slashes rest) a refl is
 
 of_provider_made : (home : HomeData) (sp behind : List ℕ) (a : Addr) → of_provider home sp behind ≡ Some a → Made home (1 + length behind) a
 of_provider_made home sp behind a is = elim (cases_Bool (is_name sp)) [
   | inr f ↦ (let none : None ≡ Some a = rw f at is in cc)
   | inl t ↦ elim (cases_Bool (bytes_eq sp home.sp)) [
     | inl own ↦ by_cse_made home behind a (rw (t, own) at is)
-    | inr other ↦ elim (cases_Bool (are_names (parts_of behind))) [
+    | inr other ↦ elim (cases_Bool (are_names (between_slashes behind))) [
       | inr f ↦ (let none : None ≡ Some a = rw (t, other, f) at is in cc)
       | inl names ↦
           let chosen : Some OtherProvider ≡ Some a = rw (t, other, names) at is in
@@ -140,12 +140,12 @@ by_provider_made home rest a is = by_cut (cut_at rest) refl is
         ]
 
 by_names_made : (home : HomeData) (text : List ℕ) (a : Addr) → by_names text ≡ Some a → Made home (length text) a
-by_names_made home text a is = elim (cases_Bool (are_names (parts_of text))) [
+by_names_made home text a is = elim (cases_Bool (are_names (between_slashes text))) [
   | inr f ↦ (let none : None ≡ Some a = rw f at is in cc)
   | inl t ↦
-      let chosen : Some (Local (parts_of text)) ≡ Some a = rw t at is in
-      subst (Made home (length text)) (same_Some (Local (parts_of text)) a chosen)
-      (t, omega (arith, ap length (joined-parts_of text)))
+      let chosen : Some (Local (between_slashes text)) ≡ Some a = rw t at is in
+      subst (Made home (length text)) (same_Some (Local (between_slashes text)) a chosen)
+      (t, omega (arith, ap length (joined-between_slashes text)))
 ]
 
 led : (text lead : List ℕ) → starts_with nat_eq text lead ≡ true → length lead + length (drop (length lead) text) ≡ length text
@@ -187,7 +187,7 @@ by_cse_begins home [] a is = let none : None ≡ Some a = is in cc
 by_cse_begins home (b ∷ rest) a is = elim (cases_Bool (is_slash b)) [
   | inr f ↦ f
   | inl t ↦
-      let parts : parts_of (b ∷ rest) ≡ [] ∷ parts_of rest = rw t refl in
+      let parts : between_slashes (b ∷ rest) ≡ [] ∷ between_slashes rest = rw t refl in
       let none : None ≡ Some a = sym (ap (under home (b ∷ rest)) parts) ∙ is in cc
 ]
 

@@ -8,14 +8,14 @@ use Rattle.std.proofs.lemmas.List.Elements.{All-weaker}
 use Rattle.std.proofs.lemmas.List.Splits.{join_with_byte-slice_split, slice_split-cons_no, slice_split_at, slice_split_first, slice_split_none}
 use Rattle.std.proofs.lemmas.List.Sums.{AllPass-from_list_all}
 use Rattle.m2m_names.specs.Name.{is_name, is_unreserved, is_filled}
-use Rattle.addressing.specs.Addresses.{are_names, cut_at, is_slash, joined, parts_left, parts_of, slash_at}
+use Rattle.addressing.specs.Addresses.{are_names, cut_at, is_slash, joined, parts_left, between_slashes, slash_at}
 
 -- ---- taken apart
 
 -- the parts of a text, by what stands before its first slash and behind it
 abbrev pub parts_by : Option (List ℕ × List ℕ) → List ℕ → List (List ℕ)
 parts_by None text = text ∷ []
-parts_by (Some cut) text = cut.0 ∷ parts_of cut.1
+parts_by (Some cut) text = cut.0 ∷ between_slashes cut.1
 
 unsplit : (text : List ℕ) → length text ≤ position_or_len is_slash text → slice_split is_slash text ≡ text ∷ []
 unsplit [] most = refl
@@ -26,15 +26,15 @@ unsplit (x ∷ text) most = elim (cases_Bool (is_slash x)) [
       slice_split-cons_no is_slash x text f ∙ ap (onto_first x) (unsplit text (omega (arith, later)))
 ]
 
-pub parts_by_cut : (text : List ℕ) → parts_of text ≡ parts_by (cut_at text) text
+pub parts_by_cut : (text : List ℕ) → between_slashes text ≡ parts_by (cut_at text) text
 parts_by_cut text = elim (cases_Bool (nat_lt (position_or_len is_slash text) (length text))) [
   | inl t ↦ rw t (slice_split_first is_slash text 0 (ltb-true (position_or_len is_slash text) (length text) t))
   | inr f ↦ rw f (unsplit text (ltb-false (position_or_len is_slash text) (length text) f))
 ]
 
 -- parts with their slashes are the text again
-pub joined-parts_of : (text : List ℕ) → joined (parts_of text) ≡ text
-joined-parts_of text = join_with_byte-slice_split 47 text
+pub joined-between_slashes : (text : List ℕ) → joined (between_slashes text) ≡ text
+joined-between_slashes text = join_with_byte-slice_split 47 text
 
 -- ---- put together
 
@@ -62,13 +62,9 @@ dropped_all (x ∷ xs) zero le = absurd (omega (arith, le))
 dropped_all (x ∷ xs) (suc n) le = dropped_all xs n (omega (arith, le))
 
 -- where no part is left, all are written
-pub written : (text : List ℕ) (place : ℕ) (parts : List (List ℕ)) → length parts ≤ place → text ++ parts_from (drop place parts) place ≡ parts_from parts 0 → text ≡ joined parts
+pub written : (text : List ℕ) (place : ℕ) (parts : List (Bor (List ℕ))) → length parts ≤ place → text ++ parts_from (map (λ t. t.now) (drop place parts)) place ≡ parts_from (map (λ t. t.now) parts) 0 → text ≡ joined (map (λ t. t.now) parts)
 written text place parts past all =
-    sym (append-nil text) ∙ ap (λ ps. text ++ parts_from ps place) (sym (dropped_all parts place past)) ∙ all ∙ joined_by_places parts
-
-pub names_written : (text : List ℕ) (place : ℕ) (names : List (Bor (List ℕ))) → length names ≤ place → text ++ parts_from (map (λ t. t.now) (drop place names)) place ≡ parts_from (map (λ t. t.now) names) 0 → text ≡ joined (map (λ t. t.now) names)
-names_written text place names past all =
-    sym (append-nil text) ∙ ap (λ ns. text ++ parts_from (map (λ (t : Bor (List ℕ)). t.now) ns) place) (sym (dropped_all names place past)) ∙ all ∙ joined_by_places (map (λ (t : Bor (List ℕ)). t.now) names)
+    sym (append-nil text) ∙ ap (λ ps. text ++ parts_from (map (λ (t : Bor (List ℕ)). t.now) ps) place) (sym (dropped_all parts place past)) ∙ all ∙ joined_by_places (map (λ (t : Bor (List ℕ)). t.now) parts)
 
 -- ---- names have no slash
 
@@ -81,9 +77,9 @@ name_has_no_slash name is =
     (AllPass-from_list_all is_unreserved name (and_parts (is_filled 64 name) (list_all is_unreserved name) is).1)
 
 -- names with slashes between them are read as themselves
-pub parts_of-joined : (name : List ℕ) (names : List (List ℕ)) → are_names (name ∷ names) ≡ true → parts_of (joined (name ∷ names)) ≡ name ∷ names
-parts_of-joined name [] is = slice_split_none is_slash name (name_has_no_slash name (and_parts (is_name name) _ is).0)
-parts_of-joined name (next ∷ names) is =
+pub between_slashes-joined : (name : List ℕ) (names : List (List ℕ)) → are_names (name ∷ names) ≡ true → between_slashes (joined (name ∷ names)) ≡ name ∷ names
+between_slashes-joined name [] is = slice_split_none is_slash name (name_has_no_slash name (and_parts (is_name name) _ is).0)
+between_slashes-joined name (next ∷ names) is =
     let parts = and_parts (is_name name) (are_names (next ∷ names)) is in
     slice_split_at is_slash name 47 (joined (next ∷ names)) (name_has_no_slash name parts.0) refl
-    ∙ ap (λ rest. name ∷ rest) (parts_of-joined next names parts.1)
+    ∙ ap (λ rest. name ∷ rest) (between_slashes-joined next names parts.1)

@@ -2,44 +2,51 @@
 use Rattle.std.proofs.Common.{◌≡◌, ℕ, Bool, true, false, ◌&&◌, List, [], ◌∷◌, ◌++◌, Option, Some, None, Result, Ok, Err, inl, inr, refl, sym, ap, subst, ◌∙◌, append_assoc, append-nil}
 use Rattle.std.specs.List.{list_all}
 use Rattle.std.specs.Option.{option_and_then}
-use Rattle.std.proofs.lemmas.Bool.{and_from, false_from_ne_true, and_parts, both_ways}
+use Rattle.std.proofs.lemmas.Bool.{and_from, cases_Bool, false_from_ne_true, and_parts, both_ways}
 use Rattle.std.proofs.lemmas.List.Folds.{list_all-append}
 use Rattle.m2m_names.specs.Name.{is_name}
 use Rattle.resource_model.specs.Home.{HomeData}
 use Rattle.addressing.specs.declared.addr.Addr.{Addr}
 use Rattle.addressing.specs.declared.addr.AddrFault.{AddrFault}
 use Rattle.addressing.specs.declared.addr.AddrFault.TheVariants.{Shape}
-use Rattle.addressing.specs.Addresses.{Gives, are_names, by_cse, by_provider, cut_at, of_provider, parts_left, parts_of, under, unless_shapeless}
+use Rattle.addressing.specs.Addresses.{GivesAddress, MayTakeMemory, are_names, by_cse, by_names, by_provider, cut_at, of_provider, parts_left, between_slashes, under, unless_shapeless}
 use Rattle.addressing.proofs.PartLemmas.{parts_by, parts_by_cut}
 
 -- ---- the first part
 
-pub parts_cut : (text : List ℕ) (cut : List ℕ × List ℕ) → Some cut ≡ cut_at text → parts_of text ≡ cut.0 ∷ parts_of cut.1
+pub parts_cut : (text : List ℕ) (cut : List ℕ × List ℕ) → Some cut ≡ cut_at text → between_slashes text ≡ cut.0 ∷ between_slashes cut.1
 parts_cut text cut is = parts_by_cut text ∙ ap (λ o. parts_by o text) (sym is)
 
-pub parts_alone : (text : List ℕ) → None ≡ cut_at text → parts_of text ≡ text ∷ []
+pub parts_alone : (text : List ℕ) → None ≡ cut_at text → between_slashes text ≡ text ∷ []
 parts_alone text is = parts_by_cut text ∙ ap (λ o. parts_by o text) (sym is)
 
 -- ---- behind slashes
 
-pub by_cse_cut : (home : HomeData) (rest front behind : List ℕ) (r : Result Addr AddrFault) → Some (front, behind) ≡ cut_at rest → Gives r (unless_shapeless (under home rest (front ∷ parts_of behind))) → Gives r (unless_shapeless (by_cse home rest))
+pub by_cse_cut : (home : HomeData) (rest front behind : List ℕ) (r : Result Addr AddrFault) → Some (front, behind) ≡ cut_at rest → GivesAddress r (unless_shapeless (under home rest (front ∷ between_slashes behind))) → GivesAddress r (unless_shapeless (by_cse home rest))
 by_cse_cut home rest front behind r is gives =
     let cut : List ℕ × List ℕ = (front, behind) in
-    subst (λ parts. Gives r (unless_shapeless (under home rest parts))) (sym (parts_cut rest cut is)) gives
+    subst (λ parts. GivesAddress r (unless_shapeless (under home rest parts))) (sym (parts_cut rest cut is)) gives
 
-pub by_cse_alone : (home : HomeData) (rest : List ℕ) (r : Result Addr AddrFault) → None ≡ cut_at rest → Gives r (unless_shapeless (under home rest (rest ∷ []))) → Gives r (unless_shapeless (by_cse home rest))
+pub by_cse_alone : (home : HomeData) (rest : List ℕ) (r : Result Addr AddrFault) → None ≡ cut_at rest → GivesAddress r (unless_shapeless (under home rest (rest ∷ []))) → GivesAddress r (unless_shapeless (by_cse home rest))
 by_cse_alone home rest r is gives =
-    subst (λ parts. Gives r (unless_shapeless (under home rest parts))) (sym (parts_alone rest is)) gives
+    subst (λ parts. GivesAddress r (unless_shapeless (under home rest parts))) (sym (parts_alone rest is)) gives
 
-pub by_provider_cut : (home : HomeData) (rest sp behind : List ℕ) (r : Result Addr AddrFault) → Some (sp, behind) ≡ cut_at rest → Gives r (unless_shapeless (of_provider home sp behind)) → Gives r (unless_shapeless (by_provider home rest))
+pub by_provider_cut : (home : HomeData) (rest sp behind : List ℕ) (r : Result Addr AddrFault) → Some (sp, behind) ≡ cut_at rest → GivesAddress r (unless_shapeless (of_provider home sp behind)) → GivesAddress r (unless_shapeless (by_provider home rest))
 by_provider_cut home rest sp behind r is gives =
-    subst (λ (o : Option (List ℕ × List ℕ)). Gives r (unless_shapeless (option_and_then (λ (cut : List ℕ × List ℕ). of_provider home cut.0 cut.1) o))) is gives
+    subst (λ (o : Option (List ℕ × List ℕ)). GivesAddress r (unless_shapeless (option_and_then (λ (cut : List ℕ × List ℕ). of_provider home cut.0 cut.1) o))) is gives
 
 pub by_provider_alone : (home : HomeData) (rest : List ℕ) → None ≡ cut_at rest → unless_shapeless (by_provider home rest) ≡ Err Shape
 by_provider_alone home rest is =
     ap (λ (o : Option (List ℕ × List ℕ)). unless_shapeless (option_and_then (λ (cut : List ℕ × List ℕ). of_provider home cut.0 cut.1) o)) (sym is)
 
 -- ---- names, one after another
+
+-- whether they are names or not
+pub names_may_take : (text : List ℕ) → MayTakeMemory (unless_shapeless (by_names text))
+names_may_take text = elim (cases_Bool (are_names (between_slashes text))) [
+  | inl t ↦ rw t tt
+  | inr f ↦ rw f tt
+]
 
 pub names_push : (names : List (List ℕ)) (name : List ℕ) → are_names names ≡ true → is_name name ≡ true → are_names (names ++ name ∷ []) ≡ true
 names_push names name are is = list_all-append is_name names (name ∷ []) ∙ and_from _ _ are (and_from _ _ is refl)

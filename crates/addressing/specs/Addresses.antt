@@ -18,8 +18,8 @@ abbrev pub is_slash : ℕ → Bool
 is_slash byte = byte == 47
 
 -- what stands between the slashes of a text
-abbrev pub parts_of : List ℕ → List (List ℕ)
-parts_of text = slice_split is_slash text
+abbrev pub between_slashes : List ℕ → List (List ℕ)
+between_slashes text = slice_split is_slash text
 
 -- what stands before the first slash of a text, and behind it
 abbrev pub cut_at : List ℕ → Option (List ℕ × List ℕ)
@@ -30,7 +30,7 @@ cut_at text =
 -- those of a text that is left, where one is
 abbrev pub parts_left : Option (List ℕ) → List (List ℕ)
 parts_left None = []
-parts_left (Some text) = parts_of text
+parts_left (Some text) = between_slashes text
 
 -- parts with a slash between them
 abbrev pub joined : List (List ℕ) → List ℕ
@@ -61,7 +61,7 @@ under home rest (csi ∷ segments) =
 -- what follows the slash of an SP-relative address: a CSE-ID without its slash, then nothing, or a
 -- slash and a CSE-relative address
 abbrev pub by_cse : HomeData → List ℕ → Option Addr
-by_cse home rest = under home rest (parts_of rest)
+by_cse home rest = under home rest (between_slashes rest)
 
 -- what follows the two slashes of an absolute address: a provider, which is a name, and an
 -- SP-relative address; where the provider is another nothing is kept
@@ -69,7 +69,7 @@ abbrev pub of_provider : HomeData → List ℕ → List ℕ → Option Addr
 of_provider home sp behind =
     if not (is_name sp) then None else
     if bytes_eq sp home.sp then by_cse home behind else
-    if are_names (parts_of behind) then Some OtherProvider else None
+    if are_names (between_slashes behind) then Some OtherProvider else None
 
 abbrev pub by_provider : HomeData → List ℕ → Option Addr
 by_provider home rest =
@@ -77,7 +77,8 @@ by_provider home rest =
 
 -- a CSE-relative address: names with a slash between them
 abbrev pub by_names : List ℕ → Option Addr
-by_names text = if are_names (parts_of text) then Some (Local (parts_of text)) else None
+by_names text =
+    if are_names (between_slashes text) then Some (Local (between_slashes text)) else None
 
 -- the address of a text of any length
 abbrev pub shaped : HomeData → List ℕ → Option Addr
@@ -94,10 +95,20 @@ abbrev pub address_of : HomeData → List ℕ → Result Addr AddrFault
 address_of home text =
     if nat_lt longest (length text) then Err TooLong else unless_shapeless (shaped home text)
 
--- the result is the one that is told, unless memory ran out
-abbrev pub Gives : Result Addr AddrFault → Result Addr AddrFault → Type 0
-Gives (Ok addr) told = told ≡ Ok addr
-Gives (Err fault) told = (fault ≡ OutOfMemory) ⊎ (told ≡ Err fault)
+-- memory may be taken before this is told: for what is kept, and for names before one that is none
+abbrev pub MayTakeMemory : Result Addr AddrFault → Type 0
+MayTakeMemory (Ok (Local segments)) = Unit {0}
+MayTakeMemory (Ok (Foreign text)) = Unit {0}
+MayTakeMemory (Ok OtherProvider) = ⊥
+MayTakeMemory (Err TooLong) = ⊥
+MayTakeMemory (Err Shape) = Unit {0}
+MayTakeMemory (Err OutOfMemory) = ⊥
+
+-- the result is the one that is told, unless memory ran out where some may be taken
+abbrev pub GivesAddress : Result Addr AddrFault → Result Addr AddrFault → Type 0
+GivesAddress (Ok addr) told = told ≡ Ok addr
+GivesAddress (Err fault) told =
+    ((fault ≡ OutOfMemory) × MayTakeMemory told) ⊎ (told ≡ Err fault)
 
 -- ---- the text of an address
 

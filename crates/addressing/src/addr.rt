@@ -1,5 +1,5 @@
 //! Addresses, and how they print.
-ghost use Rattle.std.specs.Prelude.{◌≡◌, ◌∷◌, ◌++◌, IfOk, OnOk};
+ghost use Rattle.std.specs.Prelude.{◌≡◌, ◌∷◌, ◌++◌, IfOk, OnOk, map};
 ghost use Rattle.addressing.specs.declared.addr.Addr.TheVariants.{Local};
 ghost use Rattle.addressing.specs.Addresses.{KeepsText, joined, printed, slash_at};
 
@@ -69,7 +69,7 @@ fn of_segments(alloc: Global, segments: &[Text], home: &Home) -> Result<Text, Al
     if segments.is_empty() {
         slashed(alloc, home.csi().entries())
     } else {
-        with_slashes(alloc, segments)
+        with_slashes(alloc, &references(alloc, segments)?)
     }
 }
 
@@ -83,19 +83,25 @@ pub(crate) fn slashed(alloc: Global, bytes: &[u8]) -> Result<Text, AllocError>
     Ok(Text::of(text))
 }
 
+fn references(alloc: Global, texts: &[Text]) -> Result<Vec<&Text>, AllocError>
+    ensures { IfOk result (λ all. map (λ t. t.now) all.items ≡ texts.now) }
+{
+    texts.iter().collect(alloc)
+}
+
 /// Texts with a slash between them.
-fn with_slashes(alloc: Global, segments: &[Text]) -> Result<Text, AllocError>
-    ensures { IfOk result (λ text. text ≡ joined segments.now) }
+pub(crate) fn with_slashes(alloc: Global, parts: &[&Text]) -> Result<Text, AllocError>
+    ensures { IfOk result (λ text. text ≡ joined (map (λ t. t.now) parts.now)) }
 {
     let mut text = Vec::new(alloc);
-    for (place, segment) in segments.iter().enumerate() {
-        add_part(&mut text, place, segment.entries())?;
+    for (place, part) in parts.iter().enumerate() {
+        add_part(&mut text, place, part.entries())?;
     }
     Ok(Text::of(text))
 }
 
 /// Appends the part at a place, behind a slash where it isn't the first.
-pub(crate) fn add_part(text: &mut Vec<u8>, place: usize, part: &[u8]) -> Result<(), AllocError>
+fn add_part(text: &mut Vec<u8>, place: usize, part: &[u8]) -> Result<(), AllocError>
     ensures { OnOk result (text.new.items ≡ text.old.items ++ (slash_at place ++ part.now)) }
 {
     if place > 0 {

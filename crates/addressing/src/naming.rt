@@ -1,10 +1,9 @@
 //! Structured addresses.
 ghost use Rattle.std.specs.Prelude.{◌≡◌, IfOk, IsTrue, map};
 ghost use Rattle.tree_model.specs.Tree.{has, line_of};
-ghost use Rattle.addressing.specs.Addresses.{joined};
 ghost use Rattle.addressing.specs.Names.{structured_of};
 
-use crate::addr::add_part;
+use crate::addr::with_slashes;
 use m2m_value::Text;
 use std::alloc::{AllocError, Global};
 use tree_model::Tree;
@@ -37,15 +36,4 @@ fn names_up<T: Tree>(alloc: Global, tree: &T, number: u64) -> Result<Vec<&Text>,
         at = resource.parent();
     }
     Ok(names)
-}
-
-/// Names with a slash between them.
-fn with_slashes(alloc: Global, names: &[&Text]) -> Result<Text, AllocError>
-    ensures { IfOk result (λ text. text ≡ joined (map (λ t. t.now) names.now)) }
-{
-    let mut text = Vec::new(alloc);
-    for (place, name) in names.iter().enumerate() {
-        add_part(&mut text, place, name.entries())?;
-    }
-    Ok(Text::of(text))
 }

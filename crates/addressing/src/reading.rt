@@ -4,8 +4,8 @@ ghost use Rattle.std.specs.Prelude.{IsTrue, IfOk, IfErr, IfSome};
 ghost use Rattle.std.specs.List.{position_or_len};
 ghost use Rattle.addressing.specs.declared.addr.AddrFault.TheVariants.{OutOfMemory, Shape};
 ghost use Rattle.addressing.specs.Addresses as spec;
-ghost use Rattle.addressing.specs.Addresses.{Gives, address_of, are_names, parts_left, parts_of};
-ghost use Rattle.addressing.specs.Addresses.{unless_shapeless};
+ghost use Rattle.addressing.specs.Addresses.{GivesAddress, address_of, are_names, parts_left};
+ghost use Rattle.addressing.specs.Addresses.{between_slashes, unless_shapeless};
 
 use crate::addr::{Addr, AddrFault, slashed};
 use m2m_names::is_name;
@@ -17,9 +17,10 @@ use tree_model::Home;
 const LONGEST: usize = 512;
 
 /// Reads a text as an address. It is too long where it has over 512 bytes, and else shapeless where
-/// it has none of the three forms.
+/// it has none of the three forms. To tell that it is too long, or of another provider, takes no
+/// memory.
 pub fn parse(alloc: Global, text: &[u8], home: &Home) -> Result<Addr, AddrFault>
-    ensures { Gives result (address_of home.now text.now) }
+    ensures { GivesAddress result (address_of home.now text.now) }
 {
     if text.len() > LONGEST {
         return Err(AddrFault::TooLong);
@@ -28,7 +29,7 @@ pub fn parse(alloc: Global, text: &[u8], home: &Home) -> Result<Addr, AddrFault>
 }
 
 fn shaped(alloc: Global, text: &[u8], home: &Home) -> Result<Addr, AddrFault>
-    ensures { Gives result (unless_shapeless (spec.shaped home.now text.now)) }
+    ensures { GivesAddress result (unless_shapeless (spec.shaped home.now text.now)) }
 {
     if text.starts_with(b"//") {
         return by_provider(alloc, &text[2..], home);
@@ -69,7 +70,7 @@ fn is_slash(byte: u8) -> bool
 /// A provider, and behind it the slash of an SP-relative address.
 #[tactic(auto, using(crate::proofs::ReadLemmas::by_provider_cut, crate::proofs::ReadLemmas::by_provider_alone))]
 fn by_provider(alloc: Global, rest: &[u8], home: &Home) -> Result<Addr, AddrFault>
-    ensures { Gives result (unless_shapeless (spec.by_provider home.now rest.now)) }
+    ensures { GivesAddress result (unless_shapeless (spec.by_provider home.now rest.now)) }
 {
     match cut(rest) {
         Some((sp, behind)) => of_provider(alloc, sp, behind, home),
@@ -78,7 +79,7 @@ fn by_provider(alloc: Global, rest: &[u8], home: &Home) -> Result<Addr, AddrFaul
 }
 
 fn of_provider(alloc: Global, sp: &[u8], behind: &[u8], home: &Home) -> Result<Addr, AddrFault>
-    ensures { Gives result
+    ensures { GivesAddress result
         (unless_shapeless (spec.of_provider home.now sp.now behind.now)) }
 {
     if !is_name(sp) {
@@ -97,7 +98,7 @@ fn of_provider(alloc: Global, sp: &[u8], behind: &[u8], home: &Home) -> Result<A
 /// A CSE-ID without its slash, and behind it nothing, or a slash and names.
 #[tactic(auto, using(crate::proofs::ReadLemmas::by_cse_cut, crate::proofs::ReadLemmas::by_cse_alone))]
 fn by_cse(alloc: Global, rest: &[u8], home: &Home) -> Result<Addr, AddrFault>
-    ensures { Gives result (unless_shapeless (spec.by_cse home.now rest.now)) }
+    ensures { GivesAddress result (unless_shapeless (spec.by_cse home.now rest.now)) }
 {
     match cut(rest) {
         Some((csi, behind)) => under(alloc, rest, csi, behind, home),
@@ -112,8 +113,8 @@ fn under(
     behind: &[u8],
     home: &Home,
 ) -> Result<Addr, AddrFault>
-    ensures { Gives result
-        (unless_shapeless (spec.under home.now rest.now (csi.now ∷ parts_of behind.now))) }
+    ensures { GivesAddress result
+        (unless_shapeless (spec.under home.now rest.now (csi.now ∷ between_slashes behind.now))) }
 {
     if !is_name(csi) {
         return Err(AddrFault::Shape);
@@ -129,7 +130,7 @@ fn under(
 }
 
 fn alone(alloc: Global, csi: &[u8], home: &Home) -> Result<Addr, AddrFault>
-    ensures { Gives result
+    ensures { GivesAddress result
         (unless_shapeless (spec.under home.now csi.now (csi.now ∷ []))) }
 {
     if !is_name(csi) {
@@ -144,14 +145,15 @@ fn alone(alloc: Global, csi: &[u8], home: &Home) -> Result<Addr, AddrFault>
 
 /// Whether what stands between the slashes is names.
 fn are_names(text: &[u8]) -> bool
-    ensures { result ≡ are_names (parts_of text.now) }
+    ensures { result ≡ are_names (between_slashes text.now) }
 {
     text.split(|byte| *byte == b'/').all(|part| is_name(part))
 }
 
 /// Names with a slash between them.
+#[tactic(auto, using(crate::proofs::ReadLemmas::names_may_take))]
 fn by_names(alloc: Global, text: &[u8]) -> Result<Addr, AddrFault>
-    ensures { Gives result (unless_shapeless (spec.by_names text.now)) }
+    ensures { GivesAddress result (unless_shapeless (spec.by_names text.now)) }
 {
     Ok(Addr::Local(names_in(alloc, text)?))
 }
@@ -159,9 +161,9 @@ fn by_names(alloc: Global, text: &[u8]) -> Result<Addr, AddrFault>
 #[tactic(auto, using(crate::proofs::ReadLemmas::names_push, crate::proofs::ReadLemmas::parts_push, crate::proofs::ReadLemmas::names_fail, crate::proofs::ReadLemmas::all_read))]
 fn names_in(alloc: Global, text: &[u8]) -> Result<Labels, AddrFault>
     ensures ok { IfOk result (λ names.
-        (names ≡ parts_of text.now) × IsTrue (are_names (parts_of text.now))) }
+        (names ≡ between_slashes text.now) × IsTrue (are_names (between_slashes text.now))) }
     ensures err { IfErr result (λ fault. (fault ≡ OutOfMemory)
-        ⊎ ((fault ≡ Shape) × (are_names (parts_of text.now) ≡ false))) }
+        ⊎ ((fault ≡ Shape) × (are_names (between_slashes text.now) ≡ false))) }
 {
     let mut names = Vec::new(alloc);
     let mut left = Some(text);
@@ -179,7 +181,7 @@ fn names_in(alloc: Global, text: &[u8]) -> Result<Labels, AddrFault>
 /// What stands before the first slash, and behind it, where there is one.
 #[tactic(auto, using(crate::proofs::ReadLemmas::parts_cut, crate::proofs::ReadLemmas::parts_alone))]
 fn first_part(text: &[u8]) -> (&[u8], Option<&[u8]>)
-    ensures parts { parts_of text.now
+    ensures parts { between_slashes text.now
         ≡ result.0.now ∷ parts_left (option_map (λ t. t.now) result.1) }
     ensures shorter { IfSome result.1 (λ t. length t.now < length text.now) }
 {

@@ -3,4 +3,4 @@ use Rattle.addressing.proofs.PartLemmas.{written}
 use Rattle.addressing.proofs.addr.with_slashes.Goals as goal
 
 pub returns : goal.returns
-returns c = c.of.ensures ∙ written c.loop-place.text.items c.loop-place.place c.args.segments.now (search rules) c.loop-place.invariant
+returns c = c.of.ensures ∙ written c.loop-place.text.items c.loop-place.place c.args.parts.now (search rules) c.loop-place.invariant

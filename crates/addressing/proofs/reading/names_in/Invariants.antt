@@ -1,12 +1,12 @@
 use Rattle.std.proofs.Common.{◌≡◌, ◌++◌, ◌+◌, ℕ, true, List, length, Option, Some, None}
 use Rattle.std.specs.Option.{option_map, option_map_or}
-use Rattle.addressing.specs.Addresses.{are_names, parts_left, parts_of}
+use Rattle.addressing.specs.Addresses.{are_names, parts_left, between_slashes}
 use Rattle.addressing.proofs.reading.names_in.Given as goal
 
 -- the names so far and the parts of what is left are those of all
 abbrev pub invariant-loop-left : goal.invariant-loop-left
 invariant-loop-left l =
-    (l.names.items ++ parts_left (option_map (λ t. t.now) l.left) ≡ parts_of l.fn.text)
+    (l.names.items ++ parts_left (option_map (λ t. t.now) l.left) ≡ between_slashes l.fn.text)
     × (are_names l.names.items ≡ true)
 
 abbrev pub decreases-loop-left : goal.decreases-loop-left
