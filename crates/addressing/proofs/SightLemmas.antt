@@ -10,7 +10,7 @@ use Rattle.m2m_names.specs.declared.types.Ty.{Ty}
 use Rattle.m2m_names.specs.declared.types.Ty.TheVariants.{ContentInstance, Group, PollingChannel}
 use Rattle.resource_model.specs.Home.{HomeData}
 use Rattle.resource_model.specs.Resource.{ResourceData, ae_id, is_ty}
-use Rattle.tree_model.specs.Tree.{ae_of, at, child_of, children_of, first_of, instance_of, instances_of, is_ae, is_child, is_instance, is_under, last_of, number_at, number_of, same_text}
+use Rattle.tree_model.specs.Tree.{ae_of, at, child_of, children_of, first_number, instance_of, instances_of, is_ae, is_child, is_instance, is_under, last_number, number_at, number_of, same_text}
 use Rattle.tree_model.proofs.TreeLemmas.{at-map}
 use Rattle.policy_eval.specs.Seen.{seen, seen_list}
 use Rattle.policy_eval.proofs.SeenLemmas.{ae_id-seen}
@@ -44,7 +44,7 @@ module _ (g : ResourceData → ResourceData) (number : (r : ResourceData) → (g
   under-kept n r = ap (λ (m : ℕ). m == n) (parent r)
 
   base_of-kept : (nodes : List ResourceData) → base_of (map g nodes) ≡ base_of nodes
-  base_of-kept nodes = ap first_of (filter-kept g (is_under 0) (under-kept 0) nodes) ∙ number_at-kept 0 (children_of 0 nodes)
+  base_of-kept nodes = ap first_number (filter-kept g (is_under 0) (under-kept 0) nodes) ∙ number_at-kept 0 (children_of 0 nodes)
 
   child_of-kept : (n : ℕ) (s : List ℕ) (nodes : List ResourceData) → child_of n s (map g nodes) ≡ child_of n s nodes
   child_of-kept n s nodes =
@@ -61,10 +61,10 @@ module _ (g : ResourceData → ResourceData) (number : (r : ResourceData) → (g
 
   instance_of-kept : (newest : Bool) (n : ℕ) (nodes : List ResourceData) → instance_of newest n (map g nodes) ≡ instance_of newest n nodes
   instance_of-kept true n nodes =
-      ap last_of (instances_of-kept n nodes)
+      ap last_number (instances_of-kept n nodes)
       ∙ ap (λ k. number_at (k - 1) (map g (instances_of n nodes))) (length-map (instances_of n nodes) g)
       ∙ number_at-kept (length (instances_of n nodes) - 1) (instances_of n nodes)
-  instance_of-kept false n nodes = ap first_of (instances_of-kept n nodes) ∙ number_at-kept 0 (instances_of n nodes)
+  instance_of-kept false n nodes = ap first_number (instances_of-kept n nodes) ∙ number_at-kept 0 (instances_of n nodes)
 
   is_at-kept : (t : Ty) (n : ℕ) (nodes : List ResourceData) → is_at t n (map g nodes) ≡ is_at t n nodes
   is_at-kept t n nodes = ap (λ (o : Option ResourceData). option_map_or (λ (r : ResourceData). is_ty r.ty t) o false) (at-map g number n nodes) ∙ of_type (at n nodes)

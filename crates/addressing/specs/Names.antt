@@ -8,7 +8,7 @@ use Rattle.m2m_names.specs.Ids.{id_parts}
 use Rattle.m2m_names.specs.declared.types.Ty.{Ty}
 use Rattle.m2m_names.specs.declared.types.Ty.TheVariants.{Group, PollingChannel}
 use Rattle.resource_model.specs.Resource.{ResourceData, is_ty}
-use Rattle.tree_model.specs.Tree.{ae_of, at, child_of, children_of, first_of, instance_of, line_of}
+use Rattle.tree_model.specs.Tree.{ae_of, at, child_of, children_of, first_number, instance_of, line_of}
 use Rattle.addressing.specs.Addresses.{joined}
 use Rattle.addressing.specs.declared.addr.Addr.{Addr}
 use Rattle.addressing.specs.declared.addr.Addr.TheVariants.{Local, Foreign, OtherProvider}
@@ -23,7 +23,7 @@ is_at ty n nodes = option_map_or (λ (r : ResourceData). is_ty r.ty ty) (at n no
 
 -- the CSEBase, which stands under nothing
 abbrev pub base_of : List ResourceData → Option ℕ
-base_of nodes = first_of (children_of 0 nodes)
+base_of nodes = first_number (children_of 0 nodes)
 
 -- `-` is the CSEBase, and so is its name
 abbrev pub base_named : List ℕ → List ResourceData → Option ℕ
