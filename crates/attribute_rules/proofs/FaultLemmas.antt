@@ -8,7 +8,7 @@ use Rattle.m2m_names.specs.declared.attributes.Attr.{Attr}
 use Rattle.m2m_names.specs.declared.attributes.Attr.TheVariants.{Acpi}
 use Rattle.m2m_names.specs.declared.types.Ty.{Ty}
 use Rattle.m2m_value.specs.Data.{Data, Entry}
-use Rattle.attribute_rules.specs.Admission.{attributes_in, is_named, column_of, does_fit, rule_at, is_fit, is_alone, is_complete, are_admitted, is_admitted, value_fault, key_fault, is_unknown, is_not_allowed, is_wrong_kind, first_of, with_fault, missing, rest_fault, fault_in, fault_of}
+use Rattle.attribute_rules.specs.Admission.{attributes_in, is_named, column_of, allows_value, rule_at, is_fit, is_alone, is_complete, are_admitted, is_admitted, value_fault, key_fault, is_unknown, is_not_allowed, is_wrong_kind, leading_fault, with_fault, missing_attr, rest_fault, fault_in, fault_of}
 use Rattle.attribute_rules.specs.Table.{is_permitted, mandatory_attrs}
 use Rattle.attribute_rules.specs.declared.admission.Firsts.{Firsts}
 use Rattle.attribute_rules.specs.declared.table.Rule.{Rule}
@@ -33,7 +33,7 @@ is_of_key (Some OutOfMemory) = false
 
 value_of_key : (writing : Writing) (attr : Attr) (rule : Rule) (d : Data) → is_of_key (value_fault writing attr rule d) ≡ true
 value_of_key writing attr rule d = elim (cases_Bool (is_permitted (column_of writing rule))) [
-  | inl t ↦ elim (cases_Bool (does_fit writing rule d)) [
+  | inl t ↦ elim (cases_Bool (allows_value writing rule d)) [
     | inl s ↦ rw (t, s) refl
     | inr g ↦ rw (t, g) refl
   ]
@@ -150,10 +150,10 @@ none_from : {X : Type 0} (o : Option X) → is_none o ≡ true → o ≡ None
 none_from None t = refl
 none_from (Some x) t = cc
 
-fit_at : (writing : Writing) (e : Entry) (o : Option (Attr × Rule)) → option_map_or (λ (p : Attr × Rule). is_permitted (column_of writing p.1) && does_fit writing p.1 e.1) o false ≡ is_none (option_map_or (λ (p : Attr × Rule). value_fault writing p.0 p.1 e.1) o (Some (Unknown e.0)))
+fit_at : (writing : Writing) (e : Entry) (o : Option (Attr × Rule)) → option_map_or (λ (p : Attr × Rule). is_permitted (column_of writing p.1) && allows_value writing p.1 e.1) o false ≡ is_none (option_map_or (λ (p : Attr × Rule). value_fault writing p.0 p.1 e.1) o (Some (Unknown e.0)))
 fit_at writing e None = refl
 fit_at writing e (Some p) = elim (cases_Bool (is_permitted (column_of writing p.1))) [
-  | inl t ↦ elim (cases_Bool (does_fit writing p.1 e.1)) [
+  | inl t ↦ elim (cases_Bool (allows_value writing p.1 e.1)) [
     | inl s ↦ rw (t, s) refl
     | inr g ↦ rw (t, g) refl
   ]
@@ -176,7 +176,7 @@ or_some_or : {X : Type 0} (o p : Option X) (x : X) → is_none (option_or o (opt
 or_some_or None p x = some_or p x
 or_some_or (Some y) p x = refl
 
-first_some : (f : AttrFault) (fs : List AttrFault) → is_of_key (Some f) ≡ true → is_none (first_of (f ∷ fs)) ≡ false
+first_some : (f : AttrFault) (fs : List AttrFault) → is_of_key (Some f) ≡ true → is_none (leading_fault (f ∷ fs)) ≡ false
 first_some Shape fs key = let no : false ≡ true = key in cc
 first_some (Unknown k) fs key = refl
 first_some (NotAllowed a) fs key = some_or_or (find is_unknown fs) (NotAllowed a) (find is_wrong_kind fs)
@@ -185,19 +185,19 @@ first_some (Missing a) fs key = let no : false ≡ true = key in cc
 first_some AcpiNotAlone fs key = let no : false ≡ true = key in cc
 first_some OutOfMemory fs key = let no : false ≡ true = key in cc
 
-keys_none : (writing : Writing) (ty : Ty) (es : List Entry) → list_all (is_fit writing ty) es ≡ is_none (first_of (filter_map (key_fault writing ty) es))
+keys_none : (writing : Writing) (ty : Ty) (es : List Entry) → list_all (is_fit writing ty) es ≡ is_none (leading_fault (filter_map (key_fault writing ty) es))
 keys_none writing ty [] = refl
 keys_none writing ty (e ∷ es) = elim (seen (key_fault writing ty e)) [
   | inl none ↦
       let fits : is_fit writing ty e ≡ true = fit_none writing ty e ∙ ap is_none none in
       ap (λ b. b && list_all (is_fit writing ty) es) fits ∙ keys_none writing ty es
-      ∙ ap (λ o. is_none (first_of (cons_option o (filter_map (key_fault writing ty) es)))) (sym none)
+      ∙ ap (λ o. is_none (leading_fault (cons_option o (filter_map (key_fault writing ty) es)))) (sym none)
   | inr found ↦
       let unfit : is_fit writing ty e ≡ false = fit_none writing ty e ∙ ap is_none found.1 in
       let key : is_of_key (Some found.0) ≡ true = ap is_of_key (sym found.1) ∙ of_key writing ty e in
       ap (λ b. b && list_all (is_fit writing ty) es) unfit
       ∙ sym (first_some found.0 (filter_map (key_fault writing ty) es) key)
-      ∙ ap (λ o. is_none (first_of (cons_option o (filter_map (key_fault writing ty) es)))) (sym found.1)
+      ∙ ap (λ o. is_none (leading_fault (cons_option o (filter_map (key_fault writing ty) es)))) (sym found.1)
 ]
 
 named_none : (es : List Entry) (attrs : List Attr) → list_all (λ attr. is_named attr es) attrs ≡ is_none (option_map Missing (find (λ attr. not (is_named attr es)) attrs))
@@ -225,8 +225,8 @@ both_none (Some x) p = refl
 pub members_faultless : (writing : Writing) (ty : Ty) (es : List Entry) → are_admitted writing ty es ≡ is_none (fault_in writing ty es)
 members_faultless writing ty es =
     ap (λ b. b && is_complete writing ty es) (keys_none writing ty es)
-    ∙ ap (λ b. is_none (first_of (filter_map (key_fault writing ty) es)) && b) (rest_none writing ty es)
-    ∙ both_none (first_of (filter_map (key_fault writing ty) es)) (rest_fault writing ty es)
+    ∙ ap (λ b. is_none (leading_fault (filter_map (key_fault writing ty) es)) && b) (rest_none writing ty es)
+    ∙ both_none (leading_fault (filter_map (key_fault writing ty) es)) (rest_fault writing ty es)
 
 faultless_at : (writing : Writing) (ty : Ty) (o : Option (List Entry)) → option_map_or (are_admitted writing ty) o false ≡ is_none (option_map_or (fault_in writing ty) o (Some Shape))
 faultless_at writing ty None = refl

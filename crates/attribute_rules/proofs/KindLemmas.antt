@@ -15,7 +15,7 @@ use Rattle.resource_model.specs.Attributes.{Row, attr_cmp, is_attr, rows_before,
 use Rattle.resource_model.proofs.AttributeLemmas.{is_attr-same}
 use Rattle.attribute_rules.specs.Kinds.{has_kind, kept_kind, opening_kind, is_attr_kind, have_kinds}
 use Rattle.attribute_rules.specs.Table.{AttrRow, attr_rows, is_among, is_row_for, table_rule, inherited_rule, rule_of, announced_rule, announced_source, original_of, is_permitted}
-use Rattle.attribute_rules.specs.Admission.{is_null, is_given, is_clearable, column_of, does_fit, rule_at, is_fit, is_complete, are_admitted, is_admitted, attributes_in}
+use Rattle.attribute_rules.specs.Admission.{is_null, is_given, is_clearable, column_of, allows_value, rule_at, is_fit, is_complete, are_admitted, is_admitted, attributes_in}
 use Rattle.attribute_rules.specs.Contents.{is_apart, is_no_policy, does_clear, kept_row, set_row, cleared_attr, wanted_of, edit_of, set_all, clear_all, edited}
 use Rattle.attribute_rules.specs.declared.table.Rule.{Rule}
 use Rattle.attribute_rules.specs.declared.table.Source.{Source}
@@ -129,18 +129,18 @@ record Fitting (writing : Writing) (d : Data) (o : Option Rule) : Type 0 where
   rule : Rule
   is : o ≡ Some rule
   permitted : is_permitted (column_of writing rule) ≡ true
-  fits : does_fit writing rule d ≡ true
+  fits : allows_value writing rule d ≡ true
 
-fitting : (writing : Writing) (a : Attr) (d : Data) (o : Option Rule) → option_map_or (λ (p : Attr × Rule). is_permitted (column_of writing p.1) && does_fit writing p.1 d) (option_map (λ rule. (a, rule)) o) false ≡ true → Fitting writing d o
+fitting : (writing : Writing) (a : Attr) (d : Data) (o : Option Rule) → option_map_or (λ (p : Attr × Rule). is_permitted (column_of writing p.1) && allows_value writing p.1 d) (option_map (λ rule. (a, rule)) o) false ≡ true → Fitting writing d o
 fitting writing a d None h = absurd (both_ways false refl h)
 fitting writing a d (Some r) h =
-    let parts = and_parts (is_permitted (column_of writing r)) (does_fit writing r d) h in
+    let parts = and_parts (is_permitted (column_of writing r)) (allows_value writing r d) h in
     record { rule = r; is = refl; permitted = parts.0; fits = parts.1 }
 
 fit_rule : (writing : Writing) (ty : Ty) (e : Entry) (a : Attr) → attr_of_short e.0 ≡ Some a → is_fit writing ty e ≡ true → Fitting writing e.1 (rule_of ty a)
 fit_rule writing ty e a is fit =
     fitting writing a e.1 (rule_of ty a)
-    (sym (ap (λ (o : Option Attr). option_map_or (λ (p : Attr × Rule). is_permitted (column_of writing p.1) && does_fit writing p.1 e.1) (option_and_then (λ attr. option_map (λ rule. (attr, rule)) (rule_of ty attr)) o) false) is) ∙ fit)
+    (sym (ap (λ (o : Option Attr). option_map_or (λ (p : Attr × Rule). is_permitted (column_of writing p.1) && allows_value writing p.1 e.1) (option_and_then (λ attr. option_map (λ rule. (attr, rule)) (rule_of ty attr)) o) false) is) ∙ fit)
 
 pub created_kind : (ty : Ty) (e : Entry) (row : Row) → is_fit Create ty e ≡ true → kept_row e ≡ Some row → is_attr_kind ty row ≡ true
 created_kind ty e row fit h =

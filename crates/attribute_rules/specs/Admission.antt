@@ -70,8 +70,8 @@ is_clearable Create rule = false
 is_clearable Update rule = is_permitted rule.update && not (is_mandatory rule.update)
 
 -- the value is one that the request may have at the attribute
-abbrev pub does_fit : Writing → Rule → Data → Bool
-does_fit writing rule d = (is_null d && is_clearable writing rule) || is_given rule.source d
+abbrev pub allows_value : Writing → Rule → Data → Bool
+allows_value writing rule d = (is_null d && is_clearable writing rule) || is_given rule.source d
 
 -- the attribute of the type whose short name is the key, and its rule
 abbrev pub rule_at : Ty → List ℕ → Option (Attr × Rule)
@@ -84,7 +84,7 @@ rule_at ty key =
 abbrev pub is_fit : Writing → Ty → Entry → Bool
 is_fit writing ty e =
     option_map_or
-    (λ (p : Attr × Rule). is_permitted (column_of writing p.1) && does_fit writing p.1 e.1)
+    (λ (p : Attr × Rule). is_permitted (column_of writing p.1) && allows_value writing p.1 e.1)
     (rule_at ty e.0) false
 
 -- ---- admission
@@ -115,7 +115,7 @@ is_admitted writing ty content =
 abbrev pub value_fault : Writing → Attr → Rule → Data → Option AttrFault
 value_fault writing attr rule d =
     if not (is_permitted (column_of writing rule)) then Some (NotAllowed attr) else
-    if not (does_fit writing rule d) then Some (WrongKind attr) else None
+    if not (allows_value writing rule d) then Some (WrongKind attr) else None
 
 -- what is wrong with a member
 abbrev pub key_fault : Writing → Ty → Entry → Option AttrFault
@@ -137,8 +137,8 @@ is_wrong_kind _ = false
 
 -- of several, the first whose key is unknown, else the first that may not stand there, else the
 -- first with a wrong value
-abbrev pub first_of : List AttrFault → Option AttrFault
-first_of faults =
+abbrev pub leading_fault : List AttrFault → Option AttrFault
+leading_fault faults =
     option_or (find is_unknown faults)
     (option_or (find is_not_allowed faults) (find is_wrong_kind faults))
 
@@ -152,12 +152,12 @@ with_fault firsts fault =
     else record firsts { wrong = option_or firsts.wrong fault }
 
 -- the first attribute in the table that a creation has to name and this one doesn't
-abbrev pub missing : Ty → List Entry → Option Attr
-missing ty es = find (λ attr. not (is_named attr es)) (mandatory_attrs ty)
+abbrev pub missing_attr : Ty → List Entry → Option Attr
+missing_attr ty es = find (λ attr. not (is_named attr es)) (mandatory_attrs ty)
 
 -- what else is wrong: what a creation doesn't name, or what an update names beside `acpi`
 abbrev pub rest_fault : Writing → Ty → List Entry → Option AttrFault
-rest_fault Create ty es = option_map Missing (missing ty es)
+rest_fault Create ty es = option_map Missing (missing_attr ty es)
 rest_fault Update ty es =
     if is_named Acpi es && not (is_alone es) then Some AcpiNotAlone else None
 
@@ -165,7 +165,7 @@ rest_fault Update ty es =
 -- keys, of what is missing by the order of the table
 abbrev pub fault_in : Writing → Ty → List Entry → Option AttrFault
 fault_in writing ty es =
-    option_or (first_of (filter_map (key_fault writing ty) es)) (rest_fault writing ty es)
+    option_or (leading_fault (filter_map (key_fault writing ty) es)) (rest_fault writing ty es)
 
 -- the first fault of a content
 abbrev pub fault_of : Writing → Ty → Data → Option AttrFault

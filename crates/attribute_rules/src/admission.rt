@@ -81,7 +81,7 @@ fn is_fit(writing: Writing, ty: Ty, entry: &(Text, Val)) -> bool
     ensures { result ≡ spec.is_fit writing ty entry.now }
 {
     match rule_at(ty, &entry.0) {
-        Some((_, rule)) => rule.permits(writing) && rule.fits(writing, &entry.1),
+        Some((_, rule)) => rule.permits(writing) && rule.allows_value(writing, &entry.1),
         None => false,
     }
 }
@@ -138,7 +138,7 @@ fn value_fault(writing: Writing, attr: Attr, rule: Rule, value: &Val) -> Option<
 {
     if !rule.permits(writing) {
         Some(AttrFault::NotAllowed(attr))
-    } else if !rule.fits(writing, value) {
+    } else if !rule.allows_value(writing, value) {
         Some(AttrFault::Kind(attr))
     } else {
         None
@@ -203,7 +203,7 @@ fn with_entry(writing: Writing, ty: Ty, firsts: Firsts, entry: (Text, Val)) -> F
 }
 
 fn first_key_fault(writing: Writing, ty: Ty, members: Members) -> Option<AttrFault>
-    ensures { result ≡ spec.first_of (filter_map (spec.key_fault writing ty) members) }
+    ensures { result ≡ spec.leading_fault (filter_map (spec.key_fault writing ty) members) }
 {
     let mut firsts = Firsts {
         unknown: None,
@@ -216,8 +216,8 @@ fn first_key_fault(writing: Writing, ty: Ty, members: Members) -> Option<AttrFau
     firsts.unknown.or(firsts.not_allowed.or(firsts.wrong))
 }
 
-fn missing(ty: Ty, members: &Members) -> Option<Attr>
-    ensures { result ≡ spec.missing ty members.now }
+fn missing_attr(ty: Ty, members: &Members) -> Option<Attr>
+    ensures { result ≡ spec.missing_attr ty members.now }
 {
     mandatory(ty)
         .iter()
@@ -229,7 +229,7 @@ fn rest_fault(writing: Writing, ty: Ty, members: &Members) -> Option<AttrFault>
     ensures { result ≡ spec.rest_fault writing ty members.now }
 {
     match writing {
-        Writing::Create => Some(AttrFault::Missing(missing(ty, members)?)),
+        Writing::Create => Some(AttrFault::Missing(missing_attr(ty, members)?)),
         Writing::Update if is_named(Attr::Acpi, members) && !is_alone(members) => {
             Some(AttrFault::AcpiNotAlone)
         }

@@ -65,7 +65,7 @@ fn does_clear(attr: Attr, value: &Val) -> bool
     value.is_null() || is_no_policy(attr, value)
 }
 
-fn text_of(value: Val) -> Option<Text>
+fn into_text(value: Val) -> Option<Text>
     ensures value { result ≡ views.as_text value }
     ensures utf8 { IfSome result (λ t. IsUtf8 t) }
 {
@@ -114,7 +114,7 @@ fn keep(
         rows.old.items ++ option_to_list (spec.kept_row (key.now, value))) }
 {
     if is_name_key(key) {
-        *name = name.take().or(text_of(value));
+        *name = name.take().or(into_text(value));
     } else if let Some(row) = kept_row(key, value) {
         rows.push(row)?;
     }

@@ -5,8 +5,8 @@ ghost use Rattle.attribute_rules.specs.Kinds.{has_kind};
 use crate::lists::{is_cse_ids, is_labels, is_points, is_target, is_texts};
 use crate::objects::{is_criteria, is_rules};
 use crate::values::{
-    is_bool, is_content, is_count, is_cse_id, is_member_type, is_name, is_one_of, is_originator,
-    is_stamp, is_text,
+    is_bool, is_content, is_count, is_cse_id, is_member_type, is_name, is_number_within,
+    is_originator, is_stamp, is_text,
 };
 use m2m_value::Val;
 
@@ -60,7 +60,7 @@ impl Kind {
             Kind::Labels => is_labels(value),
             Kind::Bool => is_bool(value),
             Kind::Count => is_count(value),
-            Kind::OneOf(from, to) => is_one_of(from, to, value),
+            Kind::OneOf(from, to) => is_number_within(from, to, value),
             Kind::CseId => is_cse_id(value),
             Kind::CseIds => is_cse_ids(value),
             Kind::Originator => is_originator(value),

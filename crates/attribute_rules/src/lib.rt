@@ -5,8 +5,11 @@
 //! a value is of a kind; and `keeps_kinds`, which tells it of all attributes of a resource. Whether
 //! a content is admitted is told by `admits_create` and `admits_update`, which only look at it;
 //! `take_wanted` and `take_edit` then take it apart, and `admit_create` and `admit_update` do both,
-//! or say the first fault. Values are moved out of the content, never copied. A content is walked
-//! once, and once more where it has a fault; a refusal takes no memory.
+//! or say the first fault. Values are moved out of the content, never copied.
+//!
+//! A content is walked once to judge it, up to the first member with a fault, and once more to move
+//! out of it what it gives, or the key of the fault that is told. These are two walks since a
+//! refusal takes no memory: nothing is taken before the last member is judged.
 #![tactic(auto)]
 
 mod admission;

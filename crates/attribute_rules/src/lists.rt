@@ -8,7 +8,7 @@ ghost use Rattle.m2m_value.specs.View as views;
 ghost use Rattle.m2m_value.specs.Shapes as shapes;
 ghost use Rattle.attribute_rules.specs.Kinds as spec;
 
-use crate::values::{is_cse_id, is_one_of, is_originator, is_point, is_text, list_in};
+use crate::values::{is_cse_id, is_number_within, is_originator, is_point, is_text, list_in};
 use m2m_value::Val;
 
 fn are_labels(values: &[Val]) -> bool
@@ -38,7 +38,7 @@ fn are_originators(values: &[Val]) -> bool
 fn are_event_kinds(values: &[Val]) -> bool
     ensures { result ≡ list_all (shapes.is_count_of (is_in_range 1 4)) values.now }
 {
-    values.iter().all(|value| is_one_of(1, 4, value))
+    values.iter().all(|value| is_number_within(1, 4, value))
 }
 
 fn are_points(values: &[Val]) -> bool

@@ -7,7 +7,7 @@ ghost use Rattle.m2m_value.specs.Shapes as shapes;
 ghost use Rattle.attribute_rules.specs.Kinds as spec;
 
 use crate::lists::{is_event_kinds, is_labels, is_originators};
-use crate::values::{is_one_of, list_in};
+use crate::values::{is_number_within, list_in};
 use m2m_value::{Members, Text, Val};
 
 fn is_rule_key(key: &Text) -> bool
@@ -64,7 +64,7 @@ fn have_bits(members: &Members) -> bool
         (shapes.is_count_of (is_in_range 0 63)) members.now }
 {
     match members.get(b"acop") {
-        Some(value) => is_one_of(0, 63, value),
+        Some(value) => is_number_within(0, 63, value),
         None => false,
     }
 }

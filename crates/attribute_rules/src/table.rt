@@ -145,8 +145,8 @@ impl Rule {
     }
 
     /// Whether the request may have the value at the attribute.
-    pub fn fits(self, writing: Writing, value: &Val) -> bool
-        ensures { result ≡ admission.does_fit writing self value.now }
+    pub fn allows_value(self, writing: Writing, value: &Val) -> bool
+        ensures { result ≡ admission.allows_value writing self value.now }
     {
         (value.is_null() && self.is_clearable(writing)) || self.source.gives(value)
     }

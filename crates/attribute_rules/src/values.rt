@@ -49,7 +49,7 @@ pub fn is_count(value: &Val) -> bool
     value.as_count().is_some()
 }
 
-pub fn is_one_of(from: u64, to: u64, value: &Val) -> bool
+pub fn is_number_within(from: u64, to: u64, value: &Val) -> bool
     ensures { result ≡ shapes.is_count_of (is_in_range from to) value.now }
 {
     match value.as_count() {
