@@ -16,7 +16,7 @@ use Rattle.container_limits.proofs.PlaceLemmas.{ascend, drop_step, lacked_all}
 
 -- ---- due or not
 
-not_not : (b : Bool) → not (not b) ≡ b
+pub not_not : (b : Bool) → not (not b) ≡ b
 not_not true = refl
 not_not false = refl
 

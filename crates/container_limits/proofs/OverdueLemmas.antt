@@ -1,65 +1,60 @@
 -- What is overdue, by the line of each resource.
-use Rattle.std.specs.Prelude.{◌==◌}
-use Rattle.std.proofs.Common.{◌≡◌, ℕ, ◌+◌, ◌<◌, ◌≤◌, List, [], ◌∷◌, ◌++◌, length, map, drop, Bool, true, false, not, ◌&&◌, ◌||◌, Option, Some, None, option_to_list, inl, inr, refl, sym, ap, ◌∙◌, arith, append_assoc}
-use Rattle.std.proofs.lemmas.Bool.{cases_Bool, and_parts, or_parts}
+use Rattle.std.proofs.Common.{◌≡◌, ℕ, ◌+◌, ◌<◌, ◌≤◌, List, [], ◌∷◌, ◌++◌, length, map, drop, Bool, true, false, not, ◌&&◌, ◌||◌, Option, Some, None, option_to_list, refl, sym, ap, ◌∙◌, arith, append_assoc}
+use Rattle.std.proofs.lemmas.Bool.{and_parts}
 use Rattle.std.proofs.lemmas.List.{append-nil, drop_all, map-append}
 use Rattle.std.proofs.lemmas.List.Elements.{filter-append}
 use Rattle.std.specs.List.{filter, list_all, list_any, slice_get}
-use Rattle.resource_model.specs.Resource.{ResourceData, has_number}
-use Rattle.tree_model.specs.Tree.{at, has, line_of, is_due, is_spared, live, without, are_quiet, fits, is_tree}
-use Rattle.tree_model.proofs.GrowthLemmas.{growth, line-append, stands, has-without}
+use Rattle.resource_model.specs.Resource.{ResourceData}
+use Rattle.tree_model.specs.Tree.{at, has, line_of, is_due, is_spared, live, are_quiet, is_tree}
+use Rattle.tree_model.proofs.ChangeLemmas.{line_none}
+use Rattle.tree_model.proofs.GrowthLemmas.{stands, has-without}
 use Rattle.tree_model.proofs.QuietLemmas.{all_by_number, quiet_live}
-use Rattle.tree_model.proofs.TreeLemmas.{at_has, at_number, has-append, has_from_at}
+use Rattle.tree_model.proofs.TreeLemmas.{at_has, at_number, has_from_at}
 use Rattle.container_limits.specs.Limits.{numbers_of}
 use Rattle.container_limits.specs.Overdue.{overdue_numbers}
+use Rattle.container_limits.proofs.LimitLemmas.{not_not}
 use Rattle.container_limits.proofs.PlaceLemmas.{drop_step}
 
-not_not : (b : Bool) → not (not b) ≡ b
-not_not true = refl
-not_not false = refl
-
 -- ---- the line
-
-no_line : (n : ℕ) (nodes : List ResourceData) → is_tree nodes ≡ true → has n nodes ≡ false → line_of n nodes ≡ []
-no_line n nodes tree = growth fits (λ nodes. has n nodes ≡ false → line_of n nodes ≡ []) (λ _. refl) (λ before r grew next holds lacks.
-    let parts = or_parts (has n before) (has n (r ∷ [])) (sym (has-append n before (r ∷ [])) ∙ lacks) in
-    let apart : has_number n r ≡ false = (or_parts (has_number n r) false parts.1).0 in
-    line-append n before r ∙ rw apart (holds parts.0)) nodes tree
 
 module _ (nodes : List ResourceData) (moment : ℕ) (tree : is_tree nodes ≡ true) where
   abbrev due_at : ResourceData → Bool
   due_at r = is_due nodes moment r
 
-  pub line_due : (r : ResourceData) → at r.number nodes ≡ Some r → list_any due_at (line_of r.number nodes) ≡ (due_at r || list_any due_at (line_of r.parent nodes))
-  line_due r found = ap (list_any due_at) (stands nodes tree r.number r found).line
-
-  pub due_here : (r : ResourceData) → at r.number nodes ≡ Some r → due_at r ≡ true → true ≡ list_any due_at (line_of r.number nodes)
-  due_here r found due = sym (line_due r found ∙ ap (λ b. b || list_any due_at (line_of r.parent nodes)) due)
-
-  pub due_above : (r p : ResourceData) (b : Bool) → at r.number nodes ≡ Some r → due_at r ≡ false → at r.parent nodes ≡ Some p → b ≡ list_any due_at (line_of p.number nodes) → b ≡ list_any due_at (line_of r.number nodes)
-  due_above r p b found not_due up is =
-      is ∙ ap (λ n. list_any due_at (line_of n nodes)) (at_number r.parent nodes p up)
-      ∙ sym (line_due r found ∙ ap (λ x. x || list_any due_at (line_of r.parent nodes)) not_due)
-
-  pub due_nowhere : (r : ResourceData) → at r.number nodes ≡ Some r → due_at r ≡ false → at r.parent nodes ≡ None → false ≡ list_any due_at (line_of r.number nodes)
-  due_nowhere r found not_due none =
-      let nothing : line_of r.parent nodes ≡ [] = no_line r.parent nodes tree (has_from_at r.parent nodes none) in
-      sym (line_due r found ∙ ap (λ x. x || list_any due_at (line_of r.parent nodes)) not_due ∙ ap (list_any due_at) nothing)
-
   pub parent_found : (r p : ResourceData) → at r.parent nodes ≡ Some p → at p.number nodes ≡ Some p
   parent_found r p up = ap (λ n. at n nodes) (at_number r.parent nodes p up) ∙ up
+
+  -- what isn't live has something due in its line
+  gone_by_line : (r : ResourceData) → at r.number nodes ≡ Some r → list_any due_at (line_of r.number nodes) ≡ not (has r.number (live moment nodes))
+  gone_by_line r found =
+      let left : has r.number (live moment nodes) ≡ is_spared due_at nodes r.number = has-without due_at r.number nodes tree ∙ ap (λ b. b && is_spared due_at nodes r.number) (at_has r.number nodes r found) in
+      sym (ap not left ∙ not_not (list_any due_at (line_of r.number nodes)))
+
+  -- it is gone where it is due, or something in the line of its parent
+  gone_by_parts : (r : ResourceData) → at r.number nodes ≡ Some r → (due_at r || list_any due_at (line_of r.parent nodes)) ≡ not (has r.number (live moment nodes))
+  gone_by_parts r found = sym (ap (list_any due_at) (stands nodes tree r.number r found).line) ∙ gone_by_line r found
+
+  pub gone_here : (r : ResourceData) → at r.number nodes ≡ Some r → due_at r ≡ true → true ≡ not (has r.number (live moment nodes))
+  gone_here r found due = sym (ap (λ b. b || list_any due_at (line_of r.parent nodes)) due) ∙ gone_by_parts r found
+
+  pub gone_above : (r p : ResourceData) (b : Bool) → at r.number nodes ≡ Some r → due_at r ≡ false → at r.parent nodes ≡ Some p → b ≡ not (has p.number (live moment nodes)) → b ≡ not (has r.number (live moment nodes))
+  gone_above r p b found not_due up is =
+      is ∙ sym (gone_by_line p (parent_found r p up))
+      ∙ ap (λ n. list_any due_at (line_of n nodes)) (at_number r.parent nodes p up)
+      ∙ sym (ap (λ x. x || list_any due_at (line_of r.parent nodes)) not_due)
+      ∙ gone_by_parts r found
+
+  pub gone_nowhere : (r : ResourceData) → at r.number nodes ≡ Some r → due_at r ≡ false → at r.parent nodes ≡ None → false ≡ not (has r.number (live moment nodes))
+  gone_nowhere r found not_due none =
+      let nothing : line_of r.parent nodes ≡ [] = line_none r.parent nodes tree (has_from_at r.parent nodes none) in
+      sym (ap (λ x. x || list_any due_at (line_of r.parent nodes)) not_due ∙ ap (list_any due_at) nothing)
+      ∙ gone_by_parts r found
 
   pub parent_less : (r p : ResourceData) → at r.number nodes ≡ Some r → at r.parent nodes ≡ Some p → p.number < r.number
   parent_less r p found up =
       let is : p.number ≡ r.parent = at_number r.parent nodes p up in
       let above : r.parent < r.number = (stands nodes tree r.number r found).above in
       omega arith
-
-  -- what isn't live has something due in its line
-  pub line_gone : (r : ResourceData) → at r.number nodes ≡ Some r → list_any due_at (line_of r.number nodes) ≡ not (has r.number (live moment nodes))
-  line_gone r found =
-      let left : has r.number (live moment nodes) ≡ is_spared due_at nodes r.number = has-without due_at r.number nodes tree ∙ ap (λ b. b && is_spared due_at nodes r.number) (at_has r.number nodes r found) in
-      sym (ap not left ∙ not_not (list_any due_at (line_of r.number nodes)))
 
   all_there : list_all (λ r. has r.number nodes) nodes ≡ true
   all_there = all_by_number (λ r. has r.number nodes) nodes tree (λ r found. at_has r.number nodes r found)

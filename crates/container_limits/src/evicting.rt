@@ -6,7 +6,7 @@ ghost use Rattle.container_limits.specs.Limits.{lasts, goes, going, kept, evicte
 ghost use Rattle.container_limits.specs.Limits.{IsQuiet};
 
 use crate::instances::{instance, is_quiet, lasting_total, total, with_new, without};
-use crate::limits::{Limits, Total, fits, is_due_by};
+use crate::limits::{Limits, Total, is_due_by, is_total_within};
 use m2m_value::Numbers;
 use resource_model::Resource;
 use std::alloc::{AllocError as OutOfMemory, Global};
@@ -51,7 +51,7 @@ fn count_outside<T: Tree>(
     let mut left = with_new(lasting, new_size);
     let count = tree.instance_count(container);
     for k in 0..count {
-        if fits(limits, left) {
+        if is_total_within(left, limits) {
             return k;
         }
         left = without(

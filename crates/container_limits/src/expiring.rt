@@ -1,9 +1,7 @@
 // What is overdue.
 ghost use Rattle.std.specs.Prelude.{◌≡◌, ◌++◌, [], ◌∷◌, filter, slice_get, not, option_map};
 ghost use Rattle.std.specs.Prelude.{option_to_list, Some, IsTrue, IfOk, OnOk};
-ghost use Rattle.std.specs.List.{list_any};
-ghost use Rattle.tree_model.specs.Tree as spec;
-ghost use Rattle.tree_model.specs.Tree.{at, has, line_of, live, is_tree};
+ghost use Rattle.tree_model.specs.Tree.{at, has, live, is_tree};
 ghost use Rattle.container_limits.specs.Limits.{numbers_of};
 ghost use Rattle.container_limits.specs.Overdue.{overdue_numbers};
 
@@ -69,33 +67,23 @@ fn push_number<T: Tree>(
         ++ numbers_of
         (filter (λ r. not (has r.number (live moment (T.nodes tree.now)))) (resource.now ∷ []))) }
 {
-    if is_gone(tree, resource, moment) {
+    if is_overdue(tree, resource, moment) {
         numbers.push(resource.number())?;
     }
     Ok(())
 }
 
-fn is_gone<T: Tree>(tree: &T, resource: &Resource, moment: u64) -> bool
+// Whether it is due, or something that it stands under.
+fn is_overdue<T: Tree>(tree: &T, resource: &Resource, moment: u64) -> bool
     requires tree { IsTrue (is_tree (T.nodes tree.now)) }
     requires stands { at resource.now.number (T.nodes tree.now) ≡ Some resource.now }
     ensures { result ≡ not (has resource.now.number (live moment (T.nodes tree.now))) }
-{
-    has_due_above(tree, resource, moment)
-}
-
-// Whether it is due, or something that it stands under.
-fn has_due_above<T: Tree>(tree: &T, resource: &Resource, moment: u64) -> bool
-    requires tree { IsTrue (is_tree (T.nodes tree.now)) }
-    requires stands { at resource.now.number (T.nodes tree.now) ≡ Some resource.now }
-    ensures { result
-        ≡ list_any (spec.is_due (T.nodes tree.now) moment) (line_of resource.now.number
-        (T.nodes tree.now)) }
 {
     if is_due(tree, resource, moment) {
         return true;
     }
     match tree.get(resource.parent()) {
-        Some(parent) => has_due_above(tree, parent, moment),
+        Some(parent) => is_overdue(tree, parent, moment),
         None => false,
     }
 }

@@ -50,7 +50,8 @@ pub(crate) struct Total {
     pub(crate) sizes: u128,
 }
 
-pub(crate) fn fits(limits: Limits, total: Total) -> bool
+/// Whether a count and a sum of sizes are within the limits.
+pub(crate) fn is_total_within(total: Total, limits: Limits) -> bool
     ensures { result
         ≡ (spec.is_within total.count limits.mni && spec.is_within total.sizes limits.mbs) }
 {

@@ -12,11 +12,11 @@ loop-k-init g c = record {
   stay = refl;
 }
 
-pub returns-then-fits : goal.returns-then-fits
-returns-then-fits g c =
+pub returns-then-is_total_within : goal.returns-then-is_total_within
+returns-then-is_total_within g c =
     let rest = filter (lasts c.args.limits.mia c.args.moment) (drop c.loop-k.k (instances_of c.args.container (g.T.Tree.nodes c.args.tree.now))) in
     c.loop-k.invariant.stay
-    ∙ fit_here c.args.limits c.args.new_size rest (sym (fits_totals c.args.limits c.args.new_size rest c.loop-k.left.count c.loop-k.left.sizes c.loop-k.invariant.count c.loop-k.invariant.sizes) ∙ sym c.fits.ensures ∙ c.if-fits.true)
+    ∙ fit_here c.args.limits c.args.new_size rest (sym (fits_totals c.args.limits c.args.new_size rest c.loop-k.left.count c.loop-k.left.sizes c.loop-k.invariant.count c.loop-k.invariant.sizes) ∙ sym c.is_total_within.ensures ∙ c.if-is_total_within.true)
 
 pub loop-k-preserved : goal.loop-k-preserved
 loop-k-preserved g c =
@@ -26,7 +26,7 @@ loop-k-preserved g c =
     record {
       count = count_turn last rs c.loop-k.k (length (option_to_list c.args.new_size)) (option_map (λ r. r.now) c.instance.result) c.instance.ensures c.loop-k.left.count c.without-left.result.count c.loop-k.invariant.count c.without-left.ensures.count;
       sizes = size_turn last rs c.loop-k.k (unwrap_or c.args.new_size 0) (option_map (λ r. r.now) c.instance.result) c.instance.ensures c.loop-k.left.sizes c.without-left.result.sizes c.loop-k.invariant.sizes c.without-left.ensures.sizes;
-      stay = c.loop-k.invariant.stay ∙ fit_turn c.args.limits c.args.new_size last rs c.loop-k.k (sym (fits_totals c.args.limits c.args.new_size rest c.loop-k.left.count c.loop-k.left.sizes c.loop-k.invariant.count c.loop-k.invariant.sizes) ∙ sym c.fits.ensures ∙ c.if-fits.false);
+      stay = c.loop-k.invariant.stay ∙ fit_turn c.args.limits c.args.new_size last rs c.loop-k.k (sym (fits_totals c.args.limits c.args.new_size rest c.loop-k.left.count c.loop-k.left.sizes c.loop-k.invariant.count c.loop-k.invariant.sizes) ∙ sym c.is_total_within.ensures ∙ c.if-is_total_within.false);
     }
 
 pub returns : goal.returns
