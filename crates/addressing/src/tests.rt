@@ -8,7 +8,7 @@ use std::alloc::Global;
 use std::marker::Brand;
 use std::sync::ledger::{Blank, Ledger};
 use std::test::Fail;
-use tree_model::{Attrs, Home, ListTree, Moments, Resource, Steps, Tree, may_insert};
+use tree_model::{Attrs, Home, ListTree, Moments, Resource, Steps, Tree, may_insert, stands_in};
 
 fn text(alloc: Global, words: &[u8]) -> Result<Text, OutOfMemory>
     ensures { IfOk result (λ t. IsUtf8 t) }
@@ -19,7 +19,7 @@ fn text(alloc: Global, words: &[u8]) -> Result<Text, OutOfMemory>
 // A resource of a number, type, name and parent.
 type Row = (u32, Ty, &'static str, u32);
 
-const ROWS: [Row; 9] = [
+const ROWS: [Row; 12] = [
     (1, Ty::CseBase, "cse-in", 0),
     (3, Ty::Ae, "dev", 1),
     (4, Ty::Container, "c", 3),
@@ -28,12 +28,19 @@ const ROWS: [Row; 9] = [
     (7, Ty::ContentInstance, "new", 4),
     (8, Ty::Group, "g", 3),
     (9, Ty::PollingChannel, "p", 3),
-    (11, Ty::Ae, "odd", 1),
+    (10, Ty::Container, "gone", 3),
+    (11, Ty::ContentInstance, "lost", 10),
+    (12, Ty::Ae, "odd", 1),
+    (13, Ty::Ae, "odder", 1),
 ];
 
-// What an application entity is called: one by a text that looks like an id.
+// What an application entity is called: two by texts that look like ids, of which one is live.
 fn ae_id(number: u32) -> &'static str {
-    if number == 11 { "cnt10" } else { "CDev" }
+    match number {
+        12 => "cnt10",
+        13 => "cnt4",
+        _ => "CDev",
+    }
 }
 
 fn resource(alloc: Global, row: Row) -> Result<Resource, OutOfMemory> {
@@ -69,6 +76,9 @@ fn tree(alloc: Global) -> Result<ListTree, OutOfMemory> {
         if may_insert(&tree, &resource) {
             let _inserted = tree.insert(resource);
         }
+    }
+    if stands_in(&tree, 10) {
+        tree.remove_subtree(10);
     }
     Ok(tree)
 }
@@ -112,18 +122,44 @@ fn answer_to(alloc: Global, tree: &ListTree, home: &Home, text: &str) -> Answer 
 
 const LONGEST_NAME: &str = "a123456789-123456789-123456789-123456789-123456789-123456789-123";
 
-const ANSWERS: [(&str, Answer); 27] = [
+const LONGER_NAME: &str = "a123456789-123456789-123456789-123456789-123456789-123456789-1234";
+
+// Behind a fan-out point, seven names of 64 bytes and one of this end: 465 bytes, and those of it.
+macro_rules! long_address {
+    ($end:literal) => {
+        concat!(
+            "grp8/fopt/",
+            "a123456789-123456789-123456789-123456789-123456789-123456789-123/",
+            "b123456789-123456789-123456789-123456789-123456789-123456789-123/",
+            "c123456789-123456789-123456789-123456789-123456789-123456789-123/",
+            "d123456789-123456789-123456789-123456789-123456789-123456789-123/",
+            "e123456789-123456789-123456789-123456789-123456789-123456789-123/",
+            "f123456789-123456789-123456789-123456789-123456789-123456789-123/",
+            "g123456789-123456789-123456789-123456789-123456789-123456789-123/",
+            $end
+        )
+    };
+}
+
+const LONGEST: &str = long_address!("h123456789-123456789-123456789-123456789-123456");
+
+const TOO_LONG: &str = long_address!("h123456789-123456789-123456789-123456789-1234567");
+
+const ANSWERS: [(&str, Answer); 37] = [
     ("cse-in", Answer::Names(Spot::Resource(1))),
     ("-", Answer::Names(Spot::Resource(1))),
     ("/id-in", Answer::Names(Spot::Resource(1))),
     ("//sp.example/id-in", Answer::Names(Spot::Resource(1))),
     ("cse-in/dev/c", Answer::Names(Spot::Resource(4))),
+    ("cse-in/-", Answer::Nothing),
     ("//sp.example/id-in/cnt4", Answer::Names(Spot::Resource(4))),
-    ("CDev/c", Answer::Names(Spot::Resource(4))),
-    ("cnt10", Answer::Names(Spot::Resource(11))),
+    ("/id-in/CDev/c", Answer::Names(Spot::Resource(4))),
+    ("cse-in/CDev", Answer::Nothing),
+    ("cnt10", Answer::Names(Spot::Resource(12))),
+    ("cin11", Answer::Nothing),
+    ("cse-in/dev/gone", Answer::Nothing),
     ("cnt04", Answer::Nothing),
     ("ae4", Answer::Nothing),
-    ("cnt2", Answer::Nothing),
     ("cnt4/la", Answer::Names(Spot::Resource(7))),
     ("cnt4/ol", Answer::Names(Spot::Resource(6))),
     ("cnt5/la", Answer::Nothing),
@@ -136,13 +172,20 @@ const ANSWERS: [(&str, Answer); 27] = [
     ("pch9/pcu", Answer::Names(Spot::Poll(9))),
     ("pch9/pcu/x", Answer::Nothing),
     ("/id-mn", Answer::Foreign),
-    ("//sp.example/id-mn/a", Answer::Foreign),
+    ("/id-in2/cse-in", Answer::Foreign),
+    ("//sp.example/la/a", Answer::Foreign),
     ("//other/id-in/cse-in", Answer::OtherProvider),
+    ("//la/id-in", Answer::OtherProvider),
     ("//other/id-in/a b", Answer::Fault(AddrFault::Shape)),
     ("//sp.example", Answer::Fault(AddrFault::Shape)),
+    ("///id-in", Answer::Fault(AddrFault::Shape)),
+    ("/id-in/", Answer::Fault(AddrFault::Shape)),
     ("", Answer::Fault(AddrFault::Shape)),
     ("cse-in//dev", Answer::Fault(AddrFault::Shape)),
     (LONGEST_NAME, Answer::Nothing),
+    (LONGER_NAME, Answer::Fault(AddrFault::Shape)),
+    (LONGEST, Answer::Names(Spot::Fan { group: 8, rest: 2 })),
+    (TOO_LONG, Answer::Fault(AddrFault::TooLong)),
 ];
 
 #[test]
@@ -153,16 +196,6 @@ fn addresses_name_what_stands(rt: HostRuntime) -> Result<(), Fail> {
     for (text, want) in ANSWERS {
         assert_eq!(rt; answer_to(alloc, &tree, &home, text), want, "{text}");
     }
-    Ok(())
-}
-
-#[test]
-fn addresses_have_limits(rt: HostRuntime) -> Result<(), Fail> {
-    let alloc = rt.alloc();
-    let home = Home::with_defaults(alloc)?;
-    assert!(rt; matches!(parse(alloc, &[b'a'; 513], &home), Err(AddrFault::TooLong)));
-    assert!(rt; matches!(parse(alloc, &[b'a'; 512], &home), Err(AddrFault::Shape)));
-    assert!(rt; matches!(parse(alloc, &[b'a'; 65], &home), Err(AddrFault::Shape)));
     Ok(())
 }
 
@@ -182,7 +215,7 @@ fn addresses_print(rt: HostRuntime) -> Result<(), Fail> {
         );
     }
     let tree = tree(alloc)?;
-    assert!(rt; tree_model::stands_in(&tree, 7));
+    assert!(rt; stands_in(&tree, 7));
     assert_eq!(rt;
         structured(alloc, &tree, 7)?.entries(),
         b"cse-in/dev/c/new".as_slice()
