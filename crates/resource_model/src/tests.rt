@@ -12,9 +12,8 @@ fn text(alloc: Global, words: &str) -> Result<Text, OutOfMemory>
     Ok(Text::of(String::from_str(alloc, words)?.into_bytes()))
 }
 
-#[test]
-fn a_resource_is_copied_with_its_attributes(rt: HostRuntime) -> Result<(), Fail> {
-    let alloc = rt.alloc();
+/// A container with two attributes.
+fn container(alloc: Global) -> Result<Resource, OutOfMemory> {
     let moments = Moments {
         ct: 1,
         lt: 2,
@@ -22,14 +21,33 @@ fn a_resource_is_copied_with_its_attributes(rt: HostRuntime) -> Result<(), Fail>
     };
     let name = text(alloc, "c")?;
     let owner = text(alloc, "CDev")?;
-    let mut made = Resource::of(4, Ty::Container, name, 3, owner, moments, Attrs::new(alloc));
+    let attrs = Attrs::new(alloc);
+    let mut made = Resource::of(4, Ty::Container, name, 3, owner, moments, attrs);
     made.set(Attr::Mni, Val::of_num(4))?;
     made.set(Attr::Mbs, Val::of_num(5))?;
-    let copied = made.copy(alloc)?;
-    assert!(rt; copied.attrs() == made.attrs() && copied.attrs().entries().len() == 2);
-    assert_eq!(rt; copied.id(alloc)?.entries(), b"cnt4".as_slice());
-    assert!(rt; copied.name() == made.name() && copied.owner() == made.owner());
+    Ok(made)
+}
+
+fn is_container(resource: &Resource) -> bool {
+    resource.name().entries() == b"c".as_slice()
+        && resource.owner().entries() == b"CDev".as_slice()
+        && resource.attrs().count(Attr::Mni) == Some(4)
+        && resource.attrs().count(Attr::Mbs) == Some(5)
+}
+
+#[test]
+fn a_resource_is_copied_with_its_attributes(rt: HostRuntime) -> Result<(), Fail> {
+    let mut made = container(rt.alloc())?;
+    let copied = made.copy(rt.alloc())?;
     made.clear(Attr::Mbs);
-    assert!(rt; copied.attrs() != made.attrs());
+    assert!(rt; is_container(&copied), "the copy");
+    assert!(rt; !is_container(&made), "what was copied, and then changed");
+    Ok(())
+}
+
+#[test]
+fn the_id_of_a_resource_has_its_type_and_number(rt: HostRuntime) -> Result<(), Fail> {
+    let id = container(rt.alloc())?.id(rt.alloc())?;
+    assert_eq!(rt; id.entries(), b"cnt4".as_slice());
     Ok(())
 }
