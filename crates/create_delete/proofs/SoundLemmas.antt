@@ -13,17 +13,17 @@ use Rattle.m2m_names.specs.declared.types.Ty.{Ty}
 use Rattle.m2m_names.specs.declared.types.Ty.TheVariants.{AccessControlPolicy, Ae, Container, ContentInstance, CseBase, Group, PollingChannel, RemoteCse, Subscription, AccessControlPolicyAnnc, AeAnnc, ContainerAnnc, ContentInstanceAnnc, GroupAnnc}
 use Rattle.resource_model.specs.Attributes.{count_at}
 use Rattle.resource_model.specs.Home.{HomeData, IsHome, is_base_name, is_cse_type}
-use Rattle.resource_model.specs.Resource.{ResourceData, is_ty}
-use Rattle.tree_model.specs.Tree.{at, has, stays, staying, without, is_spared, is_instance, size_of, due_under, is_due, lesser, age_end, live, is_root, is_taken, fits_in, is_well_formed, is_tree}
+use Rattle.resource_model.specs.Resource.{ResourceData, is_ty, cse_id}
+use Rattle.tree_model.specs.Tree.{at, has, stays, staying, without, is_spared, is_kin, is_instance, size_of, due_under, is_due, lesser, age_end, live, is_root, is_taken, fits_in, is_well_formed, is_tree}
 use Rattle.tree_model.proofs.TreeLemmas.{has_at, staying_all, staying_any, staying_unpicked}
 use Rattle.tree_model.proofs.GrowthLemmas.{growth, tree_from_well_formed, next_fits, root_parent, at-without}
 use Rattle.tree_model.proofs.KeptLemmas.{is_well_formed-without}
 use Rattle.tree_model.proofs.LiveLemmas.{without_none}
 use Rattle.m2m_names.specs.Name.{is_free_name, is_originator}
 use Rattle.attribute_rules.specs.Kinds.{are_kinds}
-use Rattle.create_delete.specs.Entity.{EntityData, last_reading, cut, moment_of, swept}
+use Rattle.create_delete.specs.Entity.{EntityData, last_reading, cut, event_moment, swept}
 use Rattle.create_delete.specs.Opening.{opening_base, opening_policy, opening_nodes, opening}
-use Rattle.create_delete.specs.Sound.{has_known_ids, has_size, is_shallow, is_within, is_within_limits, begins_with_base, cse_id_of, own_cse_id, cse_ids, are_distinct, is_channel, has_one_channel, spares_first, IsSound}
+use Rattle.create_delete.specs.Sound.{has_known_ids, has_size, is_shallow, is_within, is_within_limits, begins_with_base, own_cse_id, cse_ids, are_distinct, has_one_channel, spares_first, IsSound}
 use Rattle.create_delete.proofs.RemovalLemmas.{staying_length, staying_filter, staying_sum, no_deeper}
 
 -- ---- tests over a list
@@ -58,7 +58,7 @@ shallow_left : (p : ResourceData → Bool) (nodes : List ResourceData) → is_tr
 shallow_left p nodes tree r shallow = small_too _ _ 32 (no_deeper p nodes tree r.number) shallow
 
 channel_left : (p : ResourceData → Bool) (nodes : List ResourceData) (r : ResourceData) → has_one_channel nodes r ≡ true → has_one_channel (without p nodes) r ≡ true
-channel_left p nodes r one = small_too _ _ 1 (staying_filter p (is_channel r.number) [] nodes) one
+channel_left p nodes r one = small_too _ _ 1 (staying_filter p (is_kin PollingChannel r.number) [] nodes) one
 
 limits_left : (p : ResourceData → Bool) (nodes : List ResourceData) (r : ResourceData) → is_within_limits nodes r ≡ true → is_within_limits (without p nodes) r ≡ true
 limits_left p nodes r within = elim (or_cases (not (is_ty r.ty Container)) _ within) [
@@ -72,18 +72,18 @@ limits_left p nodes r within = elim (or_cases (not (is_ty r.ty Container)) _ wit
 
 -- a test of the CSE-IDs, as one of the resources
 named : (List ℕ → Bool) → ResourceData → Bool
-named q r = option_map_or q (cse_id_of r) false
+named q r = option_map_or q (cse_id r) false
 
-any_named : (q : List ℕ → Bool) (nodes : List ResourceData) → list_any q (filter_map cse_id_of nodes) ≡ list_any (named q) nodes
+any_named : (q : List ℕ → Bool) (nodes : List ResourceData) → list_any q (filter_map cse_id nodes) ≡ list_any (named q) nodes
 unfolding named
 any_named q [] = refl
-any_named q (r ∷ nodes) = any_first (cse_id_of r) ∙ ap (λ b. option_map_or q (cse_id_of r) false || b) (any_named q nodes)
+any_named q (r ∷ nodes) = any_first (cse_id r) ∙ ap (λ b. option_map_or q (cse_id r) false || b) (any_named q nodes)
   where
-    any_first : (o : Option (List ℕ)) → list_any q (cons_option o (filter_map cse_id_of nodes)) ≡ (option_map_or q o false || list_any q (filter_map cse_id_of nodes))
+    any_first : (o : Option (List ℕ)) → list_any q (cons_option o (filter_map cse_id nodes)) ≡ (option_map_or q o false || list_any q (filter_map cse_id nodes))
     any_first None = refl
     any_first (Some s) = refl
 
-absent_left : (p : ResourceData → Bool) (q : List ℕ → Bool) (stayed nodes : List ResourceData) → list_any q (filter_map cse_id_of nodes) ≡ false → list_any q (filter_map cse_id_of (staying p stayed nodes)) ≡ false
+absent_left : (p : ResourceData → Bool) (q : List ℕ → Bool) (stayed nodes : List ResourceData) → list_any q (filter_map cse_id nodes) ≡ false → list_any q (filter_map cse_id (staying p stayed nodes)) ≡ false
 absent_left p q stayed nodes none = false_from_ne_true _ (λ t.
     both_ways _ (sym (any_named q nodes) ∙ none) (staying_any p (named q) stayed nodes (sym (any_named q (staying p stayed nodes)) ∙ t)))
 
@@ -97,18 +97,18 @@ distinct_with (Some s) more less absent distinct rest =
     let parts = and_parts (not (list_any (bytes_eq s) more)) _ distinct in
     and_from _ _ (not_from_false _ (absent (bytes_eq s) (not-true _ parts.0))) rest
 
-distinct_left : (p : ResourceData → Bool) (stayed nodes : List ResourceData) → are_distinct (filter_map cse_id_of nodes) ≡ true → are_distinct (filter_map cse_id_of (staying p stayed nodes)) ≡ true
+distinct_left : (p : ResourceData → Bool) (stayed nodes : List ResourceData) → are_distinct (filter_map cse_id nodes) ≡ true → are_distinct (filter_map cse_id (staying p stayed nodes)) ≡ true
 distinct_left p stayed [] distinct = refl
 distinct_left p stayed (r ∷ nodes) distinct =
-    let rest = distinct_rest (cse_id_of r) (filter_map cse_id_of nodes) distinct in
+    let rest = distinct_rest (cse_id r) (filter_map cse_id nodes) distinct in
     elim (cases_Bool (stays p stayed r)) [
-      | inl t ↦ rw t (distinct_with (cse_id_of r) (filter_map cse_id_of nodes) (filter_map cse_id_of (staying p (stayed ++ r ∷ []) nodes)) (λ q none. absent_left p q (stayed ++ r ∷ []) nodes none) distinct (distinct_left p (stayed ++ r ∷ []) nodes rest))
+      | inl t ↦ rw t (distinct_with (cse_id r) (filter_map cse_id nodes) (filter_map cse_id (staying p (stayed ++ r ∷ []) nodes)) (λ q none. absent_left p q (stayed ++ r ∷ []) nodes none) distinct (distinct_left p (stayed ++ r ∷ []) nodes rest))
       | inr f ↦ rw f (distinct_left p stayed nodes rest)
     ]
 
 cses_left : (p : ResourceData → Bool) (home : HomeData) (nodes : List ResourceData) → are_distinct (cse_ids home nodes) ≡ true → are_distinct (cse_ids home (without p nodes)) ≡ true
 cses_left p home nodes distinct =
-    let parts = and_parts (not (list_any (bytes_eq (own_cse_id home)) (filter_map cse_id_of nodes))) _ distinct in
+    let parts = and_parts (not (list_any (bytes_eq (own_cse_id home)) (filter_map cse_id nodes))) _ distinct in
     and_from _ _ (not_from_false _ (absent_left p (bytes_eq (own_cse_id home)) [] nodes (not-true _ parts.0))) (distinct_left p [] nodes parts.1)
 
 -- the first resource has no parent
@@ -193,15 +193,15 @@ none_live nodes moment tree =
     none_weaker (is_due nodes moment) (is_due (without (is_due nodes moment) nodes) moment) (λ r due. due_left (is_due nodes moment) nodes moment r tree due)
     (without (is_due nodes moment) nodes) (staying_unpicked (is_due nodes moment) [] nodes)
 
-moment_small : (last reading : ℕ) → last ≤ 253402300798 → moment_of last reading ≤ 253402300798
+moment_small : (last reading : ℕ) → last ≤ 253402300798 → event_moment last reading ≤ 253402300798
 moment_small last reading small = omega arith
 
 pub sound_swept : (reading : ℕ) (e : EntityData) → IsSound e → IsSound (swept reading e)
 sound_swept reading e sound =
-    sound_left (is_due e.nodes (moment_of e.last reading)) e (moment_of e.last reading) sound
-    (base_spared e.home e.nodes e.nodes (moment_of e.last reading) sound.base)
+    sound_left (is_due e.nodes (event_moment e.last reading)) e (event_moment e.last reading) sound
+    (base_spared e.home e.nodes e.nodes (event_moment e.last reading) sound.base)
     (moment_small e.last reading sound.last)
-    (none_live e.nodes (moment_of e.last reading) (tree_from_well_formed e.nodes sound.tree))
+    (none_live e.nodes (event_moment e.last reading) (tree_from_well_formed e.nodes sound.tree))
 
 pub sound_removed : (p : ResourceData → Bool) (e : EntityData) → IsSound e → spares_first p e.nodes ≡ true → IsSound (record { home = e.home; nodes = without p e.nodes; next = e.next; last = e.last })
 sound_removed p e sound spared = sound_left p e e.last sound spared sound.last (none_due_left p e.nodes e.last (tree_from_well_formed e.nodes sound.tree) sound.due)
@@ -210,7 +210,7 @@ sound_removed p e sound spared = sound_left p e e.last sound spared sound.last (
 pub swept_still : (reading : ℕ) (e : EntityData) → IsSound e → cut reading ≤ e.last → swept reading e ≡ e
 swept_still reading e sound early =
     let entity : List ResourceData → ℕ → EntityData = λ nodes last. record { home = e.home; nodes = nodes; next = e.next; last = last } in
-    let same : moment_of e.last reading ≡ e.last = omega arith in
+    let same : event_moment e.last reading ≡ e.last = omega arith in
     let all : live e.last e.nodes ≡ e.nodes = without_none (is_due e.nodes e.last) e.nodes (tree_from_well_formed e.nodes sound.tree) sound.due in
     ap (λ (m : ℕ). entity (live m e.nodes) m) same ∙ ap (λ (nodes : List ResourceData). entity nodes e.last) all
 

@@ -21,13 +21,13 @@ abbrev pub cut : ℕ → ℕ
 cut reading = min reading last_reading
 
 -- the moment of an event: the clock's, but no moment comes before the last one
-abbrev pub moment_of : ℕ → ℕ → ℕ
-moment_of last reading = max last (cut reading)
+abbrev pub event_moment : ℕ → ℕ → ℕ
+event_moment last reading = max last (cut reading)
 
 -- the entity as an event finds it: without what is due by then, and what stands below that
 -- (TS-0001, 9.6.1.3.2)
 abbrev pub swept : ℕ → EntityData → EntityData
 swept reading e = record e {
-  nodes = live (moment_of e.last reading) e.nodes;
-  last = moment_of e.last reading;
+  nodes = live (event_moment e.last reading) e.nodes;
+  last = event_moment e.last reading;
 }

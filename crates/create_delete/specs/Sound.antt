@@ -1,19 +1,18 @@
 -- Which entities are sound: what holds of an entity at every moment.
 use Rattle.std.specs.Prelude.{◌≡◌, ℕ, ◌-◌, ◌^◌, ◌≤◌, nat_le, nat_lt, Bool, true, false, not, ◌&&◌}
-use Rattle.std.specs.Prelude.{◌||◌, List, [], ◌∷◌, ◌++◌, length, filter, codes, Option, None}
-use Rattle.std.specs.Prelude.{option_and_then, IsTrue, if◌then◌else◌}
+use Rattle.std.specs.Prelude.{◌||◌, List, [], ◌∷◌, ◌++◌, length, codes, Option}
+use Rattle.std.specs.Prelude.{option_and_then, IsTrue}
 use Rattle.std.specs.List.{filter_map, list_all, list_any}
 use Rattle.std.specs.Option.{option_map_or}
 use Rattle.std.specs.Str.{bytes_eq}
-use Rattle.m2m_names.specs.declared.attributes.Attr.TheVariants.{Acpi, Csi, Macp, Mbs, Mni}
+use Rattle.m2m_names.specs.declared.attributes.Attr.TheVariants.{Acpi, Macp, Mbs, Mni}
 use Rattle.m2m_names.specs.declared.types.Ty.TheVariants.{Container, ContentInstance, CseBase}
-use Rattle.m2m_names.specs.declared.types.Ty.TheVariants.{PollingChannel, RemoteCse}
 use Rattle.m2m_value.specs.Data.{Data}
 use Rattle.m2m_value.specs.View.{as_text}
-use Rattle.resource_model.specs.Attributes.{count_at, text_at}
+use Rattle.resource_model.specs.Attributes.{count_at}
 use Rattle.resource_model.specs.Home.{HomeData}
-use Rattle.resource_model.specs.Resource.{ResourceData, is_ty}
-use Rattle.tree_model.specs.Tree.{is_under, instances_of, size_of, sizes_of, depth, is_due}
+use Rattle.resource_model.specs.Resource.{ResourceData, is_ty, cse_id}
+use Rattle.tree_model.specs.Tree.{channels_of, instances_of, size_of, sizes_of, depth, is_due}
 use Rattle.tree_model.specs.Tree.{are_below, is_well_formed}
 use Rattle.attribute_rules.specs.Kinds.{are_kinds}
 use Rattle.policy_eval.specs.Rules.{policy_number, ids_at}
@@ -69,31 +68,20 @@ abbrev pub begins_with_base : HomeData → List ResourceData → Bool
 begins_with_base home [] = false
 begins_with_base home (r ∷ nodes) = is_ty r.ty CseBase && bytes_eq r.name home.base
 
--- the CSE-ID of a remote CSE (TS-0001, 9.6.4)
-abbrev pub cse_id_of : ResourceData → Option (List ℕ)
-cse_id_of r = if is_ty r.ty RemoteCse then text_at Csi r.attrs else None
-
 -- the own CSE-ID
 abbrev pub own_cse_id : HomeData → List ℕ
 own_cse_id home = codes "/" ++ home.csi
 
 -- the own CSE-ID and those of all remote CSEs
 abbrev pub cse_ids : HomeData → List ResourceData → List (List ℕ)
-cse_ids home nodes = own_cse_id home ∷ filter_map cse_id_of nodes
+cse_ids home nodes = own_cse_id home ∷ filter_map cse_id nodes
 
 -- no text stands twice
 abbrev pub are_distinct : List (List ℕ) → Bool
 are_distinct [] = true
 are_distinct (s ∷ texts) = not (list_any (bytes_eq s) texts) && are_distinct texts
 
--- it is a polling channel of this resource
-abbrev pub is_channel : ℕ → ResourceData → Bool
-is_channel parent r = is_under parent r && is_ty r.ty PollingChannel
-
-abbrev pub channels_of : ℕ → List ResourceData → List ResourceData
-channels_of parent nodes = filter (is_channel parent) nodes
-
--- it has at most one (TS-0001, 9.6.21); only an AE and a remote CSE take one
+-- it has at most one polling channel (TS-0001, 9.6.21); only an AE and a remote CSE take one
 abbrev pub has_one_channel : List ResourceData → ResourceData → Bool
 has_one_channel nodes r = nat_le (length (channels_of r.number nodes)) 1
 

@@ -25,6 +25,6 @@ pub use entity::Entity;
 pub use laws::{
     a_sound_entity_has_one_base, an_entity_stays_sound, nothing_expires_while_no_time_passes,
 };
-pub use moments::moment_of;
+pub use moments::event_moment;
 pub use std::alloc::AllocError as OutOfMemory;
 pub use sweeping::sweep;

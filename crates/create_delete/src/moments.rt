@@ -14,8 +14,8 @@ pub(crate) fn cut(reading: u64) -> u64
 
 /// The moment of an event, in seconds since 1970: the clock's reading, but at most a second before
 /// the last timestamp, and never before the moment of the last event.
-pub fn moment_of(last: u64, reading: u64) -> u64
-    ensures { result ≡ spec.moment_of last reading }
+pub fn event_moment(last: u64, reading: u64) -> u64
+    ensures { result ≡ spec.event_moment last reading }
 {
     last.max(cut(reading))
 }

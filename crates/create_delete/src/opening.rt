@@ -7,13 +7,10 @@ ghost use Rattle.resource_model.specs.Resource.{ae_id, cse_id};
 ghost use Rattle.tree_model.specs.Tree.{are_below, is_placed, child_of, has_ae_id, has_cse_id};
 ghost use Rattle.create_delete.specs.Opening as spec;
 
-use m2m_names::{Attr, Ty};
+use m2m_names::{Attr, LAST_MOMENT, Ty};
 use m2m_value::{Items, Members, Text, Val};
 use std::alloc::{AllocError as OutOfMemory, Global};
 use tree_model::{Attrs, Home, Moments, Resource, Tree};
-
-// The last moment that a timestamp has.
-const LAST_MOMENT: u64 = 253_402_300_799;
 
 // A list of one text.
 fn list_of(alloc: Global, text: Text) -> Result<Val, OutOfMemory>
@@ -99,7 +96,7 @@ fn base_attrs(alloc: Global) -> Result<Attrs, OutOfMemory>
 
 // It is created at the moment, and expires at the last one.
 fn moments_from(moment: u64) -> Moments
-    ensures { result ≡ record { ct = moment; lt = moment; et = LAST_MOMENT } }
+    ensures { result ≡ record { ct = moment; lt = moment; et = last_moment } }
 {
     Moments {
         ct: moment,

@@ -6,7 +6,7 @@ ghost use Rattle.create_delete.specs.Entity.{swept};
 ghost use Rattle.create_delete.specs.Expiry.{is_some_due};
 
 use crate::entity::Entity;
-use crate::moments::moment_of;
+use crate::moments::event_moment;
 use std::alloc::{AllocError as OutOfMemory, Global};
 use tree_model::Tree;
 
@@ -22,9 +22,9 @@ pub fn sweep<T: Tree>(
     ensures err { OnErr result (entity.new ≡ entity.old) }
     // No memory is taken where nothing is due.
     ensures memory { OnErr result
-        (IsTrue (is_some_due entity.old.nodes (spec.moment_of entity.old.last reading))) }
+        (IsTrue (is_some_due entity.old.nodes (spec.event_moment entity.old.last reading))) }
 {
-    let moment = moment_of(entity.last, reading);
+    let moment = event_moment(entity.last, reading);
     if moment == entity.last {
         return Ok(());
     }

@@ -1,7 +1,7 @@
 ghost use Rattle.std.specs.Prelude.{IfOk, IsUtf8};
 
 use crate::sweeping::expire;
-use crate::{Entity, OutOfMemory, moment_of, sweep};
+use crate::{Entity, OutOfMemory, event_moment, sweep};
 use m2m_names::{Attr, Ty};
 use m2m_value::{Text, Val, write};
 use std::alloc::Global;
@@ -62,7 +62,7 @@ fn no_moment_falls_or_passes_the_last(rt: HostRuntime) -> Result<(), OutOfMemory
     assert_eq!(rt; entity.last, CLOCK);
     sweep(alloc, &mut entity, CLOCK + 9)?;
     assert_eq!(rt; entity.last, CLOCK + 9);
-    assert_eq!(rt; moment_of(7, 253_402_300_799), 253_402_300_798);
+    assert_eq!(rt; event_moment(7, 253_402_300_799), 253_402_300_798);
     Ok(())
 }
 

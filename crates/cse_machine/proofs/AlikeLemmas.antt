@@ -8,7 +8,7 @@ use Rattle.resource_model.specs.Resource.{ResourceData}
 use Rattle.tree_model.specs.Tree.{live}
 use Rattle.policy_eval.specs.Seen.{seen_list}
 use Rattle.policy_eval.proofs.TwiceLemmas.{live-same}
-use Rattle.create_delete.specs.Entity.{EntityData, moment_of, swept}
+use Rattle.create_delete.specs.Entity.{EntityData, event_moment, swept}
 use Rattle.create_delete.specs.Sound.{IsSound}
 use Rattle.create_delete.proofs.SoundLemmas.{sound_swept}
 use Rattle.cse_machine.specs.declared.event.Event.{Event}
@@ -33,11 +33,11 @@ module _ (o : List ℕ) (one other : EntityData) (sound : IsSound one) (sounds :
   same_seen = ap (λ (e : EntityData). e.nodes) same ∙ ap (λ (h : HomeData). seen_list h other.nodes o) (sym same_home)
 
   -- what is left of both at a moment is seen alike
-  seen_left : (reading : ℕ) → seen_list one.home (live (moment_of one.last reading) one.nodes) o ≡ seen_list other.home (live (moment_of other.last reading) other.nodes) o
+  seen_left : (reading : ℕ) → seen_list one.home (live (event_moment one.last reading) one.nodes) o ≡ seen_list other.home (live (event_moment other.last reading) other.nodes) o
   seen_left reading =
-      live-same one.home one.nodes other.nodes o (moment_of one.last reading) sound.tree sounds.tree same_seen
-      ∙ ap (λ (h : HomeData). seen_list h (live (moment_of one.last reading) other.nodes) o) same_home
-      ∙ ap (λ (n : ℕ). seen_list other.home (live (moment_of n reading) other.nodes) o) same_last
+      live-same one.home one.nodes other.nodes o (event_moment one.last reading) sound.tree sounds.tree same_seen
+      ∙ ap (λ (h : HomeData). seen_list h (live (event_moment one.last reading) other.nodes) o) same_home
+      ∙ ap (λ (n : ℕ). seen_list other.home (live (event_moment n reading) other.nodes) o) same_last
 
   -- the entity of these parts
   abbrev entity_of : HomeData → List ResourceData → ℕ → ℕ → EntityData
@@ -45,10 +45,10 @@ module _ (o : List ℕ) (one other : EntityData) (sound : IsSound one) (sounds :
 
   pub swept-alike : (reading : ℕ) → sight o (swept reading one) ≡ sight o (swept reading other)
   swept-alike reading =
-      ap (λ (ns : List ResourceData). entity_of one.home ns one.next (moment_of one.last reading)) (seen_left reading)
-      ∙ ap (λ (h : HomeData). entity_of h (seen_list other.home (live (moment_of other.last reading) other.nodes) o) one.next (moment_of one.last reading)) same_home
-      ∙ ap (λ (n : ℕ). entity_of other.home (seen_list other.home (live (moment_of other.last reading) other.nodes) o) n (moment_of one.last reading)) (ap (λ (e : EntityData). e.next) same)
-      ∙ ap (λ (n : ℕ). entity_of other.home (seen_list other.home (live (moment_of other.last reading) other.nodes) o) other.next (moment_of n reading)) same_last
+      ap (λ (ns : List ResourceData). entity_of one.home ns one.next (event_moment one.last reading)) (seen_left reading)
+      ∙ ap (λ (h : HomeData). entity_of h (seen_list other.home (live (event_moment other.last reading) other.nodes) o) one.next (event_moment one.last reading)) same_home
+      ∙ ap (λ (n : ℕ). entity_of other.home (seen_list other.home (live (event_moment other.last reading) other.nodes) o) n (event_moment one.last reading)) (ap (λ (e : EntityData). e.next) same)
+      ∙ ap (λ (n : ℕ). entity_of other.home (seen_list other.home (live (event_moment other.last reading) other.nodes) o) other.next (event_moment n reading)) same_last
 
   -- a step of both
   step_alike : (reading : ℕ) (event : Event) (after left : EntityData) (outcome twin : Outcome) → IsBy o event → Step reading event one outcome after → Step reading event other twin left → IsDone outcome → IsDone twin

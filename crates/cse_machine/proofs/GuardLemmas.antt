@@ -28,9 +28,9 @@ shows_none request fault other shows = elim shows [
 -- nothing is told of other resources
 tells_nothing : (e : EntityData) (request : RequestParts) (ids children addresses : List (List ℕ)) → ids ≡ [] → children ≡ [] → addresses ≡ [] → IsShownByRight e request ids children addresses
 tells_nothing e request ids children addresses a b c = record {
-  below = λ r there told. absurd (nothing_in _ (rw a at told));
-  referred = λ address r told named. absurd (nothing_in _ (rw b at told));
-  found = λ address r told named. absurd (nothing_in _ (rw c at told));
+  below = λ address told. absurd (nothing_in _ (rw a at told));
+  referred = λ address told. absurd (nothing_in _ (rw b at told));
+  found = λ address told. absurd (nothing_in _ (rw c at told));
 }
 
 -- ---- where nothing changes

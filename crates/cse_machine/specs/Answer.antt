@@ -1,9 +1,8 @@
 -- What a CSE answers a request (TS-0001, 10.2; TS-0004, 7.2 and 7.3.3).
-use Rattle.std.specs.Prelude.{◌≡◌, ℕ, Bool, true, false, ◌&&◌, not, nat_eq, List, [], ◌∷◌, codes}
-use Rattle.std.specs.Prelude.{Option, Some, None, is_none, slice_get, bytes_eq, if◌then◌else◌}
-use Rattle.std.specs.List.{starts_with}
+use Rattle.std.specs.Prelude.{◌≡◌, ℕ, Bool, true, false, ◌&&◌, List, [], ◌∷◌, Option, Some, None}
+use Rattle.std.specs.Prelude.{is_none, slice_get, bytes_eq, if◌then◌else◌}
 use Rattle.std.specs.Option.{option_map_or}
-use Rattle.m2m_names.specs.Name.{is_name, is_originator}
+use Rattle.m2m_names.specs.Name.{is_name, is_local_originator}
 use Rattle.m2m_names.specs.declared.codes.Rsc.TheVariants.{Ok as Fine, BadRequest, Internal}
 use Rattle.m2m_names.specs.declared.codes.Rsc.TheVariants.{NotFound, NoPrivilege}
 use Rattle.m2m_names.specs.declared.operations.Op.{Op}
@@ -26,10 +25,6 @@ starved request = refusal request Internal
 
 -- ---- which requests are served
 
--- an originator that is given in its short form
-abbrev pub is_short : List ℕ → Bool
-is_short o = is_originator o && not (starts_with nat_eq o (codes "/"))
-
 -- a Retrieve
 abbrev pub is_retrieve : Op → Bool
 is_retrieve Retrieve = true
@@ -48,7 +43,7 @@ is_plain request =
 abbrev pub is_plain_retrieve : RequestParts → Bool
 is_plain_retrieve request =
     is_retrieve request.op && is_name request.to
-    && option_map_or is_short request.fr false && is_plain request
+    && option_map_or is_local_originator request.fr false && is_plain request
 
 -- the requests that are served so far
 abbrev pub is_served : RequestParts → Bool
@@ -97,6 +92,6 @@ abbrev pub given : EntityData → RequestParts → Outcome × EntityData
 given e request = (Done (effect_of e request).reply, (effect_of e request).after)
 
 -- these are what it gives
-abbrev pub Gives : EntityData → RequestParts → Outcome → EntityData → Type 0
-Gives e request outcome after =
+abbrev pub ComesOf : EntityData → RequestParts → Outcome → EntityData → Type 0
+ComesOf e request outcome after =
     (outcome ≡ (given e request).0) × (after ≡ (given e request).1)

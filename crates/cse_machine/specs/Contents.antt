@@ -44,20 +44,20 @@ objects_below (list es) = []
 objects_below (object ps) = objects_under ps
 
 -- what the members of an object have
-abbrev pub parts_of : Data → List Data
-parts_of d = option_map_or (map (λ (e : Entry). e.1)) (as_object d) []
+abbrev pub member_values : Data → List Data
+member_values d = option_map_or (map (λ (e : Entry). e.1)) (as_object d) []
 
 -- the resource ids of those that a content shows below the first (TS-0004, 7.5.2)
 abbrev pub ids_below : Data → List (List ℕ)
 ids_below content =
     filter_map (λ d. option_and_then as_text (member_at (attr_short Ri) d))
-    (flat_map objects_below (parts_of content))
+    (flat_map objects_below (member_values content))
 
 -- the addresses of the children that it refers to
 abbrev pub references_in : Data → List (List ℕ)
 references_in content =
     filter_map (λ d. option_and_then as_text (member_at (codes "val") d))
-    (flat_map (λ d. elements_in (member_at (codes "ch") d)) (parts_of content))
+    (flat_map (λ d. elements_in (member_at (codes "ch") d)) (member_values content))
 
 -- the addresses that were found (TS-0004, 7.5.2)
 abbrev pub addresses_in : Data → List (List ℕ)

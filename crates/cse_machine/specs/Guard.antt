@@ -1,9 +1,13 @@
 -- What a request may show, and what it may change.
-use Rattle.std.specs.Prelude.{◌≡◌, ◌≢◌, ◌⊎◌, ℕ, Bool, false, List, [], ◌∷◌, ◌++◌, Contains, Option}
-use Rattle.std.specs.Prelude.{Some, None, IsTrue}
+use Rattle.std.specs.Prelude.{◌≡◌, ◌≢◌, ◌⊎◌, ℕ, Bool, false, ◌||◌, List, [], ◌∷◌, ◌++◌, Contains}
+use Rattle.std.specs.Prelude.{Some, None, IsTrue, bytes_eq, map, reverse, if◌then◌else◌}
 use Rattle.std.specs.Int.{is_in_range}
-use Rattle.std.specs.List.{list_any}
+use Rattle.std.specs.List.{join_with_byte, list_any}
 use Rattle.std.specs.Option.{option_map_or}
+use Rattle.m2m_names.specs.declared.attributes.Attr.{Attr}
+use Rattle.m2m_names.specs.declared.attributes.Attr.TheVariants.{Acpi, St}
+use Rattle.m2m_names.specs.declared.types.Ty.{Ty}
+use Rattle.m2m_names.specs.declared.types.Ty.TheVariants.{Container}
 use Rattle.m2m_names.specs.Operations.{op_row}
 use Rattle.m2m_names.specs.StatusCodes.{rsc_row}
 use Rattle.m2m_names.specs.declared.codes.Rsc.{Rsc}
@@ -13,9 +17,11 @@ use Rattle.m2m_names.specs.declared.operations.Op.TheVariants.{Notify}
 use Rattle.m2m_value.specs.Data.{Data}
 use Rattle.primitive_json.specs.declared.reply.ReplyParts.{ReplyParts}
 use Rattle.primitive_json.specs.declared.request.RequestParts.{RequestParts}
-use Rattle.resource_model.specs.Resource.{ResourceData, has_number, id_of}
+use Rattle.resource_model.specs.Attributes.{value_of}
+use Rattle.resource_model.specs.Resource.{ResourceData, has_number, id_of, is_ty}
 use Rattle.turn_desk.specs.Entries.{entry_of}
 use Rattle.tree_model.specs.Tree.{at, is_instance, line_of}
+use Rattle.policy_eval.specs.Alike.{is_one_of}
 use Rattle.policy_eval.specs.Rights.{relinks}
 use Rattle.policy_eval.specs.Seen.{discovery_bit}
 use Rattle.create_delete.specs.Entity.{EntityData, swept}
@@ -26,7 +32,7 @@ use Rattle.cse_machine.specs.declared.event.Outcome.TheVariants.{Done, Starved}
 use Rattle.cse_machine.specs.Answer.{addressed}
 use Rattle.cse_machine.specs.Contents.{ids_below, references_in, addresses_in}
 use Rattle.cse_machine.specs.History.{History, Leaves}
-use Rattle.cse_machine.specs.Rights.{originator_of, may, has_right}
+use Rattle.cse_machine.specs.Rights.{claimed_originator, is_granted, has_right}
 use Rattle.cse_machine.specs.Step.{Step}
 
 -- ---- what is shown
@@ -46,21 +52,34 @@ pub record HasRight (e : EntityData) (request : RequestParts) : Type 0 where
   pub named : addressed e request.to ≡ Some target
   pub right : IsTrue (has_right e request target.number)
 
--- the originator has these bits on each resource that one of these addresses names
-abbrev pub MayAtAll : EntityData → RequestParts → ℕ → List (List ℕ) → Type 0
-MayAtAll e request bits addresses =
-    (address : List ℕ) (r : ResourceData)
-    → Contains addresses address → addressed e address ≡ Some r
-    → IsTrue (may e request bits r.number)
+-- the address names the resource of the list: it is its resource id, or its structured address, the
+-- names from the CSEBase down to it with a slash between them (TS-0001, 9.3.1)
+abbrev pub is_address_of : List ResourceData → List ℕ → ResourceData → Bool
+is_address_of nodes address r =
+    bytes_eq address (id_of r)
+    || bytes_eq address
+    (join_with_byte 47 (reverse (map (λ (s : ResourceData). s.name) (line_of r.number nodes))))
+
+-- the address names some resource of the entity, and on each that it names the originator has these
+-- bits
+pub record IsNamedByRight (e : EntityData) (request : RequestParts) (bits : ℕ)
+    (address : List ℕ) : Type 0 where
+  pub some : IsTrue (list_any (is_address_of e.nodes address) e.nodes)
+  pub each : (r : ResourceData) → at r.number e.nodes ≡ Some r
+      → IsTrue (is_address_of e.nodes address r) → IsTrue (is_granted e request bits r.number)
+
+-- each of these addresses does
+abbrev pub AreNamedByRight : EntityData → RequestParts → ℕ → List (List ℕ) → Type 0
+AreNamedByRight e request bits addresses =
+    (address : List ℕ) → Contains addresses address → IsNamedByRight e request bits address
 
 -- of other resources a content shows those that the originator may retrieve, refers to such ones
 -- alone, and gives the addresses of those that it may discover
 pub record IsShownByRight (e : EntityData) (request : RequestParts)
     (ids children addresses : List (List ℕ)) : Type 0 where
-  pub below : (r : ResourceData) → at r.number e.nodes ≡ Some r → Contains ids (id_of r)
-      → IsTrue (may e request (op_row Retrieve).bit r.number)
-  pub referred : MayAtAll e request (op_row Retrieve).bit children
-  pub found : MayAtAll e request discovery_bit addresses
+  pub below : AreNamedByRight e request (op_row Retrieve).bit ids
+  pub referred : AreNamedByRight e request (op_row Retrieve).bit children
+  pub found : AreNamedByRight e request discovery_bit addresses
 
 abbrev pub OthersAreShownByRight : EntityData → RequestParts → ReplyParts → Type 0
 OthersAreShownByRight e request reply =
@@ -84,19 +103,43 @@ pub record IsChanged (before after : List ResourceData) (r s : ResourceData) : T
   pub is : at s.number after ≡ Some s
   pub differs : s ≢ r
 
--- the originator may change the resource, or its `acpi`, or a new instance stands in it
-abbrev pub IsChangedByRight : EntityData → RequestParts → EntityData → ResourceData → Type 0
-IsChangedByRight before request after r =
-    IsTrue (may before request (op_row Update).bit r.number)
-    ⊎ (IsTrue (relinks before.home before.nodes (originator_of request) r.number)
-    ⊎ ((i : ResourceData) × IsNew before.nodes after.nodes i × IsTrue (is_instance r.number i)))
+-- The resource differs in nothing but its attributes, its expiry and its last change, and the
+-- policies that it names stay (TS-0001, 10.2.4).
+pub record IsUpdated (r s : ResourceData) : Type 0 where
+  pub rest : s ≡ record r { lt = s.lt; et = s.et; attrs = s.attrs }
+  pub links : value_of Acpi s.attrs ≡ value_of Acpi r.attrs
+
+-- The resource differs in nothing but these attributes and its last change.
+pub record DiffersIn (attrs : List Attr) (r s : ResourceData) : Type 0 where
+  pub rest : s ≡ record r { lt = s.lt; attrs = s.attrs }
+  pub others : (a : Attr) → is_one_of attrs a ≡ false → value_of a s.attrs ≡ value_of a r.attrs
+
+-- what an Update of `acpi` alone changes: `acpi`, and the state tag that a container has (TS-0001,
+-- 9.6.1.3.2)
+abbrev pub link_attrs : Ty → List Attr
+link_attrs ty = if is_ty ty Container then Acpi ∷ St ∷ [] else Acpi ∷ []
+
+-- what a new instance changes of its container: the state tag (TS-0001, 9.6.6)
+abbrev pub filling_attrs : List Attr
+filling_attrs = St ∷ []
+
+-- A resource that stays was changed by UPDATE, in all but whom it is judged by; or the originator
+-- may change its `acpi`, and that changed; or a new instance stands in it.
+abbrev pub IsChangedByRight :
+    EntityData → RequestParts → EntityData → ResourceData → ResourceData → Type 0
+IsChangedByRight before request after r s =
+    (IsTrue (is_granted before request (op_row Update).bit r.number) × IsUpdated r s)
+    ⊎ ((IsTrue (relinks before.home before.nodes (claimed_originator request) r.number)
+    × DiffersIn (link_attrs r.ty) r s)
+    ⊎ ((i : ResourceData) × IsNew before.nodes after.nodes i × IsTrue (is_instance r.number i)
+    × DiffersIn filling_attrs r s))
 
 -- the operation may push out instances of the container of the number: by CREATE it adds one, or by
 -- UPDATE it changes the container (TS-0001, 9.6.6)
 abbrev pub may_push_out : Op → EntityData → RequestParts → ℕ → Bool
-may_push_out Create e request n = may e request (op_row Create).bit n
+may_push_out Create e request n = is_granted e request (op_row Create).bit n
 may_push_out Retrieve e request n = false
-may_push_out Update e request n = may e request (op_row Update).bit n
+may_push_out Update e request n = is_granted e request (op_row Update).bit n
 may_push_out Delete e request n = false
 may_push_out Notify e request n = false
 
@@ -107,7 +150,7 @@ pub record IsRemovedByRight (before : EntityData) (request : RequestParts)
   pub target : ResourceData
   pub named : addressed before request.to ≡ Some target
   pub right : (IsTrue (list_any (has_number target.number) (line_of r.number before.nodes))
-      × IsTrue (may before request (op_row Delete).bit target.number))
+      × IsTrue (is_granted before request (op_row Delete).bit target.number))
       ⊎ (IsTrue (is_instance target.number r)
       × IsTrue (may_push_out request.op before request target.number))
 
@@ -119,9 +162,9 @@ pub record IsGuarded (before : EntityData) (request : RequestParts) (reply : Rep
   pub shown : DoesShow reply → HasRight before request
   pub others : OthersAreShownByRight before request reply
   pub created : (r : ResourceData) → IsNew before.nodes after.nodes r
-      → IsTrue (may before request (op_row Create).bit r.parent)
+      → IsTrue (is_granted before request (op_row Create).bit r.parent)
   pub changed : (r s : ResourceData) → IsChanged before.nodes after.nodes r s
-      → IsChangedByRight before request after r
+      → IsChangedByRight before request after r s
   pub removed : (r : ResourceData) → IsGone before.nodes after.nodes r
       → IsRemovedByRight before request r
 

@@ -18,10 +18,6 @@ History = List (Entry Event Outcome)
 abbrev pub Leaves : EntityData → History → EntityData → Type 0
 Leaves opening history e = Runs Step opening history e
 
--- some entity is left
-abbrev pub IsLegal : EntityData → History → Type 0
-IsLegal opening history = (e : EntityData) × Leaves opening history e
-
 -- Where nothing has happened, the entity is the one that opened.
 abbrev pub BeginsLegal : Type 0
 BeginsLegal = (opening : EntityData) → Leaves opening [] opening

@@ -21,12 +21,12 @@ use Rattle.create_delete.specs.Entity.{EntityData}
 
 -- whom a request is judged as: without an originator as `C`, from an application entity that
 -- registers (TS-0001, 10.2.2.2)
-abbrev pub originator_of : RequestParts → List ℕ
-originator_of request = unwrap_or request.fr (codes "C")
+abbrev pub claimed_originator : RequestParts → List ℕ
+claimed_originator request = unwrap_or request.fr (codes "C")
 
 -- the originator has these bits on the resource of the number
-abbrev pub may : EntityData → RequestParts → ℕ → ℕ → Bool
-may e request bits n = grants e.home e.nodes (originator_of request) bits n
+abbrev pub is_granted : EntityData → RequestParts → ℕ → ℕ → Bool
+is_granted e request bits n = grants e.home e.nodes (claimed_originator request) bits n
 
 -- ---- kinds of requests
 
@@ -76,16 +76,16 @@ retrieve_bits request = if is_discovery request then discovery_bit else (op_row 
 -- a change of `acpi` alone is judged by who may change it, every other Update by UPDATE
 abbrev pub may_update : EntityData → RequestParts → ℕ → Bool
 may_update e request n =
-    if is_relink request then relinks e.home e.nodes (originator_of request) n
-    else may e request (op_row Update).bit n
+    if is_relink request then relinks e.home e.nodes (claimed_originator request) n
+    else is_granted e request (op_row Update).bit n
 
 -- the originator has the right that the operation needs on the resource of the number
 abbrev pub may_do : Op → EntityData → RequestParts → ℕ → Bool
-may_do Create e request n = may e request (create_bits request) n
-may_do Retrieve e request n = may e request (retrieve_bits request) n
+may_do Create e request n = is_granted e request (create_bits request) n
+may_do Retrieve e request n = is_granted e request (retrieve_bits request) n
 may_do Update e request n = may_update e request n
-may_do Delete e request n = may e request (op_row Delete).bit n
-may_do Notify e request n = may e request (op_row Notify).bit n
+may_do Delete e request n = is_granted e request (op_row Delete).bit n
+may_do Notify e request n = is_granted e request (op_row Notify).bit n
 
 abbrev pub has_right : EntityData → RequestParts → ℕ → Bool
 has_right e request n = may_do request.op e request n

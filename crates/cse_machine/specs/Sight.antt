@@ -1,16 +1,17 @@
 -- What an originator sees of an entity, and that it is answered by no more than that.
-use Rattle.std.specs.Prelude.{◌≡◌, ℕ, List, Bool, Some, IsTrue}
+use Rattle.std.specs.Prelude.{◌≡◌, ◌⊎◌, ℕ, List, Bool, false, ◌||◌, not, Some, IsTrue}
 use Rattle.std.specs.List.{All}
 use Rattle.turn_desk.specs.Entries.{readings_of, events_of, outcomes_of}
 use Rattle.primitive_json.specs.declared.reply.ReplyParts.{ReplyParts}
 use Rattle.primitive_json.specs.declared.request.RequestParts.{RequestParts}
 use Rattle.policy_eval.specs.Seen.{seen_list}
+use Rattle.policy_eval.specs.Shape.{shape_list}
 use Rattle.create_delete.specs.Entity.{EntityData, swept}
 use Rattle.create_delete.specs.Sound.{IsSound}
 use Rattle.cse_machine.specs.declared.event.Event.{Event}
 use Rattle.cse_machine.specs.declared.event.Event.TheVariants.{Ask}
 use Rattle.cse_machine.specs.declared.event.Outcome.TheVariants.{Done}
-use Rattle.cse_machine.specs.Answer.{is_plain_retrieve, given}
+use Rattle.cse_machine.specs.Answer.{is_plain_retrieve, is_served, given}
 use Rattle.cse_machine.specs.History.{History, Leaves, IsDone}
 use Rattle.cse_machine.specs.Step.{Step}
 
@@ -19,13 +20,34 @@ use Rattle.cse_machine.specs.Step.{Step}
 abbrev pub sight : List ℕ → EntityData → EntityData
 sight o e = record e { nodes = seen_list e.home e.nodes o }
 
--- the requests of which the laws of equal sight speak so far
-abbrev pub is_covered : RequestParts → Bool
-is_covered request = is_plain_retrieve request
+-- What an originator sees of the entity whatever its rights, and by which it is judged. That is
+-- home, next number and last moment, and of each resource the number, type, name and parent, when
+-- it is due, `acpi`, `macp` and whether the originator owns it; the `aei` of an AE; the `csi` of a
+-- remote CSE and the first http URL of its `poa`; and of a policy the bits that the originator has
+-- by `pv` and by `pvs`.
+abbrev pub shape : List ℕ → EntityData → EntityData
+shape o e = record e { nodes = shape_list e.home e.nodes o }
 
--- the request is one of them, and by this originator
+-- What an originator sees of a sound entity has the shape of that entity.
+abbrev pub SightHasItsShape : Type 0
+SightHasItsShape =
+    (e : EntityData) (o : List ℕ) → IsSound e → shape o (sight o e) ≡ shape o e
+
+-- Two entities of which the originator sees the same have one shape.
+abbrev pub EqualSightsHaveOneShape : Type 0
+EqualSightsHaveOneShape =
+    (left right : EntityData) (o : List ℕ)
+    → IsSound left → IsSound right → sight o left ≡ sight o right → shape o left ≡ shape o right
+
+-- the requests of which the laws of equal sight speak so far: a plain Retrieve, and what isn't
+-- served, which every entity refuses alike
+abbrev pub is_covered : RequestParts → Bool
+is_covered request = is_plain_retrieve request || not (is_served request)
+
+-- the request is one of them, and by this originator, or by anyone where it isn't served
 abbrev pub IsRequestBy : List ℕ → RequestParts → Type 0
-IsRequestBy o request = (request.fr ≡ Some o) × IsTrue (is_covered request)
+IsRequestBy o request =
+    IsTrue (is_covered request) × ((request.fr ≡ Some o) ⊎ (is_served request ≡ false))
 
 -- On what it sees, an originator is answered the same.
 abbrev pub IsAnsweredBySight : Type 0
@@ -44,7 +66,7 @@ EqualSightsAnswerAlike =
     → Step reading (Ask request) right (Done replied) other
     → reply ≡ replied
 
--- the event is such a request of this originator
+-- the event is such a request
 abbrev pub IsBy : List ℕ → Event → Type 0
 IsBy o (Ask request) = IsRequestBy o request
 

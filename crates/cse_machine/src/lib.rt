@@ -18,9 +18,10 @@ mod served;
 
 pub use event::{Event, Outcome};
 pub use laws::{
-    a_history_goes_one_way, an_originator_is_answered_by_what_it_sees,
-    equal_sights_are_answered_alike, nothing_is_shown_or_changed_without_a_grant,
-    steps_make_a_legal_history, what_is_refused_or_read_changes_nothing,
+    a_history_goes_one_way, a_sight_has_the_shape_of_its_entity,
+    an_originator_is_answered_by_what_it_sees, equal_sights_are_answered_alike,
+    nothing_is_shown_or_changed_without_a_grant, steps_make_a_legal_history,
+    what_is_refused_or_read_changes_nothing,
 };
 pub use machine::step;
 

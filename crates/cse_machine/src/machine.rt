@@ -106,22 +106,22 @@ fn has_right<T: Tree>(entity: &Entity<T>, request: &Request, target: &Resource) 
     ensures { result ≡ rights.has_right entity.now request.now target.now.number }
 {
     let bit = Op::Retrieve.bit();
-    may(entity, request, bit, target)
+    is_granted(entity, request, bit, target)
 }
 
 // Whether the originator has these bits on the resource.
-fn may<T: Tree>(entity: &Entity<T>, request: &Request, bits: u32, target: &Resource) -> bool
-    requires originator { IsTrue (is_originator (rights.originator_of request.now)) }
+fn is_granted<T: Tree>(entity: &Entity<T>, request: &Request, bits: u32, target: &Resource) -> bool
+    requires originator { IsTrue (is_originator (rights.claimed_originator request.now)) }
     requires resource { IsTrue (has target.now.number entity.now.nodes) }
-    ensures { result ≡ rights.may entity.now request.now bits target.now.number }
+    ensures { result ≡ rights.is_granted entity.now request.now bits target.now.number }
 {
-    let o = originator_of(request);
+    let o = claimed_originator(request);
     granted(&entity.tree, &entity.home, o, bits, target.number())
 }
 
 // Whom the request is judged as.
-fn originator_of(request: &Request) -> &[u8]
-    ensures { result.now ≡ rights.originator_of request.now }
+fn claimed_originator(request: &Request) -> &[u8]
+    ensures { result.now ≡ rights.claimed_originator request.now }
 {
     match &request.parts().fr {
         Some(o) => o.entries(),

@@ -1,9 +1,10 @@
 // Which requests are served so far.
 ghost use Rattle.std.specs.Prelude.{◌≡◌, false};
 ghost use Rattle.std.specs.Option.{option_map_or};
+ghost use Rattle.m2m_names.specs.Name.{is_local_originator};
 ghost use Rattle.cse_machine.specs.Answer as spec;
 
-use m2m_names::{Op, is_name, is_originator};
+use m2m_names::{Op, is_local_originator, is_name};
 use m2m_value::Text;
 use primitive_json::{Request, RequestParts};
 
@@ -26,18 +27,12 @@ fn is_retrieve(op: Op) -> bool
 }
 
 fn is_by_short(fr: &Option<Text>) -> bool
-    ensures { result ≡ option_map_or spec.is_short fr.now false }
+    ensures { result ≡ option_map_or is_local_originator fr.now false }
 {
     match fr {
-        Some(o) => is_short(o.entries()),
+        Some(o) => is_local_originator(o.entries()),
         None => false,
     }
-}
-
-fn is_short(o: &[u8]) -> bool
-    ensures { result ≡ spec.is_short o.now }
-{
-    is_originator(o) && !o.starts_with(b"/")
 }
 
 // Whether it has no filter and no other wish.

@@ -4,8 +4,6 @@ use Rattle.std.specs.List.{All}
 use Rattle.std.proofs.lemmas.Bool.{cases_Bool, true≢false, false≢true}
 use Rattle.std.proofs.lemmas.List.{append_cancel_left}
 use Rattle.std.proofs.lemmas.List.Elements.{All-map}
-use Rattle.m2m_io.specs.Link.{Exchange}
-use Rattle.m2m_io.specs.Outside.{outside}
 use Rattle.primitive_json.specs.declared.reply.ReplyParts.{ReplyParts}
 use Rattle.turn_desk.specs.Entries.{readings_of, events_of, outcomes_of}
 use Rattle.turn_desk.specs.Growth.{IsOwnRun}
@@ -29,9 +27,9 @@ use Rattle.cse_server.specs.declared.connection.Ended.{Ended}
 use Rattle.cse_server.specs.declared.connection.Ended.TheVariants.{Closed, NoFrame, ReadFault, WriteFault, Memory}
 use Rattle.cse_server.specs.Closing.{closes}
 use Rattle.cse_server.specs.Talk.{requests_in, talk, some_closes, ends_at_close}
-use Rattle.cse_server.specs.Connection.{IsThese, RefusesRightly, EndsRightly, Says, Serves}
+use Rattle.cse_server.specs.Connection.{IsThese, RefusesRightly, EndsRightly, Says, AsksFrames}
 use Rattle.cse_server.specs.Replies.{GivesReplies}
-use Rattle.cse_server.specs.Laws.{IsWhole, IsAnsweredInOneWay, EqualSightsAreServedAlike}
+use Rattle.cse_server.specs.Laws.{IsWhole, ServesBoth, AreServedAlike, IsAnsweredInOneWay, EqualSightsAreServedAlike}
 use Rattle.cse_server.proofs.RepliesLemmas.{gives_one_way}
 
 -- ---- where a stream ends
@@ -149,77 +147,78 @@ talk_same : (place : ℕ) (heard others : List Frame) (refused denied : Bool) (r
     → talk place heard refused rs ≡ talk place others denied ps
 talk_same place heard others refused denied rs ps a b c = λ i. talk place (a i) (b i) (c i)
 
--- Two connections with one stream, at the same readings, that ended whole.
-module _ (left right after other : EntityData) (stream old new twin given told : List ℕ) (now gone : Option (List ℕ)) (link made other_made : Option (List Exchange)) (ended end : Ended)
-    (first : Serves (IsOwnRun Step) left after (outside (Some stream) (Some old) (Some given) link) (outside now (Some new) (Some told) made) ended)
-    (second : Serves (IsOwnRun Step) right other (outside (Some stream) (Some old) (Some given) link) (outside gone (Some twin) (Some told) other_made) end)
-    (whole : IsWhole ended) (wholes : IsWhole end) where
-  both_heard : (first.heard ≡ second.heard) × (first.refused ≡ second.refused) × (ended ≡ end)
-  both_heard =
-      let s = first.stream in
-      let t = second.stream in
-      heard_one_way first.heard second.heard 1 ended end first.refused second.refused stream s.0 t.0 s.1 t.1 first.up_to second.up_to
-      (settles 1 ended first.refused first.heard s.0 now whole s.2 s.3)
-      (settles 1 end second.refused second.heard t.0 gone wholes t.2 t.3)
-
-  same_readings : readings_of first.asked.mine ≡ readings_of second.asked.mine
-  same_readings =
-      first.asked.readings_are ∙ append_cancel_left given first.readings second.readings (sym first.clock ∙ second.clock)
-      ∙ sym second.asked.readings_are
-
-  same_events : events_of first.asked.mine ≡ events_of second.asked.mine
-  same_events = first.asked.events_are ∙ ap (λ fs. map Ask (requests_in fs)) both_heard.0 ∙ sym second.asked.events_are
-
-  -- where the outcomes are the same, so are the replies and the exchanges
-  same_replies : outcomes_of first.asked.mine ≡ outcomes_of second.asked.mine
-      → (first.replies ≡ second.replies) × (first.exchanges ≡ second.exchanges)
-  same_replies outcomes =
-      let os : first.outcomes ≡ second.outcomes = sym first.asked.outcomes_are ∙ outcomes ∙ second.asked.outcomes_are in
-      gives_one_way (requests_in second.heard) second.outcomes first.replies second.replies first.exchanges second.exchanges
-      (subst (λ (v : List Outcome). GivesReplies (requests_in second.heard) v first.replies first.exchanges) os
-      (subst (λ (fs : List Frame). GivesReplies (requests_in fs) first.outcomes first.replies first.exchanges) both_heard.0 first.gives))
-      second.gives
-
-  -- and what is written
-  same_bytes : outcomes_of first.asked.mine ≡ outcomes_of second.asked.mine → new ≡ twin
-  same_bytes outcomes =
-      said_whole ended old new _ _ whole first.said
-      ∙ ap (λ v. old ++ v) (talk_same 1 first.heard second.heard first.refused second.refused first.replies second.replies both_heard.0 both_heard.1
-      (same_replies outcomes).0)
-      ∙ sym (said_whole end old twin _ _ wholes second.said)
-
 all_done : (mine : History) (outcomes : List Outcome) → outcomes_of mine ≡ outcomes → All IsDone outcomes → All IsDone (outcomes_of mine)
 all_done mine outcomes same done = subst (λ (os : List Outcome). All IsDone os) (sym same) done
 
+-- Two connections with one stream, at the same readings, that ended whole.
+module _ (left right after other : EntityData) (both : ServesBoth left right after other) where
+  abbrev one : AsksFrames (IsOwnRun Step) left after (Some both.given) (Some both.told) both.link both.made both.first.heard
+  one = both.first.asks
+
+  abbrev two : AsksFrames (IsOwnRun Step) right other (Some both.given) (Some both.told) both.other_link both.other_made both.second.heard
+  two = both.second.asks
+
+  both_heard : (both.first.heard ≡ both.second.heard) × (both.first.refused ≡ both.second.refused) × (both.ended ≡ both.end)
+  both_heard =
+      let s = both.first.stream in
+      let t = both.second.stream in
+      heard_one_way both.first.heard both.second.heard 1 both.ended both.end both.first.refused both.second.refused both.stream s.0 t.0 s.1 t.1 both.first.up_to both.second.up_to
+      (settles 1 both.ended both.first.refused both.first.heard s.0 both.rest both.whole s.2 s.3)
+      (settles 1 both.end both.second.refused both.second.heard t.0 both.other_rest both.wholes t.2 t.3)
+
+  same_readings : readings_of one.asked.mine ≡ readings_of two.asked.mine
+  same_readings =
+      one.asked.readings_are ∙ append_cancel_left both.given one.readings two.readings (sym one.clock ∙ two.clock)
+      ∙ sym two.asked.readings_are
+
+  same_events : events_of one.asked.mine ≡ events_of two.asked.mine
+  same_events = one.asked.events_are ∙ ap (λ fs. map Ask (requests_in fs)) both_heard.0 ∙ sym two.asked.events_are
+
+  -- where the outcomes are the same, so are the replies and the exchanges
+  same_replies : outcomes_of one.asked.mine ≡ outcomes_of two.asked.mine → (one.replies ≡ two.replies) × (one.exchanges ≡ two.exchanges)
+  same_replies outcomes =
+      let os : one.outcomes ≡ two.outcomes = sym one.asked.outcomes_are ∙ outcomes ∙ two.asked.outcomes_are in
+      gives_one_way (requests_in both.second.heard) two.outcomes one.replies two.replies one.exchanges two.exchanges
+      (subst (λ (v : List Outcome). GivesReplies (requests_in both.second.heard) v one.replies one.exchanges) os
+      (subst (λ (fs : List Frame). GivesReplies (requests_in fs) one.outcomes one.replies one.exchanges) both_heard.0 one.gives))
+      two.gives
+
+  -- and what is written
+  same_bytes : outcomes_of one.asked.mine ≡ outcomes_of two.asked.mine → both.new ≡ both.twin
+  same_bytes outcomes =
+      said_whole both.ended both.old both.new _ _ both.whole both.first.said
+      ∙ ap (λ v. both.old ++ v) (talk_same 1 both.first.heard both.second.heard both.first.refused both.second.refused one.replies two.replies both_heard.0 both_heard.1
+      (same_replies outcomes).0)
+      ∙ sym (said_whole both.end both.old both.twin _ _ both.wholes both.second.said)
+
+  served_same : outcomes_of one.asked.mine ≡ outcomes_of two.asked.mine → AreServedAlike both
+  served_same outcomes = (same_bytes outcomes, both_heard.2, (same_replies outcomes).1)
+
+  all_first : All IsDone (outcomes_of one.asked.mine)
+  all_first = all_done one.asked.mine one.outcomes one.asked.outcomes_are both.done
+
+  all_second : All IsDone (outcomes_of two.asked.mine)
+  all_second = all_done two.asked.mine two.outcomes two.asked.outcomes_are both.dones
+
 pub answered_in_one_way : IsAnsweredInOneWay
-answered_in_one_way opening after other stream old new twin given told now gone link made other_made ended end first second whole wholes done dones =
+answered_in_one_way opening after other both =
+    let one = both.first.asks.asked in
+    let two = both.second.asks.asked in
     let way =
-    one_way first.asked.mine second.asked.mine opening after other
-    (Grew-runs Step first.asked.grew) (Grew-runs Step second.asked.grew)
-    (same_readings opening opening after other stream old new twin given told now gone link made other_made ended end first second whole wholes)
-    (same_events opening opening after other stream old new twin given told now gone link made other_made ended end first second whole wholes)
-    (all_done first.asked.mine first.outcomes first.asked.outcomes_are done)
-    (all_done second.asked.mine second.outcomes second.asked.outcomes_are dones) in (
-      same_bytes opening opening after other stream old new twin given told now gone link made other_made ended end first second whole wholes way.0,
-      (both_heard opening opening after other stream old new twin given told now gone link made other_made ended end first second whole wholes).2,
-      (same_replies opening opening after other stream old new twin given told now gone link made other_made ended end first second whole wholes way.0).1,
-      way.1,
-    )
+    one_way one.mine two.mine opening after other (Grew-runs Step one.grew) (Grew-runs Step two.grew)
+    (same_readings opening opening after other both) (same_events opening opening after other both)
+    (all_first opening opening after other both) (all_second opening opening after other both) in
+    (served_same opening opening after other both way.0, way.1)
 
 -- ---- by one originator
 
 pub served_alike : EqualSightsAreServedAlike
-served_alike left right after other o stream old new twin given told now gone link made other_made ended end first second sound sounds same by whole wholes done dones =
+served_alike left right after other o both sound sounds same by =
+    let one = both.first.asks.asked in
+    let two = both.second.asks.asked in
     let way =
-    stay_alike first.asked.mine second.asked.mine o left right after other sound sounds same
-    (Grew-runs Step first.asked.grew) (Grew-runs Step second.asked.grew)
-    (same_readings left right after other stream old new twin given told now gone link made other_made ended end first second whole wholes)
-    (same_events left right after other stream old new twin given told now gone link made other_made ended end first second whole wholes)
-    (subst (λ (es : List Event). All (IsBy o) es) (sym first.asked.events_are) (All-map (IsBy o) Ask (requests_in first.heard) by))
-    (all_done first.asked.mine first.outcomes first.asked.outcomes_are done)
-    (all_done second.asked.mine second.outcomes second.asked.outcomes_are dones) in (
-      same_bytes left right after other stream old new twin given told now gone link made other_made ended end first second whole wholes way.0,
-      (both_heard left right after other stream old new twin given told now gone link made other_made ended end first second whole wholes).2,
-      (same_replies left right after other stream old new twin given told now gone link made other_made ended end first second whole wholes way.0).1,
-      way.1,
-    )
+    stay_alike one.mine two.mine o left right after other sound sounds same (Grew-runs Step one.grew) (Grew-runs Step two.grew)
+    (same_readings left right after other both) (same_events left right after other both)
+    (subst (λ (es : List Event). All (IsBy o) es) (sym one.events_are) (All-map (IsBy o) Ask (requests_in both.first.heard) by))
+    (all_first left right after other both) (all_second left right after other both) in
+    (served_same left right after other both way.0, way.1)

@@ -26,7 +26,7 @@ put_err {W = W} written old new text (Err OutOfMemory) fault memory =
 pub cut_first : (old new : Option (List ℕ)) (before text : List ℕ) → before ≡ [] → AppendsPrefix old new text → AppendsCut old new before text
 cut_first old new before text none p = record {
   part = take p.0 text;
-  missing = drop p.0 text;
+  unsaid = drop p.0 text;
   text_is = rw none (sym (take-append-drop p.0 text));
   written = rw none p.2;
 }
@@ -36,10 +36,10 @@ pub cut_behind : (old mid new : Option (List ℕ)) (replied before both text las
     → Appends old mid replied → AppendsCut mid new before text → AppendsCut old new both (replied ++ text)
 cut_behind old mid new replied before both text last joined whole cut = record {
   part = last ++ cut.part;
-  missing = cut.missing;
-  text_is = ap (λ v. replied ++ v) cut.text_is ∙ sym (append_assoc replied before (cut.part ++ cut.missing))
-      ∙ ap (λ v. v ++ (cut.part ++ cut.missing)) joined ∙ append_assoc both last (cut.part ++ cut.missing)
-      ∙ ap (λ v. both ++ v) (sym (append_assoc last cut.part cut.missing));
+  unsaid = cut.unsaid;
+  text_is = ap (λ v. replied ++ v) cut.text_is ∙ sym (append_assoc replied before (cut.part ++ cut.unsaid))
+      ∙ ap (λ v. v ++ (cut.part ++ cut.unsaid)) joined ∙ append_assoc both last (cut.part ++ cut.unsaid)
+      ∙ ap (λ v. both ++ v) (sym (append_assoc last cut.part cut.unsaid));
   written = subst (λ (v : List ℕ). Appends old new v)
       (sym (append_assoc replied before cut.part) ∙ ap (λ v. v ++ cut.part) joined ∙ append_assoc both last cut.part)
       (Appends-trans old mid new replied (before ++ cut.part) whole cut.written);

@@ -21,7 +21,7 @@ use Rattle.cse_server.specs.declared.connection.Ended.{Ended}
 use Rattle.cse_server.specs.declared.connection.Ended.TheVariants.{Closed, NoFrame, ReadFault, WriteFault, Memory}
 use Rattle.cse_server.specs.Closing.{closes}
 use Rattle.cse_server.specs.Talk.{reply_texts, last_reply, talk, talk_before_last, some_closes, ends_at_close}
-use Rattle.cse_server.specs.Connection.{IsThese, ReadsLittle, RefusesRightly, EndsRightly, AppendsCut, Says, ServesFrom}
+use Rattle.cse_server.specs.Connection.{IsThese, ReadsLittle, RefusesRightly, EndsRightly, AppendsCut, Says, AsksFrames, ServesFrom}
 use Rattle.cse_server.specs.Way.{Leads, Goes, Hears, Refuses, SaysTurn, Turns, end_of_put}
 use Rattle.cse_server.proofs.NextLemmas.{kept_leads, reads_little, ended_empty, refused_rightly, reply_texts-one, some_closes-one}
 use Rattle.cse_server.proofs.PutLemmas.{prefix_none, cut_first}
@@ -106,16 +106,9 @@ module _ {S : Type 0} (grown : S → List (Marked Event Outcome) → S → Type 
   turned place before after old new frame r ended h said = record {
     heard = frame ∷ [];
     either = inl refl;
-    readings = h.readings;
-    outcomes = h.outcomes;
-    replies = h.replies;
-    exchanges = h.exchanges;
-    asked = h.asked;
-    clock = h.clock;
-    gives = h.gives;
-    link = h.link;
+    asks = h.asks;
     said = subst (λ (text : List ℕ). SaysTurn place frame ended old.written new.written text)
-        (ap (λ (v : ReplyParts). reply_text v (closes place frame)) h.replied ∙ sym (reply_texts-one frame place h.replies)) said;
+        (ap (λ (v : ReplyParts). reply_text v (closes place frame)) h.replied ∙ sym (reply_texts-one frame place h.asks.replies)) said;
   }
 
   -- memory ran out before there was a reply
@@ -126,32 +119,31 @@ module _ {S : Type 0} (grown : S → List (Marked Event Outcome) → S → Type 
   starved_turn place before after old new frame r h same = record {
     heard = frame ∷ [];
     either = inl refl;
-    readings = h.readings;
-    outcomes = h.outcomes;
-    replies = h.replies;
-    exchanges = h.exchanges;
-    asked = h.asked;
-    clock = h.clock;
-    gives = h.gives;
-    link = h.link;
-    said = subst (λ (v : Option (List ℕ)). AppendsPrefix old.written v (reply_texts (frame ∷ []) place h.replies)) (sym same)
-        (prefix_none old.written (reply_texts (frame ∷ []) place h.replies));
+    asks = h.asks;
+    said = subst (λ (v : Option (List ℕ)). AppendsPrefix old.written v (reply_texts (frame ∷ []) place h.asks.replies)) (sym same)
+        (prefix_none old.written (reply_texts (frame ∷ []) place h.asks.replies));
   }
 
   module _ (nothing : (seat : S) → grown seat [] seat) where
-    -- memory ran out before the frame was heard
-    pub unheard_turn : (place : ℕ) (seat : S) (old : Outside) (frame : Frame) → Turns place grown seat seat old old frame (Some Memory)
-    unheard_turn place seat old frame = record {
-      heard = [];
-      either = inr (refl, refl);
+    -- no frame was put to the seat
+    abbrev asks_none : (seat : S) (given now : Option (List ℕ)) (told more : Option (List Exchange)) → now ≡ given → more ≡ told → AsksFrames grown seat seat given now told more []
+    asks_none seat given now told more readings exchanges = record {
       readings = [];
       outcomes = [];
       replies = [];
       exchanges = [];
       asked = AsksAll-nothing grown nothing seat;
-      clock = Tells-nil old.readings;
+      clock = subst (λ (v : Option (List ℕ)). Tells (λ list. list ++ []) given v) (sym readings) (Tells-nil given);
       gives = refl;
-      link = Tells-nil old.exchanges;
+      link = subst (λ (v : Option (List Exchange)). Tells (λ list. list ++ []) told v) (sym exchanges) (Tells-nil told);
+    }
+
+    -- memory ran out before the frame was heard
+    pub unheard_turn : (place : ℕ) (seat : S) (old : Outside) (frame : Frame) → Turns place grown seat seat old old frame (Some Memory)
+    unheard_turn place seat old frame = record {
+      heard = [];
+      either = inr (refl, refl);
+      asks = asks_none seat old.readings old.readings old.exchanges old.exchanges refl refl;
       said = prefix_none old.written [];
     }
 
@@ -164,14 +156,7 @@ module _ {S : Type 0} (grown : S → List (Marked Event Outcome) → S → Type 
     serves_none place seat old new refused ended readings exchanges stream said = record {
       heard = [];
       refused = refused;
-      readings = [];
-      outcomes = [];
-      replies = [];
-      exchanges = [];
-      asked = AsksAll-nothing grown nothing seat;
-      clock = subst (λ (v : Option (List ℕ)). Tells (λ given. given ++ []) old.readings v) (sym readings) (Tells-nil old.readings);
-      gives = refl;
-      link = subst (λ (v : Option (List Exchange)). Tells (λ told. told ++ []) old.exchanges v) (sym exchanges) (Tells-nil old.exchanges);
+      asks = asks_none seat old.readings new.readings old.exchanges new.exchanges readings exchanges;
       up_to = refl;
       stream = here old.left stream;
       said = subst (λ (before : List ℕ). Says ended old.written new.written before (talk place [] refused []))
@@ -257,14 +242,7 @@ module _ {S : Type 0} (grown : S → List (Marked Event Outcome) → S → Type 
       (outside rest new.written new.readings new.exchanges)
   goes_on place before after left rest old new frame leads t = record {
     heard = t.heard;
-    readings = t.readings;
-    outcomes = t.outcomes;
-    replies = t.replies;
-    exchanges = t.exchanges;
-    asked = t.asked;
-    clock = t.clock;
-    gives = t.gives;
-    link = t.link;
+    asks = t.asks;
     places = ap (λ (fs : List Frame). place + length fs) e;
     stays_on = rw e (some_closes-one frame place false t.said.0);
     stream = subst (λ (fs : List Frame). Leads left fs rest) (sym e) leads;
@@ -283,26 +261,19 @@ module _ {S : Type 0} (grown : S → List (Marked Event Outcome) → S → Type 
   serves_turn place before after left src held old new frame ended few little leads t = record {
     heard = t.heard;
     refused = false;
-    readings = t.readings;
-    outcomes = t.outcomes;
-    replies = t.replies;
-    exchanges = t.exchanges;
-    asked = t.asked;
-    clock = t.clock;
-    gives = t.gives;
-    link = t.link;
+    asks = t.asks;
     up_to = elim t.either [
       | inl same ↦ subst (λ (fs : List Frame). IsTrue (ends_at_close fs place)) (sym same) refl
       | inr starved ↦ subst (λ (fs : List Frame). IsTrue (ends_at_close fs place)) (sym starved.0) refl
     ];
     stream = elim t.either [
-      | inl same ↦ turn_stream left src held place frame ended t.heard old.written new.written (reply_texts t.heard place t.replies) same few leads t.said
+      | inl same ↦ turn_stream left src held place frame ended t.heard old.written new.written (reply_texts t.heard place t.asks.replies) same few leads t.said
       | inr starved ↦ starved_stream left src place ended t.heard starved.0 (some_same ended starved.1) little
     ];
-    said = turn_says place frame ended old.written new.written _ (reply_texts t.heard place t.replies)
+    said = turn_says place frame ended old.written new.written _ (reply_texts t.heard place t.asks.replies)
         (elim t.either [
-          | inl same ↦ ap (λ (fs : List Frame). talk_before_last place fs false t.replies) same
-          | inr starved ↦ ap (λ (fs : List Frame). talk_before_last place fs false t.replies) starved.0
+          | inl same ↦ ap (λ (fs : List Frame). talk_before_last place fs false t.asks.replies) same
+          | inr starved ↦ ap (λ (fs : List Frame). talk_before_last place fs false t.asks.replies) starved.0
         ]) t.said;
   }
 
@@ -326,14 +297,7 @@ module _ {S : Type 0} (grown : S → List (Marked Event Outcome) → S → Type 
         → Goes place place grown seat seat (outside left old given link) (outside (stream_of held left) old given link)
     goes_none place seat left held old given link none = record {
       heard = [];
-      readings = [];
-      outcomes = [];
-      replies = [];
-      exchanges = [];
-      asked = AsksAll-nothing grown nothing seat;
-      clock = Tells-nil given;
-      gives = refl;
-      link = Tells-nil link;
+      asks = asks_none nothing seat given given link link refl refl;
       places = omega arith;
       stays_on = refl;
       stream = rw none (start left);

@@ -18,7 +18,7 @@ use Rattle.cse_machine.specs.declared.event.Outcome.{Outcome}
 use Rattle.cse_server.specs.declared.connection.Ended.{Ended}
 use Rattle.cse_server.specs.declared.connection.Ended.TheVariants.{Closed, NoFrame, ReadFault, WriteFault, Memory}
 use Rattle.cse_server.specs.Talk.{requests_in, reply_texts, talk, talk_before_last, some_closes}
-use Rattle.cse_server.specs.Connection.{IsThese, RefusesRightly, EndsRightly, Says, ServesFrom}
+use Rattle.cse_server.specs.Connection.{IsThese, RefusesRightly, EndsRightly, Says, AsksFrames, ServesFrom}
 use Rattle.cse_server.specs.Replies.{GivesReplies}
 use Rattle.cse_server.specs.Way.{Leads, Goes}
 use Rattle.cse_server.proofs.TalkLemmas.{some_closes-append, ends_at_close-append, requests_in-append, reply_texts-append, talk-append, before_last-joined}
@@ -107,6 +107,18 @@ module _ {S : Type 0} (grown : S → List (Marked Event Outcome) → S → Type 
       subst (λ (v : List Event). AsksAll grown before (rs ++ rs') v (os ++ os') after) (sym events)
       (AsksAll-append grown on first then)
 
+  abbrev asks-append : (before between after : S) (g g' g'' : Option (List ℕ)) (t t' t'' : Option (List Exchange)) (xs ys : List Frame) → AsksFrames grown before between g g' t t' xs → AsksFrames grown between after g' g'' t' t'' ys → AsksFrames grown before after g g'' t t'' (xs ++ ys)
+  asks-append before between after g g' g'' t t' t'' xs ys a b = record {
+    readings = a.readings ++ b.readings;
+    outcomes = a.outcomes ++ b.outcomes;
+    replies = a.replies ++ b.replies;
+    exchanges = a.exchanges ++ b.exchanges;
+    asked = asked-append before between after a.readings b.readings xs ys a.outcomes b.outcomes a.asked b.asked;
+    clock = Tells-append a.readings b.readings g g' g'' a.clock b.clock;
+    gives = gave-append xs ys a.outcomes b.outcomes a.replies b.replies a.exchanges b.exchanges a.gives b.gives;
+    link = Tells-append a.exchanges b.exchanges t t' t'' a.link b.link;
+  }
+
   -- ---- what goes on, and then goes on or ends
 
   pub Goes-then : (place between next : ℕ) (before seat after : S) (old mid new : Outside)
@@ -115,20 +127,13 @@ module _ {S : Type 0} (grown : S → List (Marked Event Outcome) → S → Type 
       → Goes place next grown before after old new
   Goes-then place between next before seat after old mid new a b = record {
     heard = a.heard ++ b.heard;
-    readings = a.readings ++ b.readings;
-    outcomes = a.outcomes ++ b.outcomes;
-    replies = a.replies ++ b.replies;
-    exchanges = a.exchanges ++ b.exchanges;
-    asked = asked-append before seat after a.readings b.readings a.heard b.heard a.outcomes b.outcomes a.asked b.asked;
-    clock = Tells-append a.readings b.readings old.readings mid.readings new.readings a.clock b.clock;
-    gives = gave-append a.heard b.heard a.outcomes b.outcomes a.replies b.replies a.exchanges b.exchanges a.gives b.gives;
-    link = Tells-append a.exchanges b.exchanges old.exchanges mid.exchanges new.exchanges a.link b.link;
+    asks = asks-append before seat after old.readings mid.readings new.readings old.exchanges mid.exchanges new.exchanges a.heard b.heard a.asks b.asks;
     places = rw length-append (omega (arith, a.places, b.places));
     stays_on = some_closes-append a.heard b.heard place a.stays_on ∙ ap (some_closes b.heard) a.places ∙ b.stays_on;
     stream = Leads-append a.heard b.heard old.left mid.left new.left a.stream b.stream;
     said =
-        let fit = gives-length (requests_in a.heard) a.outcomes a.replies a.exchanges a.gives in
-        rw (reply_texts-append a.heard b.heard place a.replies b.replies a.stays_on fit, a.places)
+        let fit = gives-length (requests_in a.heard) a.asks.outcomes a.asks.replies a.asks.exchanges a.asks.gives in
+        rw (reply_texts-append a.heard b.heard place a.asks.replies b.asks.replies a.stays_on fit, a.places)
         (Appends-trans old.written mid.written new.written _ _ a.said b.said);
   }
 
@@ -139,22 +144,15 @@ module _ {S : Type 0} (grown : S → List (Marked Event Outcome) → S → Type 
   Serves-then place between before seat after old mid new ended a b = record {
     heard = a.heard ++ b.heard;
     refused = b.refused;
-    readings = a.readings ++ b.readings;
-    outcomes = a.outcomes ++ b.outcomes;
-    replies = a.replies ++ b.replies;
-    exchanges = a.exchanges ++ b.exchanges;
-    asked = asked-append before seat after a.readings b.readings a.heard b.heard a.outcomes b.outcomes a.asked b.asked;
-    clock = Tells-append a.readings b.readings old.readings mid.readings new.readings a.clock b.clock;
-    gives = gave-append a.heard b.heard a.outcomes b.outcomes a.replies b.replies a.exchanges b.exchanges a.gives b.gives;
-    link = Tells-append a.exchanges b.exchanges old.exchanges mid.exchanges new.exchanges a.link b.link;
+    asks = asks-append before seat after old.readings mid.readings new.readings old.exchanges mid.exchanges new.exchanges a.heard b.heard a.asks b.asks;
     up_to = ends_at_close-append a.heard b.heard place a.stays_on (rw a.places b.up_to);
     stream = stream_then place between a.heard b.heard b.refused ended old.left mid.left new.left a.stays_on a.places a.stream b.stream;
     said =
-        let fit = gives-length (requests_in a.heard) a.outcomes a.replies a.exchanges a.gives in
-        let joined = before_last-joined a.heard b.heard place b.refused a.replies b.replies a.stays_on fit in
-        let before : reply_texts a.heard place a.replies ++ talk_before_last between b.heard b.refused b.replies ≡ talk_before_last place (a.heard ++ b.heard) b.refused (a.replies ++ b.replies) ++ joined.0 =
-        ap (λ n. reply_texts a.heard place a.replies ++ talk_before_last n b.heard b.refused b.replies) (sym a.places) ∙ joined.1 in
-        rw (talk-append a.heard b.heard place b.refused a.replies b.replies a.stays_on fit, a.places)
-        (Says-then ended old.written mid.written new.written (reply_texts a.heard place a.replies) (talk_before_last between b.heard b.refused b.replies) (talk_before_last place (a.heard ++ b.heard) b.refused (a.replies ++ b.replies))
-        (talk between b.heard b.refused b.replies) joined.0 before a.said b.said);
+        let fit = gives-length (requests_in a.heard) a.asks.outcomes a.asks.replies a.asks.exchanges a.asks.gives in
+        let joined = before_last-joined a.heard b.heard place b.refused a.asks.replies b.asks.replies a.stays_on fit in
+        let before : reply_texts a.heard place a.asks.replies ++ talk_before_last between b.heard b.refused b.asks.replies ≡ talk_before_last place (a.heard ++ b.heard) b.refused (a.asks.replies ++ b.asks.replies) ++ joined.0 =
+        ap (λ n. reply_texts a.heard place a.asks.replies ++ talk_before_last n b.heard b.refused b.asks.replies) (sym a.places) ∙ joined.1 in
+        rw (talk-append a.heard b.heard place b.refused a.asks.replies b.asks.replies a.stays_on fit, a.places)
+        (Says-then ended old.written mid.written new.written (reply_texts a.heard place a.asks.replies) (talk_before_last between b.heard b.refused b.asks.replies) (talk_before_last place (a.heard ++ b.heard) b.refused (a.asks.replies ++ b.asks.replies))
+        (talk between b.heard b.refused b.asks.replies) joined.0 before a.said b.said);
   }

@@ -67,8 +67,8 @@ EndsRightly place Memory refused heard rest now = IfSome now (ReadsLittle rest)
 -- The first of these texts is written, and then a part of what the second has behind it.
 pub record AppendsCut (old new : Option (List ℕ)) (before text : List ℕ) : Type 0 where
   pub part : List ℕ
-  pub missing : List ℕ
-  pub text_is : text ≡ before ++ (part ++ missing)
+  pub unsaid : List ℕ
+  pub text_is : text ≡ before ++ (part ++ unsaid)
   pub written : Appends old new (before ++ part)
 
 -- The bytes that are written where it ends so: all of its talk; or all but what the talk ends with,
@@ -80,6 +80,21 @@ Says ReadFault old new before text = Appends old new text
 Says WriteFault old new before text = AppendsCut old new before text
 Says Memory old new before text = AppendsCut old new before text
 
+-- Frames were put to a seat: it asked each request to which one of them binds, in order, at the
+-- readings that a clock gave, and the outcomes gave the replies at the cost of the exchanges that a
+-- link made. Clock and link told these before and tell those now.
+pub record AsksFrames {S : Type 0} (grown : S → List (Marked Event Outcome) → S → Type 0)
+    (before after : S) (given now : Option (List ℕ)) (told more : Option (List Exchange))
+    (frames : List Frame) : Type 0 where
+  pub readings : List ℕ
+  pub outcomes : List Outcome
+  pub replies : List ReplyParts
+  pub exchanges : List Exchange
+  pub asked : AsksAll grown before readings (map Ask (requests_in frames)) outcomes after
+  pub clock : Tells (λ list. list ++ readings) given now
+  pub gives : GivesReplies (requests_in frames) outcomes replies exchanges
+  pub link : Tells (λ list. list ++ exchanges) told more
+
 -- A connection was served at a seat, from the frame at this place on, what the objects outside told
 -- being first `old` and now `new`. Of the bytes that it had left, `heard` are the requests that
 -- were read.
@@ -88,17 +103,9 @@ pub record ServesFrom {S : Type 0} (place : ℕ)
     (old new : Outside) (ended : Ended) : Type 0 where
   pub heard : List Frame
   pub refused : Bool
-  pub readings : List ℕ
-  pub outcomes : List Outcome
-  pub replies : List ReplyParts
-  pub exchanges : List Exchange
-  -- the seat asked each request to which one of them binds, in order, at the readings that the
-  -- clock gave
-  pub asked : AsksAll grown before readings (map Ask (requests_in heard)) outcomes after
-  pub clock : Tells (λ given. given ++ readings) old.readings new.readings
-  -- their outcomes gave the replies, at the cost of the exchanges that the link made
-  pub gives : GivesReplies (requests_in heard) outcomes replies exchanges
-  pub link : Tells (λ told. told ++ exchanges) old.exchanges new.exchanges
+  -- they were put to the seat
+  pub asks : AsksFrames grown before after old.readings new.readings
+      old.exchanges new.exchanges heard
   -- they are the requests of the stream up to the first that closes, and it ended as they and the
   -- rest say
   pub up_to : IsTrue (ends_at_close heard place)
@@ -107,7 +114,7 @@ pub record ServesFrom {S : Type 0} (place : ℕ)
       × EndsRightly place ended refused heard rest new.left)
   -- their talk by these replies is written
   pub said : Says ended old.written new.written
-      (talk_before_last place heard refused replies) (talk place heard refused replies)
+      (talk_before_last place heard refused asks.replies) (talk place heard refused asks.replies)
 
 -- A connection was served at a seat, from its first frame on.
 abbrev pub Serves : {S : Type 0} → (S → List (Marked Event Outcome) → S → Type 0) → S → S

@@ -1,5 +1,5 @@
 -- Laws of the talk of a connection.
-use Rattle.std.specs.Prelude.{◌≡◌, ℕ, true, List, [], ◌∷◌, ◌++◌, length, map, Option, Some, ⊤}
+use Rattle.std.specs.Prelude.{◌≡◌, ℕ, true, List, ◌∷◌, ◌++◌, length, map, Option, Some, ⊤}
 use Rattle.std.specs.List.{All}
 use Rattle.m2m_io.specs.Link.{Exchange}
 use Rattle.m2m_io.specs.Outside.{Outside, outside}
@@ -43,13 +43,13 @@ ServesGuarded =
     (earlier later : List RequestParts) (request : RequestParts)
     (before behind : List Outcome) (reply : ReplyParts)
     → requests_in served.heard ≡ earlier ++ request ∷ later
-    → served.outcomes ≡ before ++ Done reply ∷ behind
+    → served.asks.outcomes ≡ before ++ Done reply ∷ behind
     → length earlier ≡ length before
     → (history : History) × (found : EntityData) × (left : EntityData)
     × (reading : ℕ) × (then : List ℕ)
     × Leaves opening history found × (events_of history ≡ map Ask earlier)
     × (outcomes_of history ≡ before)
-    × (served.readings ≡ readings_of history ++ reading ∷ then)
+    × (served.asks.readings ≡ readings_of history ++ reading ∷ then)
     × Step reading (Ask request) found (Done reply) left
     × IsGuarded (swept reading found) request reply left
 
@@ -61,39 +61,57 @@ IsWhole ReadFault = ⊥
 IsWhole WriteFault = ⊥
 IsWhole Memory = ⊥
 
--- A stream is answered in one way: two connections that are served with it, by the same entity and
--- at the same readings, get the same bytes, end alike, make the same exchanges and leave the same
--- entity, where nothing goes wrong and there is memory for each request.
+-- Two connections were served with one stream at the same readings, the first by the entity `left`,
+-- which it left as `after`, and the second by `right`, which it left as `other`. Nothing went wrong
+-- with either, and there was memory for each request. What their links told may differ.
+pub record ServesBoth (left right after other : EntityData) : Type 0 where
+  pub stream : List ℕ
+  pub given : List ℕ
+  pub told : List ℕ
+  -- what was written before, and what is written now
+  pub old : List ℕ
+  pub new : List ℕ
+  pub twin : List ℕ
+  -- what is left to read, and the exchanges before and now
+  pub rest : Option (List ℕ)
+  pub other_rest : Option (List ℕ)
+  pub link : Option (List Exchange)
+  pub made : Option (List Exchange)
+  pub other_link : Option (List Exchange)
+  pub other_made : Option (List Exchange)
+  pub ended : Ended
+  pub end : Ended
+  pub first : Serves (IsOwnRun Step) left after
+      (outside (Some stream) (Some old) (Some given) link)
+      (outside rest (Some new) (Some told) made) ended
+  pub second : Serves (IsOwnRun Step) right other
+      (outside (Some stream) (Some old) (Some given) other_link)
+      (outside other_rest (Some twin) (Some told) other_made) end
+  pub whole : IsWhole ended
+  pub wholes : IsWhole end
+  pub done : All IsDone first.asks.outcomes
+  pub dones : All IsDone second.asks.outcomes
+
+-- Both got the same bytes, ended alike and made the same exchanges.
+abbrev pub AreServedAlike :
+    {left right after other : EntityData} → ServesBoth left right after other → Type 0
+AreServedAlike both =
+    (both.new ≡ both.twin) × (both.ended ≡ both.end)
+    × (both.first.asks.exchanges ≡ both.second.asks.exchanges)
+
+-- A stream is answered in one way: two connections that are served with it at the same readings by
+-- the same entity are served alike, and leave the same entity.
 abbrev pub IsAnsweredInOneWay : Type 0
 IsAnsweredInOneWay =
-    (opening after other : EntityData) (stream old new twin given told : List ℕ)
-    (now gone : Option (List ℕ)) (link made other_made : Option (List Exchange)) (ended end : Ended)
-    (first : Serves (IsOwnRun Step) opening after
-    (outside (Some stream) (Some old) (Some given) link)
-    (outside now (Some new) (Some told) made) ended)
-    (second : Serves (IsOwnRun Step) opening other
-    (outside (Some stream) (Some old) (Some given) link)
-    (outside gone (Some twin) (Some told) other_made) end)
-    → IsWhole ended → IsWhole end → All IsDone first.outcomes → All IsDone second.outcomes
-    → (new ≡ twin) × (ended ≡ end) × (first.exchanges ≡ second.exchanges) × (after ≡ other)
+    (opening after other : EntityData) (both : ServesBoth opening opening after other)
+    → AreServedAlike both × (after ≡ other)
 
--- Equal sights are served alike: two connections that are served with one stream at the same
--- readings, by sound entities of which an originator sees the same, get the same bytes, end alike
--- and make the same exchanges, where each request that was heard is by that originator and is one
--- that is covered, nothing goes wrong, and there is memory for each request; and it sees the same
--- of what they leave.
+-- Equal sights are served alike: so are two connections that are served by sound entities of which
+-- an originator sees the same, where each request that was heard is one that is covered and is by
+-- that originator, or isn't served, whoever asks; and it sees the same of what they leave.
 abbrev pub EqualSightsAreServedAlike : Type 0
 EqualSightsAreServedAlike =
-    (left right after other : EntityData) (o : List ℕ) (stream old new twin given told : List ℕ)
-    (now gone : Option (List ℕ)) (link made other_made : Option (List Exchange)) (ended end : Ended)
-    (first : Serves (IsOwnRun Step) left after
-    (outside (Some stream) (Some old) (Some given) link)
-    (outside now (Some new) (Some told) made) ended)
-    (second : Serves (IsOwnRun Step) right other
-    (outside (Some stream) (Some old) (Some given) link)
-    (outside gone (Some twin) (Some told) other_made) end)
+    (left right after other : EntityData) (o : List ℕ) (both : ServesBoth left right after other)
     → IsSound left → IsSound right → sight o left ≡ sight o right
-    → All (IsRequestBy o) (requests_in first.heard)
-    → IsWhole ended → IsWhole end → All IsDone first.outcomes → All IsDone second.outcomes
-    → (new ≡ twin) × (ended ≡ end) × (first.exchanges ≡ second.exchanges)
-    × (sight o after ≡ sight o other)
+    → All (IsRequestBy o) (requests_in both.first.heard)
+    → AreServedAlike both × (sight o after ≡ sight o other)

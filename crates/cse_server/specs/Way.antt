@@ -1,5 +1,5 @@
 -- A connection on its way: what its calls say of the frames so far.
-use Rattle.std.specs.Prelude.{◌≡◌, ◌⊎◌, ℕ, ◌+◌, true, false, List, [], ◌∷◌, ◌++◌, length, map}
+use Rattle.std.specs.Prelude.{◌≡◌, ◌⊎◌, ℕ, ◌+◌, true, false, List, [], ◌∷◌, ◌++◌, length}
 use Rattle.std.specs.Prelude.{Option, Some, None, IfOk, Result, ⊤}
 use Rattle.std.specs.Io.KnownBytes.{Appends}
 use Rattle.m2m_io.specs.Link.{Exchange}
@@ -8,22 +8,20 @@ use Rattle.m2m_io.specs.Told.{AppendsPrefix, Tells}
 use Rattle.primitive_json.specs.declared.request.RequestParts.{RequestParts}
 use Rattle.primitive_json.specs.declared.reply.ReplyParts.{ReplyParts}
 use Rattle.turn_desk.specs.Entries.{Marked}
-use Rattle.turn_desk.specs.Growth.{AsksAll}
 use Rattle.http_frames.specs.declared.frame.Frame.{Frame}
 use Rattle.http_frames.specs.declared.fault.PutFault.{PutFault}
 use Rattle.http_frames.specs.declared.fault.PutFault.TheVariants.{WriteFault as PutWrite}
 use Rattle.http_frames.specs.declared.fault.PutFault.TheVariants.{OutOfMemory as PutMemory}
 use Rattle.cse_machine.specs.declared.event.Event.{Event}
-use Rattle.cse_machine.specs.declared.event.Event.TheVariants.{Ask}
 use Rattle.cse_machine.specs.declared.event.Outcome.{Outcome}
 use Rattle.cse_server.specs.declared.connection.Ended.{Ended}
 use Rattle.cse_server.specs.declared.connection.Ended.TheVariants.{Closed, NoFrame, ReadFault}
 use Rattle.cse_server.specs.declared.connection.Ended.TheVariants.{WriteFault, Memory}
 use Rattle.cse_server.specs.Closing.{closes}
-use Rattle.cse_server.specs.Replies.{GivesReply, GivesReplies}
-use Rattle.cse_server.specs.Talk.{request_in, requests_in, reply_for, reply_texts, last_reply}
+use Rattle.cse_server.specs.Replies.{GivesReply}
+use Rattle.cse_server.specs.Talk.{request_in, reply_for, reply_texts, last_reply}
 use Rattle.cse_server.specs.Talk.{some_closes}
-use Rattle.cse_server.specs.Connection.{IsThese}
+use Rattle.cse_server.specs.Connection.{IsThese, AsksFrames}
 
 -- The stream, where it is told, was these requests and then what is left of it now.
 abbrev pub Leads : Option (List ℕ) → List Frame → Option (List ℕ) → Type 0
@@ -36,18 +34,12 @@ Leads (Some stream) heard (Some rest) = IsThese stream heard rest
 pub record Goes {S : Type 0} (place next : ℕ) (grown : S → List (Marked Event Outcome) → S → Type 0)
     (before after : S) (old new : Outside) : Type 0 where
   pub heard : List Frame
-  pub readings : List ℕ
-  pub outcomes : List Outcome
-  pub replies : List ReplyParts
-  pub exchanges : List Exchange
-  pub asked : AsksAll grown before readings (map Ask (requests_in heard)) outcomes after
-  pub clock : Tells (λ given. given ++ readings) old.readings new.readings
-  pub gives : GivesReplies (requests_in heard) outcomes replies exchanges
-  pub link : Tells (λ told. told ++ exchanges) old.exchanges new.exchanges
+  pub asks : AsksFrames grown before after old.readings new.readings
+      old.exchanges new.exchanges heard
   pub places : place + length heard ≡ next
   pub stays_on : some_closes heard place ≡ false
   pub stream : Leads old.left heard new.left
-  pub said : Appends old.written new.written (reply_texts heard place replies)
+  pub said : Appends old.written new.written (reply_texts heard place asks.replies)
 
 -- The outcome of a request gave this reply over a link that told `old` before and tells `new` now,
 -- unless memory ran out.
@@ -64,15 +56,9 @@ pub record RepliesOver {E : Type 0}
 pub record Hears {S E : Type 0}
     (grown : S → List (Marked Event Outcome) → S → Type 0) (before after : S)
     (old new : Outside) (frame : Frame) (result : Result ReplyParts E) : Type 0 where
-  pub readings : List ℕ
-  pub outcomes : List Outcome
-  pub replies : List ReplyParts
-  pub exchanges : List Exchange
-  pub asked : AsksAll grown before readings (map Ask (requests_in (frame ∷ []))) outcomes after
-  pub clock : Tells (λ given. given ++ readings) old.readings new.readings
-  pub gives : GivesReplies (requests_in (frame ∷ [])) outcomes replies exchanges
-  pub link : Tells (λ told. told ++ exchanges) old.exchanges new.exchanges
-  pub replied : IfOk result (λ r. r ≡ reply_for frame (request_in frame) replies)
+  pub asks : AsksFrames grown before after old.readings new.readings
+      old.exchanges new.exchanges (frame ∷ [])
+  pub replied : IfOk result (λ r. r ≡ reply_for frame (request_in frame) asks.replies)
 
 -- how a connection ends where a reply isn't written
 abbrev pub end_of_put : PutFault → Ended
@@ -102,12 +88,7 @@ pub record Turns {S : Type 0} (place : ℕ) (grown : S → List (Marked Event Ou
     (before after : S) (old new : Outside) (frame : Frame) (ended : Option Ended) : Type 0 where
   pub heard : List Frame
   pub either : (heard ≡ frame ∷ []) ⊎ ((heard ≡ []) × (ended ≡ Some Memory))
-  pub readings : List ℕ
-  pub outcomes : List Outcome
-  pub replies : List ReplyParts
-  pub exchanges : List Exchange
-  pub asked : AsksAll grown before readings (map Ask (requests_in heard)) outcomes after
-  pub clock : Tells (λ given. given ++ readings) old.readings new.readings
-  pub gives : GivesReplies (requests_in heard) outcomes replies exchanges
-  pub link : Tells (λ told. told ++ exchanges) old.exchanges new.exchanges
-  pub said : SaysTurn place frame ended old.written new.written (reply_texts heard place replies)
+  pub asks : AsksFrames grown before after old.readings new.readings
+      old.exchanges new.exchanges heard
+  pub said : SaysTurn place frame ended old.written new.written
+      (reply_texts heard place asks.replies)

@@ -12,8 +12,8 @@ ghost use Rattle.cse_server.specs.Talk.{last_reply};
 ghost use Rattle.cse_server.specs.Way.{RepliesOver};
 
 use cse_machine::Outcome;
-use http_binding::{echo_id, of_reply};
-use http_frames::{Frame, PutFault, write_frame};
+use http_binding::{echo_id, write_reply};
+use http_frames::{Frame, PutFault};
 use m2m_io::{Connection, Link};
 use m2m_names::Rsc;
 use m2m_value::Text;
@@ -94,8 +94,7 @@ pub(crate) fn put_reply<X: Connection>(
     ensures read_faults { X.Source.faults conn.new ≡ X.Source.faults conn.old }
     ensures holds { (X.kept_by_read conn.new).holds ≡ (X.kept_by_read conn.old).holds }
 {
-    let frame = of_reply(alloc, reply, close)?;
-    write_frame(alloc, &frame, conn)
+    write_reply(alloc, reply, close, conn)
 }
 
 /// Writes the last reply of a connection on which no frame can stand.

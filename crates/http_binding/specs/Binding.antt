@@ -128,6 +128,6 @@ abbrev pub echo_of : Frame → Option (List ℕ)
 echo_of frame = result_unwrap_or (header_value Id frame.lines) None
 
 -- What is answered is what is told, seen so, unless memory ran out.
-abbrev pub Gives : {T U : Type 0} → (T → U) → Result T BindFault → Result U BindFault → Type 0
-Gives view (Ok value) told = told ≡ Ok (view value)
-Gives view (Err fault) told = (fault ≡ OutOfMemory) ⊎ (told ≡ Err fault)
+abbrev pub ReadsAs : {T U : Type 0} → (T → U) → Result T BindFault → Result U BindFault → Type 0
+ReadsAs view (Ok value) told = told ≡ Ok (view value)
+ReadsAs view (Err fault) told = (fault ≡ OutOfMemory) ⊎ (told ≡ Err fault)

@@ -3,7 +3,7 @@ ghost use Rattle.std.specs.Prelude.{◌≡◌, ◌⊎◌, IfOk, IfSome, IsUtf8};
 ghost use Rattle.std.specs.Option.{option_copied};
 ghost use Rattle.http_binding.specs.Headers as spec;
 ghost use Rattle.http_binding.specs.Binding.{header_value, header_values, other_headers};
-ghost use Rattle.http_binding.specs.Binding.{required, unless_empty, caller_of, echo_of, Gives};
+ghost use Rattle.http_binding.specs.Binding.{required, unless_empty, caller_of, echo_of, ReadsAs};
 ghost use Rattle.http_binding.specs.declared.fault.BindFault.TheVariants as fault;
 
 use crate::{BindFault, OutOfMemory};
@@ -64,7 +64,7 @@ impl Field {
     }
 
     /// The fault of lines that say nothing of this field.
-    fn missing(self, alloc: Global) -> BindFault
+    fn absent(self, alloc: Global) -> BindFault
         ensures { (result ≡ fault.OutOfMemory) ⊎ (result ≡ fault.Missing (spec.field_name self)) }
     {
         match self.name_text(alloc) {
@@ -75,7 +75,7 @@ impl Field {
 
     /// What the lines say of the field.
     fn value(self, alloc: Global, lines: &Lines) -> Result<Option<&[u8]>, BindFault>
-        ensures { Gives option_copied result (header_value self lines.now) }
+        ensures { ReadsAs option_copied result (header_value self lines.now) }
     {
         match lines.find(self.name()) {
             Found::Absent => Ok(None),
@@ -86,11 +86,11 @@ impl Field {
 
     /// The value, which has to be there.
     fn required<'a>(self, alloc: Global, value: Option<&'a [u8]>) -> Result<&'a [u8], BindFault>
-        ensures { Gives (λ text. text.now) result (required self (option_copied value.entry)) }
+        ensures { ReadsAs (λ text. text.now) result (required self (option_copied value.entry)) }
     {
         match value {
             Some(text) => Ok(text),
-            None => Err(self.missing(alloc)),
+            None => Err(self.absent(alloc)),
         }
     }
 }
@@ -111,7 +111,7 @@ pub(crate) struct Caller<'a> {
 
 /// Judges the fields that are judged alone.
 fn other_headers(alloc: Global, lines: &Lines) -> Result<(), BindFault>
-    ensures { Gives (λ unit. unit) result (other_headers lines.now) }
+    ensures { ReadsAs (λ unit. unit) result (other_headers lines.now) }
 {
     Field::Expiry.value(alloc, lines)?;
     Field::ContentType.value(alloc, lines)?;
@@ -121,7 +121,7 @@ fn other_headers(alloc: Global, lines: &Lines) -> Result<(), BindFault>
 
 /// The fields in the order in which their faults are told.
 fn header_values(alloc: Global, lines: &Lines) -> Result<HeaderValues<'_>, BindFault>
-    ensures { Gives
+    ensures { ReadsAs
         (λ values. record { origin = option_copied values.origin; id = option_copied values.id })
         result (header_values lines.now) }
 {
@@ -143,7 +143,7 @@ fn unless_empty(value: Option<&[u8]>) -> Option<&[u8]>
 
 /// The caller that the lines name.
 pub(crate) fn caller_of(alloc: Global, lines: &Lines) -> Result<Caller<'_>, BindFault>
-    ensures { Gives
+    ensures { ReadsAs
         (λ caller. record { originator = option_copied caller.originator; id = caller.id.now })
         result (caller_of lines.now) }
 {

@@ -2,7 +2,7 @@
 ghost use Rattle.std.specs.Prelude.{◌≡◌, IfOk, IfSome, IsUtf8};
 ghost use Rattle.std.specs.Option.{option_copied};
 ghost use Rattle.http_binding.specs.Binding.{operation_of, target_name, plain_request, binding};
-ghost use Rattle.http_binding.specs.Binding.{Gives};
+ghost use Rattle.http_binding.specs.Binding.{ReadsAs};
 
 use crate::headers::{Caller, caller_of};
 use crate::{BindFault, OutOfMemory};
@@ -14,7 +14,7 @@ use std::alloc::Global;
 
 /// The operation that a frame asks for.
 fn operation(start: &Start) -> Result<Op, BindFault>
-    ensures { Gives (λ op. op) result (operation_of start.now) }
+    ensures { ReadsAs (λ op. op) result (operation_of start.now) }
 {
     match start {
         Start::Ask { method, .. } if method.entries() == b"GET".as_slice() => Ok(Op::Retrieve),
@@ -25,7 +25,7 @@ fn operation(start: &Start) -> Result<Op, BindFault>
 
 /// The name that stands alone behind `/`.
 fn target_name(start: &Start) -> Result<&[u8], BindFault>
-    ensures { Gives (λ name. name.now) result (target_name start.now) }
+    ensures { ReadsAs (λ name. name.now) result (target_name start.now) }
 {
     let Start::Ask { target, .. } = start else {
         return Err(BindFault::Target);
@@ -80,7 +80,7 @@ fn plain_request(
 /// so far is GET or DELETE of `/` and one name, with one X-M2M-RI. The texts that the request keeps
 /// are copied, and nothing else of the frame.
 pub fn to_request(alloc: Global, frame: &Frame) -> Result<Request, BindFault>
-    ensures { Gives (λ request. request) result (binding frame.now) }
+    ensures { ReadsAs (λ request. request) result (binding frame.now) }
 {
     let op = operation(&frame.start)?;
     let to = target_name(&frame.start)?;

@@ -12,14 +12,16 @@ pub returns-in-None-clause-hears : goal.returns-in-None-clause-hears
 returns-in-None-clause-hears g c =
     let none = sym c.requires.request ∙ c.in-None.is in
     record {
-      readings = [];
-      outcomes = [];
-      replies = [];
-      exchanges = [];
-      asked = rw none (AsksAll-nothing g.D.Desk.grown g.met.D.Desk.grown_by_nothing c.args.seat.now);
-      clock = Tells-nil (g.C.Clock.readings c.args.clock.now);
-      gives = rw none refl;
-      link = Tells-nil (g.L.Link.exchanges c.args.link.now);
+      asks = record {
+        readings = [];
+        outcomes = [];
+        replies = [];
+        exchanges = [];
+        asked = rw none (AsksAll-nothing g.D.Desk.grown g.met.D.Desk.grown_by_nothing c.args.seat.now);
+        clock = Tells-nil (g.C.Clock.readings c.args.clock.now);
+        gives = rw none refl;
+        link = Tells-nil (g.L.Link.exchanges c.args.link.now);
+      };
       replied = rw none c.refusal_of.ensures;
     }
 
@@ -28,16 +30,18 @@ returns-in-Some-clause-hears g c =
     let some = sym c.requires.request ∙ c.in-Some.is in
     let by = c.reply_by.ensures.replies c.in-Some.request (binds c.args.frame.now c.in-Some.request some) in
     record {
-      readings = c.now-reading.result ∷ [];
-      outcomes = c.ask-outcome.result ∷ [];
-      replies = by.reply ∷ [];
-      exchanges = by.exchanges;
-      asked = rw some (AsksAll-ask g.D.Desk.grown g.met.D.Desk.grown_on (AsksAll-nothing g.D.Desk.grown g.met.D.Desk.grown_by_nothing c.args.seat.now) c.ask-outcome.ensures.asked);
-      clock = c.now-reading.ensures;
-      gives = subst (λ (rs : List RequestParts). GivesReplies rs (c.ask-outcome.result ∷ []) (by.reply ∷ []) by.exchanges)
-          (sym (requests_in-one c.args.frame.now c.in-Some.request some))
-          (gives-one c.in-Some.request c.ask-outcome.result by.reply by.exchanges by.gives);
-      link = by.link;
+      asks = record {
+        readings = c.now-reading.result ∷ [];
+        outcomes = c.ask-outcome.result ∷ [];
+        replies = by.reply ∷ [];
+        exchanges = by.exchanges;
+        asked = rw some (AsksAll-ask g.D.Desk.grown g.met.D.Desk.grown_on (AsksAll-nothing g.D.Desk.grown g.met.D.Desk.grown_by_nothing c.args.seat.now) c.ask-outcome.ensures.asked);
+        clock = c.now-reading.ensures;
+        gives = subst (λ (rs : List RequestParts). GivesReplies rs (c.ask-outcome.result ∷ []) (by.reply ∷ []) by.exchanges)
+            (sym (requests_in-one c.args.frame.now c.in-Some.request some))
+            (gives-one c.in-Some.request c.ask-outcome.result by.reply by.exchanges by.gives);
+        link = by.link;
+      };
       replied = subst (λ (p : ReplyParts). IfOk c.reply_by.result (λ r. r ≡ p))
           (sym (reply_for-one c.args.frame.now c.in-Some.request by.reply some)) by.replied;
     }
