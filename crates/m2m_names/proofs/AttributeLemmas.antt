@@ -1,12 +1,12 @@
 -- The table of attributes.
-use Rattle.std.proofs.Common.{add-one, ◌≡◌, ℕ, zero, suc, ◌+◌, ◌<◌, ◌≢◌, List, [], ◌∷◌, length, get_or, Bool, true, false, not, ◌&&◌, cond, bytes_eq, Option, Some, None, find, Result, Ok, Err, MatchResult, Ordering, Less, Equal, Greater, is_eq, nat_cmp, inl, inr, refl, sym, ap, ◌∙◌, arith}
+use Rattle.std.proofs.Common.{add-one, ◌≡◌, ℕ, zero, suc, ◌<◌, ◌≢◌, List, [], ◌∷◌, length, get_or, Bool, true, false, not, ◌&&◌, bytes_eq, Some, None, find, Result, Ok, Err, MatchResult, Ordering, Less, Equal, Greater, is_eq, nat_cmp, inl, inr, refl, sym, ap, ◌∙◌, arith}
 use Rattle.std.proofs.lemmas.Bool.{and_parts, cases_lt, false_from_ne_true, not-true}
 use Rattle.std.proofs.lemmas.Cmp.{nat_list_cmp_total, tied_itself}
 use Rattle.std.proofs.lemmas.List.Sorted.{searchable_from_sorted}
 use Rattle.std.proofs.lemmas.Map.Text.{is_eq-slice_cmp}
 use Rattle.std.proofs.lemmas.Slice.Eq.{bytes_eq-Decides}
 use Rattle.std.specs.Cmp.Lexicographic.{slice_cmp}
-use Rattle.std.specs.List.Sorted.{IsNonDecreasingBy, IsSearchInRange, IsBinarySearchResult}
+use Rattle.std.specs.List.Sorted.{IsNonDecreasingBy, IsBinarySearchResult}
 use Rattle.std.specs.Ordering.{ordering_index, is_lt}
 use Rattle.m2m_names.proofs.LookupLemmas.{same_key}
 use Rattle.m2m_names.specs.declared.attributes.Attr.{Attr}
