@@ -1,6 +1,6 @@
 -- The number that digits spell, and the type and number of a resource id, as no others do.
 use Rattle.std.specs.Prelude.{nat_lt, take, drop, ◌==◌, ◌&&◌, not}
-use Rattle.std.proofs.Common.{Bool, cond, false, leb, length, ◌≤◌, inl, inr, sym, append_assoc, ◌≡◌, ℕ, zero, suc, ◌+◌, ◌*◌, ◌-◌, ◌/◌, ◌%◌, ◌^◌, ◌<◌, List, [], ◌∷◌, ◌++◌, get_or, true, codes, Option, Some, None, refl, ap, ◌∙◌, arith}
+use Rattle.std.proofs.Common.{Bool, cond, false, leb, length, ◌≤◌, inl, inr, sym, append_assoc, ◌≡◌, ℕ, zero, suc, ◌+◌, ◌*◌, ◌-◌, ◌/◌, ◌%◌, ◌^◌, ◌<◌, List, [], ◌∷◌, ◌++◌, get_or, true, Option, Some, None, refl, ap, ◌∙◌, arith}
 use Rattle.std.specs.Fmt.{decimal}
 use Rattle.std.proofs.lemmas.Bool.{cases_Bool, and_parts, leb-true, ltb-true, eqb-false, eqb-true, and_from, both_ways, cond-true, le-leb, lt-ltb, ne_eqb}
 use Rattle.std.proofs.lemmas.List.{append-nil, take-append-drop}
@@ -8,7 +8,7 @@ use Rattle.std.proofs.lemmas.Option.{same_Some}
 use Rattle.std.proofs.lemmas.Fmt.{decimal_by_steps, decimal_step, decimal_digit, first_decimal}
 use Rattle.std.proofs.lemmas.Slice.Eq.{bytes_eq-Decides}
 use Rattle.std.specs.Char.{is_ascii_digit}
-use Rattle.std.specs.List.{list_all, prefix_len}
+use Rattle.std.specs.List.{list_all}
 use Rattle.std.specs.Option.{option_and_then, option_map}
 use Rattle.std.specs.Str.{bytes_eq}
 use Rattle.std.proofs.Math.Seq.{drop-append_seam, take-append_seam}

@@ -1,5 +1,7 @@
 //! The attributes of resources.
 ghost use Rattle.std.specs.Prelude.{◌≡◌, ◌≢◌, IfSome, IfNone, Some};
+ghost use Rattle.std.specs.Cmp.Lexicographic.{slice_cmp};
+ghost use Rattle.std.specs.Ordering.{nat_cmp};
 ghost use Rattle.m2m_names.specs.declared.attributes.Attr.{Attr};
 ghost use Rattle.m2m_names.specs.Attributes.{attr_short, attr_of_short, attr_cmp};
 
@@ -58,6 +60,7 @@ pub enum Attr {
     Ty,
 }
 
+// In the order of bytes of their short names.
 const ALL: [Attr; 46] = [
     Attr::Aa,
     Attr::Acpi,
@@ -108,11 +111,21 @@ const ALL: [Attr; 46] = [
 ];
 
 impl Attr {
-    /// The attribute that `ALL` has at a short name.
+    /// How its short name and a text stand, in the order of bytes.
+    fn order_to(self, text: &[u8]) -> Ordering
+        ensures { result ≡ slice_cmp nat_cmp (attr_short self) text.now }
+    {
+        self.short().as_bytes().cmp(text)
+    }
+
+    /// The attribute that `ALL` has at a short name, found by halving.
     fn find(text: &[u8]) -> Option<Attr>
         ensures { result ≡ attr_of_short text.now }
     {
-        ALL.iter().copied().find(|a| a.short().as_bytes() == text)
+        match ALL.binary_search_by(|attr| attr.order_to(text)) {
+            Ok(place) => Some(ALL[place]),
+            Err(_) => None,
+        }
     }
 
     /// The attribute of a short name.
