@@ -35,8 +35,12 @@ pub record OpReads : Type 0 where
 
 abbrev pub op_reads : Bool → Bool → Bool → Bool → OpReads
 op_reads creates retrieves has_content has_result =
-    record { creates = creates; retrieves = retrieves; has_content = has_content;
-      has_result = has_result }
+    record {
+      creates = creates;
+      retrieves = retrieves;
+      has_content = has_content;
+      has_result = has_result;
+    }
 
 abbrev pub reads_of : Op → OpReads
 reads_of Create = op_reads true false true true

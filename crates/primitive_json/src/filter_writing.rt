@@ -9,7 +9,7 @@ ghost use Rattle.primitive_json.specs.Writing as spec;
 
 use crate::condition::Condition;
 use crate::filter::{FilterParts, FilterUsage};
-use crate::writing::{moment_value, sorted_object, push_member, text_value};
+use crate::writing::{moment_value, push_member, sorted_object, text_value};
 use m2m_value::{Items, Text, Val};
 use std::alloc::{AllocError as OutOfMemory, Global};
 

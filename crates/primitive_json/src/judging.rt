@@ -73,7 +73,7 @@ pub fn judged(alloc: Global, op: Option<Op>, value: &Val) -> Result<(), PrimFaul
     ensures { MatchResult result
         (λ _. spec.request_fault op (kinds.members_in value.now) ≡ None)
         (λ e. (e ≡ fault.OutOfMemory)
-            ⊎ (spec.request_fault op (kinds.members_in value.now) ≡ Some e)) }
+        ⊎ (spec.request_fault op (kinds.members_in value.now) ≡ Some e)) }
 {
     if let Some(member) = missing_member(op, value) {
         let name = Text::from_slice(alloc, member.name().as_bytes())?;

@@ -175,8 +175,7 @@ fn refuses_values_outside_their_kind(rt: HostRuntime) -> Result<(), Fail> {
         (r#""fc":{"lbl":[["a"]]}"#, "bad fc"),
         (r#""fc":{"ty":[3,65536]}"#, "bad fc"),
     ] {
-        let text =
-            format!(in rt.alloc(); "{{{more},\"op\":2,\"rqi\":\"r\",\"to\":\"a\"}}")?;
+        let text = format!(in rt.alloc(); "{{{more},\"op\":2,\"rqi\":\"r\",\"to\":\"a\"}}")?;
         check_request(&rt, text.as_str(), want)?;
     }
     Ok(())
