@@ -6,9 +6,9 @@ use Rattle.m2m_names.specs.declared.operations.Op.{Op}
 use Rattle.m2m_names.specs.declared.operations.Op.TheVariants.{Create}
 use Rattle.m2m_value.specs.Data.{Data, Entry}
 use Rattle.m2m_value.specs.View.{member_of}
-use Rattle.primitive_json.specs.Kinds.{operation_of}
-use Rattle.primitive_json.specs.Members.{all_members, name_of, member_named, is_one_unread, is_read, is_needed}
-use Rattle.primitive_json.specs.Reading.{read_as, fits, is_good_member, is_good, is_missing, missing, bad, fault_in, operation_in}
+use Rattle.primitive_json.specs.Kinds.{read_operation}
+use Rattle.primitive_json.specs.Members.{row_of, all_members, name_of, member_named, is_one_unread, is_read, is_needed}
+use Rattle.primitive_json.specs.Reading.{read_as, is_of_kind, is_good_member, is_good, is_missing, missing_member, bad_entry, request_fault, operation_in}
 use Rattle.primitive_json.specs.declared.fault.PrimFault.{PrimFault}
 use Rattle.primitive_json.specs.declared.fault.PrimFault.TheVariants.{Missing, Bad}
 use Rattle.primitive_json.specs.declared.member.Member.{Member}
@@ -42,8 +42,8 @@ neither None (Some e) h = cc
 neither (Some m) e h = cc
 
 -- without a fault nothing is missing, and nothing is bad
-pub no_fault : (op : Option Op) (es : List Entry) → fault_in op es ≡ None → (missing op es ≡ None) × (bad op es ≡ None)
-no_fault op es h = neither (missing op es) (bad op es) h
+pub no_fault : (op : Option Op) (es : List Entry) → request_fault op es ≡ None → (missing_member op es ≡ None) × (bad_entry op es ≡ None)
+no_fault op es h = neither (missing_member op es) (bad_entry op es) h
 
 -- ---- nothing is missing
 
@@ -59,7 +59,7 @@ need_met : (needed : Bool) (o : Option Data) → needed && is_none o ≡ false �
 need_met true o h needed = h
 need_met false o h needed = cc
 
-not_missing : (op : Option Op) (es : List Entry) → missing op es ≡ None → (member : Member) → is_missing op es member ≡ false
+not_missing : (op : Option Op) (es : List Entry) → missing_member op es ≡ None → (member : Member) → is_missing op es member ≡ false
 not_missing op es h =
     let a = first_fails _ DesiredForm _ h in
     let b = first_fails _ FilterCriteria _ a.1 in
@@ -87,7 +87,7 @@ not_missing op es h =
     ]
 
 -- what must be there is there
-pub needed_is_there : (op : Option Op) (es : List Entry) (member : Member) → fault_in op es ≡ None → is_needed op member ≡ true → (d : Data) × (member_of (name_of member) es ≡ Some d)
+pub needed_is_there : (op : Option Op) (es : List Entry) (member : Member) → request_fault op es ≡ None → is_needed op member ≡ true → (d : Data) × (member_of (name_of member) es ≡ Some d)
 needed_is_there op es member h needed =
     there (member_of (name_of member) es) (need_met (is_needed op member) _ (not_missing op es (no_fault op es h).0 member) needed)
 
@@ -104,10 +104,10 @@ at_head op key k v d rest true e good more found =
     ap (λ n. is_good op (n, d)) ((bytes_eq-Decides key k).0 e) ∙ ap (λ x. is_good op (k, x)) (sym value) ∙ good
 at_head op key k v d rest false e good more found = more found
 
-good_at : (op : Option Op) (key : List ℕ) (d : Data) (es : List Entry) → bad op es ≡ None → member_of key es ≡ Some d → is_good op (key, d) ≡ true
+good_at : (op : Option Op) (key : List ℕ) (d : Data) (es : List Entry) → bad_entry op es ≡ None → member_of key es ≡ Some d → is_good op (key, d) ≡ true
 good_at op key d [] none found = cc
 good_at op key d ((k, v) ∷ es) none found =
-    let here = first_fails (not (is_good op (k, v))) (k, v) (bad op es) none in
+    let here = first_fails (not (is_good op (k, v))) (k, v) (bad_entry op es) none in
     at_head op key k v d es _ refl (not_false _ here.0) (good_at op key d es here.1) found
 
 read_fits : (is : Bool) (fit : Bool) → is ≡ true → not is || fit ≡ true → fit ≡ true
@@ -115,10 +115,10 @@ read_fits true fit e h = h
 read_fits false fit e h = cc
 
 -- what is read is of its kind
-pub fitting : (op : Option Op) (es : List Entry) (member : Member) (d : Data) → fault_in op es ≡ None → is_read op member ≡ true → member_of (name_of member) es ≡ Some d → fits op member d ≡ true
+pub fitting : (op : Option Op) (es : List Entry) (member : Member) (d : Data) → request_fault op es ≡ None → is_read op member ≡ true → member_of (name_of member) es ≡ Some d → is_of_kind op (row_of member).kind d ≡ true
 fitting op es member d h read found =
     let good = good_at op (name_of member) d es (no_fault op es h).1 found in
-    read_fits (is_read op member) (fits op member d) read
+    read_fits (is_read op member) (is_of_kind op (row_of member).kind d) read
     (sym (ap (λ m. option_map_or (is_good_member op d) m (is_one_unread (name_of member))) (named_again member)) ∙ good)
 
 -- ---- the operation is known
@@ -127,8 +127,8 @@ known : (o : Option Op) → is_some o ≡ true → (op : Op) × (o ≡ Some op)
 known None h = cc
 known (Some op) h = (op, refl)
 
-pub operation_is_known : (es : List Entry) → fault_in (operation_in es) es ≡ None → (op : Op) × (operation_in es ≡ Some op)
+pub operation_is_known : (es : List Entry) → request_fault (operation_in es) es ≡ None → (op : Op) × (operation_in es ≡ Some op)
 operation_is_known es h =
     let at = needed_is_there (operation_in es) es Operation h refl in
-    let kind = known (operation_of at.0) (fitting (operation_in es) es Operation at.0 h refl at.1) in
-    (kind.0, ap (option_and_then operation_of) at.1 ∙ kind.1)
+    let kind = known (read_operation at.0) (fitting (operation_in es) es Operation at.0 h refl at.1) in
+    (kind.0, ap (option_and_then read_operation) at.1 ∙ kind.1)

@@ -1,5 +1,5 @@
 -- Values of their kinds are read back from what is written of them, and what is read is of its kind.
-use Rattle.std.proofs.Common.{◌≡◌, ℕ, ◌+◌, ◌<◌, ◌≤◌, ◌^◌, ℤ, pos, List, [], ◌∷◌, ◌++◌, map, Bool, true, false, ◌&&◌, cond, if◌then◌else◌, is_some, Option, Some, None, option_map, option_and_then, IfSome, decimal, length, refl, sym, ap, ◌∙◌, subst, arith, rules, lt-ltb, le-leb}
+use Rattle.std.proofs.Common.{◌≡◌, ℕ, ◌+◌, ◌<◌, ◌≤◌, ◌^◌, ℤ, pos, List, [], ◌∷◌, ◌++◌, map, Bool, true, false, ◌&&◌, cond, if◌then◌else◌, is_some, Option, Some, None, option_map, option_and_then, unwrap_or, IfSome, decimal, length, refl, sym, ap, ◌∙◌, subst, arith, rules, lt-ltb, le-leb}
 use Rattle.std.proofs.lemmas.Bool.{and_parts}
 use Rattle.std.proofs.lemmas.Fmt.{digits_decimal, digits_value-decimal, decimal_nonempty, length-decimal-le}
 use Rattle.std.specs.Char.{is_ascii_digit}
@@ -16,10 +16,10 @@ use Rattle.m2m_value.specs.Shapes.{as_count}
 use Rattle.m2m_value.specs.View.{as_text, elements}
 use Rattle.m2m_value.proofs.Levels.{elements-elements_of}
 use Rattle.primitive_json.specs.Bounds.{IsMoment}
-use Rattle.primitive_json.specs.Conditions.{moment_of, parts_of, are_all, all_of}
-use Rattle.primitive_json.specs.Kinds.{where_it, is_numeral, expiry_in, expiry_of, number_among}
+use Rattle.primitive_json.specs.Conditions.{read_moment, alternatives, all_of}
+use Rattle.primitive_json.specs.Kinds.{where_it, is_numeral, expiry_spelled, read_expiry}
 use Rattle.primitive_json.specs.Laws.{IsWhenOfKind, IsShortWhen}
-use Rattle.primitive_json.specs.Writing.{filled_list, whole, moment_data, expiry_data}
+use Rattle.primitive_json.specs.Writing.{filled_list, count_data, moment_data, expiry_data}
 use Rattle.primitive_json.proofs.Numerals.{own}
 use Rattle.primitive_json.specs.declared.request.When.{When}
 use Rattle.primitive_json.specs.declared.request.When.TheVariants.{At, Millis}
@@ -48,14 +48,20 @@ pub each_back : {A : Type 0} (read : Data → Option A) (write : A → Data) (P 
 each_back read write P back None h = refl
 each_back read write P back (Some a) h = back a h
 
--- ---- numbers
+-- ---- texts and numbers
 
-pub among_back : (numbers : List ℤ) (z : ℤ) → list_any (λ n. int_eq n z) numbers ≡ true → number_among numbers (number z) ≡ Some z
-among_back numbers z h = where_kept (λ z. list_any (λ n. int_eq n z) numbers) z h
+-- what a value is, where that passes the test
+pub told_passes : {A : Type 0} (test : A → Bool) (o : Option A) → option_map_or test o false ≡ true → IfSome o (λ a. test a ≡ true)
+told_passes test None h = tt
+told_passes test (Some a) h = h
+
+pub told_or_passes : {A : Type 0} (test : A → Bool) (o : Option A) (other : A) → option_map_or test o false ≡ true → test (unwrap_or o other) ≡ true
+told_or_passes test None other h = cc
+told_or_passes test (Some a) other h = h
 
 -- ---- timestamps and digits
 
-pub moment_back : (at : ℕ) → IsMoment at → moment_of (moment_data at) ≡ Some at
+pub moment_back : (at : ℕ) → IsMoment at → read_moment (moment_data at) ≡ Some at
 moment_back at last = moment_at-timestamp (timestamp at) at last refl
 
 and_false : (b : Bool) → b && false ≡ false
@@ -86,7 +92,7 @@ decimal_is_numeral n short =
     let all : list_all is_ascii_digit (decimal n) ≡ true = digits_decimal own n small in
     rw (filled n short, all) refl
 
-pub expiry_back : (when : When) → IsWhenOfKind when → IsShortWhen when → expiry_of (expiry_data when) ≡ Some when
+pub expiry_back : (when : When) → IsWhenOfKind when → IsShortWhen when → read_expiry (expiry_data when) ≡ Some when
 expiry_back (At at) last short =
     ap (λ b. if b then Some (Millis (digits_value 10 (timestamp at))) else option_map At (moment_at (timestamp at))) (stamp_is_no_numeral at)
     ∙ ap (option_map At) (moment_back at last)
@@ -95,7 +101,7 @@ expiry_back (Millis n) kind short =
     ap (λ b. if b then Some (Millis (digits_value 10 (decimal n))) else option_map At (moment_at (decimal n))) (decimal_is_numeral n short)
     ∙ ap (λ v. Some (Millis v)) (digits_value-decimal own n small)
 
-pub moment_last : (d : Data) → IfSome (moment_of d) IsMoment
+pub moment_last : (d : Data) → IfSome (read_moment d) IsMoment
 moment_last d = passes_along IsMoment moment_at (λ s. read_last s (moment_at s) refl) (as_text d)
 
 when_at : (o : Option ℕ) → IfSome o IsMoment → IfSome (option_map At o) IsWhenOfKind
@@ -121,17 +127,18 @@ map_back : {A : Type 0} (read : Data → Option A) (write : A → Data) (xs : Li
 map_back read write [] h = refl
 map_back read write (x ∷ xs) h = rw h.0 (ap (λ l. x ∷ l) (map_back read write xs h.1))
 
-map_all : {A : Type 0} (read : Data → Option A) (write : A → Data) (xs : List A) → AllBack read write xs → list_all (λ part. is_some (read part)) (map write xs) ≡ true
-map_all read write [] h = refl
-map_all read write (x ∷ xs) h = rw h.0 (map_all read write xs h.1)
-
 pub list_back : {A : Type 0} (read : Data → Option A) (write : A → Data) (xs : List A) → AllBack read write xs → option_map_or (all_of read) (filled_list (map write xs)) [] ≡ xs
 list_back read write [] h = refl
 list_back read write (x ∷ xs) h = ap (filter_map read) (elements-elements_of (map write (x ∷ xs))) ∙ map_back read write (x ∷ xs) h
 
-pub list_is_all : {A : Type 0} (read : Data → Option A) (write : A → Data) (xs : List A) → AllBack read write xs → IfSome (filled_list (map write xs)) (λ d. are_all read d ≡ true)
-list_is_all read write [] h = tt
-list_is_all read write (x ∷ xs) h = ap (list_all (λ part. is_some (read part))) (elements-elements_of (map write (x ∷ xs))) ∙ map_all read write (x ∷ xs) h
+-- what is written of each element that passes one test passes another
+written_pass : {A : Type 0} (write : A → Data) (fits : A → Bool) (test : Data → Bool) → ((x : A) → fits x ≡ true → test (write x) ≡ true) → (xs : List A) → list_all fits xs ≡ true → list_all test (map write xs) ≡ true
+written_pass write fits test each [] h = refl
+written_pass write fits test each (x ∷ xs) h = rw (each x (and_parts _ _ h).0) (written_pass write fits test each xs (and_parts _ _ h).1)
+
+pub list_passes : {A : Type 0} (write : A → Data) (fits : A → Bool) (test : Data → Bool) → ((x : A) → fits x ≡ true → test (write x) ≡ true) → (xs : List A) → list_all fits xs ≡ true → IfSome (filled_list (map write xs)) (λ d. list_all test (alternatives d) ≡ true)
+list_passes write fits test each [] h = tt
+list_passes write fits test each (x ∷ xs) h = ap (list_all test) (elements-elements_of (map write (x ∷ xs))) ∙ written_pass write fits test each (x ∷ xs) h
 
 -- where each element passes the test that its reading makes
 pub all_back : {A : Type 0} (read : Data → Option A) (write : A → Data) (test : A → Bool) → ((x : A) → test x ≡ true → read (write x) ≡ Some x) → (xs : List A) → list_all test xs ≡ true → AllBack read write xs
@@ -148,5 +155,5 @@ all_pass read test each [] = refl
 all_pass read test each (d ∷ ds) = one_passes test (read d) (filter_map read ds) (each d) (all_pass read test each ds)
 
 -- what is read as a time of expiry is of its kind
-pub when_of_kind : (d : Data) → IfSome (expiry_of d) IsWhenOfKind
-when_of_kind d = when_or (as_count d) (option_and_then expiry_in (as_text d)) (passes_along IsWhenOfKind expiry_in (λ s. when_in s (is_numeral s)) (as_text d))
+pub when_of_kind : (d : Data) → IfSome (read_expiry d) IsWhenOfKind
+when_of_kind d = when_or (as_count d) (option_and_then expiry_spelled (as_text d)) (passes_along IsWhenOfKind expiry_spelled (λ s. when_in s (is_numeral s)) (as_text d))

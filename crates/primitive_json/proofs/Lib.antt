@@ -1,4 +1,3 @@
-pub mod Among
 pub mod Lists
 pub mod Numerals
 pub mod Present
@@ -7,4 +6,4 @@ pub mod FaultLemmas
 pub mod FilterLemmas
 pub mod RoundTrip
 pub mod ReplyLemmas
-pub mod Taken
+pub mod KeptLemmas

@@ -1,8 +1,8 @@
 -- Lists that grow by one.
-use Rattle.std.proofs.Common.{◌≡◌, ℕ, ◌+◌, ◌<◌, List, [], ◌∷◌, ◌++◌, length, take, get_or, Option, refl, sym, ap, ◌∙◌, add-one}
+use Rattle.std.proofs.Common.{◌≡◌, ℕ, ◌+◌, ◌<◌, List, [], ◌∷◌, ◌++◌, length, take, get_or, Option, Some, None, append-nil, append_assoc, refl, sym, ap, ◌∙◌, add-one}
 use Rattle.std.proofs.Math.Seq.{take-suc}
 use Rattle.std.proofs.lemmas.List.Elements.{filter_map-append}
-use Rattle.std.specs.List.{AllByRecursion, filter_map}
+use Rattle.std.specs.List.{AllByRecursion, cons_option, filter_map}
 
 pub all_push : {X : Type 0} (P : X → Type 0) (xs : List X) (x : X) → AllByRecursion P xs → P x → AllByRecursion P (xs ++ x ∷ [])
 all_push P [] x h one = (one, tt)
@@ -13,3 +13,11 @@ take_more xs i d within = rw add-one (take-suc xs i d within)
 
 pub filter_map-more : {X Y : Type 0} (f : X → Option Y) (xs : List X) (i : ℕ) (d : X) → i < length xs → filter_map f (take (i + 1) xs) ≡ filter_map f (take i xs) ++ filter_map f (get_or xs i d ∷ [])
 filter_map-more f xs i d within = ap (filter_map f) (take_more xs i d within) ∙ filter_map-append f (take i xs) (get_or xs i d ∷ [])
+
+next : {Y : Type 0} (ys : List Y) (o : Option Y) (zs : List Y) → (ys ++ cons_option o []) ++ zs ≡ ys ++ cons_option o zs
+next ys None zs = ap (λ l. l ++ zs) (append-nil ys)
+next ys (Some y) zs = append_assoc ys (y ∷ []) zs
+
+-- what is taken of the next, and of those behind it
+pub filter_map-next : {X Y : Type 0} (f : X → Option Y) (ys : List Y) (x : X) (rest : List X) → (ys ++ filter_map f (x ∷ [])) ++ filter_map f rest ≡ ys ++ filter_map f (x ∷ rest)
+filter_map-next f ys x rest = next ys (f x) (filter_map f rest)

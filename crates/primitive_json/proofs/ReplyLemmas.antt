@@ -3,6 +3,7 @@ use Rattle.std.proofs.Common.{◌≡◌, ℕ, ◌==◌, nat_le, List, [], ◌∷
 use Rattle.std.proofs.lemmas.Bool.{and_parts}
 use Rattle.std.proofs.lemmas.Bool.Decides.{nat_tests}
 use Rattle.std.specs.Int.{is_in_range}
+use Rattle.std.specs.Option.{option_map_or}
 use Rattle.m2m_names.specs.StatusCodes.{rsc_row, rsc_of_number}
 use Rattle.std.specs.List.{list_any}
 use Rattle.m2m_names.specs.StatusNumbers.{is_other, named_numbers}
@@ -12,15 +13,15 @@ use Rattle.m2m_names.proofs.StatusLemmas.{rsc_again}
 use Rattle.m2m_value.specs.Data.{Data, text, Entry}
 use Rattle.m2m_value.specs.View.{as_text, member_of}
 use Rattle.primitive_json.specs.Bounds.{is_request_id}
-use Rattle.primitive_json.specs.Kinds.{members_in, request_id_of, status_of}
+use Rattle.primitive_json.specs.Kinds.{members_in, is_id_text, read_status}
 use Rattle.primitive_json.specs.Laws.{IsReplyOfKinds}
-use Rattle.primitive_json.specs.Reading.{read_as, rsc_name, rqi_name, pc_name, fits_if_there, reply_fault_in, reply_in, reply_of, read_reply}
-use Rattle.primitive_json.specs.Writing.{present, whole, reply_rows, written_reply}
+use Rattle.primitive_json.specs.Reading.{read_as, rsc_name, rqi_name, pc_name, reply_fault, reply_made, reply_of, read_reply}
+use Rattle.primitive_json.specs.Writing.{present, count_data, reply_rows, written_reply}
 use Rattle.primitive_json.specs.declared.fault.PrimFault.{PrimFault}
 use Rattle.primitive_json.specs.declared.fault.PrimFault.TheVariants.{Missing, Bad}
 use Rattle.primitive_json.specs.declared.reply.ReplyParts.{ReplyParts}
 use Rattle.primitive_json.proofs.FaultLemmas.{read_without_fault, read_if_no_fault}
-use Rattle.primitive_json.proofs.KindLemmas.{where_kept, where_passes, passes_along, each_back}
+use Rattle.primitive_json.proofs.KindLemmas.{where_kept, told_passes}
 use Rattle.primitive_json.proofs.Present.{member_of-present, members_in-object_of}
 
 -- ---- the number of a status code has four digits
@@ -53,14 +54,18 @@ few_digits TooManyMembers = refl
 few_digits WrongMember = refl
 few_digits (Other o) = four_digits o.number o.outside
 
-status_back : (r : Rsc) → status_of (whole (rsc_row r).number) ≡ Some r
+status_back : (r : Rsc) → read_status (count_data (rsc_row r).number) ≡ Some r
 status_back r = ap (option_and_then rsc_of_number) (where_kept (λ n. nat_le n 9_999) (rsc_row r).number (few_digits r)) ∙ rsc_again r
 
 -- ---- a reply is read back
 
-id_fits : (id : Option (List ℕ)) → IfSome id (λ s. is_request_id s ≡ true) → fits_if_there request_id_of (option_map text id) ≡ true
+id_fits : (id : Option (List ℕ)) → IfSome id (λ s. is_request_id s ≡ true) → option_map_or is_id_text (option_map text id) true ≡ true
 id_fits None h = refl
-id_fits (Some s) h = ap is_some (where_kept is_request_id s h)
+id_fits (Some s) h = h
+
+text_back : (o : Option (List ℕ)) → option_and_then as_text (option_map text o) ≡ o
+text_back None = refl
+text_back (Some s) = refl
 
 -- the fault that three tests find
 abbrev fault_by : Bool → Bool → Bool → Option PrimFault
@@ -71,7 +76,7 @@ module _ (r : ReplyParts) (kind : IsReplyOfKinds r) where
   abbrev es : List Entry
   es = present (reply_rows r)
 
-  status_there : member_of rsc_name es ≡ Some (whole (rsc_row r.rsc).number)
+  status_there : member_of rsc_name es ≡ Some (count_data (rsc_row r.rsc).number)
   status_there = member_of-present rsc_name (reply_rows r) refl
 
   id_there : member_of rqi_name es ≡ option_map text r.rqi
@@ -80,26 +85,42 @@ module _ (r : ReplyParts) (kind : IsReplyOfKinds r) where
   content_there : member_of pc_name es ≡ r.pc
   content_there = member_of-present pc_name (reply_rows r) refl
 
-  without_fault : reply_fault_in es ≡ None
+  without_fault : reply_fault es ≡ None
   without_fault =
       let absent = ap is_none status_there in
-      let id = ap (λ (d : Option Data). not (fits_if_there request_id_of d)) id_there ∙ ap not (id_fits r.rqi kind) in
-      let status = ap (λ (d : Option Data). not (fits_if_there status_of d)) status_there ∙ ap (λ (s : Option Rsc). not (is_some s)) (status_back r.rsc) in
+      let id = ap (λ (d : Option Data). not (option_map_or is_id_text d true)) id_there ∙ ap not (id_fits r.rqi kind) in
+      let status = ap (λ (d : Option Data). not (option_map_or (λ d. is_some (read_status d)) d true)) status_there ∙ ap (λ (s : Option Rsc). not (is_some s)) (status_back r.rsc) in
       λ i. fault_by (absent i) (id i) (status i)
 
-  same_reply : reply_in es ≡ r
+  same_reply : reply_made es ≡ r
   same_reply =
-      let rsc = ap (λ (d : Option Data). unwrap_or (option_and_then status_of d) Internal) status_there ∙ ap (λ (s : Option Rsc). unwrap_or s Internal) (status_back r.rsc) in
-      let rqi = ap (option_and_then request_id_of) id_there ∙ each_back request_id_of text (λ s. is_request_id s ≡ true) (where_kept is_request_id) r.rqi kind in
+      let rsc = ap (λ (d : Option Data). unwrap_or (option_and_then read_status d) Internal) status_there ∙ ap (λ (s : Option Rsc). unwrap_or s Internal) (status_back r.rsc) in
+      let rqi = ap (option_and_then as_text) id_there ∙ text_back r.rqi in
       let pc = content_there in
       λ i. record { rsc = rsc i; rqi = rqi i; pc = pc i }
 
   pub reply_back : read_reply (written_reply r) ≡ Ok r
-  reply_back = ap reply_of (members_in-object_of (reply_rows r)) ∙ read_if_no_fault (reply_fault_in es) (reply_in es) r without_fault same_reply
+  reply_back = ap reply_of (members_in-object_of (reply_rows r)) ∙ read_if_no_fault (reply_fault es) (reply_made es) r without_fault same_reply
+
+-- ---- what is read is of its kind
+
+id_good : (absent id_bad status_bad : Bool) → fault_by absent id_bad status_bad ≡ None → id_bad ≡ false
+id_good true id_bad status_bad h = cc
+id_good false true status_bad h = cc
+id_good false false status_bad h = refl
+
+not_false : (b : Bool) → not b ≡ false → b ≡ true
+not_false true h = refl
+not_false false h = cc
+
+id_passes : (o : Option Data) → option_map_or is_id_text o true ≡ true → IfSome (option_and_then as_text o) (λ s. is_request_id s ≡ true)
+id_passes None h = tt
+id_passes (Some d) h = told_passes is_request_id (as_text d) h
 
 pub reply_of_kinds : (d : Data) (r : ReplyParts) → read_reply d ≡ Ok r → IsReplyOfKinds r
 reply_of_kinds d r is =
     let es = members_in d in
-    let made = (read_without_fault (reply_fault_in es) (reply_in es) r is).1 in
+    let read = read_without_fault (reply_fault es) (reply_made es) r is in
+    let good = id_good (is_none (member_of rsc_name es)) (not (option_map_or is_id_text (member_of rqi_name es) true)) (not (option_map_or (λ d. is_some (read_status d)) (member_of rsc_name es) true)) read.0 in
     let P : ReplyParts → Type 0 = IsReplyOfKinds in
-    subst P made (passes_along (λ s. is_request_id s ≡ true) request_id_of (λ e. where_passes is_request_id (as_text e)) (member_of rqi_name es))
+    subst P read.1 (id_passes (member_of rqi_name es) (not_false _ good))

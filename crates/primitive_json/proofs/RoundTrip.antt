@@ -14,14 +14,14 @@ use Rattle.m2m_value.specs.Shapes.{as_count}
 use Rattle.m2m_value.specs.View.{as_text, as_number, as_object, member_of}
 use Rattle.primitive_json.specs.Bounds.{is_request_id}
 use Rattle.primitive_json.specs.Conditions.{is_filter, filter_in}
-use Rattle.primitive_json.specs.Kinds.{where_it, members_in, target_of, originator_of, request_id_of, type_number_of, number_among, address_forms, operation_of, result_contents, result_content_of, response_type_of, expiry_of, is_object}
+use Rattle.primitive_json.specs.Kinds.{members_in, read_type_number, is_among, address_forms, read_operation, result_contents, read_response_type, read_expiry}
 use Rattle.primitive_json.specs.Laws.{IsFilterOfKinds, IsWhenOfKind, IsShortWhen, IsOfKinds, HasShortExpiry}
 use Rattle.primitive_json.specs.Members.{creates, retrieves, has_content, has_result, all_members, name_of, is_read, is_needed}
-use Rattle.primitive_json.specs.Reading.{read_as, fits, is_good, is_missing, missing, bad, fault_in, value_of, operation_in, request_in, request_of, read_request}
-use Rattle.primitive_json.specs.Writing.{Row, present, only_where, whole, expiry_data, written_filter, member_value, member_row, written_request}
+use Rattle.primitive_json.specs.Reading.{read_as, is_good, is_missing, missing_member, bad_entry, request_fault, value_read, operation_in, request_made, request_of, read_request}
+use Rattle.primitive_json.specs.Writing.{NamedValue, present, only_where, count_data, expiry_data, written_filter, member_value, member_row, written_request}
 use Rattle.primitive_json.proofs.FaultLemmas.{named_again, read_without_fault, read_if_no_fault, needed_is_there, fitting, operation_is_known}
 use Rattle.primitive_json.proofs.FilterLemmas.{filter_back, filter_fits, filter_of_kinds}
-use Rattle.primitive_json.proofs.KindLemmas.{where_kept, where_passes, passes_along, each_back, among_back, expiry_back, when_of_kind}
+use Rattle.primitive_json.proofs.KindLemmas.{where_kept, where_passes, passes_along, each_back, told_passes, told_or_passes, expiry_back, when_of_kind}
 use Rattle.primitive_json.proofs.Present.{member_of-present, members_in-object_of, none_fails, all_rows}
 use Rattle.primitive_json.specs.declared.fault.PrimFault.TheVariants.{Missing, Bad}
 use Rattle.primitive_json.specs.declared.filter.FilterParts.{FilterParts}
@@ -68,7 +68,7 @@ written_if_needed r kinds Expiry = refl
 written_if_needed r kinds RequestId = refl
 written_if_needed r kinds ResponseType = refl
 written_if_needed r kinds Target = refl
-written_if_needed r kinds ResourceType = kept_where (creates r.op) (option_map whole r.ty) (mapped whole r.ty _ kinds.ty_there)
+written_if_needed r kinds ResourceType = kept_where (creates r.op) (option_map count_data r.ty) (mapped count_data r.ty _ kinds.ty_there)
 
 none_found : {A : Type 0} (test : A → Bool) → ((a : A) → test a ≡ false) → (xs : List A) → find test xs ≡ None
 none_found test none [] = refl
@@ -91,40 +91,40 @@ if_kept Q false o h = tt
 each_good : (r : RequestParts) → IsOfKinds r → HasShortExpiry r → (member : Member) → IfSome (member_value r member) (λ d. is_good (Some r.op) (name_of member, d) ≡ true)
 each_good r kinds short DesiredForm =
     if_some number (λ z. list_any (λ n. int_eq n z) address_forms ≡ true) (λ d. is_good (Some r.op) (name_of DesiredForm, d) ≡ true)
-    (λ z h. ap is_some (among_back address_forms z h)) r.drt kinds.drt
+    (λ z h. h) r.drt kinds.drt
 each_good r kinds short FilterCriteria =
     let Q : Data → Type 0 = λ d. is_good (Some r.op) (name_of FilterCriteria, d) ≡ true in
     if_kept Q (retrieves r.op) (option_map written_filter r.fc)
     (if_some written_filter (λ f. (retrieves r.op ≡ true) × IsFilterOfKinds f) Q (λ f h. rw h.0 (filter_fits f h.1)) r.fc kinds.fc)
 each_good r kinds short Originator =
-    if_some text (λ s. is_originator s ≡ true) (λ d. is_good (Some r.op) (name_of Originator, d) ≡ true) (λ s h. ap is_some (where_kept is_originator s h)) r.fr kinds.fr
+    if_some text (λ s. is_originator s ≡ true) (λ d. is_good (Some r.op) (name_of Originator, d) ≡ true) (λ s h. h) r.fr kinds.fr
 each_good r kinds short Operation = ap is_some (op_again r.op)
 each_good r kinds short Content =
     let Q : Data → Type 0 = λ d. is_good (Some r.op) (name_of Content, d) ≡ true in
     if_kept Q (has_content r.op) r.pc (weaker r.pc kinds.pc)
   where
-    weaker : (o : Option Data) → IfSome o (λ d. is_object d ≡ true) → IfSome o (λ d. not (has_content r.op) || is_object d ≡ true)
+    weaker : (o : Option Data) → IfSome o (λ d. is_some (as_object d) ≡ true) → IfSome o (λ d. not (has_content r.op) || is_some (as_object d) ≡ true)
     weaker None h = tt
-    weaker (Some d) h = passes_or (not (has_content r.op)) (is_object d) h
+    weaker (Some d) h = passes_or (not (has_content r.op)) (is_some (as_object d)) h
 each_good r kinds short ResultContent =
     if_some number (λ z. list_any (λ n. int_eq n z) (result_contents r.op) ≡ true) (λ d. is_good (Some r.op) (name_of ResultContent, d) ≡ true)
-    (λ z h. passes_or (not (has_result r.op)) _ (ap is_some (among_back (result_contents r.op) z h))) r.rcn kinds.rcn
+    (λ z h. passes_or (not (has_result r.op)) _ h) r.rcn kinds.rcn
 each_good r kinds short Expiry = timely r.rqet kinds.rqet short
   where
-    timely : (o : Option When) → IfSome o IsWhenOfKind → IfSome o IsShortWhen → IfSome (option_map expiry_data o) (λ d. is_some (expiry_of d) ≡ true)
+    timely : (o : Option When) → IfSome o IsWhenOfKind → IfSome o IsShortWhen → IfSome (option_map expiry_data o) (λ d. is_some (read_expiry d) ≡ true)
     timely None kind short = tt
     timely (Some when) kind short = ap is_some (expiry_back when kind short)
-each_good r kinds short RequestId = ap is_some (where_kept is_request_id r.rqi kinds.rqi)
+each_good r kinds short RequestId = kinds.rqi
 each_good r kinds short ResponseType = if_some number (λ z. Unit {0}) (λ d. is_good (Some r.op) (name_of ResponseType, d) ≡ true) (λ z h. refl) r.rt (any r.rt)
   where
     any : (o : Option ℤ) → IfSome o (λ z. Unit {0})
     any None = tt
     any (Some z) = tt
-each_good r kinds short Target = ap is_some (where_kept (is_filled 1024) r.to kinds.to)
+each_good r kinds short Target = kinds.to
 each_good r kinds short ResourceType =
     let Q : Data → Type 0 = λ d. is_good (Some r.op) (name_of ResourceType, d) ≡ true in
-    if_kept Q (creates r.op) (option_map whole r.ty)
-    (if_some whole (λ n. nat_le n 65_535 ≡ true) Q (λ n h. passes_or (not (creates r.op)) _ (ap is_some (where_kept (λ n. nat_le n 65_535) n h))) r.ty kinds.ty)
+    if_kept Q (creates r.op) (option_map count_data r.ty)
+    (if_some count_data (λ n. nat_le n 65_535 ≡ true) Q (λ n h. passes_or (not (creates r.op)) _ (ap is_some (where_kept (λ n. nat_le n 65_535) n h))) r.ty kinds.ty)
 
 -- ---- each parameter is read back
 
@@ -142,15 +142,23 @@ any_number : (o : Option ℤ) → IfSome o (λ z. Unit {0})
 any_number None = tt
 any_number (Some z) = tt
 
-timely_back : (o : Option When) → IfSome o IsWhenOfKind → IfSome o IsShortWhen → option_and_then expiry_of (option_map expiry_data o) ≡ o
+timely_back : (o : Option When) → IfSome o IsWhenOfKind → IfSome o IsShortWhen → option_and_then read_expiry (option_map expiry_data o) ≡ o
 timely_back None kind short = refl
 timely_back (Some when) kind short = expiry_back when kind short
 
-result_back : (op : Op) (o : Option ℤ) → IfSome o (λ z. list_any (λ n. int_eq n z) (result_contents op) ≡ true) → option_and_then (result_content_of op) (only_where (has_result op) (option_map number o)) ≡ o
-result_back Create o h = each_back (result_content_of Create) number _ (among_back (result_contents Create)) o h
-result_back Retrieve o h = each_back (result_content_of Retrieve) number _ (among_back (result_contents Retrieve)) o h
-result_back Update o h = each_back (result_content_of Update) number _ (among_back (result_contents Update)) o h
-result_back Delete o h = each_back (result_content_of Delete) number _ (among_back (result_contents Delete)) o h
+text_again : (o : Option (List ℕ)) → option_and_then as_text (option_map text o) ≡ o
+text_again None = refl
+text_again (Some s) = refl
+
+number_again : (o : Option ℤ) → option_and_then as_number (option_map number o) ≡ o
+number_again None = refl
+number_again (Some z) = refl
+
+result_back : (op : Op) (o : Option ℤ) → IfSome o (λ z. list_any (λ n. int_eq n z) (result_contents op) ≡ true) → option_and_then as_number (only_where (has_result op) (option_map number o)) ≡ o
+result_back Create o h = number_again o
+result_back Retrieve o h = number_again o
+result_back Update o h = number_again o
+result_back Delete o h = number_again o
 result_back Notify None h = refl
 result_back Notify (Some z) h = cc
 
@@ -169,45 +177,41 @@ module _ (r : RequestParts) (kinds : IsOfKinds r) (short : HasShortExpiry r) whe
   abbrev es : List Entry
   es = present (map (member_row r) all_members)
 
-  same_request : request_in r.op es ≡ r
+  same_request : request_made r.op es ≡ r
   same_request =
-      let to = ap (λ (d : Option Data). unwrap_or (option_and_then target_of d) []) (there r Target) ∙ ap (λ (o : Option (List ℕ)). unwrap_or o []) (where_kept (is_filled 1024) r.to kinds.to) in
-      let fr = ap (option_and_then originator_of) (there r Originator) ∙ each_back originator_of text (λ s. is_originator s ≡ true) (where_kept is_originator) r.fr kinds.fr in
-      let rqi = ap (λ (d : Option Data). unwrap_or (option_and_then request_id_of d) []) (there r RequestId) ∙ ap (λ (o : Option (List ℕ)). unwrap_or o []) (where_kept is_request_id r.rqi kinds.rqi) in
-      let ty = ap (λ (d : Option Data). option_and_then type_number_of (only_where (creates r.op) d)) (there r ResourceType)
-      ∙ scoped type_number_of whole (creates r.op) r.ty kinds.ty_there (each_back type_number_of whole (λ n. nat_le n 65_535 ≡ true) (where_kept (λ n. nat_le n 65_535)) r.ty kinds.ty) in
+      let to = ap (λ (d : Option Data). unwrap_or (option_and_then as_text d) []) (there r Target) in
+      let fr = ap (option_and_then as_text) (there r Originator) ∙ text_again r.fr in
+      let rqi = ap (λ (d : Option Data). unwrap_or (option_and_then as_text d) []) (there r RequestId) in
+      let ty = ap (λ (d : Option Data). option_and_then read_type_number (only_where (creates r.op) d)) (there r ResourceType)
+      ∙ scoped read_type_number count_data (creates r.op) r.ty kinds.ty_there (each_back read_type_number count_data (λ n. nat_le n 65_535 ≡ true) (where_kept (λ n. nat_le n 65_535)) r.ty kinds.ty) in
       let pc = ap (only_where (has_content r.op)) (there r Content) ∙ kept_twice (has_content r.op) r.pc kinds.pc_there in
-      let rqet = ap (option_and_then expiry_of) (there r Expiry) ∙ timely_back r.rqet kinds.rqet short in
-      let rt = ap (option_and_then response_type_of) (there r ResponseType) ∙ each_back response_type_of number (λ z. Unit {0}) (λ z h. refl) r.rt (any_number r.rt) in
-      let rcn = ap (λ (d : Option Data). option_and_then (result_content_of r.op) (only_where (has_result r.op) d)) (there r ResultContent) ∙ result_back r.op r.rcn kinds.rcn in
+      let rqet = ap (option_and_then read_expiry) (there r Expiry) ∙ timely_back r.rqet kinds.rqet short in
+      let rt = ap (option_and_then read_response_type) (there r ResponseType) ∙ each_back read_response_type number (λ z. Unit {0}) (λ z h. refl) r.rt (any_number r.rt) in
+      let rcn = ap (λ (d : Option Data). option_and_then as_number (only_where (has_result r.op) d)) (there r ResultContent) ∙ result_back r.op r.rcn kinds.rcn in
       let fc = ap (option_map (λ (d : Data). filter_in (members_in d))) (there r FilterCriteria) ∙ filter_there (retrieves r.op) r.fc kinds.fc in
-      let drt = ap (option_and_then (number_among address_forms)) (there r DesiredForm) ∙ each_back (number_among address_forms) number (λ z. list_any (λ n. int_eq n z) address_forms ≡ true) (among_back address_forms) r.drt kinds.drt in
+      let drt = ap (option_and_then as_number) (there r DesiredForm) ∙ number_again r.drt in
       λ i. record { op = r.op; to = to i; fr = fr i; rqi = rqi i; ty = ty i; pc = pc i; rqet = rqet i; rt = rt i; rcn = rcn i; fc = fc i; drt = drt i }
 
-  nothing_missing : missing (Some r.op) es ≡ None
+  nothing_missing : missing_member (Some r.op) es ≡ None
   nothing_missing = none_found (is_missing (Some r.op) es) (λ member. ap (λ (d : Option Data). is_needed (Some r.op) member && is_none d) (there r member) ∙ written_if_needed r kinds member) all_members
 
-  nothing_bad : bad (Some r.op) es ≡ None
+  nothing_bad : bad_entry (Some r.op) es ≡ None
   nothing_bad = none_fails (is_good (Some r.op)) (map (member_row r) all_members) (all_rows (is_good (Some r.op)) (member_row r) (each_good r kinds short) all_members)
 
-  without_fault : fault_in (Some r.op) es ≡ None
-  without_fault = both_none (missing (Some r.op) es) (bad (Some r.op) es) nothing_missing nothing_bad
+  without_fault : request_fault (Some r.op) es ≡ None
+  without_fault = both_none (missing_member (Some r.op) es) (bad_entry (Some r.op) es) nothing_missing nothing_bad
 
   operation_there : operation_in es ≡ Some r.op
-  operation_there = ap (option_and_then operation_of) (there r Operation) ∙ op_again r.op
+  operation_there = ap (option_and_then read_operation) (there r Operation) ∙ op_again r.op
 
   -- a request of its kinds is read back
   pub request_back : read_request (written_request r) ≡ Ok r
   request_back =
       ap request_of (members_in-object_of (map (member_row r) all_members))
-      ∙ ap (λ (o : Option Op). read_as (fault_in o es) (request_in (unwrap_or o Create) es)) operation_there
-      ∙ read_if_no_fault (fault_in (Some r.op) es) (request_in r.op es) r without_fault same_request
+      ∙ ap (λ (o : Option Op). read_as (request_fault o es) (request_made (unwrap_or o Create) es)) operation_there
+      ∙ read_if_no_fault (request_fault (Some r.op) es) (request_made r.op es) r without_fault same_request
 
 -- ---- what is read is of its kinds
-
-kept_passes : (test : List ℕ → Bool) (o : Option (List ℕ)) → IfSome o (λ s. test s ≡ true) → is_some o ≡ true → test (unwrap_or o []) ≡ true
-kept_passes test None h some = cc
-kept_passes test (Some s) h some = h
 
 scoped_there : {A : Type 0} (read : Data → Option A) (b : Bool) (o : Option Data) → (b ≡ true → (d : Data) × (o ≡ Some d) × (is_some (read d) ≡ true)) → is_some (option_and_then read (only_where b o)) ≡ b
 scoped_there read true o h = let at = h refl in ap (λ (x : Option Data). is_some (option_and_then read x)) at.1 ∙ at.2
@@ -222,36 +226,44 @@ if_read P true None h = tt
 if_read P true (Some d) h = h refl d refl
 if_read P false o h = tt
 
+-- what a value is passes the test, where the value does
+along : {A : Type 0} (read : Data → Option A) (test : A → Bool) (o : Option Data) → IfSome o (λ d. option_map_or test (read d) false ≡ true) → IfSome (option_and_then read o) (λ a. test a ≡ true)
+along read test None h = tt
+along read test (Some d) h = told_passes test (read d) h
+
+read_along : {A : Type 0} (read : Data → Option A) (test : A → Bool) (b : Bool) (o : Option Data) → (b ≡ true → (d : Data) → o ≡ Some d → option_map_or test (read d) false ≡ true) → IfSome (option_and_then read (only_where b o)) (λ a. test a ≡ true)
+read_along read test b o h = along read test (only_where b o) (if_read (λ d. option_map_or test (read d) false ≡ true) b o h)
+
 filter_read : (retrieved : Type 0) (o : Option Data) → ((d : Data) → o ≡ Some d → retrieved) → IfSome (option_map (λ d. filter_in (members_in d)) o) (λ f. retrieved × IsFilterOfKinds f)
 filter_read retrieved None h = tt
 filter_read retrieved (Some d) h = (h d refl, filter_of_kinds (members_in d))
 
-kinds_of : (op : Op) (es : List Entry) → fault_in (Some op) es ≡ None → IsOfKinds (request_in op es)
+kinds_of : (op : Op) (es : List Entry) → request_fault (Some op) es ≡ None → IsOfKinds (request_made op es)
 kinds_of op es h =
     let to = needed_is_there (Some op) es Target h refl in
     let rqi = needed_is_there (Some op) es RequestId h refl in
     record {
-      to = ap (λ (d : Option Data). is_filled 1024 (unwrap_or (option_and_then target_of d) [])) to.1
-          ∙ kept_passes (is_filled 1024) (target_of to.0) (where_passes (is_filled 1024) (as_text to.0)) (fitting (Some op) es Target to.0 h refl to.1);
-      fr = passes_along (λ s. is_originator s ≡ true) originator_of (λ d. where_passes is_originator (as_text d)) (value_of op Originator es);
-      rqi = ap (λ (d : Option Data). is_request_id (unwrap_or (option_and_then request_id_of d) [])) rqi.1
-          ∙ kept_passes is_request_id (request_id_of rqi.0) (where_passes is_request_id (as_text rqi.0)) (fitting (Some op) es RequestId rqi.0 h refl rqi.1);
-      ty = passes_along (λ n. nat_le n 65_535 ≡ true) type_number_of (λ d. where_passes (λ n. nat_le n 65_535) (as_count d)) (value_of op ResourceType es);
-      ty_there = scoped_there type_number_of (creates op) (member_of (name_of ResourceType) es) (λ created.
+      to = ap (λ (d : Option Data). is_filled 1024 (unwrap_or (option_and_then as_text d) [])) to.1
+          ∙ told_or_passes (is_filled 1024) (as_text to.0) [] (fitting (Some op) es Target to.0 h refl to.1);
+      fr = read_along as_text is_originator true (member_of (name_of Originator) es) (λ read d found. fitting (Some op) es Originator d h refl found);
+      rqi = ap (λ (d : Option Data). is_request_id (unwrap_or (option_and_then as_text d) [])) rqi.1
+          ∙ told_or_passes is_request_id (as_text rqi.0) [] (fitting (Some op) es RequestId rqi.0 h refl rqi.1);
+      ty = passes_along (λ n. nat_le n 65_535 ≡ true) read_type_number (λ d. where_passes (λ n. nat_le n 65_535) (as_count d)) (value_read op ResourceType es);
+      ty_there = scoped_there read_type_number (creates op) (member_of (name_of ResourceType) es) (λ created.
           let at = needed_is_there (Some op) es ResourceType h created in (at.0, at.1, fitting (Some op) es ResourceType at.0 h created at.1));
-      pc = if_read (λ d. is_object d ≡ true) (has_content op) (member_of (name_of Content) es) (λ has d found. fitting (Some op) es Content d h has found);
+      pc = if_read (λ d. is_some (as_object d) ≡ true) (has_content op) (member_of (name_of Content) es) (λ has d found. fitting (Some op) es Content d h has found);
       pc_there = kept_there (has_content op) (member_of (name_of Content) es) (λ has. needed_is_there (Some op) es Content h has);
-      rqet = passes_along IsWhenOfKind expiry_of when_of_kind (value_of op Expiry es);
-      rcn = passes_along (λ z. list_any (λ n. int_eq n z) (result_contents op) ≡ true) (result_content_of op) (λ d. where_passes (λ z. list_any (λ n. int_eq n z) (result_contents op)) (as_number d)) (value_of op ResultContent es);
+      rqet = passes_along IsWhenOfKind read_expiry when_of_kind (value_read op Expiry es);
+      rcn = read_along as_number (λ z. list_any (λ n. int_eq n z) (result_contents op)) (has_result op) (member_of (name_of ResultContent) es) (λ read d found. fitting (Some op) es ResultContent d h read found);
       fc = filter_read (retrieves op ≡ true) (member_of (name_of FilterCriteria) es) (λ d found. (and_parts (retrieves op) (is_filter d) (fitting (Some op) es FilterCriteria d h refl found)).0);
-      drt = passes_along (λ z. list_any (λ n. int_eq n z) address_forms ≡ true) (number_among address_forms) (λ d. where_passes (λ z. list_any (λ n. int_eq n z) address_forms) (as_number d)) (value_of op DesiredForm es);
+      drt = read_along as_number (λ z. list_any (λ n. int_eq n z) address_forms) true (member_of (name_of DesiredForm) es) (λ read d found. fitting (Some op) es DesiredForm d h refl found);
     }
 
 pub request_of_kinds : (d : Data) (r : RequestParts) → read_request d ≡ Ok r → IsOfKinds r
 request_of_kinds d r is =
     let es = members_in d in
-    let parts = read_without_fault (fault_in (operation_in es) es) (request_in (unwrap_or (operation_in es) Create) es) r is in
+    let parts = read_without_fault (request_fault (operation_in es) es) (request_made (unwrap_or (operation_in es) Create) es) r is in
     let known = operation_is_known es parts.0 in
-    let fault : fault_in (Some known.0) es ≡ None = ap (λ (o : Option Op). fault_in o es) (sym known.1) ∙ parts.0 in
-    let made : request_in known.0 es ≡ r = ap (λ (o : Option Op). request_in (unwrap_or o Create) es) (sym known.1) ∙ parts.1 in
+    let fault : request_fault (Some known.0) es ≡ None = ap (λ (o : Option Op). request_fault o es) (sym known.1) ∙ parts.0 in
+    let made : request_made known.0 es ≡ r = ap (λ (o : Option Op). request_made (unwrap_or o Create) es) (sym known.1) ∙ parts.1 in
     subst IsOfKinds made (kinds_of known.0 es fault)

@@ -7,9 +7,9 @@ use Rattle.std.specs.Str.{bytes_eq}
 use Rattle.m2m_names.specs.Name.{is_filled}
 use Rattle.m2m_names.specs.StampReading.{moment_at}
 use Rattle.m2m_value.specs.Data.{Data, null, boolean, number, text, list, object, Entry}
-use Rattle.m2m_value.specs.Shapes.{as_count}
+use Rattle.m2m_value.specs.Shapes.{as_count, is_label}
 use Rattle.m2m_value.specs.View.{as_number, as_text, as_object, elements, member_of}
-use Rattle.primitive_json.specs.Kinds.{where_it, type_number_of}
+use Rattle.primitive_json.specs.Kinds.{where_it, read_type_number}
 use Rattle.primitive_json.specs.declared.condition.Condition.{Condition}
 use Rattle.primitive_json.specs.declared.condition.Condition.TheVariants.{CreatedAfter}
 use Rattle.primitive_json.specs.declared.condition.Condition.TheVariants.{CreatedBefore}
@@ -30,38 +30,34 @@ use Rattle.primitive_json.specs.declared.filter.FilterUsage.TheVariants.{Discove
 -- ---- what the value of a condition is read as
 
 -- the moment of a timestamp
-abbrev pub moment_of : Data → Option ℕ
-moment_of d = option_and_then moment_at (as_text d)
+abbrev pub read_moment : Data → Option ℕ
+read_moment d = option_and_then moment_at (as_text d)
 
 -- a label: a text of 1 to 256 bytes
 abbrev pub label_of : Data → Option (List ℕ)
 label_of d = where_it (is_filled 256) (as_text d)
 
 -- how a filter is used, by its number (TS-0004, 6.3.4.2.31)
-abbrev pub usage_of_number : ℤ → Option FilterUsage
-usage_of_number (pos n) =
+abbrev pub usage_numbered : ℤ → Option FilterUsage
+usage_numbered (pos n) =
     if n == 1 then Some Discovery else (if n == 2 then Some Conditional else None)
-usage_of_number z = None
+usage_numbered z = None
 
-abbrev pub usage_of : Data → Option FilterUsage
-usage_of d = option_and_then usage_of_number (as_number d)
+abbrev pub read_usage : Data → Option FilterUsage
+read_usage d = option_and_then usage_numbered (as_number d)
 
--- the elements of a list, and any other value alone
-abbrev pub parts_of : Data → List Data
-parts_of null = null ∷ []
-parts_of (boolean b) = boolean b ∷ []
-parts_of (number z) = number z ∷ []
-parts_of (text s) = text s ∷ []
-parts_of (list es) = elements es
-parts_of (object ps) = object ps ∷ []
+-- the values of which one is to hold: the elements of a list, and any other value alone
+abbrev pub alternatives : Data → List Data
+alternatives null = null ∷ []
+alternatives (boolean b) = boolean b ∷ []
+alternatives (number z) = number z ∷ []
+alternatives (text s) = text s ∷ []
+alternatives (list es) = elements es
+alternatives (object ps) = object ps ∷ []
 
--- each part is read as something
-abbrev pub are_all : {A : Type 0} → (Data → Option A) → Data → Bool
-are_all read d = list_all (λ part. is_some (read part)) (parts_of d)
-
--- what the parts are read as
+-- what the alternatives are read as
 abbrev pub all_of : {A : Type 0} → (Data → Option A) → Data → List A
-all_of read d = filter_map read (parts_of d)
+all_of read d = filter_map read (alternatives d)
 
 -- ---- the table
 
@@ -105,11 +101,11 @@ condition_named name = find (λ condition. bytes_eq (name_of condition) name) al
 
 -- the value is of the sort
 abbrev pub is_of : Sort → Data → Bool
-is_of Moment d = is_some (moment_of d)
+is_of Moment d = is_some (read_moment d)
 is_of Count d = is_some (as_count d)
-is_of Labels d = are_all label_of d
-is_of Types d = are_all type_number_of d
-is_of Use d = is_some (usage_of d)
+is_of Labels d = list_all is_label (alternatives d)
+is_of Types d = list_all (λ d. is_some (read_type_number d)) (alternatives d)
+is_of Use d = is_some (read_usage d)
 
 -- the member is a condition, and its value of the sort of it
 abbrev pub is_condition : Entry → Bool
@@ -122,35 +118,43 @@ is_filter d = option_map_or (λ es. list_all is_condition es) (as_object d) fals
 
 -- ---- the filter that the members make
 
-abbrev pub moment_in : Condition → List Entry → Option ℕ
-moment_in condition es = option_and_then moment_of (member_of (name_of condition) es)
+abbrev pub moment_for : Condition → List Entry → Option ℕ
+moment_for condition es = option_and_then read_moment (member_of (name_of condition) es)
 
-abbrev pub count_in : Condition → List Entry → Option ℕ
-count_in condition es = option_and_then as_count (member_of (name_of condition) es)
+abbrev pub count_for : Condition → List Entry → Option ℕ
+count_for condition es = option_and_then as_count (member_of (name_of condition) es)
 
 abbrev pub usage_in : List Entry → Option FilterUsage
-usage_in es = option_and_then usage_of (member_of (name_of Usage) es)
+usage_in es = option_and_then read_usage (member_of (name_of Usage) es)
+
+-- the labels of the value at `lbl`, if there is one
+abbrev pub labels_of : Option Data → List (List ℕ)
+labels_of d = option_map_or (all_of label_of) d []
 
 abbrev pub labels_in : List Entry → List (List ℕ)
-labels_in es = option_map_or (all_of label_of) (member_of (name_of OneLabel) es) []
+labels_in es = labels_of (member_of (name_of OneLabel) es)
 
 abbrev pub types_in : List Entry → List ℕ
-types_in es = option_map_or (all_of type_number_of) (member_of (name_of OneType) es) []
+types_in es = option_map_or (all_of read_type_number) (member_of (name_of OneType) es) []
 
 abbrev pub filter_in : List Entry → FilterParts
 filter_in es = record {
-  crb = moment_in CreatedBefore es;
-  cra = moment_in CreatedAfter es;
-  ms = moment_in ModifiedSince es;
-  us = moment_in UnmodifiedSince es;
-  sts = count_in StateTagSmaller es;
-  stb = count_in StateTagBigger es;
-  exb = moment_in ExpireBefore es;
-  exa = moment_in ExpireAfter es;
+  crb = moment_for CreatedBefore es;
+  cra = moment_for CreatedAfter es;
+  ms = moment_for ModifiedSince es;
+  us = moment_for UnmodifiedSince es;
+  sts = count_for StateTagSmaller es;
+  stb = count_for StateTagBigger es;
+  exb = moment_for ExpireBefore es;
+  exa = moment_for ExpireAfter es;
   lbl = labels_in es;
   ty = types_in es;
-  sza = count_in SizeAbove es;
-  szb = count_in SizeBelow es;
+  sza = count_for SizeAbove es;
+  szb = count_for SizeBelow es;
   fu = usage_in es;
-  lim = count_in Limit es;
+  lim = count_for Limit es;
 }
+
+-- the filter with these labels in place of its own
+abbrev pub with_labels : List (List ℕ) → FilterParts → FilterParts
+with_labels labels f = record f { lbl = labels }

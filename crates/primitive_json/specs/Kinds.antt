@@ -4,7 +4,7 @@ use Rattle.std.specs.Prelude.{◌∷◌, Option, Some, None, if◌then◌else◌
 use Rattle.std.specs.Prelude.{option_and_then, unwrap_or}
 use Rattle.std.specs.Char.{is_ascii_digit}
 use Rattle.std.specs.List.{list_all, list_any}
-use Rattle.std.specs.Option.{option_or}
+use Rattle.std.specs.Option.{option_or, option_map_or}
 use Rattle.std.specs.Ordering.{int_eq}
 use Rattle.std.specs.Str.Parse.{digits_value}
 use Rattle.m2m_names.specs.Name.{is_filled, is_originator}
@@ -16,7 +16,7 @@ use Rattle.m2m_names.specs.declared.operations.Op.{Op}
 use Rattle.m2m_names.specs.declared.operations.Op.TheVariants.{Create, Retrieve, Update, Delete}
 use Rattle.m2m_names.specs.declared.operations.Op.TheVariants.{Notify}
 use Rattle.m2m_value.specs.Data.{Data, null, boolean, number, text, list, object, Entry}
-use Rattle.m2m_value.specs.Shapes.{as_count}
+use Rattle.m2m_value.specs.Shapes.{as_count, is_text_of}
 use Rattle.m2m_value.specs.View.{as_number, as_text, as_object, entries, member_of}
 use Rattle.primitive_json.specs.Bounds.{is_request_id}
 use Rattle.primitive_json.specs.declared.request.When.{When}
@@ -34,27 +34,29 @@ members_in d = unwrap_or (as_object d) []
 -- ---- texts
 
 -- the target of a request: a text of 1 to 1,024 bytes
-abbrev pub target_of : Data → Option (List ℕ)
-target_of d = where_it (is_filled 1024) (as_text d)
+abbrev pub is_address_text : Data → Bool
+is_address_text d = is_text_of (is_filled 1024) d
 
-abbrev pub originator_of : Data → Option (List ℕ)
-originator_of d = where_it is_originator (as_text d)
+abbrev pub is_originator_text : Data → Bool
+is_originator_text d = is_text_of is_originator d
 
-abbrev pub request_id_of : Data → Option (List ℕ)
-request_id_of d = where_it is_request_id (as_text d)
+abbrev pub is_id_text : Data → Bool
+is_id_text d = is_text_of is_request_id d
 
 -- ---- numbers
 
 -- the number of a resource type: 0 to 65,535
-abbrev pub type_number_of : Data → Option ℕ
-type_number_of d = where_it (λ n. nat_le n 65_535) (as_count d)
+abbrev pub read_type_number : Data → Option ℕ
+read_type_number d = where_it (λ n. nat_le n 65_535) (as_count d)
 
 -- one of these numbers
-abbrev pub number_among : List ℤ → Data → Option ℤ
-number_among numbers d = where_it (λ z. list_any (λ n. int_eq n z) numbers) (as_number d)
+abbrev pub is_among : List ℤ → Data → Bool
+is_among numbers d =
+    option_map_or (λ z. list_any (λ n. int_eq n z) numbers) (as_number d) false
 
-abbrev pub operation_of : Data → Option Op
-operation_of d = option_and_then op_of_number (as_number d)
+-- the operation that a number stands for: 1 to 5
+abbrev pub read_operation : Data → Option Op
+read_operation d = option_and_then op_of_number (as_number d)
 
 -- what the result content of an operation may be (TS-0004, 6.3.4.2.7; the choice is the profile's)
 abbrev pub result_contents : Op → List ℤ
@@ -64,16 +66,13 @@ result_contents Update = pos 0 ∷ pos 1 ∷ []
 result_contents Delete = pos 0 ∷ []
 result_contents Notify = []
 
-abbrev pub result_content_of : Op → Data → Option ℤ
-result_content_of op d = number_among (result_contents op) d
-
 -- structured or unstructured (TS-0004, 6.3.4.2.8)
 abbrev pub address_forms : List ℤ
 address_forms = pos 1 ∷ pos 2 ∷ []
 
 -- a number, or an object that has one at `rtv` (TS-0004, 6.3.5.30)
-abbrev pub response_type_of : Data → Option ℤ
-response_type_of d =
+abbrev pub read_response_type : Data → Option ℤ
+read_response_type d =
     option_or (as_number d) (option_and_then as_number (member_of (codes "rtv") (members_in d)))
 
 -- ---- expiry
@@ -82,23 +81,18 @@ response_type_of d =
 abbrev pub is_numeral : List ℕ → Bool
 is_numeral s = is_filled 18 s && list_all is_ascii_digit s
 
--- milliseconds by digits, else a timestamp
-abbrev pub expiry_in : List ℕ → Option When
-expiry_in s =
+-- milliseconds by digits, else the moment of a timestamp
+abbrev pub expiry_spelled : List ℕ → Option When
+expiry_spelled s =
     if is_numeral s then Some (Millis (digits_value 10 s)) else option_map At (moment_at s)
 
--- or milliseconds by a number (TS-0004, 6.3.3)
-abbrev pub expiry_of : Data → Option When
-expiry_of d = option_or (option_map Millis (as_count d)) (option_and_then expiry_in (as_text d))
-
--- ---- content
-
--- an object
-abbrev pub is_object : Data → Bool
-is_object d = is_some (as_object d)
+-- milliseconds by a number, else what a text spells (TS-0004, 6.3.3)
+abbrev pub read_expiry : Data → Option When
+read_expiry d =
+    option_or (option_map Millis (as_count d)) (option_and_then expiry_spelled (as_text d))
 
 -- ---- of a reply
 
 -- the status code of a number with at most four digits
-abbrev pub status_of : Data → Option Rsc
-status_of d = option_and_then rsc_of_number (where_it (λ n. nat_le n 9_999) (as_count d))
+abbrev pub read_status : Data → Option Rsc
+read_status d = option_and_then rsc_of_number (where_it (λ n. nat_le n 9_999) (as_count d))

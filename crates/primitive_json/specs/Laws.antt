@@ -5,8 +5,9 @@ use Rattle.std.specs.List.{list_all, list_any}
 use Rattle.std.specs.Ordering.{int_eq}
 use Rattle.m2m_names.specs.Name.{is_filled, is_originator}
 use Rattle.m2m_value.specs.Data.{Data}
+use Rattle.m2m_value.specs.View.{as_object}
 use Rattle.primitive_json.specs.Bounds.{IsMoment, is_request_id}
-use Rattle.primitive_json.specs.Kinds.{is_object, result_contents, address_forms}
+use Rattle.primitive_json.specs.Kinds.{result_contents, address_forms}
 use Rattle.primitive_json.specs.Members.{creates, retrieves, has_content}
 use Rattle.primitive_json.specs.Reading.{read_request, read_reply}
 use Rattle.primitive_json.specs.Writing.{written_request, written_reply}
@@ -40,7 +41,7 @@ pub record IsOfKinds (r : RequestParts) : Type 0 where
   pub rqi : IsTrue (is_request_id r.rqi)
   pub ty : IfSome r.ty (λ n. IsTrue (nat_le n 65_535))
   pub ty_there : is_some r.ty ≡ creates r.op
-  pub pc : IfSome r.pc (λ d. IsTrue (is_object d))
+  pub pc : IfSome r.pc (λ d. IsTrue (is_some (as_object d)))
   pub pc_there : is_some r.pc ≡ has_content r.op
   pub rqet : IfSome r.rqet IsWhenOfKind
   pub rcn : IfSome r.rcn (λ z. IsTrue (list_any (λ n. int_eq n z) (result_contents r.op)))

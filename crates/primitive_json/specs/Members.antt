@@ -1,6 +1,7 @@
 -- The members of a request, as a table (TS-0004, 8.2.2).
-use Rattle.std.specs.Prelude.{ℕ, Bool, true, false, ◌&&◌, List, [], ◌∷◌, Option, Some, None, find}
-use Rattle.std.specs.Prelude.{codes}
+use Rattle.std.specs.Prelude.{ℕ, Bool, true, false, ◌&&◌, List, [], ◌∷◌, Option}
+use Rattle.std.specs.Prelude.{find, codes}
+use Rattle.std.specs.Option.{option_map_or}
 use Rattle.std.specs.Str.{bytes_eq}
 use Rattle.m2m_names.specs.Name.{is_one_of}
 use Rattle.m2m_names.specs.declared.operations.Op.{Op}
@@ -12,77 +13,86 @@ use Rattle.primitive_json.specs.declared.member.Member.TheVariants.{Originator, 
 use Rattle.primitive_json.specs.declared.member.Member.TheVariants.{ResultContent, Expiry}
 use Rattle.primitive_json.specs.declared.member.Member.TheVariants.{RequestId, ResponseType, Target}
 use Rattle.primitive_json.specs.declared.member.Member.TheVariants.{ResourceType}
+use Rattle.primitive_json.specs.declared.member.MemberKind.{MemberKind}
+use Rattle.primitive_json.specs.declared.member.MemberKind.TheVariants.{AddressForm, FilterObject}
+use Rattle.primitive_json.specs.declared.member.MemberKind.TheVariants.{OriginatorText}
+use Rattle.primitive_json.specs.declared.member.MemberKind.TheVariants.{OperationNumber}
+use Rattle.primitive_json.specs.declared.member.MemberKind.TheVariants.{AnyObject, ResultNumber}
+use Rattle.primitive_json.specs.declared.member.MemberKind.TheVariants.{ExpiryTime, IdText}
+use Rattle.primitive_json.specs.declared.member.MemberKind.TheVariants.{ResponseForm, AddressText}
+use Rattle.primitive_json.specs.declared.member.MemberKind.TheVariants.{TypeNumber}
 use Rattle.primitive_json.specs.declared.member.Scope.{Scope}
 use Rattle.primitive_json.specs.declared.member.Scope.TheVariants.{Always, OnCreate, WithContent}
 use Rattle.primitive_json.specs.declared.member.Scope.TheVariants.{WithResult}
 
--- the operation creates
+-- what a request of an operation says: which type it creates, what it retrieves by a filter, which
+-- content it has, and which content its reply is to have (TS-0001, 8.1.2)
+pub record OpReads : Type 0 where
+  pub creates : Bool
+  pub retrieves : Bool
+  pub has_content : Bool
+  pub has_result : Bool
+
+abbrev pub op_reads : Bool → Bool → Bool → Bool → OpReads
+op_reads creates retrieves has_content has_result =
+    record {
+      creates = creates;
+      retrieves = retrieves;
+      has_content = has_content;
+      has_result = has_result;
+    }
+
+abbrev pub reads_of : Op → OpReads
+reads_of Create = op_reads true false true true
+reads_of Retrieve = op_reads false true false true
+reads_of Update = op_reads false false true true
+reads_of Delete = op_reads false false false true
+reads_of Notify = op_reads false false true false
+
 abbrev pub creates : Op → Bool
-creates Create = true
-creates Retrieve = false
-creates Update = false
-creates Delete = false
-creates Notify = false
+creates op = (reads_of op).creates
 
--- the operation retrieves
 abbrev pub retrieves : Op → Bool
-retrieves Create = false
-retrieves Retrieve = true
-retrieves Update = false
-retrieves Delete = false
-retrieves Notify = false
+retrieves op = (reads_of op).retrieves
 
--- a request of the operation has content (TS-0001, 8.1.2)
 abbrev pub has_content : Op → Bool
-has_content Create = true
-has_content Retrieve = false
-has_content Update = true
-has_content Delete = false
-has_content Notify = true
+has_content op = (reads_of op).has_content
 
--- a request of the operation says which content its reply is to have
 abbrev pub has_result : Op → Bool
-has_result Create = true
-has_result Retrieve = true
-has_result Update = true
-has_result Delete = true
-has_result Notify = false
+has_result op = (reads_of op).has_result
 
--- the operation is known, and passes the test
-abbrev pub known_to : (Op → Bool) → Option Op → Bool
-known_to test None = false
-known_to test (Some op) = test op
-
--- the operations of a scope
+-- the operations of a scope; but for the first it has none that is not known
 abbrev pub covers : Scope → Option Op → Bool
 covers Always op = true
-covers OnCreate op = known_to creates op
-covers WithContent op = known_to has_content op
-covers WithResult op = known_to has_result op
+covers OnCreate op = option_map_or creates op false
+covers WithContent op = option_map_or has_content op false
+covers WithResult op = option_map_or has_result op false
 
--- what stands for a member: its short name, on which operations it is read, and whether it is
--- needed there
+-- what stands for a member: its short name, the kind of its value, on which operations it is read,
+-- and whether it is needed there
 pub record MemberRow : Type 0 where
   pub name : List ℕ
+  pub kind : MemberKind
   pub scope : Scope
   pub needed : Bool
 
-abbrev pub member_row : List ℕ → Scope → Bool → MemberRow
-member_row name scope needed = record { name = name; scope = scope; needed = needed }
+abbrev pub member_row : List ℕ → MemberKind → Scope → Bool → MemberRow
+member_row name kind scope needed =
+    record { name = name; kind = kind; scope = scope; needed = needed }
 
 -- the table
 abbrev pub row_of : Member → MemberRow
-row_of DesiredForm = member_row (codes "drt") Always false
-row_of FilterCriteria = member_row (codes "fc") Always false
-row_of Originator = member_row (codes "fr") Always false
-row_of Operation = member_row (codes "op") Always true
-row_of Content = member_row (codes "pc") WithContent true
-row_of ResultContent = member_row (codes "rcn") WithResult false
-row_of Expiry = member_row (codes "rqet") Always false
-row_of RequestId = member_row (codes "rqi") Always true
-row_of ResponseType = member_row (codes "rt") Always false
-row_of Target = member_row (codes "to") Always true
-row_of ResourceType = member_row (codes "ty") OnCreate true
+row_of DesiredForm = member_row (codes "drt") AddressForm Always false
+row_of FilterCriteria = member_row (codes "fc") FilterObject Always false
+row_of Originator = member_row (codes "fr") OriginatorText Always false
+row_of Operation = member_row (codes "op") OperationNumber Always true
+row_of Content = member_row (codes "pc") AnyObject WithContent true
+row_of ResultContent = member_row (codes "rcn") ResultNumber WithResult false
+row_of Expiry = member_row (codes "rqet") ExpiryTime Always false
+row_of RequestId = member_row (codes "rqi") IdText Always true
+row_of ResponseType = member_row (codes "rt") ResponseForm Always false
+row_of Target = member_row (codes "to") AddressText Always true
+row_of ResourceType = member_row (codes "ty") TypeNumber OnCreate true
 
 -- all members, in byte order of their short names
 abbrev pub all_members : List Member

@@ -1,30 +1,41 @@
 -- Reading requests and replies (TS-0004, 8.2.2): the first fault, and what is read where there is
 -- none.
-use Rattle.std.specs.Prelude.{◌≡◌, ℕ, Bool, true, false, not, ◌&&◌, ◌||◌, ◌⊎◌, List, [], ◌∷◌}
-use Rattle.std.specs.Prelude.{Option, Some, None, find, is_some, is_none, if◌then◌else◌, codes}
-use Rattle.std.specs.Prelude.{option_map, option_and_then, unwrap_or, Result, Ok, Err}
+use Rattle.std.specs.Prelude.{◌≡◌, ℕ, Bool, not, ◌&&◌, ◌||◌, ◌⊎◌, List, [], Option, Some, None}
+use Rattle.std.specs.Prelude.{false, find, is_some, is_none, if◌then◌else◌, codes, option_map}
+use Rattle.std.specs.Prelude.{option_and_then, unwrap_or, Result, Ok, Err}
 use Rattle.std.specs.Option.{option_or, option_map_or}
-use Rattle.m2m_names.specs.declared.codes.Rsc.{Rsc}
 use Rattle.m2m_names.specs.declared.codes.Rsc.TheVariants.{Internal}
 use Rattle.m2m_names.specs.declared.operations.Op.{Op}
 use Rattle.m2m_names.specs.declared.operations.Op.TheVariants.{Create}
 use Rattle.m2m_value.specs.Data.{Data, Entry}
-use Rattle.m2m_value.specs.View.{member_of}
-use Rattle.primitive_json.specs.Conditions.{is_filter, filter_in}
-use Rattle.primitive_json.specs.Kinds.{members_in, target_of, originator_of, request_id_of}
-use Rattle.primitive_json.specs.Kinds.{type_number_of, number_among, address_forms, operation_of}
-use Rattle.primitive_json.specs.Kinds.{result_content_of, response_type_of, expiry_of, is_object}
-use Rattle.primitive_json.specs.Kinds.{status_of}
-use Rattle.primitive_json.specs.Members.{retrieves, known_to, all_members, name_of, member_named}
+use Rattle.m2m_value.specs.Shapes.{may_have_member}
+use Rattle.m2m_value.specs.View.{as_number, as_object, as_text, member_of}
+use Rattle.primitive_json.specs.Conditions as conditions
+use Rattle.primitive_json.specs.Conditions.{is_filter, filter_in, labels_of, with_labels}
+use Rattle.primitive_json.specs.Kinds.{members_in, is_address_text, is_originator_text, is_id_text}
+use Rattle.primitive_json.specs.Kinds.{read_type_number, is_among, address_forms, read_operation}
+use Rattle.primitive_json.specs.Kinds.{result_contents, read_response_type, read_expiry}
+use Rattle.primitive_json.specs.Kinds.{read_status}
+use Rattle.primitive_json.specs.Members.{retrieves, row_of, all_members, name_of, member_named}
 use Rattle.primitive_json.specs.Members.{is_one_unread, is_read, is_needed}
+use Rattle.primitive_json.specs.declared.condition.Condition.TheVariants.{OneLabel}
 use Rattle.primitive_json.specs.declared.fault.PrimFault.{PrimFault}
 use Rattle.primitive_json.specs.declared.fault.PrimFault.TheVariants.{Missing, Bad, OutOfMemory}
+use Rattle.primitive_json.specs.declared.kept.Kept.{Kept}
 use Rattle.primitive_json.specs.declared.member.Member.{Member}
 use Rattle.primitive_json.specs.declared.member.Member.TheVariants.{DesiredForm, FilterCriteria}
 use Rattle.primitive_json.specs.declared.member.Member.TheVariants.{Originator, Operation, Content}
 use Rattle.primitive_json.specs.declared.member.Member.TheVariants.{ResultContent, Expiry}
 use Rattle.primitive_json.specs.declared.member.Member.TheVariants.{RequestId, ResponseType, Target}
 use Rattle.primitive_json.specs.declared.member.Member.TheVariants.{ResourceType}
+use Rattle.primitive_json.specs.declared.member.MemberKind.{MemberKind}
+use Rattle.primitive_json.specs.declared.member.MemberKind.TheVariants.{AddressForm, FilterObject}
+use Rattle.primitive_json.specs.declared.member.MemberKind.TheVariants.{OriginatorText}
+use Rattle.primitive_json.specs.declared.member.MemberKind.TheVariants.{OperationNumber}
+use Rattle.primitive_json.specs.declared.member.MemberKind.TheVariants.{AnyObject, ResultNumber}
+use Rattle.primitive_json.specs.declared.member.MemberKind.TheVariants.{ExpiryTime, IdText}
+use Rattle.primitive_json.specs.declared.member.MemberKind.TheVariants.{ResponseForm, AddressText}
+use Rattle.primitive_json.specs.declared.member.MemberKind.TheVariants.{TypeNumber}
 use Rattle.primitive_json.specs.declared.request.RequestParts.{RequestParts}
 use Rattle.primitive_json.specs.declared.reply.ReplyParts.{ReplyParts}
 
@@ -42,23 +53,23 @@ Answers (Err fault) told = (fault ≡ OutOfMemory) ⊎ (told ≡ Err fault)
 
 -- ---- the first fault of a request
 
--- the value is of the member's kind, on an operation as far as that is known
-abbrev pub fits : Option Op → Member → Data → Bool
-fits op DesiredForm d = is_some (number_among address_forms d)
-fits op FilterCriteria d = known_to retrieves op && is_filter d
-fits op Originator d = is_some (originator_of d)
-fits op Operation d = is_some (operation_of d)
-fits op Content d = is_object d
-fits op ResultContent d = known_to (λ o. is_some (result_content_of o d)) op
-fits op Expiry d = is_some (expiry_of d)
-fits op RequestId d = is_some (request_id_of d)
-fits op ResponseType d = is_some (response_type_of d)
-fits op Target d = is_some (target_of d)
-fits op ResourceType d = is_some (type_number_of d)
+-- the value is of the kind, on an operation as far as that is known
+abbrev pub is_of_kind : Option Op → MemberKind → Data → Bool
+is_of_kind op AddressForm d = is_among address_forms d
+is_of_kind op FilterObject d = option_map_or retrieves op false && is_filter d
+is_of_kind op OriginatorText d = is_originator_text d
+is_of_kind op OperationNumber d = is_some (read_operation d)
+is_of_kind op AnyObject d = is_some (as_object d)
+is_of_kind op ResultNumber d = option_map_or (λ o. is_among (result_contents o) d) op false
+is_of_kind op ExpiryTime d = is_some (read_expiry d)
+is_of_kind op IdText d = is_id_text d
+is_of_kind op ResponseForm d = is_some (read_response_type d)
+is_of_kind op AddressText d = is_address_text d
+is_of_kind op TypeNumber d = is_some (read_type_number d)
 
 -- a member is good that is not read there, or whose value is of its kind
 abbrev pub is_good_member : Option Op → Data → Member → Bool
-is_good_member op d member = not (is_read op member) || fits op member d
+is_good_member op d member = not (is_read op member) || is_of_kind op (row_of member).kind d
 
 -- and so is one that is never read; any other name is that of no member
 abbrev pub is_good : Option Op → Entry → Bool
@@ -69,61 +80,81 @@ abbrev pub is_missing : Option Op → List Entry → Member → Bool
 is_missing op es member = is_needed op member && is_none (member_of (name_of member) es)
 
 -- the first such member, in byte order
-abbrev pub missing : Option Op → List Entry → Option Member
-missing op es = find (is_missing op es) all_members
+abbrev pub missing_member : Option Op → List Entry → Option Member
+missing_member op es = find (is_missing op es) all_members
 
 -- the first entry that is not good, in the order of the entries
-abbrev pub bad : Option Op → List Entry → Option Entry
-bad op es = find (λ e. not (is_good op e)) es
+abbrev pub bad_entry : Option Op → List Entry → Option Entry
+bad_entry op es = find (λ e. not (is_good op e)) es
 
 -- a member that is missing comes before one that is bad
-abbrev pub fault_in : Option Op → List Entry → Option PrimFault
-fault_in op es =
-    option_or (option_map (λ member. Missing (name_of member)) (missing op es))
-    (option_map (λ e. Bad e.0) (bad op es))
+abbrev pub request_fault : Option Op → List Entry → Option PrimFault
+request_fault op es =
+    option_or (option_map (λ member. Missing (name_of member)) (missing_member op es))
+    (option_map (λ e. Bad e.0) (bad_entry op es))
 
 -- ---- a request
 
 -- the value of a member, where it is read on the operation
-abbrev pub value_of : Op → Member → List Entry → Option Data
-value_of op member es = if is_read (Some op) member then member_of (name_of member) es else None
+abbrev pub value_read : Op → Member → List Entry → Option Data
+value_read op member es = if is_read (Some op) member then member_of (name_of member) es else None
 
 abbrev pub operation_in : List Entry → Option Op
-operation_in es = option_and_then operation_of (member_of (name_of Operation) es)
+operation_in es = option_and_then read_operation (member_of (name_of Operation) es)
 
--- the request that members make which have no fault: then those are there that must be
-abbrev pub request_in : Op → List Entry → RequestParts
-request_in op es = record {
+-- the request that members make which have no fault: then those are there that must be, and each
+-- that is read is of its kind
+abbrev pub request_made : Op → List Entry → RequestParts
+request_made op es = record {
   op = op;
-  to = unwrap_or (option_and_then target_of (value_of op Target es)) [];
-  fr = option_and_then originator_of (value_of op Originator es);
-  rqi = unwrap_or (option_and_then request_id_of (value_of op RequestId es)) [];
-  ty = option_and_then type_number_of (value_of op ResourceType es);
-  pc = value_of op Content es;
-  rqet = option_and_then expiry_of (value_of op Expiry es);
-  rt = option_and_then response_type_of (value_of op ResponseType es);
-  rcn = option_and_then (result_content_of op) (value_of op ResultContent es);
-  fc = option_map (λ d. filter_in (members_in d)) (value_of op FilterCriteria es);
-  drt = option_and_then (number_among address_forms) (value_of op DesiredForm es);
+  to = unwrap_or (option_and_then as_text (value_read op Target es)) [];
+  fr = option_and_then as_text (value_read op Originator es);
+  rqi = unwrap_or (option_and_then as_text (value_read op RequestId es)) [];
+  ty = option_and_then read_type_number (value_read op ResourceType es);
+  pc = value_read op Content es;
+  rqet = option_and_then read_expiry (value_read op Expiry es);
+  rt = option_and_then read_response_type (value_read op ResponseType es);
+  rcn = option_and_then as_number (value_read op ResultContent es);
+  fc = option_map (λ d. filter_in (members_in d)) (value_read op FilterCriteria es);
+  drt = option_and_then as_number (value_read op DesiredForm es);
 }
 
--- the same with neither texts nor content
+-- the request with neither texts, nor content, nor the labels of its filter
 abbrev pub plain_in : Op → List Entry → RequestParts
-plain_in op es = record (request_in op es) { to = []; fr = None; rqi = []; pc = None }
+plain_in op es = record (request_made op es) {
+  to = [];
+  fr = None;
+  rqi = [];
+  pc = None;
+  fc = option_map (with_labels []) (request_made op es).fc;
+}
 
--- a request, with the texts and the content of the members in place of its own
-abbrev pub with_content : RequestParts → List Entry → RequestParts
-with_content plain es = record plain {
-  to = (request_in plain.op es).to;
-  fr = (request_in plain.op es).fr;
-  rqi = (request_in plain.op es).rqi;
-  pc = (request_in plain.op es).pc;
+-- the values of which these are made
+abbrev pub kept_in : Op → List Entry → Kept
+kept_in op es = record {
+  to = value_read op Target es;
+  fr = value_read op Originator es;
+  rqi = value_read op RequestId es;
+  pc = value_read op Content es;
+  lbl =
+      option_and_then (λ d. member_of (conditions.name_of OneLabel) (members_in d))
+      (value_read op FilterCriteria es);
+}
+
+-- a request with what is made of these values in place of its own
+abbrev pub with_kept : RequestParts → Kept → RequestParts
+with_kept plain kept = record plain {
+  to = unwrap_or (option_and_then as_text kept.to) [];
+  fr = option_and_then as_text kept.fr;
+  rqi = unwrap_or (option_and_then as_text kept.rqi) [];
+  pc = kept.pc;
+  fc = option_map (with_labels (labels_of kept.lbl)) plain.fc;
 }
 
 abbrev pub request_of : List Entry → Result RequestParts PrimFault
 request_of es =
     let op = operation_in es in
-    read_as (fault_in op es) (request_in (unwrap_or op Create) es)
+    read_as (request_fault op es) (request_made (unwrap_or op Create) es)
 
 -- the request that a value is
 abbrev pub read_request : Data → Result RequestParts PrimFault
@@ -140,30 +171,25 @@ rqi_name = codes "rqi"
 abbrev pub pc_name : List ℕ
 pc_name = codes "pc"
 
--- nothing is there, or what is there is read as something
-abbrev pub fits_if_there : {A : Type 0} → (Data → Option A) → Option Data → Bool
-fits_if_there read None = true
-fits_if_there read (Some d) = is_some (read d)
-
 -- the first fault of a reply: the status code must be there; the request identifier comes before it
 -- in byte order
-abbrev pub reply_fault_in : List Entry → Option PrimFault
-reply_fault_in es =
+abbrev pub reply_fault : List Entry → Option PrimFault
+reply_fault es =
     if is_none (member_of rsc_name es) then Some (Missing rsc_name)
-    else (if not (fits_if_there request_id_of (member_of rqi_name es)) then Some (Bad rqi_name)
-    else (if not (fits_if_there status_of (member_of rsc_name es)) then Some (Bad rsc_name)
-    else None))
+    else (if not (may_have_member rqi_name is_id_text es) then Some (Bad rqi_name)
+    else (if not (may_have_member rsc_name (λ d. is_some (read_status d)) es)
+    then Some (Bad rsc_name) else None))
 
 -- the reply that members make which have no fault
-abbrev pub reply_in : List Entry → ReplyParts
-reply_in es = record {
-  rsc = unwrap_or (option_and_then status_of (member_of rsc_name es)) Internal;
-  rqi = option_and_then request_id_of (member_of rqi_name es);
+abbrev pub reply_made : List Entry → ReplyParts
+reply_made es = record {
+  rsc = unwrap_or (option_and_then read_status (member_of rsc_name es)) Internal;
+  rqi = option_and_then as_text (member_of rqi_name es);
   pc = member_of pc_name es;
 }
 
 abbrev pub reply_of : List Entry → Result ReplyParts PrimFault
-reply_of es = read_as (reply_fault_in es) (reply_in es)
+reply_of es = read_as (reply_fault es) (reply_made es)
 
 -- the reply that a value is
 abbrev pub read_reply : Data → Result ReplyParts PrimFault

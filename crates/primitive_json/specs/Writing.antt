@@ -37,17 +37,17 @@ use Rattle.primitive_json.specs.declared.request.When.TheVariants.{At, Millis}
 use Rattle.primitive_json.specs.declared.reply.ReplyParts.{ReplyParts}
 
 -- a name, and the value that is to stand there, if any
-abbrev pub Row : Type 0
-Row = List ℕ × Option Data
+abbrev pub NamedValue : Type 0
+NamedValue = List ℕ × Option Data
 
-abbrev pub entry_of : Row → Option Entry
-entry_of row = option_map (λ d. (row.0, d)) row.1
+abbrev pub entry_there : NamedValue → Option Entry
+entry_there row = option_map (λ d. (row.0, d)) row.1
 
 -- the entries of those that are there
-abbrev pub present : List Row → List Entry
-present rows = filter_map entry_of rows
+abbrev pub present : List NamedValue → List Entry
+present rows = filter_map entry_there rows
 
-abbrev pub object_of : List Row → Data
+abbrev pub object_of : List NamedValue → Data
 object_of rows = object (pairs_of (present rows))
 
 -- the value, on the operations that it is for
@@ -56,8 +56,8 @@ only_where is_there value = if is_there then value else None
 
 -- ---- the parts
 
-abbrev pub whole : ℕ → Data
-whole n = number (pos n)
+abbrev pub count_data : ℕ → Data
+count_data n = number (pos n)
 
 abbrev pub moment_data : ℕ → Data
 moment_data at = text (timestamp at)
@@ -85,16 +85,16 @@ condition_value f ExpireAfter = option_map moment_data f.exa
 condition_value f ExpireBefore = option_map moment_data f.exb
 condition_value f Usage = option_map (λ usage. number (usage_number usage)) f.fu
 condition_value f OneLabel = filled_list (map text f.lbl)
-condition_value f Limit = option_map whole f.lim
+condition_value f Limit = option_map count_data f.lim
 condition_value f ModifiedSince = option_map moment_data f.ms
-condition_value f StateTagBigger = option_map whole f.stb
-condition_value f StateTagSmaller = option_map whole f.sts
-condition_value f SizeAbove = option_map whole f.sza
-condition_value f SizeBelow = option_map whole f.szb
-condition_value f OneType = filled_list (map whole f.ty)
+condition_value f StateTagBigger = option_map count_data f.stb
+condition_value f StateTagSmaller = option_map count_data f.sts
+condition_value f SizeAbove = option_map count_data f.sza
+condition_value f SizeBelow = option_map count_data f.szb
+condition_value f OneType = filled_list (map count_data f.ty)
 condition_value f UnmodifiedSince = option_map moment_data f.us
 
-abbrev pub condition_row : FilterParts → Condition → Row
+abbrev pub condition_row : FilterParts → Condition → NamedValue
 condition_row f condition = (conditions.name_of condition, condition_value f condition)
 
 abbrev pub written_filter : FilterParts → Data
@@ -109,7 +109,7 @@ abbrev pub content_value : RequestParts → Option Data
 content_value r = only_where (has_content r.op) r.pc
 
 abbrev pub type_value : RequestParts → Option Data
-type_value r = only_where (creates r.op) (option_map whole r.ty)
+type_value r = only_where (creates r.op) (option_map count_data r.ty)
 
 -- what is written of a member
 abbrev pub member_value : RequestParts → Member → Option Data
@@ -125,7 +125,7 @@ member_value r ResponseType = option_map number r.rt
 member_value r Target = Some (text r.to)
 member_value r ResourceType = type_value r
 
-abbrev pub member_row : RequestParts → Member → Row
+abbrev pub member_row : RequestParts → Member → NamedValue
 member_row r member = (name_of member, member_value r member)
 
 abbrev pub written_request : RequestParts → Data
@@ -133,10 +133,10 @@ written_request r = object_of (map (member_row r) all_members)
 
 -- ---- a reply
 
-abbrev pub reply_rows : ReplyParts → List Row
+abbrev pub reply_rows : ReplyParts → List NamedValue
 reply_rows r =
     (pc_name, r.pc) ∷ (rqi_name, option_map text r.rqi) ∷
-    (rsc_name, Some (whole (rsc_row r.rsc).number)) ∷ []
+    (rsc_name, Some (count_data (rsc_row r.rsc).number)) ∷ []
 
 abbrev pub written_reply : ReplyParts → Data
 written_reply r = object_of (reply_rows r)

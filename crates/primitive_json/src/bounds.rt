@@ -1,8 +1,6 @@
 //! The tests of what the texts and numbers of primitives keep to.
 ghost use Rattle.std.specs.Prelude.{◌≡◌, ◌↔◌, IsTrue, IsUtf8};
 ghost use Rattle.std.specs.Bool.{OnTrue};
-ghost use Rattle.std.specs.List.{list_all};
-ghost use Rattle.std.specs.Char.{is_ascii_digit};
 ghost use Rattle.primitive_json.specs.Bounds as spec;
 ghost use Rattle.primitive_json.specs.Bounds.{IsMoment, IsCount};
 
@@ -15,13 +13,6 @@ pub fn is_request_id(text: &[u8]) -> bool
     ensures utf8 { OnTrue result (IsUtf8 text.now) }
 {
     (1..=128).contains(&text.len()) && are_graphic(text)
-}
-
-/// Whether all bytes are decimal digits.
-pub(crate) fn are_digits(text: &[u8]) -> bool
-    ensures { result ≡ list_all is_ascii_digit text.now }
-{
-    text.iter().all(u8::is_ascii_digit)
 }
 
 /// Whether a timestamp has the moment, in seconds since 1970.

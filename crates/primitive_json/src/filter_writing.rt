@@ -9,11 +9,11 @@ ghost use Rattle.primitive_json.specs.Writing as spec;
 
 use crate::condition::Condition;
 use crate::filter::{FilterParts, FilterUsage};
-use crate::writing::{moment_value, object_of, push_member, text_value};
+use crate::writing::{moment_value, push_member, sorted_object, text_value};
 use m2m_value::{Items, Text, Val};
 use std::alloc::{AllocError as OutOfMemory, Global};
 
-fn moment(alloc: Global, at: Option<u64>) -> Result<Option<Val>, OutOfMemory>
+fn moment_there(alloc: Global, at: Option<u64>) -> Result<Option<Val>, OutOfMemory>
     requires { ForSome at IsMoment }
     ensures { IfOk result (λ v. v ≡ option_map spec.moment_data at) }
 {
@@ -23,9 +23,9 @@ fn moment(alloc: Global, at: Option<u64>) -> Result<Option<Val>, OutOfMemory>
     }
 }
 
-fn count(n: Option<u64>) -> Option<Val>
+fn count_there(n: Option<u64>) -> Option<Val>
     requires { ForSome n IsCount }
-    ensures { result ≡ option_map spec.whole n }
+    ensures { result ≡ option_map spec.count_data n }
 {
     match n {
         Some(n) => Some(Val::of_num(n as i64)),
@@ -33,7 +33,7 @@ fn count(n: Option<u64>) -> Option<Val>
     }
 }
 
-fn usage(usage: Option<FilterUsage>) -> Option<Val>
+fn usage_there(usage: Option<FilterUsage>) -> Option<Val>
     ensures { result ≡ option_map (λ u. plain.number (spec.usage_number u)) usage }
 {
     match usage {
@@ -54,7 +54,7 @@ fn filled_list(values: Vec<Val>) -> Option<Val>
     }
 }
 
-fn labels(alloc: Global, labels: &[Text]) -> Result<Option<Val>, OutOfMemory>
+fn label_list(alloc: Global, labels: &[Text]) -> Result<Option<Val>, OutOfMemory>
     requires { AllByRecursion IsUtf8 labels.now }
     ensures { IfOk result (λ v. v ≡ spec.filled_list (map plain.text labels.now)) }
 {
@@ -65,9 +65,9 @@ fn labels(alloc: Global, labels: &[Text]) -> Result<Option<Val>, OutOfMemory>
     Ok(filled_list(values))
 }
 
-fn types(alloc: Global, types: &[u64]) -> Result<Option<Val>, OutOfMemory>
+fn type_list(alloc: Global, types: &[u64]) -> Result<Option<Val>, OutOfMemory>
     requires { AllByRecursion IsCount types.now }
-    ensures { IfOk result (λ v. v ≡ spec.filled_list (map spec.whole types.now)) }
+    ensures { IfOk result (λ v. v ≡ spec.filled_list (map spec.count_data types.now)) }
 {
     let mut values = Vec::with_capacity(alloc, types.len())?;
     for number in types {
@@ -86,20 +86,20 @@ fn condition_value(
     ensures { IfOk result (λ v. v ≡ spec.condition_value filter.now condition) }
 {
     match condition {
-        Condition::CreatedAfter => moment(alloc, filter.cra),
-        Condition::CreatedBefore => moment(alloc, filter.crb),
-        Condition::ExpireAfter => moment(alloc, filter.exa),
-        Condition::ExpireBefore => moment(alloc, filter.exb),
-        Condition::Usage => Ok(usage(filter.fu)),
-        Condition::OneLabel => labels(alloc, filter.lbl.entries()),
-        Condition::Limit => Ok(count(filter.lim)),
-        Condition::ModifiedSince => moment(alloc, filter.ms),
-        Condition::StateTagBigger => Ok(count(filter.stb)),
-        Condition::StateTagSmaller => Ok(count(filter.sts)),
-        Condition::SizeAbove => Ok(count(filter.sza)),
-        Condition::SizeBelow => Ok(count(filter.szb)),
-        Condition::OneType => types(alloc, filter.ty.entries()),
-        Condition::UnmodifiedSince => moment(alloc, filter.us),
+        Condition::CreatedAfter => moment_there(alloc, filter.cra),
+        Condition::CreatedBefore => moment_there(alloc, filter.crb),
+        Condition::ExpireAfter => moment_there(alloc, filter.exa),
+        Condition::ExpireBefore => moment_there(alloc, filter.exb),
+        Condition::Usage => Ok(usage_there(filter.fu)),
+        Condition::OneLabel => label_list(alloc, filter.lbl.entries()),
+        Condition::Limit => Ok(count_there(filter.lim)),
+        Condition::ModifiedSince => moment_there(alloc, filter.ms),
+        Condition::StateTagBigger => Ok(count_there(filter.stb)),
+        Condition::StateTagSmaller => Ok(count_there(filter.sts)),
+        Condition::SizeAbove => Ok(count_there(filter.sza)),
+        Condition::SizeBelow => Ok(count_there(filter.szb)),
+        Condition::OneType => type_list(alloc, filter.ty.entries()),
+        Condition::UnmodifiedSince => moment_there(alloc, filter.us),
     }
 }
 
@@ -113,5 +113,5 @@ pub fn write_filter(alloc: Global, filter: &FilterParts) -> Result<Val, OutOfMem
         let value = condition_value(alloc, filter, condition)?;
         push_member(alloc, &mut entries, condition.name(), value)?;
     }
-    Ok(object_of(entries))
+    Ok(sorted_object(entries))
 }

@@ -1,17 +1,27 @@
 //! What the values of members are read as, where they are of their kinds. Nothing is copied.
-ghost use Rattle.std.specs.Prelude.{◌≡◌, ◌<◌, ◌^◌, IfSome, IsUtf8, IsTrue, option_and_then};
-ghost use Rattle.std.specs.List.{find};
+ghost use Rattle.std.specs.Prelude.{◌≡◌, ◌<◌, ◌^◌, IfSome, IsTrue};
+ghost use Rattle.std.specs.Char.{is_ascii_digit};
+ghost use Rattle.std.specs.List.{list_all};
 ghost use Rattle.std.specs.Option.{option_copied};
-ghost use Rattle.std.specs.Ordering.{int_eq};
 ghost use Rattle.std.specs.Str.Parse.{digits_value};
 ghost use Rattle.primitive_json.specs.Requests.{IsSoundWhen};
-ghost use Rattle.m2m_value.specs.View.{as_number, member_of};
+ghost use Rattle.m2m_value.specs.View.{member_of};
 ghost use Rattle.primitive_json.specs.Kinds as spec;
 
-use crate::bounds::{are_digits, is_request_id};
+use crate::bounds::is_request_id;
 use crate::request::When;
 use m2m_names::{Op, Rsc, is_filled, is_originator, read_stamp};
 use m2m_value::{Text, Val};
+
+/// The members of an object; any other value has none.
+pub fn members_in(value: &Val) -> &[(Text, Val)]
+    ensures { result.now ≡ spec.members_in value.now }
+{
+    match value.as_obj() {
+        Some(members) => members.entries(),
+        None => &[],
+    }
+}
 
 /// The value of a member of an object.
 pub fn value_at<'a>(value: &'a Val, name: &str) -> Option<&'a Val>
@@ -20,44 +30,32 @@ pub fn value_at<'a>(value: &'a Val, name: &str) -> Option<&'a Val>
     value.as_obj()?.get(name.as_bytes())
 }
 
-pub fn target_of(value: &Val) -> Option<&Text>
-    ensures value { option_copied result ≡ spec.target_of value.now }
-    ensures utf8 { IfSome (option_copied result) IsUtf8 }
+pub fn is_address_text(value: &Val) -> bool
+    ensures { result ≡ spec.is_address_text value.now }
 {
-    let text = value.as_text()?;
-    if is_filled(text.entries(), 1024) {
-        Some(text)
-    } else {
-        None
-    }
+    value
+        .as_text()
+        .is_some_and(|text| is_filled(text.entries(), 1024))
 }
 
-pub fn originator_of(value: &Val) -> Option<&Text>
-    ensures value { option_copied result ≡ spec.originator_of value.now }
-    ensures utf8 { IfSome (option_copied result) IsUtf8 }
+pub fn is_originator_text(value: &Val) -> bool
+    ensures { result ≡ spec.is_originator_text value.now }
 {
-    let text = value.as_text()?;
-    if is_originator(text.entries()) {
-        Some(text)
-    } else {
-        None
-    }
+    value
+        .as_text()
+        .is_some_and(|text| is_originator(text.entries()))
 }
 
-pub fn request_id_of(value: &Val) -> Option<&Text>
-    ensures value { option_copied result ≡ spec.request_id_of value.now }
-    ensures utf8 { IfSome (option_copied result) IsUtf8 }
+pub fn is_id_text(value: &Val) -> bool
+    ensures { result ≡ spec.is_id_text value.now }
 {
-    let text = value.as_text()?;
-    if is_request_id(text.entries()) {
-        Some(text)
-    } else {
-        None
-    }
+    value
+        .as_text()
+        .is_some_and(|text| is_request_id(text.entries()))
 }
 
-pub fn type_number_of(value: &Val) -> Option<u32>
-    ensures { result ≡ spec.type_number_of value.now }
+pub fn read_type_number(value: &Val) -> Option<u32>
+    ensures { result ≡ spec.read_type_number value.now }
 {
     let number = value.as_count()?;
     if number <= 65_535 {
@@ -67,33 +65,24 @@ pub fn type_number_of(value: &Val) -> Option<u32>
     }
 }
 
-fn find_number(numbers: &[i64], number: i64) -> Option<i64>
-    ensures { result ≡ find (λ n. int_eq n number) numbers.now }
+/// Whether it is one of these numbers.
+pub fn is_among(numbers: &[i64], value: &Val) -> bool
+    ensures { result ≡ spec.is_among numbers.now value.now }
 {
-    numbers.iter().copied().find(|n| *n == number)
+    match value.as_num() {
+        Some(number) => numbers.contains(&number),
+        None => false,
+    }
 }
 
-fn number_in(numbers: &[i64], value: &Val) -> Option<i64>
-    ensures { result
-        ≡ option_and_then (λ z. find (λ n. int_eq n z) numbers.now) (as_number value.now) }
-{
-    find_number(numbers, value.as_num()?)
-}
-
-/// One of these numbers.
-fn number_among(numbers: &[i64], value: &Val) -> Option<i64>
-    ensures { result ≡ spec.number_among numbers.now value.now }
-{
-    number_in(numbers, value)
-}
-
-pub fn operation_of(value: &Val) -> Option<Op>
-    ensures { result ≡ spec.operation_of value.now }
+pub fn read_operation(value: &Val) -> Option<Op>
+    ensures { result ≡ spec.read_operation value.now }
 {
     Op::from_number(value.as_num()?)
 }
 
-fn result_contents(op: Op) -> &'static [i64]
+/// What the result content of an operation may be.
+pub fn result_contents(op: Op) -> &'static [i64]
     ensures { result.now ≡ spec.result_contents op }
 {
     match op {
@@ -105,20 +94,8 @@ fn result_contents(op: Op) -> &'static [i64]
     }
 }
 
-pub fn result_content_of(op: Op, value: &Val) -> Option<i64>
-    ensures { result ≡ spec.result_content_of op value.now }
-{
-    number_among(result_contents(op), value)
-}
-
-pub fn address_form_of(value: &Val) -> Option<i64>
-    ensures { result ≡ spec.number_among spec.address_forms value.now }
-{
-    number_among(&[1, 2], value)
-}
-
-pub fn response_type_of(value: &Val) -> Option<i64>
-    ensures { result ≡ spec.response_type_of value.now }
+pub fn read_response_type(value: &Val) -> Option<i64>
+    ensures { result ≡ spec.read_response_type value.now }
 {
     match value.as_num() {
         Some(number) => Some(number),
@@ -127,7 +104,7 @@ pub fn response_type_of(value: &Val) -> Option<i64>
 }
 
 /// The number that the digits write.
-fn number_of(digits: &[u8]) -> u64
+fn digits_number(digits: &[u8]) -> u64
     requires { IsTrue (spec.is_numeral digits.now) }
     ensures value { result ≡ digits_value 10 digits.now }
     ensures bound { result < 10 ^ 18 }
@@ -139,42 +116,43 @@ fn number_of(digits: &[u8]) -> u64
     number
 }
 
+/// Whether all bytes are decimal digits, zeros in front of others too.
+fn are_decimal(text: &[u8]) -> bool
+    ensures { result ≡ list_all is_ascii_digit text.now }
+{
+    text.iter().all(u8::is_ascii_digit)
+}
+
 /// Whether the text is 1 to 18 digits.
 fn is_numeral(text: &[u8]) -> bool
     ensures { result ≡ spec.is_numeral text.now }
 {
-    is_filled(text, 18) && are_digits(text)
+    is_filled(text, 18) && are_decimal(text)
 }
 
-fn expiry_in(text: &[u8]) -> Option<When>
-    ensures value { result ≡ spec.expiry_in text.now }
+fn expiry_spelled(text: &[u8]) -> Option<When>
+    ensures value { result ≡ spec.expiry_spelled text.now }
     ensures sound { IfSome result IsSoundWhen }
 {
     if is_numeral(text) {
-        Some(When::Millis(number_of(text)))
+        Some(When::Millis(digits_number(text)))
     } else {
         Some(When::At(read_stamp(text)?))
     }
 }
 
-pub fn expiry_of(value: &Val) -> Option<When>
-    ensures value { result ≡ spec.expiry_of value.now }
+pub fn read_expiry(value: &Val) -> Option<When>
+    ensures value { result ≡ spec.read_expiry value.now }
     ensures sound { IfSome result IsSoundWhen }
 {
     match value.as_count() {
         Some(millis) => Some(When::Millis(millis)),
-        None => expiry_in(value.as_text()?.entries()),
+        None => expiry_spelled(value.as_text()?.entries()),
     }
 }
 
-pub fn is_object(value: &Val) -> bool
-    ensures { result ≡ spec.is_object value.now }
-{
-    value.as_obj().is_some()
-}
-
-pub fn status_of(value: &Val) -> Option<Rsc>
-    ensures { result ≡ spec.status_of value.now }
+pub fn read_status(value: &Val) -> Option<Rsc>
+    ensures { result ≡ spec.read_status value.now }
 {
     let number = value.as_count()?;
     if number <= 9_999 {

@@ -11,7 +11,7 @@
 //! `m2m_names::read_url`.
 //!
 //! `read_request` and `read_reply` read a value that is lent, and copy what they keep;
-//! `request_from` and `reply_into` move texts and content. The members of a request and the
+//! `request_from` and `reply_into` move texts, labels and content. The members of a request and the
 //! conditions of a filter stand in one table each, in byte order of their names, in which a name
 //! is looked up; a request is judged member by member before anything is copied, so that a fault
 //! takes memory for its name alone. Reading and writing are linear in the value.
@@ -24,10 +24,10 @@ mod filter;
 mod filter_reading;
 mod filter_writing;
 mod judging;
+mod kept;
 mod kinds;
 mod laws;
 mod member;
-mod moving;
 mod note;
 mod reading;
 #[cfg(test)]
@@ -43,9 +43,8 @@ pub use fault::PrimFault;
 pub use filter::{Filter, FilterParts, FilterUsage};
 pub use laws::{replies_are_read_back, requests_are_read_back};
 pub use m2m_value::Labels;
-pub use moving::request_from;
 pub use note::{Dest, Kind, Note, NoteParts};
-pub use reading::{read_reply, read_request};
+pub use reading::{read_reply, read_request, request_from};
 pub use reply::{Reply, ReplyParts};
 pub use request::{Request, RequestParts, When};
 pub use std::alloc::AllocError as OutOfMemory;

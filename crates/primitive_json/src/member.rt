@@ -1,7 +1,8 @@
 //! The members of a request, as a table.
-ghost use Rattle.std.specs.Prelude.{◌≡◌};
+ghost use Rattle.std.specs.Prelude.{◌≡◌, ◌≢◌, IfSome, IfNone};
 ghost use Rattle.primitive_json.specs.Members as spec;
-ghost use Rattle.primitive_json.specs.Members.{row_of, member_named, is_one_unread};
+ghost use Rattle.primitive_json.specs.Members.{row_of, name_of, member_named, is_one_unread};
+ghost use Rattle.primitive_json.specs.declared.member.Member.{Member};
 
 use m2m_names::Op;
 
@@ -23,6 +24,32 @@ pub enum Member {
 
 use Member::*;
 
+/// What the value of a member is.
+#[derive(Clone, Copy)]
+pub enum MemberKind {
+    /// 1 or 2.
+    AddressForm,
+    /// An object of conditions, on Retrieve alone.
+    FilterObject,
+    /// An originator.
+    OriginatorText,
+    /// The number of an operation.
+    OperationNumber,
+    AnyObject,
+    /// A number by the operation.
+    ResultNumber,
+    /// A timestamp, or milliseconds as digits or as a number.
+    ExpiryTime,
+    /// A request identifier.
+    IdText,
+    /// A number, or an object that has one at `rtv`.
+    ResponseForm,
+    /// A text of 1 to 1,024 bytes.
+    AddressText,
+    /// 0 to 65,535.
+    TypeNumber,
+}
+
 /// On which operations a member is read.
 #[derive(Clone, Copy)]
 pub enum Scope {
@@ -40,6 +67,7 @@ pub enum Scope {
 #[derive(Clone, Copy)]
 struct Row {
     name: &'static str,
+    kind: MemberKind,
     scope: Scope,
     /// Whether it is needed where it is read.
     needed: bool,
@@ -92,24 +120,26 @@ impl Member {
     /// Its row of the table.
     fn row(self) -> Row
         ensures name { result.name.now ≡ (row_of self).name }
+        ensures kind { result.kind ≡ (row_of self).kind }
         ensures scope { result.scope ≡ (row_of self).scope }
         ensures needed { result.needed ≡ (row_of self).needed }
     {
-        let (name, scope, needed) = match self {
-            DesiredForm => ("drt", Scope::Always, false),
-            FilterCriteria => ("fc", Scope::Always, false),
-            Originator => ("fr", Scope::Always, false),
-            Operation => ("op", Scope::Always, true),
-            Content => ("pc", Scope::WithContent, true),
-            ResultContent => ("rcn", Scope::WithResult, false),
-            Expiry => ("rqet", Scope::Always, false),
-            RequestId => ("rqi", Scope::Always, true),
-            ResponseType => ("rt", Scope::Always, false),
-            Target => ("to", Scope::Always, true),
-            ResourceType => ("ty", Scope::OnCreate, true),
+        let (name, kind, scope, needed) = match self {
+            DesiredForm => ("drt", MemberKind::AddressForm, Scope::Always, false),
+            FilterCriteria => ("fc", MemberKind::FilterObject, Scope::Always, false),
+            Originator => ("fr", MemberKind::OriginatorText, Scope::Always, false),
+            Operation => ("op", MemberKind::OperationNumber, Scope::Always, true),
+            Content => ("pc", MemberKind::AnyObject, Scope::WithContent, true),
+            ResultContent => ("rcn", MemberKind::ResultNumber, Scope::WithResult, false),
+            Expiry => ("rqet", MemberKind::ExpiryTime, Scope::Always, false),
+            RequestId => ("rqi", MemberKind::IdText, Scope::Always, true),
+            ResponseType => ("rt", MemberKind::ResponseForm, Scope::Always, false),
+            Target => ("to", MemberKind::AddressText, Scope::Always, true),
+            ResourceType => ("ty", MemberKind::TypeNumber, Scope::OnCreate, true),
         };
         Row {
             name,
+            kind,
             scope,
             needed,
         }
@@ -117,19 +147,35 @@ impl Member {
 
     /// Its short name (TS-0004, 8.2.2).
     pub fn name(self) -> &'static str
-        ensures { result.now ≡ spec.name_of self }
+        ensures { result.now ≡ name_of self }
     {
         self.row().name
     }
 
-    /// The member of a short name.
-    pub fn named(name: &[u8]) -> Option<Member>
+    /// What its value is.
+    pub fn kind(self) -> MemberKind
+        ensures { result ≡ (row_of self).kind }
+    {
+        self.row().kind
+    }
+
+    /// The member that `ALL` has at a short name.
+    fn find(name: &[u8]) -> Option<Member>
         ensures { result ≡ member_named name.now }
     {
         Member::ALL
             .iter()
             .copied()
             .find(|member| member.name().as_bytes() == name)
+    }
+
+    /// The member of a short name.
+    pub fn named(name: &[u8]) -> Option<Member>
+        ensures value { result ≡ member_named name.now }
+        ensures found { IfSome result (λ member. name_of member ≡ name.now) }
+        ensures none { IfNone result ((member : Member) → name_of member ≢ name.now) }
+    {
+        Member::find(name)
     }
 
     /// Whether it is read on the operation, as far as that is known.

@@ -2,15 +2,16 @@
 //! none.
 use crate::*;
 use m2m_value::{Val, read, write};
-use std::alloc::Global;
+use std::alloc::{AllocGlobal, Global};
+use std::process::Abort;
 use std::test::Fail;
 
-fn value_of(alloc: Global, text: &str) -> Result<Val, OutOfMemory> {
+fn parsed(alloc: Global, text: &str) -> Result<Val, OutOfMemory> {
     read(alloc, text.as_bytes()).map_err(|_| OutOfMemory)
 }
 
 /// The text of a value that was written, or the name of the fault.
-fn answer(alloc: Global, written: Result<Val, PrimFault>) -> Result<Vec<u8>, OutOfMemory> {
+fn told_text(alloc: Global, written: Result<Val, PrimFault>) -> Result<Vec<u8>, OutOfMemory> {
     let mut out = Vec::new(alloc);
     match written {
         Ok(value) => write(&value, &mut out)?,
@@ -33,31 +34,35 @@ fn again(alloc: Global, request: Result<Request, PrimFault>) -> Result<Vec<u8>, 
         Ok(request) => Ok(write_request(alloc, &request)?),
         Err(fault) => Err(fault),
     };
-    answer(alloc, written)
+    told_text(alloc, written)
 }
 
 fn reply_again(alloc: Global, text: &str) -> Result<Vec<u8>, OutOfMemory> {
-    let value = value_of(alloc, text)?;
+    let value = parsed(alloc, text)?;
     let written = match read_reply(alloc, &value) {
         Ok(reply) => Ok(write_reply(alloc, &reply)?),
         Err(fault) => Err(fault),
     };
-    answer(alloc, written)
+    told_text(alloc, written)
 }
 
 /// What is wanted: a fault, or a value whatever its blanks.
 fn wanted(alloc: Global, want: &str) -> Result<Vec<u8>, OutOfMemory> {
     match read(alloc, want.as_bytes()) {
-        Ok(value) => answer(alloc, Ok(value)),
+        Ok(value) => told_text(alloc, Ok(value)),
         Err(_) => Vec::from_slice(alloc, want.as_bytes()),
     }
 }
 
-/// A Retrieve with these members besides.
-fn retrieve(alloc: Global, more: &str) -> Result<Vec<u8>, Fail> {
-    let text = format!(in alloc; "{{{more},\"op\":2,\"rqi\":\"r\",\"to\":\"a\"}}")?;
-    let value = value_of(alloc, text.as_str())?;
-    Ok(again(alloc, read_request(alloc, &value))?)
+/// The text is read as wanted, lent and given away.
+fn check_request(rt: &(impl Abort + AllocGlobal), text: &str, want: &str) -> Result<(), Fail> {
+    let want = wanted(rt.alloc(), want)?;
+    let value = parsed(rt.alloc(), text)?;
+    let told = again(rt.alloc(), read_request(rt.alloc(), &value))?;
+    assert_eq!(rt; told.as_slice(), want.as_slice(), "lent {text}");
+    let told = again(rt.alloc(), request_from(rt.alloc(), value))?;
+    assert_eq!(rt; told.as_slice(), want.as_slice(), "given {text}");
+    Ok(())
 }
 
 const CREATE: &str = r#"{"drt":1,"fr":"C","op":1,"pc":{"m2m:cnt":{}},"rcn":3,"rqi":"~",
@@ -109,7 +114,9 @@ fn reads_requests_and_writes_them(rt: HostRuntime) -> Result<(), Fail> {
         // Which members must be there.
         (r#"[]"#, "missing op"),
         (r#"{"rqi":"r","to":"a"}"#, "missing op"),
+        (r#"{"op":1,"rqi":"r","to":"a","ty":3}"#, "missing pc"),
         (r#"{"op":3,"rqi":"r","to":"a"}"#, "missing pc"),
+        (r#"{"op":5,"rqi":"r","to":"a"}"#, "missing pc"),
         (r#"{"op":2,"to":"a"}"#, "missing rqi"),
         (r#"{"op":2,"rqi":"r"}"#, "missing to"),
         (r#"{"op":1,"pc":{},"rqi":"r","to":"a"}"#, "missing ty"),
@@ -135,13 +142,10 @@ fn reads_requests_and_writes_them(rt: HostRuntime) -> Result<(), Fail> {
         (r#"{"op":"2","rqi":"r","to":"a"}"#, "bad op"),
         (r#"{"op":2,"rqi":"r s","to":"a"}"#, "bad rqi"),
         (r#"{"op":2,"rqi":"r","to":""}"#, "bad to"),
+        (r#"{"op":6,"rqi":"r","to":"a"}"#, "bad op"),
+        (r#"{"op":1,"pc":{},"rqi":"r","to":"a","ty":-1}"#, "bad ty"),
     ] {
-        let want = wanted(rt.alloc(), want)?;
-        let value = value_of(rt.alloc(), text)?;
-        let told = again(rt.alloc(), read_request(rt.alloc(), &value))?;
-        assert_eq!(rt; told.as_slice(), want.as_slice(), "lent {text}");
-        let told = again(rt.alloc(), request_from(rt.alloc(), value))?;
-        assert_eq!(rt; told.as_slice(), want.as_slice(), "given {text}");
+        check_request(&rt, text, want)?;
     }
     Ok(())
 }
@@ -153,12 +157,14 @@ fn refuses_values_outside_their_kind(rt: HostRuntime) -> Result<(), Fail> {
         (r#""drt":null"#, "bad drt"),
         (r#""fr":"a b""#, "bad fr"),
         (r#""rcn":0"#, "bad rcn"),
+        (r#""rcn":null"#, "bad rcn"),
         (r#""rqet":"""#, "bad rqet"),
         (r#""rqet":-1"#, "bad rqet"),
         (r#""rqet":"1000000000000000000""#, "bad rqet"),
         (r#""rqet":"20230229T000000""#, "bad rqet"),
         (r#""rt":"3""#, "bad rt"),
         (r#""rt":{"rtv":"3"}"#, "bad rt"),
+        (r#""rt":{}"#, "bad rt"),
         (r#""x":1"#, "bad x"),
         (r#""fc":[]"#, "bad fc"),
         (r#""fc":{"x":1}"#, "bad fc"),
@@ -169,8 +175,8 @@ fn refuses_values_outside_their_kind(rt: HostRuntime) -> Result<(), Fail> {
         (r#""fc":{"lbl":[["a"]]}"#, "bad fc"),
         (r#""fc":{"ty":[3,65536]}"#, "bad fc"),
     ] {
-        let told = retrieve(rt.alloc(), more)?;
-        assert_eq!(rt; told.as_slice(), want.as_bytes(), "{more}");
+        let text = format!(in rt.alloc(); "{{{more},\"op\":2,\"rqi\":\"r\",\"to\":\"a\"}}")?;
+        check_request(&rt, text.as_str(), want)?;
     }
     Ok(())
 }

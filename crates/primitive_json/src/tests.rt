@@ -1,6 +1,6 @@
 //! Copies of values whose every field is set, and the forms of request identifiers.
 ghost use Rattle.std.specs.Prelude.{◌≡◌, IfOk, IsUtf8};
-ghost use Rattle.primitive_json.specs.Notes.{IsSomeUrl};
+ghost use Rattle.primitive_json.specs.Notes.{IsSomeUrl, IsSoundDest};
 
 use crate::*;
 use m2m_names::{Op, Rsc, read_url};
@@ -9,7 +9,7 @@ use std::alloc::{AllocError, Global};
 use std::process::Abort;
 use std::test::Fail;
 
-fn text_of(alloc: Global, text: &str) -> Result<Text, AllocError>
+fn sound_text(alloc: Global, text: &str) -> Result<Text, AllocError>
     ensures { IfOk result (λ t. IsUtf8 t) }
 {
     Ok(Text::of(Vec::from_slice(alloc, text.as_bytes())?))
@@ -18,14 +18,15 @@ fn text_of(alloc: Global, text: &str) -> Result<Text, AllocError>
 fn url_of(rt: &impl Abort, alloc: Global, text: &str) -> Result<Text, AllocError>
     ensures { IfOk result (λ t. IsSomeUrl t) }
 {
-    let url = text_of(alloc, text)?;
+    let url = sound_text(alloc, text)?;
     read_url(url.entries()).expect(rt, "a URL");
     Ok(url)
 }
 
 fn full_filter(alloc: Global) -> Result<Filter, AllocError> {
-    let mut labels = Vec::with_capacity(alloc, 1)?;
-    labels.push(text_of(alloc, "red")?)?;
+    let mut labels = Vec::with_capacity(alloc, 2)?;
+    labels.push(sound_text(alloc, "red")?)?;
+    labels.push(sound_text(alloc, "blue")?)?;
     Ok(Filter::of(FilterParts {
         crb: Some(1),
         cra: Some(2),
@@ -36,7 +37,7 @@ fn full_filter(alloc: Global) -> Result<Filter, AllocError> {
         exb: Some(7),
         exa: Some(253_402_300_799),
         lbl: Labels::of(labels),
-        ty: Numbers::of(Vec::from_slice(alloc, &[4])?),
+        ty: Numbers::of(Vec::from_slice(alloc, &[4, 3])?),
         sza: Some(9),
         szb: Some(10),
         fu: Some(FilterUsage::Discovery),
@@ -47,9 +48,9 @@ fn full_filter(alloc: Global) -> Result<Filter, AllocError> {
 fn full_request(alloc: Global) -> Result<Request, AllocError> {
     Ok(Request::of(RequestParts {
         op: Op::Retrieve,
-        to: text_of(alloc, "cse-in")?,
-        fr: Some(text_of(alloc, "CAdmin")?),
-        rqi: text_of(alloc, "r1")?,
+        to: sound_text(alloc, "cse-in")?,
+        fr: Some(sound_text(alloc, "CAdmin")?),
+        rqi: sound_text(alloc, "r1")?,
         ty: Some(3),
         pc: Some(Val::of_num(7)),
         rqet: Some(When::At(253_402_300_799)),
@@ -58,6 +59,14 @@ fn full_request(alloc: Global) -> Result<Request, AllocError> {
         fc: Some(full_filter(alloc)?),
         drt: Some(2),
     }))
+}
+
+fn are_texts(texts: &[Text], wanted: &[&str]) -> bool {
+    texts.len() == wanted.len()
+        && texts
+            .iter()
+            .zip(wanted.iter())
+            .all(|(text, wanted)| text.entries() == wanted.as_bytes())
 }
 
 fn is_full_filter(filter: &Filter) -> bool {
@@ -75,12 +84,8 @@ fn is_full_filter(filter: &Filter) -> bool {
             Some(253_402_300_799),
         ]
         && counts == [Some(5), Some(6), Some(9), Some(10), Some(largest)]
-        && f.lbl
-            .entries()
-            .iter()
-            .all(|label| label.entries() == b"red".as_slice())
-        && f.lbl.entries().len() == 1
-        && f.ty.entries() == [4].as_slice()
+        && are_texts(f.lbl.entries(), &["red", "blue"])
+        && f.ty.entries() == [4, 3].as_slice()
         && f.fu == Some(FilterUsage::Discovery)
 }
 
@@ -118,7 +123,7 @@ fn copies_of_full_requests(rt: HostRuntime) -> Result<(), Fail> {
 fn copies_of_full_replies(rt: HostRuntime) -> Result<(), Fail> {
     let reply = Reply::of(ReplyParts {
         rsc: Rsc::Created,
-        rqi: Some(text_of(rt.alloc(), "r1")?),
+        rqi: Some(sound_text(rt.alloc(), "r1")?),
         pc: Some(Val::of_num(7)),
     });
     let ReplyParts { rsc, rqi, pc } = reply.copy(rt.alloc())?.into_parts();
@@ -128,29 +133,57 @@ fn copies_of_full_replies(rt: HostRuntime) -> Result<(), Fail> {
     Ok(())
 }
 
-fn url_in(dest: &Dest) -> Option<&Text> {
+/// A destination by its variant, its URL and its number.
+fn dest_parts(dest: &Dest) -> (u8, &[u8], u64) {
     match dest {
-        Dest::Direct(url) | Dest::Peer(url) => Some(url),
-        Dest::Channel(_) | Dest::Nowhere => None,
+        Dest::Direct(url) => (0, url.entries(), 0),
+        Dest::Peer(url) => (1, url.entries(), 0),
+        Dest::Channel(number) => (2, b"", *number),
+        Dest::Nowhere => (3, b"", 0),
     }
+}
+
+fn full_note(alloc: Global, kind: Kind, dest: Dest) -> Result<Note, AllocError>
+    requires { IsSoundDest dest }
+{
+    Ok(Note::of(NoteParts {
+        kind,
+        dest,
+        request: full_request(alloc)?,
+    }))
 }
 
 #[test]
 fn copies_of_full_notes(rt: HostRuntime) -> Result<(), Fail> {
-    let note = Note::of(NoteParts {
-        kind: Kind::Copy,
-        dest: Dest::Peer(url_of(&rt, rt.alloc(), "http://h:8080/in")?),
-        request: full_request(rt.alloc())?,
-    });
-    let NoteParts {
-        kind,
-        dest,
-        request,
-    } = note.copy(rt.alloc())?.into_parts();
-    assert_eq!(rt; kind, Kind::Copy);
-    assert!(rt; matches!(dest, Dest::Peer(_)));
-    assert!(rt; is_text(url_in(&dest), "http://h:8080/in"));
-    assert!(rt; is_full_request(&request));
+    let direct = url_of(&rt, rt.alloc(), "http://h/a")?;
+    let peer = url_of(&rt, rt.alloc(), "http://h:8080/in")?;
+    for (note, kind, dest) in [
+        (
+            full_note(rt.alloc(), Kind::Notification, Dest::Direct(direct))?,
+            Kind::Notification,
+            (0, b"http://h/a".as_slice(), 0),
+        ),
+        (
+            full_note(rt.alloc(), Kind::Copy, Dest::Peer(peer))?,
+            Kind::Copy,
+            (1, b"http://h:8080/in".as_slice(), 0),
+        ),
+        (
+            full_note(rt.alloc(), Kind::Relay, Dest::Channel(7))?,
+            Kind::Relay,
+            (2, b"".as_slice(), 7),
+        ),
+        (
+            full_note(rt.alloc(), Kind::Relay, Dest::Nowhere)?,
+            Kind::Relay,
+            (3, b"".as_slice(), 0),
+        ),
+    ] {
+        let copy = note.copy(rt.alloc())?.into_parts();
+        assert_eq!(rt; copy.kind, kind);
+        assert!(rt; dest_parts(&copy.dest) == dest);
+        assert!(rt; is_full_request(&copy.request));
+    }
     Ok(())
 }
 

@@ -35,7 +35,7 @@ pub fn push_member(
 }
 
 /// The object of these members.
-pub fn object_of(entries: Vec<(Text, Val)>) -> Val
+pub fn sorted_object(entries: Vec<(Text, Val)>) -> Val
     requires sorted { AreSorted entries.items }
     requires texts { HaveTextKeys entries.items }
     ensures { result ≡ plain.object (pairs_of entries.items) }
@@ -86,17 +86,8 @@ fn expiry_value(alloc: Global, when: Option<When>) -> Result<Option<Val>, OutOfM
     }
 }
 
-fn number_value(number: Option<i64>) -> Option<Val>
-    ensures { result ≡ option_map plain.number number }
-{
-    match number {
-        Some(number) => Some(Val::of_num(number)),
-        None => None,
-    }
-}
-
 fn status_value(rsc: Rsc) -> Val
-    ensures { result ≡ spec.whole (rsc_row rsc).number }
+    ensures { result ≡ spec.count_data (rsc_row rsc).number }
 {
     Val::of_num(i64::from(rsc.number()))
 }
@@ -148,15 +139,15 @@ fn member_value(
     ensures { IfOk result (λ v. v ≡ spec.member_value request.now member) }
 {
     match member {
-        Member::DesiredForm => Ok(number_value(request.drt)),
+        Member::DesiredForm => Ok(request.drt.map(Val::of_num)),
         Member::FilterCriteria => filter_value(alloc, request),
         Member::Originator => originator_value(alloc, request),
         Member::Operation => Ok(Some(Val::of_num(request.op.number()))),
         Member::Content => content_value(alloc, request),
-        Member::ResultContent => Ok(number_value(request.rcn)),
+        Member::ResultContent => Ok(request.rcn.map(Val::of_num)),
         Member::Expiry => expiry_value(alloc, request.rqet),
         Member::RequestId => Ok(Some(text_value(alloc, &request.rqi)?)),
-        Member::ResponseType => Ok(number_value(request.rt)),
+        Member::ResponseType => Ok(request.rt.map(Val::of_num)),
         Member::Target => Ok(Some(text_value(alloc, &request.to)?)),
         Member::ResourceType => Ok(type_value(request)),
     }
@@ -173,7 +164,7 @@ pub fn write_request(alloc: Global, request: &Request) -> Result<Val, OutOfMemor
         let value = member_value(alloc, parts, member)?;
         push_member(alloc, &mut entries, member.name(), value)?;
     }
-    Ok(object_of(entries))
+    Ok(sorted_object(entries))
 }
 
 /// The reply as a value: an object of its status code, and of its request identifier and content
@@ -186,7 +177,7 @@ pub fn reply_into(alloc: Global, reply: Reply) -> Result<Val, OutOfMemory>
     push_member(alloc, &mut entries, "pc", pc)?;
     push_member(alloc, &mut entries, "rqi", rqi.map(Val::of_text))?;
     push_member(alloc, &mut entries, "rsc", Some(status_value(rsc)))?;
-    Ok(object_of(entries))
+    Ok(sorted_object(entries))
 }
 
 /// The same of a copy of the reply.

@@ -1,6 +1,6 @@
 use Rattle.std.proofs.Common.{take, [], ◌∷◌, ◌++◌, sym, ap, ◌∙◌}
 use Rattle.std.specs.List.{filter_map}
-use Rattle.primitive_json.specs.Kinds.{type_number_of}
+use Rattle.primitive_json.specs.Kinds.{read_type_number}
 use Rattle.primitive_json.proofs.Lists.{filter_map-more}
 use Rattle.primitive_json.proofs.filter_reading.types_of.Goals as goal
 
@@ -8,9 +8,9 @@ pub loop-part-preserved : goal.loop-part-preserved
 loop-part-preserved c =
     let part = c.part-item.result in
     record {
-      value = c.in_ok-push_type.ensures.items
-          ∙ ap (λ ns. ns ++ filter_map type_number_of (part ∷ [])) c.loop-part.invariant.value
-          ∙ ap (λ d. filter_map type_number_of (take c.loop-part.part-index c.parts_of-parts.result.now) ++ filter_map type_number_of (d ∷ [])) c.part-item.is
-          ∙ sym (filter_map-more type_number_of c.parts_of-parts.result.now c.loop-part.part-index part c.loop-part-test.true);
-      counts = c.in_ok-push_type.ensures.counts c.loop-part.invariant.counts;
+      value = c.in_ok-push_type_number.ensures.items
+          ∙ ap (λ ns. ns ++ filter_map read_type_number (part ∷ [])) c.loop-part.invariant.value
+          ∙ ap (λ d. filter_map read_type_number (take c.loop-part.part-index c.alternatives-parts.result.now) ++ filter_map read_type_number (d ∷ [])) c.part-item.is
+          ∙ sym (filter_map-more read_type_number c.alternatives-parts.result.now c.loop-part.part-index part c.loop-part-test.true);
+      counts = c.in_ok-push_type_number.ensures.counts c.loop-part.invariant.counts;
     }

@@ -16,14 +16,14 @@ loop-condition-preserved c =
     ∙ (λ i. so_far ++ present ((name i, value i) ∷ []))
     ∙ sym (present-more (condition_row c.args.filter.now) all_conditions c.loop-condition.condition-index _ c.loop-condition-test.true)
 
-pub object_of-requires-clause-sorted : goal.object_of-requires-clause-sorted
-object_of-requires-clause-sorted c =
+pub sorted_object-requires-clause-sorted : goal.sorted_object-requires-clause-sorted
+sorted_object-requires-clause-sorted c =
     let all = take_all c.loop-condition.condition-index all_conditions c.loop-condition-test.false in
     let is : c.loop-condition.entries.items ≡ present (map (condition_row c.args.filter.now) all_conditions) = c.loop-condition.invariant ∙ ap (λ ms. present (map (condition_row c.args.filter.now) ms)) all in
     subst AreSorted (sym is) (present_sorted (map (condition_row c.args.filter.now) all_conditions) refl)
 
-pub object_of-requires-clause-texts : goal.object_of-requires-clause-texts
-object_of-requires-clause-texts c =
+pub sorted_object-requires-clause-texts : goal.sorted_object-requires-clause-texts
+sorted_object-requires-clause-texts c =
     let all = take_all c.loop-condition.condition-index all_conditions c.loop-condition-test.false in
     let is : c.loop-condition.entries.items ≡ present (map (condition_row c.args.filter.now) all_conditions) = c.loop-condition.invariant ∙ ap (λ ms. present (map (condition_row c.args.filter.now) ms)) all in
     subst HaveTextKeys (sym is) (present_texts (map (condition_row c.args.filter.now) all_conditions) refl)

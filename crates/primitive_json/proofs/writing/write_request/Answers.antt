@@ -17,14 +17,14 @@ loop-member-preserved c =
     ∙ (λ i. so_far ++ present ((name i, value i) ∷ []))
     ∙ sym (present-more (member_row c.parts-parts.result.now) all_members c.loop-member.member-index _ c.loop-member-test.true)
 
-pub object_of-requires-clause-sorted : goal.object_of-requires-clause-sorted
-object_of-requires-clause-sorted c =
+pub sorted_object-requires-clause-sorted : goal.sorted_object-requires-clause-sorted
+sorted_object-requires-clause-sorted c =
     let all = take_all c.loop-member.member-index all_members c.loop-member-test.false in
     let is : c.loop-member.entries.items ≡ present (map (member_row c.parts-parts.result.now) all_members) = c.loop-member.invariant ∙ ap (λ ms. present (map (member_row c.parts-parts.result.now) ms)) all in
     subst AreSorted (sym is) (present_sorted (map (member_row c.parts-parts.result.now) all_members) refl)
 
-pub object_of-requires-clause-texts : goal.object_of-requires-clause-texts
-object_of-requires-clause-texts c =
+pub sorted_object-requires-clause-texts : goal.sorted_object-requires-clause-texts
+sorted_object-requires-clause-texts c =
     let all = take_all c.loop-member.member-index all_members c.loop-member-test.false in
     let is : c.loop-member.entries.items ≡ present (map (member_row c.parts-parts.result.now) all_members) = c.loop-member.invariant ∙ ap (λ ms. present (map (member_row c.parts-parts.result.now) ms)) all in
     subst HaveTextKeys (sym is) (present_texts (map (member_row c.parts-parts.result.now) all_members) refl)
@@ -33,4 +33,4 @@ pub returns : goal.returns
 returns c =
     let all = take_all c.loop-member.member-index all_members c.loop-member-test.false in
     let is : c.loop-member.entries.items ≡ present (map (member_row c.parts-parts.result.now) all_members) = c.loop-member.invariant ∙ ap (λ ms. present (map (member_row c.parts-parts.result.now) ms)) all in
-    c.object_of.ensures ∙ ap (λ es. object (pairs_of es)) is ∙ ap written_request c.parts-parts.ensures.same
+    c.sorted_object.ensures ∙ ap (λ es. object (pairs_of es)) is ∙ ap written_request c.parts-parts.ensures.same

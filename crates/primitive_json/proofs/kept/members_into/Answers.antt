@@ -1,7 +1,7 @@
 use Rattle.std.proofs.Common.{sym, ap, ◌∙◌}
 use Rattle.m2m_value.proofs.Levels.{entries-pairs_of}
 use Rattle.primitive_json.specs.Kinds.{members_in}
-use Rattle.primitive_json.proofs.moving.members_of.Goals as goal
+use Rattle.primitive_json.proofs.kept.members_into.Goals as goal
 
 pub returns-in-Obj : goal.returns-in-Obj
 returns-in-Obj c = sym (entries-pairs_of c.in-Obj.members) ∙ ap members_in c.in-Obj.ensures.top

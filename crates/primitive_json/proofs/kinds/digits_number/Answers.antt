@@ -2,7 +2,7 @@ use Rattle.std.proofs.Common.{◌≡◌, ◌<◌, ◌^◌, take, sym, ap, ◌∙
 use Rattle.std.proofs.lemmas.List.{take_all}
 use Rattle.std.specs.Str.Parse.{digits_value}
 use Rattle.primitive_json.proofs.Numerals.{adds_digit, numeral_bound}
-use Rattle.primitive_json.proofs.kinds.number_of.Goals as goal
+use Rattle.primitive_json.proofs.kinds.digits_number.Goals as goal
 
 pub overflow_mul-number : goal.overflow_mul-number
 overflow_mul-number c =

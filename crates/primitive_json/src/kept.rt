@@ -1,0 +1,139 @@
+//! The values that a request keeps: copied from a value that is lent, or taken out of one that is
+//! given away.
+ghost use Rattle.std.specs.Prelude.{◌≡◌, ℕ, List, [], false, bytes_eq, IfOk, IfSome, IsUtf8};
+ghost use Rattle.std.specs.Prelude.{option_and_then, unwrap_or};
+ghost use Rattle.std.specs.Option.{option_copied};
+ghost use Rattle.m2m_value.specs.View.{as_text, member_of};
+ghost use Rattle.primitive_json.specs.Conditions as conditions;
+ghost use Rattle.primitive_json.specs.Kinds.{members_in};
+ghost use Rattle.primitive_json.specs.Members.{name_of};
+ghost use Rattle.primitive_json.specs.Reading as spec;
+ghost use Rattle.primitive_json.specs.declared.condition.Condition.TheVariants.{OneLabel};
+
+use crate::condition::Condition;
+use crate::kinds::value_at;
+use crate::member::Member;
+use crate::request::copied_content;
+use m2m_names::Op;
+use m2m_value::{Members, Node, Text, Val};
+use std::alloc::{AllocError as OutOfMemory, Global};
+
+/// The values of the members whose texts and content a request keeps, and of the labels of its
+/// filter.
+#[derive(Drop)]
+pub struct Kept {
+    pub to: Option<Val>,
+    pub fr: Option<Val>,
+    pub rqi: Option<Val>,
+    pub pc: Option<Val>,
+    pub lbl: Option<Val>,
+}
+
+/// The value of a member that is read on the operation.
+pub fn value_read(op: Op, member: Member, value: &Val) -> Option<&Val>
+    ensures { option_copied result ≡ spec.value_read op member (members_in value.now) }
+{
+    if member.is_read(Some(op)) {
+        value_at(value, member.name())
+    } else {
+        None
+    }
+}
+
+fn labels_read(op: Op, value: &Val) -> Option<&Val>
+    ensures { option_copied result ≡ (spec.kept_in op (members_in value.now)).lbl }
+{
+    value_at(
+        value_read(op, Member::FilterCriteria, value)?,
+        Condition::OneLabel.name(),
+    )
+}
+
+/// Copies of the values.
+pub fn copied_values(alloc: Global, op: Op, value: &Val) -> Result<Kept, OutOfMemory>
+    ensures { IfOk result (λ kept. kept ≡ spec.kept_in op (members_in value.now)) }
+{
+    Ok(Kept {
+        to: copied_content(alloc, value_read(op, Member::Target, value))?,
+        fr: copied_content(alloc, value_read(op, Member::Originator, value))?,
+        rqi: copied_content(alloc, value_read(op, Member::RequestId, value))?,
+        pc: copied_content(alloc, value_read(op, Member::Content, value))?,
+        lbl: copied_content(alloc, labels_read(op, value))?,
+    })
+}
+
+/// The members of an object; any other value has none.
+fn members_into(alloc: Global, value: Val) -> Members
+    ensures { result ≡ members_in value }
+{
+    match value.into_node() {
+        Node::Obj(members) => members,
+        _ => Members::new(alloc),
+    }
+}
+
+/// The value of a member, taken out of the members.
+fn take_at(member: Member, members: &mut Members) -> Option<Val>
+    ensures value { result ≡ member_of (name_of member) members.old }
+    ensures others { (key : List ℕ) → bytes_eq key (name_of member) ≡ false
+        → member_of key members.new ≡ member_of key members.old }
+{
+    members.take(member.name().as_bytes())
+}
+
+/// The value of a member that is read on the operation, taken out of the members.
+fn take_read(op: Op, member: Member, members: &mut Members) -> Option<Val>
+    ensures value { result ≡ spec.value_read op member members.old }
+    ensures others { (key : List ℕ) → bytes_eq key (name_of member) ≡ false
+        → member_of key members.new ≡ member_of key members.old }
+{
+    if member.is_read(Some(op)) {
+        take_at(member, members)
+    } else {
+        None
+    }
+}
+
+fn labels_into(alloc: Global, filter: Option<Val>) -> Option<Val>
+    ensures { result ≡ option_and_then
+        (λ d. member_of (conditions.name_of OneLabel) (members_in d)) filter }
+{
+    let mut conditions = members_into(alloc, filter?);
+    conditions.take(Condition::OneLabel.name().as_bytes())
+}
+
+/// The values themselves; nothing is copied.
+pub fn taken_values(alloc: Global, op: Op, value: Val) -> Kept
+    ensures { result ≡ spec.kept_in op (members_in value) }
+{
+    let mut members = members_into(alloc, value);
+    Kept {
+        to: take_read(op, Member::Target, &mut members),
+        fr: take_read(op, Member::Originator, &mut members),
+        rqi: take_read(op, Member::RequestId, &mut members),
+        pc: take_read(op, Member::Content, &mut members),
+        lbl: labels_into(alloc, take_read(op, Member::FilterCriteria, &mut members)),
+    }
+}
+
+/// The text that a value is.
+pub fn owned_text(value: Option<Val>) -> Option<Text>
+    ensures value { result ≡ option_and_then as_text value }
+    ensures utf8 { IfSome result IsUtf8 }
+{
+    match value?.into_node() {
+        Node::Text(text) => Some(text),
+        _ => None,
+    }
+}
+
+/// The same, and an empty text where it is none.
+pub fn text_or_empty(alloc: Global, value: Option<Val>) -> Text
+    ensures value { result ≡ unwrap_or (option_and_then as_text value) [] }
+    ensures utf8 { IsUtf8 result }
+{
+    match owned_text(value) {
+        Some(text) => text,
+        None => Text::of(Vec::new(alloc)),
+    }
+}
