@@ -12,7 +12,8 @@ use Rattle.resource_model.specs.Resource.{ResourceData}
 use Rattle.tree_model.specs.Tree.{has, size_of}
 use Rattle.container_limits.specs.Limits.{is_within, do_fit, suffixes, longest_fit, is_due_by, lasts, goes, going, kept, evicted, numbers_of}
 use Rattle.container_limits.specs.declared.limits.Limits.{Limits}
-use Rattle.container_limits.proofs.PlaceLemmas.{ascend, drop_step, lacked_all}
+use Rattle.tree_model.proofs.OrderLemmas.{ascend}
+use Rattle.container_limits.proofs.PlaceLemmas.{drop_step, lacked_all}
 
 -- ---- due or not
 

@@ -5,12 +5,12 @@ ghost use Rattle.tree_model.specs.Tree.{instances_of, size_of};
 ghost use Rattle.container_limits.specs.Limits.{lasts, goes, going, kept, evicted, numbers_of};
 ghost use Rattle.container_limits.specs.Limits.{IsQuiet};
 
-use crate::instances::{instance, is_quiet, lasting_total, total, with_new, without};
+use crate::instances::{is_quiet, lasting_total, total, with_new, without};
 use crate::limits::{Limits, Total, is_due_by, is_total_within};
 use m2m_value::Numbers;
 use resource_model::Resource;
 use std::alloc::{AllocError as OutOfMemory, Global};
-use tree_model::Tree;
+use tree_model::{Tree, instance_at};
 
 /// The numbers of the instances of a container that these limits push out at a moment, oldest
 /// first: those that are due, and then those outside the longest suffix that fits, where one of
@@ -56,7 +56,7 @@ fn count_outside<T: Tree>(
         }
         left = without(
             left,
-            instance(tree, container, k),
+            instance_at(tree, container, k),
             false,
             limits.mia,
             moment,
@@ -103,7 +103,7 @@ fn gone<T: Tree>(
         }
         push_gone(
             &mut numbers,
-            instance(tree, container, k),
+            instance_at(tree, container, k),
             k < outside,
             mia,
             moment,

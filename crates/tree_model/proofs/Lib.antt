@@ -1,6 +1,7 @@
 pub mod TreeLemmas
 pub mod GrowthLemmas
 pub mod PlaceLemmas
+pub mod OrderLemmas
 pub mod KeptLemmas
 pub mod SweepLemmas
 pub mod ShownLemmas

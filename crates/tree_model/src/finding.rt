@@ -2,7 +2,7 @@
 ghost use Rattle.std.specs.Prelude.{◌≡◌, ◌^◌, ◌<◌, length, find, reverse};
 ghost use Rattle.tree_model.specs.Tree.{is_child, is_kin, is_ae, is_cse, number_of, number_at};
 ghost use Rattle.tree_model.specs.Tree.{last_number, children_of, child_of, ae_of, cse_of, kin_of};
-ghost use Rattle.tree_model.specs.Tree.{instances_of, size_of, sizes_of};
+ghost use Rattle.tree_model.specs.Tree.{instances_of, size_of, sizes_of, channel_of};
 
 use m2m_names::{Attr, Ty};
 use resource_model::Resource;
@@ -65,6 +65,16 @@ pub(crate) fn cse_in(resources: &[Resource], csi: &[u8]) -> Option<u64>
     ensures { result ≡ cse_of csi.now resources.now }
 {
     let found = resources.iter().find(|r| is_cse(r, csi))?;
+    Some(found.number())
+}
+
+/// The polling channel of a resource.
+pub(crate) fn channel_in(resources: &[Resource], parent: u64) -> Option<u64>
+    ensures { result ≡ channel_of parent resources.now }
+{
+    let found = resources
+        .iter()
+        .find(|r| is_kin(r, Ty::PollingChannel, parent))?;
     Some(found.number())
 }
 

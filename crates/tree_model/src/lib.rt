@@ -22,6 +22,7 @@ mod finding;
 mod laws;
 mod list_tree;
 mod nodes;
+mod placed;
 mod placing;
 mod removing;
 mod showing;
@@ -31,7 +32,9 @@ mod tests;
 mod tree;
 mod walk;
 
-pub use conditions::{may_insert, may_replace, may_restamp, stands_in};
+pub use conditions::{
+    has_ae, has_channel, has_child, has_cse, may_insert, may_replace, may_restamp, stands_in,
+};
 pub use expiry::{due, is_due};
 pub use laws::{
     a_line_goes_up_from_parent_to_parent, a_removal_takes_what_is_picked_and_what_stands_below,
@@ -40,11 +43,12 @@ pub use laws::{
 };
 pub use list_tree::ListTree;
 pub use nodes::Nodes;
+pub use placed::{child_at, instance_at, subscription_at};
 pub use resource_model::{
     ADMIN, AttrSet, Attrs, BASE, CSE_ID, CSE_TYPE, Change, Home, HomeFault, Moments, Resource,
     SERVICE_PROVIDER,
 };
-pub use showing::{attributes, content, shown};
+pub use showing::{attributes, content, members_of, shown, under_type};
 pub use std::alloc::AllocError as OutOfMemory;
 pub use steps::{Steps, child_named};
 pub use tree::Tree;

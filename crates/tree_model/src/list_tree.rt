@@ -2,7 +2,9 @@
 ghost use Rattle.std.specs.Prelude.{◌≡◌, []};
 
 use crate::expiry::earlier;
-use crate::finding::{ae_in, child_in, count_in, cse_in, kid_in, kin_in, last_kin_in, sizes_in};
+use crate::finding::{
+    ae_in, channel_in, child_in, count_in, cse_in, kid_in, kin_in, last_kin_in, sizes_in,
+};
 use crate::nodes::Nodes;
 use crate::steps::Steps;
 use crate::tree::Tree;
@@ -105,6 +107,10 @@ impl Tree for ListTree {
 
     fn cse(&self, csi: &[u8]) -> Option<u64> {
         cse_in(self.nodes.entries(), csi)
+    }
+
+    fn channel(&self, parent: u64) -> Option<u64> {
+        channel_in(self.nodes.entries(), parent)
     }
 
     fn quiet_until(&self) -> u64 {

@@ -1,14 +1,13 @@
 // The list of resources that every tree keeps.
 ghost use Rattle.std.specs.Prelude.{◌≡◌, ◌+◌, ◌^◌, ◌<◌, ◌≤◌, IsSome, List, [], ◌∷◌, ◌++◌, length};
-ghost use Rattle.std.specs.Prelude.{slice_get, Bool, false, IsTrue, OnOk, OnErr, IfErr, None, Some};
-ghost use Rattle.std.specs.Prelude.{option_map};
+ghost use Rattle.std.specs.Prelude.{slice_get, IsTrue, OnOk, OnErr, IfErr, Some, option_map};
 ghost use Rattle.m2m_names.specs.Stamps.{last_moment};
 ghost use Rattle.m2m_names.specs.declared.attributes.Attr.TheVariants.{St};
 ghost use Rattle.resource_model.specs.Attributes.{value_of};
-ghost use Rattle.resource_model.specs.Resource.{ResourceData, has_number, ae_id, cse_id};
-ghost use Rattle.tree_model.specs.Tree.{at, child_of, due, are_quiet, live, replaced, restamped};
-ghost use Rattle.tree_model.specs.Tree.{restamped_at, has_state, without, are_below, is_placed};
-ghost use Rattle.tree_model.specs.Tree.{has_ae_id, has_cse_id, is_tree, standing, AreAscending};
+ghost use Rattle.resource_model.specs.Resource.{ResourceData, has_number};
+ghost use Rattle.tree_model.specs.Tree.{at, due, are_quiet, live, replaced, restamped, fits};
+ghost use Rattle.tree_model.specs.Tree.{restamped_at, has_state, without, is_tree, standing};
+ghost use Rattle.tree_model.specs.Tree.{AreAscending};
 
 use crate::placing::{due_in, found, place};
 use crate::removing::{Removal, quiet_in, sweep_out};
@@ -109,11 +108,7 @@ impl Nodes {
     /// Puts a resource last. Its number is greater than every other, its parent is there (or it is
     /// the CSEBase and the first), and its name, its AE-ID and its CSE-ID are free.
     pub fn push(&mut self, resource: Resource) -> Result<(), (Resource, OutOfMemory)>
-        requires number { IsTrue (are_below resource.number self.old) }
-        requires parent { IsTrue (is_placed self.old resource) }
-        requires name { child_of resource.parent resource.name self.old ≡ None }
-        requires ae { has_ae_id (ae_id resource) self.old ≡ false }
-        requires cse { has_cse_id (cse_id resource) self.old ≡ false }
+        requires { IsTrue (fits self.old resource) }
         ensures ok { OnOk result (self.new ≡ self.old ++ resource ∷ []) }
         ensures err { OnErr result (self.new ≡ self.old) }
         ensures back { IfErr result (λ e. e.0 ≡ resource) }

@@ -1,7 +1,7 @@
 use Rattle.std.proofs.Common.{◌∙◌}
 use Rattle.tree_model.specs.Tree.{is_instance, instances_of}
 use Rattle.container_limits.proofs.LimitLemmas.{going_evicted}
-use Rattle.container_limits.proofs.PlaceLemmas.{tree_ascends, ascend_filter}
+use Rattle.tree_model.proofs.OrderLemmas.{tree_ascends, ascend_filter}
 use Rattle.container_limits.proofs.evicting.evictions.Goals as goal
 
 pub returns : goal.returns

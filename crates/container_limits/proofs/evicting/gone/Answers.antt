@@ -13,4 +13,4 @@ returns-then-quiet g c =
 pub loop-k-preserved : goal.loop-k-preserved
 loop-k-preserved g c =
     let rs = (instances_of c.args.container (g.T.Tree.nodes c.args.tree.now)) in
-    gone_turn rs c.loop-k.k c.args.outside c.args.mia c.args.moment c.loop-k.numbers.items c.push_gone.new.numbers.items (numbers_of (going c.args.outside c.args.mia c.args.moment rs)) (option_map (λ r. r.now) c.instance.result) c.instance.ensures c.loop-k.invariant c.in_ok-push_gone.ensures
+    gone_turn rs c.loop-k.k c.args.outside c.args.mia c.args.moment c.loop-k.numbers.items c.push_gone.new.numbers.items (numbers_of (going c.args.outside c.args.mia c.args.moment rs)) (option_map (λ r. r.now) c.instance_at.result) c.instance_at.ensures.value c.loop-k.invariant c.in_ok-push_gone.ensures
