@@ -1,6 +1,6 @@
 -- Numbers ascend, so that a resource at a place is found by its number.
-use Rattle.std.specs.Prelude.{◌==◌, nat_lt, slice_get, option_and_then}
-use Rattle.std.proofs.Common.{◌≡◌, ℕ, zero, suc, ◌<◌, List, [], ◌∷◌, ◌++◌, Bool, true, false, not, ◌&&◌, ◌||◌, Option, Some, None, inl, inr, refl, sym, ap, ◌∙◌, arith}
+use Rattle.std.specs.Prelude.{◌==◌, nat_lt, slice_get, IfSome}
+use Rattle.std.proofs.Common.{◌≡◌, ℕ, zero, suc, ◌<◌, List, [], ◌∷◌, ◌++◌, Bool, true, false, ◌&&◌, ◌||◌, Option, Some, None, option_map, Bor, inl, inr, refl, sym, ap, ◌∙◌, arith}
 use Rattle.std.proofs.lemmas.Bool.{cases_Bool, eqb-true, and_parts, and_from, or_cases, ltb-true, lt-ltb, ne_eqb, eq-eqb, both_ways, false_from_ne_true}
 use Rattle.std.proofs.lemmas.List.Folds.{list_all-append}
 use Rattle.std.proofs.lemmas.Option.{same_Some}
@@ -133,3 +133,11 @@ child_under parent nodes k r found = eqb-true r.parent parent (passes_filter (is
 -- what a filter has at a place stands under its number
 pub placed_stands : (p : ResourceData → Bool) (nodes : List ResourceData) (k : ℕ) (r : ResourceData) → is_tree nodes ≡ true → slice_get (filter p nodes) k ≡ Some r → at r.number nodes ≡ Some r
 placed_stands p nodes k r tree found = at_filtered p nodes k r (tree_ascends nodes tree) found
+
+pub some_stands : (p : ResourceData → Bool) (nodes : List ResourceData) (k : ℕ) (o : Option (Bor ResourceData)) → is_tree nodes ≡ true → option_map (λ r. r.now) o ≡ slice_get (filter p nodes) k → IfSome o (λ r. at r.now.number nodes ≡ Some r.now)
+some_stands p nodes k None tree is = tt
+some_stands p nodes k (Some r) tree is = placed_stands p nodes k r.now tree (sym is)
+
+pub some_under : (parent : ℕ) (nodes : List ResourceData) (k : ℕ) (o : Option (Bor ResourceData)) → option_map (λ r. r.now) o ≡ slice_get (children_of parent nodes) k → IfSome o (λ r. r.now.parent ≡ parent)
+some_under parent nodes k None is = tt
+some_under parent nodes k (Some r) is = child_under parent nodes k r.now (sym is)

@@ -14,7 +14,8 @@ pub fn child_at<T: Tree>(tree: &T, parent: u64, k: u64) -> Option<&Resource>
 {
     // That it is a tree is told by its length.
     let _count = tree.len();
-    tree.get(tree.kid(parent, k)?)
+    let number = tree.kid(parent, k)?;
+    tree.get(number)
 }
 
 /// The same among its subscriptions.
@@ -24,7 +25,8 @@ pub fn subscription_at<T: Tree>(tree: &T, parent: u64, k: u64) -> Option<&Resour
     ensures stands { IfSome result (λ r. at r.now.number (T.nodes tree.now) ≡ Some r.now) }
 {
     let _count = tree.len();
-    tree.get(tree.sub(parent, k)?)
+    let number = tree.sub(parent, k)?;
+    tree.get(number)
 }
 
 /// The instance of a container at place k from the oldest, from 0.
@@ -34,5 +36,6 @@ pub fn instance_at<T: Tree>(tree: &T, container: u64, k: u64) -> Option<&Resourc
     ensures stands { IfSome result (λ r. at r.now.number (T.nodes tree.now) ≡ Some r.now) }
 {
     let _count = tree.len();
-    tree.get(tree.instance_at(container, k)?)
+    let number = tree.instance_at(container, k)?;
+    tree.get(number)
 }
