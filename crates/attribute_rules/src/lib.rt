@@ -23,6 +23,7 @@ mod objects;
 mod table;
 mod values;
 
+pub use admission::attributes_in;
 pub use admit::{admit_create, admit_update, admits_create, admits_update, take_edit, take_wanted};
 pub use contents::{Edit, Wanted};
 pub use faults::AttrFault;

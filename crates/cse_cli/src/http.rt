@@ -9,8 +9,9 @@ ghost use Rattle.cse_cli.specs.Run.{RunsHttp, status_of};
 use cse_server::{Bench, Ended, Served, Wire, serve_connection};
 use entity_model::Entity;
 use m2m_io::{Clock, Link, Sink, Source, Status};
+use plain_tree::ListTree;
 use std::alloc::{AllocError as OutOfMemory, Global};
-use tree_model::{Home, ListTree};
+use tree_model::Home;
 use turn_desk::{OwnDesk, OwnSeat};
 
 fn status_of(ended: Ended) -> Status

@@ -1,10 +1,8 @@
 // The resources of an entity as it opens.
-ghost use Rattle.std.specs.Prelude.{◌≡◌, ◌≤◌, [], ◌∷◌, ◌++◌, IfOk, OnOk, IsUtf8, IsTrue, None};
-ghost use Rattle.std.specs.Prelude.{false};
+ghost use Rattle.std.specs.Prelude.{◌≡◌, ◌≤◌, [], ◌∷◌, ◌++◌, IfOk, OnOk, IsUtf8, IsTrue};
 ghost use Rattle.m2m_names.specs.Stamps.{last_moment};
 ghost use Rattle.m2m_value.specs.Data as json;
-ghost use Rattle.resource_model.specs.Resource.{ae_id, cse_id};
-ghost use Rattle.tree_model.specs.Tree.{are_below, is_placed, child_of, has_ae_id, has_cse_id};
+ghost use Rattle.tree_model.specs.Tree.{fits};
 ghost use Rattle.entity_model.specs.Opening as spec;
 
 use m2m_names::{Attr, LAST_MOMENT, Ty};
@@ -128,11 +126,7 @@ fn opening_policy(alloc: Global, home: &Home, moment: u64) -> Result<Resource, O
 }
 
 fn put_last<T: Tree>(tree: &mut T, resource: Resource) -> Result<(), OutOfMemory>
-    requires number { IsTrue (are_below resource.number (T.nodes tree.old)) }
-    requires parent { IsTrue (is_placed (T.nodes tree.old) resource) }
-    requires name { child_of resource.parent resource.name (T.nodes tree.old) ≡ None }
-    requires ae { has_ae_id (ae_id resource) (T.nodes tree.old) ≡ false }
-    requires cse { has_cse_id (cse_id resource) (T.nodes tree.old) ≡ false }
+    requires { IsTrue (fits (T.nodes tree.old) resource) }
     ensures { OnOk result (T.nodes tree.new ≡ T.nodes tree.old ++ resource ∷ []) }
 {
     match tree.insert(resource) {

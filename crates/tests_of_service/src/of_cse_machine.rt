@@ -5,10 +5,11 @@ use cse_machine::{Event, Outcome, step};
 use entity_model::Entity;
 use m2m_names::Op;
 use m2m_value::{Text, write};
+use plain_tree::ListTree;
 use primitive_json::{Request, RequestParts};
 use std::alloc::{AllocError, Global};
 use std::test::Fail;
-use tree_model::{Home, ListTree};
+use tree_model::Home;
 
 fn text_of(alloc: Global, text: &str) -> Result<Text, AllocError>
     ensures { IfOk result (λ t. IsUtf8 t) }

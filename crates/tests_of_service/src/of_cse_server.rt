@@ -3,9 +3,10 @@ use crate::samples::NOT_FOUND;
 use cse_server::{Bench, Ended, Served, Wire, serve_connection};
 use entity_model::Entity;
 use m2m_io::{MemClock, MemLink, MemSink, MemSource};
+use plain_tree::ListTree;
 use std::alloc::{AllocError, Global};
 use std::test::Fail;
-use tree_model::{Home, ListTree};
+use tree_model::Home;
 use turn_desk::{OwnDesk, OwnSeat};
 
 /// A request that finds nothing, and behind it what is no frame.

@@ -5,11 +5,12 @@ use crate::texts::text;
 use addressing::*;
 use m2m_names::{Attr, Ty};
 use m2m_value::Val;
+use plain_tree::ListTree;
 use std::alloc::Global;
 use std::marker::Brand;
 use std::sync::ledger::{Blank, Ledger};
 use std::test::Fail;
-use tree_model::{Attrs, Home, ListTree, Moments, Resource, Steps, Tree, may_insert, stands_in};
+use tree_model::{Attrs, Home, Moments, Resource, Steps, Tree, may_insert, stands_in};
 
 // A resource of a number, type, name and parent.
 type Row = (u32, Ty, &'static str, u32);

@@ -3,8 +3,9 @@ use crate::texts::text;
 use container_limits::{Limits, evictions, overdue};
 use m2m_names::{Attr, Ty};
 use m2m_value::{Text, Val};
+use plain_tree::ListTree;
 use std::alloc::{AllocError as OutOfMemory, Global};
-use tree_model::{Attrs, ListTree, Moments, Resource, Tree, may_insert};
+use tree_model::{Attrs, Moments, Resource, Tree, may_insert};
 
 const LAST: u32 = 1_000_000;
 

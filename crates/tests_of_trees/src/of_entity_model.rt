@@ -3,8 +3,9 @@ use crate::texts::text;
 use entity_model::{Entity, OutOfMemory, event_moment, sweep};
 use m2m_names::{Attr, Ty};
 use m2m_value::{Text, Val, write};
+use plain_tree::ListTree;
 use std::alloc::Global;
-use tree_model::{Attrs, Home, ListTree, Moments, Resource, Tree, attributes, may_insert, over};
+use tree_model::{Attrs, Home, Moments, Resource, Tree, attributes, may_insert, over};
 
 const CLOCK: u64 = 1_700_000_000;
 

@@ -88,6 +88,10 @@ impl<'a, R: Abort> Tree for Known<'a, R> {
         self.rt.abort()
     }
 
+    fn channel(&self, _: u64) -> Option<u64> {
+        self.rt.abort()
+    }
+
     fn quiet_until(&self) -> u64 {
         self.rt.abort()
     }

@@ -5,10 +5,12 @@ ghost use Rattle.m2m_names.specs.Stamps.{last_moment};
 use crate::texts::text;
 use m2m_names::{Attr, Ty};
 use m2m_value::{Text, Val, write};
+use plain_tree::ListTree;
 use std::alloc::Global;
 use tree_model::{
-    Attrs, Home, ListTree, Moments, OutOfMemory, Resource, Tree, attributes, child_named,
-    may_insert, may_restamp, over, stands_in,
+    Attrs, Home, Moments, OutOfMemory, Resource, Tree, attributes, child_at, child_named, has_ae,
+    has_channel, has_child, has_cse, instance_at, may_insert, may_restamp, over, stands_in,
+    subscription_at,
 };
 
 const LAST: u64 = 253_402_300_799;
@@ -16,7 +18,7 @@ const LAST: u64 = 253_402_300_799;
 // A resource of a number, type, name and parent.
 type Row = (u32, Ty, &'static [u8], u32);
 
-const ROWS: [Row; 8] = [
+const ROWS: [Row; 9] = [
     (1, Ty::CseBase, b"cse-in", 0),
     (3, Ty::Ae, b"dev", 1),
     (4, Ty::Container, b"c", 3),
@@ -25,6 +27,7 @@ const ROWS: [Row; 8] = [
     (7, Ty::ContentInstance, b"f", 6),
     (8, Ty::ContentInstance, b"g", 6),
     (9, Ty::Group, b"h", 3),
+    (11, Ty::PollingChannel, b"p", 3),
 ];
 
 // Instances of even numbers expire early.
@@ -75,6 +78,10 @@ fn numbers(alloc: Global, tree: &ListTree) -> Result<Vec<u64>, OutOfMemory> {
     Ok(numbers)
 }
 
+fn number(found: Option<&Resource>) -> Option<u64> {
+    Some(found?.number())
+}
+
 fn json(alloc: Global, tree: &ListTree, number: u64) -> Result<Vec<u8>, OutOfMemory> {
     let mut out = Vec::new(alloc);
     let home = Home::with_defaults(alloc)?;
@@ -111,7 +118,7 @@ fn shows_attributes(rt: HostRuntime) -> Result<(), OutOfMemory> {
 #[test]
 fn answers_what_procedures_ask(rt: HostRuntime) -> Result<(), OutOfMemory> {
     let tree = sample(rt.alloc())?;
-    let answers: [(Option<u64>, Option<u64>); 8] = [
+    let answers: [(Option<u64>, Option<u64>); 13] = [
         (tree.kid(3, 1), Some(9)),
         (tree.sub(4, 0), Some(5)),
         (tree.instance(6, true), Some(8)),
@@ -119,12 +126,19 @@ fn answers_what_procedures_ask(rt: HostRuntime) -> Result<(), OutOfMemory> {
         (tree.instance_at(6, 1), Some(8)),
         (tree.ae(b"Cdev"), Some(3)),
         (tree.cse(b"/id-mn"), None),
+        (tree.channel(3), Some(11)),
+        (tree.channel(4), None),
         (child_named(&tree, 4, b"e"), Some(6)),
+        (number(child_at(&tree, 4, 1)), Some(6)),
+        (number(subscription_at(&tree, 4, 1)), None),
+        (number(instance_at(&tree, 6, 0)), Some(7)),
     ];
     for (answer, want) in answers {
         assert_eq!(rt; answer, want);
     }
     assert!(rt; tree.instance_count(6) == 2 && tree.instance_sizes(6) == 15);
+    assert!(rt; has_channel(&tree, 3) && has_child(&tree, 4, b"s"));
+    assert!(rt; has_ae(&tree, b"Cdev") && !has_cse(&tree, b"/id-mn"));
     Ok(())
 }
 
@@ -138,6 +152,6 @@ fn knows_until_when_it_is_quiet(rt: HostRuntime) -> Result<(), OutOfMemory> {
     if stands_in(&tree, 6) {
         tree.remove_subtree(6);
     }
-    assert!(rt; numbers(alloc, &tree)?.as_slice() == [1u64, 3, 4, 5, 9].as_slice());
+    assert!(rt; numbers(alloc, &tree)?.as_slice() == [1u64, 3, 4, 5, 9, 11].as_slice());
     Ok(())
 }
