@@ -8,7 +8,8 @@ ghost use Rattle.m2m_value.specs.Data.{Data, Entry};
 ghost use Rattle.m2m_value.specs.Node.{AreSorted};
 ghost use Rattle.resource_model.specs.Attributes.{Row, is_attr, value_of};
 ghost use Rattle.attribute_kinds.specs.Kinds.{has_kind};
-ghost use Rattle.attribute_kinds.specs.declared.kinds.Kind.TheVariants.{Originator, Policies, Stamp};
+ghost use Rattle.attribute_kinds.specs.declared.kinds.Kind.TheVariants.{Originator, Policies};
+ghost use Rattle.attribute_kinds.specs.declared.kinds.Kind.TheVariants.{Stamp};
 ghost use Rattle.attribute_rules.specs.Admission.{fault_of, is_admitted, is_named, named_members};
 ghost use Rattle.attribute_rules.specs.Contents.{edit_in, edit_of, edited, wanted_in, wanted_of};
 ghost use Rattle.attribute_rules.specs.Contents.{value_created, value_updated};
@@ -49,8 +50,8 @@ pub fn updated_attributes_have_their_kinds()
         IsTrue (have_kinds ty (edited (edit_of ty content) rows)) }
 {}
 
-/// What the CSE puts in the place of policies, and of the creator, that an admitted content names is
-/// of the kind that the type keeps: the ids of policies, and an originator.
+/// Where an admitted content names policies, the type keeps a list of texts, as their ids are; and
+/// where it asks for the creator, an originator.
 pub fn what_is_named_is_kept()
     ensures policies { (writing : Writing) (ty : Ty) (content : Data) →
         IsTrue (is_admitted writing ty content) →

@@ -1,12 +1,12 @@
 //! The attributes of each type of resource (TS-0001, 9.6; TS-0004, 7.4): of which kind each is, and
 //! which of them a Create and an Update may carry.
 //!
-//! Callers see the table by `rule_of`, whose rules tell what a `Writing`, a Create or an Update, may
-//! do; by `mandatory` and `kind_of`; `Kind::has`, which tells whether a value is of a kind; and
-//! `keeps_kinds`, which tells it of all attributes of a resource. Whether a content is admitted is
-//! told by `admits_create` and `admits_update`, which only look at it; `take_wanted` and `take_edit`
-//! then take it apart, and `admit_create` and `admit_update` do both, or say the first fault. Values
-//! are moved out of the content, never copied.
+//! Callers see the table by `rule_of`, whose rules tell what a `Writing`, a Create or an Update,
+//! may do, by `mandatory` and by `kind_of`; `keeps_kinds` tells whether all attributes of a
+//! resource are of their kinds. Whether a content is admitted is told by `admits_create` and
+//! `admits_update`, which only look at it; `take_wanted` and `take_edit` then take it apart, and
+//! `admit_create` and `admit_update` do both, or say the first fault. Values are moved out of the
+//! content, never copied.
 //!
 //! A content is walked once to judge it, up to the first member with a fault, and once more to move
 //! out of it what it gives, or the key of the fault that is told. These are two walks since a
