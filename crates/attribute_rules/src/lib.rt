@@ -30,6 +30,3 @@ pub use laws::{
     what_is_admitted_has_no_fault, what_is_named_is_kept,
 };
 pub use table::{Optionality, Rule, Source, Writing, keeps_kinds, kind_of, mandatory, rule_of};
-
-#[cfg(test)]
-mod tests;
