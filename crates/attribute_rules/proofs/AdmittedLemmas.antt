@@ -288,14 +288,14 @@ creator_kept _ r is = absurd (no_some r is)
 
 -- the type has each attribute that an admitted content names
 named_in : (writing : Writing) (ty : Ty) (a : Attr) (P : Type 0) → ((r : Rule) → rule_of ty a ≡ Some r → P) → (o : Option (List Entry)) → option_map_or (are_admitted writing ty) o false ≡ true → is_named a (unwrap_or o []) ≡ true → P
-named_in writing ty a P then None h named = absurd (both_ways _ refl h)
-named_in writing ty a P then (Some es) h named =
+named_in writing ty a P means None h named = absurd (both_ways _ refl h)
+named_in writing ty a P means (Some es) h named =
     let fit = (and_parts (list_all (is_fit writing ty) es) (is_complete writing ty es) h).0 in
     elim (seen (member_of (attr_short a) es)) [
       | inl none ↦ absurd (both_ways _ (ap is_some none) named)
       | inr found ↦
           let at = named_fits writing ty a es found.0 fit found.1 in
-          then at.rule at.is
+          means at.rule at.is
     ]
 
 pub named_policies : (writing : Writing) (ty : Ty) (content : Data) → is_admitted writing ty content ≡ true → is_named Acpi (unwrap_or (attributes_in ty content) []) ≡ true → kind_of ty Acpi ≡ Some Policies

@@ -176,7 +176,7 @@ value_cleared a (x ∷ attrs) rows =
           let none : value_of a (without_value x rows) ≡ None = ap (λ b. value_of a (without_value b rows)) (sym (is_attr-same a x t)) ∙ value-without_value_same a rows in
           later
           ∙ ap (λ v. if list_any (is_attr a) attrs then None else v) none
-          ∙ either (list_any (is_attr a) attrs) None
+          ∙ either {X = Option Data} (list_any (is_attr a) attrs) None
           ∙ ap (λ b. if b || list_any (is_attr a) attrs then None else value_of a rows) (sym t)
       | inr f ↦
           later
