@@ -16,11 +16,13 @@ use Rattle.resource_model.proofs.AttributeLemmas.{is_attr-same}
 use Rattle.resource_model.specs.Attributes.{Row, is_attr, value_of}
 use Rattle.attribute_kinds.specs.Kinds.{has_kind}
 use Rattle.attribute_kinds.specs.declared.kinds.Kind.TheVariants.{Name, Originator, Policies, Stamp}
-use Rattle.attribute_rules.specs.Admission.{is_null, is_given, is_clearable, is_fit, is_complete, are_admitted, is_admitted, attributes_in, is_named}
-use Rattle.attribute_rules.specs.Contents.{is_no_policy, does_clear, set_row, cleared_attr, named_text, wanted_of, edit_of, set_all, edited}
+use Rattle.attribute_rules.specs.Admission.{is_null, is_given, is_clearable, is_fit, is_complete, are_admitted, is_admitted, attributes_in, is_named, named_members}
+use Rattle.attribute_rules.specs.Contents.{is_no_policy, does_clear, set_row, cleared_attr, named_text, wanted_in, wanted_of, edit_in, edit_of, set_all, edited}
 use Rattle.attribute_rules.specs.Kinds.{kind_of}
 use Rattle.attribute_rules.specs.Laws.{may_clear, may_name, may_set}
 use Rattle.attribute_rules.specs.Table.{rule, rule_of, is_permitted}
+use Rattle.attribute_rules.specs.declared.contents.Edit.{Edit}
+use Rattle.attribute_rules.specs.declared.contents.Wanted.{Wanted}
 use Rattle.attribute_rules.specs.declared.table.Optionality.TheVariants.{NotPermitted, Optional}
 use Rattle.attribute_rules.specs.declared.table.Rule.{Rule}
 use Rattle.attribute_rules.specs.declared.table.Source.TheVariants.{Apart}
@@ -50,12 +52,12 @@ sets_may ty (e ∷ es) fit =
       | inr found ↦ ap (λ o. list_all (may_set ty) (cons_option o (filter_map set_row es))) found.1 ∙ and_from _ _ (set_may ty e found.0 parts.0 found.1) (sets_may ty es parts.1)
     ]
 
-fit_in : (ty : Ty) (es : List Entry) → are_admitted Update ty es ≡ true → list_all (is_fit Update ty) es ≡ true
-fit_in ty es h = (and_parts (list_all (is_fit Update ty) es) (is_complete Update ty es) h).0
+fit_in : (writing : Writing) (ty : Ty) (es : List Entry) → are_admitted writing ty es ≡ true → list_all (is_fit writing ty) es ≡ true
+fit_in writing ty es h = (and_parts (list_all (is_fit writing ty) es) (is_complete writing ty es) h).0
 
 sets_in : (ty : Ty) (o : Option (List Entry)) → option_map_or (are_admitted Update ty) o false ≡ true → list_all (may_set ty) (filter_map set_row (unwrap_or o [])) ≡ true
 sets_in ty None h = refl
-sets_in ty (Some es) h = sets_may ty es (fit_in ty es h)
+sets_in ty (Some es) h = sets_may ty es (fit_in Update ty es h)
 
 -- what an admitted update sets it may set
 pub admitted_sets : (ty : Ty) (content : Data) → is_admitted Update ty content ≡ true → list_all (may_set ty) (edit_of ty content).sets ≡ true
@@ -95,6 +97,12 @@ if_value None P means = tt
 if_value (Some d) P means = means d refl
 
 -- an expiry that an admitted update sets is a timestamp
+pub edit_expiry : (ty : Ty) (es : List Entry) (edit : Edit) → are_admitted Update ty es ≡ true → edit ≡ edit_in es → IfSome (value_of Et edit.sets) (λ d. has_kind Stamp d ≡ true)
+edit_expiry ty es edit h is =
+    let sets : list_all (may_set ty) edit.sets ≡ true = ap (λ (x : Edit). list_all (may_set ty) x.sets) is ∙ sets_may ty es (fit_in Update ty es h) in
+    if_value (value_of Et edit.sets) (λ d. has_kind Stamp d ≡ true)
+    (λ d found. stamp_set ty d (value_passes (may_set ty) Et edit.sets d sets found))
+
 pub admitted_expiry : (ty : Ty) (content : Data) → is_admitted Update ty content ≡ true → IfSome (value_of Et (edit_of ty content).sets) (λ d. has_kind Stamp d ≡ true)
 admitted_expiry ty content h =
     if_value (value_of Et (edit_of ty content).sets) (λ d. has_kind Stamp d ≡ true)
@@ -153,7 +161,7 @@ clears_may ty (e ∷ es) fit =
 
 clears_in : (ty : Ty) (o : Option (List Entry)) → option_map_or (are_admitted Update ty) o false ≡ true → list_all (may_clear ty) (filter_map cleared_attr (unwrap_or o [])) ≡ true
 clears_in ty None h = refl
-clears_in ty (Some es) h = clears_may ty es (fit_in ty es h)
+clears_in ty (Some es) h = clears_may ty es (fit_in Update ty es h)
 
 -- what an admitted update clears it may clear
 pub admitted_clears : (ty : Ty) (content : Data) → is_admitted Update ty content ≡ true → list_all (may_clear ty) (edit_of ty content).clears ≡ true
@@ -187,11 +195,18 @@ stays_clear ty a (x ∷ attrs) no all =
     or_from _ _ (other_than ty a x no (clear_names (rule_of ty x) parts.0)) (stays_clear ty a attrs no parts.1)
 
 -- an admitted update leaves as it is what it may not name
+stays_edited : (ty : Ty) (a : Attr) (edit : Edit) (rows : List Row) → may_name ty a ≡ false → list_all (may_set ty) edit.sets ≡ true → list_all (may_clear ty) edit.clears ≡ true → value_of a (edited edit rows) ≡ value_of a rows
+stays_edited ty a edit rows no sets clears =
+    value_cleared a edit.clears (set_all edit.sets rows)
+    ∙ ap (λ b. if b then None else value_of a (set_all edit.sets rows)) (stays_clear ty a edit.clears no clears)
+    ∙ stays_set ty a edit.sets rows no sets
+
+pub members_leave : (ty : Ty) (es : List Entry) (a : Attr) (rows : List Row) → are_admitted Update ty es ≡ true → may_name ty a ≡ false → value_of a (edited (edit_in es) rows) ≡ value_of a rows
+members_leave ty es a rows h no =
+    stays_edited ty a (edit_in es) rows no (sets_may ty es (fit_in Update ty es h)) (clears_may ty es (fit_in Update ty es h))
+
 pub admitted_others : (ty : Ty) (content : Data) (a : Attr) (rows : List Row) → is_admitted Update ty content ≡ true → may_name ty a ≡ false → value_of a (edited (edit_of ty content) rows) ≡ value_of a rows
-admitted_others ty content a rows h no =
-    value_cleared a (edit_of ty content).clears (set_all (edit_of ty content).sets rows)
-    ∙ ap (λ b. if b then None else value_of a (set_all (edit_of ty content).sets rows)) (stays_clear ty a (edit_of ty content).clears no (admitted_clears ty content h))
-    ∙ stays_set ty a (edit_of ty content).sets rows no (admitted_sets ty content h)
+admitted_others ty content a rows h no = stays_edited ty a (edit_of ty content) rows no (admitted_sets ty content h) (admitted_clears ty content h)
 
 -- ---- the name
 
@@ -245,8 +260,14 @@ free_in (Some d) means = text_free d (means d refl)
 
 pub free_name : (ty : Ty) (es : List Entry) → are_admitted Create ty es ≡ true → IfSome (named_text Rn es) (λ s. is_free_name s ≡ true)
 free_name ty es h =
-    let fit = (and_parts (list_all (is_fit Create ty) es) (is_complete Create ty es) h).0 in
-    free_in (member_of (attr_short Rn) es) (λ d is. name_fits ty d (named_fits Create ty Rn es d fit is))
+    free_in (member_of (attr_short Rn) es) (λ d is. name_fits ty d (named_fits Create ty Rn es d (fit_in Create ty es h) is))
+
+pub wanted_name : (ty : Ty) (es : List Entry) (wanted : Wanted) → are_admitted Create ty es ≡ true → wanted ≡ wanted_in es → IfSome wanted.name (λ s. is_free_name s ≡ true)
+wanted_name ty es wanted h is = subst (λ (x : Wanted). IfSome x.name (λ s. is_free_name s ≡ true)) (sym is) (free_name ty es h)
+
+-- the members of an admitted content are admitted
+pub members_fit : (writing : Writing) (ty : Ty) (content : Data) (es : List Entry) → is_admitted writing ty content ≡ true → attributes_in ty content ≡ Some es → are_admitted writing ty es ≡ true
+members_fit writing ty content es h is = sym (ap (λ o. option_map_or (are_admitted writing ty) o false) is) ∙ h
 
 free_name_in : (ty : Ty) (o : Option (List Entry)) → option_map_or (are_admitted Create ty) o false ≡ true → IfSome (named_text Rn (unwrap_or o [])) (λ s. is_free_name s ≡ true)
 free_name_in ty None h = tt
@@ -287,22 +308,33 @@ creator_kept Subscription r is = refl
 creator_kept _ r is = absurd (no_some r is)
 
 -- the type has each attribute that an admitted content names
-named_in : (writing : Writing) (ty : Ty) (a : Attr) (P : Type 0) → ((r : Rule) → rule_of ty a ≡ Some r → P) → (o : Option (List Entry)) → option_map_or (are_admitted writing ty) o false ≡ true → is_named a (unwrap_or o []) ≡ true → P
+named_rule : (writing : Writing) (ty : Ty) (a : Attr) (P : Type 0) → ((r : Rule) → rule_of ty a ≡ Some r → P) → (es : List Entry) → are_admitted writing ty es ≡ true → is_named a es ≡ true → P
+named_rule writing ty a P means es h named = elim (seen (member_of (attr_short a) es)) [
+  | inl none ↦ absurd (both_ways _ (ap is_some none) named)
+  | inr found ↦
+      let at = named_fits writing ty a es found.0 (fit_in writing ty es h) found.1 in
+      means at.rule at.is
+]
+
+pub members_keep_policies : (writing : Writing) (ty : Ty) (es : List Entry) → are_admitted writing ty es ≡ true → is_named Acpi es ≡ true → kind_of ty Acpi ≡ Some Policies
+members_keep_policies writing ty es h named = named_rule writing ty Acpi _ (policies_kept ty) es h named
+
+pub members_keep_fan_policies : (writing : Writing) (ty : Ty) (es : List Entry) → are_admitted writing ty es ≡ true → is_named Macp es ≡ true → kind_of ty Macp ≡ Some Policies
+members_keep_fan_policies writing ty es h named = named_rule writing ty Macp _ (fan_policies_kept ty) es h named
+
+pub members_keep_creator : (writing : Writing) (ty : Ty) (es : List Entry) → are_admitted writing ty es ≡ true → is_named Cr es ≡ true → kind_of ty Cr ≡ Some Originator
+members_keep_creator writing ty es h named = named_rule writing ty Cr _ (creator_kept ty) es h named
+
+-- and so of a content
+named_in : (writing : Writing) (ty : Ty) (a : Attr) (P : Type 0) → ((es : List Entry) → are_admitted writing ty es ≡ true → is_named a es ≡ true → P) → (o : Option (List Entry)) → option_map_or (are_admitted writing ty) o false ≡ true → is_named a (unwrap_or o []) ≡ true → P
 named_in writing ty a P means None h named = absurd (both_ways _ refl h)
-named_in writing ty a P means (Some es) h named =
-    let fit = (and_parts (list_all (is_fit writing ty) es) (is_complete writing ty es) h).0 in
-    elim (seen (member_of (attr_short a) es)) [
-      | inl none ↦ absurd (both_ways _ (ap is_some none) named)
-      | inr found ↦
-          let at = named_fits writing ty a es found.0 fit found.1 in
-          means at.rule at.is
-    ]
+named_in writing ty a P means (Some es) h named = means es h named
 
-pub named_policies : (writing : Writing) (ty : Ty) (content : Data) → is_admitted writing ty content ≡ true → is_named Acpi (unwrap_or (attributes_in ty content) []) ≡ true → kind_of ty Acpi ≡ Some Policies
-named_policies writing ty content h named = named_in writing ty Acpi _ (policies_kept ty) (attributes_in ty content) h named
+pub named_policies : (writing : Writing) (ty : Ty) (content : Data) → is_admitted writing ty content ≡ true → is_named Acpi (named_members ty content) ≡ true → kind_of ty Acpi ≡ Some Policies
+named_policies writing ty content h named = named_in writing ty Acpi _ (members_keep_policies writing ty) (attributes_in ty content) h named
 
-pub named_fan_policies : (writing : Writing) (ty : Ty) (content : Data) → is_admitted writing ty content ≡ true → is_named Macp (unwrap_or (attributes_in ty content) []) ≡ true → kind_of ty Macp ≡ Some Policies
-named_fan_policies writing ty content h named = named_in writing ty Macp _ (fan_policies_kept ty) (attributes_in ty content) h named
+pub named_fan_policies : (writing : Writing) (ty : Ty) (content : Data) → is_admitted writing ty content ≡ true → is_named Macp (named_members ty content) ≡ true → kind_of ty Macp ≡ Some Policies
+named_fan_policies writing ty content h named = named_in writing ty Macp _ (members_keep_fan_policies writing ty) (attributes_in ty content) h named
 
-pub named_creator : (writing : Writing) (ty : Ty) (content : Data) → is_admitted writing ty content ≡ true → is_named Cr (unwrap_or (attributes_in ty content) []) ≡ true → kind_of ty Cr ≡ Some Originator
-named_creator writing ty content h named = named_in writing ty Cr _ (creator_kept ty) (attributes_in ty content) h named
+pub named_creator : (writing : Writing) (ty : Ty) (content : Data) → is_admitted writing ty content ≡ true → is_named Cr (named_members ty content) ≡ true → kind_of ty Cr ≡ Some Originator
+named_creator writing ty content h named = named_in writing ty Cr _ (members_keep_creator writing ty) (attributes_in ty content) h named

@@ -17,7 +17,7 @@ use Rattle.attribute_kinds.specs.Kinds.{has_kind}
 use Rattle.attribute_rules.specs.Kinds.{kept_kind, opening_kind, is_attr_kind, have_kinds}
 use Rattle.attribute_rules.specs.Table.{AttrRow, attr_rows, is_among, is_row_for, table_rule, inherited_rule, rule_of, announced_rule, announced_source, original_of, is_permitted}
 use Rattle.attribute_rules.specs.Admission.{is_null, is_given, is_clearable, column_of, allows_value, rule_at, is_fit, is_complete, are_admitted, is_admitted, attributes_in}
-use Rattle.attribute_rules.specs.Contents.{is_apart, is_no_policy, does_clear, kept_row, set_row, cleared_attr, wanted_of, edit_of, set_all, clear_all, edited}
+use Rattle.attribute_rules.specs.Contents.{is_apart, is_no_policy, does_clear, kept_row, set_row, cleared_attr, wanted_in, wanted_of, edit_in, edit_of, set_all, clear_all, edited}
 use Rattle.attribute_rules.specs.declared.table.Rule.{Rule}
 use Rattle.attribute_rules.specs.declared.table.Source.{Source}
 use Rattle.attribute_rules.specs.declared.table.Source.TheVariants.{Given, Apart, Creator, Assigned, Derived}
@@ -226,9 +226,13 @@ created_all ty (e ∷ es) fit =
       | inr found ↦ ap (λ o. have_kinds ty (cons_option o (filter_map kept_row es))) found.1 ∙ and_from _ _ (created_kind ty e found.0 parts.0 found.1) (created_all ty es parts.1)
     ]
 
+-- what the members of an admitted creation give a resource
+pub created_members : (ty : Ty) (es : List Entry) → are_admitted Create ty es ≡ true → have_kinds ty (wanted_in es).attrs ≡ true
+created_members ty es h = created_all ty es (and_parts (list_all (is_fit Create ty) es) (is_complete Create ty es) h).0
+
 created_in : (ty : Ty) (o : Option (List Entry)) → option_map_or (are_admitted Create ty) o false ≡ true → have_kinds ty (filter_map kept_row (unwrap_or o [])) ≡ true
 created_in ty None h = refl
-created_in ty (Some es) h = created_all ty es (and_parts (list_all (is_fit Create ty) es) (is_complete Create ty es) h).0
+created_in ty (Some es) h = created_members ty es h
 
 -- what an admitted creation gives a resource is of the kinds that its type keeps
 pub created_kinds : (ty : Ty) (content : Data) → is_admitted Create ty content ≡ true → have_kinds ty (wanted_of ty content).attrs ≡ true
@@ -277,11 +281,15 @@ updated_all ty (e ∷ es) rows fit all =
           ∙ updated_all ty es (if is_attr found.0.0 Et then rows else with_value found.0.0 found.0.1 rows) parts.1 (set_one ty e found.0 rows parts.0 found.1 all)
     ]
 
-updated_in : (ty : Ty) (o : Option (List Entry)) (rows : List Row) → option_map_or (are_admitted Update ty) o false ≡ true → have_kinds ty rows ≡ true → have_kinds ty (clear_all (filter_map cleared_attr (unwrap_or o [])) (set_all (filter_map set_row (unwrap_or o [])) rows)) ≡ true
-updated_in ty None rows h all = all
-updated_in ty (Some es) rows h all =
+-- and what those of an admitted update leave
+pub updated_members : (ty : Ty) (es : List Entry) (rows : List Row) → are_admitted Update ty es ≡ true → have_kinds ty rows ≡ true → have_kinds ty (edited (edit_in es) rows) ≡ true
+updated_members ty es rows h all =
     cleared_all ty (filter_map cleared_attr es) (set_all (filter_map set_row es) rows)
     (updated_all ty es rows (and_parts (list_all (is_fit Update ty) es) (is_complete Update ty es) h).0 all)
+
+updated_in : (ty : Ty) (o : Option (List Entry)) (rows : List Row) → option_map_or (are_admitted Update ty) o false ≡ true → have_kinds ty rows ≡ true → have_kinds ty (clear_all (filter_map cleared_attr (unwrap_or o [])) (set_all (filter_map set_row (unwrap_or o [])) rows)) ≡ true
+updated_in ty None rows h all = all
+updated_in ty (Some es) rows h all = updated_members ty es rows h all
 
 -- attributes of their kinds stay so after an admitted update
 pub updated_kinds : (ty : Ty) (content : Data) (rows : List Row) → is_admitted Update ty content ≡ true → have_kinds ty rows ≡ true → have_kinds ty (edited (edit_of ty content) rows) ≡ true
