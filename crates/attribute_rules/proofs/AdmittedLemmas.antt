@@ -1,5 +1,5 @@
 -- What follows for admitted contents: what an update may do, the name that a creation gives, and that what is named is kept.
-use Rattle.std.proofs.Common.{◌≡◌, List, [], ◌∷◌, Bool, true, false, ◌&&◌, ◌||◌, Option, Some, None, is_some, IfSome, option_and_then, unwrap_or, if◌then◌else◌, bytes_eq, inl, inr, refl, sym, ap, ◌∙◌, subst}
+use Rattle.std.proofs.Common.{◌≡◌, List, [], ◌∷◌, Bool, true, false, ◌&&◌, ◌||◌, Option, Some, None, is_some, IfSome, Result, Ok, Err, IfOk, option_and_then, unwrap_or, if◌then◌else◌, bytes_eq, inl, inr, refl, sym, ap, ◌∙◌, subst}
 use Rattle.std.proofs.lemmas.Bool.{and_from, and_parts, both_ways, cases_Bool, false_from_ne_true, not-true, or_cases, or_from, or_parts}
 use Rattle.std.proofs.lemmas.Option.{same_Some}
 use Rattle.std.specs.List.{cons_option, filter_map, list_all, list_any}
@@ -108,6 +108,10 @@ admitted_expiry ty content h =
     if_value (value_of Et (edit_of ty content).sets) (λ d. has_kind Stamp d ≡ true)
     (λ d is. stamp_set ty d (value_passes (may_set ty) Et (edit_of ty content).sets d (admitted_sets ty content h) is))
 
+pub edits_expiry : {E : Type 0} (ty : Ty) (es : List Entry) (r : Result Edit E) → are_admitted Update ty es ≡ true → IfOk r (λ edit. edit ≡ edit_in es) → IfOk r (λ edit. IfSome (value_of Et edit.sets) (λ d. has_kind Stamp d ≡ true))
+edits_expiry ty es (Ok edit) h is = edit_expiry ty es edit h is
+edits_expiry ty es (Err fault) h is = tt
+
 -- ---- what is cleared
 
 null_from : (d : Data) → is_null d ≡ true → d ≡ null
@@ -133,12 +137,12 @@ cleared_rule d ty a at clears =
         | inr given ↦
             let null_given : is_given at.rule.source null ≡ true = ap (is_given at.rule.source) (sym (null_from d nothing)) ∙ given in
             elim (or_cases _ (is_clearable Update at.rule) emptied.nothing) [
-              | inl no ↦ absurd (both_ways _ (not-true _ no) (and_from _ _ at.permitted null_given))
+              | inl never ↦ absurd (both_ways _ (not-true _ never) (and_from _ _ at.permitted null_given))
               | inr t ↦ t
             ]
       ]
       | inr empty ↦ elim (or_cases _ (is_clearable Update at.rule) emptied.policies) [
-        | inl no ↦ absurd (both_ways _ (not-true _ no) (policies_at a d empty))
+        | inl never ↦ absurd (both_ways _ (not-true _ never) (policies_at a d empty))
         | inr t ↦ t
       ]
     ]
@@ -179,34 +183,34 @@ clear_names (Some r) h = (and_parts (is_permitted r.update) _ h).0
 
 -- another attribute than one that an update may not name
 other_than : (ty : Ty) (a b : Attr) → may_name ty a ≡ false → may_name ty b ≡ true → is_attr a b ≡ false
-other_than ty a b no may = false_from_ne_true _ (λ t. both_ways _ no (ap (may_name ty) (is_attr-same a b t) ∙ may))
+other_than ty a b never may = false_from_ne_true _ (λ t. both_ways _ never (ap (may_name ty) (is_attr-same a b t) ∙ may))
 
 stays_set : (ty : Ty) (a : Attr) (sets rows : List Row) → may_name ty a ≡ false → list_all (may_set ty) sets ≡ true → value_of a (set_all sets rows) ≡ value_of a rows
-stays_set ty a [] rows no all = refl
-stays_set ty a (s ∷ sets) rows no all =
+stays_set ty a [] rows never all = refl
+stays_set ty a (s ∷ sets) rows never all =
     let parts = and_parts (may_set ty s) (list_all (may_set ty) sets) all in
-    stays_set ty a sets (row_set s rows) no parts.1
-    ∙ kept_beside a s rows (other_than ty a s.0 no (set_names s.1 (rule_of ty s.0) parts.0))
+    stays_set ty a sets (row_set s rows) never parts.1
+    ∙ kept_beside a s rows (other_than ty a s.0 never (set_names s.1 (rule_of ty s.0) parts.0))
 
 stays_clear : (ty : Ty) (a : Attr) (attrs : List Attr) → may_name ty a ≡ false → list_all (may_clear ty) attrs ≡ true → list_any (is_attr a) attrs ≡ false
-stays_clear ty a [] no all = refl
-stays_clear ty a (x ∷ attrs) no all =
+stays_clear ty a [] never all = refl
+stays_clear ty a (x ∷ attrs) never all =
     let parts = and_parts (may_clear ty x) (list_all (may_clear ty) attrs) all in
-    or_from _ _ (other_than ty a x no (clear_names (rule_of ty x) parts.0)) (stays_clear ty a attrs no parts.1)
+    or_from _ _ (other_than ty a x never (clear_names (rule_of ty x) parts.0)) (stays_clear ty a attrs never parts.1)
 
 -- an admitted update leaves as it is what it may not name
 stays_edited : (ty : Ty) (a : Attr) (edit : Edit) (rows : List Row) → may_name ty a ≡ false → list_all (may_set ty) edit.sets ≡ true → list_all (may_clear ty) edit.clears ≡ true → value_of a (edited edit rows) ≡ value_of a rows
-stays_edited ty a edit rows no sets clears =
+stays_edited ty a edit rows never sets clears =
     value_cleared a edit.clears (set_all edit.sets rows)
-    ∙ ap (λ b. if b then None else value_of a (set_all edit.sets rows)) (stays_clear ty a edit.clears no clears)
-    ∙ stays_set ty a edit.sets rows no sets
+    ∙ ap (λ b. if b then None else value_of a (set_all edit.sets rows)) (stays_clear ty a edit.clears never clears)
+    ∙ stays_set ty a edit.sets rows never sets
 
 pub members_leave : (ty : Ty) (es : List Entry) (a : Attr) (rows : List Row) → are_admitted Update ty es ≡ true → may_name ty a ≡ false → value_of a (edited (edit_in es) rows) ≡ value_of a rows
-members_leave ty es a rows h no =
-    stays_edited ty a (edit_in es) rows no (sets_may ty es (fit_in Update ty es h)) (clears_may ty es (fit_in Update ty es h))
+members_leave ty es a rows h never =
+    stays_edited ty a (edit_in es) rows never (sets_may ty es (fit_in Update ty es h)) (clears_may ty es (fit_in Update ty es h))
 
 pub admitted_others : (ty : Ty) (content : Data) (a : Attr) (rows : List Row) → is_admitted Update ty content ≡ true → may_name ty a ≡ false → value_of a (edited (edit_of ty content) rows) ≡ value_of a rows
-admitted_others ty content a rows h no = stays_edited ty a (edit_of ty content) rows no (admitted_sets ty content h) (admitted_clears ty content h)
+admitted_others ty content a rows h never = stays_edited ty a (edit_of ty content) rows never (admitted_sets ty content h) (admitted_clears ty content h)
 
 -- ---- the name
 
@@ -264,6 +268,10 @@ free_name ty es h =
 
 pub wanted_name : (ty : Ty) (es : List Entry) (wanted : Wanted) → are_admitted Create ty es ≡ true → wanted ≡ wanted_in es → IfSome wanted.name (λ s. is_free_name s ≡ true)
 wanted_name ty es wanted h is = subst (λ (x : Wanted). IfSome x.name (λ s. is_free_name s ≡ true)) (sym is) (free_name ty es h)
+
+pub wishes_name : {E : Type 0} (ty : Ty) (es : List Entry) (r : Result Wanted E) → are_admitted Create ty es ≡ true → IfOk r (λ wanted. wanted ≡ wanted_in es) → IfOk r (λ wanted. IfSome wanted.name (λ s. is_free_name s ≡ true))
+wishes_name ty es (Ok wanted) h is = wanted_name ty es wanted h is
+wishes_name ty es (Err fault) h is = tt
 
 -- the members of an admitted content are admitted
 pub members_fit : (writing : Writing) (ty : Ty) (content : Data) (es : List Entry) → is_admitted writing ty content ≡ true → attributes_in ty content ≡ Some es → are_admitted writing ty es ≡ true

@@ -1,5 +1,5 @@
 -- The first fault of several, and that contents without a fault are those that are admitted.
-use Rattle.std.proofs.Common.{◌≡◌, List, [], ◌∷◌, Bool, true, false, not, ◌&&◌, ◌||◌, Option, Some, None, is_none, option_map, if◌then◌else◌, inl, inr, refl, sym, ap, ◌∙◌}
+use Rattle.std.proofs.Common.{◌≡◌, List, [], ◌∷◌, Bool, true, false, not, ◌&&◌, Option, Some, None, is_none, option_map, inl, inr, refl, sym, ap, ◌∙◌}
 use Rattle.std.proofs.lemmas.Bool.{cases_Bool}
 use Rattle.std.specs.List.{filter_map, find, list_all, cons_option}
 use Rattle.std.specs.Option.{option_or, option_map_or}
@@ -7,7 +7,7 @@ use Rattle.m2m_names.specs.declared.attributes.Attr.{Attr}
 use Rattle.m2m_names.specs.declared.attributes.Attr.TheVariants.{Acpi}
 use Rattle.m2m_names.specs.declared.types.Ty.{Ty}
 use Rattle.m2m_value.specs.Data.{Data, Entry}
-use Rattle.attribute_rules.specs.Admission.{attributes_in, is_named, column_of, allows_value, rule_at, is_fit, is_alone, is_complete, are_admitted, is_admitted, value_fault, key_fault, is_unknown, is_not_allowed, is_wrong_kind, leading_fault, with_fault, missing_attr, rest_fault, fault_in, fault_of}
+use Rattle.attribute_rules.specs.Admission.{attributes_in, is_named, column_of, allows_value, rule_at, is_fit, is_alone, is_complete, are_admitted, is_admitted, value_fault, key_fault, is_unknown, is_not_allowed, is_wrong_kind, leading_fault, with_fault, rest_fault, fault_in, fault_of}
 use Rattle.attribute_rules.specs.Table.{is_permitted, mandatory_attrs}
 use Rattle.attribute_rules.specs.declared.admission.Firsts.{Firsts}
 use Rattle.attribute_rules.specs.declared.table.Rule.{Rule}

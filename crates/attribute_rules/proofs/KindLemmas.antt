@@ -1,6 +1,6 @@
 -- What admitted contents give a resource is of the kinds that it keeps.
-use Rattle.std.proofs.Common.{◌≡◌, List, [], ◌∷◌, ◌++◌, Bool, true, false, not, ◌&&◌, ◌||◌, Option, Some, None, option_map, option_and_then, unwrap_or, if◌then◌else◌, inl, inr, refl, sym, ap, ◌∙◌, subst}
-use Rattle.std.proofs.lemmas.Bool.{cases_Bool, and_parts, and_from, or_cases, or_left, or_parts, or_right, not-true, not_from_false, both_ways, false_from_ne_true}
+use Rattle.std.proofs.Common.{◌≡◌, List, [], ◌∷◌, Bool, true, false, not, ◌&&◌, ◌||◌, Option, Some, None, option_map, option_and_then, unwrap_or, if◌then◌else◌, inl, inr, refl, sym, ap, ◌∙◌}
+use Rattle.std.proofs.lemmas.Bool.{cases_Bool, and_parts, and_from, or_cases, or_left, or_parts, or_right, not-true, not_from_false, both_ways}
 use Rattle.std.proofs.lemmas.List.Folds.{list_all-append}
 use Rattle.std.proofs.lemmas.Option.{same_Some}
 use Rattle.std.specs.List.{cons_option, filter, filter_map, find, list_all}
@@ -15,9 +15,9 @@ use Rattle.resource_model.specs.Attributes.{Row, attr_cmp, is_attr, rows_before,
 use Rattle.resource_model.proofs.AttributeLemmas.{is_attr-same}
 use Rattle.attribute_kinds.specs.Kinds.{has_kind}
 use Rattle.attribute_rules.specs.Kinds.{kept_kind, opening_kind, is_attr_kind, have_kinds}
-use Rattle.attribute_rules.specs.Table.{AttrRow, attr_rows, is_among, is_row_for, table_rule, inherited_rule, rule_of, announced_rule, announced_source, original_of, is_permitted}
-use Rattle.attribute_rules.specs.Admission.{is_null, is_given, is_clearable, column_of, allows_value, rule_at, is_fit, is_complete, are_admitted, is_admitted, attributes_in}
-use Rattle.attribute_rules.specs.Contents.{is_apart, is_no_policy, does_clear, kept_row, set_row, cleared_attr, wanted_in, wanted_of, edit_in, edit_of, set_all, clear_all, edited}
+use Rattle.attribute_rules.specs.Table.{AttrRow, attr_rows, is_row_for, table_rule, inherited_rule, rule_of, announced_rule, announced_source, original_of, is_permitted}
+use Rattle.attribute_rules.specs.Admission.{is_null, is_given, is_clearable, column_of, allows_value, is_fit, is_complete, are_admitted, is_admitted, attributes_in}
+use Rattle.attribute_rules.specs.Contents.{is_apart, is_no_policy, kept_row, set_row, cleared_attr, wanted_in, wanted_of, edit_in, edit_of, set_all, clear_all, edited}
 use Rattle.attribute_rules.specs.declared.table.Rule.{Rule}
 use Rattle.attribute_rules.specs.declared.table.Source.{Source}
 use Rattle.attribute_rules.specs.declared.table.Source.TheVariants.{Given, Apart, Creator, Assigned, Derived}

@@ -184,7 +184,7 @@ value_cleared a (x ∷ attrs) rows =
           ∙ ap (λ b. if b || list_any (is_attr a) attrs then None else value_of a rows) (sym f)
     ]
 
-value_one : (a : Attr) (o old : Option Data) → (if option_map_or (does_clear a) o false then None else option_or (chosen_value does_clear a o) old) ≡ option_map_or (λ d. if does_clear a d then None else Some d) old o
+value_one : (a : Attr) (o old : Option Data) → (if option_map_or (does_clear a) o false then None else option_or (chosen_value does_clear a o) old) ≡ option_map_or (λ d. if does_clear a d then None else Some d) o old
 value_one a None old = refl
 value_one a (Some d) old = elim (cases_Bool (does_clear a d)) [
   | inl t ↦ rw t refl

@@ -105,5 +105,5 @@ value_created attr es =
 -- one that it had
 abbrev pub value_updated : Attr → List Entry → Option Data → Option Data
 value_updated attr es old =
-    option_map_or (λ d. if does_clear attr d then None else Some d) old
-    (member_of (attr_short attr) es)
+    option_map_or (λ d. if does_clear attr d then None else Some d)
+    (member_of (attr_short attr) es) old
