@@ -349,8 +349,9 @@ fn contents_of_each_type_are_admitted(rt: HostRuntime) -> Result<(), Fail> {
 }
 
 // A type, the fault of a creation, and its attributes: each fault once, and then two at a time.
-const REFUSED_CREATIONS: [(Ty, &str, &str); 21] = [
+const REFUSED_CREATIONS: [(Ty, &str, &str); 22] = [
     (Ty::Container, "Unknown x", r#""x":1"#),
+    (Ty::Subscription, "Unknown exc", r#""exc":1,"nu":["C1"]"#),
     (Ty::CseBase, "NotAllowed srt", r#""srt":[]"#),
     (Ty::Container, "NotAllowed st", r#""st":1"#),
     (Ty::Container, "Kind mni", r#""mni":-1"#),
@@ -374,8 +375,9 @@ const REFUSED_CREATIONS: [(Ty, &str, &str); 21] = [
 ];
 
 // The same of an update.
-const REFUSED_UPDATES: [(Ty, &str, &str); 13] = [
+const REFUSED_UPDATES: [(Ty, &str, &str); 14] = [
     (Ty::Container, "Unknown a", r#""a":1"#),
+    (Ty::Subscription, "Unknown exc", r#""exc":null"#),
     (Ty::Ae, "NotAllowed api", r#""api":null"#),
     (Ty::ContentInstance, "NotAllowed con", r#""con":null"#),
     (Ty::Ae, "Kind rr", r#""rr":null"#),

@@ -6,7 +6,7 @@ ghost use Rattle.std.specs.Option.{option_map_or};
 ghost use Rattle.m2m_names.specs.Name as names;
 ghost use Rattle.m2m_value.specs.View as views;
 ghost use Rattle.m2m_value.specs.Shapes as shapes;
-ghost use Rattle.attribute_rules.specs.Kinds as spec;
+ghost use Rattle.attribute_kinds.specs.Kinds as spec;
 
 use crate::values::{is_cse_id, is_number_within, is_originator, is_point, is_text, list_in};
 use m2m_value::Val;

@@ -1,6 +1,6 @@
 // The kinds of attribute values.
 ghost use Rattle.std.specs.Prelude.{◌≡◌};
-ghost use Rattle.attribute_rules.specs.Kinds.{has_kind};
+ghost use Rattle.attribute_kinds.specs.Kinds.{has_kind};
 
 use crate::lists::{is_cse_ids, is_labels, is_points, is_target, is_texts};
 use crate::objects::{is_criteria, is_rules};

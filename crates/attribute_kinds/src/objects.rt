@@ -4,7 +4,7 @@ ghost use Rattle.std.specs.Int.{is_in_range};
 ghost use Rattle.std.specs.List.{list_all};
 ghost use Rattle.m2m_names.specs.Name as names;
 ghost use Rattle.m2m_value.specs.Shapes as shapes;
-ghost use Rattle.attribute_rules.specs.Kinds as spec;
+ghost use Rattle.attribute_kinds.specs.Kinds as spec;
 
 use crate::lists::{is_event_kinds, is_labels, is_originators};
 use crate::values::{is_number_within, list_in};

@@ -4,9 +4,9 @@ ghost use Rattle.std.specs.Int.{is_in_range};
 ghost use Rattle.m2m_names.specs.Name as names;
 ghost use Rattle.m2m_names.specs.Types.{ty_of_number};
 ghost use Rattle.m2m_value.specs.View as views;
-ghost use Rattle.attribute_rules.specs.declared.kinds.Kind.TheVariants.{Count};
+ghost use Rattle.attribute_kinds.specs.declared.kinds.Kind.TheVariants.{Count};
 ghost use Rattle.m2m_value.specs.Shapes as shapes;
-ghost use Rattle.attribute_rules.specs.Kinds as spec;
+ghost use Rattle.attribute_kinds.specs.Kinds as spec;
 
 use m2m_names::{Ty, are_graphic, is_filled};
 use m2m_value::Val;
