@@ -55,9 +55,9 @@ Answers (Ok a) told = told ≡ Ok a
 Answers (Err fault) told = (fault ≡ OutOfMemory) ⊎ (told ≡ Err fault)
 
 -- the same fault, with a name of its own
-abbrev pub told : Fault → PrimFault
-told (lent.Missing name) = Missing name.now
-told (lent.Bad name) = Bad name.now
+abbrev pub owned : Fault → PrimFault
+owned (lent.Missing name) = Missing name.now
+owned (lent.Bad name) = Bad name.now
 
 -- ---- the first fault of a request
 
