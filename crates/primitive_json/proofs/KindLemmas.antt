@@ -12,6 +12,7 @@ use Rattle.m2m_names.proofs.StampReadingLemmas.{read_last}
 use Rattle.m2m_value.specs.Data.{Data}
 use Rattle.m2m_value.specs.Shapes.{as_count}
 use Rattle.m2m_value.specs.View.{as_text}
+use Rattle.filter_criteria.specs.Bounds.{IsMoment}
 use Rattle.filter_criteria.proofs.PartLemmas.{passes_along, moment_back}
 use Rattle.primitive_json.specs.Kinds.{is_numeral, expiry_spelled, read_expiry}
 use Rattle.primitive_json.specs.Laws.{IsWhenOfKind, IsShortWhen}

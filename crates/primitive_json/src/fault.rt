@@ -27,7 +27,7 @@ pub enum Fault<'a> {
 impl Fault<'_> {
     /// The fault with a name of its own.
     pub fn kept(self, alloc: Global) -> Result<PrimFault, AllocError>
-        ensures { IfOk result (λ e. e ≡ owned self) }
+        ensures { IfOk result (λ e. e ≡ owned self.entry) }
     {
         match self {
             Fault::Missing(name) => Ok(PrimFault::Missing(Text::from_slice(alloc, name)?)),
