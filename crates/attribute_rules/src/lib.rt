@@ -32,6 +32,3 @@ pub use laws::{
     what_is_admitted_has_no_fault,
 };
 pub use table::{Optionality, Rule, Source, keeps_kinds, kind_of, mandatory, rule_of};
-
-#[cfg(test)]
-mod tests;

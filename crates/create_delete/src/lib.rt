@@ -18,8 +18,6 @@ mod laws;
 mod moments;
 mod opening;
 mod sweeping;
-#[cfg(test)]
-mod tests;
 
 pub use entity::Entity;
 pub use laws::{

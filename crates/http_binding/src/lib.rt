@@ -25,6 +25,3 @@ pub use reply::of_reply;
 pub use request::to_request;
 pub use std::alloc::AllocError as OutOfMemory;
 pub use writing::write_reply;
-
-#[cfg(test)]
-mod tests;

@@ -26,12 +26,8 @@ mod laws;
 mod member;
 mod note;
 mod reading;
-#[cfg(test)]
-mod reading_tests;
 mod reply;
 mod request;
-#[cfg(test)]
-mod tests;
 mod writing;
 
 pub use bounds::is_request_id;

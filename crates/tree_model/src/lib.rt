@@ -26,8 +26,6 @@ mod placing;
 mod removing;
 mod showing;
 mod steps;
-#[cfg(test)]
-mod tests;
 mod tree;
 mod walk;
 
