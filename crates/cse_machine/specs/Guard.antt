@@ -30,7 +30,7 @@ use Rattle.addressing.specs.declared.addr.Addr.{Addr}
 use Rattle.addressing.specs.declared.addr.AddrFault.{AddrFault}
 use Rattle.addressing.specs.declared.spot.Spot.{Spot}
 use Rattle.addressing.specs.declared.spot.Spot.TheVariants.{Resource, Fan, Poll}
-use Rattle.create_delete.specs.Entity.{EntityData, swept}
+use Rattle.entity_model.specs.Entity.{EntityData, swept}
 use Rattle.cse_machine.specs.declared.event.Event.{Event}
 use Rattle.cse_machine.specs.declared.event.Event.TheVariants.{Ask}
 use Rattle.cse_machine.specs.declared.event.Outcome.{Outcome}

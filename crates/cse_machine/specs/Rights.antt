@@ -16,7 +16,7 @@ use Rattle.primitive_json.specs.declared.filter.FilterUsage.{FilterUsage}
 use Rattle.primitive_json.specs.declared.filter.FilterUsage.TheVariants.{Discovery, Conditional}
 use Rattle.primitive_json.specs.declared.request.RequestParts.{RequestParts}
 use Rattle.policy_eval.specs.Rights.{discovery_bit, grants, relinks}
-use Rattle.create_delete.specs.Entity.{EntityData}
+use Rattle.entity_model.specs.Entity.{EntityData}
 
 -- whom a request is judged as: without an originator as `C`, from an application entity that
 -- registers (TS-0001, 10.2.2.2)

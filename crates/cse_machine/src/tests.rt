@@ -2,7 +2,7 @@
 ghost use Rattle.std.specs.Prelude.{◌≡◌, IfOk, IsUtf8};
 
 use crate::{Event, Outcome, step};
-use create_delete::Entity;
+use entity_model::Entity;
 use m2m_names::Op;
 use m2m_value::{Text, write};
 use primitive_json::{Request, RequestParts};

@@ -1,5 +1,5 @@
 use super::*;
-use create_delete::Entity;
+use entity_model::Entity;
 use m2m_io::{MemClock, MemLink, MemSink, MemSource};
 use std::alloc::{AllocError, Global};
 use std::test::Fail;
