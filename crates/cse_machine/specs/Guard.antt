@@ -216,7 +216,7 @@ pub record IsGuardedFan (before : EntityData) (request : RequestParts) (reply : 
   pub singles : List Single
   pub same : All (IsSingleOf request) singles
   pub guarded : AreGuarded before singles after
-  pub gathered : option_map_or gathered_in reply.pc [] ≡ map (λ single. single.reply.pc) singles
+  pub gathered : option_map_or gathered_in reply.pc [] ≡ map (λ (single : Single). single.reply.pc) singles
 
 -- Nothing is shown or changed but by a grant to the originator, in the entity before the request.
 abbrev pub IsGuarded : EntityData → RequestParts → ReplyParts → EntityData → Type 0
