@@ -162,7 +162,7 @@ pub fn echo_id(frame: &Frame) -> Option<&[u8]>
     ensures utf8 { IfSome (option_copied result) IsUtf8 }
 {
     match frame.lines.find(Field::Id.name()) {
-        Found::One(value) if Field::Id.admits(value) => Some(value),
+        Found::One(value) if is_request_id(value) => Some(value),
         _ => None,
     }
 }
