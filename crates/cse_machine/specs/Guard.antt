@@ -36,7 +36,7 @@ use Rattle.cse_machine.specs.declared.event.Event.TheVariants.{Ask}
 use Rattle.cse_machine.specs.declared.event.Outcome.{Outcome}
 use Rattle.cse_machine.specs.declared.event.Outcome.TheVariants.{Done, Starved}
 use Rattle.cse_machine.specs.Answer.{addressed}
-use Rattle.cse_machine.specs.Contents.{ids_below, references_in, addresses_in}
+use Rattle.cse_machine.specs.Contents.{ids_below, references_in, addresses_in, gathered_in}
 use Rattle.cse_machine.specs.History.{History, Leaves}
 use Rattle.cse_machine.specs.Rights.{claimed_originator, is_granted, has_right}
 use Rattle.cse_machine.specs.Step.{Step}

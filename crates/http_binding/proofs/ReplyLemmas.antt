@@ -39,6 +39,21 @@ start_is rsc http is =
     ap (λ n. codes "HTTP/1.1 " ++ (decimal n ++ (codes " " ++ (phrase_of n ++ crlf_bytes)))) is
     ∙ ap (λ d. codes "HTTP/1.1 " ++ (d ++ (codes " " ++ (phrase_of (rsc_row rsc).http ++ crlf_bytes)))) (status_is rsc)
 
+in_three : (old start code id : List ℕ) → ((old ++ start) ++ code) ++ id ≡ old ++ (start ++ (code ++ id))
+in_three old start code id = simp append_assoc refl
+
+-- the status line and the lines that speak of the primitive, behind what was there
+pub primitive_is : (reply : ReplyParts) (number : ℕ) (old one two : List ℕ) → number ≡ (rsc_row reply.rsc).number
+    → one ≡ old ++ start_text (Answer (rsc_row reply.rsc).http 1)
+    → two ≡ one ++ line_text (code_field, decimal number)
+    → two ++ flat_map line_text (id_lines reply.rqi) ≡ old ++ (start_text (Answer (rsc_row reply.rsc).http 1) ++ (line_text (code_field, decimal (rsc_row reply.rsc).number) ++ flat_map line_text (id_lines reply.rqi)))
+primitive_is reply number old one two number_is one_is two_is =
+    let start = start_text (Answer (rsc_row reply.rsc).http 1) in
+    let code = line_text (code_field, decimal (rsc_row reply.rsc).number) in
+    let id = flat_map line_text (id_lines reply.rqi) in
+    ap (λ t. t ++ id) (two_is ∙ ap (λ n. one ++ line_text (code_field, decimal n)) number_is ∙ ap (λ t. t ++ code) one_is)
+    ∙ in_three old start code id
+
 lines_are : (code size : Line) (id type close : List Line) → flat_map line_text (code ∷ (id ++ (type ++ (size ∷ close)))) ≡ line_text code ++ (flat_map line_text id ++ (flat_map line_text type ++ (line_text size ++ flat_map line_text close)))
 lines_are code size id type close =
     ap (λ t. line_text code ++ t) (flat_map-append line_text id (type ++ (size ∷ close))
