@@ -12,7 +12,8 @@ use Rattle.resource_model.specs.Resource.{ResourceData}
 use Rattle.tree_model.specs.Shown.{attributes_of}
 use Rattle.tree_model.specs.Tree.{at}
 use Rattle.policy_eval.specs.Rights.{grants}
-use Rattle.policy_eval.specs.Seen.{retrieve_bit, seen}
+use Rattle.policy_eval.specs.Rights.{retrieve_bit}
+use Rattle.policy_eval.specs.Seen.{seen}
 use Rattle.policy_eval.proofs.DueLemmas.{live-seen, grants-live}
 use Rattle.policy_eval.proofs.RetrievedLemmas.{attributes-live}
 use Rattle.policy_eval.proofs.ShapeLemmas.{sight_shape}

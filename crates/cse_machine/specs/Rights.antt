@@ -15,8 +15,7 @@ use Rattle.m2m_value.specs.View.{as_object}
 use Rattle.filter_criteria.specs.declared.filter.FilterUsage.{FilterUsage}
 use Rattle.filter_criteria.specs.declared.filter.FilterUsage.TheVariants.{Discovery, Conditional}
 use Rattle.primitive_json.specs.declared.request.RequestParts.{RequestParts}
-use Rattle.policy_eval.specs.Rights.{grants, relinks}
-use Rattle.policy_eval.specs.Seen.{discovery_bit}
+use Rattle.policy_eval.specs.Rights.{discovery_bit, grants, relinks}
 use Rattle.entity_model.specs.Entity.{EntityData}
 
 -- whom a request is judged as: without an originator as `C`, from an application entity that

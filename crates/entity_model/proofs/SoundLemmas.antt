@@ -21,9 +21,10 @@ use Rattle.tree_model.proofs.KeptLemmas.{is_well_formed-without}
 use Rattle.tree_model.proofs.LiveLemmas.{without_none}
 use Rattle.m2m_names.specs.Name.{is_free_name, is_originator}
 use Rattle.attribute_rules.specs.Kinds.{are_kinds}
+use Rattle.container_limits.specs.Limits.{is_within}
 use Rattle.entity_model.specs.Entity.{EntityData, last_reading, cut, event_moment, swept}
 use Rattle.entity_model.specs.Opening.{opening_base, opening_policy, opening_nodes, opening}
-use Rattle.entity_model.specs.Sound.{has_known_ids, has_size, is_shallow, is_within, is_within_limits, begins_with_base, own_cse_id, cse_ids, are_distinct, has_one_channel, spares_first, IsSound}
+use Rattle.entity_model.specs.Sound.{has_known_ids, has_size, is_shallow, is_within_limits, begins_with_base, own_cse_id, cse_ids, are_distinct, has_one_channel, spares_first, IsSound}
 use Rattle.entity_model.proofs.RemovalLemmas.{staying_length, staying_filter, staying_sum, no_deeper}
 
 -- ---- tests over a list
@@ -50,7 +51,7 @@ all_left p q nodes weaker all = all_weaker (q nodes) (q (without p nodes)) weake
 small_too : (m n k : ℕ) → m ≤ n → nat_le n k ≡ true → nat_le m k ≡ true
 small_too m n k le small = let below : n ≤ k = leb-true n k small in le-leb m k (omega arith)
 
-within_too : (limit : Option ℕ) (m n : ℕ) → m ≤ n → is_within limit n ≡ true → is_within limit m ≡ true
+within_too : (limit : Option ℕ) (m n : ℕ) → m ≤ n → is_within n limit ≡ true → is_within m limit ≡ true
 within_too None m n le within = refl
 within_too (Some k) m n le within = small_too m n k le within
 

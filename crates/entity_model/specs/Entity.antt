@@ -1,5 +1,6 @@
 -- An entity: its home, its resources, its next number and its last moment (TS-0001, 6.2 and 9.6.3).
-use Rattle.std.specs.Prelude.{ℕ, min, max, List}
+use Rattle.std.specs.Prelude.{ℕ, ◌-◌, min, max, List}
+use Rattle.m2m_names.specs.Stamps.{last_moment}
 use Rattle.resource_model.specs.Home.{HomeData}
 use Rattle.resource_model.specs.Resource.{ResourceData}
 use Rattle.tree_model.specs.Tree.{live}
@@ -14,7 +15,7 @@ pub record EntityData : Type 0 where
 
 -- the last moment of an event: the second before the last that a timestamp has
 abbrev pub last_reading : ℕ
-last_reading = 253402300798
+last_reading = last_moment - 1
 
 -- what is taken of a clock's reading
 abbrev pub cut : ℕ → ℕ

@@ -1,31 +1,23 @@
 -- The entity that nothing has happened to yet.
-use Rattle.std.specs.Prelude.{ℕ, pos, List, [], ◌∷◌, codes}
+use Rattle.std.specs.Prelude.{ℕ, List, [], ◌∷◌, codes}
 use Rattle.m2m_names.specs.Stamps.{last_moment}
 use Rattle.m2m_names.specs.declared.attributes.Attr.TheVariants.{Acpi, Pv, Pvs}
 use Rattle.m2m_names.specs.declared.types.Ty.TheVariants.{AccessControlPolicy, CseBase}
-use Rattle.m2m_value.specs.Data.{Data, number, text, list, object, elements_of, pairs_of}
+use Rattle.m2m_value.specs.Data.{Data, text, list, elements_of}
 use Rattle.resource_model.specs.Attributes.{Row}
 use Rattle.resource_model.specs.Home.{HomeData}
 use Rattle.resource_model.specs.Resource.{ResourceData}
+use Rattle.policy_eval.specs.Rules.{all_bits, written_rule, written_rules}
+use Rattle.policy_eval.specs.Rights.{create_bit}
 use Rattle.entity_model.specs.Entity.{EntityData, cut}
-
--- a rule that gives one originator these bits, as it is written (TS-0001, 9.6.2.1)
-abbrev pub written_rule : List ℕ → ℕ → Data
-written_rule who bits =
-    object (pairs_of (
-    (codes "acop", number (pos bits)) ∷ (codes "acor", list (elements_of (text who ∷ []))) ∷ []))
-
--- the value of `pv` or `pvs` that has these rules
-abbrev pub written_rules : List Data → Data
-written_rules rules = object (pairs_of ((codes "acr", list (elements_of rules)) ∷ []))
 
 -- the administrator may do all
 abbrev pub admin_rule : HomeData → Data
-admin_rule home = written_rule home.admin 63
+admin_rule home = written_rule home.admin all_bits
 
 -- everyone may create
 abbrev pub entry_rule : Data
-entry_rule = written_rule (codes "all") 1
+entry_rule = written_rule (codes "all") create_bit
 
 -- what the administrator's policy gives, and who may change it
 abbrev pub opening_pv : HomeData → Data

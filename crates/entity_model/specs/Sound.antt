@@ -1,6 +1,6 @@
 -- Which entities are sound: what holds of an entity at every moment.
 use Rattle.std.specs.Prelude.{◌≡◌, ℕ, ◌-◌, ◌^◌, ◌≤◌, nat_le, nat_lt, Bool, true, false, not, ◌&&◌}
-use Rattle.std.specs.Prelude.{◌||◌, List, [], ◌∷◌, ◌++◌, length, codes, Option}
+use Rattle.std.specs.Prelude.{◌||◌, List, [], ◌∷◌, ◌++◌, length, codes}
 use Rattle.std.specs.Prelude.{option_and_then, IsTrue}
 use Rattle.std.specs.List.{filter_map, list_all, list_any}
 use Rattle.std.specs.Option.{option_map_or}
@@ -12,11 +12,13 @@ use Rattle.m2m_value.specs.View.{as_text}
 use Rattle.resource_model.specs.Attributes.{count_at}
 use Rattle.resource_model.specs.Home.{HomeData}
 use Rattle.resource_model.specs.Resource.{ResourceData, is_ty, cse_id}
-use Rattle.tree_model.specs.Tree.{channels_of, instances_of, size_of, sizes_of, depth, is_due}
+use Rattle.tree_model.specs.Tree.{channels_of, instances_of, size_of, sizes_of, depth}
 use Rattle.tree_model.specs.Tree.{are_below, is_well_formed}
 use Rattle.attribute_rules.specs.Kinds.{are_kinds}
+use Rattle.container_limits.specs.Limits.{is_within}
 use Rattle.policy_eval.specs.Rules.{policy_number, ids_at}
 use Rattle.entity_model.specs.Entity.{EntityData, last_reading}
+use Rattle.entity_model.specs.Expiry.{is_some_due}
 
 -- ---- numbers
 
@@ -49,17 +51,13 @@ greatest_count = 100000
 abbrev pub is_shallow : List ResourceData → ResourceData → Bool
 is_shallow nodes r = nat_le (depth r.number nodes) greatest_depth
 
--- a number is at most a limit, where there is one
-abbrev pub is_within : Option ℕ → ℕ → Bool
-is_within limit n = option_map_or (nat_le n) limit true
-
 -- The instances of a container are within its `mni` and its `mbs` (TS-0001, 9.6.6). So the longest
 -- run of the newest of them that is within both is all of them.
 abbrev pub is_within_limits : List ResourceData → ResourceData → Bool
 is_within_limits nodes r =
     not (is_ty r.ty Container)
-    || (is_within (count_at Mni r.attrs) (length (instances_of r.number nodes))
-    && is_within (count_at Mbs r.attrs) (sizes_of r.number nodes))
+    || (is_within (length (instances_of r.number nodes)) (count_at Mni r.attrs)
+    && is_within (sizes_of r.number nodes) (count_at Mbs r.attrs))
 
 -- ---- who stands once
 
@@ -113,4 +111,4 @@ pub record IsSound (e : EntityData) : Type 0 where
   pub limits : IsTrue (list_all (is_within_limits e.nodes) e.nodes)
   -- nothing is due at the last moment
   pub last : e.last ≤ last_reading
-  pub due : list_any (is_due e.nodes e.last) e.nodes ≡ false
+  pub due : is_some_due e.nodes e.last ≡ false

@@ -2,8 +2,10 @@
 ghost use Rattle.std.specs.Prelude.{◌≡◌};
 ghost use Rattle.entity_model.specs.Entity as spec;
 
-// The last moment of an event, in seconds since 1970.
-const LAST_READING: u64 = 253_402_300_798;
+use m2m_names::LAST_MOMENT;
+
+// The last moment of an event, in seconds since 1970: a second before the last timestamp.
+const LAST_READING: u64 = LAST_MOMENT - 1;
 
 // What is taken of a clock's reading.
 pub(crate) fn cut(reading: u64) -> u64

@@ -3,6 +3,7 @@ ghost use Rattle.std.specs.Prelude.{◌≡◌, ◌≤◌, [], ◌∷◌, ◌++�
 ghost use Rattle.m2m_names.specs.Stamps.{last_moment};
 ghost use Rattle.m2m_value.specs.Data as json;
 ghost use Rattle.tree_model.specs.Tree.{fits};
+ghost use Rattle.policy_eval.specs.Rules as policies;
 ghost use Rattle.entity_model.specs.Opening as spec;
 
 use m2m_names::{Attr, LAST_MOMENT, Ty};
@@ -22,7 +23,7 @@ fn list_of(alloc: Global, text: Text) -> Result<Val, OutOfMemory>
 
 fn written_rule(alloc: Global, who: Text, bits: u32) -> Result<Val, OutOfMemory>
     requires { IsUtf8 who }
-    ensures { IfOk result (λ v. v ≡ spec.written_rule who bits) }
+    ensures { IfOk result (λ v. v ≡ policies.written_rule who bits) }
 {
     let mut members = Vec::with_capacity(alloc, 2)?;
     members.push((Text::from_slice(alloc, b"acop")?, Val::of_num(bits as i64)))?;
@@ -31,7 +32,7 @@ fn written_rule(alloc: Global, who: Text, bits: u32) -> Result<Val, OutOfMemory>
 }
 
 fn written_rules(alloc: Global, rules: Vec<Val>) -> Result<Val, OutOfMemory>
-    ensures { IfOk result (λ v. v ≡ spec.written_rules rules.items) }
+    ensures { IfOk result (λ v. v ≡ policies.written_rules rules.items) }
 {
     let mut members = Vec::with_capacity(alloc, 1)?;
     members.push((
