@@ -76,8 +76,10 @@ impl Tank {
 }
 
 impl Object for Tank {
-    ghost use Rattle.tests_of_streams.specs.declared.of_turn_desk.tank.Order.TheVariants.{Fill, Look};
-    ghost use Rattle.tests_of_streams.specs.declared.of_turn_desk.tank.Answer.TheVariants.{Level, Full};
+    ghost use Rattle.tests_of_streams.specs.declared.of_turn_desk.tank.Order.TheVariants.{Fill};
+    ghost use Rattle.tests_of_streams.specs.declared.of_turn_desk.tank.Order.TheVariants.{Look};
+    ghost use Rattle.tests_of_streams.specs.declared.of_turn_desk.tank.Answer.TheVariants.{Full};
+    ghost use Rattle.tests_of_streams.specs.declared.of_turn_desk.tank.Answer.TheVariants.{Level};
     ghost use Rattle.std.specs.Prelude.{◌≡◌, ◌+◌, ◌<◌, ◌≤◌, ◌⊎◌};
 
     type Event = Order;
