@@ -10,8 +10,8 @@ use Rattle.primitive_json.specs.declared.request.RequestParts.{RequestParts}
 use Rattle.resource_model.specs.Resource.{ResourceData}
 use Rattle.tree_model.specs.Shown.{attributes_of, shown_rows}
 use Rattle.tree_model.specs.Tree.{at}
-use Rattle.create_delete.specs.Entity.{EntityData}
-use Rattle.create_delete.specs.Places.{reply_to, refusal, refused, Effect}
+use Rattle.entity_model.specs.Entity.{EntityData}
+use Rattle.entity_model.specs.Places.{reply_to, refusal, refused, Effect}
 use Rattle.cse_machine.specs.Answer.{retrieved, effect_of}
 use Rattle.cse_machine.specs.Contents.{ids_below, references_in, addresses_in}
 use Rattle.cse_machine.specs.Guard.{is_success, DoesShow, HasRight, IsShownByRight, OthersAreShownByRight, IsNew, IsGone, IsChanged, IsGuarded}

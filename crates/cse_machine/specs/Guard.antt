@@ -24,7 +24,7 @@ use Rattle.tree_model.specs.Tree.{at, is_instance, line_of}
 use Rattle.policy_eval.specs.Alike.{is_one_of}
 use Rattle.policy_eval.specs.Rights.{relinks}
 use Rattle.policy_eval.specs.Seen.{discovery_bit}
-use Rattle.create_delete.specs.Entity.{EntityData, swept}
+use Rattle.entity_model.specs.Entity.{EntityData, swept}
 use Rattle.cse_machine.specs.declared.event.Event.{Event}
 use Rattle.cse_machine.specs.declared.event.Event.TheVariants.{Ask}
 use Rattle.cse_machine.specs.declared.event.Outcome.{Outcome}

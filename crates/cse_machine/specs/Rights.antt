@@ -17,7 +17,7 @@ use Rattle.primitive_json.specs.declared.filter.FilterUsage.TheVariants.{Discove
 use Rattle.primitive_json.specs.declared.request.RequestParts.{RequestParts}
 use Rattle.policy_eval.specs.Rights.{grants, relinks}
 use Rattle.policy_eval.specs.Seen.{discovery_bit}
-use Rattle.create_delete.specs.Entity.{EntityData}
+use Rattle.entity_model.specs.Entity.{EntityData}
 
 -- whom a request is judged as: without an originator as `C`, from an application entity that
 -- registers (TS-0001, 10.2.2.2)

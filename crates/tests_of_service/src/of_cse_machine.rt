@@ -1,8 +1,8 @@
 //! An entity that is asked one request after another.
 ghost use Rattle.std.specs.Prelude.{◌≡◌, IfOk, IsUtf8};
 
-use create_delete::Entity;
 use cse_machine::{Event, Outcome, step};
+use entity_model::Entity;
 use m2m_names::Op;
 use m2m_value::{Text, write};
 use plain_tree::ListTree;

@@ -1,7 +1,7 @@
 //! One connection of two streams.
 use crate::samples::NOT_FOUND;
-use create_delete::Entity;
 use cse_server::{Bench, Ended, Served, Wire, serve_connection};
+use entity_model::Entity;
 use m2m_io::{MemClock, MemLink, MemSink, MemSource};
 use plain_tree::ListTree;
 use std::alloc::{AllocError, Global};

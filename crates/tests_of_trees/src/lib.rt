@@ -1,5 +1,5 @@
 //! The tests of trees of resources: of the libraries `tree_model`, `container_limits`,
-//! `policy_eval`, `addressing` and `create_delete`, over their public calls. Each has a small tree
+//! `policy_eval`, `addressing` and `entity_model`, over their public calls. Each has a small tree
 //! whose answers were worked out by hand. Without its tests this library is empty, and no crate
 //! stands on it.
 #![tactic(auto)]
@@ -9,7 +9,7 @@ mod of_addressing;
 #[cfg(test)]
 mod of_container_limits;
 #[cfg(test)]
-mod of_create_delete;
+mod of_entity_model;
 #[cfg(test)]
 mod of_policy_eval;
 #[cfg(test)]
