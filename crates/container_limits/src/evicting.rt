@@ -1,6 +1,6 @@
 // What the limits of a container push out.
-ghost use Rattle.std.specs.Prelude.{◌≡◌, ◌≢◌, ◌^◌, ◌<◌, [], ◌∷◌, ◌++◌, length, filter, sum_by, drop};
-ghost use Rattle.std.specs.Prelude.{option_map, option_to_list, IfOk, OnOk, OnErr};
+ghost use Rattle.std.specs.Prelude.{◌≡◌, ◌≢◌, ◌^◌, ◌<◌, [], ◌∷◌, ◌++◌, length, filter};
+ghost use Rattle.std.specs.Prelude.{sum_by, drop, option_map, option_to_list, IfOk, OnOk, OnErr};
 ghost use Rattle.tree_model.specs.Tree.{instances_of, size_of};
 ghost use Rattle.container_limits.specs.Limits.{lasts, goes, going, kept, evicted, numbers_of};
 ghost use Rattle.container_limits.specs.Limits.{IsQuiet};

@@ -4,7 +4,8 @@ ghost use Rattle.std.specs.Prelude.{slice_get, IsTrue, OnOk, OnErr, IfErr, Some,
 ghost use Rattle.m2m_names.specs.Stamps.{last_moment};
 ghost use Rattle.resource_model.specs.Resource.{ResourceData, has_number};
 ghost use Rattle.tree_model.specs.Tree.{at, has, child_of, children_of, subs_of, number_at};
-ghost use Rattle.tree_model.specs.Tree.{instance_of, instances_of, sizes_of, ae_of, cse_of, channel_of};
+ghost use Rattle.tree_model.specs.Tree.{instance_of, instances_of, sizes_of, ae_of, cse_of};
+ghost use Rattle.tree_model.specs.Tree.{channel_of};
 ghost use Rattle.tree_model.specs.Tree.{are_quiet, live, replaced, restamped_at, has_state};
 ghost use Rattle.tree_model.specs.Tree.{without, fits, is_tree, standing};
 
