@@ -245,11 +245,18 @@ impl Resource {
     }
 }
 
-/// What happened to a resource.
-#[derive(Drop)]
-pub enum Change {
-    Created(Resource),
-    /// The state before, the state after, and the attributes that the request named.
-    Updated(Resource, Resource, AttrSet),
-    Deleted(Resource),
+/// What happened to a resource. The resources are lent, since a copy of one costs its contents.
+#[derive(Clone, Copy)]
+pub enum Change<'a> {
+    /// It is new.
+    Created(&'a Resource),
+    /// It was changed.
+    Updated {
+        before: &'a Resource,
+        after: &'a Resource,
+        /// The attributes that the request named.
+        named: &'a AttrSet,
+    },
+    /// It is gone, and was this one.
+    Deleted(&'a Resource),
 }
