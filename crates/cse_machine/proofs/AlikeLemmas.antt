@@ -51,8 +51,8 @@ module _ (o : List ℕ) (one other : EntityData) (sound : IsSound one) (sounds :
       ∙ ap (λ (n : ℕ). entity_of other.home (seen_list other.home (live (event_moment other.last reading) other.nodes) o) other.next (event_moment n reading)) same_last
 
   -- a step of both
-  step_alike : (reading : ℕ) (event : Event) (after left : EntityData) (outcome twin : Outcome) → IsBy o event → Step reading event one outcome after → Step reading event other twin left → IsDone outcome → IsDone twin
-      → (outcome ≡ twin) × (sight o after ≡ sight o left) × IsSound after × IsSound left
+  step_alike : (reading : ℕ) (event : Event) (after left : EntityData) (outcome twin : Outcome) → IsBy one.home o event → Step reading event one outcome after → Step reading event other twin left → IsDone outcome → IsDone twin
+      → (outcome ≡ twin) × (sight o after ≡ sight o left) × IsSound after × IsSound left × (one.home ≡ after.home)
   step_alike reading (Ask request) after left (Done reply) (Done replied) by first second done dones =
       let mine : after ≡ swept reading one = first.1 ∙ unchanged (swept reading one) request in
       let theirs : left ≡ swept reading other = second.1 ∙ unchanged (swept reading other) request in (
@@ -60,12 +60,13 @@ module _ (o : List ℕ) (one other : EntityData) (sound : IsSound one) (sounds :
         ap (sight o) mine ∙ swept-alike reading ∙ sym (ap (sight o) theirs),
         subst IsSound (sym mine) (sound_swept reading one sound),
         subst IsSound (sym theirs) (sound_swept reading other sounds),
+        sym (ap (λ (e : EntityData). e.home) mine),
       )
   step_alike reading (Ask request) after left (Done reply) (Starved none) by first second done dones = absurd dones
   step_alike reading (Ask request) after left (Starved none) twin by first second done dones = absurd done
 
 pub stay_alike : (history twin : History) (o : List ℕ) (left right after other : EntityData) → IsSound left → IsSound right → sight o left ≡ sight o right → Leaves left history after → Leaves right twin other
-    → readings_of history ≡ readings_of twin → events_of history ≡ events_of twin → All (IsBy o) (events_of history)
+    → readings_of history ≡ readings_of twin → events_of history ≡ events_of twin → All (IsBy left.home o) (events_of history)
     → All IsDone (outcomes_of history) → All IsDone (outcomes_of twin) → (outcomes_of history ≡ outcomes_of twin) × (sight o after ≡ sight o other)
 stay_alike [] [] o left right after other sound sounds same first second readings events by done dones =
     (refl, ap (sight o) first ∙ same ∙ sym (ap (sight o) second))
@@ -73,7 +74,7 @@ stay_alike [] (t ∷ twin) o left right after other sound sounds same first seco
 stay_alike (h ∷ history) [] o left right after other sound sounds same first second readings events by done dones = absurd (none_some h.reading (readings_of history) (sym readings))
 stay_alike (h ∷ history) (t ∷ twin) o left right after other sound sounds same first second readings events by done dones =
     let step =
-    step_alike o left right sound sounds same h.reading h.event first.0 second.0 h.outcome t.outcome (All-head (IsBy o) h.event (events_of history) by) first.1
+    step_alike o left right sound sounds same h.reading h.event first.0 second.0 h.outcome t.outcome (All-head (IsBy left.home o) h.event (events_of history) by) first.1
     (subst (λ (n : ℕ). Step n h.event right t.outcome second.0) (sym (same_first h.reading t.reading (readings_of history) (readings_of twin) readings))
     (subst (λ (v : Event). Step t.reading v right t.outcome second.0) (sym (same_first h.event t.event (events_of history) (events_of twin) events)) second.1))
     (All-head IsDone h.outcome (outcomes_of history) done) (All-head IsDone t.outcome (outcomes_of twin) dones) in
@@ -81,6 +82,6 @@ stay_alike (h ∷ history) (t ∷ twin) o left right after other sound sounds sa
     stay_alike history twin o first.0 second.0 after other step.2 step.3 step.1 first.2 second.2
     (same_rest h.reading t.reading (readings_of history) (readings_of twin) readings)
     (same_rest h.event t.event (events_of history) (events_of twin) events)
-    (All-tail (IsBy o) h.event (events_of history) by)
+    (subst (λ (home : HomeData). All (IsBy home o) (events_of history)) step.4 (All-tail (IsBy left.home o) h.event (events_of history) by))
     (All-tail IsDone h.outcome (outcomes_of history) done) (All-tail IsDone t.outcome (outcomes_of twin) dones) in
     (ap (λ (out : Outcome). out ∷ outcomes_of history) step.0 ∙ ap (λ (os : List Outcome). t.outcome ∷ os) rest.0, rest.1)

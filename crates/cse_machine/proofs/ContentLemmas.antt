@@ -14,7 +14,7 @@ use Rattle.m2m_value.specs.Data.{Data, object, pairs_of}
 use Rattle.resource_model.specs.Attributes.{Row}
 use Rattle.tree_model.specs.Shown.{members_of, wrapped}
 use Rattle.policy_eval.specs.Rules.{member_at}
-use Rattle.cse_machine.specs.Contents.{is_type_name, objects_under, unframed, ids_shown, ids_below, references_shown, references_in, addresses_in}
+use Rattle.cse_machine.specs.Contents.{is_type_name, values_under, unframed, ids_shown, ids_below, references_shown, references_in, addresses_in}
 
 -- what passes one test in a list whose elements all pass another passes that one
 found_passes : (p q : Attr → Bool) (xs : List Attr) (a : Attr) → find p xs ≡ Some a → list_all q xs ≡ true → q a ≡ true
@@ -37,7 +37,7 @@ no_type_name a = not-true _ (and_parts (not (is_type_name (attr_short a))) _ (pl
 no_reference_name : (a : Attr) → bytes_eq (codes "ch") (attr_short a) ≡ false
 no_reference_name a = not-true _ (and_parts (not (is_type_name (attr_short a))) _ (plain_name a)).1
 
-none_under : (rows : List Row) → objects_under (pairs_of (members_of rows)) ≡ []
+none_under : (rows : List Row) → values_under (pairs_of (members_of rows)) ≡ []
 none_under [] = refl
 none_under (row ∷ rows) = rw (no_type_name row.0) (none_under rows)
 

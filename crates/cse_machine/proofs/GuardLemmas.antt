@@ -12,10 +12,12 @@ use Rattle.tree_model.specs.Shown.{attributes_of, shown_rows}
 use Rattle.tree_model.specs.Tree.{at}
 use Rattle.entity_model.specs.Entity.{EntityData}
 use Rattle.entity_model.specs.Places.{reply_to, refusal, refused, Effect}
-use Rattle.cse_machine.specs.Answer.{retrieved, effect_of}
+use Rattle.cse_machine.specs.Answer.{is_served, retrieved, effect_of}
 use Rattle.cse_machine.specs.Contents.{ids_below, references_in, addresses_in}
-use Rattle.cse_machine.specs.Guard.{is_success, DoesShow, HasRight, IsShownByRight, OthersAreShownByRight, IsNew, IsGone, IsChanged, IsGuardedAlone, IsGuarded}
+use Rattle.cse_machine.specs.Guard.{is_success, DoesShow, HasRight, IsShownByRight, OthersAreShownByRight, IsNew, IsGone, IsChanged, IsGuardedAlone, fanned, IsGuardedAt, IsGuarded}
+use Rattle.cse_machine.proofs.AddressLemmas.{name_fans_none}
 use Rattle.cse_machine.proofs.ContentLemmas.{no_ids, no_references, no_addresses, nothing_in}
+use Rattle.cse_machine.proofs.ServedLemmas.{served_name}
 use Rattle.cse_machine.proofs.WayLemmas.{IsRefused, IsRetrieved, two_ways}
 
 -- a refusal shows nothing
@@ -72,17 +74,29 @@ retrieved_guarded e request target right =
     (tells_nothing e request (ids_below content) (references_in content) (addresses_in content)
     (no_ids target.ty rows) (no_references target.ty rows) (no_addresses target.ty rows))
 
-guarded_alone : (e : EntityData) (request : RequestParts) → IsGuardedIn e request (effect_of e request)
-guarded_alone e request = elim (two_ways e request) [
-  | inl refusal ↦ subst (IsGuardedIn e request) (sym refusal.2) (refused_guarded e request refusal.0 refusal.1)
-  | inr way ↦
-      subst (IsGuardedIn e request) (sym way.is)
-      (retrieved_guarded e request way.target (record { target = way.target; named = way.named; right = way.right }))
-]
+-- the same where the address names the fan-out point of a group, or none
+abbrev IsGuardedBy : EntityData → RequestParts → Effect → Option ℕ → Type 0
+IsGuardedBy e request effect group = IsGuardedAt group e request effect.reply effect.after
 
--- so far each request is one operation
+refused_by : (e : EntityData) (request : RequestParts) (fault : Rsc) (group : Option ℕ) → is_success fault ≡ false → IsGuardedBy e request (refused e request fault) group
+refused_by e request fault None other = refused_guarded e request fault other
+refused_by e request fault (Some n) other = inl ((λ shows. shows_none request fault other shows), refl)
+
+-- so far what isn't refused addresses no fan-out point
+retrieved_by : (e : EntityData) (request : RequestParts) (target : ResourceData) → is_served request ≡ true → HasRight e request → IsGuardedBy e request (retrieved e request target) (fanned e request.to)
+retrieved_by e request target served right =
+    subst (IsGuardedBy e request (retrieved e request target)) (sym (name_fans_none e request.to (served_name request served)))
+    (retrieved_guarded e request target right)
+
 pub guarded : (e : EntityData) (request : RequestParts) → IsGuarded e request (effect_of e request).reply (effect_of e request).after
-guarded e request = inl (guarded_alone e request)
+guarded e request = elim (two_ways e request) [
+  | inl refusal ↦
+      subst (λ (effect : Effect). IsGuardedBy e request effect (fanned e request.to)) (sym refusal.2)
+      (refused_by e request refusal.0 (fanned e request.to) refusal.1)
+  | inr way ↦
+      subst (λ (effect : Effect). IsGuardedBy e request effect (fanned e request.to)) (sym way.is)
+      (retrieved_by e request way.target way.served (record { target = way.target; named = way.named; right = way.right }))
+]
 
 -- so far no request changes anything
 pub unchanged : (e : EntityData) (request : RequestParts) → (effect_of e request).after ≡ e

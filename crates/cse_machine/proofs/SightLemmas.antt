@@ -1,6 +1,6 @@
 -- An originator is answered the same on what it sees.
-use Rattle.std.specs.Prelude.{bytes_eq, codes, unwrap_or}
-use Rattle.std.proofs.Common.{◌≡◌, ℕ, List, Bool, true, false, Option, Some, None, option_map, inl, inr, refl, sym, ap, ◌∙◌}
+use Rattle.std.specs.Prelude.{bytes_eq}
+use Rattle.std.proofs.Common.{◌≡◌, ℕ, List, Bool, true, false, Option, Some, None, option_map, inl, inr, refl, sym, ap, subst, ◌∙◌}
 use Rattle.std.proofs.lemmas.Bool.{cases_Bool, or_cases, not-true, true≢false}
 use Rattle.std.proofs.lemmas.Option.{slice_get-map}
 use Rattle.std.specs.List.{slice_get}
@@ -8,6 +8,7 @@ use Rattle.m2m_names.specs.declared.codes.Rsc.TheVariants.{Ok as Fine, BadReques
 use Rattle.m2m_value.specs.Data.{Data}
 use Rattle.primitive_json.specs.declared.reply.ReplyParts.{ReplyParts}
 use Rattle.primitive_json.specs.declared.request.RequestParts.{RequestParts}
+use Rattle.resource_model.specs.Home.{HomeData}
 use Rattle.resource_model.specs.Resource.{ResourceData}
 use Rattle.tree_model.specs.Shown.{attributes_of}
 use Rattle.tree_model.specs.Tree.{at}
@@ -43,12 +44,12 @@ unserved_reply e request f = rw f refl
 -- ---- requests
 
 -- a plain Retrieve by the originator
-abbrev IsPlainBy : List ℕ → RequestParts → Type 0
-IsPlainBy o request = (request.fr ≡ Some o) × (is_plain_retrieve request ≡ true)
+abbrev IsPlainBy : HomeData → List ℕ → RequestParts → Type 0
+IsPlainBy home o request = (claimed_originator home request ≡ o) × (is_plain_retrieve request ≡ true)
 
 -- what is served of the requests that are covered
-plain_by : (o : List ℕ) (request : RequestParts) → IsRequestBy o request → is_served request ≡ true → IsPlainBy o request
-plain_by o request by served = (
+plain_by : (home : HomeData) (o : List ℕ) (request : RequestParts) → IsRequestBy home o request → is_served request ≡ true → IsPlainBy home o request
+plain_by home o request by served = (
   elim by.1 [
     | inl own ↦ own
     | inr other ↦ absurd (true≢false (sym served ∙ other))
@@ -83,17 +84,17 @@ module _ (e : EntityData) (o : List ℕ) (reading : ℕ) (sound : IsSound e) whe
   ]
 
   -- the right that its request needs is the same
-  right_by : (seeing : EntityData) (request : RequestParts) (n : ℕ) → IsPlainBy o request → has_right seeing request n ≡ grants seeing.home seeing.nodes o retrieve_bit n
+  right_by : (seeing : EntityData) (request : RequestParts) (n : ℕ) → IsPlainBy seeing.home o request → has_right seeing request n ≡ grants seeing.home seeing.nodes o retrieve_bit n
   right_by seeing request n by =
       served_right request by.1 seeing n
-      ∙ ap (λ (fr : Option (List ℕ)). grants seeing.home seeing.nodes (unwrap_or fr (codes "C")) retrieve_bit n) by.0
+      ∙ ap (λ (text : List ℕ). grants seeing.home seeing.nodes text retrieve_bit n) by.0
 
-  right_seen : (request : RequestParts) (n : ℕ) → IsPlainBy o request → has_right shown request n ≡ has_right left request n
+  right_seen : (request : RequestParts) (n : ℕ) → IsPlainBy e.home o request → has_right shown request n ≡ has_right left request n
   right_seen request n by =
       right_by shown request n by ∙ grants-live e.home e.nodes o sound.tree moment retrieve_bit n ∙ sym (right_by left request n by)
 
   -- the reply of one operation is the same
-  operated_seen : (request : RequestParts) (r : ResourceData) → IsPlainBy o request → at r.number left.nodes ≡ Some r → (operated shown request (see r)).reply ≡ (operated left request r).reply
+  operated_seen : (request : RequestParts) (r : ResourceData) → IsPlainBy e.home o request → at r.number left.nodes ≡ Some r → (operated shown request (see r)).reply ≡ (operated left request r).reply
   operated_seen request r by there = elim (cases_Bool (has_right left request r.number)) [
     | inl t ↦
         reply_with_right shown request (see r) (right_seen request r.number by ∙ t)
@@ -102,30 +103,30 @@ module _ (e : EntityData) (o : List ℕ) (reading : ℕ) (sound : IsSound e) whe
     | inr f ↦ reply_without shown request (see r) (right_seen request r.number by ∙ f) ∙ sym (reply_without left request r f)
   ]
 
-  reached_seen : (request : RequestParts) (target : Option ResourceData) → IsPlainBy o request → ((r : ResourceData) → target ≡ Some r → at r.number left.nodes ≡ Some r)
+  reached_seen : (request : RequestParts) (target : Option ResourceData) → IsPlainBy e.home o request → ((r : ResourceData) → target ≡ Some r → at r.number left.nodes ≡ Some r)
       → (reached shown request (option_map see target)).reply ≡ (reached left request target).reply
   reached_seen request None by there = refl
   reached_seen request (Some r) by there = operated_seen request r by (there r refl)
 
   -- what is served is answered the same, and so is what isn't
-  served_seen : (request : RequestParts) → IsPlainBy o request → is_served request ≡ true → (effect_of shown request).reply ≡ (effect_of left request).reply
+  served_seen : (request : RequestParts) → IsPlainBy e.home o request → is_served request ≡ true → (effect_of shown request).reply ≡ (effect_of left request).reply
   served_seen request by served =
       served_reply shown request served
       ∙ ap (λ (t : Option ResourceData). (reached shown request t).reply) (addressed_seen request.to)
       ∙ reached_seen request (addressed left request.to) by (addressed_at left request.to)
       ∙ sym (served_reply left request served)
 
-  pub reply-seen : (request : RequestParts) → IsRequestBy o request → (effect_of shown request).reply ≡ (effect_of left request).reply
+  pub reply-seen : (request : RequestParts) → IsRequestBy e.home o request → (effect_of shown request).reply ≡ (effect_of left request).reply
   reply-seen request by = elim (cases_Bool (is_served request)) [
-    | inl served ↦ served_seen request (plain_by o request by served) served
+    | inl served ↦ served_seen request (plain_by e.home o request by served) served
     | inr other ↦ unserved_reply shown request other ∙ sym (unserved_reply left request other)
   ]
 
-pub replies-alike : (one other : EntityData) (o : List ℕ) (reading : ℕ) (request : RequestParts) → IsSound one → IsSound other → sight o one ≡ sight o other → IsRequestBy o request → (effect_of (swept reading one) request).reply ≡ (effect_of (swept reading other) request).reply
+pub replies-alike : (one other : EntityData) (o : List ℕ) (reading : ℕ) (request : RequestParts) → IsSound one → IsSound other → sight o one ≡ sight o other → IsRequestBy one.home o request → (effect_of (swept reading one) request).reply ≡ (effect_of (swept reading other) request).reply
 replies-alike one other o reading request sound sounds same by =
     sym (reply-seen one o reading sound request by)
     ∙ ap (λ (e : EntityData). (effect_of (swept reading e) request).reply) same
-    ∙ reply-seen other o reading sounds request by
+    ∙ reply-seen other o reading sounds request (subst (λ (h : HomeData). IsRequestBy h o request) (ap (λ (e : EntityData). e.home) same) by)
 
 -- ---- the shape
 

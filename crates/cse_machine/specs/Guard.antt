@@ -1,7 +1,7 @@
 -- What a request may show, and what it may change.
 use Rattle.std.specs.Prelude.{◌≡◌, ◌≢◌, ◌⊎◌, ℕ, Bool, false, ◌||◌, List, [], ◌∷◌, ◌++◌, Contains}
-use Rattle.std.specs.Prelude.{Option, Some, None, option_and_then, Result, Ok, Err, IsTrue, bytes_eq}
-use Rattle.std.specs.Prelude.{map, if◌then◌else◌}
+use Rattle.std.specs.Prelude.{Option, Some, None, option_and_then, IsTrue, bytes_eq, codes, map}
+use Rattle.std.specs.Prelude.{if◌then◌else◌}
 use Rattle.std.specs.Int.{is_in_range}
 use Rattle.std.specs.List.{All, list_any}
 use Rattle.std.specs.Option.{option_map_or}
@@ -12,10 +12,13 @@ use Rattle.m2m_names.specs.declared.types.Ty.TheVariants.{Container}
 use Rattle.m2m_names.specs.Operations.{op_row}
 use Rattle.m2m_names.specs.StatusCodes.{rsc_row}
 use Rattle.m2m_names.specs.declared.codes.Rsc.{Rsc}
+use Rattle.m2m_names.specs.declared.codes.Rsc.TheVariants.{Ok as Fine}
 use Rattle.m2m_names.specs.declared.operations.Op.{Op}
 use Rattle.m2m_names.specs.declared.operations.Op.TheVariants.{Create, Retrieve, Update, Delete}
 use Rattle.m2m_names.specs.declared.operations.Op.TheVariants.{Notify}
-use Rattle.m2m_value.specs.Data.{Data}
+use Rattle.m2m_value.specs.Data.{Data, text, list, object, elements_of, pairs_of}
+use Rattle.filter_criteria.specs.Values.{object_of}
+use Rattle.primitive_json.specs.Writing.{reply_rows}
 use Rattle.primitive_json.specs.declared.reply.ReplyParts.{ReplyParts}
 use Rattle.primitive_json.specs.declared.request.RequestParts.{RequestParts}
 use Rattle.resource_model.specs.Attributes.{value_of}
@@ -24,19 +27,18 @@ use Rattle.turn_desk.specs.Entries.{entry_of}
 use Rattle.tree_model.specs.Tree.{at, is_instance, line_of}
 use Rattle.policy_eval.specs.Alike.{is_one_of}
 use Rattle.policy_eval.specs.Rights.{discovery_bit, relinks, fan_grants}
-use Rattle.addressing.specs.Addresses.{address_of}
-use Rattle.addressing.specs.Names.{segments_of, spot_of, structured_of}
-use Rattle.addressing.specs.declared.addr.Addr.{Addr}
-use Rattle.addressing.specs.declared.addr.AddrFault.{AddrFault}
+use Rattle.addressing.specs.Laws.{named_by}
+use Rattle.addressing.specs.Names.{structured_of}
 use Rattle.addressing.specs.declared.spot.Spot.{Spot}
 use Rattle.addressing.specs.declared.spot.Spot.TheVariants.{Resource, Fan, Poll}
 use Rattle.entity_model.specs.Entity.{EntityData, swept}
+use Rattle.entity_model.specs.Places.{reply_to}
 use Rattle.cse_machine.specs.declared.event.Event.{Event}
 use Rattle.cse_machine.specs.declared.event.Event.TheVariants.{Ask}
 use Rattle.cse_machine.specs.declared.event.Outcome.{Outcome}
 use Rattle.cse_machine.specs.declared.event.Outcome.TheVariants.{Done, Starved}
 use Rattle.cse_machine.specs.Answer.{addressed}
-use Rattle.cse_machine.specs.Contents.{ids_below, references_in, addresses_in, gathered_in}
+use Rattle.cse_machine.specs.Contents.{ids_below, references_in, addresses_in}
 use Rattle.cse_machine.specs.History.{History, Leaves}
 use Rattle.cse_machine.specs.Rights.{claimed_originator, is_granted, has_right}
 use Rattle.cse_machine.specs.Step.{Step}
@@ -133,7 +135,8 @@ abbrev pub IsChangedByRight :
     EntityData → RequestParts → EntityData → ResourceData → ResourceData → Type 0
 IsChangedByRight before request after r s =
     (IsTrue (is_granted before request (op_row Update).bit r.number) × IsUpdated r s)
-    ⊎ ((IsTrue (relinks before.home before.nodes (claimed_originator request) r.number)
+    ⊎ ((IsTrue (relinks before.home before.nodes (claimed_originator before.home request)
+    r.number)
     × DiffersIn (link_attrs r.ty) r s)
     ⊎ ((i : ResourceData) × IsNew before.nodes after.nodes i × IsTrue (is_instance r.number i)
     × DiffersIn filling_attrs r s))
@@ -160,7 +163,8 @@ pub record IsRemovedByRight (before : EntityData) (request : RequestParts)
 
 -- ---- what is guarded
 
--- One operation shows and changes nothing but by a grant to the originator, in the entity before it.
+-- One operation shows and changes nothing but by a grant to the originator, in the entity before
+-- it.
 pub record IsGuardedAlone (before : EntityData) (request : RequestParts) (reply : ReplyParts)
     (after : EntityData) : Type 0 where
   pub shown : DoesShow reply → HasRight before request
@@ -181,12 +185,8 @@ fan_group (Resource n) = None
 fan_group (Fan group rest) = Some group
 fan_group (Poll channel) = None
 
-abbrev pub segments_read : Result Addr AddrFault → List (List ℕ)
-segments_read (Ok address) = segments_of address
-segments_read (Err fault) = []
-
 abbrev pub fanned : EntityData → List ℕ → Option ℕ
-fanned e to = option_and_then fan_group (spot_of (segments_read (address_of e.home to)) e.nodes)
+fanned e to = option_and_then fan_group (named_by e.home to e.nodes)
 
 -- the operation on one member: its request, its reply, and the entity after it
 pub record Single : Type 0 where
@@ -205,23 +205,46 @@ AreGuarded before (single ∷ singles) after =
     IsGuardedAlone before single.request single.reply single.after
     × AreGuarded single.after singles after
 
--- A fan-out is done by a grant through the group, and shows and changes what the operations on its
--- members do, each of which is guarded by itself.
-pub record IsGuardedFan (before : EntityData) (request : RequestParts) (reply : ReplyParts)
-    (after : EntityData) : Type 0 where
-  pub group : ℕ
-  pub named : fanned before request.to ≡ Some group
-  pub right : IsTrue (fan_grants before.home before.nodes (claimed_originator request)
-      (op_row request.op).bit group)
+-- what the reply to a fan-out tells of one operation: its reply, and where it went (TS-0004, 7.5.2)
+abbrev pub gathered_one : Single → Data
+gathered_one single =
+    object_of (reply_rows single.reply ++ (codes "to", Some (text single.request.to)) ∷ [])
+
+-- the content of that reply: the operations one after another
+abbrev pub gathered : List Single → Data
+gathered singles =
+    object (pairs_of ((codes "m2m:agr", object (pairs_of (
+    (codes "m2m:rsp", list (elements_of (map gathered_one singles))) ∷ []))) ∷ []))
+
+-- A fan-out is done by a grant through the group of the number, and shows and changes what the
+-- operations on its members do, each of which is guarded by itself.
+pub record IsGuardedFan (group : ℕ) (before : EntityData) (request : RequestParts)
+    (reply : ReplyParts) (after : EntityData) : Type 0 where
+  pub right : IsTrue (fan_grants before.home before.nodes
+      (claimed_originator before.home request) (op_row request.op).bit group)
   pub singles : List Single
   pub same : All (IsSingleOf request) singles
   pub guarded : AreGuarded before singles after
-  pub gathered : option_map_or gathered_in reply.pc [] ≡ map (λ (single : Single). single.reply.pc) singles
+  pub replied : reply ≡ reply_to request Fine (Some (gathered singles))
+
+-- nothing is shown, and nothing changes
+abbrev pub IsWithoutEffect : EntityData → ReplyParts → EntityData → Type 0
+IsWithoutEffect before reply after = (DoesShow reply → ⊥) × (after ≡ before)
+
+-- ---- a request
+
+-- a request that names the fan-out point of this group, or none: it is one operation, or a fan-out
+-- that is refused or done
+abbrev pub IsGuardedAt :
+    Option ℕ → EntityData → RequestParts → ReplyParts → EntityData → Type 0
+IsGuardedAt None before request reply after = IsGuardedAlone before request reply after
+IsGuardedAt (Some group) before request reply after =
+    IsWithoutEffect before reply after ⊎ IsGuardedFan group before request reply after
 
 -- Nothing is shown or changed but by a grant to the originator, in the entity before the request.
 abbrev pub IsGuarded : EntityData → RequestParts → ReplyParts → EntityData → Type 0
 IsGuarded before request reply after =
-    IsGuardedAlone before request reply after ⊎ IsGuardedFan before request reply after
+    IsGuardedAt (fanned before request.to) before request reply after
 
 -- Each step is guarded, in the entity from which what is due is gone.
 abbrev pub StepsAreGuarded : Type 0

@@ -15,17 +15,20 @@ use Rattle.m2m_value.specs.View.{as_object}
 use Rattle.filter_criteria.specs.declared.filter.FilterUsage.{FilterUsage}
 use Rattle.filter_criteria.specs.declared.filter.FilterUsage.TheVariants.{Discovery, Conditional}
 use Rattle.primitive_json.specs.declared.request.RequestParts.{RequestParts}
+use Rattle.resource_model.specs.Home.{HomeData}
 use Rattle.policy_eval.specs.Rights.{discovery_bit, grants, relinks}
+use Rattle.addressing.specs.Short.{shortened}
 use Rattle.entity_model.specs.Entity.{EntityData}
 
--- whom a request is judged as: without an originator as `C`, from an application entity that
--- registers (TS-0001, 10.2.2.2)
-abbrev pub claimed_originator : RequestParts → List ℕ
-claimed_originator request = unwrap_or request.fr (codes "C")
+-- whom a request is judged as, in the short form (TS-0001, 7.2): without an originator as `C`, from
+-- an application entity that registers (TS-0001, 10.2.2.2)
+abbrev pub claimed_originator : HomeData → RequestParts → List ℕ
+claimed_originator home request = shortened home (unwrap_or request.fr (codes "C"))
 
 -- the originator has these bits on the resource of the number
 abbrev pub is_granted : EntityData → RequestParts → ℕ → ℕ → Bool
-is_granted e request bits n = grants e.home e.nodes (claimed_originator request) bits n
+is_granted e request bits n =
+    grants e.home e.nodes (claimed_originator e.home request) bits n
 
 -- ---- kinds of requests
 
@@ -75,7 +78,7 @@ retrieve_bits request = if is_discovery request then discovery_bit else (op_row 
 -- a change of `acpi` alone is judged by who may change it, every other Update by UPDATE
 abbrev pub may_update : EntityData → RequestParts → ℕ → Bool
 may_update e request n =
-    if is_relink request then relinks e.home e.nodes (claimed_originator request) n
+    if is_relink request then relinks e.home e.nodes (claimed_originator e.home request) n
     else is_granted e request (op_row Update).bit n
 
 -- the originator has the right that the operation needs on the resource of the number

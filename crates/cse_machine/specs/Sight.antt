@@ -1,9 +1,10 @@
 -- What an originator sees of an entity, and that it is answered by no more than that.
-use Rattle.std.specs.Prelude.{◌≡◌, ◌⊎◌, ℕ, List, Bool, false, ◌||◌, not, Some, IsTrue}
+use Rattle.std.specs.Prelude.{◌≡◌, ◌⊎◌, ℕ, List, Bool, false, ◌||◌, not, IsTrue}
 use Rattle.std.specs.List.{All}
 use Rattle.turn_desk.specs.Entries.{readings_of, events_of, outcomes_of}
 use Rattle.primitive_json.specs.declared.reply.ReplyParts.{ReplyParts}
 use Rattle.primitive_json.specs.declared.request.RequestParts.{RequestParts}
+use Rattle.resource_model.specs.Home.{HomeData}
 use Rattle.policy_eval.specs.Seen.{seen_list}
 use Rattle.policy_eval.specs.Shape.{shape_list}
 use Rattle.entity_model.specs.Entity.{EntityData, swept}
@@ -13,6 +14,7 @@ use Rattle.cse_machine.specs.declared.event.Event.TheVariants.{Ask}
 use Rattle.cse_machine.specs.declared.event.Outcome.TheVariants.{Done}
 use Rattle.cse_machine.specs.Answer.{is_plain_retrieve, is_served, given}
 use Rattle.cse_machine.specs.History.{History, Leaves, IsDone}
+use Rattle.cse_machine.specs.Rights.{claimed_originator}
 use Rattle.cse_machine.specs.Step.{Step}
 
 -- the entity as the originator sees it: of each resource what it sees whatever its rights, and what
@@ -37,23 +39,25 @@ SightHasItsShape =
 abbrev pub EqualSightsHaveOneShape : Type 0
 EqualSightsHaveOneShape =
     (left right : EntityData) (o : List ℕ)
-    → IsSound left → IsSound right → sight o left ≡ sight o right → shape o left ≡ shape o right
+    → IsSound left → IsSound right → sight o left ≡ sight o right
+    → shape o left ≡ shape o right
 
 -- the requests of which the laws of equal sight speak so far: a plain Retrieve, and what isn't
 -- served, which every entity refuses alike
 abbrev pub is_covered : RequestParts → Bool
 is_covered request = is_plain_retrieve request || not (is_served request)
 
--- the request is one of them, and by this originator, or by anyone where it isn't served
-abbrev pub IsRequestBy : List ℕ → RequestParts → Type 0
-IsRequestBy o request =
-    IsTrue (is_covered request) × ((request.fr ≡ Some o) ⊎ (is_served request ≡ false))
+-- the request is one of them, and judged as this originator's, or anyone's where it isn't served
+abbrev pub IsRequestBy : HomeData → List ℕ → RequestParts → Type 0
+IsRequestBy home o request =
+    IsTrue (is_covered request)
+    × ((claimed_originator home request ≡ o) ⊎ (is_served request ≡ false))
 
 -- On what it sees, an originator is answered the same.
 abbrev pub IsAnsweredBySight : Type 0
 IsAnsweredBySight =
     (e : EntityData) (o : List ℕ) (reading : ℕ) (request : RequestParts)
-    → IsSound e → IsRequestBy o request
+    → IsSound e → IsRequestBy e.home o request
     → (given (swept reading (sight o e)) request).0 ≡ (given (swept reading e) request).0
 
 -- Two entities of which the originator sees the same give it the same reply.
@@ -61,14 +65,15 @@ abbrev pub EqualSightsAnswerAlike : Type 0
 EqualSightsAnswerAlike =
     (left right after other : EntityData) (o : List ℕ)
     (reading : ℕ) (request : RequestParts) (reply replied : ReplyParts)
-    → IsSound left → IsSound right → sight o left ≡ sight o right → IsRequestBy o request
+    → IsSound left → IsSound right → sight o left ≡ sight o right
+    → IsRequestBy left.home o request
     → Step reading (Ask request) left (Done reply) after
     → Step reading (Ask request) right (Done replied) other
     → reply ≡ replied
 
 -- the event is such a request
-abbrev pub IsBy : List ℕ → Event → Type 0
-IsBy o (Ask request) = IsRequestBy o request
+abbrev pub IsBy : HomeData → List ℕ → Event → Type 0
+IsBy home o (Ask request) = IsRequestBy home o request
 
 -- Two entities of which the originator sees the same answer its requests, one after another at the
 -- same readings, alike, where there is memory for all of them; and it sees the same of what they
@@ -79,6 +84,6 @@ EqualSightsStayAlike =
     → IsSound left → IsSound right → sight o left ≡ sight o right
     → Leaves left history after → Leaves right twin other
     → readings_of history ≡ readings_of twin → events_of history ≡ events_of twin
-    → All (IsBy o) (events_of history)
+    → All (IsBy left.home o) (events_of history)
     → All IsDone (outcomes_of history) → All IsDone (outcomes_of twin)
     → (outcomes_of history ≡ outcomes_of twin) × (sight o after ≡ sight o other)

@@ -1,6 +1,5 @@
 //! One event after another.
-ghost use Rattle.std.specs.Prelude.{◌≡◌, IfOk, IsTrue, option_map};
-ghost use Rattle.m2m_names.specs.Name.{is_originator};
+ghost use Rattle.std.specs.Prelude.{◌≡◌, codes, IfOk, IsTrue, option_map, unwrap_or};
 ghost use Rattle.tree_model.specs.Tree.{has};
 ghost use Rattle.entity_model.specs.Places as places;
 ghost use Rattle.entity_model.specs.Places.{first_fault, refusal};
@@ -111,17 +110,18 @@ fn has_right<T: Tree>(entity: &Entity<T>, request: &Request, target: &Resource) 
 
 // Whether the originator has these bits on the resource.
 fn is_granted<T: Tree>(entity: &Entity<T>, request: &Request, bits: u32, target: &Resource) -> bool
-    requires originator { IsTrue (is_originator (rights.claimed_originator request.now)) }
+    requires served { IsTrue (spec.is_served request.now) }
     requires resource { IsTrue (has target.now.number entity.now.nodes) }
     ensures { result ≡ rights.is_granted entity.now request.now bits target.now.number }
 {
-    let o = claimed_originator(request);
+    // That of a served request is short already.
+    let o = given_originator(request);
     granted(&entity.tree, &entity.home, o, bits, target.number())
 }
 
-// Whom the request is judged as.
-fn claimed_originator(request: &Request) -> &[u8]
-    ensures { result.now ≡ rights.claimed_originator request.now }
+// The originator that the request gives.
+fn given_originator(request: &Request) -> &[u8]
+    ensures { result.now ≡ unwrap_or request.now.fr (codes "C") }
 {
     match &request.parts().fr {
         Some(o) => o.entries(),

@@ -54,12 +54,12 @@ ServesGuarded =
     × IsGuarded (swept reading found) request reply left
 
 -- nothing went wrong with the connection: it was closed, or nothing more can be heard
-abbrev pub IsWhole : Ended → Type 0
-IsWhole Closed = ⊤
-IsWhole NoFrame = ⊤
-IsWhole ReadFault = ⊥
-IsWhole WriteFault = ⊥
-IsWhole Memory = ⊥
+abbrev pub IsFaultless : Ended → Type 0
+IsFaultless Closed = ⊤
+IsFaultless NoFrame = ⊤
+IsFaultless ReadFault = ⊥
+IsFaultless WriteFault = ⊥
+IsFaultless Memory = ⊥
 
 -- Two connections were served with one stream at the same readings, the first by the entity `left`,
 -- which it left as `after`, and the second by `right`, which it left as `other`. Nothing went wrong
@@ -87,8 +87,8 @@ pub record ServesBoth (left right after other : EntityData) : Type 0 where
   pub second : Serves (IsOwnRun Step) right other
       (outside (Some stream) (Some old) (Some given) other_link)
       (outside other_rest (Some twin) (Some told) other_made) end
-  pub whole : IsWhole ended
-  pub wholes : IsWhole end
+  pub whole : IsFaultless ended
+  pub wholes : IsFaultless end
   pub done : All IsDone first.asks.outcomes
   pub dones : All IsDone second.asks.outcomes
 
@@ -113,5 +113,5 @@ abbrev pub EqualSightsAreServedAlike : Type 0
 EqualSightsAreServedAlike =
     (left right after other : EntityData) (o : List ℕ) (both : ServesBoth left right after other)
     → IsSound left → IsSound right → sight o left ≡ sight o right
-    → All (IsRequestBy o) (requests_in both.first.heard)
+    → All (IsRequestBy left.home o) (requests_in both.first.heard)
     → AreServedAlike both × (sight o after ≡ sight o other)

@@ -1,10 +1,7 @@
 use Rattle.std.proofs.Common.{ℕ, sym, ap, ◌∙◌}
 use Rattle.cse_machine.specs.Rights.{is_granted}
-use Rattle.cse_machine.proofs.ServedLemmas.{served_originator, served_right}
+use Rattle.cse_machine.proofs.ServedLemmas.{served_right}
 use Rattle.cse_machine.proofs.machine.has_right.Goals as goal
-
-pub is_granted-requires-clause-originator : goal.is_granted-requires-clause-originator
-is_granted-requires-clause-originator g c = served_originator c.args.request.now c.requires.served
 
 -- a served request needs RETRIEVE
 pub returns : goal.returns
