@@ -1,0 +1,9 @@
+pub mod OrderLemmas
+pub mod BelowLemmas
+pub mod PathLemmas
+pub mod TakeLemmas
+pub mod WalkLemmas
+pub mod ReachLemmas
+pub mod ForestLemmas
+pub mod SightLemmas
+pub mod AnswerLemmas

@@ -1,0 +1,130 @@
+//! The walk of a discovery.
+ghost use Rattle.std.specs.Prelude.{◌≡◌, ◌≤◌, ◌<◌, [], ◌∷◌, ◌++◌, OnOk, IsTrue, IsUtf8, Some};
+ghost use Rattle.std.specs.Prelude.{length, map, filter, take};
+ghost use Rattle.m2m_names.specs.Name.{is_originator};
+ghost use Rattle.tree_model.specs.Tree.{at, has, is_tree};
+ghost use Rattle.addressing.specs.Names.{structured_of};
+ghost use Rattle.retrieve_discover.specs.Descendants.{below};
+ghost use Rattle.retrieve_discover.specs.Found as spec;
+
+use crate::conditions::meets;
+use crate::kids::kid_at;
+use crate::paths::{address, go_down};
+use m2m_value::Val;
+use policy_eval::granted;
+use primitive_json::FilterParts;
+use std::alloc::{AllocError as OutOfMemory, Global};
+use tree_model::{Home, Resource, Tree};
+
+/// The bit of DISCOVERY in `acop` (TS-0001, 9.6.2.1.2).
+pub(crate) const DISCOVERY: u32 = 32;
+
+/// What a discovery looks for, by whom, in which form, and how many at most.
+#[derive(Drop)]
+pub(crate) struct Search<'a, T: Tree> {
+    pub tree: &'a T,
+    pub home: &'a Home,
+    pub o: &'a [u8],
+    pub filter: &'a FilterParts,
+    pub by_id: bool,
+    pub limit: usize,
+}
+
+/// Adds what is found below a resource, whose path this is, up to the limit.
+#[cycle(search)]
+pub(crate) fn search_below<T: Tree>(
+    alloc: Global,
+    search: &Search<T>,
+    parent: u64,
+    path: &mut Vec<u8>,
+    found: &mut Vec<Val>,
+) -> Result<(), OutOfMemory>
+    requires tree { IsTrue (is_tree (T.nodes search.now.tree.now)) }
+    requires originator { IsTrue (is_originator search.now.o.now) }
+    requires parent { IsTrue (has parent (T.nodes search.now.tree.now)) }
+    requires path { path.old.items ≡ structured_of parent (T.nodes search.now.tree.now) }
+    requires utf8 { IsUtf8 path.old.items }
+    requires room { length found.old.items ≤ search.now.limit }
+    ensures found { OnOk result (found.new.items ≡ take search.now.limit
+        (found.old.items ++ map (spec.address search.now.by_id (T.nodes search.now.tree.now))
+        (spec.all_found search.now.home.now (T.nodes search.now.tree.now) search.now.o.now
+        search.now.filter.now parent))) }
+    ensures path { OnOk result (path.new.items ≡ path.old.items) }
+{
+    for k in 0..search.tree.len() {
+        if found.len() >= search.limit {
+            return Ok(());
+        }
+        match kid_at(search.tree, parent, k) {
+            Some(child) => visit(alloc, search, child, path, found)?,
+            None => return Ok(()),
+        }
+    }
+    Ok(())
+}
+
+// The same of a child and what stands below it.
+#[cycle(search)]
+fn visit<T: Tree>(
+    alloc: Global,
+    search: &Search<T>,
+    child: &Resource,
+    path: &mut Vec<u8>,
+    found: &mut Vec<Val>,
+) -> Result<(), OutOfMemory>
+    requires tree { IsTrue (is_tree (T.nodes search.now.tree.now)) }
+    requires originator { IsTrue (is_originator search.now.o.now) }
+    requires child { at child.now.number (T.nodes search.now.tree.now) ≡ Some child.now }
+    requires parent { IsTrue (has child.now.parent (T.nodes search.now.tree.now)) }
+    requires path { path.old.items
+        ≡ structured_of child.now.parent (T.nodes search.now.tree.now) }
+    requires utf8 { IsUtf8 path.old.items }
+    requires room { length found.old.items < search.now.limit }
+    ensures found { OnOk result (found.new.items ≡ take search.now.limit
+        (found.old.items ++ map (spec.address search.now.by_id (T.nodes search.now.tree.now))
+        (filter (spec.is_found search.now.home.now (T.nodes search.now.tree.now) search.now.o.now
+        search.now.filter.now)
+        (child.now ∷ below child.now.number (T.nodes search.now.tree.now))))) }
+    ensures path { OnOk result (path.new.items ≡ path.old.items) }
+{
+    let above = path.len();
+    go_down(path, child)?;
+    add_found(alloc, search, child, path, found)?;
+    search_below(alloc, search, child.number(), path, found)?;
+    path.truncate(above);
+    Ok(())
+}
+
+// Adds the address of a resource, whose path this is, where it is found.
+fn add_found<T: Tree>(
+    alloc: Global,
+    search: &Search<T>,
+    resource: &Resource,
+    path: &[u8],
+    found: &mut Vec<Val>,
+) -> Result<(), OutOfMemory>
+    requires originator { IsTrue (is_originator search.now.o.now) }
+    requires resource { IsTrue (has resource.now.number (T.nodes search.now.tree.now)) }
+    requires path { path.now
+        ≡ structured_of resource.now.number (T.nodes search.now.tree.now) }
+    requires utf8 { IsUtf8 path.now }
+    ensures { OnOk result (found.new.items ≡ found.old.items
+        ++ map (spec.address search.now.by_id (T.nodes search.now.tree.now))
+        (filter (spec.is_found search.now.home.now (T.nodes search.now.tree.now) search.now.o.now
+        search.now.filter.now) (resource.now ∷ []))) }
+{
+    if is_found(search, resource) {
+        found.push(address(alloc, search.tree, search.by_id, resource, path)?)?;
+    }
+    Ok(())
+}
+
+fn is_found<T: Tree>(search: &Search<T>, resource: &Resource) -> bool
+    requires originator { IsTrue (is_originator search.now.o.now) }
+    requires resource { IsTrue (has resource.now.number (T.nodes search.now.tree.now)) }
+    ensures { result ≡ spec.is_found search.now.home.now (T.nodes search.now.tree.now)
+        search.now.o.now search.now.filter.now resource.now }
+{
+    granted(search.tree, search.home, search.o, DISCOVERY, resource.number())
+        && meets(search.tree, search.filter, resource)
+}
