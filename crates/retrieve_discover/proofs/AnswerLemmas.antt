@@ -12,6 +12,7 @@ use Rattle.m2m_names.specs.declared.codes.Rsc.TheVariants.{NoPrivilege, NotFound
 use Rattle.m2m_value.specs.Data.{Data, Entry, Pairs, Elements, null, boolean, number, text, list, object, no_pairs, pair, elements_of, pairs_of}
 use Rattle.m2m_value.specs.View.{as_object, entries}
 use Rattle.primitive_json.specs.declared.filter.FilterParts.{FilterParts}
+use Rattle.primitive_json.specs.declared.reply.ReplyParts.{ReplyParts}
 use Rattle.primitive_json.specs.declared.request.RequestParts.{RequestParts}
 use Rattle.resource_model.specs.Attributes.{Row, value_of}
 use Rattle.resource_model.specs.Home.{HomeData}
@@ -22,6 +23,7 @@ use Rattle.tree_model.proofs.GrowthLemmas.{tree_from_well_formed}
 use Rattle.tree_model.proofs.TreeLemmas.{at_number}
 use Rattle.policy_eval.specs.Rights.{grants}
 use Rattle.policy_eval.specs.Seen.{retrieve_bit, may, seen, seen_list}
+use Rattle.policy_eval.proofs.DueLemmas.{due-seen}
 use Rattle.policy_eval.proofs.RetrievedLemmas.{attributes-seen}
 use Rattle.policy_eval.proofs.SeenLemmas.{at-seen, grants-seen, seen_shows}
 use Rattle.retrieve_discover.specs.Conditions.{meets, meets_any}
@@ -29,32 +31,15 @@ use Rattle.retrieve_discover.specs.Contents.{content, may_retrieve, members, mos
 use Rattle.retrieve_discover.specs.Descendants.{Forest, bare, rooted, cut, grown, listed, size_of}
 use Rattle.retrieve_discover.specs.Replies.{is_by_id, refusal, retrieved, retrieved_of, success}
 use Rattle.retrieve_discover.proofs.OrderLemmas.{Each, IsFound, each_found, in_order-tree}
-use Rattle.retrieve_discover.proofs.SightLemmas.{SeesConditions, address-seen, meets-seen}
+use Rattle.retrieve_discover.proofs.ConditionLemmas.{LooksAlike, meets-alike}
+use Rattle.retrieve_discover.proofs.MapLemmas.{children-map, cut-map, filter-map, grown-map, map_forest}
+use Rattle.retrieve_discover.proofs.SightLemmas.{address-seen}
 
--- ---- forests, resource by resource
-
-abbrev map_forest : (ResourceData → ResourceData) → Forest → Forest
-map_forest g bare = bare
-map_forest g (rooted r kids more) = rooted (g r) (map_forest g kids) (map_forest g more)
+-- ---- what holds of each resource of a forest
 
 abbrev AllIn : (ResourceData → Type 0) → Forest → Type 0
 AllIn P bare = Unit {0}
 AllIn P (rooted r kids more) = P r × (AllIn P kids × AllIn P more)
-
-listed-map : (g : ResourceData → ResourceData) (f : Forest) → listed (map_forest g f) ≡ map g (listed f)
-listed-map g bare = refl
-listed-map g (rooted r kids more) =
-    ap (λ rs. g r ∷ rs) (ap (λ rs. rs ++ listed (map_forest g more)) (listed-map g kids) ∙ ap (λ rs. map g (listed kids) ++ rs) (listed-map g more) ∙ sym (map-append g (listed kids) (listed more)))
-
-size-map : (g : ResourceData → ResourceData) (f : Forest) → size_of (map_forest g f) ≡ size_of f
-size-map g f = ap (λ (rs : List ResourceData). length rs) (listed-map g f) ∙ length-map (listed f) g
-
-cut-map : (g : ResourceData → ResourceData) (f : Forest) (m : ℕ) → cut (map_forest g f) m ≡ map_forest g (cut f m)
-cut-map g bare m = refl
-cut-map g (rooted r kids more) m = elim (cases_Bool (m == 0)) [
-  | inl t ↦ rw t refl
-  | inr f ↦ rw (f, size-map g kids, cut-map g kids (m - 1), cut-map g more (m - 1 - size_of kids)) refl
-]
 
 all-cut : (P : ResourceData → Type 0) (f : Forest) (m : ℕ) → AllIn P f → AllIn P (cut f m)
 all-cut P bare m all = tt
@@ -63,14 +48,14 @@ all-cut P (rooted r kids more) m all = elim (cases_Bool (m == 0)) [
   | inr f ↦ rw f (all.0, (all-cut P kids (m - 1) all.1.0, all-cut P more (m - 1 - size_of kids) all.1.1))
 ]
 
-all-grown : (P : ResourceData → Type 0) (goes : ResourceData → Bool) (n : ℕ) (rs : List ResourceData) → Each P rs → AllIn (λ r. P r × (goes r ≡ true)) (grown goes n rs)
-all-grown P goes n [] each = tt
-all-grown P goes n (r ∷ rs) each = elim (cases_Bool (is_under n r)) [
+all-grown : (P : ResourceData → Type 0) (goes : ResourceData → Bool) (rs : List ResourceData) (n : ℕ) → Each P rs → AllIn (λ r. P r × (goes r ≡ true)) (grown goes n rs)
+all-grown P goes [] n each = tt
+all-grown P goes (r ∷ rs) n each = elim (cases_Bool (is_under n r)) [
   | inl u ↦ elim (cases_Bool (goes r)) [
-    | inl t ↦ rw (u, t) ((each.0, t), (all-grown P goes r.number rs each.1, all-grown P goes n rs each.1))
-    | inr f ↦ rw (u, f) (all-grown P goes n rs each.1)
+    | inl t ↦ rw (u, t) ((each.0, t), (all-grown P goes rs r.number each.1, all-grown P goes rs n each.1))
+    | inr f ↦ rw (u, f) (all-grown P goes rs n each.1)
   ]
-  | inr v ↦ rw v (all-grown P goes n rs each.1)
+  | inr v ↦ rw v (all-grown P goes rs n each.1)
 ]
 
 -- ---- the members of an object
@@ -99,6 +84,14 @@ entries-pairs : (es : List Entry) → entries (pairs_of es) ≡ es
 entries-pairs [] = refl
 entries-pairs (e ∷ es) = ap (λ rest. e ∷ rest) (entries-pairs es)
 
+-- ---- one of several
+
+abbrev chosen : Bool → Bool → Bool → Data → Data → Data → Data → Data
+chosen a b c w x y z = cond a w (cond b x (cond c y z))
+
+abbrev replied : RequestParts → Bool → Bool → Data → ReplyParts
+replied request right met d = cond (not right) (refusal request NoPrivilege) (cond (not met) (refusal request NotFound) (success request d))
+
 module _ (home : HomeData) (nodes : List ResourceData) (o : List ℕ) (well : is_well_formed nodes ≡ true) where
   abbrev g : ResourceData → ResourceData
   g r = seen home nodes o r
@@ -120,24 +113,14 @@ module _ (home : HomeData) (nodes : List ResourceData) (o : List ℕ) (well : is
 
   -- ---- references
 
-  children-seen : (n : ℕ) (rs : List ResourceData) → children_of n (map g rs) ≡ map g (children_of n rs)
-  children-seen n [] = refl
-  children-seen n (r ∷ rs) = elim (cases_Bool (is_under n r)) [
-    | inl t ↦ rw t (ap (λ xs. g r ∷ xs) (children-seen n rs))
-    | inr f ↦ rw f (children-seen n rs)
-  ]
-
-  allowed-seen : (rs : List ResourceData) → filter (may_retrieve home (map g nodes) o) (map g rs) ≡ map g (filter goes rs)
-  allowed-seen [] = refl
-  allowed-seen (r ∷ rs) = elim (cases_Bool (goes r)) [
-    | inl t ↦ rw (goes-seen r ∙ t, t) (ap (λ xs. g r ∷ xs) (allowed-seen rs))
-    | inr f ↦ rw (goes-seen r ∙ f, f) (allowed-seen rs)
-  ]
+  each_allowed : (rs : List ResourceData) → Each (λ r. may_retrieve home (map g nodes) o (g r) ≡ goes r) rs
+  each_allowed [] = tt
+  each_allowed (r ∷ rs) = (goes-seen r, each_allowed rs)
 
   referred-seen : (n : ℕ) → referred home (map g nodes) o n ≡ map g (referred home nodes o n)
   referred-seen n =
-      ap (λ rs. take most_references (filter (may_retrieve home (map g nodes) o) rs)) (children-seen n nodes)
-      ∙ ap (take most_references) (allowed-seen (children_of n nodes))
+      ap (λ rs. take most_references (filter (may_retrieve home (map g nodes) o) rs)) (children-map g (λ s. refl) (λ s. refl) n nodes)
+      ∙ ap (take most_references) (filter-map g (may_retrieve home (map g nodes) o) goes (children_of n nodes) (each_allowed (children_of n nodes)))
       ∙ take-map g most_references (filter goes (children_of n nodes))
 
   reference-seen : (by_id : Bool) (rs : List ResourceData) → map (reference by_id (map g nodes)) (map g rs) ≡ map (reference by_id nodes) rs
@@ -153,16 +136,6 @@ module _ (home : HomeData) (nodes : List ResourceData) (o : List ℕ) (well : is
 
   -- ---- descendants
 
-  grown-seen : (n : ℕ) (rs : List ResourceData) → grown (may_retrieve home (map g nodes) o) n (map g rs) ≡ map_forest g (grown goes n rs)
-  grown-seen n [] = refl
-  grown-seen n (r ∷ rs) = elim (cases_Bool (is_under n r)) [
-    | inl u ↦ elim (cases_Bool (goes r)) [
-      | inl t ↦ rw (u, goes-seen r ∙ t, t, grown-seen r.number rs, grown-seen n rs) refl
-      | inr f ↦ rw (u, goes-seen r ∙ f, f) (grown-seen n rs)
-    ]
-    | inr v ↦ rw v (grown-seen n rs)
-  ]
-
   forest-seen : (f : Forest) (es : List Entry) → AllIn (λ r. IsFound nodes r × (goes r ≡ true)) f → with_forest (members home (map g nodes)) (map_forest g f) es ≡ with_forest (members home nodes) f es
   forest-seen bare es all = refl
   forest-seen (rooted r kids more) es all =
@@ -174,9 +147,9 @@ module _ (home : HomeData) (nodes : List ResourceData) (o : List ℕ) (well : is
 
   shown-seen : (n : ℕ) (es : List Entry) → with_forest (members home (map g nodes)) (shown_forest home (map g nodes) o n) es ≡ with_forest (members home nodes) (shown_forest home nodes o n) es
   shown-seen n es =
-      ap (λ f. with_forest (members home (map g nodes)) (cut f most_shown) es) (grown-seen n nodes)
+      ap (λ f. with_forest (members home (map g nodes)) (cut f most_shown) es) (grown-map g (λ s. refl) (λ s. refl) (may_retrieve home (map g nodes) o) goes goes-seen nodes n)
       ∙ ap (λ f. with_forest (members home (map g nodes)) f es) (cut-map g (grown goes n nodes) most_shown)
-      ∙ forest-seen (cut (grown goes n nodes) most_shown) es (all-cut _ (grown goes n nodes) most_shown (all-grown (IsFound nodes) goes n nodes (each_found nodes (in_order-tree nodes (tree_from_well_formed nodes well)))))
+      ∙ forest-seen (cut (grown goes n nodes) most_shown) es (all-cut (λ r. IsFound nodes r × (goes r ≡ true)) (grown goes n nodes) most_shown (all-grown (IsFound nodes) goes nodes n (each_found nodes (in_order-tree nodes (tree_from_well_formed nodes well)))))
 
   -- ---- the reply
 
@@ -196,32 +169,42 @@ module _ (home : HomeData) (nodes : List ResourceData) (o : List ℕ) (well : is
 
     content-seen : (by_id : Bool) (rcn : Option ℤ) → content home (map g nodes) o by_id rcn (g r) ≡ content home nodes o by_id rcn r
     content-seen by_id rcn =
-        rw (whole-seen, with_references-seen by_id, references_alone-seen by_id, members-seen r there right) refl
+        let four = int_eq (wanted_content rcn) (pos 4) in
+        let five = int_eq (wanted_content rcn) (pos 5) in
+        let six = int_eq (wanted_content rcn) (pos 6) in
+        let plain = under_type r.ty (members home (map g nodes) (g r)) in
+        ap (λ d. chosen four five six d (with_references home (map g nodes) o by_id (g r)) (references_alone home (map g nodes) o by_id (g r)) plain) whole-seen
+        ∙ ap (λ d. chosen four five six (whole home nodes o r) d (references_alone home (map g nodes) o by_id (g r)) plain) (with_references-seen by_id)
+        ∙ ap (λ d. chosen four five six (whole home nodes o r) (with_references home nodes o by_id r) d plain) (references_alone-seen by_id)
+        ∙ ap (λ ms. chosen four five six (whole home nodes o r) (with_references home nodes o by_id r) (references_alone home nodes o by_id r) (under_type r.ty ms)) (members-seen r there right)
 
-    sees_retrieved : SeesConditions home nodes o r
+    sees_retrieved : LooksAlike (map g nodes) nodes (g r) r
     sees_retrieved =
         let shown = (seen_shows home nodes o r).retrieved (right_of r there right) in
         record {
-          ct = shown.1.0;
-          lt = shown.1.1.0;
+          ct = shown.1;
+          lt = shown.2;
+          moment = due-seen home nodes o well r there;
           st = ap (value_of St) shown.0;
           cs = ap (value_of Cs) shown.0;
           lbl = ap (value_of Lbl) shown.0;
+          ty = refl;
         }
 
     meets_any-seen : (filter : Option FilterParts) → meets_any (map g nodes) filter (g r) ≡ meets_any nodes filter r
     meets_any-seen None = refl
-    meets_any-seen (Some f) = meets-seen home nodes o well f r there sees_retrieved
+    meets_any-seen (Some f) = meets-alike (map g nodes) nodes f (g r) r sees_retrieved
 
   retrieved_of-seen : (request : RequestParts) (r : ResourceData) → IsFound nodes r → retrieved_of home (map g nodes) o request (g r) ≡ retrieved_of home nodes o request r
-  retrieved_of-seen request r there = elim (cases_Bool (goes r)) [
-    | inl t ↦
-        let right : grants home (map g nodes) o retrieve_bit r.number ≡ true = goes-seen r ∙ t in
-        rw (right, t, meets_any-seen r there t request.fc, content-seen r there t (is_by_id request) request.rcn) refl
-    | inr f ↦
-        let wrong : grants home (map g nodes) o retrieve_bit r.number ≡ false = goes-seen r ∙ f in
-        rw (wrong, f) refl
-  ]
+  retrieved_of-seen request r there =
+      ap (λ b. replied request b (meets_any (map g nodes) request.fc (g r)) (content home (map g nodes) o (is_by_id request) request.rcn (g r))) (goes-seen r)
+      ∙ by_right (goes r) refl
+    where
+      by_right : (b : Bool) → goes r ≡ b → replied request b (meets_any (map g nodes) request.fc (g r)) (content home (map g nodes) o (is_by_id request) request.rcn (g r)) ≡ replied request b (meets_any nodes request.fc r) (content home nodes o (is_by_id request) request.rcn r)
+      by_right true right =
+          ap (λ m. replied request true m (content home (map g nodes) o (is_by_id request) request.rcn (g r))) (meets_any-seen r there right request.fc)
+          ∙ ap (replied request true (meets_any nodes request.fc r)) (content-seen r there right (is_by_id request) request.rcn)
+      by_right false none = refl
 
   -- the reply is a function of what the originator sees
   pub retrieved-seen : (request : RequestParts) (n : ℕ) → retrieved home (seen_list home nodes o) o request n ≡ retrieved home nodes o request n

@@ -2,7 +2,7 @@
 use Rattle.std.specs.Prelude.{◌==◌, nat_lt}
 use Rattle.std.proofs.Common.{◌≡◌, ℕ, ◌<◌, List, [], ◌∷◌, ◌++◌, map, Bool, true, false, inl, inr, refl, sym, ap, ◌∙◌, arith}
 use Rattle.std.specs.List.{AllByRecursion, filter, flat_map, list_all}
-use Rattle.std.proofs.lemmas.Bool.{cases_Bool, and_parts, ltb-true, ne_eqb}
+use Rattle.std.proofs.lemmas.Bool.{cases_Bool, and_from, and_parts, ltb-true, ne_eqb}
 use Rattle.std.proofs.lemmas.List.{append_assoc}
 use Rattle.resource_model.specs.Resource.{ResourceData}
 use Rattle.tree_model.specs.Tree.{children_of, is_tree, is_under}
@@ -23,14 +23,14 @@ skip_all r later (c ∷ kids) parent above =
     let parts = and_parts (nat_lt r.number c.number) _ above in
     let less : r.number < c.number = ltb-true r.number c.number parts.0 in
     let here : below c.number (r ∷ later) ≡ below c.number later = below_skips c.number r later (omega (arith, less, parent)) in
-    rw (here, skip_all r later kids parent parts.1) refl
+    ap (λ xs. (c ∷ xs) ++ flat_map (with_below (r ∷ later)) kids) here ∙ ap (λ ys. with_below later c ++ ys) (skip_all r later kids parent parts.1)
 
 above-filter : (n : ℕ) (p : ResourceData → Bool) (nodes : List ResourceData) → are_above n nodes ≡ true → are_above n (filter p nodes) ≡ true
 above-filter n p [] above = refl
 above-filter n p (r ∷ nodes) above =
     let parts = and_parts (nat_lt n r.number) _ above in
     elim (cases_Bool (p r)) [
-      | inl t ↦ rw (t, parts.0) (above-filter n p nodes parts.1)
+      | inl t ↦ rw t (and_from (nat_lt n r.number) _ parts.0 (above-filter n p nodes parts.1))
       | inr f ↦ rw f (above-filter n p nodes parts.1)
     ]
 
@@ -42,8 +42,8 @@ below_kids n (r ∷ later) order =
     skip_all r later (children_of n later) first.parent (above-filter r.number (is_under n) later first.above)
     ∙ sym (below_kids n later first.rest) in
     elim (cases_Bool (is_under n r)) [
-      | inl t ↦ rw (t, rest, below_skips r.number r later first.parent) refl
-      | inr f ↦ rw (f, rest) refl
+      | inl t ↦ rw t (ap (λ xs. r ∷ (xs ++ below n later)) (sym (below_skips r.number r later first.parent)) ∙ ap (λ ys. with_below (r ∷ later) r ++ ys) (sym rest))
+      | inr f ↦ rw f (sym rest)
     ]
 
 -- the descendants are the children in order, each with what stands below it

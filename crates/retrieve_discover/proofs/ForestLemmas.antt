@@ -72,7 +72,8 @@ module _ (goes : ResourceData → Bool) where
       let parts = and_parts (nat_lt r.number c.number) _ above in
       let less : r.number < c.number = ltb-true r.number c.number parts.0 in
       let here : grown goes c.number (r ∷ later) ≡ grown goes c.number later = grown_skips c.number r later (omega (arith, less, parent)) in
-      rw (here, skip_all r later kids parent parts.1) refl
+      ap (λ f. cond (goes c) (rooted c f (chain (r ∷ later) kids)) (chain (r ∷ later) kids)) here
+      ∙ ap (λ f. cond (goes c) (rooted c (grown goes c.number later) f) f) (skip_all r later kids parent parts.1)
 
   grown_kids : (n : ℕ) (nodes : List ResourceData) → in_order nodes ≡ true → grown goes n nodes ≡ chain nodes (children_of n nodes)
   grown_kids n [] order = refl
@@ -83,10 +84,10 @@ module _ (goes : ResourceData → Bool) where
       ∙ sym (grown_kids n later first.rest) in
       elim (cases_Bool (is_under n r)) [
         | inl t ↦ elim (cases_Bool (goes r)) [
-          | inl g ↦ rw (t, g, rest, grown_skips r.number r later first.parent) refl
-          | inr h ↦ rw (t, h, rest) refl
+          | inl g ↦ rw (t, g) (ap (λ f. rooted r f (grown goes n later)) (sym (grown_skips r.number r later first.parent)) ∙ ap (rooted r (grown goes r.number (r ∷ later))) (sym rest))
+          | inr h ↦ rw (t, h) (sym rest)
         ]
-        | inr f ↦ rw (f, rest) refl
+        | inr f ↦ rw f (sym rest)
       ]
 
   pub grown_by_kids : (n : ℕ) (nodes : List ResourceData) → is_tree nodes ≡ true → grown goes n nodes ≡ chain nodes (children_of n nodes)

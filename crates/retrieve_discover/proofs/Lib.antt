@@ -3,6 +3,8 @@ pub mod BelowLemmas
 pub mod PathLemmas
 pub mod TakeLemmas
 pub mod WalkLemmas
+pub mod MapLemmas
+pub mod ConditionLemmas
 pub mod ReachLemmas
 pub mod ForestLemmas
 pub mod SightLemmas

@@ -87,6 +87,14 @@ pub kid_found : (nodes : List ResourceData) (parent k : ℕ) → is_tree nodes �
 kid_found nodes parent k tree =
     numbers_found nodes (children_of parent nodes) (λ r. is_under parent r ≡ true) (each-filter (IsFound nodes) (is_under parent) nodes (each_found nodes (in_order-tree nodes tree))) k
 
+pub kid_there : (nodes : List ResourceData) (parent k n : ℕ) → is_tree nodes ≡ true → number_at k (children_of parent nodes) ≡ Some n → at n nodes ≡ slice_get (children_of parent nodes) k
+kid_there nodes parent k n tree is =
+    sym (ap (option_and_then (λ m. at m nodes)) is) ∙ kid_found nodes parent k tree
+
+pub kid_missing : (nodes : List ResourceData) (parent k : ℕ) → is_tree nodes ≡ true → number_at k (children_of parent nodes) ≡ None → slice_get (children_of parent nodes) k ≡ None
+kid_missing nodes parent k tree is =
+    sym (kid_found nodes parent k tree) ∙ ap (option_and_then (λ m. at m nodes)) is
+
 -- what is known of a child
 pub record IsKid (nodes : List ResourceData) (parent : ℕ) (r : ResourceData) : Type 0 where
   pub found : at r.number nodes ≡ Some r

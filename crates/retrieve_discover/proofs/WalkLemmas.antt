@@ -17,13 +17,13 @@ use Rattle.retrieve_discover.proofs.TakeLemmas.{take-onto}
 
 pub drop_get : {A : Type 0} (xs : List A) (k : ℕ) (x : A) → slice_get xs k ≡ Some x → drop k xs ≡ x ∷ drop (k + 1) xs
 drop_get xs k x is = elim (slice_get_cases xs k).1 [
-  | inl h ↦ drop_more xs k x h.1.0 ∙ ap (λ y. y ∷ drop (k + 1) xs) (get_or_from_slice_get xs k x x is)
+  | inl h ↦ drop_more xs k x h.1 ∙ ap (λ y. y ∷ drop (k + 1) xs) (get_or_from_slice_get xs k x x is)
   | inr h ↦ (let none : None ≡ Some x = sym h.1 ∙ is in cc)
 ]
 
 pub drop_none : {A : Type 0} (xs : List A) (k : ℕ) → slice_get xs k ≡ None → drop k xs ≡ []
 drop_none xs k is = elim (slice_get_cases xs k).1 [
-  | inl h ↦ (let none : None ≡ Some h.0 = sym is ∙ h.1.1.0 in cc)
+  | inl h ↦ (let none : None ≡ Some h.0 = sym is ∙ h.2 in cc)
   | inr h ↦ drop_all k xs h.0
 ]
 

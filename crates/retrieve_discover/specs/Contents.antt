@@ -17,7 +17,7 @@ use Rattle.policy_eval.specs.Seen.{retrieve_bit}
 use Rattle.tree_model.specs.Shown.{members_of, shown_rows, shown_ty}
 use Rattle.tree_model.specs.Tree.{children_of}
 use Rattle.retrieve_discover.specs.Descendants.{Forest, bare, rooted, below, cut, grown, line_below}
-use Rattle.retrieve_discover.specs.Found.{address}
+use Rattle.retrieve_discover.specs.Findings.{address}
 
 -- ---- objects
 

@@ -15,7 +15,7 @@ use Rattle.policy_eval.specs.Seen.{discovery_bit, retrieve_bit}
 use Rattle.tree_model.specs.Tree.{at}
 use Rattle.retrieve_discover.specs.Conditions.{meets_any}
 use Rattle.retrieve_discover.specs.Contents.{content}
-use Rattle.retrieve_discover.specs.Found.{address_list, found_addresses}
+use Rattle.retrieve_discover.specs.Findings.{address_list, found_addresses}
 
 -- a reply has the identifier of its request (TS-0001, 8.1.3); a refusal has no content
 abbrev pub reply_to : RequestParts → Rsc → Option Data → ReplyParts

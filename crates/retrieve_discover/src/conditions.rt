@@ -1,7 +1,7 @@
 //! The conditions of a filter on a resource, as a table.
-ghost use Rattle.std.specs.Prelude.{◌≡◌, ◌==◌, option_map};
+ghost use Rattle.std.specs.Prelude.{◌≡◌, ◌==◌};
 ghost use Rattle.std.specs.List.{list_any};
-ghost use Rattle.std.specs.Option.{option_map_or};
+ghost use Rattle.std.specs.Option.{option_copied, option_map_or};
 ghost use Rattle.m2m_names.specs.Types.{ty_row};
 ghost use Rattle.m2m_value.specs.View.{as_list};
 ghost use Rattle.retrieve_discover.specs.Conditions as spec;
@@ -94,7 +94,7 @@ pub fn meets<T: Tree>(tree: &T, filter: &FilterParts, resource: &Resource) -> bo
 
 /// Whether the resource meets all conditions, where there is a filter.
 pub(crate) fn meets_any<T: Tree>(tree: &T, filter: Option<&Filter>, resource: &Resource) -> bool
-    ensures { result ≡ spec.meets_any (T.nodes tree.now) (option_map (λ f. f.now) filter.entry)
+    ensures { result ≡ spec.meets_any (T.nodes tree.now) (option_copied filter.entry)
         resource.now }
 {
     match filter {

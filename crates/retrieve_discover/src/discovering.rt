@@ -1,13 +1,14 @@
 //! Discovery.
-ghost use Rattle.std.specs.Prelude.{◌≡◌, IfOk, IsTrue, option_map, map, take};
+ghost use Rattle.std.specs.Prelude.{◌≡◌, IfOk, IsTrue, map, take};
+ghost use Rattle.std.specs.Option.{option_copied};
 ghost use Rattle.m2m_names.specs.Name.{is_originator};
 ghost use Rattle.tree_model.specs.Tree.{has};
-ghost use Rattle.retrieve_discover.specs.Found as spec;
+ghost use Rattle.retrieve_discover.specs.Findings as spec;
 ghost use Rattle.retrieve_discover.specs.Replies.{discovered};
 
 use crate::paths::path_to;
 use crate::replies::{is_by_id, refuse, succeed};
-use crate::search::{DISCOVERY, Search, search_below};
+use crate::finding::{DISCOVERY_BIT, Wanted, find_below};
 use m2m_names::Rsc;
 use m2m_value::{Items, Members, Text, Val};
 use policy_eval::granted;
@@ -36,7 +37,7 @@ pub fn discover<T: Tree>(
     ensures { IfOk result (λ r. r
         ≡ discovered home.now (T.nodes tree.now) o.now request.now target) }
 {
-    if !granted(tree, home, o, DISCOVERY, target) {
+    if !granted(tree, home, o, DISCOVERY_BIT, target) {
         return refuse(alloc, request, Rsc::NoPrivilege);
     }
     let filter = request.parts().fc.as_ref();
@@ -57,7 +58,7 @@ fn found_by<T: Tree>(
     requires originator { IsTrue (is_originator o.now) }
     requires resource { IsTrue (has target (T.nodes tree.now)) }
     ensures { IfOk result (λ v. v.items ≡ spec.found_addresses home.now (T.nodes tree.now) o.now
-        by_id (option_map (λ f. f.now) filter.entry) target) }
+        by_id (option_copied filter.entry) target) }
 {
     match filter {
         Some(filter) => addresses(alloc, tree, home, o, by_id, filter.parts(), target),
@@ -79,7 +80,7 @@ fn addresses<T: Tree>(
     ensures { IfOk result (λ v. v.items ≡ map (spec.address by_id (T.nodes tree.now))
         (spec.found home.now (T.nodes tree.now) o.now filter.now target)) }
 {
-    let search = Search {
+    let wanted = Wanted {
         tree,
         home,
         o,
@@ -87,7 +88,7 @@ fn addresses<T: Tree>(
         by_id,
         limit: limit(filter),
     };
-    from_target(alloc, &search, target)
+    from_target(alloc, &wanted, target)
 }
 
 fn limit(filter: &FilterParts) -> usize
@@ -98,23 +99,23 @@ fn limit(filter: &FilterParts) -> usize
 
 fn from_target<T: Tree>(
     alloc: Global,
-    search: &Search<T>,
+    wanted: &Wanted<T>,
     target: u64,
 ) -> Result<Vec<Val>, OutOfMemory>
-    requires originator { IsTrue (is_originator search.now.o.now) }
-    requires resource { IsTrue (has target (T.nodes search.now.tree.now)) }
-    ensures { IfOk result (λ v. v.items ≡ take search.now.limit
-        (map (spec.address search.now.by_id (T.nodes search.now.tree.now))
-        (spec.all_found search.now.home.now (T.nodes search.now.tree.now) search.now.o.now
-        search.now.filter.now target))) }
+    requires originator { IsTrue (is_originator wanted.now.o.now) }
+    requires resource { IsTrue (has target (T.nodes wanted.now.tree.now)) }
+    ensures { IfOk result (λ v. v.items ≡ take wanted.now.limit
+        (map (spec.address wanted.now.by_id (T.nodes wanted.now.tree.now))
+        (spec.all_found wanted.now.home.now (T.nodes wanted.now.tree.now) wanted.now.o.now
+        wanted.now.filter.now target))) }
 {
     let mut found = Vec::new(alloc);
-    if search.tree.len() == 0 {
+    if wanted.tree.len() == 0 {
         return Ok(found);
     }
-    if let Some(resource) = search.tree.get(target) {
-        let mut path = path_to(alloc, search.tree, resource)?;
-        search_below(alloc, search, target, &mut path, &mut found)?;
+    if let Some(resource) = wanted.tree.get(target) {
+        let mut path = path_to(alloc, wanted.tree, resource)?;
+        find_below(alloc, wanted, target, &mut path, &mut found)?;
     }
     Ok(found)
 }

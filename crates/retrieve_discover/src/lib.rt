@@ -14,6 +14,7 @@ mod conditions;
 mod contents;
 mod descendants;
 mod discovering;
+mod finding;
 mod kids;
 mod laws;
 mod look;
@@ -21,7 +22,8 @@ mod paths;
 mod references;
 mod replies;
 mod retrieving;
-mod search;
+#[cfg(test)]
+mod tests;
 
 pub use conditions::{Condition, meets};
 pub use discovering::discover;

@@ -2,7 +2,7 @@
 ghost use Rattle.std.specs.Prelude.{◌≡◌, ◌∷◌, ◌++◌, IfOk, OnOk, IsTrue, IsUtf8, Some};
 ghost use Rattle.tree_model.specs.Tree.{at, is_tree};
 ghost use Rattle.addressing.specs.Names.{structured_of};
-ghost use Rattle.retrieve_discover.specs.Found as spec;
+ghost use Rattle.retrieve_discover.specs.Findings as spec;
 
 use m2m_value::{Text, Val};
 use std::alloc::{AllocError as OutOfMemory, Global};

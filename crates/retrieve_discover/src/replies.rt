@@ -1,6 +1,5 @@
 //! The replies to a Retrieve and to a discovery.
 ghost use Rattle.std.specs.Prelude.{◌≡◌, IfOk};
-ghost use Rattle.std.specs.Option.{option_map_or};
 ghost use Rattle.retrieve_discover.specs.Replies as spec;
 
 use m2m_names::Rsc;

@@ -24,4 +24,4 @@ abbrev pub decreases-add_descendants : goal.decreases-add_descendants
 decreases-add_descendants g l = (2 ^ 64 - l.parent) + (2 ^ 64 - l.parent)
 
 abbrev pub decreases-add_child : goal.decreases-add_child
-decreases-add_child g l = (2 ^ 64 - l.child.parent) + (2 ^ 64 - l.child.parent) - 1
+decreases-add_child g l = (2 ^ 64 - l.child.now.parent) + (2 ^ 64 - l.child.now.parent) - 1
