@@ -109,10 +109,9 @@ fn from_target<T: Tree>(
         (spec.all_found wanted.now.home.now (T.nodes wanted.now.tree.now) wanted.now.o.now
         wanted.now.filter.now target))) }
 {
+    // That it is a tree is told by its length.
+    let _count = wanted.tree.len();
     let mut found = Vec::new(alloc);
-    if wanted.tree.len() == 0 {
-        return Ok(found);
-    }
     if let Some(resource) = wanted.tree.get(target) {
         let mut path = path_to(alloc, wanted.tree, resource)?;
         find_below(alloc, wanted, target, &mut path, &mut found)?;

@@ -32,9 +32,8 @@ pub fn retrieve<T: Tree>(
     ensures { IfOk result (λ r. r
         ≡ retrieved home.now (T.nodes tree.now) o.now request.now target) }
 {
-    if tree.len() == 0 {
-        return refuse(alloc, request, Rsc::NotFound);
-    }
+    // That it is a tree is told by its length.
+    let _count = tree.len();
     match tree.get(target) {
         Some(resource) => retrieve_of(alloc, tree, home, o, request, resource),
         None => refuse(alloc, request, Rsc::NotFound),
