@@ -10,7 +10,8 @@ use Rattle.m2m_names.specs.Types.{ty_member}
 use Rattle.m2m_names.specs.declared.attributes.Attr.TheVariants.{Cs, Lbl, St}
 use Rattle.m2m_names.specs.declared.codes.Rsc.TheVariants.{NoPrivilege, NotFound}
 use Rattle.m2m_value.specs.Data.{Data, Entry, Pairs, Elements, null, boolean, number, text, list, object, no_pairs, pair, elements_of, pairs_of}
-use Rattle.m2m_value.specs.View.{as_object, entries}
+use Rattle.m2m_value.specs.View.{entries}
+use Rattle.m2m_value.proofs.Levels.{entries-pairs_of}
 use Rattle.primitive_json.specs.declared.filter.FilterParts.{FilterParts}
 use Rattle.primitive_json.specs.declared.reply.ReplyParts.{ReplyParts}
 use Rattle.primitive_json.specs.declared.request.RequestParts.{RequestParts}
@@ -80,10 +81,6 @@ inside (text s) = []
 inside (list es) = []
 inside (object ps) = of_first ps
 
-entries-pairs : (es : List Entry) → entries (pairs_of es) ≡ es
-entries-pairs [] = refl
-entries-pairs (e ∷ es) = ap (λ rest. e ∷ rest) (entries-pairs es)
-
 -- ---- one of several
 
 abbrev chosen : Bool → Bool → Bool → Data → Data → Data → Data → Data
@@ -107,9 +104,9 @@ module _ (home : HomeData) (nodes : List ResourceData) (o : List ℕ) (well : is
 
   members-seen : (r : ResourceData) → IsFound nodes r → goes r ≡ true → members home (map g nodes) (g r) ≡ members home nodes r
   members-seen r there right =
-      sym (entries-pairs (members home (map g nodes) (g r)))
+      sym (entries-pairs_of (members home (map g nodes) (g r)))
       ∙ ap inside (attributes-seen home nodes o r there (right_of r there right) nodes)
-      ∙ entries-pairs (members home nodes r)
+      ∙ entries-pairs_of (members home nodes r)
 
   -- ---- references
 

@@ -25,7 +25,7 @@ skip_all r later (c ∷ kids) parent above =
     let here : below c.number (r ∷ later) ≡ below c.number later = below_skips c.number r later (omega (arith, less, parent)) in
     ap (λ xs. (c ∷ xs) ++ flat_map (with_below (r ∷ later)) kids) here ∙ ap (λ ys. with_below later c ++ ys) (skip_all r later kids parent parts.1)
 
-above-filter : (n : ℕ) (p : ResourceData → Bool) (nodes : List ResourceData) → are_above n nodes ≡ true → are_above n (filter p nodes) ≡ true
+pub above-filter : (n : ℕ) (p : ResourceData → Bool) (nodes : List ResourceData) → are_above n nodes ≡ true → are_above n (filter p nodes) ≡ true
 above-filter n p [] above = refl
 above-filter n p (r ∷ nodes) above =
     let parts = and_parts (nat_lt n r.number) _ above in

@@ -83,10 +83,10 @@ module _ (goes : ResourceData → Bool) where
       skip_all r later (children_of n later) first.parent (above-filter r.number (is_under n) later first.above)
       ∙ sym (grown_kids n later first.rest) in
       elim (cases_Bool (is_under n r)) [
-        | inl t ↦ elim (cases_Bool (goes r)) [
-          | inl g ↦ rw (t, g) (ap (λ f. rooted r f (grown goes n later)) (sym (grown_skips r.number r later first.parent)) ∙ ap (rooted r (grown goes r.number (r ∷ later))) (sym rest))
-          | inr h ↦ rw (t, h) (sym rest)
-        ]
+        | inl t ↦
+            let kids = chain (r ∷ later) (children_of n later) in
+            let all = ap (λ f. cond (goes r) (rooted r f kids) kids) (grown_skips r.number r later first.parent) ∙ ap (λ f. cond (goes r) (rooted r (grown goes r.number later) f) f) rest in
+            rw t (sym all)
         | inr f ↦ rw f (sym rest)
       ]
 
@@ -114,7 +114,7 @@ module _ (goes : ResourceData → Bool) where
     | inl g ↦
         let below = grown goes r.number nodes in
         let after = chain nodes (drop (k + 1) kids) in
-        let size : size_of (reached goes nodes r) ≡ 1 + size_of below = ap size_of (here_true nodes r g) ∙ ap (λ (rs : List ResourceData). 1 + length rs) (append-nil (listed below)) in
+        let size : size_of (reached goes nodes r) ≡ length (r ∷ listed below) = ap size_of (here_true nodes r g) ∙ ap (λ (rs : List ResourceData). length (r ∷ rs)) (append-nil (listed below)) in
         let fewer : left - 1 - size_of below ≡ less = omega (arith, rest, size) in
         let alone : with_forest members (cut (reached goes nodes r) left) es ≡ with_last (ty_member r.ty) (object (pairs_of (with_forest members (cut below (left - 1)) (members r)))) es =
         ap (λ f. with_forest members (cut f left) es) (here_true nodes r g) ∙ ap (λ f. with_forest members f es) (cut_more left r below bare some) in
@@ -123,7 +123,8 @@ module _ (goes : ResourceData → Bool) where
         ∙ ap (λ m. with_forest members (cut after m) (with_last (ty_member r.ty) (object (pairs_of (with_forest members (cut below (left - 1)) (members r)))) es)) fewer
         ∙ ap (with_forest members (cut after less)) (sym (grew ∙ alone))
     | inr h ↦
-        let same : less ≡ left = rest ∙ ap (λ f. left - size_of f) (here_false nodes r h) in
+        let nothing : less ≡ left - size_of bare = rest ∙ ap (λ f. left - size_of f) (here_false nodes r h) in
+        let same : less ≡ left = omega (arith, nothing) in
         let kept : more ≡ es = grew ∙ ap (λ f. with_forest members (cut f left) es) (here_false nodes r h) in
         ap (λ f. with_forest members (cut f left) es) (passed nodes kids k r is h)
         ∙ ap (λ m. with_forest members (cut (chain nodes (drop (k + 1) kids)) m) es) (sym same)
@@ -134,12 +135,13 @@ module _ (goes : ResourceData → Bool) where
   sizes nodes kids k left less r is rest = elim (cases_Bool (goes r)) [
     | inl g ↦
         let below = grown goes r.number nodes in
-        let size : size_of (reached goes nodes r) ≡ 1 + size_of below = ap size_of (here_true nodes r g) ∙ ap (λ (rs : List ResourceData). 1 + length rs) (append-nil (listed below)) in
+        let size : size_of (reached goes nodes r) ≡ length (r ∷ listed below) = ap size_of (here_true nodes r g) ∙ ap (λ (rs : List ResourceData). length (r ∷ rs)) (append-nil (listed below)) in
         let both = ap size_of (gone_to nodes kids k r is g) in
         let sum = length-append (listed below) (listed (chain nodes (drop (k + 1) kids))) in
         omega (arith, both, sum, size, rest)
     | inr h ↦
-        let same : less ≡ left = rest ∙ ap (λ f. left - size_of f) (here_false nodes r h) in
+        let nothing : less ≡ left - size_of bare = rest ∙ ap (λ f. left - size_of f) (here_false nodes r h) in
+        let same : less ≡ left = omega (arith, nothing) in
         ap (λ f. left - size_of f) (passed nodes kids k r is h) ∙ ap (λ m. m - size_of (chain nodes (drop (k + 1) kids))) (sym same)
   ]
 
