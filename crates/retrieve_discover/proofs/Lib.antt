@@ -9,3 +9,5 @@ pub mod ReachLemmas
 pub mod ForestLemmas
 pub mod SightLemmas
 pub mod AnswerLemmas
+pub mod GuardLemmas
+pub mod MemberLemmas

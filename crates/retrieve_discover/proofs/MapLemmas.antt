@@ -45,9 +45,9 @@ module _ (g : ResourceData → ResourceData) where
   cut-map (rooted r kids more) m = elim (cases_Bool (m == 0)) [
     | inl t ↦ rw t refl
     | inr f ↦ rw f (
-      ap (λ k. rooted (g r) (cut (map_forest kids) (m - 1)) (cut (map_forest more) (m - 1 - k))) (size-map kids)
-      ∙ ap (λ x. rooted (g r) x (cut (map_forest more) (m - 1 - size_of kids))) (cut-map kids (m - 1))
-      ∙ ap (rooted (g r) (map_forest (cut kids (m - 1)))) (cut-map more (m - 1 - size_of kids)))
+        ap (λ k. rooted (g r) (cut (map_forest kids) (m - 1)) (cut (map_forest more) (m - 1 - k))) (size-map kids)
+        ∙ ap (λ x. rooted (g r) x (cut (map_forest more) (m - 1 - size_of kids))) (cut-map kids (m - 1))
+        ∙ ap (rooted (g r) (map_forest (cut kids (m - 1)))) (cut-map more (m - 1 - size_of kids)))
   ]
 
   module _ (number : (r : ResourceData) → (g r).number ≡ r.number) (parent : (r : ResourceData) → (g r).parent ≡ r.parent) where
@@ -58,10 +58,10 @@ module _ (g : ResourceData → ResourceData) where
     below-map [] n = refl
     below-map (r ∷ rs) n = elim (cases_Bool (is_under n r)) [
       | inl t ↦ rw (under-map n r ∙ t, t) (
-        ap (λ k. g r ∷ (below k (map g rs) ++ below n (map g rs))) (number r)
-        ∙ ap (λ xs. g r ∷ (xs ++ below n (map g rs))) (below-map rs r.number)
-        ∙ ap (λ xs. g r ∷ (map g (below r.number rs) ++ xs)) (below-map rs n)
-        ∙ ap (λ xs. g r ∷ xs) (sym (map-append g (below r.number rs) (below n rs))))
+          ap (λ k. g r ∷ (below k (map g rs) ++ below n (map g rs))) (number r)
+          ∙ ap (λ xs. g r ∷ (xs ++ below n (map g rs))) (below-map rs r.number)
+          ∙ ap (λ xs. g r ∷ (map g (below r.number rs) ++ xs)) (below-map rs n)
+          ∙ ap (λ xs. g r ∷ xs) (sym (map-append g (below r.number rs) (below n rs))))
       | inr f ↦ rw (under-map n r ∙ f, f) (below-map rs n)
     ]
 
@@ -89,9 +89,9 @@ module _ (g : ResourceData → ResourceData) where
     grown-map goes had same (r ∷ rs) n = elim (cases_Bool (is_under n r)) [
       | inl u ↦ elim (cases_Bool (had r)) [
         | inl t ↦ rw (under-map n r ∙ u, u, same r ∙ t, t) (
-          ap (λ k. rooted (g r) (grown goes k (map g rs)) (grown goes n (map g rs))) (number r)
-          ∙ ap (λ x. rooted (g r) x (grown goes n (map g rs))) (grown-map goes had same rs r.number)
-          ∙ ap (rooted (g r) (map_forest (grown had r.number rs))) (grown-map goes had same rs n))
+            ap (λ k. rooted (g r) (grown goes k (map g rs)) (grown goes n (map g rs))) (number r)
+            ∙ ap (λ x. rooted (g r) x (grown goes n (map g rs))) (grown-map goes had same rs r.number)
+            ∙ ap (rooted (g r) (map_forest (grown had r.number rs))) (grown-map goes had same rs n))
         | inr f ↦ rw (under-map n r ∙ u, u, same r ∙ f, f) (grown-map goes had same rs n)
       ]
       | inr v ↦ rw (under-map n r ∙ v, v) (grown-map goes had same rs n)

@@ -8,7 +8,7 @@ use Rattle.tree_model.proofs.GrowthLemmas.{stands}
 use Rattle.tree_model.proofs.TreeLemmas.{at_number}
 use Rattle.std.proofs.lemmas.Str.{IsUtf8-append}
 use Rattle.std.specs.Str.{IsUtf8}
-use Rattle.tree_model.proofs.TextLemmas.{slash_utf8}
+use Rattle.tree_model.proofs.ShownLemmas.{slash_utf8}
 use Rattle.addressing.proofs.NameLemmas.{line_ends}
 use Rattle.addressing.specs.Addresses.{joined}
 use Rattle.addressing.specs.Names.{names_to, structured_of}

@@ -36,7 +36,7 @@ abbrev pub discovered : HomeData → List ResourceData → List ℕ → RequestP
 discovered home nodes o request n =
     if grants home nodes o discovery_bit n
     then success request
-        (address_list (found_addresses home nodes o (is_by_id request) request.fc n))
+    (address_list (found_addresses home nodes o (is_by_id request) request.fc n))
     else refusal request NoPrivilege
 
 -- a Retrieve of a resource: refused without RETRIEVE on it, and then where it doesn't meet the

@@ -146,7 +146,10 @@ fn size_in(resource: &Resource) -> Option<u64>
 fn has_one_of(resource: &Resource, labels: &[Text]) -> bool
     ensures { result ≡ spec.has_one_of labels.now resource.now }
 {
-    labels.is_empty() || labels.iter().any(|label| has_label(resource, label.entries()))
+    labels.is_empty()
+        || labels
+            .iter()
+            .any(|label| has_label(resource, label.entries()))
 }
 
 fn has_label(resource: &Resource, label: &[u8]) -> bool

@@ -82,12 +82,7 @@ fn add_child<T: Tree>(
 }
 
 // Adds an object at the end of the list that the member of its type has.
-fn add_last(
-    alloc: Global,
-    members: &mut Members,
-    ty: Ty,
-    object: Val,
-) -> Result<(), OutOfMemory>
+fn add_last(alloc: Global, members: &mut Members, ty: Ty, object: Val) -> Result<(), OutOfMemory>
     ensures value { OnOk result (members.new
         ≡ spec.with_last (ty_member ty) object members.old) }
     ensures keys { OnOk result (HaveTextKeys members.old → HaveTextKeys members.new) }

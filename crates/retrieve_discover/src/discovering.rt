@@ -6,9 +6,9 @@ ghost use Rattle.tree_model.specs.Tree.{has};
 ghost use Rattle.retrieve_discover.specs.Findings as spec;
 ghost use Rattle.retrieve_discover.specs.Replies.{discovered};
 
+use crate::finding::{DISCOVERY_BIT, Wanted, find_below};
 use crate::paths::path_to;
 use crate::replies::{is_by_id, refuse, succeed};
-use crate::finding::{DISCOVERY_BIT, Wanted, find_below};
 use m2m_names::Rsc;
 use m2m_value::{Items, Members, Text, Val};
 use policy_eval::granted;

@@ -125,6 +125,7 @@ fn is_found<T: Tree>(wanted: &Wanted<T>, resource: &Resource) -> bool
     ensures { result ≡ spec.is_found wanted.now.home.now (T.nodes wanted.now.tree.now)
         wanted.now.o.now wanted.now.filter.now resource.now }
 {
-    granted(wanted.tree, wanted.home, wanted.o, DISCOVERY_BIT, resource.number())
+    let number = resource.number();
+    granted(wanted.tree, wanted.home, wanted.o, DISCOVERY_BIT, number)
         && meets(wanted.tree, wanted.filter, resource)
 }

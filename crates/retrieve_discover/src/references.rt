@@ -103,7 +103,10 @@ fn reference<T: Tree>(
 {
     let mut members = Vec::with_capacity(alloc, 3)?;
     members.push((Text::from_slice(alloc, b"nm")?, name_of(alloc, resource)?))?;
-    members.push((Text::from_slice(alloc, b"typ")?, Val::of_num(resource.ty().number() as i64)))?;
+    members.push((
+        Text::from_slice(alloc, b"typ")?,
+        Val::of_num(resource.ty().number() as i64),
+    ))?;
     members.push((
         Text::from_slice(alloc, b"val")?,
         address(alloc, tree, by_id, resource, path)?,

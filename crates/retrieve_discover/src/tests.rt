@@ -76,7 +76,10 @@ fn tree_of(alloc: Global, rows: &[Row]) -> Result<ListTree, Fail> {
 
 // A Retrieve by an originator with these members besides, as it is written.
 fn request(alloc: Global, o: &str, members: &str) -> Result<String, OutOfMemory> {
-    format!(in alloc; "{{\"op\":2,\"to\":\"x\",\"fr\":\"{}\",\"rqi\":\"q\",{}}}", o, members)
+    format!(in alloc;
+        "{{\"op\":2,\"to\":\"x\",\"fr\":\"{}\",\"rqi\":\"q\",{}}}",
+        o, members
+    )
 }
 
 // The reply to a request on the resource of a number, as it is written.
