@@ -152,3 +152,32 @@ module _ (goes : ResourceData → Bool) where
   pub cut_to_nothing : (members : ResourceData → List Entry) (f : Forest) (es : List Entry) → with_forest members (cut f 0) es ≡ es
   cut_to_nothing members bare es = refl
   cut_to_nothing members (rooted r kids more) es = refl
+
+  -- a child that isn't gone to adds nothing
+  pub skipped : (members : ResourceData → List Entry) (nodes : List ResourceData) (left : ℕ) (r : ResourceData) (es : List Entry) → goes r ≡ false → (es ≡ with_forest members (cut (reached goes nodes r) left) es) × (left ≡ left - size_of (reached goes nodes r))
+  skipped members nodes left r es none =
+      let nothing = here_false nodes r none in
+      let same : left ≡ left - size_of bare = omega arith in
+      (ap (λ f. with_forest members (cut f left) es) (sym nothing), same ∙ ap (λ f. left - size_of f) (sym nothing))
+
+  -- one that is gone to adds its object, with what is shown below it
+  pub shown_alone : (members : ResourceData → List Entry) (nodes : List ResourceData) (left : ℕ) (r : ResourceData) (es : List Entry) → goes r ≡ true → 0 < left → with_forest members (cut (reached goes nodes r) left) es ≡ with_last (ty_member r.ty) (object (pairs_of (with_forest members (cut (grown goes r.number nodes) (left - 1)) (members r)))) es
+  shown_alone members nodes left r es gone some =
+      ap (λ f. with_forest members (cut f left) es) (here_true nodes r gone)
+      ∙ ap (λ f. with_forest members f es) (cut_more left r (grown goes r.number nodes) bare some)
+
+  pub size_alone : (nodes : List ResourceData) (r : ResourceData) → goes r ≡ true → size_of (reached goes nodes r) ≡ size_of (grown goes r.number nodes) + 1
+  size_alone nodes r gone =
+      let size : size_of (reached goes nodes r) ≡ length (r ∷ listed (grown goes r.number nodes)) = ap size_of (here_true nodes r gone) ∙ ap (λ (rs : List ResourceData). length (r ∷ rs)) (append-nil (listed (grown goes r.number nodes))) in
+      omega (arith, size)
+
+  -- where nothing more is shown, or no child is left, all that is shown has been
+  pub stopped : (members : ResourceData → List Entry) (f : Forest) (left n : ℕ) (es all : List Entry) → left ≡ 0 → with_forest members (cut f left) es ≡ all → left - size_of f ≡ n → (es ≡ all) × (left ≡ n)
+  stopped members f left n es all nothing shown size =
+      (sym (cut_to_nothing members f es) ∙ ap (λ m. with_forest members (cut f m) es) (sym nothing) ∙ shown, omega (arith, nothing, size))
+
+  pub ended : (members : ResourceData → List Entry) (nodes kids : List ResourceData) (k left n : ℕ) (es all : List Entry) → drop k kids ≡ [] → with_forest members (cut (chain nodes (drop k kids)) left) es ≡ all → left - size_of (chain nodes (drop k kids)) ≡ n → (es ≡ all) × (left ≡ n)
+  ended members nodes kids k left n es all none shown size =
+      let same : left ≡ left - size_of bare = omega arith in
+      let less : left - size_of bare ≡ n = sym (ap (λ rs. left - size_of (chain nodes rs)) none) ∙ size in
+      (sym (none_left members nodes kids k left es none) ∙ shown, same ∙ less)

@@ -1,5 +1,5 @@
 -- Nothing is shown, referred to or found without a grant.
-use Rattle.std.proofs.Common.{◌≡◌, ℕ, List, [], ◌∷◌, ◌++◌, Bool, true, false, cond, not, Option, Some, inl, inr, ap, ◌∙◌, refl}
+use Rattle.std.proofs.Common.{◌≡◌, ℕ, List, [], ◌∷◌, ◌++◌, Bool, true, false, cond, get_or, not, Option, Some, inl, inr, ap, ◌∙◌, refl}
 use Rattle.std.specs.List.{All, filter}
 use Rattle.std.specs.Option.{option_map_or}
 use Rattle.std.proofs.lemmas.Bool.{and_parts, cases_Bool}
@@ -51,14 +51,16 @@ module _ (home : HomeData) (nodes : List ResourceData) (o : List ℕ) where
   found_granted f n =
       let test = is_found home nodes o f in
       let passing : All (λ r. test r ≡ true) (found home nodes o f n) = All-take (λ r. test r ≡ true) (most_of f) (all_found home nodes o f n) (filter_passes test (below n nodes)) in
-      λ k d less. (and_parts (grants home nodes o discovery_bit _) (meets nodes f _) (passing k d less)).0
+      let P = Grants home nodes o discovery_bit in
+      let first : (r : ResourceData) → test r ≡ true → P r = λ r passed. (and_parts (grants home nodes o discovery_bit r.number) (meets nodes f r) passed).0 in
+      λ k d less. first (get_or (found home nodes o f n) k d) (passing k d less)
 
   -- without the right nothing but that is told
   pub retrieved_refused : (request : RequestParts) (n : ℕ) → has n nodes ≡ true → grants home nodes o retrieve_bit n ≡ false → retrieved home nodes o request n ≡ refusal request NoPrivilege
   retrieved_refused request n there none =
       let r = (has_at n nodes there).0 in
-      let found = (has_at n nodes there).1.0 in
-      let same = (has_at n nodes there).1.1 in
+      let found = (has_at n nodes there).1 in
+      let same = (has_at n nodes there).2 in
       let refused : grants home nodes o retrieve_bit r.number ≡ false = ap (grants home nodes o retrieve_bit) same ∙ none in
       ap (λ x. option_map_or (retrieved_of home nodes o request) x (refusal request NotFound)) found
       ∙ ap (λ b. cond (not b) (refusal request NoPrivilege) (cond (not (meets_any nodes request.fc r)) (refusal request NotFound) (success request (content home nodes o (is_by_id request) request.rcn r)))) refused

@@ -1,11 +1,11 @@
 -- Structured addresses, name by name.
-use Rattle.std.proofs.Common.{◌≡◌, ℕ, ◌<◌, List, [], ◌∷◌, ◌++◌, map, reverse, Option, Some, None, refl, sym, ap, ◌∙◌, true, codes, arith}
+use Rattle.std.proofs.Common.{◌≡◌, ℕ, ◌<◌, List, [], ◌∷◌, ◌++◌, length, map, reverse, take, Option, Some, None, refl, sym, ap, ◌∙◌, true, codes, arith}
 use Rattle.std.specs.List.{join_with_byte}
-use Rattle.std.proofs.lemmas.List.{append_assoc, map-append, reverse-append}
+use Rattle.std.proofs.lemmas.List.{append_assoc, map-append, reverse-append, take_at}
 use Rattle.resource_model.specs.Resource.{ResourceData}
-use Rattle.tree_model.specs.Tree.{at, is_tree, line_of}
+use Rattle.tree_model.specs.Tree.{at, has, is_tree, line_of}
 use Rattle.tree_model.proofs.GrowthLemmas.{stands}
-use Rattle.tree_model.proofs.TreeLemmas.{at_number}
+use Rattle.tree_model.proofs.TreeLemmas.{at_number, has_at}
 use Rattle.std.proofs.lemmas.Str.{IsUtf8-append}
 use Rattle.std.specs.Str.{IsUtf8}
 use Rattle.tree_model.proofs.ShownLemmas.{slash_utf8}
@@ -60,3 +60,17 @@ parent_smaller nodes r p tree found above =
     let up : r.parent < r.number = (stands nodes tree r.number r found).above in
     let same : p.number ≡ r.parent = at_number r.parent nodes p above in
     omega (arith, up, same)
+
+-- a path that goes down to a child
+pub path_down : (nodes : List ResourceData) (r : ResourceData) (path more : List ℕ) → is_tree nodes ≡ true → at r.number nodes ≡ Some r → has r.parent nodes ≡ true → path ≡ structured_of r.parent nodes → more ≡ path ++ 47 ∷ r.name → more ≡ structured_of r.number nodes
+path_down nodes r path more tree found parent is grew =
+    let above = has_at r.parent nodes parent in
+    grew ∙ ap (λ (t : List ℕ). t ++ 47 ∷ r.name) is ∙ sym (structured-child nodes r above.0 tree found above.1)
+
+-- a parent's number is the smaller one
+pub above_child : (nodes : List ResourceData) (r : ResourceData) → is_tree nodes ≡ true → at r.number nodes ≡ Some r → r.parent < r.number
+above_child nodes r tree found = (stands nodes tree r.number r found).above
+
+-- what was gone down is cut off again
+pub cut_back : (path more back : List ℕ) (above : ℕ) (tail : List ℕ) → above ≡ length path → more ≡ path ++ tail → back ≡ take above more → back ≡ path
+cut_back path more back above tail size grew is = is ∙ ap (take above) grew ∙ take_at path tail above (sym size)

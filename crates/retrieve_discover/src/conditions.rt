@@ -1,5 +1,5 @@
 //! The conditions of a filter on a resource, as a table.
-ghost use Rattle.std.specs.Prelude.{◌≡◌, ◌==◌};
+ghost use Rattle.std.specs.Prelude.{◌≡◌, ◌==◌, false};
 ghost use Rattle.std.specs.List.{list_any};
 ghost use Rattle.std.specs.Option.{option_copied, option_map_or};
 ghost use Rattle.m2m_names.specs.Types.{ty_row};
@@ -146,10 +146,15 @@ fn size_in(resource: &Resource) -> Option<u64>
 fn has_one_of(resource: &Resource, labels: &[Text]) -> bool
     ensures { result ≡ spec.has_one_of labels.now resource.now }
 {
-    labels.is_empty()
-        || labels
-            .iter()
-            .any(|label| has_label(resource, label.entries()))
+    labels.is_empty() || has_some_of(resource, labels)
+}
+
+fn has_some_of(resource: &Resource, labels: &[Text]) -> bool
+    ensures { result ≡ list_any (spec.has_label resource.now) labels.now }
+{
+    labels
+        .iter()
+        .any(|label| has_label(resource, label.entries()))
 }
 
 fn has_label(resource: &Resource, label: &[u8]) -> bool

@@ -1,8 +1,8 @@
 //! Discovery.
-ghost use Rattle.std.specs.Prelude.{◌≡◌, IfOk, IsTrue, map, take};
+ghost use Rattle.std.specs.Prelude.{◌≡◌, IfOk, IsTrue, Some, map, take};
 ghost use Rattle.std.specs.Option.{option_copied};
 ghost use Rattle.m2m_names.specs.Name.{is_originator};
-ghost use Rattle.tree_model.specs.Tree.{has};
+ghost use Rattle.tree_model.specs.Tree.{at, has, is_tree};
 ghost use Rattle.retrieve_discover.specs.Findings as spec;
 ghost use Rattle.retrieve_discover.specs.Replies.{discovered};
 
@@ -14,7 +14,7 @@ use m2m_value::{Items, Members, Text, Val};
 use policy_eval::granted;
 use primitive_json::{Filter, FilterParts, Reply, Request};
 use std::alloc::{AllocError as OutOfMemory, Global};
-use tree_model::{Home, Tree};
+use tree_model::{Home, Resource, Tree};
 
 /// The most addresses that are given.
 const MOST_FOUND: u64 = 4_096;
@@ -111,11 +111,28 @@ fn from_target<T: Tree>(
 {
     // That it is a tree is told by its length.
     let _count = wanted.tree.len();
-    let mut found = Vec::new(alloc);
-    if let Some(resource) = wanted.tree.get(target) {
-        let mut path = path_to(alloc, wanted.tree, resource)?;
-        find_below(alloc, wanted, target, &mut path, &mut found)?;
+    match wanted.tree.get(target) {
+        Some(resource) => from_resource(alloc, wanted, resource),
+        None => Ok(Vec::new(alloc)),
     }
+}
+
+fn from_resource<T: Tree>(
+    alloc: Global,
+    wanted: &Wanted<T>,
+    target: &Resource,
+) -> Result<Vec<Val>, OutOfMemory>
+    requires tree { IsTrue (is_tree (T.nodes wanted.now.tree.now)) }
+    requires originator { IsTrue (is_originator wanted.now.o.now) }
+    requires target { at target.now.number (T.nodes wanted.now.tree.now) ≡ Some target.now }
+    ensures { IfOk result (λ v. v.items ≡ take wanted.now.limit
+        (map (spec.address wanted.now.by_id (T.nodes wanted.now.tree.now))
+        (spec.all_found wanted.now.home.now (T.nodes wanted.now.tree.now) wanted.now.o.now
+        wanted.now.filter.now target.now.number))) }
+{
+    let mut path = path_to(alloc, wanted.tree, target)?;
+    let mut found = Vec::new(alloc);
+    find_below(alloc, wanted, target.number(), &mut path, &mut found)?;
     Ok(found)
 }
 
