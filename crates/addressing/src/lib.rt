@@ -18,8 +18,6 @@ mod reading;
 mod resolving;
 mod short;
 mod spot;
-#[cfg(test)]
-mod tests;
 
 pub use addr::{Addr, AddrFault, print};
 pub use laws::{

@@ -1,5 +1,5 @@
 -- The rows that members in order give, and what stands at a key of theirs.
-use Rattle.std.proofs.Common.{◌≡◌, ℕ, ◌≢◌, List, [], ◌∷◌, Bool, true, false, ◌||◌, bytes_eq, Option, Some, None, option_and_then, if◌then◌else◌, ◌++◌, append-nil, append_assoc, Ordering, Less, Equal, is_eq, nat_cmp, ◌⊎◌, inl, inr, refl, sym, ap, ◌∙◌, subst}
+use Rattle.std.proofs.Common.{◌≡◌, ℕ, List, [], ◌∷◌, Bool, true, false, ◌||◌, bytes_eq, Option, Some, None, option_and_then, if◌then◌else◌, ◌++◌, append-nil, append_assoc, Less, Equal, nat_cmp, ◌⊎◌, inl, inr, refl, sym, ap, ◌∙◌, subst}
 use Rattle.std.proofs.lemmas.Bool.{both_ways, cases_Bool, false_from_ne_true}
 use Rattle.std.proofs.lemmas.Cmp.{nat_list_cmp_total, tied_itself}
 use Rattle.std.proofs.lemmas.Option.{same_Some}
@@ -113,14 +113,10 @@ pub absent_after : (e : Entry) (es : List Entry) → AreSorted (e ∷ es) → me
 unfolding IsStrictlySortedBy
 absent_after e es sorted = absent_above e.0 es sorted.0
 
-same_key : (x y : List ℕ) → bytes_eq x y ≡ true → x ≡ y
-same_key x y = (bytes_eq-Decides x y).0
+pub same_text : (x y : List ℕ) → bytes_eq x y ≡ true → x ≡ y
+same_text x y = (bytes_eq-Decides x y).0
 
--- the name isn't a row
-pub name_not_kept : (key : List ℕ) (d : Data) → bytes_eq key (attr_short Rn) ≡ true → kept_row (key, d) ≡ None
-name_not_kept key d t = ap (λ k. kept_row (k, d)) (same_key key (attr_short Rn) t)
-
-or_None : {X : Type 0} (o : Option X) → option_or o None ≡ o
+pub or_None : {X : Type 0} (o : Option X) → option_or o None ≡ o
 or_None None = refl
 or_None (Some x) = refl
 
@@ -128,7 +124,7 @@ or_None (Some x) = refl
 pub name_step : (name : Option (List ℕ)) (e : Entry) (es : List Entry) → AreSorted (e ∷ es) → option_or (name_after name e) (named_text Rn es) ≡ option_or name (named_text Rn (e ∷ es))
 name_step name e es sorted = elim (cases_Bool (bytes_eq e.0 (attr_short Rn))) [
   | inl t ↦
-      let same : e.0 ≡ attr_short Rn = same_key e.0 (attr_short Rn) t in
+      let same : e.0 ≡ attr_short Rn = same_text e.0 (attr_short Rn) t in
       let here : bytes_eq (attr_short Rn) e.0 ≡ true = (bytes_eq-Decides (attr_short Rn) e.0).1 (sym same) in
       let gone : named_text Rn es ≡ None = ap (option_and_then as_text) (ap (λ k. member_of k es) (sym same) ∙ absent_after e es sorted) in
       ap (λ b. option_or (if b then option_or name (as_text e.1) else name) (named_text Rn es)) t
@@ -136,7 +132,7 @@ name_step name e es sorted = elim (cases_Bool (bytes_eq e.0 (attr_short Rn))) [
       ∙ or_None (option_or name (as_text e.1))
       ∙ ap (λ b. option_or name (option_and_then as_text (if b then Some e.1 else member_of (attr_short Rn) es))) (sym here)
   | inr f ↦
-      let not_here : bytes_eq (attr_short Rn) e.0 ≡ false = false_from_ne_true _ (λ t. both_ways _ f ((bytes_eq-Decides e.0 (attr_short Rn)).1 (sym (same_key (attr_short Rn) e.0 t)))) in
+      let not_here : bytes_eq (attr_short Rn) e.0 ≡ false = false_from_ne_true _ (λ t. both_ways _ f ((bytes_eq-Decides e.0 (attr_short Rn)).1 (sym (same_text (attr_short Rn) e.0 t)))) in
       ap (λ b. option_or (if b then option_or name (as_text e.1) else name) (named_text Rn es)) f
       ∙ ap (λ b. option_or name (option_and_then as_text (if b then Some e.1 else member_of (attr_short Rn) es))) (sym not_here)
 ]

@@ -1,14 +1,13 @@
 -- The first fault of several, and that contents without a fault are those that are admitted.
-use Rattle.std.proofs.Common.{◌≡◌, List, [], ◌∷◌, Bool, true, false, not, ◌&&◌, ◌||◌, Option, Some, None, IfNone, IfSome, is_none, option_map, subst, if◌then◌else◌, inl, inr, refl, sym, ap, ◌∙◌}
+use Rattle.std.proofs.Common.{◌≡◌, List, [], ◌∷◌, Bool, true, false, not, ◌&&◌, Option, Some, None, is_none, option_map, inl, inr, refl, sym, ap, ◌∙◌}
 use Rattle.std.proofs.lemmas.Bool.{cases_Bool}
-use Rattle.std.proofs.lemmas.Option.{same_Some}
 use Rattle.std.specs.List.{filter_map, find, list_all, cons_option}
 use Rattle.std.specs.Option.{option_or, option_map_or}
 use Rattle.m2m_names.specs.declared.attributes.Attr.{Attr}
 use Rattle.m2m_names.specs.declared.attributes.Attr.TheVariants.{Acpi}
 use Rattle.m2m_names.specs.declared.types.Ty.{Ty}
 use Rattle.m2m_value.specs.Data.{Data, Entry}
-use Rattle.attribute_rules.specs.Admission.{attributes_in, is_named, column_of, allows_value, rule_at, is_fit, is_alone, is_complete, are_admitted, is_admitted, value_fault, key_fault, is_unknown, is_not_allowed, is_wrong_kind, leading_fault, with_fault, missing_attr, rest_fault, fault_in, fault_of}
+use Rattle.attribute_rules.specs.Admission.{attributes_in, is_named, column_of, allows_value, rule_at, is_fit, is_alone, is_complete, are_admitted, is_admitted, value_fault, key_fault, is_unknown, is_not_allowed, is_wrong_kind, leading_fault, with_fault, rest_fault, fault_in, fault_of}
 use Rattle.attribute_rules.specs.Table.{is_permitted, mandatory_attrs}
 use Rattle.attribute_rules.specs.declared.admission.Firsts.{Firsts}
 use Rattle.attribute_rules.specs.declared.table.Rule.{Rule}
@@ -16,7 +15,7 @@ use Rattle.attribute_rules.specs.declared.table.Writing.{Writing}
 use Rattle.attribute_rules.specs.declared.table.Writing.TheVariants.{Create, Update}
 use Rattle.attribute_rules.specs.declared.faults.AttrFault.{AttrFault}
 use Rattle.attribute_rules.specs.declared.faults.AttrFault.TheVariants.{Shape, Unknown, NotAllowed, Kind as WrongKind, Missing, AcpiNotAlone, OutOfMemory}
-use Rattle.attribute_rules.proofs.ContentsLemmas.{seen, no_some}
+use Rattle.attribute_rules.proofs.ContentsLemmas.{seen}
 
 -- ---- what a member may have for a fault
 
@@ -240,21 +239,3 @@ pub sorted_none : (writing : Writing) (ty : Ty) (content : Data) (es : List Entr
 sorted_none writing ty content es is admitted =
     ap (λ o. option_map_or (fault_in writing ty) o (Some Shape)) is
     ∙ none_from (fault_in writing ty es) (sym (members_faultless writing ty es) ∙ admitted)
-
--- ---- what is said of a fault that there is, and of one that there isn't
-
-pub if_none : (o : Option AttrFault) (P : Type 0) → P → IfNone o P
-if_none None P h = h
-if_none (Some f) P h = tt
-
-pub if_none_some : (o : Option AttrFault) (f : AttrFault) (P : Type 0) → o ≡ Some f → IfNone o P
-if_none_some None f P is = absurd (no_some f is)
-if_none_some (Some g) f P is = tt
-
-pub if_some_none : (o : Option AttrFault) (P : AttrFault → Type 0) → o ≡ None → IfSome o P
-if_some_none None P is = tt
-if_some_none (Some f) P is = absurd (no_some f (sym is))
-
-pub if_some : (o : Option AttrFault) (f : AttrFault) (P : AttrFault → Type 0) → o ≡ Some f → P f → IfSome o P
-if_some None f P is h = absurd (no_some f is)
-if_some (Some g) f P is h = subst P (sym (same_Some g f is)) h

@@ -1,3 +1,5 @@
+pub mod AdmittedLemmas
 pub mod ContentsLemmas
 pub mod FaultLemmas
 pub mod KindLemmas
+pub mod ValueLemmas

@@ -1,7 +1,7 @@
 -- Which contents of a Create and of an Update are admitted, and what is wrong with the others.
 use Rattle.std.specs.Prelude.{ℕ, Bool, true, false, not, ◌&&◌, ◌||◌, List, [], ◌∷◌, bytes_eq}
 use Rattle.std.specs.Prelude.{Option, Some, None, find, is_some, is_none, option_map}
-use Rattle.std.specs.Prelude.{option_and_then, if◌then◌else◌}
+use Rattle.std.specs.Prelude.{option_and_then, unwrap_or, if◌then◌else◌}
 use Rattle.std.specs.List.{filter_map, list_all}
 use Rattle.std.specs.Option.{option_or, option_map_or}
 use Rattle.m2m_names.specs.Attributes.{attr_short, attr_of_short}
@@ -11,7 +11,7 @@ use Rattle.m2m_names.specs.declared.attributes.Attr.TheVariants.{Acpi}
 use Rattle.m2m_names.specs.declared.types.Ty.{Ty}
 use Rattle.m2m_value.specs.Data.{Data, Entry}
 use Rattle.m2m_value.specs.View.{as_object, member_of}
-use Rattle.attribute_rules.specs.Kinds.{has_kind, is_content}
+use Rattle.attribute_kinds.specs.Kinds.{has_kind, is_content}
 use Rattle.attribute_rules.specs.Table.{rule_of, is_mandatory, is_permitted, mandatory_attrs}
 use Rattle.attribute_rules.specs.declared.table.Optionality.{Optionality}
 use Rattle.attribute_rules.specs.declared.table.Optionality.TheVariants.{Mandatory, Optional}
@@ -41,6 +41,10 @@ only_value name (e ∷ f ∷ es) = None
 abbrev pub attributes_in : Ty → Data → Option (List Entry)
 attributes_in ty content =
     option_and_then as_object (option_and_then (only_value (ty_member ty)) (as_object content))
+
+-- the same, and none where it is no content for the type
+abbrev pub named_members : Ty → Data → List Entry
+named_members ty content = unwrap_or (attributes_in ty content) []
 
 -- the attribute is named
 abbrev pub is_named : Attr → List Entry → Bool

@@ -1,6 +1,6 @@
 -- What a creation wants, and what an update changes.
 use Rattle.std.specs.Prelude.{ℕ, ◌==◌, Bool, true, false, ◌||◌, List, [], ◌∷◌, length, bytes_eq}
-use Rattle.std.specs.Prelude.{Option, Some, None, option_and_then, unwrap_or, if◌then◌else◌}
+use Rattle.std.specs.Prelude.{Option, Some, None, option_and_then, if◌then◌else◌}
 use Rattle.std.specs.List.{filter_map}
 use Rattle.std.specs.Option.{option_or, option_map_or}
 use Rattle.m2m_names.specs.Attributes.{attr_short, attr_of_short}
@@ -11,7 +11,7 @@ use Rattle.m2m_names.specs.declared.types.Ty.{Ty}
 use Rattle.m2m_value.specs.Data.{Data, Entry}
 use Rattle.m2m_value.specs.View.{as_list, as_text, member_of}
 use Rattle.resource_model.specs.Attributes.{Row, is_attr, with_value, without_value}
-use Rattle.attribute_rules.specs.Admission.{attributes_in, is_named, is_null}
+use Rattle.attribute_rules.specs.Admission.{is_named, is_null, named_members}
 use Rattle.attribute_rules.specs.declared.contents.Edit.{Edit}
 use Rattle.attribute_rules.specs.declared.contents.Wanted.{Wanted}
 
@@ -57,7 +57,7 @@ wanted_in es = record {
 }
 
 abbrev pub wanted_of : Ty → Data → Wanted
-wanted_of ty content = wanted_in (unwrap_or (attributes_in ty content) [])
+wanted_of ty content = wanted_in (named_members ty content)
 
 -- an update clears the attribute
 abbrev pub does_clear : Attr → Data → Bool
@@ -78,7 +78,7 @@ abbrev pub edit_in : List Entry → Edit
 edit_in es = record { sets = filter_map set_row es; clears = filter_map cleared_attr es }
 
 abbrev pub edit_of : Ty → Data → Edit
-edit_of ty content = edit_in (unwrap_or (attributes_in ty content) [])
+edit_of ty content = edit_in (named_members ty content)
 
 -- the rows after an update: `et` is kept beside them
 abbrev pub set_all : List Row → List Row → List Row
@@ -91,3 +91,19 @@ clear_all (attr ∷ attrs) rows = clear_all attrs (without_value attr rows)
 
 abbrev pub edited : Edit → List Row → List Row
 edited edit rows = clear_all edit.clears (set_all edit.sets rows)
+
+-- ---- what becomes of one attribute
+
+-- the value that a creation gives it: the one that is named, but for what is said beside the
+-- attributes, and for no policy
+abbrev pub value_created : Attr → List Entry → Option Data
+value_created attr es =
+    option_and_then (λ d. if is_apart attr || is_no_policy attr d then None else Some d)
+    (member_of (attr_short attr) es)
+
+-- the value that it has after an update: the one that is named, none where it is cleared, else the
+-- one that it had
+abbrev pub value_updated : Attr → List Entry → Option Data → Option Data
+value_updated attr es old =
+    option_map_or (λ d. if does_clear attr d then None else Some d)
+    (member_of (attr_short attr) es) old

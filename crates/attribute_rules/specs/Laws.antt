@@ -1,12 +1,18 @@
--- What holds of the table as a whole.
+-- What holds of the table as a whole, and what an update may do by it.
 use Rattle.std.specs.Prelude.{Bool, true, false, not, ◌&&◌, ◌||◌, List, [], ◌∷◌, if◌then◌else◌}
 use Rattle.std.specs.List.{list_all, list_any}
-use Rattle.resource_model.specs.Attributes.{is_attr}
+use Rattle.std.specs.Option.{option_map_or}
+use Rattle.m2m_names.specs.declared.attributes.Attr.{Attr}
+use Rattle.m2m_names.specs.declared.types.Ty.{Ty}
+use Rattle.resource_model.specs.Attributes.{Row, is_attr}
+use Rattle.attribute_rules.specs.Admission.{is_clearable, is_given}
 use Rattle.attribute_rules.specs.Table.{AttrRow, is_among, is_mandatory, is_permitted}
-use Rattle.attribute_rules.specs.Table.{announceable_types}
+use Rattle.attribute_rules.specs.Table.{announceable_types, rule_of}
+use Rattle.attribute_rules.specs.declared.table.Rule.{Rule}
 use Rattle.attribute_rules.specs.declared.table.Source.{Source}
 use Rattle.attribute_rules.specs.declared.table.Source.TheVariants.{Given, Apart, Creator, Assigned}
 use Rattle.attribute_rules.specs.declared.table.Source.TheVariants.{Derived}
+use Rattle.attribute_rules.specs.declared.table.Writing.TheVariants.{Update}
 
 -- two rows are for different attributes, or for different types
 abbrev pub are_apart : AttrRow → AttrRow → Bool
@@ -40,3 +46,20 @@ has_needed row = not (is_mandatory row.rule.update) || is_mandatory row.rule.cre
 abbrev pub has_original : AttrRow → Bool
 has_original row =
     not row.rule.announced || list_all (λ ty. is_among ty announceable_types) row.types
+
+-- ---- what an update may do to a resource of a type
+
+-- it may name the attribute
+abbrev pub may_name : Ty → Attr → Bool
+may_name ty attr =
+    option_map_or (λ (rule : Rule). is_permitted rule.update) (rule_of ty attr) false
+
+-- it may give the attribute this value, which is of its kind, also where it is `et`
+abbrev pub may_set : Ty → Row → Bool
+may_set ty row =
+    option_map_or (λ (rule : Rule). is_permitted rule.update && is_given rule.source row.1)
+    (rule_of ty row.0) false
+
+-- it may clear the attribute
+abbrev pub may_clear : Ty → Attr → Bool
+may_clear ty attr = option_map_or (is_clearable Update) (rule_of ty attr) false

@@ -21,12 +21,12 @@ use Rattle.m2m_names.specs.declared.types.Ty.TheVariants.{GroupAnnc}
 use Rattle.m2m_names.specs.Types.{all_types}
 use Rattle.resource_model.specs.Attributes.{is_attr}
 use Rattle.resource_model.specs.Resource.{is_ty}
-use Rattle.attribute_rules.specs.declared.kinds.Kind.{Kind}
-use Rattle.attribute_rules.specs.declared.kinds.Kind.TheVariants.{Name, Stamp, Text, Label, Labels}
-use Rattle.attribute_rules.specs.declared.kinds.Kind.TheVariants.{Bool as Truth, Count, OneOf}
-use Rattle.attribute_rules.specs.declared.kinds.Kind.TheVariants.{CseId, CseIds, Originator}
-use Rattle.attribute_rules.specs.declared.kinds.Kind.TheVariants.{Policies, Points, Target, Rules}
-use Rattle.attribute_rules.specs.declared.kinds.Kind.TheVariants.{Criteria, MemberType, Content}
+use Rattle.attribute_kinds.specs.declared.kinds.Kind.{Kind}
+use Rattle.attribute_kinds.specs.declared.kinds.Kind.TheVariants.{Name, Stamp, Text, Label, Labels}
+use Rattle.attribute_kinds.specs.declared.kinds.Kind.TheVariants.{Bool as Truth, Count, OneOf}
+use Rattle.attribute_kinds.specs.declared.kinds.Kind.TheVariants.{CseId, CseIds, Originator}
+use Rattle.attribute_kinds.specs.declared.kinds.Kind.TheVariants.{Policies, Points, Target, Rules}
+use Rattle.attribute_kinds.specs.declared.kinds.Kind.TheVariants.{Criteria, MemberType, Content}
 use Rattle.attribute_rules.specs.declared.table.Optionality.{Optionality}
 use Rattle.attribute_rules.specs.declared.table.Optionality.TheVariants.{Mandatory, Optional}
 use Rattle.attribute_rules.specs.declared.table.Optionality.TheVariants.{NotPermitted}

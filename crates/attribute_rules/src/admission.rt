@@ -1,5 +1,6 @@
 //! Which contents are admitted, and what is wrong with the others.
-ghost use Rattle.std.specs.Prelude.{◌≡◌, Some, None, IfOk, OnOk, IfErr, false, option_map};
+ghost use Rattle.std.specs.Prelude.{◌≡◌, Some, None, IfOk, OnOk, IfErr, IsTrue, false};
+ghost use Rattle.std.specs.Prelude.{option_map};
 ghost use Rattle.std.specs.List.{filter_map, list_all};
 ghost use Rattle.std.specs.Option.{option_map_or};
 ghost use Rattle.m2m_value.specs.View as views;
@@ -247,6 +248,7 @@ fn fault_in(writing: Writing, ty: Ty, members: Members) -> Option<AttrFault>
 /// The attributes that an admitted content names; of any other content its first fault.
 pub fn sort_out(writing: Writing, ty: Ty, content: Val) -> Result<Members, AttrFault>
     ensures attributes { IfOk result (λ es. spec.attributes_in ty content ≡ Some es) }
+    ensures fit { IfOk result (λ es. IsTrue (spec.are_admitted writing ty es)) }
     ensures admitted { OnOk result (spec.fault_of writing ty content ≡ None) }
     ensures refused { IfErr result (λ fault. spec.fault_of writing ty content ≡ Some fault) }
 {

@@ -1,7 +1,12 @@
 //! The contents of a Create and of an Update: judged, and taken apart.
 ghost use Rattle.std.specs.Prelude.{◌≡◌, ◌≤◌, Err, IfOk, IfSome, IfNone, IsOkUnless, IsTrue};
 ghost use Rattle.std.specs.Prelude.{IsUtf8};
+ghost use Rattle.m2m_names.specs.Name.{is_free_name};
 ghost use Rattle.m2m_names.specs.Stamps.{last_moment};
+ghost use Rattle.m2m_names.specs.declared.attributes.Attr.TheVariants.{Et};
+ghost use Rattle.resource_model.specs.Attributes.{value_of};
+ghost use Rattle.attribute_kinds.specs.Kinds.{has_kind};
+ghost use Rattle.attribute_kinds.specs.declared.kinds.Kind.TheVariants.{Stamp};
 ghost use Rattle.attribute_rules.specs.Admission.{fault_of, is_admitted};
 ghost use Rattle.attribute_rules.specs.Contents.{edit_of, wanted_of};
 ghost use Rattle.attribute_rules.specs.declared.table.Writing.TheVariants.{Create, Update};
@@ -32,6 +37,7 @@ pub fn admits_update(ty: Ty, content: &Val) -> bool
 pub fn take_wanted(alloc: Global, ty: Ty, content: Val) -> Result<Wanted, OutOfMemory>
     requires { IsTrue (is_admitted Create ty content) }
     ensures value { IfOk result (λ w. w ≡ wanted_of ty content) }
+    ensures name { IfOk result (λ w. IfSome w.name (λ t. IsTrue (is_free_name t))) }
     ensures utf8 { IfOk result (λ w. IfSome w.name (λ t. IsUtf8 t)) }
     ensures last { IfOk result (λ w. IfSome w.et (λ m. m ≤ last_moment)) }
 {
@@ -44,7 +50,9 @@ pub fn take_wanted(alloc: Global, ty: Ty, content: Val) -> Result<Wanted, OutOfM
 /// What an update changes whose content is admitted, moved out of it.
 pub fn take_edit(alloc: Global, ty: Ty, content: Val) -> Result<Edit, OutOfMemory>
     requires { IsTrue (is_admitted Update ty content) }
-    ensures { IfOk result (λ e. e ≡ edit_of ty content) }
+    ensures value { IfOk result (λ e. e ≡ edit_of ty content) }
+    ensures expiry { IfOk result (λ e.
+        IfSome (value_of Et e.sets) (λ d. IsTrue (has_kind Stamp d))) }
 {
     match take_attributes(ty, content) {
         Some(members) => edit_in(alloc, members),
@@ -56,6 +64,7 @@ pub fn take_edit(alloc: Global, ty: Ty, content: Val) -> Result<Edit, OutOfMemor
 /// content, which takes no memory to say.
 pub fn admit_create(alloc: Global, ty: Ty, content: Val) -> Result<Wanted, AttrFault>
     ensures value { IfOk result (λ w. w ≡ wanted_of ty content) }
+    ensures name { IfOk result (λ w. IfSome w.name (λ t. IsTrue (is_free_name t))) }
     ensures utf8 { IfOk result (λ w. IfSome w.name (λ t. IsUtf8 t)) }
     ensures last { IfOk result (λ w. IfSome w.et (λ m. m ≤ last_moment)) }
     ensures admitted { IfNone (fault_of Create ty content)
@@ -72,6 +81,8 @@ pub fn admit_create(alloc: Global, ty: Ty, content: Val) -> Result<Wanted, AttrF
 /// content, which takes no memory to say.
 pub fn admit_update(alloc: Global, ty: Ty, content: Val) -> Result<Edit, AttrFault>
     ensures value { IfOk result (λ e. e ≡ edit_of ty content) }
+    ensures expiry { IfOk result (λ e.
+        IfSome (value_of Et e.sets) (λ d. IsTrue (has_kind Stamp d))) }
     ensures admitted { IfNone (fault_of Update ty content)
         (IsOkUnless result AttrFault.OutOfMemory) }
     ensures refused { IfSome (fault_of Update ty content) (λ fault. result ≡ Err fault) }

@@ -1,13 +1,21 @@
 //! Laws of the table, and of what is admitted.
-ghost use Rattle.std.specs.Prelude.{◌≡◌, IsTrue, List, is_none};
+ghost use Rattle.std.specs.Prelude.{◌≡◌, IfSome, IsTrue, List, Some, false, is_none};
 ghost use Rattle.std.specs.List.{list_all};
+ghost use Rattle.m2m_names.specs.declared.attributes.Attr.{Attr};
+ghost use Rattle.m2m_names.specs.declared.attributes.Attr.TheVariants.{Acpi, Cr, Et, Macp};
 ghost use Rattle.m2m_names.specs.declared.types.Ty.{Ty};
-ghost use Rattle.m2m_value.specs.Data.{Data};
-ghost use Rattle.resource_model.specs.Attributes.{Row};
-ghost use Rattle.attribute_rules.specs.Admission.{fault_of, is_admitted};
-ghost use Rattle.attribute_rules.specs.Contents.{edit_of, edited, wanted_of};
-ghost use Rattle.attribute_rules.specs.Kinds.{have_kinds};
+ghost use Rattle.m2m_value.specs.Data.{Data, Entry};
+ghost use Rattle.m2m_value.specs.Node.{AreSorted};
+ghost use Rattle.resource_model.specs.Attributes.{Row, is_attr, value_of};
+ghost use Rattle.attribute_kinds.specs.Kinds.{has_kind};
+ghost use Rattle.attribute_kinds.specs.declared.kinds.Kind.TheVariants.{Originator, Policies};
+ghost use Rattle.attribute_kinds.specs.declared.kinds.Kind.TheVariants.{Stamp};
+ghost use Rattle.attribute_rules.specs.Admission.{fault_of, is_admitted, is_named, named_members};
+ghost use Rattle.attribute_rules.specs.Contents.{edit_in, edit_of, edited, wanted_in, wanted_of};
+ghost use Rattle.attribute_rules.specs.Contents.{value_created, value_updated};
+ghost use Rattle.attribute_rules.specs.Kinds.{have_kinds, kind_of};
 ghost use Rattle.attribute_rules.specs.Laws.{has_columns, has_needed, has_original, stand_once};
+ghost use Rattle.attribute_rules.specs.Laws.{may_clear, may_name, may_set};
 ghost use Rattle.attribute_rules.specs.Table.{attr_rows};
 ghost use Rattle.attribute_rules.specs.declared.table.Writing.{Writing};
 ghost use Rattle.attribute_rules.specs.declared.table.Writing.TheVariants.{Create, Update};
@@ -40,4 +48,43 @@ pub fn updated_attributes_have_their_kinds()
     ensures { (ty : Ty) (content : Data) (rows : List Row) →
         IsTrue (is_admitted Update ty content) → IsTrue (have_kinds ty rows) →
         IsTrue (have_kinds ty (edited (edit_of ty content) rows)) }
+{}
+
+/// Where an admitted content names policies, the type keeps a list of texts, as their ids are; and
+/// where it asks for the creator, an originator.
+pub fn what_is_named_is_kept()
+    ensures policies { (writing : Writing) (ty : Ty) (content : Data) →
+        IsTrue (is_admitted writing ty content) →
+        IsTrue (is_named Acpi (named_members ty content)) → kind_of ty Acpi ≡ Some Policies }
+    ensures fan_policies { (writing : Writing) (ty : Ty) (content : Data) →
+        IsTrue (is_admitted writing ty content) →
+        IsTrue (is_named Macp (named_members ty content)) → kind_of ty Macp ≡ Some Policies }
+    ensures creator { (writing : Writing) (ty : Ty) (content : Data) →
+        IsTrue (is_admitted writing ty content) →
+        IsTrue (is_named Cr (named_members ty content)) → kind_of ty Cr ≡ Some Originator }
+{}
+
+/// What an admitted update sets is of the attribute's kind, so that an expiry is a timestamp; it
+/// clears only what it may, and leaves as it is what it may not name.
+pub fn an_update_does_what_it_may()
+    ensures sets { (ty : Ty) (content : Data) → IsTrue (is_admitted Update ty content) →
+        IsTrue (list_all (may_set ty) (edit_of ty content).sets) }
+    ensures expiry { (ty : Ty) (content : Data) → IsTrue (is_admitted Update ty content) →
+        IfSome (value_of Et (edit_of ty content).sets) (λ d. IsTrue (has_kind Stamp d)) }
+    ensures clears { (ty : Ty) (content : Data) → IsTrue (is_admitted Update ty content) →
+        IsTrue (list_all (may_clear ty) (edit_of ty content).clears) }
+    ensures others { (ty : Ty) (content : Data) (attr : Attr) (rows : List Row) →
+        IsTrue (is_admitted Update ty content) → may_name ty attr ≡ false →
+        value_of attr (edited (edit_of ty content) rows) ≡ value_of attr rows }
+{}
+
+/// What a resource has of an attribute is what a creation gives it, and then what updates do to it;
+/// but its expiry is kept beside its attributes.
+pub fn attributes_have_the_values_that_are_named()
+    ensures created { (attr : Attr) (members : List Entry) → AreSorted members →
+        value_of attr (wanted_in members).attrs ≡ value_created attr members }
+    ensures updated { (attr : Attr) (members : List Entry) (rows : List Row) →
+        AreSorted members → is_attr attr Et ≡ false →
+        value_of attr (edited (edit_in members) rows)
+        ≡ value_updated attr members (value_of attr rows) }
 {}

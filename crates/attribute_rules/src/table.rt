@@ -5,10 +5,10 @@ ghost use Rattle.attribute_rules.specs.Admission as admission;
 ghost use Rattle.attribute_rules.specs.Kinds as kinds;
 ghost use Rattle.attribute_rules.specs.Table as spec;
 
-use crate::Kind;
-use Kind::*;
 use Optionality::*;
 use Source::*;
+use attribute_kinds::Kind;
+use attribute_kinds::Kind::*;
 use m2m_names::Ty::*;
 use m2m_names::{Attr, Ty};
 use m2m_value::Val;

@@ -12,7 +12,8 @@ use Rattle.resource_model.specs.Resource.{ResourceData}
 use Rattle.tree_model.specs.Tree.{has, size_of}
 use Rattle.container_limits.specs.Limits.{is_within, do_fit, suffixes, longest_fit, is_due_by, lasts, goes, going, kept, evicted, numbers_of}
 use Rattle.container_limits.specs.declared.limits.Limits.{Limits}
-use Rattle.container_limits.proofs.PlaceLemmas.{ascend, drop_step, lacked_all}
+use Rattle.tree_model.proofs.OrderLemmas.{ascend}
+use Rattle.container_limits.proofs.PlaceLemmas.{drop_step, lacked_all}
 
 -- ---- due or not
 
@@ -129,19 +130,16 @@ going_turn [] (suc k) n m b mia moment out in' = going_nil n mia moment ∙ sym 
 going_turn (r ∷ rs) zero n m b mia moment out in' = going_first r rs n m b mia moment out in'
 going_turn (r ∷ rs) (suc k) n m b mia moment out in' = going_turn rs k n m b mia moment out in'
 
--- the numbers so far and those of the rest are those of all
-pub gone_turn : (rs : List ResourceData) (k outside : ℕ) (mia : Option ℕ) (moment : ℕ) (now after all : List ℕ) (o : Option ResourceData) → o ≡ slice_get rs k → now ++ numbers_of (going (outside - k) mia moment (drop k rs)) ≡ all → after ≡ now ++ numbers_of (filter (goes (nat_lt k outside) mia moment) (option_to_list o)) → after ++ numbers_of (going (outside - (k + 1)) mia moment (drop (k + 1) rs)) ≡ all
-gone_turn rs k outside mia moment now after all o is rest pushed =
+-- what is to go from a place on is what goes there and what is to go from the next one on
+pub going_split : (rs : List ResourceData) (k outside : ℕ) (mia : Option ℕ) (moment : ℕ) (o : Option ResourceData) → o ≡ slice_get rs k → numbers_of (going (outside - k) mia moment (drop k rs)) ≡ numbers_of (filter (goes (nat_lt k outside) mia moment) (option_to_list o)) ++ numbers_of (going (outside - (k + 1)) mia moment (drop (k + 1) rs))
+going_split rs k outside mia moment o is =
     let head = filter (goes (nat_lt k outside) mia moment) (option_to_list (slice_get rs k)) in
     let tail = going (outside - (k + 1)) mia moment (drop (k + 1) rs) in
     let split : going (outside - k) mia moment (drop k rs) ≡ head ++ tail =
     going_turn rs k (outside - k) (outside - (k + 1)) (nat_lt k outside) mia moment (λ t. within t) (λ f. (over f, over_next f))
     ∙ ap (λ (n : ℕ). head ++ going (outside - (k + 1)) mia moment (drop n rs)) (suc-eq-add-one k) in
-    let here : after ≡ now ++ numbers_of head = pushed ∙ ap (λ (x : Option ResourceData). now ++ numbers_of (filter (goes (nat_lt k outside) mia moment) (option_to_list x))) is in
-    ap (λ (ns : List ℕ). ns ++ numbers_of tail) here
-    ∙ append_assoc now (numbers_of head) (numbers_of tail)
-    ∙ ap (λ (ns : List ℕ). now ++ ns) (sym (map-append (λ (r : ResourceData). r.number) head tail) ∙ ap numbers_of (sym split))
-    ∙ rest
+    ap numbers_of split ∙ map-append (λ (r : ResourceData). r.number) head tail
+    ∙ ap (λ (x : Option ResourceData). numbers_of (filter (goes (nat_lt k outside) mia moment) (option_to_list x)) ++ numbers_of tail) (sym is)
   where
     within : nat_lt k outside ≡ true → outside - k ≡ suc (outside - (k + 1))
     within t = (let less : k < outside = ltb-true k outside t in omega arith)
@@ -151,6 +149,16 @@ gone_turn rs k outside mia moment now after all o is rest pushed =
 
     over_next : nat_lt k outside ≡ false → outside - (k + 1) ≡ 0
     over_next f = (let more : outside ≤ k = ltb-false k outside f in omega arith)
+
+-- the numbers so far and those of the rest are those of all
+pub gone_turn : (rs : List ResourceData) (k outside : ℕ) (mia : Option ℕ) (moment : ℕ) (now after all : List ℕ) (o : Option ResourceData) → o ≡ slice_get rs k → now ++ numbers_of (going (outside - k) mia moment (drop k rs)) ≡ all → after ≡ now ++ numbers_of (filter (goes (nat_lt k outside) mia moment) (option_to_list o)) → after ++ numbers_of (going (outside - (k + 1)) mia moment (drop (k + 1) rs)) ≡ all
+gone_turn rs k outside mia moment now after all o is rest pushed =
+    let head = numbers_of (filter (goes (nat_lt k outside) mia moment) (option_to_list o)) in
+    let tail = numbers_of (going (outside - (k + 1)) mia moment (drop (k + 1) rs)) in
+    ap (λ (ns : List ℕ). ns ++ tail) pushed
+    ∙ append_assoc now head tail
+    ∙ ap (λ (ns : List ℕ). now ++ ns) (sym (going_split rs k outside mia moment o is))
+    ∙ rest
 
 pub gone_start : (rs : List ResourceData) (outside : ℕ) (mia : Option ℕ) (moment : ℕ) (now : List ℕ) → now ≡ [] → now ++ numbers_of (going (outside - 0) mia moment (drop 0 rs)) ≡ numbers_of (going outside mia moment rs)
 gone_start rs outside mia moment now none =

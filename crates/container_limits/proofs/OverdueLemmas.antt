@@ -71,14 +71,20 @@ module _ (nodes : List ResourceData) (moment : ℕ) (tree : is_tree nodes ≡ tr
 
 -- ---- one step along the list
 
+pub over_split : (q : ResourceData → Bool) (rs : List ResourceData) (k : ℕ) → numbers_of (filter q (drop k rs)) ≡ numbers_of (filter q (option_to_list (slice_get rs k))) ++ numbers_of (filter q (drop (k + 1) rs))
+over_split q rs k =
+    let head = filter q (option_to_list (slice_get rs k)) in
+    let tail = filter q (drop (k + 1) rs) in
+    ap numbers_of (ap (filter q) (drop_step rs k) ∙ filter-append q (option_to_list (slice_get rs k)) (drop (k + 1) rs))
+    ∙ map-append (λ (r : ResourceData). r.number) head tail
+
 pub over_turn : (q : ResourceData → Bool) (rs : List ResourceData) (k : ℕ) (now after all : List ℕ) → now ++ numbers_of (filter q (drop k rs)) ≡ all → after ≡ now ++ numbers_of (filter q (option_to_list (slice_get rs k))) → after ++ numbers_of (filter q (drop (k + 1) rs)) ≡ all
 over_turn q rs k now after all rest pushed =
     let head = filter q (option_to_list (slice_get rs k)) in
     let tail = filter q (drop (k + 1) rs) in
-    let split : filter q (drop k rs) ≡ head ++ tail = ap (filter q) (drop_step rs k) ∙ filter-append q (option_to_list (slice_get rs k)) (drop (k + 1) rs) in
     ap (λ (ns : List ℕ). ns ++ numbers_of tail) pushed
     ∙ append_assoc now (numbers_of head) (numbers_of tail)
-    ∙ ap (λ (ns : List ℕ). now ++ ns) (sym (map-append (λ (r : ResourceData). r.number) head tail) ∙ ap numbers_of (sym split))
+    ∙ ap (λ (ns : List ℕ). now ++ ns) (sym (over_split q rs k))
     ∙ rest
 
 pub over_all : (q : ResourceData → Bool) (rs : List ResourceData) (k : ℕ) (now all : List ℕ) → length rs ≤ k → now ++ numbers_of (filter q (drop k rs)) ≡ all → now ≡ all

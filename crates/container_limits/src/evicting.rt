@@ -1,16 +1,16 @@
 // What the limits of a container push out.
-ghost use Rattle.std.specs.Prelude.{◌≡◌, ◌^◌, ◌<◌, [], ◌∷◌, ◌++◌, length, filter, sum_by, drop};
-ghost use Rattle.std.specs.Prelude.{option_map, option_to_list, IfOk, OnOk};
+ghost use Rattle.std.specs.Prelude.{◌≡◌, ◌≢◌, ◌^◌, ◌<◌, [], ◌∷◌, ◌++◌, length, filter, sum_by, drop};
+ghost use Rattle.std.specs.Prelude.{option_map, option_to_list, IfOk, OnOk, OnErr};
 ghost use Rattle.tree_model.specs.Tree.{instances_of, size_of};
 ghost use Rattle.container_limits.specs.Limits.{lasts, goes, going, kept, evicted, numbers_of};
 ghost use Rattle.container_limits.specs.Limits.{IsQuiet};
 
-use crate::instances::{instance, is_quiet, lasting_total, total, with_new, without};
+use crate::instances::{is_quiet, lasting_total, total, with_new, without};
 use crate::limits::{Limits, Total, is_due_by, is_total_within};
 use m2m_value::Numbers;
 use resource_model::Resource;
 use std::alloc::{AllocError as OutOfMemory, Global};
-use tree_model::Tree;
+use tree_model::{Tree, instance_at};
 
 /// The numbers of the instances of a container that these limits push out at a moment, oldest
 /// first: those that are due, and then those outside the longest suffix that fits, where one of
@@ -23,8 +23,11 @@ pub fn evictions<T: Tree>(
     new_size: Option<u64>,
     moment: u64,
 ) -> Result<Numbers, OutOfMemory>
-    ensures { IfOk result (λ n. n
+    ensures value { IfOk result (λ n. n
         ≡ evicted limits new_size moment (instances_of container (T.nodes tree.now))) }
+    // No memory is taken where nothing goes.
+    ensures memory { OnErr result
+        (evicted limits new_size moment (instances_of container (T.nodes tree.now)) ≢ []) }
 {
     // That it is a tree is told by its length.
     let _count = tree.len();
@@ -56,7 +59,7 @@ fn count_outside<T: Tree>(
         }
         left = without(
             left,
-            instance(tree, container, k),
+            instance_at(tree, container, k),
             false,
             limits.mia,
             moment,
@@ -93,8 +96,10 @@ fn gone<T: Tree>(
     quiet: bool,
 ) -> Result<Vec<u64>, OutOfMemory>
     requires { IsQuiet quiet mia moment (instances_of container (T.nodes tree.now)) }
-    ensures { IfOk result (λ v. v.items
+    ensures value { IfOk result (λ v. v.items
         ≡ numbers_of (going outside mia moment (instances_of container (T.nodes tree.now)))) }
+    ensures memory { OnErr result
+        (numbers_of (going outside mia moment (instances_of container (T.nodes tree.now))) ≢ []) }
 {
     let mut numbers = Vec::new(alloc);
     for k in 0..tree.instance_count(container) {
@@ -103,7 +108,7 @@ fn gone<T: Tree>(
         }
         push_gone(
             &mut numbers,
-            instance(tree, container, k),
+            instance_at(tree, container, k),
             k < outside,
             mia,
             moment,
@@ -119,10 +124,12 @@ fn push_gone(
     mia: Option<u64>,
     moment: u64,
 ) -> Result<(), OutOfMemory>
-    ensures { OnOk result (numbers.new.items
+    ensures ok { OnOk result (numbers.new.items
         ≡ numbers.old.items
         ++ numbers_of (filter (goes outside mia moment)
         (option_to_list (option_map (λ r. r.now) resource.entry)))) }
+    ensures memory { OnErr result (numbers_of (filter (goes outside mia moment)
+        (option_to_list (option_map (λ r. r.now) resource.entry))) ≢ []) }
 {
     match resource {
         Some(resource) => push_number(numbers, resource, outside, mia, moment),
@@ -137,8 +144,10 @@ fn push_number(
     mia: Option<u64>,
     moment: u64,
 ) -> Result<(), OutOfMemory>
-    ensures { OnOk result (numbers.new.items
+    ensures ok { OnOk result (numbers.new.items
         ≡ numbers.old.items ++ numbers_of (filter (goes outside mia moment) (resource.now ∷ []))) }
+    ensures memory { OnErr result
+        (numbers_of (filter (goes outside mia moment) (resource.now ∷ [])) ≢ []) }
 {
     if outside || is_due_by(resource, mia, moment) {
         numbers.push(resource.number())?;

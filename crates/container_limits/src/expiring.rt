@@ -1,6 +1,6 @@
 // What is overdue.
-ghost use Rattle.std.specs.Prelude.{◌≡◌, ◌++◌, [], ◌∷◌, filter, slice_get, not, option_map};
-ghost use Rattle.std.specs.Prelude.{option_to_list, Some, IsTrue, IfOk, OnOk};
+ghost use Rattle.std.specs.Prelude.{◌≡◌, ◌≢◌, ◌++◌, [], ◌∷◌, filter, slice_get, not, option_map};
+ghost use Rattle.std.specs.Prelude.{option_to_list, Some, IsTrue, IfOk, OnOk, OnErr};
 ghost use Rattle.tree_model.specs.Tree.{at, has, live, is_tree};
 ghost use Rattle.container_limits.specs.Limits.{numbers_of};
 ghost use Rattle.container_limits.specs.Overdue.{overdue_numbers};
@@ -13,7 +13,9 @@ use tree_model::{Tree, is_due};
 /// The numbers of the resources that are overdue at a moment, in order of creation: those that are
 /// due, and all that stand below one.
 pub fn overdue<T: Tree>(alloc: Global, tree: &T, moment: u64) -> Result<Numbers, OutOfMemory>
-    ensures { IfOk result (λ n. n ≡ overdue_numbers moment (T.nodes tree.now)) }
+    ensures value { IfOk result (λ n. n ≡ overdue_numbers moment (T.nodes tree.now)) }
+    // No memory is taken where nothing is overdue.
+    ensures memory { OnErr result (overdue_numbers moment (T.nodes tree.now) ≢ []) }
 {
     let quiet = tree.quiet_until();
     // That it is a tree is told by its length.
@@ -26,7 +28,8 @@ pub fn overdue<T: Tree>(alloc: Global, tree: &T, moment: u64) -> Result<Numbers,
 
 fn numbers_at<T: Tree>(alloc: Global, tree: &T, moment: u64) -> Result<Vec<u64>, OutOfMemory>
     requires { IsTrue (is_tree (T.nodes tree.now)) }
-    ensures { IfOk result (λ v. v.items ≡ overdue_numbers moment (T.nodes tree.now)) }
+    ensures value { IfOk result (λ v. v.items ≡ overdue_numbers moment (T.nodes tree.now)) }
+    ensures memory { OnErr result (overdue_numbers moment (T.nodes tree.now) ≢ []) }
 {
     let mut numbers = Vec::new(alloc);
     for k in 0..tree.len() {
@@ -42,11 +45,14 @@ fn push_overdue<T: Tree>(
     moment: u64,
 ) -> Result<(), OutOfMemory>
     requires { IsTrue (is_tree (T.nodes tree.now)) }
-    ensures { OnOk result (numbers.new.items
+    ensures ok { OnOk result (numbers.new.items
         ≡ numbers.old.items
         ++ numbers_of
         (filter (λ r. not (has r.number (live moment (T.nodes tree.now))))
         (option_to_list (slice_get (T.nodes tree.now) k)))) }
+    ensures memory { OnErr result
+        (numbers_of (filter (λ r. not (has r.number (live moment (T.nodes tree.now))))
+        (option_to_list (slice_get (T.nodes tree.now) k))) ≢ []) }
 {
     match tree.nth(k) {
         Some(resource) => push_number(numbers, tree, resource, moment),
@@ -62,10 +68,13 @@ fn push_number<T: Tree>(
 ) -> Result<(), OutOfMemory>
     requires tree { IsTrue (is_tree (T.nodes tree.now)) }
     requires stands { at resource.now.number (T.nodes tree.now) ≡ Some resource.now }
-    ensures { OnOk result (numbers.new.items
+    ensures ok { OnOk result (numbers.new.items
         ≡ numbers.old.items
         ++ numbers_of
         (filter (λ r. not (has r.number (live moment (T.nodes tree.now)))) (resource.now ∷ []))) }
+    ensures memory { OnErr result
+        (numbers_of (filter (λ r. not (has r.number (live moment (T.nodes tree.now))))
+        (resource.now ∷ [])) ≢ []) }
 {
     if is_overdue(tree, resource, moment) {
         numbers.push(resource.number())?;

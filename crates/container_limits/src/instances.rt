@@ -1,5 +1,5 @@
 // The instances of a container, one by one, and what they add up to.
-ghost use Rattle.std.specs.Prelude.{◌≡◌, ◌+◌, ◌-◌, ◌^◌, ◌<◌, length, filter, sum_by, slice_get};
+ghost use Rattle.std.specs.Prelude.{◌≡◌, ◌+◌, ◌-◌, ◌^◌, ◌<◌, length, filter, sum_by};
 ghost use Rattle.std.specs.Prelude.{option_map, option_to_list, unwrap_or};
 ghost use Rattle.tree_model.specs.Tree.{instances_of, size_of};
 ghost use Rattle.container_limits.specs.Limits.{lasts, is_in_state, is_age, has_mia, is_mia_of};
@@ -8,18 +8,7 @@ ghost use Rattle.container_limits.specs.Limits.{IsQuiet};
 use crate::limits::{Total, is_due_by};
 use m2m_names::Attr;
 use resource_model::Resource;
-use tree_model::Tree;
-
-/// The instance of a container at a place from the oldest.
-pub(crate) fn instance<T: Tree>(tree: &T, container: u64, k: u64) -> Option<&Resource>
-    ensures { option_map (λ r. r.now) result
-        ≡ slice_get (instances_of container (T.nodes tree.now)) k }
-{
-    // That it is a tree is told by its length.
-    let _count = tree.len();
-    let number = tree.instance_at(container, k)?;
-    tree.get(number)
-}
+use tree_model::{Tree, instance_at};
 
 fn size(resource: &Resource) -> u64
     ensures { result ≡ size_of resource.now }
@@ -119,7 +108,7 @@ pub(crate) fn lasting_total<T: Tree>(
 {
     let mut total = total(tree, container);
     for k in 0..tree.instance_count(container) {
-        total = without(total, instance(tree, container, k), true, mia, moment);
+        total = without(total, instance_at(tree, container, k), true, mia, moment);
     }
     total
 }

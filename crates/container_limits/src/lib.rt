@@ -15,8 +15,6 @@ mod expiring;
 mod instances;
 mod laws;
 mod limits;
-#[cfg(test)]
-mod tests;
 
 pub use evicting::evictions;
 pub use expiring::overdue;

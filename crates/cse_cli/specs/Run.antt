@@ -7,8 +7,8 @@ use Rattle.m2m_io.specs.declared.status.Status.TheVariants.{Done, ReadFault, Wri
 use Rattle.m2m_io.specs.declared.status.Status.TheVariants.{BadStream}
 use Rattle.turn_desk.specs.Growth.{IsOwnRun}
 use Rattle.resource_model.specs.Home.{default_home}
-use Rattle.create_delete.specs.Entity.{EntityData}
-use Rattle.create_delete.specs.Opening.{opening}
+use Rattle.entity_model.specs.Entity.{EntityData}
+use Rattle.entity_model.specs.Opening.{opening}
 use Rattle.cse_machine.specs.Step.{Step}
 use Rattle.cse_server.specs.Connection.{Serves}
 use Rattle.cse_server.specs.declared.connection.Ended.{Ended}

@@ -3,14 +3,15 @@ ghost use Rattle.std.specs.Prelude.{◌≡◌, ◌≢◌, ◌≤◌, IfOk};
 ghost use Rattle.m2m_io.specs.Counts.{Rose};
 ghost use Rattle.m2m_io.specs.Outside.{outside};
 ghost use Rattle.resource_model.specs.Home.{default_home};
-ghost use Rattle.create_delete.specs.Opening.{opening};
+ghost use Rattle.entity_model.specs.Opening.{opening};
 ghost use Rattle.cse_cli.specs.Run.{RunsHttp, status_of};
 
-use create_delete::Entity;
 use cse_server::{Bench, Ended, Served, Wire, serve_connection};
+use entity_model::Entity;
 use m2m_io::{Clock, Link, Sink, Source, Status};
+use plain_tree::ListTree;
 use std::alloc::{AllocError as OutOfMemory, Global};
-use tree_model::{Home, ListTree};
+use tree_model::Home;
 use turn_desk::{OwnDesk, OwnSeat};
 
 fn status_of(ended: Ended) -> Status

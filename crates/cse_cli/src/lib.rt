@@ -11,6 +11,3 @@ mod http;
 
 pub use adapters::{StdIn, StdOut, SystemClock, words};
 pub use command::run;
-
-#[cfg(test)]
-mod tests;

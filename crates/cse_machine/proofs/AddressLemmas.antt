@@ -7,7 +7,7 @@ use Rattle.std.specs.List.{slice_get}
 use Rattle.resource_model.specs.Resource.{ResourceData, has_number}
 use Rattle.tree_model.specs.Tree.{at, has}
 use Rattle.tree_model.proofs.TreeLemmas.{at_has}
-use Rattle.create_delete.specs.Entity.{EntityData}
+use Rattle.entity_model.specs.Entity.{EntityData}
 use Rattle.cse_machine.specs.Answer.{addressed}
 
 -- the first resource is there, by its number

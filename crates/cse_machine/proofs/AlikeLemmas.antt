@@ -8,9 +8,9 @@ use Rattle.resource_model.specs.Resource.{ResourceData}
 use Rattle.tree_model.specs.Tree.{live}
 use Rattle.policy_eval.specs.Seen.{seen_list}
 use Rattle.policy_eval.proofs.TwiceLemmas.{live-same}
-use Rattle.create_delete.specs.Entity.{EntityData, event_moment, swept}
-use Rattle.create_delete.specs.Sound.{IsSound}
-use Rattle.create_delete.proofs.SoundLemmas.{sound_swept}
+use Rattle.entity_model.specs.Entity.{EntityData, event_moment, swept}
+use Rattle.entity_model.specs.Sound.{IsSound}
+use Rattle.entity_model.proofs.SoundLemmas.{sound_swept}
 use Rattle.cse_machine.specs.declared.event.Event.{Event}
 use Rattle.cse_machine.specs.declared.event.Event.TheVariants.{Ask}
 use Rattle.cse_machine.specs.declared.event.Outcome.{Outcome}

@@ -14,7 +14,7 @@ use Rattle.m2m_value.specs.Data.{Data, object, pairs_of}
 use Rattle.resource_model.specs.Attributes.{Row}
 use Rattle.tree_model.specs.Shown.{members_of, wrapped}
 use Rattle.policy_eval.specs.Rules.{member_at}
-use Rattle.cse_machine.specs.Contents.{is_type_name, objects_under, ids_below, references_in, addresses_in}
+use Rattle.cse_machine.specs.Contents.{is_type_name, objects_under, unframed, ids_shown, ids_below, references_shown, references_in, addresses_in}
 
 -- what passes one test in a list whose elements all pass another passes that one
 found_passes : (p q : Attr → Bool) (xs : List Attr) (a : Attr) → find p xs ≡ Some a → list_all q xs ≡ true → q a ≡ true
@@ -61,11 +61,30 @@ no_list ContainerAnnc = refl
 no_list ContentInstanceAnnc = refl
 no_list GroupAnnc = refl
 
+no_frame : (ty : Ty) → bytes_eq (codes "m2m:rce") (ty_member ty) ≡ false
+no_frame AccessControlPolicy = refl
+no_frame Ae = refl
+no_frame Container = refl
+no_frame ContentInstance = refl
+no_frame CseBase = refl
+no_frame Group = refl
+no_frame PollingChannel = refl
+no_frame RemoteCse = refl
+no_frame Subscription = refl
+no_frame AccessControlPolicyAnnc = refl
+no_frame AeAnnc = refl
+no_frame ContainerAnnc = refl
+no_frame ContentInstanceAnnc = refl
+no_frame GroupAnnc = refl
+
+unframed-wrapped : (ty : Ty) (rows : List Row) → unframed (wrapped ty rows) ≡ wrapped ty rows
+unframed-wrapped ty rows = rw (no_frame ty) refl
+
 pub no_ids : (ty : Ty) (rows : List Row) → ids_below (wrapped ty rows) ≡ []
-no_ids ty rows = rw (none_under rows) refl
+no_ids ty rows = ap ids_shown (unframed-wrapped ty rows) ∙ rw (none_under rows) refl
 
 pub no_references : (ty : Ty) (rows : List Row) → references_in (wrapped ty rows) ≡ []
-no_references ty rows = rw (none_referred rows) refl
+no_references ty rows = ap references_shown (unframed-wrapped ty rows) ∙ rw (none_referred rows) refl
 
 pub no_addresses : (ty : Ty) (rows : List Row) → addresses_in (wrapped ty rows) ≡ []
 no_addresses ty rows = rw (no_list ty) refl

@@ -10,11 +10,11 @@ use Rattle.primitive_json.specs.declared.request.RequestParts.{RequestParts}
 use Rattle.resource_model.specs.Resource.{ResourceData}
 use Rattle.tree_model.specs.Shown.{attributes_of, shown_rows}
 use Rattle.tree_model.specs.Tree.{at}
-use Rattle.create_delete.specs.Entity.{EntityData}
-use Rattle.create_delete.specs.Places.{reply_to, refusal, refused, Effect}
+use Rattle.entity_model.specs.Entity.{EntityData}
+use Rattle.entity_model.specs.Places.{reply_to, refusal, refused, Effect}
 use Rattle.cse_machine.specs.Answer.{retrieved, effect_of}
 use Rattle.cse_machine.specs.Contents.{ids_below, references_in, addresses_in}
-use Rattle.cse_machine.specs.Guard.{is_success, DoesShow, HasRight, IsShownByRight, OthersAreShownByRight, IsNew, IsGone, IsChanged, IsGuarded}
+use Rattle.cse_machine.specs.Guard.{is_success, DoesShow, HasRight, IsShownByRight, OthersAreShownByRight, IsNew, IsGone, IsChanged, IsGuardedAlone, IsGuarded}
 use Rattle.cse_machine.proofs.ContentLemmas.{no_ids, no_references, no_addresses, nothing_in}
 use Rattle.cse_machine.proofs.WayLemmas.{IsRefused, IsRetrieved, two_ways}
 
@@ -46,7 +46,7 @@ none_changed nodes r s changed =
     changed.differs (same_Some s r (sym changed.is ∙ ap (λ (n : ℕ). at n nodes) changed.same ∙ changed.was))
 
 -- a reply that leaves the entity as it is
-still : (e : EntityData) (request : RequestParts) (reply : ReplyParts) → (DoesShow reply → HasRight e request) → OthersAreShownByRight e request reply → IsGuarded e request reply e
+still : (e : EntityData) (request : RequestParts) (reply : ReplyParts) → (DoesShow reply → HasRight e request) → OthersAreShownByRight e request reply → IsGuardedAlone e request reply e
 still e request reply shown others = record {
   shown = shown;
   others = others;
@@ -58,7 +58,7 @@ still e request reply shown others = record {
 -- ---- what comes of a request
 
 abbrev IsGuardedIn : EntityData → RequestParts → Effect → Type 0
-IsGuardedIn e request effect = IsGuarded e request effect.reply effect.after
+IsGuardedIn e request effect = IsGuardedAlone e request effect.reply effect.after
 
 refused_guarded : (e : EntityData) (request : RequestParts) (fault : Rsc) → is_success fault ≡ false → IsGuardedIn e request (refused e request fault)
 refused_guarded e request fault other =
@@ -72,13 +72,17 @@ retrieved_guarded e request target right =
     (tells_nothing e request (ids_below content) (references_in content) (addresses_in content)
     (no_ids target.ty rows) (no_references target.ty rows) (no_addresses target.ty rows))
 
-pub guarded : (e : EntityData) (request : RequestParts) → IsGuardedIn e request (effect_of e request)
-guarded e request = elim (two_ways e request) [
+guarded_alone : (e : EntityData) (request : RequestParts) → IsGuardedIn e request (effect_of e request)
+guarded_alone e request = elim (two_ways e request) [
   | inl refusal ↦ subst (IsGuardedIn e request) (sym refusal.2) (refused_guarded e request refusal.0 refusal.1)
   | inr way ↦
       subst (IsGuardedIn e request) (sym way.is)
       (retrieved_guarded e request way.target (record { target = way.target; named = way.named; right = way.right }))
 ]
+
+-- so far each request is one operation
+pub guarded : (e : EntityData) (request : RequestParts) → IsGuarded e request (effect_of e request).reply (effect_of e request).after
+guarded e request = inl (guarded_alone e request)
 
 -- so far no request changes anything
 pub unchanged : (e : EntityData) (request : RequestParts) → (effect_of e request).after ≡ e

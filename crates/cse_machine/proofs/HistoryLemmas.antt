@@ -6,9 +6,9 @@ use Rattle.turn_desk.specs.Entries.{entry_of, readings_of, events_of, outcomes_o
 use Rattle.turn_desk.specs.Joins.{Runs-append}
 use Rattle.primitive_json.specs.declared.reply.ReplyParts.{ReplyParts}
 use Rattle.primitive_json.specs.declared.request.RequestParts.{RequestParts}
-use Rattle.create_delete.specs.Entity.{EntityData, swept}
-use Rattle.create_delete.specs.Sound.{IsSound}
-use Rattle.create_delete.proofs.SoundLemmas.{sound_swept}
+use Rattle.entity_model.specs.Entity.{EntityData, swept}
+use Rattle.entity_model.specs.Sound.{IsSound}
+use Rattle.entity_model.proofs.SoundLemmas.{sound_swept}
 use Rattle.cse_machine.specs.declared.event.Event.{Event}
 use Rattle.cse_machine.specs.declared.event.Event.TheVariants.{Ask}
 use Rattle.cse_machine.specs.declared.event.Outcome.{Outcome}

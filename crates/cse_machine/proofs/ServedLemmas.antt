@@ -7,9 +7,9 @@ use Rattle.m2m_names.specs.Name.{is_name, is_originator, is_local_originator}
 use Rattle.m2m_names.specs.Operations.{op_row}
 use Rattle.m2m_names.specs.declared.operations.Op.{Op}
 use Rattle.m2m_names.specs.declared.operations.Op.TheVariants.{Create, Retrieve, Update, Delete, Notify}
-use Rattle.primitive_json.specs.declared.filter.FilterParts.{FilterParts}
+use Rattle.filter_criteria.specs.declared.filter.FilterParts.{FilterParts}
 use Rattle.primitive_json.specs.declared.request.RequestParts.{RequestParts}
-use Rattle.create_delete.specs.Entity.{EntityData}
+use Rattle.entity_model.specs.Entity.{EntityData}
 use Rattle.cse_machine.specs.Answer.{is_retrieve, is_plain, is_plain_retrieve, is_served}
 use Rattle.cse_machine.specs.Rights.{claimed_originator, is_granted, may_do, has_right, retrieve_bits, is_search}
 

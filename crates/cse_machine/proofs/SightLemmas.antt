@@ -12,13 +12,14 @@ use Rattle.resource_model.specs.Resource.{ResourceData}
 use Rattle.tree_model.specs.Shown.{attributes_of}
 use Rattle.tree_model.specs.Tree.{at}
 use Rattle.policy_eval.specs.Rights.{grants}
-use Rattle.policy_eval.specs.Seen.{retrieve_bit, seen}
+use Rattle.policy_eval.specs.Rights.{retrieve_bit}
+use Rattle.policy_eval.specs.Seen.{seen}
 use Rattle.policy_eval.proofs.DueLemmas.{live-seen, grants-live}
 use Rattle.policy_eval.proofs.RetrievedLemmas.{attributes-live}
 use Rattle.policy_eval.proofs.ShapeLemmas.{sight_shape}
-use Rattle.create_delete.specs.Entity.{EntityData, event_moment, swept}
-use Rattle.create_delete.specs.Places.{reply_to, refusal}
-use Rattle.create_delete.specs.Sound.{IsSound}
+use Rattle.entity_model.specs.Entity.{EntityData, event_moment, swept}
+use Rattle.entity_model.specs.Places.{reply_to, refusal}
+use Rattle.entity_model.specs.Sound.{IsSound}
 use Rattle.cse_machine.specs.Answer.{is_plain_retrieve, is_served, addressed, operated, reached, effect_of}
 use Rattle.cse_machine.specs.Rights.{claimed_originator, is_granted, has_right}
 use Rattle.cse_machine.specs.Sight.{sight, shape, IsRequestBy, SightHasItsShape, EqualSightsHaveOneShape}

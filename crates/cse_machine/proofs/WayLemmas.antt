@@ -5,8 +5,8 @@ use Rattle.m2m_names.specs.declared.codes.Rsc.{Rsc}
 use Rattle.m2m_names.specs.declared.codes.Rsc.TheVariants.{BadRequest, NotFound, NoPrivilege}
 use Rattle.primitive_json.specs.declared.request.RequestParts.{RequestParts}
 use Rattle.resource_model.specs.Resource.{ResourceData}
-use Rattle.create_delete.specs.Entity.{EntityData}
-use Rattle.create_delete.specs.Places.{Effect, refused, unless_refused}
+use Rattle.entity_model.specs.Entity.{EntityData}
+use Rattle.entity_model.specs.Places.{Effect, refused, unless_refused}
 use Rattle.cse_machine.specs.Answer.{is_served, first_places, retrieved, operated, addressed, reached, effect_of}
 use Rattle.cse_machine.specs.Guard.{is_success}
 use Rattle.cse_machine.specs.Rights.{has_right}

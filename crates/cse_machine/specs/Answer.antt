@@ -12,9 +12,9 @@ use Rattle.primitive_json.specs.declared.reply.ReplyParts.{ReplyParts}
 use Rattle.primitive_json.specs.declared.request.RequestParts.{RequestParts}
 use Rattle.resource_model.specs.Resource.{ResourceData}
 use Rattle.tree_model.specs.Shown.{attributes_of}
-use Rattle.create_delete.specs.Entity.{EntityData}
-use Rattle.create_delete.specs.Places.{reply_to, refusal, Effect, answering, refused, Place, unless}
-use Rattle.create_delete.specs.Places.{unless_refused}
+use Rattle.entity_model.specs.Entity.{EntityData}
+use Rattle.entity_model.specs.Places.{reply_to, refusal, Effect, answering, refused, Place, unless}
+use Rattle.entity_model.specs.Places.{unless_refused}
 use Rattle.cse_machine.specs.declared.event.Outcome.{Outcome}
 use Rattle.cse_machine.specs.declared.event.Outcome.TheVariants.{Done}
 use Rattle.cse_machine.specs.Rights.{has_right}

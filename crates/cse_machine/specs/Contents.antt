@@ -1,9 +1,11 @@
--- What the content of a reply tells of resources other than the one that it shows first.
-use Rattle.std.specs.Prelude.{ℕ, nat_eq, Bool, true, List, [], ◌∷◌, ◌++◌, map, codes, Option, Some}
-use Rattle.std.specs.Prelude.{None, option_and_then, if◌then◌else◌}
-use Rattle.std.specs.List.{filter_map, flat_map, starts_with}
+-- What the content of a reply tells of resources other than the one that it shows first, and what
+-- the reply to a fan-out gathers.
+use Rattle.std.specs.Prelude.{ℕ, Bool, true, List, [], ◌∷◌, ◌++◌, map, bytes_eq, codes, Option}
+use Rattle.std.specs.Prelude.{Some, None, option_and_then, unwrap_or, if◌then◌else◌}
+use Rattle.std.specs.List.{filter_map, flat_map, list_any}
 use Rattle.std.specs.Option.{option_map_or}
 use Rattle.m2m_names.specs.Attributes.{attr_short}
+use Rattle.m2m_names.specs.Types.{all_types, ty_member}
 use Rattle.m2m_names.specs.declared.attributes.Attr.TheVariants.{Ri}
 use Rattle.m2m_value.specs.Data.{Data, null, boolean, number, text, list, object, Elements}
 use Rattle.m2m_value.specs.Data.{no_elements, element, Pairs, no_pairs, pair, Entry}
@@ -12,7 +14,7 @@ use Rattle.policy_eval.specs.Rules.{member_at, elements_in, texts_of}
 
 -- the name of a type in JSON, as `m2m:cnt`; no attribute has such a name (TS-0004, 8.2.4)
 abbrev pub is_type_name : List ℕ → Bool
-is_type_name key = starts_with nat_eq key (codes "m2m:")
+is_type_name key = list_any (λ ty. bytes_eq key (ty_member ty)) all_types
 
 -- the objects of a value: itself, those in a list, and those that members with the name of a type
 -- have, at every depth
@@ -47,18 +49,37 @@ objects_below (object ps) = objects_under ps
 abbrev pub member_values : Data → List Data
 member_values d = option_map_or (map (λ (e : Entry). e.1)) (as_object d) []
 
--- the resource ids of those that a content shows below the first (TS-0004, 7.5.2)
-abbrev pub ids_below : Data → List (List ℕ)
-ids_below content =
+-- a content without the frame that the reply to a Create may put round the new resource and its
+-- address (TS-0004, 7.5.2)
+abbrev pub unframed : Data → Data
+unframed content = unwrap_or (member_at (codes "m2m:rce") content) content
+
+-- the resource ids of those that are shown below the first (TS-0004, 7.5.2)
+abbrev pub ids_shown : Data → List (List ℕ)
+ids_shown inner =
     filter_map (λ d. option_and_then as_text (member_at (attr_short Ri) d))
-    (flat_map objects_below (member_values content))
+    (flat_map objects_below (member_values inner))
+
+abbrev pub ids_below : Data → List (List ℕ)
+ids_below content = ids_shown (unframed content)
 
 -- the addresses of the children that it refers to
-abbrev pub references_in : Data → List (List ℕ)
-references_in content =
+abbrev pub references_shown : Data → List (List ℕ)
+references_shown inner =
     filter_map (λ d. option_and_then as_text (member_at (codes "val") d))
-    (flat_map (λ d. elements_in (member_at (codes "ch") d)) (member_values content))
+    (flat_map (λ d. elements_in (member_at (codes "ch") d)) (member_values inner))
+
+abbrev pub references_in : Data → List (List ℕ)
+references_in content = references_shown (unframed content)
 
 -- the addresses that were found (TS-0004, 7.5.2)
 abbrev pub addresses_in : Data → List (List ℕ)
 addresses_in content = texts_of (elements_in (member_at (codes "m2m:uril") content))
+
+-- the contents of the replies that the reply to a fan-out gathers, where these have some (TS-0004,
+-- 7.5.2)
+abbrev pub gathered_in : Data → List (Option Data)
+gathered_in content =
+    map (member_at (codes "pc"))
+    (elements_in
+    (option_and_then (member_at (codes "m2m:rsp")) (member_at (codes "m2m:agr") content)))

@@ -1,8 +1,9 @@
 -- What a request may show, and what it may change.
 use Rattle.std.specs.Prelude.{◌≡◌, ◌≢◌, ◌⊎◌, ℕ, Bool, false, ◌||◌, List, [], ◌∷◌, ◌++◌, Contains}
-use Rattle.std.specs.Prelude.{Some, None, IsTrue, bytes_eq, map, reverse, if◌then◌else◌}
+use Rattle.std.specs.Prelude.{Option, Some, None, option_and_then, Result, Ok, Err, IsTrue, bytes_eq}
+use Rattle.std.specs.Prelude.{map, if◌then◌else◌}
 use Rattle.std.specs.Int.{is_in_range}
-use Rattle.std.specs.List.{join_with_byte, list_any}
+use Rattle.std.specs.List.{All, list_any}
 use Rattle.std.specs.Option.{option_map_or}
 use Rattle.m2m_names.specs.declared.attributes.Attr.{Attr}
 use Rattle.m2m_names.specs.declared.attributes.Attr.TheVariants.{Acpi, St}
@@ -22,15 +23,20 @@ use Rattle.resource_model.specs.Resource.{ResourceData, has_number, id_of, is_ty
 use Rattle.turn_desk.specs.Entries.{entry_of}
 use Rattle.tree_model.specs.Tree.{at, is_instance, line_of}
 use Rattle.policy_eval.specs.Alike.{is_one_of}
-use Rattle.policy_eval.specs.Rights.{relinks}
-use Rattle.policy_eval.specs.Seen.{discovery_bit}
-use Rattle.create_delete.specs.Entity.{EntityData, swept}
+use Rattle.policy_eval.specs.Rights.{discovery_bit, relinks, fan_grants}
+use Rattle.addressing.specs.Addresses.{address_of}
+use Rattle.addressing.specs.Names.{segments_of, spot_of, structured_of}
+use Rattle.addressing.specs.declared.addr.Addr.{Addr}
+use Rattle.addressing.specs.declared.addr.AddrFault.{AddrFault}
+use Rattle.addressing.specs.declared.spot.Spot.{Spot}
+use Rattle.addressing.specs.declared.spot.Spot.TheVariants.{Resource, Fan, Poll}
+use Rattle.entity_model.specs.Entity.{EntityData, swept}
 use Rattle.cse_machine.specs.declared.event.Event.{Event}
 use Rattle.cse_machine.specs.declared.event.Event.TheVariants.{Ask}
 use Rattle.cse_machine.specs.declared.event.Outcome.{Outcome}
 use Rattle.cse_machine.specs.declared.event.Outcome.TheVariants.{Done, Starved}
 use Rattle.cse_machine.specs.Answer.{addressed}
-use Rattle.cse_machine.specs.Contents.{ids_below, references_in, addresses_in}
+use Rattle.cse_machine.specs.Contents.{ids_below, references_in, addresses_in, gathered_in}
 use Rattle.cse_machine.specs.History.{History, Leaves}
 use Rattle.cse_machine.specs.Rights.{claimed_originator, is_granted, has_right}
 use Rattle.cse_machine.specs.Step.{Step}
@@ -52,13 +58,11 @@ pub record HasRight (e : EntityData) (request : RequestParts) : Type 0 where
   pub named : addressed e request.to ≡ Some target
   pub right : IsTrue (has_right e request target.number)
 
--- the address names the resource of the list: it is its resource id, or its structured address, the
--- names from the CSEBase down to it with a slash between them (TS-0001, 9.3.1)
+-- the address names the resource of the list: it is its resource id, or its structured address
+-- (TS-0001, 9.3.1)
 abbrev pub is_address_of : List ResourceData → List ℕ → ResourceData → Bool
 is_address_of nodes address r =
-    bytes_eq address (id_of r)
-    || bytes_eq address
-    (join_with_byte 47 (reverse (map (λ (s : ResourceData). s.name) (line_of r.number nodes))))
+    bytes_eq address (id_of r) || bytes_eq address (structured_of r.number nodes)
 
 -- the address names some resource of the entity, and on each that it names the originator has these
 -- bits
@@ -156,8 +160,8 @@ pub record IsRemovedByRight (before : EntityData) (request : RequestParts)
 
 -- ---- what is guarded
 
--- Nothing is shown or changed but by a grant to the originator, in the entity before the request.
-pub record IsGuarded (before : EntityData) (request : RequestParts) (reply : ReplyParts)
+-- One operation shows and changes nothing but by a grant to the originator, in the entity before it.
+pub record IsGuardedAlone (before : EntityData) (request : RequestParts) (reply : ReplyParts)
     (after : EntityData) : Type 0 where
   pub shown : DoesShow reply → HasRight before request
   pub others : OthersAreShownByRight before request reply
@@ -167,6 +171,57 @@ pub record IsGuarded (before : EntityData) (request : RequestParts) (reply : Rep
       → IsChangedByRight before request after r s
   pub removed : (r : ResourceData) → IsGone before.nodes after.nodes r
       → IsRemovedByRight before request r
+
+-- ---- a fan-out
+
+-- the group on whose members a request is to be done, where its address names a fan-out point
+-- (TS-0001, 10.2.7)
+abbrev pub fan_group : Spot → Option ℕ
+fan_group (Resource n) = None
+fan_group (Fan group rest) = Some group
+fan_group (Poll channel) = None
+
+abbrev pub segments_read : Result Addr AddrFault → List (List ℕ)
+segments_read (Ok address) = segments_of address
+segments_read (Err fault) = []
+
+abbrev pub fanned : EntityData → List ℕ → Option ℕ
+fanned e to = option_and_then fan_group (spot_of (segments_read (address_of e.home to)) e.nodes)
+
+-- the operation on one member: its request, its reply, and the entity after it
+pub record Single : Type 0 where
+  pub request : RequestParts
+  pub reply : ReplyParts
+  pub after : EntityData
+
+-- it is the same request but for its address
+abbrev pub IsSingleOf : RequestParts → Single → Type 0
+IsSingleOf request single = single.request ≡ record request { to = single.request.to }
+
+-- operations one after another, each guarded in the entity that the one before it left
+abbrev pub AreGuarded : EntityData → List Single → EntityData → Type 0
+AreGuarded before [] after = after ≡ before
+AreGuarded before (single ∷ singles) after =
+    IsGuardedAlone before single.request single.reply single.after
+    × AreGuarded single.after singles after
+
+-- A fan-out is done by a grant through the group, and shows and changes what the operations on its
+-- members do, each of which is guarded by itself.
+pub record IsGuardedFan (before : EntityData) (request : RequestParts) (reply : ReplyParts)
+    (after : EntityData) : Type 0 where
+  pub group : ℕ
+  pub named : fanned before request.to ≡ Some group
+  pub right : IsTrue (fan_grants before.home before.nodes (claimed_originator request)
+      (op_row request.op).bit group)
+  pub singles : List Single
+  pub same : All (IsSingleOf request) singles
+  pub guarded : AreGuarded before singles after
+  pub gathered : option_map_or gathered_in reply.pc [] ≡ map (λ (single : Single). single.reply.pc) singles
+
+-- Nothing is shown or changed but by a grant to the originator, in the entity before the request.
+abbrev pub IsGuarded : EntityData → RequestParts → ReplyParts → EntityData → Type 0
+IsGuarded before request reply after =
+    IsGuardedAlone before request reply after ⊎ IsGuardedFan before request reply after
 
 -- Each step is guarded, in the entity from which what is due is gone.
 abbrev pub StepsAreGuarded : Type 0

@@ -3,8 +3,8 @@ use Rattle.std.specs.Prelude.{◌≡◌, ℕ, List, [], ◌∷◌, ◌++◌, ⊤
 use Rattle.std.specs.List.{All}
 use Rattle.turn_desk.specs.declared.entry.Entry.{Entry}
 use Rattle.turn_desk.specs.Entries.{entry_of, readings_of, events_of, outcomes_of, Runs}
-use Rattle.create_delete.specs.Entity.{EntityData}
-use Rattle.create_delete.specs.Sound.{IsSound}
+use Rattle.entity_model.specs.Entity.{EntityData}
+use Rattle.entity_model.specs.Sound.{IsSound}
 use Rattle.cse_machine.specs.declared.event.Event.{Event}
 use Rattle.cse_machine.specs.declared.event.Outcome.{Outcome}
 use Rattle.cse_machine.specs.declared.event.Outcome.TheVariants.{Done, Starved}

@@ -12,12 +12,11 @@ use Rattle.m2m_names.specs.declared.operations.Op.TheVariants.{Notify}
 use Rattle.m2m_names.specs.declared.types.Ty.TheVariants.{Subscription}
 use Rattle.m2m_value.specs.Data.{Data, Entry}
 use Rattle.m2m_value.specs.View.{as_object}
-use Rattle.primitive_json.specs.declared.filter.FilterUsage.{FilterUsage}
-use Rattle.primitive_json.specs.declared.filter.FilterUsage.TheVariants.{Discovery, Conditional}
+use Rattle.filter_criteria.specs.declared.filter.FilterUsage.{FilterUsage}
+use Rattle.filter_criteria.specs.declared.filter.FilterUsage.TheVariants.{Discovery, Conditional}
 use Rattle.primitive_json.specs.declared.request.RequestParts.{RequestParts}
-use Rattle.policy_eval.specs.Rights.{grants, relinks}
-use Rattle.policy_eval.specs.Seen.{discovery_bit}
-use Rattle.create_delete.specs.Entity.{EntityData}
+use Rattle.policy_eval.specs.Rights.{discovery_bit, grants, relinks}
+use Rattle.entity_model.specs.Entity.{EntityData}
 
 -- whom a request is judged as: without an originator as `C`, from an application entity that
 -- registers (TS-0001, 10.2.2.2)

@@ -6,8 +6,8 @@ use Rattle.primitive_json.specs.declared.reply.ReplyParts.{ReplyParts}
 use Rattle.primitive_json.specs.declared.request.RequestParts.{RequestParts}
 use Rattle.policy_eval.specs.Seen.{seen_list}
 use Rattle.policy_eval.specs.Shape.{shape_list}
-use Rattle.create_delete.specs.Entity.{EntityData, swept}
-use Rattle.create_delete.specs.Sound.{IsSound}
+use Rattle.entity_model.specs.Entity.{EntityData, swept}
+use Rattle.entity_model.specs.Sound.{IsSound}
 use Rattle.cse_machine.specs.declared.event.Event.{Event}
 use Rattle.cse_machine.specs.declared.event.Event.TheVariants.{Ask}
 use Rattle.cse_machine.specs.declared.event.Outcome.TheVariants.{Done}

@@ -1,6 +1,6 @@
 -- One event of a CSE (TS-0001, 10.1; TS-0004, 7.2).
 use Rattle.std.specs.Prelude.{◌≡◌, ◌⊎◌, ℕ}
-use Rattle.create_delete.specs.Entity.{EntityData, swept}
+use Rattle.entity_model.specs.Entity.{EntityData, swept}
 use Rattle.cse_machine.specs.declared.event.Event.{Event}
 use Rattle.cse_machine.specs.declared.event.Event.TheVariants.{Ask}
 use Rattle.cse_machine.specs.declared.event.Outcome.{Outcome}

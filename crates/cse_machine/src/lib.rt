@@ -24,6 +24,3 @@ pub use laws::{
     what_is_refused_or_read_changes_nothing,
 };
 pub use machine::step;
-
-#[cfg(test)]
-mod tests;

@@ -2,8 +2,8 @@
 ghost use Rattle.std.specs.Prelude.{◌≡◌, IfOk, IsTrue, option_map};
 ghost use Rattle.m2m_names.specs.Name.{is_originator};
 ghost use Rattle.tree_model.specs.Tree.{has};
-ghost use Rattle.create_delete.specs.Places as places;
-ghost use Rattle.create_delete.specs.Places.{first_fault, refusal};
+ghost use Rattle.entity_model.specs.Places as places;
+ghost use Rattle.entity_model.specs.Places.{first_fault, refusal};
 ghost use Rattle.cse_machine.specs.Answer as spec;
 ghost use Rattle.cse_machine.specs.Answer.{is_served, effect_of, operated, places_on, retrieved};
 ghost use Rattle.cse_machine.specs.Rights as rights;
@@ -11,7 +11,7 @@ ghost use Rattle.cse_machine.specs.Step.{Step};
 
 use crate::event::{Event, Outcome};
 use crate::served::is_served;
-use create_delete::{Entity, sweep};
+use entity_model::{Entity, sweep};
 use m2m_names::{Op, Rsc};
 use m2m_value::Val;
 use policy_eval::granted;

@@ -14,7 +14,7 @@ use Rattle.http_frames.specs.Stream.{BeginsWith, HasNoFrame}
 use Rattle.http_frames.proofs.FrameLemmas.{BeginsWith_unique}
 use Rattle.http_frames.proofs.InboxLemmas.{none_within}
 use Rattle.http_frames.proofs.LookLemmas.{some_bytes}
-use Rattle.create_delete.specs.Entity.{EntityData}
+use Rattle.entity_model.specs.Entity.{EntityData}
 use Rattle.cse_machine.specs.declared.event.Event.{Event}
 use Rattle.cse_machine.specs.declared.event.Event.TheVariants.{Ask}
 use Rattle.cse_machine.specs.declared.event.Outcome.{Outcome}

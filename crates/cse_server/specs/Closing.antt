@@ -6,6 +6,7 @@ use Rattle.http_frames.specs.declared.frame.Frame.{Frame}
 use Rattle.http_frames.specs.declared.frame.Start.{Start}
 use Rattle.http_frames.specs.declared.frame.Start.TheVariants.{Ask, Answer}
 use Rattle.http_frames.specs.Lines.{Line, is_same_name}
+use Rattle.http_binding.specs.Headers.{connection_field}
 
 -- a space or a tab (RFC 9110, section 5.6.3)
 abbrev pub is_blank : ℕ → Bool
@@ -31,7 +32,7 @@ lists_close value = list_any is_close (slice_split (λ b. b == 44) value)
 
 -- a line `Connection` that has it
 abbrev pub asks_by : Line → Bool
-asks_by line = is_same_name line.0 (codes "Connection") && lists_close line.1
+asks_by line = is_same_name line.0 connection_field && lists_close line.1
 
 -- one of the lines has it
 abbrev pub asks_to_close : List Line → Bool

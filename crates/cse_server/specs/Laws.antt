@@ -8,8 +8,8 @@ use Rattle.turn_desk.specs.Growth.{IsOwnRun}
 use Rattle.primitive_json.specs.declared.reply.ReplyParts.{ReplyParts}
 use Rattle.primitive_json.specs.declared.request.RequestParts.{RequestParts}
 use Rattle.http_frames.specs.declared.frame.Frame.{Frame}
-use Rattle.create_delete.specs.Entity.{EntityData, swept}
-use Rattle.create_delete.specs.Sound.{IsSound}
+use Rattle.entity_model.specs.Entity.{EntityData, swept}
+use Rattle.entity_model.specs.Sound.{IsSound}
 use Rattle.cse_machine.specs.declared.event.Event.TheVariants.{Ask}
 use Rattle.cse_machine.specs.declared.event.Outcome.{Outcome}
 use Rattle.cse_machine.specs.declared.event.Outcome.TheVariants.{Done}

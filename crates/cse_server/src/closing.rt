@@ -1,6 +1,7 @@
 //! When a connection ends behind a reply.
-ghost use Rattle.std.specs.Prelude.{◌≡◌, codes};
+ghost use Rattle.std.specs.Prelude.{◌≡◌};
 ghost use Rattle.std.specs.List.{list_all, list_any};
+ghost use Rattle.http_binding.specs.Headers.{connection_field};
 ghost use Rattle.http_frames.specs.Lines.{is_same_name};
 ghost use Rattle.cse_server.specs.Closing as spec;
 
@@ -45,7 +46,7 @@ fn asks_by(line: &(Text, Text)) -> bool
 }
 
 fn is_connection(name: &[u8]) -> bool
-    ensures { result ≡ is_same_name name.now (codes "Connection") }
+    ensures { result ≡ is_same_name name.now connection_field }
 {
     name.eq_ignore_ascii_case(b"Connection")
 }

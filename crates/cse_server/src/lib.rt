@@ -26,6 +26,3 @@ pub use laws::{
 };
 pub use served::Served;
 pub use wire::Wire;
-
-#[cfg(test)]
-mod tests;

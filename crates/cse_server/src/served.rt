@@ -1,8 +1,8 @@
 //! An entity as an object that is asked.
 ghost use Rattle.std.specs.Prelude.{◌≡◌};
 
-use create_delete::Entity;
 use cse_machine::{Event, Outcome, step};
+use entity_model::Entity;
 use std::alloc::Global;
 use std::marker::Model;
 use tree_model::Tree;
@@ -17,8 +17,8 @@ pub struct Served<T: Tree> {
 }
 
 impl<T: Tree> Model for Served<T> {
-    ghost use Rattle.create_delete.specs.Entity.{EntityData};
-    ghost use Rattle.create_delete.specs.Codes.{entity_code};
+    ghost use Rattle.entity_model.specs.Entity.{EntityData};
+    ghost use Rattle.entity_model.specs.Codes.{entity_code};
 
     ghost Value = { EntityData };
 

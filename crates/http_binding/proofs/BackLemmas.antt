@@ -33,7 +33,6 @@ use Rattle.http_binding.specs.declared.headers.Field.TheVariants.{Id, ContentTyp
 use Rattle.http_binding.specs.Headers.{field_name, code_field, length_field, connection_field}
 use Rattle.http_binding.specs.Replying.{body_of, id_lines, type_lines, close_lines, reply_lines, reply_frame, reply_text}
 use Rattle.http_binding.specs.Laws.{IsWithinLimits}
-use Rattle.http_binding.proofs.ReplyLemmas.{text_is}
 
 -- a printable character but space may stand in a value, and is no white space
 graphic_value : (b : ℕ) → IsTrue (is_graphic b) → IsTrue (is_value_byte b)
@@ -203,5 +202,5 @@ pub read_back : (reply : ReplyParts) (close : Bool) → IsWithinLimits reply →
 read_back reply close h rest = record {
   bytes = frame_text (reply_frame reply close);
   is_frame = written_is_read Reply (reply_frame reply close) (reply_sound reply close h);
-  stream_is = ap (λ t. t ++ rest) (text_is reply close);
+  stream_is = refl;
 }

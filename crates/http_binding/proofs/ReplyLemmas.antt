@@ -1,5 +1,5 @@
--- The text of a reply is that of its frame.
-use Rattle.std.proofs.Common.{◌≡◌, ℕ, ◌+◌, ◌/◌, ◌%◌, ◌<◌, ◌≤◌, Bool, true, false, List, [], ◌∷◌, ◌++◌, length, codes, Option, Some, None, refl, sym, ap, ap₂, ◌∙◌, arith, append_assoc, append-nil}
+-- What is written of a reply is the text of its frame.
+use Rattle.std.proofs.Common.{◌≡◌, ℕ, ◌+◌, ◌/◌, ◌%◌, ◌<◌, ◌≤◌, Bool, List, [], ◌∷◌, ◌++◌, length, codes, refl, sym, ap, ◌∙◌, arith, append_assoc}
 use Rattle.std.specs.Fmt.{decimal}
 use Rattle.std.specs.List.{flat_map}
 use Rattle.std.proofs.lemmas.Fmt.{decimal_step, decimal_digit}
@@ -7,13 +7,13 @@ use Rattle.std.proofs.lemmas.List.Concat.{flat_map-append}
 use Rattle.m2m_names.specs.StatusCodes.{rsc_row}
 use Rattle.m2m_names.proofs.StatusLemmas.{http_in_range}
 use Rattle.m2m_names.specs.declared.codes.Rsc.{Rsc}
-use Rattle.m2m_value.specs.Data.{Data}
 use Rattle.primitive_json.specs.declared.reply.ReplyParts.{ReplyParts}
-use Rattle.http_frames.specs.Text.{status_digits, phrase_of, start_text, line_text, frame_text}
+use Rattle.httparse.specs.Ascii.{crlf_bytes}
+use Rattle.http_frames.specs.Text.{status_digits, phrase_of, start_text, line_text}
 use Rattle.http_frames.specs.Lines.{Line}
 use Rattle.http_frames.specs.declared.frame.Start.TheVariants.{Answer}
-use Rattle.http_binding.specs.Headers.{length_field}
-use Rattle.http_binding.specs.Replying.{body_of, id_lines, type_lines, close_lines, line_end, status_line, code_text, id_text, type_text, length_text, close_text, reply_lines, reply_frame, reply_text}
+use Rattle.http_binding.specs.Headers.{code_field, length_field}
+use Rattle.http_binding.specs.Replying.{body_of, id_lines, type_lines, close_lines, reply_text}
 
 -- a number of three digits
 three_digits : (n : ℕ) → 100 ≤ n → n < 1000 → decimal n ≡ (48 + n / 10 / 10) ∷ (48 + n / 10 % 10) ∷ (48 + n % 10) ∷ []
@@ -33,56 +33,52 @@ status_is rsc =
     three_digits http range.0 (omega (arith, range.1))
     ∙ ap (λ d. (48 + d) ∷ (48 + http / 10 % 10) ∷ (48 + http % 10) ∷ []) (hundreds http (omega (arith, range.1)))
 
-id_is : (id : Option (List ℕ)) → flat_map line_text (id_lines id) ≡ id_text id
-id_is None = refl
-id_is (Some id) = append-nil _
+-- the line of the HTTP status of a status code
+pub start_is : (rsc : Rsc) (http : ℕ) → http ≡ (rsc_row rsc).http → codes "HTTP/1.1 " ++ (decimal http ++ (codes " " ++ (phrase_of http ++ crlf_bytes))) ≡ start_text (Answer (rsc_row rsc).http 1)
+start_is rsc http is =
+    ap (λ n. codes "HTTP/1.1 " ++ (decimal n ++ (codes " " ++ (phrase_of n ++ crlf_bytes)))) is
+    ∙ ap (λ d. codes "HTTP/1.1 " ++ (d ++ (codes " " ++ (phrase_of (rsc_row rsc).http ++ crlf_bytes)))) (status_is rsc)
 
-type_is : (content : Option Data) → flat_map line_text (type_lines content) ≡ type_text content
-type_is None = refl
-type_is (Some content) = refl
+in_three : (old start code id : List ℕ) → ((old ++ start) ++ code) ++ id ≡ old ++ (start ++ (code ++ id))
+in_three old start code id = simp append_assoc refl
 
-close_is : (close : Bool) → flat_map line_text (close_lines close) ≡ close_text close
-close_is false = refl
-close_is true = refl
+-- the status line and the lines that speak of the primitive, behind what was there
+pub primitive_is : (reply : ReplyParts) (number : ℕ) (old one two : List ℕ) → number ≡ (rsc_row reply.rsc).number
+    → one ≡ old ++ start_text (Answer (rsc_row reply.rsc).http 1)
+    → two ≡ one ++ line_text (code_field, decimal number)
+    → two ++ flat_map line_text (id_lines reply.rqi) ≡ old ++ (start_text (Answer (rsc_row reply.rsc).http 1) ++ (line_text (code_field, decimal (rsc_row reply.rsc).number) ++ flat_map line_text (id_lines reply.rqi)))
+primitive_is reply number old one two number_is one_is two_is =
+    let start = start_text (Answer (rsc_row reply.rsc).http 1) in
+    let code = line_text (code_field, decimal (rsc_row reply.rsc).number) in
+    let id = flat_map line_text (id_lines reply.rqi) in
+    ap (λ t. t ++ id) (two_is ∙ ap (λ n. one ++ line_text (code_field, decimal n)) number_is ∙ ap (λ t. t ++ code) one_is)
+    ∙ in_three old start code id
 
--- the texts of the lines, one after another
-lines_are : (reply : ReplyParts) (close : Bool) → flat_map line_text (reply_lines reply close) ≡ code_text (rsc_row reply.rsc).number ++ (id_text reply.rqi ++ (type_text reply.pc ++ (length_text (length (body_of reply.pc)) ++ close_text close)))
-lines_are reply close =
-    let code = code_text (rsc_row reply.rsc).number in
-    let size = length_text (length (body_of reply.pc)) in
-    let last : List Line = (length_field, decimal (length (body_of reply.pc))) ∷ close_lines close in
-    let last_is : flat_map line_text last ≡ size ++ close_text close = ap (λ t. size ++ t) (close_is close) in
-    let typed : flat_map line_text (type_lines reply.pc ++ last) ≡ type_text reply.pc ++ (size ++ close_text close) =
-    flat_map-append line_text (type_lines reply.pc) last ∙ ap₂ (λ a b. a ++ b) (type_is reply.pc) last_is in
-    ap (λ t. code ++ t) (flat_map-append line_text (id_lines reply.rqi) (type_lines reply.pc ++ last) ∙ ap₂ (λ a b. a ++ b) (id_is reply.rqi) typed)
-
-regrouped : (start code id type size close end body : List ℕ) → start ++ (code ++ (id ++ (type ++ (size ++ (close ++ (end ++ body)))))) ≡ (start ++ ((code ++ (id ++ (type ++ (size ++ close)))) ++ end)) ++ body
-regrouped start code id type size close end body = simp append_assoc refl
-
-pub text_is : (reply : ReplyParts) (close : Bool) → reply_text reply close ≡ frame_text (reply_frame reply close)
-text_is reply close =
-    let http = (rsc_row reply.rsc).http in
-    let body = body_of reply.pc in
-    let lines = code_text (rsc_row reply.rsc).number ++ (id_text reply.rqi ++ (type_text reply.pc ++ (length_text (length body) ++ close_text close))) in
-    let start : status_line http ≡ start_text (Answer http 1) = ap (λ d. codes "HTTP/1.1 " ++ (d ++ (codes " " ++ (phrase_of http ++ line_end)))) (status_is reply.rsc) in
-    regrouped (status_line http) (code_text (rsc_row reply.rsc).number) (id_text reply.rqi) (type_text reply.pc) (length_text (length body)) (close_text close) line_end body
-    ∙ ap (λ s. (s ++ (lines ++ line_end)) ++ body) start
-    ∙ ap (λ l. (start_text (Answer http 1) ++ (l ++ line_end)) ++ body) (sym (lines_are reply close))
+lines_are : (code size : Line) (id type close : List Line) → flat_map line_text (code ∷ (id ++ (type ++ (size ∷ close)))) ≡ line_text code ++ (flat_map line_text id ++ (flat_map line_text type ++ (line_text size ++ flat_map line_text close)))
+lines_are code size id type close =
+    ap (λ t. line_text code ++ t) (flat_map-append line_text id (type ++ (size ∷ close))
+    ∙ ap (λ t. flat_map line_text id ++ t) (flat_map-append line_text type (size ∷ close)))
 
 -- what is appended in three parts
-in_parts : (start code id type size close end body : List ℕ) → (([] ++ (start ++ (code ++ id))) ++ (type ++ (size ++ close))) ++ (end ++ body) ≡ start ++ (code ++ (id ++ (type ++ (size ++ (close ++ (end ++ body))))))
+in_parts : (start code id type size close end body : List ℕ) → (([] ++ (start ++ (code ++ id))) ++ (type ++ (size ++ close))) ++ (end ++ body) ≡ (start ++ ((code ++ (id ++ (type ++ (size ++ close)))) ++ end)) ++ body
 in_parts start code id type size close end body = simp append_assoc refl
 
 -- three parts that were appended are the text of a reply
-pub reply_made : (reply : ReplyParts) (close : Bool) (http number len : ℕ) (start body one two three : List ℕ) → start ≡ []
-    → http ≡ (rsc_row reply.rsc).http → number ≡ (rsc_row reply.rsc).number → len ≡ length body → body ≡ body_of reply.pc
-    → one ≡ start ++ (status_line http ++ (code_text number ++ id_text reply.rqi))
-    → two ≡ one ++ (type_text reply.pc ++ (length_text len ++ close_text close))
-    → three ≡ two ++ (line_end ++ body) → three ≡ reply_text reply close
-reply_made reply close http number len start body one two three empty http_is number_is len_is body_is one_is two_is three_is =
+pub reply_made : (reply : ReplyParts) (close : Bool) (len : ℕ) (start body one two three : List ℕ) → start ≡ []
+    → len ≡ length body → body ≡ body_of reply.pc
+    → one ≡ start ++ (start_text (Answer (rsc_row reply.rsc).http 1) ++ (line_text (code_field, decimal (rsc_row reply.rsc).number) ++ flat_map line_text (id_lines reply.rqi)))
+    → two ≡ one ++ (flat_map line_text (type_lines reply.pc) ++ (line_text (length_field, decimal len) ++ flat_map line_text (close_lines close)))
+    → three ≡ two ++ (crlf_bytes ++ body) → three ≡ reply_text reply close
+reply_made reply close len start body one two three empty len_is body_is one_is two_is three_is =
+    let first = start_text (Answer (rsc_row reply.rsc).http 1) in
+    let code : Line = (code_field, decimal (rsc_row reply.rsc).number) in
+    let id = id_lines reply.rqi in
+    let type = type_lines reply.pc in
+    let size = λ (n : ℕ). line_text (length_field, decimal n) in
+    let closing = close_lines close in
     let size_is : len ≡ length (body_of reply.pc) = len_is ∙ ap length body_is in
     three_is
-    ∙ ap (λ t. t ++ (line_end ++ body)) (two_is ∙ ap (λ t. t ++ (type_text reply.pc ++ (length_text len ++ close_text close))) one_is)
-    ∙ (λ i. ((empty i ++ (status_line (http_is i) ++ (code_text (number_is i) ++ id_text reply.rqi))) ++ (type_text reply.pc ++ (length_text (size_is i) ++ close_text close))) ++ (line_end ++ body_is i))
-    ∙ in_parts (status_line (rsc_row reply.rsc).http) (code_text (rsc_row reply.rsc).number) (id_text reply.rqi) (type_text reply.pc)
-    (length_text (length (body_of reply.pc))) (close_text close) line_end (body_of reply.pc)
+    ∙ ap (λ t. t ++ (crlf_bytes ++ body)) (two_is ∙ ap (λ t. t ++ (flat_map line_text type ++ (size len ++ flat_map line_text closing))) one_is)
+    ∙ (λ i. ((empty i ++ (first ++ (line_text code ++ flat_map line_text id))) ++ (flat_map line_text type ++ (size (size_is i) ++ flat_map line_text closing))) ++ (crlf_bytes ++ body_is i))
+    ∙ in_parts first (line_text code) (flat_map line_text id) (flat_map line_text type) (size (length (body_of reply.pc))) (flat_map line_text closing) crlf_bytes (body_of reply.pc)
+    ∙ ap (λ l. (first ++ (l ++ crlf_bytes)) ++ body_of reply.pc) (sym (lines_are code (length_field, decimal (length (body_of reply.pc))) id type closing))

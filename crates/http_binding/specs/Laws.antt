@@ -10,7 +10,7 @@ use Rattle.http_frames.specs.declared.frame.Frame.{Frame}
 use Rattle.http_frames.specs.declared.frame.Side.TheVariants.{Reply}
 use Rattle.http_frames.specs.Frame.{body_limit}
 use Rattle.http_frames.specs.Stream.{BeginsWith}
-use Rattle.http_frames.specs.Text.{frame_text, IsSound}
+use Rattle.http_frames.specs.Text.{IsSound}
 use Rattle.http_binding.specs.Binding.{Binds, echo_of}
 use Rattle.http_binding.specs.Replying.{body_of, reply_frame, reply_text}
 
@@ -45,12 +45,6 @@ abbrev pub EchoIsId : Type 0
 EchoIsId =
     (frame : Frame) (request : RequestParts) → Binds frame request
     → echo_of frame ≡ Some request.rqi
-
--- The text of a reply is that of its frame.
-abbrev pub TextIsFrames : Type 0
-TextIsFrames =
-    (reply : ReplyParts) (close : Bool)
-    → reply_text reply close ≡ frame_text (reply_frame reply close)
 
 -- The identifier that the reply repeats, if it does, is one, and its body is no longer than a
 -- frame's may be.

@@ -4,7 +4,6 @@ ghost use Rattle.http_binding.specs.Laws.{
   BindsToPlain,
   EchoIsId,
   ReplyIsReadBack,
-  TextIsFrames,
 };
 
 /// A frame binds to at most one request.
@@ -21,11 +20,6 @@ pub fn a_frame_binds_to_plain_requests()
 /// The identifier that is told of a frame that binds is the request's.
 pub fn the_echo_is_the_request_id()
     ensures { EchoIsId }
-{}
-
-/// The text of a reply is that of its frame.
-pub fn a_reply_is_written_as_its_frame()
-    ensures { TextIsFrames }
 {}
 
 /// The text of a reply is read back as its frame, whatever follows, where the identifier that it

@@ -3,8 +3,8 @@
 //! reply to it repeats, also where it binds to none; `of_reply` the frame of a reply, and
 //! `write_reply` its bytes. So far a frame binds where it is a GET or a DELETE of `/` and one
 //! name, with an X-M2M-RI. Callers see the binding as a function of the frame (`binding`, the
-//! chain of the parts of a request in the order of their faults), and the bytes of a reply written
-//! out (`reply_text`). They answer a frame that binds to nothing themselves, and say whether the
+//! chain of the parts of a request in the order of their faults), and the bytes of a reply as those
+//! of its frame (`reply_text`). They answer a frame that binds to nothing themselves, and say whether the
 //! connection closes behind a reply.
 #![tactic(auto)]
 
@@ -19,12 +19,9 @@ pub use fault::BindFault;
 pub use headers::echo_id;
 pub use laws::{
     a_frame_binds_to_one_request, a_frame_binds_to_plain_requests, a_reply_is_read_back,
-    a_reply_is_written_as_its_frame, the_echo_is_the_request_id,
+    the_echo_is_the_request_id,
 };
 pub use reply::of_reply;
 pub use request::to_request;
 pub use std::alloc::AllocError as OutOfMemory;
 pub use writing::write_reply;
-
-#[cfg(test)]
-mod tests;

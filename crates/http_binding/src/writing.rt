@@ -1,11 +1,17 @@
 //! The bytes of a reply, and their way into a sink.
-ghost use Rattle.std.specs.Prelude.{◌≡◌, ◌≢◌, ◌≤◌, ◌++◌, Err, IfOk, OnOk};
+ghost use Rattle.std.specs.Prelude.{◌≡◌, ◌≢◌, ◌≤◌, ◌++◌, Err, IfOk, OnOk, codes};
 ghost use Rattle.std.specs.Fmt.{decimal};
 ghost use Rattle.std.specs.Io.KnownBytes.{Appends};
 ghost use Rattle.m2m_io.specs.Counts.{Rose};
 ghost use Rattle.m2m_io.specs.Told.{AppendsPrefix};
-ghost use Rattle.http_binding.specs.Replying.{body_of, line_end, status_line, code_text, id_text};
-ghost use Rattle.http_binding.specs.Replying.{type_text, length_text, close_text, reply_text};
+ghost use Rattle.std.specs.List.{flat_map};
+ghost use Rattle.httparse.specs.Ascii.{crlf_bytes};
+ghost use Rattle.m2m_names.specs.StatusCodes.{rsc_row};
+ghost use Rattle.http_frames.specs.declared.frame.Start.TheVariants.{Answer};
+ghost use Rattle.http_frames.specs.Text.{line_text, phrase_of, start_text};
+ghost use Rattle.http_binding.specs.Headers.{code_field, length_field};
+ghost use Rattle.http_binding.specs.Replying.{body_of, id_lines, type_lines, close_lines};
+ghost use Rattle.http_binding.specs.Replying.{reply_text};
 
 use crate::OutOfMemory;
 use crate::reply::body_text;
@@ -26,9 +32,10 @@ fn append_number(out: &mut Vec<u8>, n: u64) -> Result<(), OutOfMemory>
     out.extend_from_slice(Buffer::new().format(n).as_bytes())
 }
 
-/// Appends the status line of an HTTP status.
-fn append_status_line(out: &mut Vec<u8>, http: u16) -> Result<(), OutOfMemory>
-    ensures { OnOk result (out.new.items ≡ out.old.items ++ status_line http) }
+/// Appends the line of an HTTP status.
+fn append_status(out: &mut Vec<u8>, http: u16) -> Result<(), OutOfMemory>
+    ensures { OnOk result (out.new.items ≡ out.old.items
+        ++ (codes "HTTP/1.1 " ++ (decimal http ++ (codes " " ++ (phrase_of http ++ crlf_bytes))))) }
 {
     out.extend_from_slice(b"HTTP/1.1 ")?;
     append_number(out, u64::from(http))?;
@@ -37,9 +44,18 @@ fn append_status_line(out: &mut Vec<u8>, http: u16) -> Result<(), OutOfMemory>
     out.extend_from_slice(b"\r\n")
 }
 
+/// Appends the status line of a reply.
+fn append_start(out: &mut Vec<u8>, reply: &ReplyParts) -> Result<(), OutOfMemory>
+    ensures { OnOk result (out.new.items ≡ out.old.items
+        ++ start_text (Answer (rsc_row reply.now.rsc).http 1)) }
+{
+    append_status(out, reply.rsc.http_status())
+}
+
 /// Appends the line that tells the status code.
 fn append_code(out: &mut Vec<u8>, code: u16) -> Result<(), OutOfMemory>
-    ensures { OnOk result (out.new.items ≡ out.old.items ++ code_text code) }
+    ensures { OnOk result (out.new.items
+        ≡ out.old.items ++ line_text (code_field, decimal code)) }
 {
     out.extend_from_slice(b"X-M2M-RSC: ")?;
     append_number(out, u64::from(code))?;
@@ -48,7 +64,7 @@ fn append_code(out: &mut Vec<u8>, code: u16) -> Result<(), OutOfMemory>
 
 /// Appends the line that repeats the request's identifier, where there is one.
 fn append_id(out: &mut Vec<u8>, id: &Option<Text>) -> Result<(), OutOfMemory>
-    ensures { OnOk result (out.new.items ≡ out.old.items ++ id_text id.now) }
+    ensures { OnOk result (out.new.items ≡ out.old.items ++ flat_map line_text (id_lines id.now)) }
 {
     if let Some(id) = id {
         out.extend_from_slice(b"X-M2M-RI: ")?;
@@ -60,7 +76,8 @@ fn append_id(out: &mut Vec<u8>, id: &Option<Text>) -> Result<(), OutOfMemory>
 
 /// Appends the line that tells the type of the content, where there is some.
 fn append_type(out: &mut Vec<u8>, content: &Option<Val>) -> Result<(), OutOfMemory>
-    ensures { OnOk result (out.new.items ≡ out.old.items ++ type_text content.now) }
+    ensures { OnOk result (out.new.items
+        ≡ out.old.items ++ flat_map line_text (type_lines content.now)) }
 {
     if let Some(_) = content {
         out.extend_from_slice(b"Content-Type: application/json\r\n")?;
@@ -70,7 +87,8 @@ fn append_type(out: &mut Vec<u8>, content: &Option<Val>) -> Result<(), OutOfMemo
 
 /// Appends the line that tells the length of the body.
 fn append_length(out: &mut Vec<u8>, len: usize) -> Result<(), OutOfMemory>
-    ensures { OnOk result (out.new.items ≡ out.old.items ++ length_text len) }
+    ensures { OnOk result (out.new.items
+        ≡ out.old.items ++ line_text (length_field, decimal len)) }
 {
     out.extend_from_slice(b"Content-Length: ")?;
     append_number(out, len as u64)?;
@@ -79,7 +97,8 @@ fn append_length(out: &mut Vec<u8>, len: usize) -> Result<(), OutOfMemory>
 
 /// Appends the line that says that the connection closes, where it does.
 fn append_close(out: &mut Vec<u8>, close: bool) -> Result<(), OutOfMemory>
-    ensures { OnOk result (out.new.items ≡ out.old.items ++ close_text close) }
+    ensures { OnOk result (out.new.items
+        ≡ out.old.items ++ flat_map line_text (close_lines close)) }
 {
     if close {
         out.extend_from_slice(b"Connection: close\r\n")?;
@@ -87,19 +106,16 @@ fn append_close(out: &mut Vec<u8>, close: bool) -> Result<(), OutOfMemory>
     Ok(())
 }
 
-/// Appends the lines that speak of the primitive.
-fn append_primitive(
-    out: &mut Vec<u8>,
-    http: u16,
-    code: u16,
-    id: &Option<Text>,
-) -> Result<(), OutOfMemory>
+/// Appends the status line and the lines that speak of the primitive.
+fn append_primitive(out: &mut Vec<u8>, reply: &ReplyParts) -> Result<(), OutOfMemory>
     ensures { OnOk result (out.new.items ≡ out.old.items
-        ++ (status_line http ++ (code_text code ++ id_text id.now))) }
+        ++ (start_text (Answer (rsc_row reply.now.rsc).http 1)
+        ++ (line_text (code_field, decimal (rsc_row reply.now.rsc).number)
+        ++ flat_map line_text (id_lines reply.now.rqi)))) }
 {
-    append_status_line(out, http)?;
-    append_code(out, code)?;
-    append_id(out, id)
+    append_start(out, reply)?;
+    append_code(out, reply.rsc.number())?;
+    append_id(out, &reply.rqi)
 }
 
 /// Appends the lines that speak of the body.
@@ -110,7 +126,8 @@ fn append_framing(
     close: bool,
 ) -> Result<(), OutOfMemory>
     ensures { OnOk result (out.new.items ≡ out.old.items
-        ++ (type_text content.now ++ (length_text len ++ close_text close))) }
+        ++ (flat_map line_text (type_lines content.now)
+        ++ (line_text (length_field, decimal len) ++ flat_map line_text (close_lines close)))) }
 {
     append_type(out, content)?;
     append_length(out, len)?;
@@ -119,7 +136,7 @@ fn append_framing(
 
 /// Appends the empty line that ends a head, and the body.
 fn append_body(out: &mut Vec<u8>, body: &[u8]) -> Result<(), OutOfMemory>
-    ensures { OnOk result (out.new.items ≡ out.old.items ++ (line_end ++ body.now)) }
+    ensures { OnOk result (out.new.items ≡ out.old.items ++ (crlf_bytes ++ body.now)) }
 {
     out.extend_from_slice(b"\r\n")?;
     out.extend_from_slice(body)
@@ -136,9 +153,7 @@ fn bytes_with(
     ensures { IfOk result (λ bytes. bytes.items ≡ reply_text parts.now close) }
 {
     let mut out = Vec::with_capacity(alloc, HEAD_ROOM.saturating_add(body.len()))?;
-    let http = parts.rsc.http_status();
-    let code = parts.rsc.number();
-    append_primitive(&mut out, http, code, &parts.rqi)?;
+    append_primitive(&mut out, parts)?;
     append_framing(&mut out, &parts.pc, body.len(), close)?;
     append_body(&mut out, body)?;
     Ok(out)

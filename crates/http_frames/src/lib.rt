@@ -24,6 +24,3 @@ pub use inbox::Inbox;
 pub use laws::{frames_are_unique, no_frame_begins_another, what_is_written_is_read};
 pub use lines::{Found, Lines};
 pub use write::{phrase_of, write_frame};
-
-#[cfg(test)]
-mod tests;

@@ -24,6 +24,3 @@ pub use link::{Exchanged, Link, MemLink};
 pub use sink::{MemSink, Sink};
 pub use source::{MemSource, Source};
 pub use status::Status;
-
-#[cfg(test)]
-mod tests;

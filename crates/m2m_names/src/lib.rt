@@ -16,8 +16,6 @@ mod laws;
 mod name;
 mod operations;
 mod stamps;
-#[cfg(test)]
-mod tests;
 mod types;
 mod urls;
 

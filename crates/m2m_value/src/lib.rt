@@ -23,8 +23,6 @@ mod reading;
 mod same;
 mod shapes;
 mod size;
-#[cfg(test)]
-mod tests;
 mod text;
 mod value;
 mod writing;

@@ -56,8 +56,8 @@ module _ (home : HomeData) (o : List ℕ) (zs ws : List ResourceData) (all : Are
 
   fills_alike : (p q : ResourceData) → Alike home o p q → fills home zs o p ≡ fills home ws o q
   fills_alike p q one =
-      ap (λ b. b && (may home zs o create_bit p || may home zs o 4 p)) (ty-alike home o p q one Container)
-      ∙ ap (λ b. is_ty q.ty Container && (b || may home zs o 4 p)) (may_alike p q one create_bit)
+      ap (λ b. b && (may home zs o create_bit p || may home zs o update_bit p)) (ty-alike home o p q one Container)
+      ∙ ap (λ b. is_ty q.ty Container && (b || may home zs o update_bit p)) (may_alike p q one create_bit)
       ∙ ap (λ b. is_ty q.ty Container && (may home ws o create_bit q || b)) (may_alike p q one 4)
 
   filled_alike : (p q : Option ResourceData) → FindAlike home o p q → option_map_or (fills home zs o) p false ≡ option_map_or (fills home ws o) q false
@@ -73,7 +73,7 @@ module _ (home : HomeData) (o : List ℕ) (zs ws : List ResourceData) (all : Are
     inside = ap (λ b. is_ty r.ty ContentInstance && b) (filled_alike (at r.parent zs) (at r.parent ws) (at-alike home o zs ws all r.parent));
     uses =
         ap (λ b. is_ty r.ty Group && (b || nat_lt 0 (bits_by home o (fan_rules zs r)))) (may_alike r r (alike_itself home o r) 4)
-        ∙ ap (λ bits. is_ty r.ty Group && (may home ws o 4 r || nat_lt 0 bits)) ((fan_rules-alike home o zs ws all r r (alike_itself home o r)).bits 0);
+        ∙ ap (λ bits. is_ty r.ty Group && (may home ws o update_bit r || nat_lt 0 bits)) ((fan_rules-alike home o zs ws all r r (alike_itself home o r)).bits 0);
   }
 
 -- ---- the links to a policy are seen

@@ -16,7 +16,7 @@ use Rattle.policy_eval.specs.Alike.{Alike, is_one_of, shape_attrs}
 use Rattle.policy_eval.specs.Originators.{is_same}
 use Rattle.policy_eval.specs.Rules.{rules_in, fan_rules}
 use Rattle.policy_eval.specs.Rights.{bits_by, has_bits}
-use Rattle.policy_eval.specs.Seen.{create_bit, retrieve_bit, discovery_bit, may, fills, is_filled_in, may_use, found_attrs, limit_attrs, size_attrs, member_attrs, is_shown, is_rules, is_way, way_in, seen, seen_list, Shows}
+use Rattle.policy_eval.specs.Seen.{create_bit, update_bit, retrieve_bit, discovery_bit, may, fills, is_filled_in, may_use, found_attrs, limit_attrs, size_attrs, member_attrs, is_shown, is_rules, is_way, way_in, seen, seen_list, Shows}
 use Rattle.policy_eval.proofs.AlikeLemmas.{rules-alike, fan_rules-alike}
 use Rattle.policy_eval.proofs.SeenLemmas.{at-seen, seen_alike, seen_map_alike, seen_shows}
 
@@ -32,8 +32,8 @@ module _ (home : HomeData) (o : List ℕ) (nodes rs : List ResourceData) where
 
   pub fills-seen : (r : ResourceData) → fills home (map (seen home nodes o) rs) o (seen home nodes o r) ≡ fills home rs o r
   fills-seen r =
-      ap (λ b. is_ty r.ty Container && (b || may home seen_of o 4 (seen home nodes o r))) (may-seen create_bit r)
-      ∙ ap (λ b. is_ty r.ty Container && (may home rs o create_bit r || b)) (may-seen 4 r)
+      ap (λ b. is_ty r.ty Container && (b || may home seen_of o update_bit (seen home nodes o r))) (may-seen create_bit r)
+      ∙ ap (λ b. is_ty r.ty Container && (may home rs o create_bit r || b)) (may-seen update_bit r)
 
   pub is_filled_in-seen : (r : ResourceData) → is_filled_in home (map (seen home nodes o) rs) o (seen home nodes o r) ≡ is_filled_in home rs o r
   is_filled_in-seen r =
@@ -46,8 +46,8 @@ module _ (home : HomeData) (o : List ℕ) (nodes rs : List ResourceData) where
 
   pub may_use-seen : (r : ResourceData) → may_use home (map (seen home nodes o) rs) o (seen home nodes o r) ≡ may_use home rs o r
   may_use-seen r =
-      ap (λ b. is_ty r.ty Group && (b || nat_lt 0 (bits_by home o (fan_rules seen_of (seen home nodes o r))))) (may-seen 4 r)
-      ∙ ap (λ bits. is_ty r.ty Group && (may home rs o 4 r || nat_lt 0 bits)) ((fan_rules-alike home o seen_of rs (seen_map_alike home nodes o rs) (seen home nodes o r) r (seen_alike home nodes o r)).bits 0)
+      ap (λ b. is_ty r.ty Group && (b || nat_lt 0 (bits_by home o (fan_rules seen_of (seen home nodes o r))))) (may-seen update_bit r)
+      ∙ ap (λ bits. is_ty r.ty Group && (may home rs o update_bit r || nat_lt 0 bits)) ((fan_rules-alike home o seen_of rs (seen_map_alike home nodes o rs) (seen home nodes o r) r (seen_alike home nodes o r)).bits 0)
 
   -- an attribute is shown, by what the originator may do
   abbrev shown_by : Ty → Attr → Bool → Bool → Bool → Bool → Bool → Bool

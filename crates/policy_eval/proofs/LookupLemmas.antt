@@ -16,7 +16,7 @@ use Rattle.tree_model.specs.Tree.{at, due}
 use Rattle.policy_eval.specs.Alike.{is_one_of, shape_attrs}
 use Rattle.policy_eval.specs.Rules.{only, Rule, rule_for, all_bits, rules_in, policy_of, policies_of, joined, elements_in, ids_at, owner_rules, registree, linked_rules, channel_rules, rules_of, fan_rules}
 use Rattle.policy_eval.specs.Rights.{bits_by, has_bits}
-use Rattle.policy_eval.specs.Seen.{create_bit, retrieve_bit, discovery_bit, may, fills, is_filled_in, may_use, found_attrs, limit_attrs, size_attrs, member_attrs, is_shown, seen_value, seen_row, seen_owner, seen, is_rules, is_way}
+use Rattle.policy_eval.specs.Seen.{create_bit, update_bit, retrieve_bit, discovery_bit, may, fills, is_filled_in, may_use, found_attrs, limit_attrs, size_attrs, member_attrs, is_shown, seen_value, seen_row, seen_owner, seen, is_rules, is_way}
 use Rattle.policy_eval.proofs.TwiceLemmas.{made, value_by}
 
 -- ---- rules
@@ -199,8 +199,8 @@ module _ (home : HomeData) (o : List ℕ) (named : Data → Bool) (zs xs : List 
 
   fills_same : (s r : ResourceData) (n : ℕ) → JudgeSame s r → at n xs ≡ Some r → fills home zs o s ≡ fills home xs o r
   fills_same s r n same found =
-      ap (λ ty. is_ty ty Container && (may home zs o create_bit s || may home zs o 4 s)) same.ty
-      ∙ ap (λ b. is_ty r.ty Container && (b || may home zs o 4 s)) (may_same s r n same found create_bit)
+      ap (λ ty. is_ty ty Container && (may home zs o create_bit s || may home zs o update_bit s)) same.ty
+      ∙ ap (λ b. is_ty r.ty Container && (b || may home zs o update_bit s)) (may_same s r n same found create_bit)
       ∙ ap (λ b. is_ty r.ty Container && (may home xs o create_bit r || b)) (may_same s r n same found 4)
 
   filled_same : (p q : Option ResourceData) (n : ℕ) → at n xs ≡ q → FindSame p q → option_map_or (fills home zs o) p false ≡ option_map_or (fills home xs o) q false
@@ -216,9 +216,9 @@ module _ (home : HomeData) (o : List ℕ) (named : Data → Bool) (zs xs : List 
 
   pub use_same : (s r : ResourceData) (n : ℕ) → JudgeSame s r → at n xs ≡ Some r → value_of Macp s.attrs ≡ value_of Macp r.attrs → may_use home zs o s ≡ may_use home xs o r
   use_same s r n same found macp =
-      ap (λ ty. is_ty ty Group && (may home zs o 4 s || nat_lt 0 (bits_by home o (fan_rules zs s)))) same.ty
+      ap (λ ty. is_ty ty Group && (may home zs o update_bit s || nat_lt 0 (bits_by home o (fan_rules zs s)))) same.ty
       ∙ ap (λ b. is_ty r.ty Group && (b || nat_lt 0 (bits_by home o (fan_rules zs s)))) (may_same s r n same found 4)
-      ∙ ap (λ (rules : List Rule). is_ty r.ty Group && (may home xs o 4 r || nat_lt 0 (bits_by home o rules))) (fan_same named zs xs finds s r n same found macp)
+      ∙ ap (λ (rules : List Rule). is_ty r.ty Group && (may home xs o update_bit r || nat_lt 0 (bits_by home o rules))) (fan_same named zs xs finds s r n same found macp)
 
   -- but for the use of a group whose `macp` differs
   pub may_same_but : (s r : ResourceData) (n : ℕ) → JudgeSame s r → at n xs ≡ Some r → may_use home zs o s ≡ may_use home xs o r → MaySame home o zs xs s r

@@ -22,7 +22,7 @@ use Rattle.tree_model.proofs.TreeLemmas.{at-append, at-map, at_none}
 use Rattle.policy_eval.specs.Originators.{is_same}
 use Rattle.policy_eval.specs.Rules.{rules_in}
 use Rattle.policy_eval.specs.Rights.{bits_by}
-use Rattle.policy_eval.specs.Seen.{retrieve_bit, discovery_bit, create_bit, may, fills, is_filled_in, may_use, is_shown, is_url, first_url, only_point, plain_rules, seen_rules, seen_points, is_rules, is_way, seen_value, seen_row, another, seen_owner, seen_ct, seen_lt, seen_et, seen, seen_list}
+use Rattle.policy_eval.specs.Seen.{retrieve_bit, discovery_bit, create_bit, update_bit, may, fills, is_filled_in, may_use, is_shown, is_url, first_url, only_point, plain_rules, seen_rules, seen_points, is_rules, is_way, seen_value, seen_row, another, seen_owner, seen_ct, seen_lt, seen_et, seen, seen_list}
 use Rattle.policy_eval.proofs.AlikeLemmas.{without-zip, map_from_zip}
 use Rattle.policy_eval.proofs.BitLemmas.{IsBelow, has_more}
 use Rattle.policy_eval.proofs.RemovalLemmas.{Keeps, keeps_without, rules_less, fan_less}
@@ -106,7 +106,7 @@ module _ (home : HomeData) (o : List ℕ) (less more : List ResourceData) (keeps
   may-more bit r = has_more _ _ bit (rules_less home o less more keeps r).bits
 
   fills-more : (r : ResourceData) → fills home less o r ≡ true → fills home more o r ≡ true
-  fills-more r = and_more _ _ _ (or_more _ _ _ _ (may-more create_bit r) (may-more 4 r))
+  fills-more r = and_more _ _ _ (or_more _ _ _ _ (may-more create_bit r) (may-more update_bit r))
 
   is_filled_in-more : (r : ResourceData) → is_filled_in home less o r ≡ true → is_filled_in home more o r ≡ true
   is_filled_in-more r = and_more _ _ _ (above (at r.parent less) (at r.parent more) (keeps.found r.parent))
@@ -117,7 +117,7 @@ module _ (home : HomeData) (o : List ℕ) (less more : List ResourceData) (keeps
 
   may_use-more : (r : ResourceData) → may_use home less o r ≡ true → may_use home more o r ≡ true
   may_use-more r =
-      and_more _ _ _ (or_more _ _ _ _ (may-more 4 r) (some_more _ _ (fan_less home o less more keeps r).bits))
+      and_more _ _ _ (or_more _ _ _ _ (may-more update_bit r) (some_more _ _ (fan_less home o less more keeps r).bits))
 
   is_shown-more : (r : ResourceData) (a : Attr) → is_shown home less o r a ≡ true → is_shown home more o r a ≡ true
   is_shown-more r a =

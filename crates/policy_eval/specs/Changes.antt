@@ -15,8 +15,8 @@ use Rattle.resource_model.specs.Home.{HomeData}
 use Rattle.resource_model.specs.Resource.{ResourceData, is_ty, has_number}
 use Rattle.policy_eval.specs.Alike.{is_one_of, id_attrs}
 use Rattle.policy_eval.specs.Rules.{policy_number, ids_at}
-use Rattle.policy_eval.specs.Rights.{grants, update_bit}
-use Rattle.policy_eval.specs.Seen.{create_bit, retrieve_bit, may, seen_value}
+use Rattle.policy_eval.specs.Rights.{create_bit, retrieve_bit, update_bit, grants}
+use Rattle.policy_eval.specs.Seen.{may, seen_value}
 
 -- the resource is a policy, and the id is its resource id
 abbrev pub is_id_of : ResourceData → Data → Bool

@@ -2,11 +2,31 @@
 use Rattle.std.specs.Prelude.{ℕ, ◌==◌, Bool, List, bit_and, bit_or, false, if◌then◌else◌}
 use Rattle.std.specs.List.{fold, list_any}
 use Rattle.std.specs.Option.{option_map_or}
+use Rattle.m2m_names.specs.Operations.{op_row}
+use Rattle.m2m_names.specs.declared.operations.Op.TheVariants.{Create, Retrieve, Update}
 use Rattle.resource_model.specs.Home.{HomeData}
 use Rattle.resource_model.specs.Resource.{ResourceData}
 use Rattle.tree_model.specs.Tree.{at}
 use Rattle.policy_eval.specs.Originators.{is_same, does_name}
 use Rattle.policy_eval.specs.Rules.{Subjects, named, only, Rule, rules_of, fan_rules, link_rules}
+
+-- ---- the bits of `acop`
+
+-- those of operations (TS-0001, 9.6.2.1.2)
+abbrev pub create_bit : ℕ
+create_bit = (op_row Create).bit
+
+abbrev pub retrieve_bit : ℕ
+retrieve_bit = (op_row Retrieve).bit
+
+abbrev pub update_bit : ℕ
+update_bit = (op_row Update).bit
+
+-- that of DISCOVERY, which is a Retrieve that looks for resources
+abbrev pub discovery_bit : ℕ
+discovery_bit = 32
+
+-- ---- who has them
 
 -- the originator is one of these
 abbrev pub is_among : HomeData → List ℕ → Subjects → Bool
@@ -43,10 +63,6 @@ gives_at rules home nodes o wanted n =
 -- the originator may do this to the resource of the number
 abbrev pub grants : HomeData → List ResourceData → List ℕ → ℕ → ℕ → Bool
 grants home nodes o wanted n = gives_at (rules_of nodes) home nodes o wanted n
-
--- the bit of UPDATE in `acop`
-abbrev pub update_bit : ℕ
-update_bit = 4
 
 -- the originator may change its `acpi`
 abbrev pub relinks : HomeData → List ResourceData → List ℕ → ℕ → Bool

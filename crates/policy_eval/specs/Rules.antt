@@ -9,7 +9,7 @@ use Rattle.m2m_names.specs.declared.types.Ty.TheVariants.{AccessControlPolicy, A
 use Rattle.m2m_names.specs.declared.types.Ty.TheVariants.{PollingChannel, RemoteCse}
 use Rattle.m2m_names.specs.declared.types.Ty.{Ty}
 use Rattle.m2m_names.specs.Ids.{id_parts}
-use Rattle.m2m_value.specs.Data.{Data}
+use Rattle.m2m_value.specs.Data.{Data, number, text, list, object, elements_of, pairs_of}
 use Rattle.m2m_value.specs.View.{as_list, as_number, as_object, as_text, member_of}
 use Rattle.resource_model.specs.Attributes.{value_of, text_at}
 use Rattle.resource_model.specs.Resource.{ResourceData, is_ty}
@@ -39,6 +39,16 @@ all_bits = 63
 abbrev pub sum_of_bits : ℤ → ℕ
 sum_of_bits (pos n) = if nat_lt n 64 then n else 0
 sum_of_bits (negsuc n) = 0
+
+-- a rule that gives one originator, or everyone for `all`, these bits
+abbrev pub written_rule : List ℕ → ℕ → Data
+written_rule who bits =
+    object (pairs_of (
+    (codes "acop", number (pos bits)) ∷ (codes "acor", list (elements_of (text who ∷ []))) ∷ []))
+
+-- the value of `pv` or `pvs` that has these rules
+abbrev pub written_rules : List Data → Data
+written_rules rules = object (pairs_of ((codes "acr", list (elements_of rules)) ∷ []))
 
 -- the member of an object
 abbrev pub member_at : List ℕ → Data → Option Data

@@ -2,7 +2,7 @@
 -- number, type, name and parent, when it is due, `acpi`, `macp` and whether it owns it; the `aei`
 -- of an AE; the `csi` of a remote CSE and the first http URL of its `poa`; and of a policy the bits
 -- that it has by `pv` and by `pvs`. Besides, it sees what its rights show, and nothing else.
-use Rattle.std.specs.Prelude.{◌≡◌, ℕ, pos, nat_lt, Bool, true, false, ◌&&◌, ◌||◌, List, [], ◌∷◌}
+use Rattle.std.specs.Prelude.{◌≡◌, ℕ, nat_lt, Bool, true, false, ◌&&◌, ◌||◌, List, [], ◌∷◌}
 use Rattle.std.specs.Prelude.{◌++◌, map, codes, Option, Some, None, option_map, unwrap_or, find}
 use Rattle.std.specs.Prelude.{is_some, if◌then◌else◌}
 use Rattle.std.specs.List.{filter_map}
@@ -13,35 +13,27 @@ use Rattle.m2m_names.specs.declared.attributes.Attr.TheVariants.{Mnm, Mt, Poa, P
 use Rattle.m2m_names.specs.declared.types.Ty.TheVariants.{AccessControlPolicy, Container}
 use Rattle.m2m_names.specs.declared.types.Ty.TheVariants.{ContentInstance, Group, RemoteCse}
 use Rattle.m2m_names.specs.UrlReading.{host_end_at}
-use Rattle.m2m_value.specs.Data.{Data, list, number, object, text, elements_of, pairs_of}
+use Rattle.m2m_value.specs.Data.{Data, list, text, elements_of}
 use Rattle.resource_model.specs.Attributes.{Row, is_attr, value_of}
 use Rattle.resource_model.specs.Home.{HomeData}
 use Rattle.resource_model.specs.Resource.{ResourceData, is_ty}
 use Rattle.tree_model.specs.Tree.{at, due}
 use Rattle.policy_eval.specs.Originators.{is_same}
 use Rattle.policy_eval.specs.Rules.{rules_in, rules_of, fan_rules, texts_of, elements_in}
-use Rattle.policy_eval.specs.Rights.{bits_by, has_bits}
+use Rattle.policy_eval.specs.Rules.{written_rule, written_rules}
+pub use Rattle.policy_eval.specs.Rights.{create_bit, retrieve_bit, update_bit, discovery_bit}
+use Rattle.policy_eval.specs.Rights.{bits_by, do_give}
 use Rattle.policy_eval.specs.Alike.{is_one_of, Agree, shape_attrs, Alike}
 
 -- ---- rights of the originator, by what they show
 
--- the bits of the operations in `acop` (TS-0001, 9.6.2.1.2)
-abbrev pub create_bit : ℕ
-create_bit = 1
-
-abbrev pub retrieve_bit : ℕ
-retrieve_bit = 2
-
-abbrev pub discovery_bit : ℕ
-discovery_bit = 32
-
 -- it has this bit on the resource
 abbrev pub may : HomeData → List ResourceData → List ℕ → ℕ → ResourceData → Bool
-may home nodes o bit r = has_bits (bits_by home o (rules_of nodes r)) bit
+may home nodes o bit r = do_give home o bit (rules_of nodes r)
 
 -- it may add to the resource or change it, so that it can learn the resource's limits
 abbrev pub may_fill : HomeData → List ResourceData → List ℕ → ResourceData → Bool
-may_fill home nodes o r = may home nodes o create_bit r || may home nodes o 4 r
+may_fill home nodes o r = may home nodes o create_bit r || may home nodes o update_bit r
 
 -- a container that it may fill
 abbrev pub fills : HomeData → List ResourceData → List ℕ → ResourceData → Bool
@@ -56,7 +48,7 @@ is_filled_in home nodes o r =
 abbrev pub may_use : HomeData → List ResourceData → List ℕ → ResourceData → Bool
 may_use home nodes o r =
     is_ty r.ty Group
-    && (may home nodes o 4 r || nat_lt 0 (bits_by home o (fan_rules nodes r)))
+    && (may home nodes o update_bit r || nat_lt 0 (bits_by home o (fan_rules nodes r)))
 
 -- ---- what is shown of a resource
 
@@ -88,13 +80,7 @@ is_shown home nodes o r a =
 
 -- rules that give everyone these bits, as `pv` or `pvs` writes them
 abbrev pub plain_rules : ℕ → Data
-plain_rules bits =
-    object (pairs_of ((
-      codes "acr",
-      list (elements_of (object (pairs_of (
-          (codes "acop", number (pos bits)) ∷
-          (codes "acor", list (elements_of (text (codes "all") ∷ []))) ∷ [])) ∷ [])),
-    ) ∷ []))
+plain_rules bits = written_rules (written_rule (codes "all") bits ∷ [])
 
 -- of the rules of a policy the originator sees what they give it
 abbrev pub seen_rules : HomeData → List ℕ → Data → Data
@@ -131,13 +117,18 @@ way_in (row ∷ rows) =
 abbrev pub is_way : ResourceData → Attr → Bool
 is_way r a = is_ty r.ty RemoteCse && is_attr a Poa
 
+-- what it sees of a value that isn't shown: of rules what they give it, of points of access the way
+-- in, and of all else nothing
+abbrev pub hidden_value : HomeData → List ℕ → ResourceData → Attr → Data → Option Data
+hidden_value home o r a d =
+    if is_rules r a then Some (seen_rules home o d) else
+    if is_way r a then seen_points d else None
+
 -- what it sees of a value
 abbrev pub seen_value : HomeData → List ResourceData → List ℕ → ResourceData → Attr → Data →
     Option Data
 seen_value home nodes o r a d =
-    if is_shown home nodes o r a then Some d else
-    if is_rules r a then Some (seen_rules home o d) else
-    if is_way r a then seen_points d else None
+    if is_shown home nodes o r a then Some d else hidden_value home o r a d
 
 abbrev pub seen_row : HomeData → List ResourceData → List ℕ → ResourceData → Row → Option Row
 seen_row home nodes o r row =

@@ -13,8 +13,8 @@ ghost use Rattle.policy_eval.specs.Changes.{NewValue, ShowNoMore, changed, is_li
 ghost use Rattle.policy_eval.specs.Changes.{learns_limits, seen_changes};
 ghost use Rattle.policy_eval.specs.Laws.{IsNeverGained};
 ghost use Rattle.policy_eval.specs.Rules.{policy_named, policy_number};
-ghost use Rattle.policy_eval.specs.Rights.{grants, relinks, fan_grants};
-ghost use Rattle.policy_eval.specs.Seen.{Shows, retrieve_bit, seen, seen_list, with_seen_owner};
+ghost use Rattle.policy_eval.specs.Rights.{retrieve_bit, grants, relinks, fan_grants};
+ghost use Rattle.policy_eval.specs.Seen.{Shows, seen, seen_list, with_seen_owner};
 ghost use Rattle.policy_eval.specs.Shape.{SightHasShape};
 
 /// A removal grants nothing to anyone, whatever goes: not that of a policy to those whose resource

@@ -25,8 +25,6 @@ mod laws;
 mod originators;
 mod policies;
 mod rights;
-#[cfg(test)]
-mod tests;
 
 pub use laws::{
     a_policy_is_named_by_its_id, alike_lists_give_the_same_rights, equal_sights_show_the_same,

@@ -6,12 +6,12 @@ use Rattle.m2m_names.specs.declared.operations.Op.TheVariants.{Create}
 use Rattle.m2m_value.specs.Data.{Data, null, Entry}
 use Rattle.m2m_value.specs.View.{member_of}
 use Rattle.m2m_value.proofs.Lookup.{compared, member_of-put_other}
-use Rattle.primitive_json.specs.Conditions as conditions
-use Rattle.primitive_json.specs.Conditions.{filter_in, labels_of, with_labels}
-use Rattle.primitive_json.specs.Kinds.{members_in}
+use Rattle.filter_criteria.specs.Conditions as conditions
+use Rattle.filter_criteria.specs.Conditions.{filter_in, labels_of, with_labels}
+use Rattle.filter_criteria.specs.Values.{members_in}
 use Rattle.primitive_json.specs.Reading.{value_read, operation_in, request_fault, request_made, request_of, plain_in, kept_in, with_kept}
-use Rattle.primitive_json.specs.declared.condition.Condition.TheVariants.{OneLabel}
-use Rattle.primitive_json.specs.declared.filter.FilterParts.{FilterParts}
+use Rattle.filter_criteria.specs.declared.condition.Condition.TheVariants.{OneLabel}
+use Rattle.filter_criteria.specs.declared.filter.FilterParts.{FilterParts}
 use Rattle.primitive_json.specs.declared.kept.Kept.{Kept}
 use Rattle.primitive_json.specs.declared.member.Member.TheVariants.{FilterCriteria}
 use Rattle.primitive_json.specs.declared.request.RequestParts.{RequestParts}

@@ -1,9 +1,6 @@
-pub mod Lists
 pub mod Numerals
-pub mod Present
 pub mod KindLemmas
 pub mod FaultLemmas
-pub mod FilterLemmas
 pub mod RoundTrip
 pub mod ReplyLemmas
 pub mod KeptLemmas

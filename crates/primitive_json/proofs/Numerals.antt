@@ -8,7 +8,7 @@ use Rattle.std.specs.List.{list_all}
 use Rattle.std.specs.Str.Parse.{digits_value, digits_value_after}
 use Rattle.m2m_names.specs.Name.{is_filled}
 use Rattle.primitive_json.specs.Kinds.{is_numeral}
-use Rattle.primitive_json.proofs.Lists.{take_more}
+use Rattle.filter_criteria.proofs.Lists.{take_more}
 
 tells_digits : IsDigitsTest (λ ds. list_all is_ascii_digit ds ≡ true)
 tells_digits = search rules

@@ -13,16 +13,18 @@ use Rattle.m2m_names.proofs.StatusLemmas.{rsc_again}
 use Rattle.m2m_value.specs.Data.{Data, text, Entry}
 use Rattle.m2m_value.specs.View.{as_text, member_of}
 use Rattle.primitive_json.specs.Bounds.{is_request_id}
-use Rattle.primitive_json.specs.Kinds.{members_in, is_id_text, read_status}
+use Rattle.primitive_json.specs.Kinds.{is_id_text, read_status}
 use Rattle.primitive_json.specs.Laws.{IsReplyOfKinds}
 use Rattle.primitive_json.specs.Reading.{read_as, rsc_name, rqi_name, pc_name, reply_fault, reply_made, reply_of, read_reply}
-use Rattle.primitive_json.specs.Writing.{present, count_data, reply_rows, written_reply}
+use Rattle.primitive_json.specs.Writing.{reply_rows, written_reply}
+use Rattle.filter_criteria.specs.Values.{members_in, present, count_data}
 use Rattle.primitive_json.specs.declared.fault.PrimFault.{PrimFault}
 use Rattle.primitive_json.specs.declared.fault.PrimFault.TheVariants.{Missing, Bad}
 use Rattle.primitive_json.specs.declared.reply.ReplyParts.{ReplyParts}
 use Rattle.primitive_json.proofs.FaultLemmas.{read_without_fault, read_if_no_fault}
-use Rattle.primitive_json.proofs.KindLemmas.{where_kept, told_passes}
-use Rattle.primitive_json.proofs.Present.{member_of-present, members_in-object_of}
+use Rattle.primitive_json.proofs.KindLemmas.{told_passes}
+use Rattle.filter_criteria.proofs.PartLemmas.{where_kept}
+use Rattle.filter_criteria.proofs.Present.{member_of-present, members_in-object_of}
 
 -- ---- the number of a status code has four digits
 

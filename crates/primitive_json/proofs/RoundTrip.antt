@@ -13,18 +13,22 @@ use Rattle.m2m_value.specs.Data.{Data, number, text, object, Entry, pairs_of}
 use Rattle.m2m_value.specs.Shapes.{as_count}
 use Rattle.m2m_value.specs.View.{as_text, as_number, as_object, member_of}
 use Rattle.primitive_json.specs.Bounds.{is_request_id}
-use Rattle.primitive_json.specs.Conditions.{is_filter, filter_in}
-use Rattle.primitive_json.specs.Kinds.{members_in, read_type_number, is_among, address_forms, read_operation, result_contents, read_response_type, read_expiry}
-use Rattle.primitive_json.specs.Laws.{IsFilterOfKinds, IsWhenOfKind, IsShortWhen, IsOfKinds, HasShortExpiry}
+use Rattle.filter_criteria.specs.Conditions.{is_filter, filter_in}
+use Rattle.filter_criteria.specs.Laws.{IsFilterOfKinds}
+use Rattle.filter_criteria.specs.Values.{NamedValue, members_in, read_type_number, present, count_data}
+use Rattle.filter_criteria.specs.Writing.{written_filter}
+use Rattle.filter_criteria.specs.declared.filter.FilterParts.{FilterParts}
+use Rattle.filter_criteria.proofs.FilterLemmas.{filter_back, filter_fits, filter_of_kinds}
+use Rattle.filter_criteria.proofs.PartLemmas.{where_kept, where_passes, passes_along, each_back}
+use Rattle.filter_criteria.proofs.Present.{member_of-present, members_in-object_of, none_fails, all_rows}
+use Rattle.primitive_json.specs.Kinds.{is_among, address_forms, read_operation, result_contents, read_response_type, read_expiry}
+use Rattle.primitive_json.specs.Laws.{IsWhenOfKind, IsShortWhen, IsOfKinds, HasShortExpiry}
 use Rattle.primitive_json.specs.Members.{creates, retrieves, has_content, has_result, all_members, name_of, is_read, is_needed}
 use Rattle.primitive_json.specs.Reading.{read_as, is_good, is_missing, missing_member, bad_entry, request_fault, value_read, operation_in, request_made, request_of, read_request}
-use Rattle.primitive_json.specs.Writing.{NamedValue, present, only_where, count_data, expiry_data, written_filter, member_value, member_row, written_request}
+use Rattle.primitive_json.specs.Writing.{only_where, expiry_data, member_value, member_row, written_request}
 use Rattle.primitive_json.proofs.FaultLemmas.{named_again, read_without_fault, read_if_no_fault, needed_is_there, fitting, operation_is_known}
-use Rattle.primitive_json.proofs.FilterLemmas.{filter_back, filter_fits, filter_of_kinds}
-use Rattle.primitive_json.proofs.KindLemmas.{where_kept, where_passes, passes_along, each_back, told_passes, told_or_passes, expiry_back, when_of_kind}
-use Rattle.primitive_json.proofs.Present.{member_of-present, members_in-object_of, none_fails, all_rows}
+use Rattle.primitive_json.proofs.KindLemmas.{told_passes, told_or_passes, expiry_back, when_of_kind}
 use Rattle.primitive_json.specs.declared.fault.PrimFault.TheVariants.{Missing, Bad}
-use Rattle.primitive_json.specs.declared.filter.FilterParts.{FilterParts}
 use Rattle.primitive_json.specs.declared.member.Member.{Member}
 use Rattle.primitive_json.specs.declared.member.Member.TheVariants.{DesiredForm, FilterCriteria, Originator, Operation, Content, ResultContent, Expiry, RequestId, ResponseType, Target, ResourceType}
 use Rattle.primitive_json.specs.declared.request.RequestParts.{RequestParts}

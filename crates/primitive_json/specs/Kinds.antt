@@ -18,18 +18,10 @@ use Rattle.m2m_names.specs.declared.operations.Op.TheVariants.{Notify}
 use Rattle.m2m_value.specs.Data.{Data, null, boolean, number, text, list, object, Entry}
 use Rattle.m2m_value.specs.Shapes.{as_count, is_text_of}
 use Rattle.m2m_value.specs.View.{as_number, as_text, as_object, entries, member_of}
+use Rattle.filter_criteria.specs.Values.{where_it, members_in}
 use Rattle.primitive_json.specs.Bounds.{is_request_id}
 use Rattle.primitive_json.specs.declared.request.When.{When}
 use Rattle.primitive_json.specs.declared.request.When.TheVariants.{At, Millis}
-
--- the value, where it passes the test
-abbrev pub where_it : {A : Type 0} → (A → Bool) → Option A → Option A
-where_it test None = None
-where_it test (Some a) = if test a then Some a else None
-
--- the members of a value: none where it is no object
-abbrev pub members_in : Data → List Entry
-members_in d = unwrap_or (as_object d) []
 
 -- ---- texts
 
@@ -44,10 +36,6 @@ abbrev pub is_id_text : Data → Bool
 is_id_text d = is_text_of is_request_id d
 
 -- ---- numbers
-
--- the number of a resource type: 0 to 65,535
-abbrev pub read_type_number : Data → Option ℕ
-read_type_number d = where_it (λ n. nat_le n 65_535) (as_count d)
 
 -- one of these numbers
 abbrev pub is_among : List ℤ → Data → Bool

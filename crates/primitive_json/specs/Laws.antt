@@ -6,27 +6,17 @@ use Rattle.std.specs.Ordering.{int_eq}
 use Rattle.m2m_names.specs.Name.{is_filled, is_originator}
 use Rattle.m2m_value.specs.Data.{Data}
 use Rattle.m2m_value.specs.View.{as_object}
-use Rattle.primitive_json.specs.Bounds.{IsMoment, is_request_id}
+use Rattle.filter_criteria.specs.Bounds.{IsMoment}
+use Rattle.filter_criteria.specs.Laws.{IsFilterOfKinds}
+use Rattle.primitive_json.specs.Bounds.{is_request_id}
 use Rattle.primitive_json.specs.Kinds.{result_contents, address_forms}
 use Rattle.primitive_json.specs.Members.{creates, retrieves, has_content}
 use Rattle.primitive_json.specs.Reading.{read_request, read_reply}
 use Rattle.primitive_json.specs.Writing.{written_request, written_reply}
-use Rattle.primitive_json.specs.declared.filter.FilterParts.{FilterParts}
 use Rattle.primitive_json.specs.declared.request.RequestParts.{RequestParts}
 use Rattle.primitive_json.specs.declared.request.When.{When}
 use Rattle.primitive_json.specs.declared.request.When.TheVariants.{At, Millis}
 use Rattle.primitive_json.specs.declared.reply.ReplyParts.{ReplyParts}
-
--- each condition of the filter is of its kind
-pub record IsFilterOfKinds (f : FilterParts) : Type 0 where
-  pub crb : IfSome f.crb IsMoment
-  pub cra : IfSome f.cra IsMoment
-  pub ms : IfSome f.ms IsMoment
-  pub us : IfSome f.us IsMoment
-  pub exb : IfSome f.exb IsMoment
-  pub exa : IfSome f.exa IsMoment
-  pub lbl : IsTrue (list_all (is_filled 256) f.lbl)
-  pub ty : IsTrue (list_all (λ n. nat_le n 65_535) f.ty)
 
 -- a moment is one of a timestamp
 abbrev pub IsWhenOfKind : When → Type 0

@@ -1,6 +1,4 @@
 pub mod Bounds
-pub mod Conditions
-pub mod Filters
 pub mod Kinds
 pub mod Laws
 pub mod Members

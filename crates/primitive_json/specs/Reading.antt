@@ -10,15 +10,18 @@ use Rattle.m2m_names.specs.declared.operations.Op.TheVariants.{Create}
 use Rattle.m2m_value.specs.Data.{Data, Entry}
 use Rattle.m2m_value.specs.Shapes.{may_have_member}
 use Rattle.m2m_value.specs.View.{as_number, as_object, as_text, member_of}
-use Rattle.primitive_json.specs.Conditions as conditions
-use Rattle.primitive_json.specs.Conditions.{is_filter, filter_in, labels_of, with_labels}
-use Rattle.primitive_json.specs.Kinds.{members_in, is_address_text, is_originator_text, is_id_text}
-use Rattle.primitive_json.specs.Kinds.{read_type_number, is_among, address_forms, read_operation}
+use Rattle.filter_criteria.specs.Conditions as conditions
+use Rattle.filter_criteria.specs.Conditions.{is_filter, filter_in, labels_of, with_labels}
+use Rattle.filter_criteria.specs.Values.{members_in, read_type_number}
+use Rattle.primitive_json.specs.Kinds.{is_address_text, is_originator_text, is_id_text}
+use Rattle.primitive_json.specs.Kinds.{is_among, address_forms, read_operation}
 use Rattle.primitive_json.specs.Kinds.{result_contents, read_response_type, read_expiry}
 use Rattle.primitive_json.specs.Kinds.{read_status}
 use Rattle.primitive_json.specs.Members.{retrieves, row_of, all_members, name_of, member_named}
 use Rattle.primitive_json.specs.Members.{is_one_unread, is_read, is_needed}
-use Rattle.primitive_json.specs.declared.condition.Condition.TheVariants.{OneLabel}
+use Rattle.filter_criteria.specs.declared.condition.Condition.TheVariants.{OneLabel}
+use Rattle.primitive_json.specs.declared.fault.Fault.{Fault}
+use Rattle.primitive_json.specs.declared.fault.Fault.TheVariants as lent
 use Rattle.primitive_json.specs.declared.fault.PrimFault.{PrimFault}
 use Rattle.primitive_json.specs.declared.fault.PrimFault.TheVariants.{Missing, Bad, OutOfMemory}
 use Rattle.primitive_json.specs.declared.kept.Kept.{Kept}
@@ -50,6 +53,11 @@ read_as (Some fault) made = Err fault
 abbrev pub Answers : {A : Type 0} → Result A PrimFault → Result A PrimFault → Type 0
 Answers (Ok a) told = told ≡ Ok a
 Answers (Err fault) told = (fault ≡ OutOfMemory) ⊎ (told ≡ Err fault)
+
+-- the same fault, with a name of its own
+abbrev pub owned : Fault → PrimFault
+owned (lent.Missing name) = Missing name.now
+owned (lent.Bad name) = Bad name.now
 
 -- ---- the first fault of a request
 

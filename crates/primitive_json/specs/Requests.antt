@@ -3,7 +3,7 @@ use Rattle.std.specs.Prelude.{IfSome, IsUtf8}
 use Rattle.primitive_json.specs.declared.request.RequestParts.{RequestParts}
 use Rattle.primitive_json.specs.declared.request.When.{When}
 use Rattle.primitive_json.specs.declared.request.When.TheVariants.{At, Millis}
-use Rattle.primitive_json.specs.Bounds.{IsMoment, IsCount}
+use Rattle.filter_criteria.specs.Bounds.{IsMoment, IsCount}
 
 -- a moment of a timestamp, or a count of milliseconds (TS-0004, 6.3.3)
 abbrev pub IsSoundWhen : When → Type 0

@@ -8,23 +8,10 @@ use Rattle.m2m_names.specs.Operations.{op_row}
 use Rattle.m2m_names.specs.Stamps.{timestamp}
 use Rattle.m2m_names.specs.StatusCodes.{rsc_row}
 use Rattle.m2m_value.specs.Data.{Data, number, text, list, object, Entry, elements_of, pairs_of}
-use Rattle.primitive_json.specs.Conditions as conditions
-use Rattle.primitive_json.specs.Conditions.{all_conditions}
+use Rattle.filter_criteria.specs.Values.{NamedValue, object_of, count_data}
+use Rattle.filter_criteria.specs.Writing.{written_filter}
 use Rattle.primitive_json.specs.Members.{creates, retrieves, has_content, all_members, name_of}
 use Rattle.primitive_json.specs.Reading.{rsc_name, rqi_name, pc_name}
-use Rattle.primitive_json.specs.declared.condition.Condition.{Condition}
-use Rattle.primitive_json.specs.declared.condition.Condition.TheVariants.{CreatedAfter}
-use Rattle.primitive_json.specs.declared.condition.Condition.TheVariants.{CreatedBefore}
-use Rattle.primitive_json.specs.declared.condition.Condition.TheVariants.{ExpireAfter, ExpireBefore}
-use Rattle.primitive_json.specs.declared.condition.Condition.TheVariants.{Usage, OneLabel, Limit}
-use Rattle.primitive_json.specs.declared.condition.Condition.TheVariants.{ModifiedSince}
-use Rattle.primitive_json.specs.declared.condition.Condition.TheVariants.{StateTagBigger}
-use Rattle.primitive_json.specs.declared.condition.Condition.TheVariants.{StateTagSmaller}
-use Rattle.primitive_json.specs.declared.condition.Condition.TheVariants.{SizeAbove, SizeBelow}
-use Rattle.primitive_json.specs.declared.condition.Condition.TheVariants.{OneType, UnmodifiedSince}
-use Rattle.primitive_json.specs.declared.filter.FilterParts.{FilterParts}
-use Rattle.primitive_json.specs.declared.filter.FilterUsage.{FilterUsage}
-use Rattle.primitive_json.specs.declared.filter.FilterUsage.TheVariants.{Discovery, Conditional}
 use Rattle.primitive_json.specs.declared.member.Member.{Member}
 use Rattle.primitive_json.specs.declared.member.Member.TheVariants.{DesiredForm, FilterCriteria}
 use Rattle.primitive_json.specs.declared.member.Member.TheVariants.{Originator, Operation, Content}
@@ -36,69 +23,16 @@ use Rattle.primitive_json.specs.declared.request.When.{When}
 use Rattle.primitive_json.specs.declared.request.When.TheVariants.{At, Millis}
 use Rattle.primitive_json.specs.declared.reply.ReplyParts.{ReplyParts}
 
--- a name, and the value that is to stand there, if any
-abbrev pub NamedValue : Type 0
-NamedValue = List ℕ × Option Data
-
-abbrev pub entry_there : NamedValue → Option Entry
-entry_there row = option_map (λ d. (row.0, d)) row.1
-
--- the entries of those that are there
-abbrev pub present : List NamedValue → List Entry
-present rows = filter_map entry_there rows
-
-abbrev pub object_of : List NamedValue → Data
-object_of rows = object (pairs_of (present rows))
-
 -- the value, on the operations that it is for
 abbrev pub only_where : {A : Type 0} → Bool → Option A → Option A
 only_where is_there value = if is_there then value else None
 
 -- ---- the parts
 
-abbrev pub count_data : ℕ → Data
-count_data n = number (pos n)
-
-abbrev pub moment_data : ℕ → Data
-moment_data at = text (timestamp at)
-
--- a list with an element at least
-abbrev pub filled_list : List Data → Option Data
-filled_list [] = None
-filled_list (d ∷ ds) = Some (list (elements_of (d ∷ ds)))
-
-abbrev pub usage_number : FilterUsage → ℤ
-usage_number Discovery = pos 1
-usage_number Conditional = pos 2
-
 -- when a request expires: a timestamp, or milliseconds by their digits in a text
 abbrev pub expiry_data : When → Data
 expiry_data (At at) = text (timestamp at)
 expiry_data (Millis n) = text (decimal n)
-
--- ---- a filter
-
-abbrev pub condition_value : FilterParts → Condition → Option Data
-condition_value f CreatedAfter = option_map moment_data f.cra
-condition_value f CreatedBefore = option_map moment_data f.crb
-condition_value f ExpireAfter = option_map moment_data f.exa
-condition_value f ExpireBefore = option_map moment_data f.exb
-condition_value f Usage = option_map (λ usage. number (usage_number usage)) f.fu
-condition_value f OneLabel = filled_list (map text f.lbl)
-condition_value f Limit = option_map count_data f.lim
-condition_value f ModifiedSince = option_map moment_data f.ms
-condition_value f StateTagBigger = option_map count_data f.stb
-condition_value f StateTagSmaller = option_map count_data f.sts
-condition_value f SizeAbove = option_map count_data f.sza
-condition_value f SizeBelow = option_map count_data f.szb
-condition_value f OneType = filled_list (map count_data f.ty)
-condition_value f UnmodifiedSince = option_map moment_data f.us
-
-abbrev pub condition_row : FilterParts → Condition → NamedValue
-condition_row f condition = (conditions.name_of condition, condition_value f condition)
-
-abbrev pub written_filter : FilterParts → Data
-written_filter f = object_of (map (condition_row f) all_conditions)
 
 -- ---- a request
 

@@ -1,18 +1,17 @@
-//! The first fault of a request.
-ghost use Rattle.std.specs.Prelude.{◌≡◌, ◌⊎◌, Some, None, not, MatchResult};
+//! The first fault of a value that is no request, or no reply.
+ghost use Rattle.std.specs.Prelude.{◌≡◌, Some, None, not, option_map};
 ghost use Rattle.std.specs.List.{find};
 ghost use Rattle.std.specs.Option.{option_copied};
-ghost use Rattle.primitive_json.specs.Kinds as kinds;
+ghost use Rattle.filter_criteria.specs.Values as shared;
 ghost use Rattle.primitive_json.specs.Reading as spec;
-ghost use Rattle.primitive_json.specs.declared.fault.PrimFault.TheVariants as fault;
 
-use crate::fault::PrimFault;
-use crate::filter_reading::is_filter;
+use crate::fault::Fault;
 use crate::kinds::*;
 use crate::member::{Member, MemberKind, is_unread};
+use crate::reply::{RQI, RSC};
+use filter_criteria::{is_filter, members_in, read_type_number, value_at};
 use m2m_names::Op;
 use m2m_value::{Text, Val};
-use std::alloc::Global;
 
 /// Whether the value is of the kind, on the operation as far as that is known.
 fn is_of_kind(op: Option<Op>, kind: MemberKind, value: &Val) -> bool
@@ -47,20 +46,20 @@ fn is_good(op: Option<Op>, entry: &(Text, Val)) -> bool
 
 /// The first member that is none, or whose value is outside its kind.
 fn bad_entry(op: Option<Op>, value: &Val) -> Option<&(Text, Val)>
-    ensures { option_copied result ≡ spec.bad_entry op (kinds.members_in value.now) }
+    ensures { option_copied result ≡ spec.bad_entry op (shared.members_in value.now) }
 {
     members_in(value).iter().find(|entry| !is_good(op, entry))
 }
 
 fn is_missing(op: Option<Op>, member: Member, value: &Val) -> bool
-    ensures { result ≡ spec.is_missing op (kinds.members_in value.now) member }
+    ensures { result ≡ spec.is_missing op (shared.members_in value.now) member }
 {
     member.is_needed(op) && value_at(value, member.name()).is_none()
 }
 
 /// The first member that must be there and is not.
 fn missing_member(op: Option<Op>, value: &Val) -> Option<Member>
-    ensures { result ≡ spec.missing_member op (kinds.members_in value.now) }
+    ensures { result ≡ spec.missing_member op (shared.members_in value.now) }
 {
     Member::ALL
         .iter()
@@ -68,19 +67,40 @@ fn missing_member(op: Option<Op>, value: &Val) -> Option<Member>
         .find(|member| is_missing(op, *member, value))
 }
 
-/// Whether a value with this operation is a request, or its first fault.
-pub fn judged(alloc: Global, op: Option<Op>, value: &Val) -> Result<(), PrimFault>
-    ensures { MatchResult result
-        (λ _. spec.request_fault op (kinds.members_in value.now) ≡ None)
-        (λ e. (e ≡ fault.OutOfMemory)
-        ⊎ (spec.request_fault op (kinds.members_in value.now) ≡ Some e)) }
+/// The operation of a request, where it is one.
+pub fn operation_in(value: &Val) -> Option<Op>
+    ensures { result ≡ spec.operation_in (shared.members_in value.now) }
 {
-    if let Some(member) = missing_member(op, value) {
-        let name = Text::from_slice(alloc, member.name().as_bytes())?;
-        return Err(PrimFault::Missing(name));
+    read_operation(value_at(value, Member::Operation.name())?)
+}
+
+/// Why a value is no request; none where it is one. This takes no memory.
+pub fn request_fault(value: &Val) -> Option<Fault<'_>>
+    ensures { let es = shared.members_in value.now in
+        option_map spec.owned result ≡ spec.request_fault (spec.operation_in es) es }
+{
+    let op = operation_in(value);
+    match missing_member(op, value) {
+        Some(member) => Some(Fault::Missing(member.name().as_bytes())),
+        None => Some(Fault::Bad(bad_entry(op, value)?.0.entries())),
     }
-    match bad_entry(op, value) {
-        Some(entry) => Err(PrimFault::Bad(entry.0.copy(alloc)?)),
-        None => Ok(()),
+}
+
+/// Why a value is no reply; none where it is one. This takes no memory.
+pub fn reply_fault(value: &Val) -> Option<Fault<'_>>
+    ensures { option_map spec.owned result ≡ spec.reply_fault (shared.members_in value.now) }
+{
+    let Some(status) = value_at(value, RSC) else {
+        return Some(Fault::Missing(RSC.as_bytes()));
+    };
+    if let Some(id) = value_at(value, RQI)
+        && !is_id_text(id)
+    {
+        return Some(Fault::Bad(RQI.as_bytes()));
+    }
+    if read_status(status).is_some() {
+        None
+    } else {
+        Some(Fault::Bad(RSC.as_bytes()))
     }
 }

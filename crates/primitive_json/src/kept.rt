@@ -1,19 +1,18 @@
 //! The values that a request keeps: copied from a value that is lent, or taken out of one that is
 //! given away.
-ghost use Rattle.std.specs.Prelude.{◌≡◌, ℕ, List, [], false, bytes_eq, IfOk, IfSome, IsUtf8};
+ghost use Rattle.std.specs.Prelude.{◌≡◌, ℕ, List, [], false, bytes_eq, IfOk, IsUtf8};
 ghost use Rattle.std.specs.Prelude.{option_and_then, unwrap_or};
 ghost use Rattle.std.specs.Option.{option_copied};
 ghost use Rattle.m2m_value.specs.View.{as_text, member_of};
-ghost use Rattle.primitive_json.specs.Conditions as conditions;
-ghost use Rattle.primitive_json.specs.Kinds.{members_in};
+ghost use Rattle.filter_criteria.specs.Conditions as conditions;
+ghost use Rattle.filter_criteria.specs.Values.{members_in};
+ghost use Rattle.filter_criteria.specs.declared.condition.Condition.TheVariants.{OneLabel};
 ghost use Rattle.primitive_json.specs.Members.{name_of};
 ghost use Rattle.primitive_json.specs.Reading as spec;
-ghost use Rattle.primitive_json.specs.declared.condition.Condition.TheVariants.{OneLabel};
 
-use crate::condition::Condition;
-use crate::kinds::value_at;
 use crate::member::Member;
 use crate::request::copied_content;
+use filter_criteria::{Condition, owned_text, value_at};
 use m2m_names::Op;
 use m2m_value::{Members, Node, Text, Val};
 use std::alloc::{AllocError as OutOfMemory, Global};
@@ -116,18 +115,7 @@ pub fn taken_values(alloc: Global, op: Op, value: Val) -> Kept
     }
 }
 
-/// The text that a value is.
-pub fn owned_text(value: Option<Val>) -> Option<Text>
-    ensures value { result ≡ option_and_then as_text value }
-    ensures utf8 { IfSome result IsUtf8 }
-{
-    match value?.into_node() {
-        Node::Text(text) => Some(text),
-        _ => None,
-    }
-}
-
-/// The same, and an empty text where it is none.
+/// The text that a value is, and an empty one where it is none.
 pub fn text_or_empty(alloc: Global, value: Option<Val>) -> Text
     ensures value { result ≡ unwrap_or (option_and_then as_text value) [] }
     ensures utf8 { IsUtf8 result }

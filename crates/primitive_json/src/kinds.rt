@@ -2,33 +2,15 @@
 ghost use Rattle.std.specs.Prelude.{◌≡◌, ◌<◌, ◌^◌, IfSome, IsTrue};
 ghost use Rattle.std.specs.Char.{is_ascii_digit};
 ghost use Rattle.std.specs.List.{list_all};
-ghost use Rattle.std.specs.Option.{option_copied};
 ghost use Rattle.std.specs.Str.Parse.{digits_value};
 ghost use Rattle.primitive_json.specs.Requests.{IsSoundWhen};
-ghost use Rattle.m2m_value.specs.View.{member_of};
 ghost use Rattle.primitive_json.specs.Kinds as spec;
 
 use crate::bounds::is_request_id;
 use crate::request::When;
+use filter_criteria::value_at;
 use m2m_names::{Op, Rsc, is_filled, is_originator, read_stamp};
-use m2m_value::{Text, Val};
-
-/// The members of an object; any other value has none.
-pub fn members_in(value: &Val) -> &[(Text, Val)]
-    ensures { result.now ≡ spec.members_in value.now }
-{
-    match value.as_obj() {
-        Some(members) => members.entries(),
-        None => &[],
-    }
-}
-
-/// The value of a member of an object.
-pub fn value_at<'a>(value: &'a Val, name: &str) -> Option<&'a Val>
-    ensures { option_copied result ≡ member_of name.now (spec.members_in value.now) }
-{
-    value.as_obj()?.get(name.as_bytes())
-}
+use m2m_value::Val;
 
 pub fn is_address_text(value: &Val) -> bool
     ensures { result ≡ spec.is_address_text value.now }
@@ -52,17 +34,6 @@ pub fn is_id_text(value: &Val) -> bool
     value
         .as_text()
         .is_some_and(|text| is_request_id(text.entries()))
-}
-
-pub fn read_type_number(value: &Val) -> Option<u32>
-    ensures { result ≡ spec.read_type_number value.now }
-{
-    let number = value.as_count()?;
-    if number <= 65_535 {
-        Some(number as u32)
-    } else {
-        None
-    }
 }
 
 /// Whether it is one of these numbers.

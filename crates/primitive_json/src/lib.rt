@@ -18,11 +18,7 @@
 #![tactic(auto)]
 
 mod bounds;
-mod condition;
 mod fault;
-mod filter;
-mod filter_reading;
-mod filter_writing;
 mod judging;
 mod kept;
 mod kinds;
@@ -30,17 +26,14 @@ mod laws;
 mod member;
 mod note;
 mod reading;
-#[cfg(test)]
-mod reading_tests;
 mod reply;
 mod request;
-#[cfg(test)]
-mod tests;
 mod writing;
 
-pub use bounds::{is_count, is_moment, is_request_id};
-pub use fault::PrimFault;
-pub use filter::{Filter, FilterParts, FilterUsage};
+pub use bounds::is_request_id;
+pub use fault::{Fault, PrimFault};
+pub use filter_criteria::{Filter, FilterParts, FilterUsage, is_count, is_moment};
+pub use judging::{reply_fault, request_fault};
 pub use laws::{replies_are_read_back, requests_are_read_back};
 pub use m2m_value::Labels;
 pub use note::{Dest, Kind, Note, NoteParts};

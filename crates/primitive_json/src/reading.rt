@@ -3,30 +3,24 @@ ghost use Rattle.std.specs.Prelude.{◌≡◌, ◌⊎◌, Some, None, IfOk, IfSo
 ghost use Rattle.std.specs.Option.{ForSome, option_copied};
 ghost use Rattle.m2m_names.specs.declared.operations.Op.TheVariants.{Create};
 ghost use Rattle.m2m_value.specs.View.{member_of};
-ghost use Rattle.primitive_json.specs.Conditions.{labels_of};
-ghost use Rattle.primitive_json.specs.Kinds.{members_in};
+ghost use Rattle.filter_criteria.specs.Values.{members_in};
 ghost use Rattle.primitive_json.specs.Reading as spec;
 ghost use Rattle.primitive_json.specs.Requests.{IsSoundWhen};
 ghost use Rattle.primitive_json.specs.declared.fault.PrimFault.TheVariants as fault;
 
 use crate::fault::PrimFault;
-use crate::filter::Filter;
-use crate::filter_reading::{labelled, labels_from, plain_filter};
-use crate::judging::judged;
+use crate::judging::*;
 use crate::kept::*;
 use crate::kinds::*;
 use crate::member::Member;
-use crate::reply::{Reply, ReplyParts};
+use crate::reply::{PC, RQI, RSC, Reply, ReplyParts};
 use crate::request::{Request, RequestParts, When, copied_content};
+use filter_criteria::{
+    Filter, labelled, labels_from, owned_text, plain_filter, read_type_number, value_at,
+};
 use m2m_names::{Op, Rsc};
 use m2m_value::{Text, Val};
 use std::alloc::{AllocError as OutOfMemory, Global};
-
-fn operation_in(value: &Val) -> Option<Op>
-    ensures { result ≡ spec.operation_in (members_in value.now) }
-{
-    read_operation(value_at(value, Member::Operation.name())?)
-}
 
 fn type_number_in(op: Op, value: &Val) -> Option<u32>
     ensures { result ≡ (spec.request_made op (members_in value.now)).ty }
@@ -96,9 +90,11 @@ fn judged_parts(alloc: Global, value: &Val) -> Result<RequestParts, PrimFault>
         (λ e. (e ≡ fault.OutOfMemory) ⊎ (spec.request_fault op es ≡ Some e)) }
     ensures sound { IfOk result (λ r. IfSome r.rqet IsSoundWhen) }
 {
-    let op = operation_in(value);
-    judged(alloc, op, value)?;
-    Ok(plain_parts(alloc, op.unwrap_or(Op::Create), value)?)
+    if let Some(fault) = request_fault(value) {
+        return Err(fault.kept(alloc)?);
+    }
+    let op = operation_in(value).unwrap_or(Op::Create);
+    Ok(plain_parts(alloc, op, value)?)
 }
 
 /// The request with these values.
@@ -138,38 +134,32 @@ pub fn request_from(alloc: Global, value: Val) -> Result<Request, PrimFault>
     Ok(request_with(alloc, plain, kept)?)
 }
 
-const RSC: &str = "rsc";
-
-const RQI: &str = "rqi";
-
-/// The status code of a reply that has no fault, or its first fault.
-fn judged_status(alloc: Global, value: &Val) -> Result<Rsc, PrimFault>
-    ensures { let es = members_in value.now in MatchResult result
-        (λ rsc. (spec.reply_fault es ≡ None) × (rsc ≡ (spec.reply_made es).rsc))
-        (λ e. (e ≡ fault.OutOfMemory) ⊎ (spec.reply_fault es ≡ Some e)) }
+fn status_in(value: &Val) -> Rsc
+    ensures { result ≡ (spec.reply_made (members_in value.now)).rsc }
 {
-    let Some(status) = value_at(value, RSC) else {
-        return Err(PrimFault::Missing(Text::from_slice(alloc, RSC.as_bytes())?));
-    };
-    if let Some(id) = value_at(value, RQI)
-        && !is_id_text(id)
-    {
-        return Err(PrimFault::Bad(Text::from_slice(alloc, RQI.as_bytes())?));
+    match value_at(value, RSC) {
+        Some(status) => read_status(status).unwrap_or(Rsc::Internal),
+        None => Rsc::Internal,
     }
-    match read_status(status) {
-        Some(rsc) => Ok(rsc),
-        None => Err(PrimFault::Bad(Text::from_slice(alloc, RSC.as_bytes())?)),
-    }
+}
+
+/// The reply of a value that has no fault.
+fn reply_in(alloc: Global, value: &Val) -> Result<Reply, OutOfMemory>
+    ensures { IfOk result (λ r. r ≡ spec.reply_made (members_in value.now)) }
+{
+    Ok(Reply::of(ReplyParts {
+        rsc: status_in(value),
+        rqi: owned_text(copied_content(alloc, value_at(value, RQI))?),
+        pc: copied_content(alloc, value_at(value, PC))?,
+    }))
 }
 
 /// The reply that a value is (TS-0004, 8.2.2), or the first fault; any other members are unread.
 pub fn read_reply(alloc: Global, value: &Val) -> Result<Reply, PrimFault>
     ensures { spec.Answers result (spec.read_reply value.now) }
 {
-    let rsc = judged_status(alloc, value)?;
-    Ok(Reply::of(ReplyParts {
-        rsc,
-        rqi: owned_text(copied_content(alloc, value_at(value, RQI))?),
-        pc: copied_content(alloc, value_at(value, "pc"))?,
-    }))
+    match reply_fault(value) {
+        Some(fault) => Err(fault.kept(alloc)?),
+        None => Ok(reply_in(alloc, value)?),
+    }
 }

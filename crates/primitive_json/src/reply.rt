@@ -7,6 +7,13 @@ use m2m_value::{Text, Val};
 use std::alloc::{AllocError as OutOfMemory, Global};
 use std::marker::Model;
 
+/// The short names of the parameters of a reply.
+pub const RSC: &str = "rsc";
+
+pub const RQI: &str = "rqi";
+
+pub const PC: &str = "pc";
+
 /// The parameters of a reply, by their short names (TS-0001, 8.1.3; TS-0004, 8.2.2).
 #[derive(Drop)]
 pub struct ReplyParts {

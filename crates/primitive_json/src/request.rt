@@ -2,7 +2,7 @@
 ghost use Rattle.std.specs.Prelude.{◌≡◌, IfOk};
 ghost use Rattle.std.specs.Option.{option_copied};
 
-use crate::filter::Filter;
+use filter_criteria::Filter;
 use m2m_names::Op;
 use m2m_value::{Text, Val};
 use std::alloc::{AllocError as OutOfMemory, Global};

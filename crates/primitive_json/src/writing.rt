@@ -1,63 +1,20 @@
 //! Requests and replies as values.
-ghost use Rattle.std.specs.Prelude.{◌≡◌, ◌++◌, ◌∷◌, [], IfOk, OnOk, IsUtf8, option_map};
+ghost use Rattle.std.specs.Prelude.{◌≡◌, IfOk, option_map};
 ghost use Rattle.std.specs.Fmt.{decimal};
 ghost use Rattle.std.specs.Option.{ForSome};
 ghost use Rattle.m2m_names.specs.StatusCodes.{rsc_row};
 ghost use Rattle.m2m_value.specs.Data as plain;
-ghost use Rattle.m2m_value.specs.Data.{pairs_of};
-ghost use Rattle.m2m_value.specs.Node.{AreSorted, HaveTextKeys};
-ghost use Rattle.primitive_json.specs.Bounds.{IsMoment};
+ghost use Rattle.filter_criteria.specs.Values.{count_data};
 ghost use Rattle.primitive_json.specs.Requests.{IsSoundRequest, IsSoundWhen};
 ghost use Rattle.primitive_json.specs.Writing as spec;
 
-use crate::filter_writing::write_filter;
 use crate::member::Member;
-use crate::reply::{Reply, ReplyParts};
+use crate::reply::{PC, RQI, RSC, Reply, ReplyParts};
 use crate::request::{Request, RequestParts, When, copied_content};
-use m2m_names::{Op, Rsc, write_stamp};
-use m2m_value::{Members, Text, Val};
+use filter_criteria::{moment_value, push_member, sorted_object, text_value, write_filter};
+use m2m_names::{Op, Rsc};
+use m2m_value::{Text, Val};
 use std::alloc::{AllocError as OutOfMemory, Global};
-
-/// Puts a member behind the others, where it has a value.
-pub fn push_member(
-    alloc: Global,
-    entries: &mut Vec<(Text, Val)>,
-    name: &str,
-    value: Option<Val>,
-) -> Result<(), OutOfMemory>
-    ensures { OnOk result (entries.new.items
-        ≡ entries.old.items ++ spec.present ((name.now, value) ∷ [])) }
-{
-    if let Some(value) = value {
-        entries.push((Text::from_slice(alloc, name.as_bytes())?, value))?;
-    }
-    Ok(())
-}
-
-/// The object of these members.
-pub fn sorted_object(entries: Vec<(Text, Val)>) -> Val
-    requires sorted { AreSorted entries.items }
-    requires texts { HaveTextKeys entries.items }
-    ensures { result ≡ plain.object (pairs_of entries.items) }
-{
-    Val::of_obj(Members::of(entries))
-}
-
-pub fn text_value(alloc: Global, text: &Text) -> Result<Val, OutOfMemory>
-    requires { IsUtf8 text.now }
-    ensures { IfOk result (λ v. v ≡ plain.text text.now) }
-{
-    Ok(Val::of_text(text.copy(alloc)?))
-}
-
-pub fn moment_value(alloc: Global, at: u64) -> Result<Val, OutOfMemory>
-    requires { IsMoment at }
-    ensures { IfOk result (λ v. v ≡ spec.moment_data at) }
-{
-    let mut stamp = [0; 15];
-    let _written = write_stamp(at, &mut stamp);
-    Ok(Val::of_text(Text::from_slice(alloc, &stamp)?))
-}
 
 fn numeral_value(alloc: Global, n: u64) -> Result<Val, OutOfMemory>
     ensures { IfOk result (λ v. v ≡ plain.text (decimal n)) }
@@ -87,7 +44,7 @@ fn expiry_value(alloc: Global, when: Option<When>) -> Result<Option<Val>, OutOfM
 }
 
 fn status_value(rsc: Rsc) -> Val
-    ensures { result ≡ spec.count_data (rsc_row rsc).number }
+    ensures { result ≡ count_data (rsc_row rsc).number }
 {
     Val::of_num(i64::from(rsc.number()))
 }
@@ -174,9 +131,9 @@ pub fn reply_into(alloc: Global, reply: Reply) -> Result<Val, OutOfMemory>
 {
     let ReplyParts { rsc, rqi, pc } = reply.into_parts();
     let mut entries = Vec::with_capacity(alloc, 3)?;
-    push_member(alloc, &mut entries, "pc", pc)?;
-    push_member(alloc, &mut entries, "rqi", rqi.map(Val::of_text))?;
-    push_member(alloc, &mut entries, "rsc", Some(status_value(rsc)))?;
+    push_member(alloc, &mut entries, PC, pc)?;
+    push_member(alloc, &mut entries, RQI, rqi.map(Val::of_text))?;
+    push_member(alloc, &mut entries, RSC, Some(status_value(rsc)))?;
     Ok(sorted_object(entries))
 }
 

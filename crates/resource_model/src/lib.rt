@@ -8,11 +8,7 @@
 
 mod attrs;
 mod home;
-#[cfg(test)]
-mod home_tests;
 mod resource;
-#[cfg(test)]
-mod tests;
 
 pub use attrs::{AttrSet, Attrs};
 pub use home::{ADMIN, BASE, CSE_ID, CSE_TYPE, Home, HomeFault, SERVICE_PROVIDER};

@@ -10,7 +10,7 @@ use Rattle.m2m_names.specs.declared.types.Ty.TheVariants.{ContentInstance}
 use Rattle.m2m_value.specs.Data.{Data}
 use Rattle.m2m_value.specs.Shapes.{as_count}
 use Rattle.m2m_value.specs.View.{as_list}
-use Rattle.primitive_json.specs.declared.filter.FilterParts.{FilterParts}
+use Rattle.filter_criteria.specs.declared.filter.FilterParts.{FilterParts}
 use Rattle.resource_model.specs.Attributes.{value_of}
 use Rattle.resource_model.specs.Resource.{ResourceData, is_ty}
 use Rattle.tree_model.specs.Tree.{due}

@@ -74,39 +74,3 @@ each-filter P p (r ∷ nodes) each = elim (cases_Bool (p r)) [
   | inl t ↦ rw t ((each.0, t), each-filter P p nodes each.1)
   | inr f ↦ rw f (each-filter P p nodes each.1)
 ]
-
--- ---- the children of a resource
-
-numbers_found : (nodes kids : List ResourceData) (P : ResourceData → Type 0) → Each (λ r. IsFound nodes r × P r) kids → (k : ℕ) → option_and_then (λ n. at n nodes) (number_at k kids) ≡ slice_get kids k
-numbers_found nodes [] P each k = refl
-numbers_found nodes (r ∷ kids) P each zero = each.0.0
-numbers_found nodes (r ∷ kids) P each (suc k) = numbers_found nodes kids P each.1 k
-
--- the child at a place is found by its number
-pub kid_found : (nodes : List ResourceData) (parent k : ℕ) → is_tree nodes ≡ true → option_and_then (λ n. at n nodes) (number_at k (children_of parent nodes)) ≡ slice_get (children_of parent nodes) k
-kid_found nodes parent k tree =
-    numbers_found nodes (children_of parent nodes) (λ r. is_under parent r ≡ true) (each-filter (IsFound nodes) (is_under parent) nodes (each_found nodes (in_order-tree nodes tree))) k
-
-pub kid_there : (nodes : List ResourceData) (parent k n : ℕ) → is_tree nodes ≡ true → number_at k (children_of parent nodes) ≡ Some n → at n nodes ≡ slice_get (children_of parent nodes) k
-kid_there nodes parent k n tree is =
-    sym (ap (option_and_then (λ m. at m nodes)) is) ∙ kid_found nodes parent k tree
-
-pub kid_missing : (nodes : List ResourceData) (parent k : ℕ) → is_tree nodes ≡ true → number_at k (children_of parent nodes) ≡ None → slice_get (children_of parent nodes) k ≡ None
-kid_missing nodes parent k tree is =
-    sym (kid_found nodes parent k tree) ∙ ap (option_and_then (λ m. at m nodes)) is
-
--- what is known of a child
-pub record IsKid (nodes : List ResourceData) (parent : ℕ) (r : ResourceData) : Type 0 where
-  pub found : at r.number nodes ≡ Some r
-  pub under : r.parent ≡ parent
-
-kid_among : (nodes kids : List ResourceData) (parent k : ℕ) (r : ResourceData) → Each (λ s. IsFound nodes s × (is_under parent s ≡ true)) kids → slice_get kids k ≡ Some r → IsKid nodes parent r
-kid_among nodes [] parent k r each is = cc
-kid_among nodes (s ∷ kids) parent zero r each is =
-    let same : s ≡ r = same_Some s r is in
-    subst (IsKid nodes parent) same (record { found = each.0.0; under = eqb-true s.parent parent each.0.1 })
-kid_among nodes (s ∷ kids) parent (suc k) r each is = kid_among nodes kids parent k r each.1 is
-
-pub kid_known : (nodes : List ResourceData) (parent k : ℕ) (r : ResourceData) → is_tree nodes ≡ true → slice_get (children_of parent nodes) k ≡ Some r → IsKid nodes parent r
-kid_known nodes parent k r tree is =
-    kid_among nodes (children_of parent nodes) parent k r (each-filter (IsFound nodes) (is_under parent) nodes (each_found nodes (in_order-tree nodes tree))) is

@@ -6,7 +6,7 @@ use Rattle.std.proofs.lemmas.List.{take-map}
 use Rattle.m2m_names.specs.declared.attributes.Attr.TheVariants.{Cs, Lbl, St}
 use Rattle.m2m_names.specs.declared.codes.Rsc.TheVariants.{NoPrivilege}
 use Rattle.m2m_value.specs.Data.{Data, text}
-use Rattle.primitive_json.specs.declared.filter.FilterParts.{FilterParts}
+use Rattle.filter_criteria.specs.declared.filter.FilterParts.{FilterParts}
 use Rattle.primitive_json.specs.declared.request.RequestParts.{RequestParts}
 use Rattle.resource_model.specs.Home.{HomeData}
 use Rattle.resource_model.specs.Resource.{ResourceData}

@@ -6,7 +6,6 @@ use Rattle.std.specs.Cmp.Lexicographic.{slice_cmp}
 use Rattle.std.specs.List.{list_all}
 use Rattle.std.specs.Ordering.{int_eq, nat_cmp}
 use Rattle.m2m_names.specs.Types.{ty_member}
-use Rattle.m2m_names.specs.declared.types.Ty.{Ty}
 use Rattle.m2m_value.specs.Data.{Data, Entry, list, object, text, elements_of, pairs_of}
 use Rattle.m2m_value.specs.View.{member_of}
 use Rattle.resource_model.specs.Home.{HomeData}
@@ -14,7 +13,7 @@ use Rattle.resource_model.specs.Resource.{ResourceData}
 use Rattle.policy_eval.specs.Rights.{grants}
 use Rattle.policy_eval.specs.Rules.{elements_in}
 use Rattle.policy_eval.specs.Seen.{retrieve_bit}
-use Rattle.tree_model.specs.Shown.{members_of, shown_rows, shown_ty}
+use Rattle.tree_model.specs.Shown.{members_of, shown_rows, shown_ty, under_type}
 use Rattle.tree_model.specs.Tree.{children_of}
 use Rattle.retrieve_discover.specs.Descendants.{Forest, bare, rooted, below, cut, grown, line_below}
 use Rattle.retrieve_discover.specs.Findings.{address}
@@ -28,10 +27,6 @@ members home nodes r = members_of (shown_rows home nodes r)
 -- with a member besides, in its place by the bytes of its key
 abbrev pub with_member : List ℕ → Data → List Entry → List Entry
 with_member key d es = insert_entry (slice_cmp nat_cmp) es key d
-
--- one member, named by the type, that has the object of these
-abbrev pub under_type : Ty → List Entry → Data
-under_type ty es = object (pairs_of ((ty_member ty, object (pairs_of es)) ∷ []))
 
 -- ---- references to children
 

@@ -3,7 +3,7 @@ use Rattle.std.specs.Prelude.{ℕ, min, Bool, ◌&&◌, List, [], ◌∷◌, map
 use Rattle.std.specs.Prelude.{unwrap_or, if◌then◌else◌}
 use Rattle.std.specs.Option.{option_map_or}
 use Rattle.m2m_value.specs.Data.{Data, list, object, text, elements_of, pairs_of}
-use Rattle.primitive_json.specs.declared.filter.FilterParts.{FilterParts}
+use Rattle.filter_criteria.specs.declared.filter.FilterParts.{FilterParts}
 use Rattle.resource_model.specs.Home.{HomeData}
 use Rattle.resource_model.specs.Resource.{ResourceData, id_of}
 use Rattle.policy_eval.specs.Rights.{grants}

@@ -1,7 +1,6 @@
 //! What a Retrieve shows.
 ghost use Rattle.std.specs.Prelude.{◌≡◌, ◌∷◌, [], codes, IfOk, IsTrue, Some};
 ghost use Rattle.m2m_names.specs.Name.{is_originator};
-ghost use Rattle.m2m_value.specs.Node.{HaveTextKeys};
 ghost use Rattle.tree_model.specs.Tree.{at, is_tree};
 ghost use Rattle.retrieve_discover.specs.Contents as spec;
 ghost use Rattle.retrieve_discover.specs.Replies.{is_by_id};
@@ -10,11 +9,10 @@ use crate::descendants::add_descendants;
 use crate::look::{Look, members_of};
 use crate::references::references;
 use crate::replies;
-use m2m_names::Ty;
 use m2m_value::{Members, Text, Val};
 use primitive_json::Request;
 use std::alloc::{AllocError as OutOfMemory, Global};
-use tree_model::{Home, Resource, Tree, attributes};
+use tree_model::{Home, Resource, Tree, attributes, under_type};
 
 /// The content of the reply to a Retrieve of the target, by its result content.
 pub(crate) fn content<T: Tree>(
@@ -99,13 +97,4 @@ fn only_member(alloc: Global, key: &[u8], value: Val) -> Result<Members, OutOfMe
     let mut members = Vec::with_capacity(alloc, 1)?;
     members.push((Text::from_slice(alloc, key)?, value))?;
     Ok(Members::of(members))
-}
-
-// One member, named by the type, that has the object of these.
-fn under_type(alloc: Global, ty: Ty, members: Members) -> Result<Val, OutOfMemory>
-    requires { HaveTextKeys members }
-    ensures { IfOk result (λ v. v ≡ spec.under_type ty members) }
-{
-    let object = Val::of_obj(members);
-    Ok(Val::of_obj(only_member(alloc, ty.member().as_bytes(), object)?))
 }

@@ -9,12 +9,11 @@ ghost use Rattle.tree_model.specs.Tree.{at, is_tree};
 ghost use Rattle.retrieve_discover.specs.Contents as spec;
 ghost use Rattle.retrieve_discover.specs.Descendants.{cut, grown, reached, size_of};
 
-use crate::kids::kid_at;
 use crate::look::{Look, may_retrieve, members_of};
 use m2m_names::Ty;
 use m2m_value::{Items, Members, Node, Text, Val};
 use std::alloc::{AllocError as OutOfMemory, Global};
-use tree_model::{Resource, Tree};
+use tree_model::{Resource, Tree, child_at};
 
 /// Adds the objects of those descendants of a resource that are shown to the members of its own, as
 /// many as are left.
@@ -41,7 +40,7 @@ pub(crate) fn add_descendants<T: Tree>(
         if *left == 0 {
             return Ok(());
         }
-        match kid_at(look.tree, parent, k) {
+        match child_at(look.tree, parent, k) {
             Some(child) => add_child(alloc, look, child, left, members)?,
             None => return Ok(()),
         }

@@ -8,13 +8,12 @@ ghost use Rattle.retrieve_discover.specs.Descendants.{below};
 ghost use Rattle.retrieve_discover.specs.Findings as spec;
 
 use crate::conditions::meets;
-use crate::kids::kid_at;
 use crate::paths::{address, go_down};
 use m2m_value::Val;
 use policy_eval::granted;
 use primitive_json::FilterParts;
 use std::alloc::{AllocError as OutOfMemory, Global};
-use tree_model::{Home, Resource, Tree};
+use tree_model::{Home, Resource, Tree, child_at};
 
 /// The bit of DISCOVERY in `acop` (TS-0001, 9.6.2.1.2).
 pub(crate) const DISCOVERY_BIT: u32 = 32;
@@ -55,7 +54,7 @@ pub(crate) fn find_below<T: Tree>(
         if found.len() >= wanted.limit {
             return Ok(());
         }
-        match kid_at(wanted.tree, parent, k) {
+        match child_at(wanted.tree, parent, k) {
             Some(child) => visit(alloc, wanted, child, path, found)?,
             None => return Ok(()),
         }

@@ -2,7 +2,7 @@
 ghost use Rattle.std.specs.Prelude.{◌≡◌, ℕ, List, IsTrue, Some, false};
 ghost use Rattle.std.specs.List.{All};
 ghost use Rattle.m2m_names.specs.declared.codes.Rsc.TheVariants.{NoPrivilege};
-ghost use Rattle.primitive_json.specs.declared.filter.FilterParts.{FilterParts};
+ghost use Rattle.filter_criteria.specs.declared.filter.FilterParts.{FilterParts};
 ghost use Rattle.primitive_json.specs.declared.request.RequestParts.{RequestParts};
 ghost use Rattle.resource_model.specs.Home.{HomeData};
 ghost use Rattle.resource_model.specs.Resource.{ResourceData};

@@ -15,15 +15,12 @@ mod contents;
 mod descendants;
 mod discovering;
 mod finding;
-mod kids;
 mod laws;
 mod look;
 mod paths;
 mod references;
 mod replies;
 mod retrieving;
-#[cfg(test)]
-mod tests;
 
 pub use conditions::{Condition, meets};
 pub use discovering::discover;

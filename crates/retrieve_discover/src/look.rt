@@ -1,16 +1,15 @@
 //! By whom resources are looked at, and where.
 ghost use Rattle.std.specs.Prelude.{◌≡◌, IfOk, IsTrue};
 ghost use Rattle.m2m_names.specs.Name.{is_originator};
-ghost use Rattle.m2m_value.specs.Node.{AreSorted, HaveTextKeys};
-ghost use Rattle.tree_model.specs.Shown as shown_spec;
+ghost use Rattle.m2m_value.specs.Node.{HaveTextKeys};
 ghost use Rattle.tree_model.specs.Tree.{has};
 ghost use Rattle.retrieve_discover.specs.Contents as spec;
 
 use m2m_names::Op;
-use m2m_value::{Members, Text, Val};
+use m2m_value::Members;
 use policy_eval::granted;
 use std::alloc::{AllocError as OutOfMemory, Global};
-use tree_model::{Attrs, Home, Resource, Tree, shown};
+use tree_model::{Home, Resource, Tree, shown};
 
 /// By whom resources are looked at, where, and in which form they are addressed.
 #[derive(Drop)]
@@ -43,17 +42,5 @@ pub(crate) fn members_of<T: Tree>(
     ensures keys { IfOk result (λ m. HaveTextKeys m) }
 {
     let attrs = shown(alloc, look.tree, look.home, resource)?;
-    Ok(Members::of(named(alloc, attrs)?))
-}
-
-fn named(alloc: Global, attrs: Attrs) -> Result<Vec<(Text, Val)>, OutOfMemory>
-    ensures value { IfOk result (λ v. v.items ≡ shown_spec.members_of attrs) }
-    ensures order { IfOk result (λ v. AreSorted v.items) }
-    ensures keys { IfOk result (λ v. HaveTextKeys v.items) }
-{
-    let mut members = Vec::with_capacity(alloc, attrs.entries().len())?;
-    for (attr, value) in attrs.into_vec() {
-        members.push((Text::from_slice(alloc, attr.short().as_bytes())?, value))?;
-    }
-    Ok(members)
+    tree_model::members_of(alloc, attrs)
 }

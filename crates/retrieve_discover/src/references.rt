@@ -7,12 +7,11 @@ ghost use Rattle.addressing.specs.Names.{structured_of};
 ghost use Rattle.m2m_value.specs.Data as plain;
 ghost use Rattle.retrieve_discover.specs.Contents as spec;
 
-use crate::kids::kid_at;
 use crate::look::{Look, may_retrieve};
 use crate::paths::{address, go_down, path_to};
 use m2m_value::{Items, Members, Text, Val};
 use std::alloc::{AllocError as OutOfMemory, Global};
-use tree_model::{Resource, Tree};
+use tree_model::{Resource, Tree, child_at};
 
 /// The most references that are given.
 const MOST_REFERENCES: usize = 4_096;
@@ -51,7 +50,7 @@ fn all_references<T: Tree>(
         if references.len() >= MOST_REFERENCES {
             return Ok(references);
         }
-        match kid_at(look.tree, target.number(), k) {
+        match child_at(look.tree, target.number(), k) {
             Some(child) => add_reference(alloc, look, child, &mut path, &mut references)?,
             None => return Ok(references),
         }

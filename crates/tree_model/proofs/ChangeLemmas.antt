@@ -1,14 +1,16 @@
 -- Children, instances, channels, sizes, ids and depth: under an append, a replacement and a removal.
+-- Due moments stand in QuietLemmas.
 use Rattle.std.specs.Prelude.{◌==◌}
-use Rattle.std.proofs.Common.{◌≡◌, ℕ, ◌+◌, ◌≤◌, List, [], ◌∷◌, ◌++◌, length, map, reverse, Bool, true, false, cond, not, ◌&&◌, ◌||◌, Option, Some, inl, inr, refl, sym, ap, ◌∙◌, subst, arith}
+use Rattle.std.proofs.Common.{◌≡◌, ℕ, ◌+◌, ◌≤◌, List, [], ◌∷◌, ◌++◌, length, map, reverse, find, Bool, true, false, cond, not, ◌&&◌, ◌||◌, Option, Some, inl, inr, refl, sym, ap, ◌∙◌, subst, arith}
 use Rattle.std.proofs.lemmas.Bool.{cases_Bool, and_parts, or_parts, eq-eqb, eqb-true, both_ways, false_from_ne_true}
 use Rattle.std.proofs.lemmas.List.{append-nil, length-map, map-append, reverse-append}
 use Rattle.std.proofs.lemmas.List.Elements.{filter-append}
-use Rattle.std.proofs.lemmas.List.Folds.{list_any-append}
+use Rattle.std.proofs.lemmas.List.Folds.{find-append, list_any-append}
 use Rattle.std.proofs.lemmas.List.Sums.{sum_by-append, sum_by-cons}
 use Rattle.std.specs.List.{filter, list_any, sum_by}
+use Rattle.std.specs.Option.{option_or}
 use Rattle.resource_model.specs.Resource.{ResourceData, has_number, ae_id, cse_id}
-use Rattle.tree_model.specs.Tree.{at, has, replaced, line_from, line_of, depth, stays, staying, without, is_spared, are_below, same_text, has_ae_id, has_cse_id, size_of, sizes_of, is_instance, instances_of, fits, is_tree}
+use Rattle.tree_model.specs.Tree.{at, has, number_of, replaced, line_from, line_of, depth, stays, staying, without, is_spared, are_below, same_text, has_ae_id, has_cse_id, size_of, sizes_of, is_instance, instances_of, fits, is_tree}
 use Rattle.tree_model.proofs.GrowthLemmas.{IsNext, growth, next_fits, below_lacks, line-append, spared_new, stays_spared, without-spared}
 use Rattle.tree_model.proofs.KeptLemmas.{map-replaced_same, is_tree-without, without-snoc}
 use Rattle.tree_model.proofs.TreeLemmas.{at_number, has-append, staying_any}
@@ -53,6 +55,23 @@ filter_both p q (r ∷ nodes) = elim (cases_Bool (q r)) [
 pub picked-without : (p picks : ResourceData → Bool) (nodes : List ResourceData) → is_tree nodes ≡ true → filter p (without picks nodes) ≡ filter (λ r. is_spared picks nodes r.number && p r) nodes
 picked-without p picks nodes tree = ap (filter p) (without-spared picks nodes tree) ∙ filter_both p (λ r. is_spared picks nodes r.number) nodes
 
+filter_same : (p q : ResourceData → Bool) → ((r : ResourceData) → p r ≡ q r) → (nodes : List ResourceData) → filter p nodes ≡ filter q nodes
+filter_same p q same [] = refl
+filter_same p q same (r ∷ nodes) = rw (same r, filter_same p q same nodes) refl
+
+and_turned : (a b : Bool) → (a && b) ≡ (b && a)
+and_turned true true = refl
+and_turned true false = refl
+and_turned false true = refl
+and_turned false false = refl
+
+-- the same, as a filter of those that were picked
+pub picked_spared : (p picks : ResourceData → Bool) (nodes : List ResourceData) → is_tree nodes ≡ true → filter p (without picks nodes) ≡ filter (λ r. is_spared picks nodes r.number) (filter p nodes)
+picked_spared p picks nodes tree =
+    picked-without p picks nodes tree
+    ∙ filter_same (λ r. is_spared picks nodes r.number && p r) (λ r. p r && is_spared picks nodes r.number) (λ r. and_turned (is_spared picks nodes r.number) (p r)) nodes
+    ∙ sym (filter_both (λ r. is_spared picks nodes r.number) p nodes)
+
 -- ---- sizes
 
 pub sizes_of-append : (container : ℕ) (nodes : List ResourceData) (r : ResourceData) → sizes_of container (nodes ++ r ∷ []) ≡ sizes_of container nodes + sum_by size_of (instances_of container (r ∷ []))
@@ -82,7 +101,11 @@ sum-replaced p size r (s ∷ nodes) same = elim (cases_Bool (has_number r.number
       ]
 ]
 
--- a removal makes no count and no sum greater
+-- the sizes of a container's instances after a removal are those of the instances that stay
+pub sizes_of-without : (container : ℕ) (picks : ResourceData → Bool) (nodes : List ResourceData) → is_tree nodes ≡ true → sizes_of container (without picks nodes) ≡ sum_by size_of (filter (λ r. is_spared picks nodes r.number) (instances_of container nodes))
+sizes_of-without container picks nodes tree = ap (sum_by size_of) (picked_spared (is_instance container) picks nodes tree)
+
+-- and so a removal makes no count and no sum greater
 pub count-without : (picks q : ResourceData → Bool) (stayed nodes : List ResourceData) → length (filter q (staying picks stayed nodes)) ≤ length (filter q nodes)
 count-without picks q stayed [] = omega arith
 count-without picks q stayed (r ∷ nodes) = elim (cases_Bool (stays picks stayed r)) [
@@ -117,13 +140,16 @@ sum-without picks q size stayed (r ∷ nodes) = elim (cases_Bool (stays picks st
   ]
 ]
 
--- ---- ids
+-- ---- whether something is there, as AE-IDs, CSE-IDs and channels are
+
+pub any-append : (p : ResourceData → Bool) (nodes : List ResourceData) (r : ResourceData) → list_any p (nodes ++ r ∷ []) ≡ (list_any p nodes || list_any p (r ∷ []))
+any-append p nodes r = list_any-append p nodes (r ∷ [])
 
 pub has_ae_id-append : (aei : Option (List ℕ)) (nodes : List ResourceData) (r : ResourceData) → has_ae_id aei (nodes ++ r ∷ []) ≡ (has_ae_id aei nodes || has_ae_id aei (r ∷ []))
-has_ae_id-append aei nodes r = list_any-append (λ s. same_text (ae_id s) aei) nodes (r ∷ [])
+has_ae_id-append aei nodes r = any-append (λ s. same_text (ae_id s) aei) nodes r
 
 pub has_cse_id-append : (csi : Option (List ℕ)) (nodes : List ResourceData) (r : ResourceData) → has_cse_id csi (nodes ++ r ∷ []) ≡ (has_cse_id csi nodes || has_cse_id csi (r ∷ []))
-has_cse_id-append csi nodes r = list_any-append (λ s. same_text (cse_id s) csi) nodes (r ∷ [])
+has_cse_id-append csi nodes r = any-append (λ s. same_text (cse_id s) csi) nodes r
 
 -- what has a test that the new one passes as the old one did, the list has as before
 pub any-replaced : (p : ResourceData → Bool) (r : ResourceData) (nodes : List ResourceData) → ((s : ResourceData) → at r.number nodes ≡ Some s → p s ≡ p r) → list_any p (replaced r nodes) ≡ list_any p nodes
@@ -133,9 +159,53 @@ any-replaced p r (s ∷ nodes) same = elim (cases_Bool (has_number r.number s)) 
   | inr f ↦ rw f (ap (λ b. p s || b) (any-replaced p r nodes (λ x found. same x (rw f found))))
 ]
 
+any_both : (p q : ResourceData → Bool) (nodes : List ResourceData) → list_any p (filter q nodes) ≡ list_any (λ r. q r && p r) nodes
+any_both p q [] = refl
+any_both p q (r ∷ nodes) = elim (cases_Bool (q r)) [
+  | inl t ↦ rw t (ap (λ b. p r || b) (any_both p q nodes))
+  | inr f ↦ rw f (any_both p q nodes)
+]
+
+-- after a removal it is there where one that is spared passes
+pub any-without : (p picks : ResourceData → Bool) (nodes : List ResourceData) → is_tree nodes ≡ true → list_any p (without picks nodes) ≡ list_any (λ r. is_spared picks nodes r.number && p r) nodes
+any-without p picks nodes tree = ap (list_any p) (without-spared picks nodes tree) ∙ any_both p (λ r. is_spared picks nodes r.number) nodes
+
 -- what isn't there isn't there after a removal
 pub none-without : (p picks : ResourceData → Bool) (nodes : List ResourceData) → list_any p nodes ≡ false → list_any p (without picks nodes) ≡ false
 none-without p picks nodes none = false_from_ne_true _ (λ t. both_ways _ none (staying_any picks p [] nodes t))
+
+-- ---- who is found, by an AE-ID, a CSE-ID, or as a channel
+
+pub found-append : (p : ResourceData → Bool) (nodes : List ResourceData) (r : ResourceData) → find p (nodes ++ r ∷ []) ≡ option_or (find p nodes) (find p (r ∷ []))
+found-append p nodes r = find-append p nodes (r ∷ [])
+
+-- where what takes a place passes as what had it
+pub found-replaced : (p : ResourceData → Bool) (r : ResourceData) (nodes : List ResourceData) → ((s : ResourceData) → at r.number nodes ≡ Some s → p s ≡ p r) → number_of (find p (replaced r nodes)) ≡ number_of (find p nodes)
+found-replaced p r [] same = refl
+found-replaced p r (s ∷ nodes) same = elim (cases_Bool (has_number r.number s)) [
+  | inl t ↦ elim (cases_Bool (p r)) [
+    | inl u ↦ rw (t, u, same s (rw t refl) ∙ u) (ap (λ (n : ℕ). Some n) (sym (eqb-true s.number r.number t)))
+    | inr v ↦ rw (t, v, same s (rw t refl) ∙ v) refl
+  ]
+  | inr f ↦ elim (cases_Bool (p s)) [
+    | inl u ↦ rw (f, u) refl
+    | inr v ↦ rw (f, v) (found-replaced p r nodes (λ x found. same x (rw f found)))
+  ]
+]
+
+find_both : (p q : ResourceData → Bool) (nodes : List ResourceData) → find p (filter q nodes) ≡ find (λ r. q r && p r) nodes
+find_both p q [] = refl
+find_both p q (r ∷ nodes) = elim (cases_Bool (q r)) [
+  | inl t ↦ elim (cases_Bool (p r)) [
+    | inl u ↦ rw (t, u) refl
+    | inr v ↦ rw (t, v) (find_both p q nodes)
+  ]
+  | inr f ↦ rw f (find_both p q nodes)
+]
+
+-- after a removal it is the first of those that are spared
+pub found-without : (p picks : ResourceData → Bool) (nodes : List ResourceData) → is_tree nodes ≡ true → find p (without picks nodes) ≡ find (λ r. is_spared picks nodes r.number && p r) nodes
+found-without p picks nodes tree = ap (find p) (without-spared picks nodes tree) ∙ find_both p (λ r. is_spared picks nodes r.number) nodes
 
 -- ---- depth
 

@@ -1,12 +1,10 @@
 pub mod TreeLemmas
 pub mod GrowthLemmas
-pub mod PlaceLemmas
+pub mod OrderLemmas
 pub mod KeptLemmas
-pub mod SweepLemmas
 pub mod ShownLemmas
 pub mod LiveLemmas
 pub mod FoundLemmas
-pub mod RemovalLemmas
 pub mod QuietLemmas
 pub mod StampLemmas
 pub mod ChangeLemmas

@@ -224,3 +224,6 @@ has-at n (s ∷ nodes) = elim (cases_Bool (has_number n s)) [
 pub is_some-now : (r : Option (Bor ResourceData)) → is_some (option_map (λ x. x.now) r) ≡ is_some r
 is_some-now None = refl
 is_some-now (Some x) = refl
+
+pub there : (n : ℕ) (nodes : List ResourceData) → has n nodes ≡ is_some (at n nodes)
+there n nodes = sym (has-at n nodes)

@@ -1,3 +1,2 @@
-pub mod Removal
 pub mod Shown
 pub mod Tree

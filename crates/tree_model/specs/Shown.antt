@@ -89,10 +89,13 @@ shown_rows home nodes r = with_rows (added_rows home nodes r) r.attrs
 abbrev pub members_of : List Row → List Entry
 members_of rows = map (λ row. (attr_short row.0, row.1)) rows
 
--- one member, named by the type, that has all attributes (TS-0004, 8.4)
+-- one member, named by the type, that has the object of these (TS-0004, 8.4)
+abbrev pub under_type : Ty → List Entry → Data
+under_type ty members = object (pairs_of ((ty_member ty, object (pairs_of members)) ∷ []))
+
+-- the same with the members of all attributes
 abbrev pub wrapped : Ty → List Row → Data
-wrapped ty rows =
-    object (pairs_of ((ty_member ty, object (pairs_of (members_of rows))) ∷ []))
+wrapped ty rows = under_type ty (members_of rows)
 
 abbrev pub attributes_of : HomeData → List ResourceData → ResourceData → Data
 attributes_of home nodes r = wrapped r.ty (shown_rows home nodes r)

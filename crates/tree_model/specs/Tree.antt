@@ -110,8 +110,19 @@ abbrev pub cse_of : List ℕ → List ResourceData → Option ℕ
 cse_of csi nodes = number_of (find (is_cse csi) nodes)
 
 -- the polling channels of a resource, in order of creation (TS-0001, 9.6.21)
+abbrev pub is_channel : ℕ → ResourceData → Bool
+is_channel parent r = is_kin PollingChannel parent r
+
 abbrev pub channels_of : ℕ → List ResourceData → List ResourceData
 channels_of parent nodes = kin_of PollingChannel parent nodes
+
+-- whether there is one
+abbrev pub has_channel : ℕ → List ResourceData → Bool
+has_channel parent nodes = list_any (is_channel parent) nodes
+
+-- the number of the first of them
+abbrev pub channel_of : ℕ → List ResourceData → Option ℕ
+channel_of parent nodes = number_of (find (is_channel parent) nodes)
 
 -- the number of the child of a name
 abbrev pub child_of : ℕ → List ℕ → List ResourceData → Option ℕ

@@ -1,13 +1,12 @@
 // What a caller may test before it changes a tree.
 ghost use Rattle.std.specs.Prelude.{◌≡◌, ◌-◌, ◌↔◌, [], not, nat_lt, ◌&&◌, length, slice_get};
-ghost use Rattle.std.specs.Prelude.{is_some, true, false, IsTrue, None, Some, option_map};
-ghost use Rattle.std.specs.Bool.{OnTrue};
+ghost use Rattle.std.specs.Prelude.{is_some, true, false, IsTrue, Some, option_map};
 ghost use Rattle.std.specs.Option.{option_map_or};
 ghost use Rattle.m2m_names.specs.declared.attributes.Attr.TheVariants.{St};
 ghost use Rattle.resource_model.specs.Attributes.{value_of};
 ghost use Rattle.resource_model.specs.Resource.{ResourceData, ae_id, cse_id};
-ghost use Rattle.tree_model.specs.Tree.{at, has, child_of, are_below, is_root, is_placed};
-ghost use Rattle.tree_model.specs.Tree.{has_child, has_ae_id, has_cse_id, has_state, fits};
+ghost use Rattle.tree_model.specs.Tree.{at, has, are_below, is_root, is_placed, has_child};
+ghost use Rattle.tree_model.specs.Tree.{has_ae_id, has_cse_id, has_channel, has_state, fits};
 ghost use Rattle.tree_model.specs.Tree.{standing};
 
 use crate::steps::child_named;
@@ -19,13 +18,7 @@ use resource_model::Resource;
 /// Whether the resource may be inserted: its number is greater than every other, its parent is
 /// there (or it is the CSEBase and the first), and its name, its AE-ID and its CSE-ID are free.
 pub fn may_insert<T: Tree>(tree: &T, resource: &Resource) -> bool
-    ensures value { result ≡ fits (T.nodes tree.now) resource.now }
-    ensures number { OnTrue result (IsTrue (are_below resource.now.number (T.nodes tree.now))) }
-    ensures parent { OnTrue result (IsTrue (is_placed (T.nodes tree.now) resource.now)) }
-    ensures name { OnTrue result (child_of resource.now.parent resource.now.name
-        (T.nodes tree.now) ≡ None) }
-    ensures ae { OnTrue result (has_ae_id (ae_id resource.now) (T.nodes tree.now) ≡ false) }
-    ensures cse { OnTrue result (has_cse_id (cse_id resource.now) (T.nodes tree.now) ≡ false) }
+    ensures { result ≡ fits (T.nodes tree.now) resource.now }
 {
     is_above(tree, resource.number()) && has_place(tree, resource) && is_free(tree, resource)
 }
@@ -105,12 +98,9 @@ fn is_first(resource: &Resource) -> bool
 }
 
 fn is_free<T: Tree>(tree: &T, resource: &Resource) -> bool
-    ensures value { result ≡ (not (has_child resource.now.parent resource.now.name
-        (T.nodes tree.now))
+    ensures { result ≡ (not (has_child resource.now.parent resource.now.name (T.nodes tree.now))
         && (not (has_ae_id (ae_id resource.now) (T.nodes tree.now))
         && not (has_cse_id (cse_id resource.now) (T.nodes tree.now)))) }
-    ensures name { OnTrue result (child_of resource.now.parent resource.now.name
-        (T.nodes tree.now) ≡ None) }
 {
     !is_taken_name(tree, resource) && has_free_ids(tree, resource)
 }
@@ -128,22 +118,32 @@ fn is_taken_name<T: Tree>(tree: &T, resource: &Resource) -> bool
     has_child(tree, resource.parent(), resource.name().entries())
 }
 
-fn has_child<T: Tree>(tree: &T, parent: u64, name: &[u8]) -> bool
+/// Whether a resource has a child of this name.
+pub fn has_child<T: Tree>(tree: &T, parent: u64, name: &[u8]) -> bool
     ensures { result ≡ has_child parent name.now (T.nodes tree.now) }
 {
     child_named(tree, parent, name).is_some()
 }
 
-fn has_ae<T: Tree>(tree: &T, aei: &[u8]) -> bool
+/// Whether an application entity has this AE-ID.
+pub fn has_ae<T: Tree>(tree: &T, aei: &[u8]) -> bool
     ensures { result ≡ has_ae_id (Some aei.now) (T.nodes tree.now) }
 {
     tree.ae(aei).is_some()
 }
 
-fn has_cse<T: Tree>(tree: &T, csi: &[u8]) -> bool
+/// Whether a remote CSE has this CSE-ID, which begins with its slash.
+pub fn has_cse<T: Tree>(tree: &T, csi: &[u8]) -> bool
     ensures { result ≡ has_cse_id (Some csi.now) (T.nodes tree.now) }
 {
     tree.cse(csi).is_some()
+}
+
+/// Whether a resource has a polling channel.
+pub fn has_channel<T: Tree>(tree: &T, parent: u64) -> bool
+    ensures { result ≡ has_channel parent (T.nodes tree.now) }
+{
+    tree.channel(parent).is_some()
 }
 
 fn is_taken_ae_id<T: Tree>(tree: &T, aei: Option<&Text>) -> bool

@@ -25,8 +25,8 @@ pub fn is_due<T: Tree>(tree: &T, resource: &Resource, moment: u64) -> bool
     }
 }
 
-// When a resource with this parent is due.
-pub(crate) fn due_under(parent: Option<&Resource>, resource: &Resource) -> Option<u64>
+/// The moment at which a resource with this parent is due.
+pub fn due_under(parent: Option<&Resource>, resource: &Resource) -> Option<u64>
     ensures { result ≡ spec.due_under (option_map (λ r. r.now) parent.entry) resource.now }
 {
     if resource.is(Ty::CseBase) {
@@ -53,7 +53,7 @@ fn age_end(container: Option<&Resource>, resource: &Resource) -> Option<u64>
 }
 
 /// The lesser of a moment and another, where there is one.
-pub(crate) fn earlier(moment: u64, other: Option<u64>) -> u64
+pub fn earlier(moment: u64, other: Option<u64>) -> u64
     ensures { result ≡ spec.lesser moment other }
 {
     match other {

@@ -1,5 +1,6 @@
-//! The plain tree of resources: what a tree is, the plain body that keeps one, and how a resource
-//! in it is shown. What a resource is stands in `resource_model`, whose types are handed on here.
+//! Trees of resources: what a tree is, whatever keeps it, and how a resource in it is shown. What a
+//! resource is stands in `resource_model`, whose types are handed on here; a body that keeps a tree
+//! stands above, in `plain_tree`.
 //!
 //! To callers a tree is the list of its resources in order of creation (`Tree::nodes`); every
 //! operation is a look-up, an append, one replacement, or a removal by ancestry on that list, and
@@ -7,8 +8,8 @@
 //! tree is gone over by `for r in over(&tree)`, whose iterator is seen as the list of what is left.
 //!
 //! What procedures ask is a call of the tree (children, subscriptions, instances with their count
-//! and the sum of their sizes, AE-IDs, CSE-IDs, and a moment before which nothing is due), so that
-//! none of them walks. `ListTree` answers most by walks of its own, and keeps that moment.
+//! and the sum of their sizes, polling channels, AE-IDs, CSE-IDs, and a moment before which nothing
+//! is due), so that none of them walks.
 //!
 //! Callers owe the conditions of `insert` and `replace`, which `may_insert` and `may_replace` test
 //! by look-ups, and that a resource which they remove stands in the tree (`stands_in`). Only
@@ -18,33 +19,28 @@
 
 mod conditions;
 mod expiry;
-mod finding;
 mod laws;
-mod list_tree;
-mod nodes;
-mod placing;
-mod removing;
+mod placed;
 mod showing;
 mod steps;
-#[cfg(test)]
-mod tests;
 mod tree;
 mod walk;
 
-pub use conditions::{may_insert, may_replace, may_restamp, stands_in};
-pub use expiry::{due, is_due};
+pub use conditions::{
+    has_ae, has_channel, has_child, has_cse, may_insert, may_replace, may_restamp, stands_in,
+};
+pub use expiry::{due, due_under, earlier, is_due};
 pub use laws::{
     a_line_goes_up_from_parent_to_parent, a_removal_takes_what_is_picked_and_what_stands_below,
     a_well_formed_tree_stays_one, all_is_live_while_it_is_quiet,
     an_attribute_is_shown_as_added_or_else_as_kept, no_two_resources_share_what_stands_once,
 };
-pub use list_tree::ListTree;
-pub use nodes::Nodes;
+pub use placed::{child_at, instance_at, subscription_at};
 pub use resource_model::{
     ADMIN, AttrSet, Attrs, BASE, CSE_ID, CSE_TYPE, Change, Home, HomeFault, Moments, Resource,
     SERVICE_PROVIDER,
 };
-pub use showing::{attributes, content, shown};
+pub use showing::{attributes, content, members_of, shown, under_type};
 pub use std::alloc::AllocError as OutOfMemory;
 pub use steps::{Steps, child_named};
 pub use tree::Tree;

@@ -3,14 +3,15 @@ ghost use Rattle.std.specs.Prelude.{◌≡◌, ◌≤◌, ◌++◌, codes, map, 
 ghost use Rattle.m2m_names.specs.Attributes.{attr_short};
 ghost use Rattle.m2m_names.specs.Stamps.{last_moment};
 ghost use Rattle.m2m_names.specs.Types as types;
-ghost use Rattle.m2m_value.specs.Data.{text, number, list, object, elements_of, pairs_of};
-ghost use Rattle.m2m_value.specs.Node.{AreSorted};
+ghost use Rattle.m2m_value.specs.Data.{text, number, list, elements_of};
+ghost use Rattle.m2m_value.specs.Node.{AreSorted, HaveTextKeys};
 ghost use Rattle.resource_model.specs.Attributes.{with_value};
 ghost use Rattle.resource_model.specs.Resource.{is_ty};
 ghost use Rattle.tree_model.specs.Shown.{shown_types, shown_moment, shown_ty, shown_count};
 ghost use Rattle.tree_model.specs.Shown.{parent_id, common_rows, base_rows, expiry_rows};
 ghost use Rattle.tree_model.specs.Shown.{container_rows, default_row, group_rows, added_rows};
-ghost use Rattle.tree_model.specs.Shown.{with_rows, shown_rows, members_of, wrapped, attributes_of};
+ghost use Rattle.tree_model.specs.Shown.{with_rows, shown_rows, wrapped, attributes_of};
+ghost use Rattle.tree_model.specs.Shown as spec;
 
 use crate::tree::Tree;
 use m2m_names::{Attr, Ty, write_stamp};
@@ -83,21 +84,31 @@ fn copied_rows(alloc: Global, rows: &[(Attr, Val)]) -> Result<Vec<(Attr, Val)>, 
 pub fn content(alloc: Global, ty: Ty, attrs: Attrs) -> Result<Val, OutOfMemory>
     ensures { IfOk result (λ v. v ≡ wrapped ty attrs) }
 {
-    let name = Text::from_slice(alloc, ty.member().as_bytes())?;
-    let mut members = Vec::with_capacity(alloc, 1)?;
-    members.push((name, object_of(alloc, attrs)?))?;
-    Ok(Val::of_obj(Members::of(members)))
+    under_type(alloc, ty, members_of(alloc, attrs)?)
 }
 
-fn object_of(alloc: Global, attrs: Attrs) -> Result<Val, OutOfMemory>
-    ensures { IfOk result (λ v. v ≡ object (pairs_of (members_of attrs))) }
+/// One member, named by the type, that has the object of these.
+pub fn under_type(alloc: Global, ty: Ty, members: Members) -> Result<Val, OutOfMemory>
+    requires { HaveTextKeys members }
+    ensures { IfOk result (λ v. v ≡ spec.under_type ty members) }
 {
-    Ok(Val::of_obj(Members::of(named(alloc, attrs)?)))
+    let name = Text::from_slice(alloc, ty.member().as_bytes())?;
+    let mut whole = Vec::with_capacity(alloc, 1)?;
+    whole.push((name, Val::of_obj(members)))?;
+    Ok(Val::of_obj(Members::of(whole)))
+}
+
+/// The members of the object of these attributes.
+pub fn members_of(alloc: Global, attrs: Attrs) -> Result<Members, OutOfMemory>
+    ensures value { IfOk result (λ m. m ≡ spec.members_of attrs) }
+    ensures keys { IfOk result (λ m. HaveTextKeys m) }
+{
+    Ok(Members::of(named(alloc, attrs)?))
 }
 
 // Each key is a text that owns its bytes, so that each takes memory of its own.
 fn named(alloc: Global, attrs: Attrs) -> Result<Vec<(Text, Val)>, OutOfMemory>
-    ensures value { IfOk result (λ v. v.items ≡ members_of attrs) }
+    ensures value { IfOk result (λ v. v.items ≡ spec.members_of attrs) }
     ensures order { IfOk result (λ v. AreSorted v.items) }
 {
     let mut members = Vec::with_capacity(alloc, attrs.entries().len())?;

@@ -6,7 +6,7 @@ use crate::tree::Tree;
 use std::marker::{Brand, Model};
 use std::sync::ledger::{Blank, Book, Ledger, Share};
 
-/// How many steps were taken. It takes no bytes, and only `Nodes::at` adds to it.
+/// How many steps were taken. It takes no bytes, and what counts a look-up adds to it.
 #[derive(Drop)]
 pub struct Steps<L: Ledger> {
     book: Book<L>,
@@ -37,8 +37,8 @@ impl<L: Ledger> Steps<L> {
         Steps { book, share }
     }
 
-    // One step more.
-    pub(crate) fn tick(&mut self)
+    /// One step more.
+    pub fn tick(&mut self)
         ensures { self.new ≡ self.old + 1 }
     {
         self.book.add(&mut self.share, 1);

@@ -1,14 +1,12 @@
 // What a tree is, whatever keeps it.
 ghost use Rattle.std.specs.Prelude.{◌≡◌, ℕ, ◌+◌, ◌^◌, ◌<◌, ◌≤◌, List, [], ◌∷◌, ◌++◌, length};
-ghost use Rattle.std.specs.Prelude.{slice_get, false, IsTrue, OnOk, OnErr, IfErr, None, Some};
-ghost use Rattle.std.specs.Prelude.{option_map};
+ghost use Rattle.std.specs.Prelude.{slice_get, IsTrue, OnOk, OnErr, IfErr, Some, option_map};
 ghost use Rattle.m2m_names.specs.Stamps.{last_moment};
-ghost use Rattle.resource_model.specs.Resource.{ResourceData, has_number, ae_id, cse_id};
+ghost use Rattle.resource_model.specs.Resource.{ResourceData, has_number};
 ghost use Rattle.tree_model.specs.Tree.{at, has, child_of, children_of, subs_of, number_at};
-ghost use Rattle.tree_model.specs.Tree.{instance_of, instances_of, sizes_of, ae_of, cse_of};
+ghost use Rattle.tree_model.specs.Tree.{instance_of, instances_of, sizes_of, ae_of, cse_of, channel_of};
 ghost use Rattle.tree_model.specs.Tree.{are_quiet, live, replaced, restamped_at, has_state};
-ghost use Rattle.tree_model.specs.Tree.{without, are_below, is_placed, has_ae_id, has_cse_id};
-ghost use Rattle.tree_model.specs.Tree.{is_tree, standing};
+ghost use Rattle.tree_model.specs.Tree.{without, fits, is_tree, standing};
 
 use crate::steps::Steps;
 use resource_model::Resource;
@@ -78,6 +76,10 @@ pub trait Tree: Drop {
     fn cse(&self, csi: &[u8]) -> Option<u64>
         ensures { result ≡ cse_of csi.now (nodes self.now) };
 
+    /// The number of the polling channel of a resource, which has at most one; of more, the first.
+    fn channel(&self, parent: u64) -> Option<u64>
+        ensures { result ≡ channel_of parent (nodes self.now) };
+
     /// A moment before which nothing is due, in seconds since 1970. It may be too early, and is
     /// never too late.
     fn quiet_until(&self) -> u64
@@ -86,11 +88,7 @@ pub trait Tree: Drop {
     /// Puts a resource last. Its number is greater than every other, its parent is there (or it is
     /// the CSEBase and the first), and its name, its AE-ID and its CSE-ID are free.
     fn insert(&mut self, resource: Resource) -> Result<(), (Resource, OutOfMemory)>
-        requires number { IsTrue (are_below resource.number (nodes self.old)) }
-        requires parent { IsTrue (is_placed (nodes self.old) resource) }
-        requires name { child_of resource.parent resource.name (nodes self.old) ≡ None }
-        requires ae { has_ae_id (ae_id resource) (nodes self.old) ≡ false }
-        requires cse { has_cse_id (cse_id resource) (nodes self.old) ≡ false }
+        requires { IsTrue (fits (nodes self.old) resource) }
         ensures ok { OnOk result (nodes self.new ≡ nodes self.old ++ resource ∷ []) }
         ensures err { OnErr result (nodes self.new ≡ nodes self.old) }
         ensures back { IfErr result (λ e. e.0 ≡ resource) };

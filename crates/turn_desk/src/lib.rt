@@ -36,6 +36,3 @@ pub use object::Object;
 pub use own::{OwnDesk, OwnSeat};
 pub use shared::{DeskSeat, TurnDesk, Turns};
 pub use view::View;
-
-#[cfg(test)]
-mod tests;

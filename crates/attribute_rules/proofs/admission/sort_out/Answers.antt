@@ -1,4 +1,4 @@
-use Rattle.std.proofs.Common.{◌≡◌, Some, is_none, sym, ap, ◌∙◌}
+use Rattle.std.proofs.Common.{is_none, sym, ap, ◌∙◌}
 use Rattle.std.proofs.lemmas.Bool.{both_ways}
 use Rattle.attribute_rules.specs.Admission.{are_admitted}
 use Rattle.attribute_rules.proofs.FaultLemmas.{members_faultless, sorted_none}

@@ -24,8 +24,8 @@ loop-k-preserved g c =
     let last = lasts c.args.limits.mia c.args.moment in
     let rest = filter last (drop c.loop-k.k rs) in
     record {
-      count = count_turn last rs c.loop-k.k (length (option_to_list c.args.new_size)) (option_map (λ r. r.now) c.instance.result) c.instance.ensures c.loop-k.left.count c.without-left.result.count c.loop-k.invariant.count c.without-left.ensures.count;
-      sizes = size_turn last rs c.loop-k.k (unwrap_or c.args.new_size 0) (option_map (λ r. r.now) c.instance.result) c.instance.ensures c.loop-k.left.sizes c.without-left.result.sizes c.loop-k.invariant.sizes c.without-left.ensures.sizes;
+      count = count_turn last rs c.loop-k.k (length (option_to_list c.args.new_size)) (option_map (λ r. r.now) c.instance_at.result) c.instance_at.ensures.value c.loop-k.left.count c.without-left.result.count c.loop-k.invariant.count c.without-left.ensures.count;
+      sizes = size_turn last rs c.loop-k.k (unwrap_or c.args.new_size 0) (option_map (λ r. r.now) c.instance_at.result) c.instance_at.ensures.value c.loop-k.left.sizes c.without-left.result.sizes c.loop-k.invariant.sizes c.without-left.ensures.sizes;
       stay = c.loop-k.invariant.stay ∙ fit_turn c.args.limits c.args.new_size last rs c.loop-k.k (sym (fits_totals c.args.limits c.args.new_size rest c.loop-k.left.count c.loop-k.left.sizes c.loop-k.invariant.count c.loop-k.invariant.sizes) ∙ sym c.is_total_within.ensures ∙ c.if-is_total_within.false);
     }
 

@@ -1,5 +1,5 @@
 use Rattle.std.proofs.Common.{sym}
-use Rattle.container_limits.proofs.PlaceLemmas.{at_place, tree_ascends}
+use Rattle.tree_model.proofs.OrderLemmas.{at_place, tree_ascends}
 use Rattle.container_limits.proofs.expiring.push_overdue.Goals as goal
 
 pub push_number-requires-clause-stands : goal.push_number-requires-clause-stands

@@ -15,8 +15,8 @@ pub loop-k-preserved : goal.loop-k-preserved
 loop-k-preserved g c =
     let rs = (instances_of c.args.container (g.T.Tree.nodes c.args.tree.now)) in
     record {
-      count = count_turn (is_due_by c.args.mia c.args.moment) rs c.loop-k.k (length (filter (lasts c.args.mia c.args.moment) rs)) (option_map (λ r. r.now) c.instance.result) c.instance.ensures c.loop-k.total.count c.without-total.result.count c.loop-k.invariant.count c.without-total.ensures.count;
-      sizes = size_turn (is_due_by c.args.mia c.args.moment) rs c.loop-k.k (sum_by size_of (filter (lasts c.args.mia c.args.moment) rs)) (option_map (λ r. r.now) c.instance.result) c.instance.ensures c.loop-k.total.sizes c.without-total.result.sizes c.loop-k.invariant.sizes c.without-total.ensures.sizes;
+      count = count_turn (is_due_by c.args.mia c.args.moment) rs c.loop-k.k (length (filter (lasts c.args.mia c.args.moment) rs)) (option_map (λ r. r.now) c.instance_at.result) c.instance_at.ensures.value c.loop-k.total.count c.without-total.result.count c.loop-k.invariant.count c.without-total.ensures.count;
+      sizes = size_turn (is_due_by c.args.mia c.args.moment) rs c.loop-k.k (sum_by size_of (filter (lasts c.args.mia c.args.moment) rs)) (option_map (λ r. r.now) c.instance_at.result) c.instance_at.ensures.value c.loop-k.total.sizes c.without-total.result.sizes c.loop-k.invariant.sizes c.without-total.ensures.sizes;
     }
 
 pub returns-clause-few : goal.returns-clause-few

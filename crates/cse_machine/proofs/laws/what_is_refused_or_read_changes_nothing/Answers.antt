@@ -1,5 +1,5 @@
 use Rattle.std.proofs.Common.{ap, ◌∙◌}
-use Rattle.create_delete.specs.Entity.{EntityData, swept}
+use Rattle.entity_model.specs.Entity.{EntityData, swept}
 use Rattle.cse_machine.proofs.GuardLemmas.{unchanged}
 use Rattle.cse_machine.proofs.HistoryLemmas.{changes}
 use Rattle.cse_machine.specs.declared.event.Outcome.TheVariants.{Starved}

@@ -1,6 +1,6 @@
 use Rattle.std.proofs.Common.{sym, ap, ◌∙◌}
 use Rattle.m2m_value.proofs.Levels.{entries-pairs_of}
-use Rattle.primitive_json.specs.Kinds.{members_in}
+use Rattle.filter_criteria.specs.Values.{members_in}
 use Rattle.primitive_json.proofs.kept.members_into.Goals as goal
 
 pub returns-in-Obj : goal.returns-in-Obj

@@ -1,11 +1,11 @@
 use Rattle.std.proofs.Common.{◌≡◌, Option, Some, None, if◌then◌else◌, option_and_then, refl, ap, ◌∙◌}
 use Rattle.m2m_value.specs.Data.{Data}
 use Rattle.m2m_value.specs.View.{member_of}
-use Rattle.primitive_json.specs.Conditions as conditions
-use Rattle.primitive_json.specs.Kinds.{members_in}
+use Rattle.filter_criteria.specs.Conditions as conditions
+use Rattle.filter_criteria.specs.Values.{members_in}
 use Rattle.primitive_json.specs.Members.{name_of, is_read}
 use Rattle.primitive_json.specs.Reading.{kept_in}
-use Rattle.primitive_json.specs.declared.condition.Condition.TheVariants.{OneLabel}
+use Rattle.filter_criteria.specs.declared.condition.Condition.TheVariants.{OneLabel}
 use Rattle.primitive_json.specs.declared.member.Member.TheVariants.{FilterCriteria, Originator, Content, RequestId}
 use Rattle.primitive_json.proofs.kept.taken_values.Goals as goal
 

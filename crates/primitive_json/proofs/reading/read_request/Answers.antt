@@ -1,4 +1,4 @@
-use Rattle.primitive_json.specs.Kinds.{members_in}
+use Rattle.filter_criteria.specs.Values.{members_in}
 use Rattle.primitive_json.proofs.KeptLemmas.{request_read}
 use Rattle.primitive_json.proofs.reading.read_request.Goals as goal
 

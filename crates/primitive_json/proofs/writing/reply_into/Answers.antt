@@ -1,8 +1,8 @@
 use Rattle.std.proofs.Common.{[], ◌∷◌, Some, refl, sym, subst}
 use Rattle.m2m_value.specs.Node.{AreSorted, HaveTextKeys}
 use Rattle.primitive_json.specs.Reading.{rsc_name, rqi_name, pc_name}
-use Rattle.primitive_json.specs.Writing.{NamedValue}
-use Rattle.primitive_json.proofs.Present.{three_present, present_sorted, present_texts}
+use Rattle.filter_criteria.specs.Values.{NamedValue}
+use Rattle.filter_criteria.proofs.Present.{three_present, present_sorted, present_texts}
 use Rattle.primitive_json.proofs.writing.reply_into.Goals as goal
 
 pub sorted_object-requires-clause-sorted : goal.sorted_object-requires-clause-sorted

@@ -3,8 +3,9 @@ use Rattle.std.proofs.lemmas.List.{take_all}
 use Rattle.m2m_value.specs.Data.{object, pairs_of}
 use Rattle.m2m_value.specs.Node.{AreSorted, HaveTextKeys}
 use Rattle.primitive_json.specs.Members.{all_members}
-use Rattle.primitive_json.specs.Writing.{present, member_row, written_request}
-use Rattle.primitive_json.proofs.Present.{present-more, present_sorted, present_texts}
+use Rattle.filter_criteria.specs.Values.{present}
+use Rattle.primitive_json.specs.Writing.{member_row, written_request}
+use Rattle.filter_criteria.proofs.Present.{present-more, present_sorted, present_texts}
 use Rattle.primitive_json.proofs.writing.write_request.Goals as goal
 
 pub loop-member-preserved : goal.loop-member-preserved

@@ -1,6 +1,7 @@
 use Rattle.std.proofs.Common.{◌≡◌, map, take}
 use Rattle.primitive_json.specs.Members.{all_members}
-use Rattle.primitive_json.specs.Writing.{present, member_row}
+use Rattle.filter_criteria.specs.Values.{present}
+use Rattle.primitive_json.specs.Writing.{member_row}
 use Rattle.primitive_json.proofs.writing.write_request.Given as goal
 
 abbrev pub invariant-loop-member : goal.invariant-loop-member

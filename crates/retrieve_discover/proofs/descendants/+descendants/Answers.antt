@@ -5,7 +5,6 @@ use Rattle.tree_model.proofs.TreeLemmas.{at_has}
 use Rattle.retrieve_discover.specs.Contents.{may_retrieve, members, with_forest}
 use Rattle.retrieve_discover.specs.Descendants.{cut, size_of}
 use Rattle.retrieve_discover.proofs.ForestLemmas.{chain, ended, grown_by_kids, sizes, stopped, turned}
-use Rattle.retrieve_discover.proofs.OrderLemmas.{IsKid, kid_known}
 use Rattle.retrieve_discover.proofs.PathLemmas.{above_child}
 use Rattle.retrieve_discover.proofs.WalkLemmas.{drop_none, kids_past}
 use Rattle.retrieve_discover.proofs.descendants.+descendants.Goals as goal
@@ -30,7 +29,7 @@ add_descendants-loop-k-preserved g t c =
     let goes = may_retrieve look.home.now nodes look.o.now in
     let kids = children_of c.args.parent nodes in
     let r = c.in-Some.child.now in
-    let kid : slice_get kids c.loop-k.k ≡ Some r = sym c.in-Some.ensures in
+    let kid : slice_get kids c.loop-k.k ≡ Some r = sym c.in-Some.ensures.value in
     let some : 0 < c.loop-k.left = omega arith in
     record {
       shown = sym (turned goes show nodes kids c.loop-k.k c.loop-k.left c.add_child.new.left r c.loop-k.members c.add_child.new.members kid some c.in_ok-add_child-in-Some.ensures.left c.in_ok-add_child-in-Some.ensures.members) ∙ c.loop-k.invariant.shown;
@@ -52,7 +51,7 @@ add_descendants-returns-in-None-clause-members g t c =
     let nodes = g.T.Tree.nodes look.tree.now in
     let goes = may_retrieve look.home.now nodes look.o.now in
     let kids = children_of c.args.parent nodes in
-    (ended goes (members look.home.now nodes) nodes kids c.loop-k.k c.loop-k.left _ c.loop-k.members _ (drop_none kids c.loop-k.k (sym c.in-None.ensures)) c.loop-k.invariant.shown c.loop-k.invariant.left).0
+    (ended goes (members look.home.now nodes) nodes kids c.loop-k.k c.loop-k.left _ c.loop-k.members _ (drop_none kids c.loop-k.k (sym c.in-None.ensures.value)) c.loop-k.invariant.shown c.loop-k.invariant.left).0
 
 pub add_descendants-returns-in-None-clause-left : goal.add_descendants-returns-in-None-clause-left
 add_descendants-returns-in-None-clause-left g t c =
@@ -60,7 +59,7 @@ add_descendants-returns-in-None-clause-left g t c =
     let nodes = g.T.Tree.nodes look.tree.now in
     let goes = may_retrieve look.home.now nodes look.o.now in
     let kids = children_of c.args.parent nodes in
-    (ended goes (members look.home.now nodes) nodes kids c.loop-k.k c.loop-k.left _ c.loop-k.members _ (drop_none kids c.loop-k.k (sym c.in-None.ensures)) c.loop-k.invariant.shown c.loop-k.invariant.left).1
+    (ended goes (members look.home.now nodes) nodes kids c.loop-k.k c.loop-k.left _ c.loop-k.members _ (drop_none kids c.loop-k.k (sym c.in-None.ensures.value)) c.loop-k.invariant.shown c.loop-k.invariant.left).1
 
 pub add_descendants-returns-clause-members : goal.add_descendants-returns-clause-members
 add_descendants-returns-clause-members g t c =
@@ -84,9 +83,8 @@ pub add_descendants-add_child-requires : goal.add_descendants-add_child-requires
 add_descendants-add_child-requires g t c κs within =
     let nodes = g.T.Tree.nodes c.args.look.now.tree.now in
     let r = c.in-Some.child.now in
-    let kid = kid_known nodes c.args.parent c.loop-k.k r c.requires.tree (sym c.in-Some.ensures) in
-    let found : at r.number nodes ≡ Some r = kid.found in
-    let under : r.parent ≡ c.args.parent = kid.under in
+    let found : at r.number nodes ≡ Some r = c.in-Some.ensures.stands in
+    let under : r.parent ≡ c.args.parent = c.in-Some.ensures.under in
     let some : 0 < c.loop-k.left = omega arith in
     search rules
 

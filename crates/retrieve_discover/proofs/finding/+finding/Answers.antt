@@ -8,7 +8,6 @@ use Rattle.addressing.specs.Names.{structured_of}
 use Rattle.retrieve_discover.specs.Descendants.{below}
 use Rattle.retrieve_discover.specs.Findings.{address, is_found}
 use Rattle.retrieve_discover.proofs.BelowLemmas.{with_below}
-use Rattle.retrieve_discover.proofs.OrderLemmas.{IsKid, kid_known}
 use Rattle.retrieve_discover.proofs.PathLemmas.{above_child, path_down}
 use Rattle.retrieve_discover.proofs.TakeLemmas.{take-short}
 use Rattle.retrieve_discover.proofs.WalkLemmas.{drop_none, kept, kept_all, kept_more, kept_one, kept_start, kids_past, one_fits}
@@ -30,7 +29,7 @@ find_below-loop-k-preserved g t c =
     let nodes = g.T.Tree.nodes w.tree.now in
     let show = address w.by_id nodes in
     let test = is_found w.home.now nodes w.o.now w.filter.now in
-    let kid : slice_get (children_of c.args.parent nodes) c.loop-k.k ≡ Some c.in-Some.child.now = sym c.in-Some.ensures in
+    let kid : slice_get (children_of c.args.parent nodes) c.loop-k.k ≡ Some c.in-Some.child.now = sym c.in-Some.ensures.value in
     let all : List Data = take w.limit (c.args.found.now.items ++ kept show test (below c.args.parent nodes)) in
     record {
       told = kept_more show test w.limit nodes (children_of c.args.parent nodes) c.loop-k.k c.in-Some.child.now c.loop-k.found.items c.visit.new.found.items all kid c.in_ok-visit-in-Some.ensures.found c.loop-k.invariant.told;
@@ -46,7 +45,7 @@ find_below-returns-in-None-clause-found g t c =
     let show = address w.by_id nodes in
     let test = is_found w.home.now nodes w.o.now w.filter.now in
     let kids = children_of c.args.parent nodes in
-    kept_all show test w.limit nodes kids c.loop-k.k c.loop-k.found.items _ (drop_none kids c.loop-k.k (sym c.in-None.ensures)) c.loop-k.invariant.room c.loop-k.invariant.told
+    kept_all show test w.limit nodes kids c.loop-k.k c.loop-k.found.items _ (drop_none kids c.loop-k.k (sym c.in-None.ensures.value)) c.loop-k.invariant.room c.loop-k.invariant.told
 
 pub find_below-returns-clause-found : goal.find_below-returns-clause-found
 find_below-returns-clause-found g t c =
@@ -61,9 +60,8 @@ pub find_below-visit-requires : goal.find_below-visit-requires
 find_below-visit-requires g t c κs within =
     let nodes = g.T.Tree.nodes c.args.wanted.now.tree.now in
     let r = c.in-Some.child.now in
-    let kid = kid_known nodes c.args.parent c.loop-k.k r c.requires.tree (sym c.in-Some.ensures) in
-    let found : at r.number nodes ≡ Some r = kid.found in
-    let under : r.parent ≡ c.args.parent = kid.under in
+    let found : at r.number nodes ≡ Some r = c.in-Some.ensures.stands in
+    let under : r.parent ≡ c.args.parent = c.in-Some.ensures.under in
     let parent : has r.parent nodes ≡ true = ap (λ n. has n nodes) under ∙ c.requires.parent in
     let path : c.loop-k.path.items ≡ structured_of r.parent nodes = c.loop-k.invariant.path ∙ c.requires.path ∙ ap (λ n. structured_of n nodes) (sym under) in
     let utf8 : IsUtf8 c.loop-k.path.items = subst IsUtf8 (sym c.loop-k.invariant.path) c.requires.utf8 in

@@ -6,27 +6,20 @@ use Rattle.tree_model.specs.Tree.{children_of, has}
 use Rattle.tree_model.proofs.TreeLemmas.{at_has}
 use Rattle.addressing.specs.Names.{structured_of}
 use Rattle.retrieve_discover.specs.Contents.{may_retrieve, most_references, reference}
-use Rattle.retrieve_discover.proofs.OrderLemmas.{kid_known}
 use Rattle.retrieve_discover.proofs.WalkLemmas.{drop_none, kept_done, kept_full, kept_next, kids_past, one_fits}
 use Rattle.retrieve_discover.proofs.references.all_references.Goals as goal
-
-pub add_reference-requires-clause-child : goal.add_reference-requires-clause-child
-add_reference-requires-clause-child g c =
-    (kid_known (g.T.Tree.nodes c.args.look.now.tree.now) c.args.target.now.number c.loop-k.k c.in-Some.child.now c.requires.tree (ap (λ n. slice_get (children_of n (g.T.Tree.nodes c.args.look.now.tree.now)) c.loop-k.k) (sym c.number.ensures.value) ∙ sym c.in-Some.ensures)).found
 
 pub add_reference-requires-clause-parent : goal.add_reference-requires-clause-parent
 add_reference-requires-clause-parent g c =
     let nodes = g.T.Tree.nodes c.args.look.now.tree.now in
-    let n = c.args.target.now.number in
-    let kid : slice_get (children_of n nodes) c.loop-k.k ≡ Some c.in-Some.child.now = ap (λ m. slice_get (children_of m nodes) c.loop-k.k) (sym c.number.ensures.value) ∙ sym c.in-Some.ensures in
-    ap (λ m. has m nodes) (kid_known nodes n c.loop-k.k c.in-Some.child.now c.requires.tree kid).under ∙ at_has n nodes c.args.target.now c.requires.target
+    let under : c.in-Some.child.now.parent ≡ c.args.target.now.number = c.in-Some.ensures.under ∙ c.number.ensures.value in
+    ap (λ n. has n nodes) under ∙ at_has c.args.target.now.number nodes c.args.target.now c.requires.target
 
 pub add_reference-requires-clause-path : goal.add_reference-requires-clause-path
 add_reference-requires-clause-path g c =
     let nodes = g.T.Tree.nodes c.args.look.now.tree.now in
-    let n = c.args.target.now.number in
-    let kid : slice_get (children_of n nodes) c.loop-k.k ≡ Some c.in-Some.child.now = ap (λ m. slice_get (children_of m nodes) c.loop-k.k) (sym c.number.ensures.value) ∙ sym c.in-Some.ensures in
-    c.loop-k.invariant.path ∙ ap (λ m. structured_of m nodes) (sym (kid_known nodes n c.loop-k.k c.in-Some.child.now c.requires.tree kid).under)
+    let under : c.in-Some.child.now.parent ≡ c.args.target.now.number = c.in-Some.ensures.under ∙ c.number.ensures.value in
+    c.loop-k.invariant.path ∙ ap (λ n. structured_of n nodes) (sym under)
 
 pub loop-k-preserved : goal.loop-k-preserved
 loop-k-preserved g c =
@@ -36,7 +29,7 @@ loop-k-preserved g c =
     let test = may_retrieve look.home.now nodes look.o.now in
     let kids = children_of c.args.target.now.number nodes in
     let r = c.in-Some.child.now in
-    let kid : slice_get kids c.loop-k.k ≡ Some r = ap (λ n. slice_get (children_of n nodes) c.loop-k.k) (sym c.number.ensures.value) ∙ sym c.in-Some.ensures in
+    let kid : slice_get kids c.loop-k.k ≡ Some r = ap (λ n. slice_get (children_of n nodes) c.loop-k.k) (sym c.number.ensures.value) ∙ sym c.in-Some.ensures.value in
     let some : length c.loop-k.references.items < most_references = omega arith in
     record {
       told = kept_next show test most_references kids c.loop-k.k r c.loop-k.references.items c.add_reference.new.references.items _ kid c.in_ok-add_reference-in-Some.ensures.value c.loop-k.invariant.told;
@@ -65,7 +58,7 @@ returns-in-None g c =
     let show = reference look.by_id nodes in
     let test = may_retrieve look.home.now nodes look.o.now in
     let kids = children_of c.args.target.now.number nodes in
-    let none : slice_get kids c.loop-k.k ≡ None = ap (λ n. slice_get (children_of n nodes) c.loop-k.k) (sym c.number.ensures.value) ∙ sym c.in-None.ensures in
+    let none : slice_get kids c.loop-k.k ≡ None = ap (λ n. slice_get (children_of n nodes) c.loop-k.k) (sym c.number.ensures.value) ∙ sym c.in-None.ensures.value in
     kept_done show test most_references kids c.loop-k.k c.loop-k.references.items _ (drop_none kids c.loop-k.k none) c.loop-k.invariant.room c.loop-k.invariant.told
     ∙ take-map show most_references (filter test kids)
 

@@ -1,7 +1,0 @@
-use Rattle.std.proofs.Common.{subst}
-use Rattle.resource_model.specs.Home.{IsHome}
-use Rattle.create_delete.proofs.SoundLemmas.{sound_opened}
-use Rattle.create_delete.proofs.entity.Entity.open.Goals as goal
-
-pub invariant_of-result : goal.invariant_of-result
-invariant_of-result g c = sound_opened c.args.home c.args.reading _ _ (subst IsHome c.home.view_is c.home.invariant) c.cut-moment.ensures c.in_ok-put_opening.ensures

@@ -1,5 +1,0 @@
-use Rattle.create_delete.proofs.SoundLemmas.{swept_still}
-use Rattle.create_delete.proofs.laws.nothing_expires_while_no_time_passes.Goals as goal
-
-pub returns : goal.returns
-returns c = swept_still

@@ -1,0 +1,324 @@
+-- Soundness: of the entity as it opens, and of what a removal leaves.
+use Rattle.std.specs.Prelude.{◌==◌, nat_le}
+use Rattle.std.proofs.Common.{◌≡◌, ℕ, ◌≤◌, List, [], ◌∷◌, ◌++◌, length, take, Bool, true, false, cond, not, ◌&&◌, ◌||◌, Option, Some, None, if◌then◌else◌, inl, inr, refl, sym, ap, ◌∙◌, subst, arith, bytes_eq}
+use Rattle.std.proofs.lemmas.Bool.{cases_Bool, and_parts, and_from, or_cases, or_parts, or_from, or_left, or_right, not-true, not_from_false, leb-true, le-leb, both_ways, false_from_ne_true, eq-eqb}
+use Rattle.std.proofs.lemmas.List.{append-nil}
+use Rattle.std.proofs.lemmas.List.Elements.{filter-append}
+use Rattle.std.proofs.lemmas.Slice.Eq.{bytes_eq-Decides}
+use Rattle.std.specs.List.{list_any, list_all, filter, filter_map, cons_option}
+use Rattle.std.specs.Option.{option_map_or}
+use Rattle.m2m_names.specs.declared.attributes.Attr.TheVariants.{Mbs, Mni}
+use Rattle.m2m_names.specs.Types.{does_take}
+use Rattle.m2m_names.specs.declared.types.Ty.{Ty}
+use Rattle.m2m_names.specs.declared.types.Ty.TheVariants.{AccessControlPolicy, Ae, Container, ContentInstance, CseBase, Group, PollingChannel, RemoteCse, Subscription, AccessControlPolicyAnnc, AeAnnc, ContainerAnnc, ContentInstanceAnnc, GroupAnnc}
+use Rattle.resource_model.specs.Attributes.{count_at}
+use Rattle.resource_model.specs.Home.{HomeData, IsHome, is_base_name, is_cse_type}
+use Rattle.resource_model.specs.Resource.{ResourceData, is_ty, cse_id}
+use Rattle.tree_model.specs.Tree.{at, has, stays, staying, without, is_spared, is_kin, is_instance, size_of, due_under, is_due, lesser, age_end, live, is_root, is_taken, fits_in, is_well_formed, is_tree}
+use Rattle.tree_model.proofs.TreeLemmas.{has_at, staying_all, staying_any, staying_unpicked}
+use Rattle.tree_model.proofs.GrowthLemmas.{growth, tree_from_well_formed, next_fits, root_parent, at-without}
+use Rattle.tree_model.proofs.KeptLemmas.{is_well_formed-without}
+use Rattle.tree_model.proofs.LiveLemmas.{without_none}
+use Rattle.m2m_names.specs.Name.{is_free_name, is_originator}
+use Rattle.attribute_rules.specs.Kinds.{are_kinds}
+use Rattle.container_limits.specs.Limits.{is_within}
+use Rattle.entity_model.specs.Entity.{EntityData, last_reading, cut, event_moment, swept}
+use Rattle.entity_model.specs.Opening.{opening_base, opening_policy, opening_nodes, opening}
+use Rattle.entity_model.specs.Sound.{has_known_ids, has_size, is_shallow, is_within_limits, begins_with_base, own_cse_id, cse_ids, are_distinct, has_one_channel, spares_first, IsSound}
+use Rattle.entity_model.proofs.RemovalLemmas.{staying_length, staying_filter, staying_sum, no_deeper}
+
+-- ---- tests over a list
+
+pub all_weaker : (p q : ResourceData → Bool) → ((r : ResourceData) → p r ≡ true → q r ≡ true) → (nodes : List ResourceData) → list_all p nodes ≡ true → list_all q nodes ≡ true
+all_weaker p q weaker [] all = refl
+all_weaker p q weaker (r ∷ nodes) all =
+    let parts = and_parts (p r) (list_all p nodes) all in
+    and_from _ _ (weaker r parts.0) (all_weaker p q weaker nodes parts.1)
+
+pub none_weaker : (p q : ResourceData → Bool) → ((r : ResourceData) → q r ≡ true → p r ≡ true) → (nodes : List ResourceData) → list_any p nodes ≡ false → list_any q nodes ≡ false
+none_weaker p q weaker [] none = refl
+none_weaker p q weaker (r ∷ nodes) none =
+    let parts = or_parts (p r) (list_any p nodes) none in
+    or_from _ _ (false_from_ne_true _ (λ t. both_ways _ parts.0 (weaker r t))) (none_weaker p q weaker nodes parts.1)
+
+-- a test of each of what is left, that gets weaker with the list
+pub all_left : (p : ResourceData → Bool) (q : List ResourceData → ResourceData → Bool) (nodes : List ResourceData) → ((r : ResourceData) → q nodes r ≡ true → q (without p nodes) r ≡ true) → list_all (q nodes) nodes ≡ true → list_all (q (without p nodes)) (without p nodes) ≡ true
+all_left p q nodes weaker all = all_weaker (q nodes) (q (without p nodes)) weaker (without p nodes) (staying_all p (q nodes) [] nodes all)
+
+-- ---- each part of soundness, after a removal
+
+-- a smaller number is within the limits of a greater one
+small_too : (m n k : ℕ) → m ≤ n → nat_le n k ≡ true → nat_le m k ≡ true
+small_too m n k le small = let below : n ≤ k = leb-true n k small in le-leb m k (omega arith)
+
+within_too : (limit : Option ℕ) (m n : ℕ) → m ≤ n → is_within n limit ≡ true → is_within m limit ≡ true
+within_too None m n le within = refl
+within_too (Some k) m n le within = small_too m n k le within
+
+shallow_left : (p : ResourceData → Bool) (nodes : List ResourceData) → is_tree nodes ≡ true → (r : ResourceData) → is_shallow nodes r ≡ true → is_shallow (without p nodes) r ≡ true
+shallow_left p nodes tree r shallow = small_too _ _ 32 (no_deeper p nodes tree r.number) shallow
+
+channel_left : (p : ResourceData → Bool) (nodes : List ResourceData) (r : ResourceData) → has_one_channel nodes r ≡ true → has_one_channel (without p nodes) r ≡ true
+channel_left p nodes r one = small_too _ _ 1 (staying_filter p (is_kin PollingChannel r.number) [] nodes) one
+
+limits_left : (p : ResourceData → Bool) (nodes : List ResourceData) (r : ResourceData) → is_within_limits nodes r ≡ true → is_within_limits (without p nodes) r ≡ true
+limits_left p nodes r within = elim (or_cases (not (is_ty r.ty Container)) _ within) [
+  | inl other ↦ or_left _ _ other
+  | inr both ↦
+      let parts = and_parts _ _ both in
+      or_right _ _ (and_from _ _
+      (within_too (count_at Mni r.attrs) _ _ (staying_filter p (is_instance r.number) [] nodes) parts.0)
+      (within_too (count_at Mbs r.attrs) _ _ (staying_sum p (is_instance r.number) size_of [] nodes) parts.1))
+]
+
+-- a test of the CSE-IDs, as one of the resources
+named : (List ℕ → Bool) → ResourceData → Bool
+named q r = option_map_or q (cse_id r) false
+
+any_named : (q : List ℕ → Bool) (nodes : List ResourceData) → list_any q (filter_map cse_id nodes) ≡ list_any (named q) nodes
+unfolding named
+any_named q [] = refl
+any_named q (r ∷ nodes) = any_first (cse_id r) ∙ ap (λ b. option_map_or q (cse_id r) false || b) (any_named q nodes)
+  where
+    any_first : (o : Option (List ℕ)) → list_any q (cons_option o (filter_map cse_id nodes)) ≡ (option_map_or q o false || list_any q (filter_map cse_id nodes))
+    any_first None = refl
+    any_first (Some s) = refl
+
+absent_left : (p : ResourceData → Bool) (q : List ℕ → Bool) (stayed nodes : List ResourceData) → list_any q (filter_map cse_id nodes) ≡ false → list_any q (filter_map cse_id (staying p stayed nodes)) ≡ false
+absent_left p q stayed nodes none = false_from_ne_true _ (λ t.
+    both_ways _ (sym (any_named q nodes) ∙ none) (staying_any p (named q) stayed nodes (sym (any_named q (staying p stayed nodes)) ∙ t)))
+
+distinct_rest : (o : Option (List ℕ)) (texts : List (List ℕ)) → are_distinct (cons_option o texts) ≡ true → are_distinct texts ≡ true
+distinct_rest None texts distinct = distinct
+distinct_rest (Some s) texts distinct = (and_parts (not (list_any (bytes_eq s) texts)) _ distinct).1
+
+distinct_with : (o : Option (List ℕ)) (more less : List (List ℕ)) → ((q : List ℕ → Bool) → list_any q more ≡ false → list_any q less ≡ false) → are_distinct (cons_option o more) ≡ true → are_distinct less ≡ true → are_distinct (cons_option o less) ≡ true
+distinct_with None more less absent distinct rest = rest
+distinct_with (Some s) more less absent distinct rest =
+    let parts = and_parts (not (list_any (bytes_eq s) more)) _ distinct in
+    and_from _ _ (not_from_false _ (absent (bytes_eq s) (not-true _ parts.0))) rest
+
+distinct_left : (p : ResourceData → Bool) (stayed nodes : List ResourceData) → are_distinct (filter_map cse_id nodes) ≡ true → are_distinct (filter_map cse_id (staying p stayed nodes)) ≡ true
+distinct_left p stayed [] distinct = refl
+distinct_left p stayed (r ∷ nodes) distinct =
+    let rest = distinct_rest (cse_id r) (filter_map cse_id nodes) distinct in
+    elim (cases_Bool (stays p stayed r)) [
+      | inl t ↦ rw t (distinct_with (cse_id r) (filter_map cse_id nodes) (filter_map cse_id (staying p (stayed ++ r ∷ []) nodes)) (λ q none. absent_left p q (stayed ++ r ∷ []) nodes none) distinct (distinct_left p (stayed ++ r ∷ []) nodes rest))
+      | inr f ↦ rw f (distinct_left p stayed nodes rest)
+    ]
+
+cses_left : (p : ResourceData → Bool) (home : HomeData) (nodes : List ResourceData) → are_distinct (cse_ids home nodes) ≡ true → are_distinct (cse_ids home (without p nodes)) ≡ true
+cses_left p home nodes distinct =
+    let parts = and_parts (not (list_any (bytes_eq (own_cse_id home)) (filter_map cse_id nodes))) _ distinct in
+    and_from _ _ (not_from_false _ (absent_left p (bytes_eq (own_cse_id home)) [] nodes (not-true _ parts.0))) (distinct_left p [] nodes parts.1)
+
+-- the first resource has no parent
+first_stays : (p : ResourceData → Bool) (r : ResourceData) (nodes : List ResourceData) → is_well_formed (r ∷ nodes) ≡ true → not (p r) ≡ true → stays p [] r ≡ true
+first_stays p r nodes well spared =
+    let fit = and_parts (fits_in [] r) _ well in
+    let next = next_fits [] r (and_parts _ _ fit.0).0 in
+    elim (or_cases (has r.parent []) _ next.parent) [
+      | inl there ↦ absurd (both_ways _ refl there)
+      | inr root ↦ and_from _ _ spared (or_left _ _ (eq-eqb r.parent 0 (root_parent [] r root).0))
+    ]
+
+base_left : (p : ResourceData → Bool) (home : HomeData) (nodes : List ResourceData) → is_well_formed nodes ≡ true → spares_first p nodes ≡ true → begins_with_base home nodes ≡ true → begins_with_base home (without p nodes) ≡ true
+base_left p home [] well spared base = base
+base_left p home (r ∷ nodes) well spared base = rw (first_stays p r nodes well spared) base
+
+-- what is due later than a number is due later than a smaller one
+lesser_le : (n : ℕ) (o : Option ℕ) → lesser n o ≤ n
+lesser_le n None = omega arith
+lesser_le n (Some m) = omega arith
+
+abbrev is_due_by : ℕ → Option ℕ → Bool
+is_due_by moment due = option_map_or (λ end. nat_le end moment) due false
+
+-- where its parent is gone, a resource isn't due earlier
+due_alone : (moment : ℕ) (o : Option ResourceData) (r : ResourceData) → is_due_by moment (due_under None r) ≡ true → is_due_by moment (due_under o r) ≡ true
+due_alone moment o r due = elim (cases_Bool (is_ty r.ty CseBase)) [
+  | inl t ↦ rw t (rw t at due)
+  | inr f ↦ elim (cases_Bool (is_ty r.ty ContentInstance)) [
+    | inl u ↦ rw (f, u) (small_too _ _ moment (lesser_le r.et (age_end o r)) (rw (f, u) at due))
+    | inr v ↦ rw (f, v) (rw (f, v) at due)
+  ]
+]
+
+due_left_under : (spared : Bool) (moment : ℕ) (o : Option ResourceData) (r : ResourceData) → is_due_by moment (due_under (cond spared o None) r) ≡ true → is_due_by moment (due_under o r) ≡ true
+due_left_under true moment o r due = due
+due_left_under false moment o r due = due_alone moment o r due
+
+pub due_left : (p : ResourceData → Bool) (nodes : List ResourceData) (moment : ℕ) (r : ResourceData) → is_tree nodes ≡ true → is_due (without p nodes) moment r ≡ true → is_due nodes moment r ≡ true
+due_left p nodes moment r tree due =
+    due_left_under (is_spared p nodes r.parent) moment (at r.parent nodes) r
+    (sym (ap (λ (o : Option ResourceData). is_due_by moment (due_under o r)) (at-without p r.parent nodes tree)) ∙ due)
+
+-- where nothing was due, nothing is
+pub none_due_left : (p : ResourceData → Bool) (nodes : List ResourceData) (moment : ℕ) → is_tree nodes ≡ true → list_any (is_due nodes moment) nodes ≡ false → list_any (is_due (without p nodes) moment) (without p nodes) ≡ false
+none_due_left p nodes moment tree none =
+    none_weaker (is_due nodes moment) (is_due (without p nodes) moment) (λ r due. due_left p nodes moment r tree due) (without p nodes)
+    (false_from_ne_true _ (λ t. both_ways _ none (staying_any p (is_due nodes moment) [] nodes t)))
+
+-- ---- soundness after a removal
+
+pub sound_left : (p : ResourceData → Bool) (e : EntityData) (last : ℕ) → IsSound e → spares_first p e.nodes ≡ true → last ≤ last_reading → list_any (is_due (without p e.nodes) last) (without p e.nodes) ≡ false → IsSound (record { home = e.home; nodes = without p e.nodes; next = e.next; last = last })
+sound_left p e last sound spared small none =
+    let tree = tree_from_well_formed e.nodes sound.tree in
+    let fewer : length (without p e.nodes) ≤ length e.nodes = staying_length p [] e.nodes in
+    let few : length e.nodes ≤ 100000 = sound.count in
+    record {
+      numbers = staying_all p _ [] e.nodes sound.numbers;
+      next = sound.next;
+      ids = staying_all p (has_known_ids e.next) [] e.nodes sound.ids;
+      tree = is_well_formed-without p e.nodes sound.tree;
+      base = base_left p e.home e.nodes sound.tree spared sound.base;
+      depth = all_left p is_shallow e.nodes (shallow_left p e.nodes tree) sound.depth;
+      count = omega arith;
+      kinds = staying_all p are_kinds [] e.nodes sound.kinds;
+      cses = cses_left p e.home e.nodes sound.cses;
+      channels = all_left p has_one_channel e.nodes (channel_left p e.nodes) sound.channels;
+      sizes = staying_all p has_size [] e.nodes sound.sizes;
+      limits = all_left p is_within_limits e.nodes (limits_left p e.nodes) sound.limits;
+      last = small;
+      due = none;
+    }
+
+-- the CSEBase is never due
+base_spared : (home : HomeData) (nodes : List ResourceData) (among : List ResourceData) (moment : ℕ) → begins_with_base home nodes ≡ true → spares_first (is_due among moment) nodes ≡ true
+base_spared home [] among moment base = refl
+base_spared home (r ∷ nodes) among moment base = rw (and_parts (is_ty r.ty CseBase) _ base).0 refl
+
+-- after the expiry nothing is due
+none_live : (nodes : List ResourceData) (moment : ℕ) → is_tree nodes ≡ true → list_any (is_due (without (is_due nodes moment) nodes) moment) (without (is_due nodes moment) nodes) ≡ false
+none_live nodes moment tree =
+    none_weaker (is_due nodes moment) (is_due (without (is_due nodes moment) nodes) moment) (λ r due. due_left (is_due nodes moment) nodes moment r tree due)
+    (without (is_due nodes moment) nodes) (staying_unpicked (is_due nodes moment) [] nodes)
+
+moment_small : (last reading : ℕ) → last ≤ 253402300798 → event_moment last reading ≤ 253402300798
+moment_small last reading small = omega arith
+
+pub sound_swept : (reading : ℕ) (e : EntityData) → IsSound e → IsSound (swept reading e)
+sound_swept reading e sound =
+    sound_left (is_due e.nodes (event_moment e.last reading)) e (event_moment e.last reading) sound
+    (base_spared e.home e.nodes e.nodes (event_moment e.last reading) sound.base)
+    (moment_small e.last reading sound.last)
+    (none_live e.nodes (event_moment e.last reading) (tree_from_well_formed e.nodes sound.tree))
+
+pub sound_removed : (p : ResourceData → Bool) (e : EntityData) → IsSound e → spares_first p e.nodes ≡ true → IsSound (record { home = e.home; nodes = without p e.nodes; next = e.next; last = e.last })
+sound_removed p e sound spared = sound_left p e e.last sound spared sound.last (none_due_left p e.nodes e.last (tree_from_well_formed e.nodes sound.tree) sound.due)
+
+-- where no time passes, nothing is due
+pub swept_still : (reading : ℕ) (e : EntityData) → IsSound e → cut reading ≤ e.last → swept reading e ≡ e
+swept_still reading e sound early =
+    let entity : List ResourceData → ℕ → EntityData = λ nodes last. record { home = e.home; nodes = nodes; next = e.next; last = last } in
+    let same : event_moment e.last reading ≡ e.last = omega arith in
+    let all : live e.last e.nodes ≡ e.nodes = without_none (is_due e.nodes e.last) e.nodes (tree_from_well_formed e.nodes sound.tree) sound.due in
+    ap (λ (m : ℕ). entity (live m e.nodes) m) same ∙ ap (λ (nodes : List ResourceData). entity nodes e.last) all
+
+-- ---- the opening
+
+cut_small : (reading : ℕ) → nat_le 253402300799 (cut reading) ≡ false
+cut_small reading = false_from_ne_true _ (λ t. let le : 253402300799 ≤ cut reading = leb-true 253402300799 (cut reading) t in omega arith)
+
+-- the place of the first that doesn't hold
+abbrev first_false : Bool → Bool → Bool → Bool → Bool → Option ℕ
+first_false a b c d e = if not a then Some 0 else if not b then Some 1 else if not c then Some 2 else if not d then Some 3 else if not e then Some 4 else None
+
+last_holds : (a b c d e : Bool) → first_false a b c d e ≡ None → e ≡ true
+last_holds false b c d e none = cc
+last_holds true false c d e none = cc
+last_holds true true false d e none = cc
+last_holds true true true false e none = cc
+last_holds true true true true false none = cc
+last_holds true true true true true none = refl
+
+admin_admitted : (home : HomeData) → IsHome home → is_originator home.admin ≡ true
+admin_admitted home is = last_holds (is_free_name home.sp) (is_free_name home.csi) (is_base_name home.base) (is_cse_type home.cst) (is_originator home.admin) is.admitted
+
+policy_kinds : (home : HomeData) (moment : ℕ) → is_originator home.admin ≡ true → are_kinds (opening_policy home moment) ≡ true
+policy_kinds home moment admitted = rw admitted refl
+
+opening_kinds : (home : HomeData) (moment : ℕ) → is_originator home.admin ≡ true → list_all are_kinds (opening_base home moment ∷ opening_policy home moment ∷ []) ≡ true
+opening_kinds home moment admitted = and_from (are_kinds (opening_base home moment)) _ refl (and_from (are_kinds (opening_policy home moment)) _ (policy_kinds home moment admitted) refl)
+
+pub sound_opening : (home : HomeData) (reading : ℕ) → IsHome home → IsSound (opening home reading)
+sound_opening home reading is = record {
+  numbers = refl;
+  next = omega arith;
+  ids = refl;
+  tree = refl;
+  base = (bytes_eq-Decides home.base home.base).1 refl;
+  depth = refl;
+  count = omega arith;
+  kinds = opening_kinds home (cut reading) (admin_admitted home is);
+  cses = refl;
+  channels = refl;
+  sizes = refl;
+  limits = refl;
+  last = omega arith;
+  due = rw (cut_small reading) refl;
+}
+
+-- the same, of what stands for its parts
+pub sound_opened : (home : HomeData) (reading moment : ℕ) (nodes : List ResourceData) → IsHome home → moment ≡ cut reading → nodes ≡ opening_nodes home moment → IsSound (record { home = home; nodes = nodes; next = 3; last = moment })
+sound_opened home reading moment nodes is when stand =
+    let entity : List ResourceData → ℕ → EntityData = λ ns m. record { home = home; nodes = ns; next = 3; last = m } in
+    let same : entity nodes moment ≡ opening home reading = ap (λ (ns : List ResourceData). entity ns moment) stand ∙ ap (λ (m : ℕ). entity (opening_nodes home m) m) when in
+    subst IsSound (sym same) (sound_opening home reading is)
+
+-- ---- one CSEBase
+
+no_base : (p : Ty) → does_take p CseBase ≡ false
+no_base AccessControlPolicy = refl
+no_base Ae = refl
+no_base Container = refl
+no_base ContentInstance = refl
+no_base CseBase = refl
+no_base Group = refl
+no_base PollingChannel = refl
+no_base RemoteCse = refl
+no_base Subscription = refl
+no_base AccessControlPolicyAnnc = refl
+no_base AeAnnc = refl
+no_base ContainerAnnc = refl
+no_base ContentInstanceAnnc = refl
+no_base GroupAnnc = refl
+
+taken_no_base : (p t : Ty) → does_take p t ≡ true → is_ty t CseBase ≡ false
+taken_no_base p CseBase taken = absurd (both_ways _ (no_base p) taken)
+taken_no_base p _ taken = refl
+
+abbrev is_base : ResourceData → Bool
+is_base r = is_ty r.ty CseBase
+
+under_no_base : (nodes : List ResourceData) (r : ResourceData) → has r.parent nodes ≡ true → is_taken nodes r ≡ true → is_base r ≡ false
+under_no_base nodes r there taken =
+    let parent = has_at r.parent nodes there in
+    let takes : does_take (parent.0).ty r.ty ≡ true = sym (ap (λ (o : Option ResourceData). option_map_or (λ p. does_take p.ty r.ty) o true) parent.1) ∙ taken in
+    taken_no_base (parent.0).ty r.ty takes
+
+base_last : (before : List ResourceData) (r : ResourceData) → fits_in before r ≡ true → filter is_base before ≡ take 1 before → filter is_base (before ++ r ∷ []) ≡ take 1 (before ++ r ∷ [])
+base_last [] r fit holds =
+    let next = next_fits [] r (and_parts _ _ fit).0 in
+    elim (or_cases (has r.parent []) (is_root [] r) next.parent) [
+      | inl there ↦ absurd (both_ways _ refl there)
+      | inr root ↦
+          let two = and_parts (is_base r && (r.parent == 0)) _ root in
+          let base : is_base r ≡ true = (and_parts (is_base r) _ two.0).0 in
+          rw base refl
+    ]
+base_last (s ∷ before) r fit holds =
+    let parts = and_parts _ _ fit in
+    let next = next_fits (s ∷ before) r parts.0 in
+    elim (or_cases (has r.parent (s ∷ before)) (is_root (s ∷ before) r) next.parent) [
+      | inl there ↦
+          let other : is_base r ≡ false = under_no_base (s ∷ before) r there parts.1 in
+          let none : filter is_base (r ∷ []) ≡ [] = rw other refl in
+          filter-append is_base (s ∷ before) (r ∷ [])
+          ∙ ap (λ (rest : List ResourceData). filter is_base (s ∷ before) ++ rest) none
+          ∙ append-nil (filter is_base (s ∷ before)) ∙ holds
+      | inr root ↦ absurd (both_ways _ refl root)
+    ]
+
+pub one_base : (e : EntityData) → IsSound e → filter is_base e.nodes ≡ take 1 e.nodes
+one_base e sound = growth fits_in (λ nodes. filter is_base nodes ≡ take 1 nodes) refl (λ before r grew next holds. base_last before r next holds) e.nodes sound.tree

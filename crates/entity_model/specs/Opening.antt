@@ -1,0 +1,74 @@
+-- The entity that nothing has happened to yet.
+use Rattle.std.specs.Prelude.{ℕ, List, [], ◌∷◌, codes}
+use Rattle.m2m_names.specs.Stamps.{last_moment}
+use Rattle.m2m_names.specs.declared.attributes.Attr.TheVariants.{Acpi, Pv, Pvs}
+use Rattle.m2m_names.specs.declared.types.Ty.TheVariants.{AccessControlPolicy, CseBase}
+use Rattle.m2m_value.specs.Data.{Data, text, list, elements_of}
+use Rattle.resource_model.specs.Attributes.{Row}
+use Rattle.resource_model.specs.Home.{HomeData}
+use Rattle.resource_model.specs.Resource.{ResourceData}
+use Rattle.policy_eval.specs.Rules.{all_bits, written_rule, written_rules}
+use Rattle.policy_eval.specs.Rights.{create_bit}
+use Rattle.entity_model.specs.Entity.{EntityData, cut}
+
+-- the administrator may do all
+abbrev pub admin_rule : HomeData → Data
+admin_rule home = written_rule home.admin all_bits
+
+-- everyone may create
+abbrev pub entry_rule : Data
+entry_rule = written_rule (codes "all") create_bit
+
+-- what the administrator's policy gives, and who may change it
+abbrev pub opening_pv : HomeData → Data
+opening_pv home = written_rules (admin_rule home ∷ entry_rule ∷ [])
+
+abbrev pub opening_pvs : HomeData → Data
+opening_pvs home = written_rules (admin_rule home ∷ [])
+
+abbrev pub policy_rows : HomeData → List Row
+policy_rows home = (Pv, opening_pv home) ∷ (Pvs, opening_pvs home) ∷ []
+
+-- the CSEBase is judged by that policy
+abbrev pub base_rows : List Row
+base_rows = (Acpi, list (elements_of (text (codes "acp2") ∷ []))) ∷ []
+
+-- the CSEBase (TS-0001, 9.6.3)
+abbrev pub opening_base : HomeData → ℕ → ResourceData
+opening_base home moment = record {
+  number = 1;
+  ty = CseBase;
+  name = home.base;
+  parent = 0;
+  owner = home.admin;
+  ct = moment;
+  lt = moment;
+  et = last_moment;
+  attrs = base_rows;
+}
+
+-- the administrator's policy (TS-0001, 9.6.2)
+abbrev pub opening_policy : HomeData → ℕ → ResourceData
+opening_policy home moment = record {
+  number = 2;
+  ty = AccessControlPolicy;
+  name = codes "acpAdmin";
+  parent = 1;
+  owner = home.admin;
+  ct = moment;
+  lt = moment;
+  et = last_moment;
+  attrs = policy_rows home;
+}
+
+abbrev pub opening_nodes : HomeData → ℕ → List ResourceData
+opening_nodes home moment = opening_base home moment ∷ opening_policy home moment ∷ []
+
+-- the entity as it opens
+abbrev pub opening : HomeData → ℕ → EntityData
+opening home reading = record {
+  home = home;
+  nodes = opening_nodes home (cut reading);
+  next = 3;
+  last = cut reading;
+}

@@ -1,0 +1,47 @@
+-- What comes of a request, and the order in which it is refused.
+use Rattle.std.specs.Prelude.{Bool, List, [], ◌∷◌, Option, Some, None, if◌then◌else◌}
+use Rattle.std.specs.Option.{option_map_or}
+use Rattle.m2m_names.specs.declared.codes.Rsc.{Rsc}
+use Rattle.m2m_value.specs.Data.{Data}
+use Rattle.primitive_json.specs.declared.reply.ReplyParts.{ReplyParts}
+use Rattle.primitive_json.specs.declared.request.RequestParts.{RequestParts}
+use Rattle.entity_model.specs.Entity.{EntityData}
+
+-- a reply to a request, which has its identifier (TS-0001, 8.1.3)
+abbrev pub reply_to : RequestParts → Rsc → Option Data → ReplyParts
+reply_to request rsc content = record { rsc = rsc; rqi = Some request.rqi; pc = content }
+
+-- a refusal has no content
+abbrev pub refusal : RequestParts → Rsc → ReplyParts
+refusal request rsc = reply_to request rsc None
+
+-- what comes of a request: the reply, and the entity after it
+pub record Effect : Type 0 where
+  pub reply : ReplyParts
+  pub after : EntityData
+
+-- a reply that leaves the entity as it is
+abbrev pub answering : EntityData → ReplyParts → Effect
+answering e reply = record { reply = reply; after = e }
+
+-- a refusal leaves the entity as it is
+abbrev pub refused : EntityData → RequestParts → Rsc → Effect
+refused e request rsc = answering e (refusal request rsc)
+
+-- a place in the order of refusals: what has to hold there, and the status where it doesn't
+pub record Place : Type 0 where
+  pub holds : Bool
+  pub fault : Rsc
+
+abbrev pub unless : Bool → Rsc → Place
+unless holds fault = record { holds = holds; fault = fault }
+
+-- the status of the first place that doesn't hold
+abbrev pub first_fault : List Place → Option Rsc
+first_fault [] = None
+first_fault (place ∷ places) = if place.holds then first_fault places else Some place.fault
+
+-- the request is refused by the first of these places that doesn't hold, and else this comes of it
+abbrev pub unless_refused : List Place → EntityData → RequestParts → Effect → Effect
+unless_refused places e request effect =
+    option_map_or (refused e request) (first_fault places) effect

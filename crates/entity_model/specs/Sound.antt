@@ -1,0 +1,114 @@
+-- Which entities are sound: what holds of an entity at every moment.
+use Rattle.std.specs.Prelude.{◌≡◌, ℕ, ◌-◌, ◌^◌, ◌≤◌, nat_le, nat_lt, Bool, true, false, not, ◌&&◌}
+use Rattle.std.specs.Prelude.{◌||◌, List, [], ◌∷◌, ◌++◌, length, codes}
+use Rattle.std.specs.Prelude.{option_and_then, IsTrue}
+use Rattle.std.specs.List.{filter_map, list_all, list_any}
+use Rattle.std.specs.Option.{option_map_or}
+use Rattle.std.specs.Str.{bytes_eq}
+use Rattle.m2m_names.specs.declared.attributes.Attr.TheVariants.{Acpi, Macp, Mbs, Mni}
+use Rattle.m2m_names.specs.declared.types.Ty.TheVariants.{Container, ContentInstance, CseBase}
+use Rattle.m2m_value.specs.Data.{Data}
+use Rattle.m2m_value.specs.View.{as_text}
+use Rattle.resource_model.specs.Attributes.{count_at}
+use Rattle.resource_model.specs.Home.{HomeData}
+use Rattle.resource_model.specs.Resource.{ResourceData, is_ty, cse_id}
+use Rattle.tree_model.specs.Tree.{channels_of, instances_of, size_of, sizes_of, depth}
+use Rattle.tree_model.specs.Tree.{are_below, is_well_formed}
+use Rattle.attribute_rules.specs.Kinds.{are_kinds}
+use Rattle.container_limits.specs.Limits.{is_within}
+use Rattle.policy_eval.specs.Rules.{policy_number, ids_at}
+use Rattle.entity_model.specs.Entity.{EntityData, last_reading}
+use Rattle.entity_model.specs.Expiry.{is_some_due}
+
+-- ---- numbers
+
+-- where an id spells a policy's number, that number is below this one
+abbrev pub is_known_id : ℕ → Data → Bool
+is_known_id next id =
+    option_map_or (λ n. nat_lt n next) (option_and_then policy_number (as_text id)) true
+
+-- the number of every policy that a resource names, to be judged by or to fan out by, was given out
+abbrev pub has_known_ids : ℕ → ResourceData → Bool
+has_known_ids next r = list_all (is_known_id next) (ids_at Acpi r ++ ids_at Macp r)
+
+-- ---- sizes and counts
+
+-- the greatest size of a content instance, in bytes
+abbrev pub largest_size : ℕ
+largest_size = 1048576
+
+-- it is no larger, where it is a content instance
+abbrev pub has_size : ResourceData → Bool
+has_size r = not (is_ty r.ty ContentInstance) || nat_le (size_of r) largest_size
+
+-- how deep a resource stands at most, and how many resources there are at most
+abbrev pub greatest_depth : ℕ
+greatest_depth = 32
+
+abbrev pub greatest_count : ℕ
+greatest_count = 100000
+
+abbrev pub is_shallow : List ResourceData → ResourceData → Bool
+is_shallow nodes r = nat_le (depth r.number nodes) greatest_depth
+
+-- The instances of a container are within its `mni` and its `mbs` (TS-0001, 9.6.6). So the longest
+-- run of the newest of them that is within both is all of them.
+abbrev pub is_within_limits : List ResourceData → ResourceData → Bool
+is_within_limits nodes r =
+    not (is_ty r.ty Container)
+    || (is_within (length (instances_of r.number nodes)) (count_at Mni r.attrs)
+    && is_within (sizes_of r.number nodes) (count_at Mbs r.attrs))
+
+-- ---- who stands once
+
+-- the list begins with the CSEBase, named by the home's base name
+abbrev pub begins_with_base : HomeData → List ResourceData → Bool
+begins_with_base home [] = false
+begins_with_base home (r ∷ nodes) = is_ty r.ty CseBase && bytes_eq r.name home.base
+
+-- the own CSE-ID
+abbrev pub own_cse_id : HomeData → List ℕ
+own_cse_id home = codes "/" ++ home.csi
+
+-- the own CSE-ID and those of all remote CSEs
+abbrev pub cse_ids : HomeData → List ResourceData → List (List ℕ)
+cse_ids home nodes = own_cse_id home ∷ filter_map cse_id nodes
+
+-- no text stands twice
+abbrev pub are_distinct : List (List ℕ) → Bool
+are_distinct [] = true
+are_distinct (s ∷ texts) = not (list_any (bytes_eq s) texts) && are_distinct texts
+
+-- it has at most one polling channel (TS-0001, 9.6.21); only an AE and a remote CSE take one
+abbrev pub has_one_channel : List ResourceData → ResourceData → Bool
+has_one_channel nodes r = nat_le (length (channels_of r.number nodes)) 1
+
+-- ---- soundness
+
+-- the first resource, the CSEBase, isn't picked
+abbrev pub spares_first : (ResourceData → Bool) → List ResourceData → Bool
+spares_first picks [] = true
+spares_first picks (r ∷ nodes) = not (picks r)
+
+-- what holds of an entity at every moment
+pub record IsSound (e : EntityData) : Type 0 where
+  -- numbers are given out in order, and none twice
+  pub numbers : IsTrue (are_below e.next e.nodes)
+  pub next : e.next ≤ 2 ^ 63 - 1
+  pub ids : IsTrue (list_all (has_known_ids e.next) e.nodes)
+  -- the resources are a tree, each under a type that takes it
+  pub tree : IsTrue (is_well_formed e.nodes)
+  pub base : IsTrue (begins_with_base e.home e.nodes)
+  pub depth : IsTrue (list_all (is_shallow e.nodes) e.nodes)
+  pub count : length e.nodes ≤ greatest_count
+  -- each resource keeps attributes of its type, with values of their kinds
+  pub kinds : IsTrue (list_all are_kinds e.nodes)
+  -- CSE-IDs differ from each other and from the own one, and no resource has two polling channels
+  pub cses : IsTrue (are_distinct (cse_ids e.home e.nodes))
+  pub channels : IsTrue (list_all (has_one_channel e.nodes) e.nodes)
+  -- instances are small, and no more than their container allows
+  pub sizes : IsTrue (list_all has_size e.nodes)
+  pub limits : IsTrue (list_all (is_within_limits e.nodes) e.nodes)
+  -- nothing is due at the last moment
+  pub last : e.last ≤ last_reading
+  pub due : is_some_due e.nodes e.last ≡ false

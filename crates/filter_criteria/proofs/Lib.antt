@@ -1,0 +1,4 @@
+pub mod Lists
+pub mod Present
+pub mod PartLemmas
+pub mod FilterLemmas

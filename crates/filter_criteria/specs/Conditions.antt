@@ -1,0 +1,160 @@
+-- The conditions of a filter, as a table, and the filter that members make (TS-0004, 8.2.5).
+use Rattle.std.specs.Prelude.{ℕ, ◌==◌, Bool, false, ℤ, pos, List, [], ◌∷◌, Option, Some, None, find}
+use Rattle.std.specs.Prelude.{is_some, if◌then◌else◌, codes, option_and_then}
+use Rattle.std.specs.List.{list_all, filter_map}
+use Rattle.std.specs.Option.{option_map_or}
+use Rattle.std.specs.Str.{bytes_eq}
+use Rattle.m2m_names.specs.Name.{is_filled}
+use Rattle.m2m_names.specs.StampReading.{moment_at}
+use Rattle.m2m_value.specs.Data.{Data, null, boolean, number, text, list, object, Entry}
+use Rattle.m2m_value.specs.Shapes.{as_count, is_label}
+use Rattle.m2m_value.specs.View.{as_number, as_text, as_object, elements, member_of}
+use Rattle.filter_criteria.specs.Values.{where_it, read_type_number}
+use Rattle.filter_criteria.specs.declared.condition.Condition.{Condition}
+use Rattle.filter_criteria.specs.declared.condition.Condition.TheVariants.{CreatedAfter}
+use Rattle.filter_criteria.specs.declared.condition.Condition.TheVariants.{CreatedBefore}
+use Rattle.filter_criteria.specs.declared.condition.Condition.TheVariants.{ExpireAfter, ExpireBefore}
+use Rattle.filter_criteria.specs.declared.condition.Condition.TheVariants.{Usage, OneLabel, Limit}
+use Rattle.filter_criteria.specs.declared.condition.Condition.TheVariants.{ModifiedSince}
+use Rattle.filter_criteria.specs.declared.condition.Condition.TheVariants.{StateTagBigger}
+use Rattle.filter_criteria.specs.declared.condition.Condition.TheVariants.{StateTagSmaller}
+use Rattle.filter_criteria.specs.declared.condition.Condition.TheVariants.{SizeAbove, SizeBelow}
+use Rattle.filter_criteria.specs.declared.condition.Condition.TheVariants.{OneType, UnmodifiedSince}
+use Rattle.filter_criteria.specs.declared.condition.Sort.{Sort}
+use Rattle.filter_criteria.specs.declared.condition.Sort.TheVariants.{Moment, Count, Labels, Types}
+use Rattle.filter_criteria.specs.declared.condition.Sort.TheVariants.{Use}
+use Rattle.filter_criteria.specs.declared.filter.FilterParts.{FilterParts}
+use Rattle.filter_criteria.specs.declared.filter.FilterUsage.{FilterUsage}
+use Rattle.filter_criteria.specs.declared.filter.FilterUsage.TheVariants.{Discovery, Conditional}
+
+-- ---- what the value of a condition is read as
+
+-- the moment of a timestamp
+abbrev pub read_moment : Data → Option ℕ
+read_moment d = option_and_then moment_at (as_text d)
+
+-- a label: a text of 1 to 256 bytes
+abbrev pub label_of : Data → Option (List ℕ)
+label_of d = where_it (is_filled 256) (as_text d)
+
+-- how a filter is used, by its number (TS-0004, 6.3.4.2.31)
+abbrev pub usage_numbered : ℤ → Option FilterUsage
+usage_numbered (pos n) =
+    if n == 1 then Some Discovery else (if n == 2 then Some Conditional else None)
+usage_numbered z = None
+
+abbrev pub read_usage : Data → Option FilterUsage
+read_usage d = option_and_then usage_numbered (as_number d)
+
+-- the values of which one is to hold: the elements of a list, and any other value alone
+abbrev pub alternatives : Data → List Data
+alternatives null = null ∷ []
+alternatives (boolean b) = boolean b ∷ []
+alternatives (number z) = number z ∷ []
+alternatives (text s) = text s ∷ []
+alternatives (list es) = elements es
+alternatives (object ps) = object ps ∷ []
+
+-- what the alternatives are read as
+abbrev pub all_of : {A : Type 0} → (Data → Option A) → Data → List A
+all_of read d = filter_map read (alternatives d)
+
+-- ---- the table
+
+-- what stands for a condition: its short name, and the sort of its value
+pub record ConditionRow : Type 0 where
+  pub name : List ℕ
+  pub sort : Sort
+
+abbrev pub condition_row : List ℕ → Sort → ConditionRow
+condition_row name sort = record { name = name; sort = sort }
+
+abbrev pub row_of : Condition → ConditionRow
+row_of CreatedAfter = condition_row (codes "cra") Moment
+row_of CreatedBefore = condition_row (codes "crb") Moment
+row_of ExpireAfter = condition_row (codes "exa") Moment
+row_of ExpireBefore = condition_row (codes "exb") Moment
+row_of Usage = condition_row (codes "fu") Use
+row_of OneLabel = condition_row (codes "lbl") Labels
+row_of Limit = condition_row (codes "lim") Count
+row_of ModifiedSince = condition_row (codes "ms") Moment
+row_of StateTagBigger = condition_row (codes "stb") Count
+row_of StateTagSmaller = condition_row (codes "sts") Count
+row_of SizeAbove = condition_row (codes "sza") Count
+row_of SizeBelow = condition_row (codes "szb") Count
+row_of OneType = condition_row (codes "ty") Types
+row_of UnmodifiedSince = condition_row (codes "us") Moment
+
+-- all conditions, in byte order of their short names
+abbrev pub all_conditions : List Condition
+all_conditions =
+    CreatedAfter ∷ CreatedBefore ∷ ExpireAfter ∷ ExpireBefore ∷ Usage ∷ OneLabel ∷ Limit ∷
+    ModifiedSince ∷ StateTagBigger ∷ StateTagSmaller ∷ SizeAbove ∷ SizeBelow ∷ OneType ∷
+    UnmodifiedSince ∷ []
+
+abbrev pub name_of : Condition → List ℕ
+name_of condition = (row_of condition).name
+
+-- the condition of a short name
+abbrev pub condition_named : List ℕ → Option Condition
+condition_named name = find (λ condition. bytes_eq (name_of condition) name) all_conditions
+
+-- the value is of the sort
+abbrev pub is_of : Sort → Data → Bool
+is_of Moment d = is_some (read_moment d)
+is_of Count d = is_some (as_count d)
+is_of Labels d = list_all is_label (alternatives d)
+is_of Types d = list_all (λ d. is_some (read_type_number d)) (alternatives d)
+is_of Use d = is_some (read_usage d)
+
+-- the member is a condition, and its value of the sort of it
+abbrev pub is_condition : Entry → Bool
+is_condition e =
+    option_map_or (λ condition. is_of (row_of condition).sort e.1) (condition_named e.0) false
+
+-- an object of conditions
+abbrev pub is_filter : Data → Bool
+is_filter d = option_map_or (λ es. list_all is_condition es) (as_object d) false
+
+-- ---- the filter that the members make
+
+abbrev pub moment_for : Condition → List Entry → Option ℕ
+moment_for condition es = option_and_then read_moment (member_of (name_of condition) es)
+
+abbrev pub count_for : Condition → List Entry → Option ℕ
+count_for condition es = option_and_then as_count (member_of (name_of condition) es)
+
+abbrev pub usage_in : List Entry → Option FilterUsage
+usage_in es = option_and_then read_usage (member_of (name_of Usage) es)
+
+-- the labels of the value at `lbl`, if there is one
+abbrev pub labels_of : Option Data → List (List ℕ)
+labels_of d = option_map_or (all_of label_of) d []
+
+abbrev pub labels_in : List Entry → List (List ℕ)
+labels_in es = labels_of (member_of (name_of OneLabel) es)
+
+abbrev pub types_in : List Entry → List ℕ
+types_in es = option_map_or (all_of read_type_number) (member_of (name_of OneType) es) []
+
+abbrev pub filter_in : List Entry → FilterParts
+filter_in es = record {
+  crb = moment_for CreatedBefore es;
+  cra = moment_for CreatedAfter es;
+  ms = moment_for ModifiedSince es;
+  us = moment_for UnmodifiedSince es;
+  sts = count_for StateTagSmaller es;
+  stb = count_for StateTagBigger es;
+  exb = moment_for ExpireBefore es;
+  exa = moment_for ExpireAfter es;
+  lbl = labels_in es;
+  ty = types_in es;
+  sza = count_for SizeAbove es;
+  szb = count_for SizeBelow es;
+  fu = usage_in es;
+  lim = count_for Limit es;
+}
+
+-- the filter with these labels in place of its own
+abbrev pub with_labels : List (List ℕ) → FilterParts → FilterParts
+with_labels labels f = record f { lbl = labels }

@@ -1,0 +1,35 @@
+-- What is read as a filter is of its kinds, and is read back from the value that is written of it.
+use Rattle.std.specs.Prelude.{◌≡◌, nat_le, IsTrue, IfSome, List}
+use Rattle.std.specs.List.{list_all}
+use Rattle.m2m_names.specs.Name.{is_filled}
+use Rattle.m2m_value.specs.Data.{Entry}
+use Rattle.filter_criteria.specs.Bounds.{IsMoment}
+use Rattle.filter_criteria.specs.Conditions.{is_filter, filter_in}
+use Rattle.filter_criteria.specs.Values.{members_in}
+use Rattle.filter_criteria.specs.Writing.{written_filter}
+use Rattle.filter_criteria.specs.declared.filter.FilterParts.{FilterParts}
+
+-- each condition of the filter is of its kind
+pub record IsFilterOfKinds (f : FilterParts) : Type 0 where
+  pub crb : IfSome f.crb IsMoment
+  pub cra : IfSome f.cra IsMoment
+  pub ms : IfSome f.ms IsMoment
+  pub us : IfSome f.us IsMoment
+  pub exb : IfSome f.exb IsMoment
+  pub exa : IfSome f.exa IsMoment
+  pub lbl : IsTrue (list_all (is_filled 256) f.lbl)
+  pub ty : IsTrue (list_all (λ n. nat_le n 65_535) f.ty)
+
+-- the filter that members make is of its kinds
+abbrev pub FiltersAreOfKinds : Type 0
+FiltersAreOfKinds = (es : List Entry) → IsFilterOfKinds (filter_in es)
+
+-- what is written of a filter of its kinds is an object of conditions
+abbrev pub WrittenFiltersAreFilters : Type 0
+WrittenFiltersAreFilters =
+    (f : FilterParts) → IsFilterOfKinds f → IsTrue (is_filter (written_filter f))
+
+-- and is read as that filter
+abbrev pub FiltersAreReadBack : Type 0
+FiltersAreReadBack =
+    (f : FilterParts) → IsFilterOfKinds f → filter_in (members_in (written_filter f)) ≡ f

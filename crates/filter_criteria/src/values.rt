@@ -1,0 +1,98 @@
+//! Members of objects by their names, objects of the members that are there, and the kinds of
+//! values that filters share with the primitives around them.
+ghost use Rattle.std.specs.Prelude.{◌≡◌, ◌++◌, ◌∷◌, [], IfOk, IfSome, OnOk, IsUtf8};
+ghost use Rattle.std.specs.Prelude.{option_and_then};
+ghost use Rattle.std.specs.Option.{option_copied};
+ghost use Rattle.m2m_value.specs.Data as plain;
+ghost use Rattle.m2m_value.specs.Data.{pairs_of};
+ghost use Rattle.m2m_value.specs.Node.{AreSorted, HaveTextKeys};
+ghost use Rattle.m2m_value.specs.View.{as_text, member_of};
+ghost use Rattle.filter_criteria.specs.Bounds.{IsMoment};
+ghost use Rattle.filter_criteria.specs.Values as spec;
+
+use m2m_names::write_stamp;
+use m2m_value::{Members, Node, Text, Val};
+use std::alloc::{AllocError as OutOfMemory, Global};
+
+/// The members of an object; any other value has none.
+pub fn members_in(value: &Val) -> &[(Text, Val)]
+    ensures { result.now ≡ spec.members_in value.now }
+{
+    match value.as_obj() {
+        Some(members) => members.entries(),
+        None => &[],
+    }
+}
+
+/// The value of a member of an object.
+pub fn value_at<'a>(value: &'a Val, name: &str) -> Option<&'a Val>
+    ensures { option_copied result ≡ member_of name.now (spec.members_in value.now) }
+{
+    value.as_obj()?.get(name.as_bytes())
+}
+
+/// The number of a resource type that a value is.
+pub fn read_type_number(value: &Val) -> Option<u32>
+    ensures { result ≡ spec.read_type_number value.now }
+{
+    let number = value.as_count()?;
+    if number <= 65_535 {
+        Some(number as u32)
+    } else {
+        None
+    }
+}
+
+/// The text that a value is.
+pub fn owned_text(value: Option<Val>) -> Option<Text>
+    ensures value { result ≡ option_and_then as_text value }
+    ensures utf8 { IfSome result IsUtf8 }
+{
+    match value?.into_node() {
+        Node::Text(text) => Some(text),
+        _ => None,
+    }
+}
+
+/// A copy of the text as a value.
+pub fn text_value(alloc: Global, text: &Text) -> Result<Val, OutOfMemory>
+    requires { IsUtf8 text.now }
+    ensures { IfOk result (λ v. v ≡ plain.text text.now) }
+{
+    Ok(Val::of_text(text.copy(alloc)?))
+}
+
+/// The timestamp of the moment as a value.
+pub fn moment_value(alloc: Global, at: u64) -> Result<Val, OutOfMemory>
+    requires { IsMoment at }
+    ensures { IfOk result (λ v. v ≡ spec.moment_data at) }
+{
+    let mut stamp = [0; 15];
+    let _written = write_stamp(at, &mut stamp);
+    Ok(Val::of_text(Text::from_slice(alloc, &stamp)?))
+}
+
+/// Puts a member behind the others, where it has a value.
+pub fn push_member(
+    alloc: Global,
+    entries: &mut Vec<(Text, Val)>,
+    name: &str,
+    value: Option<Val>,
+) -> Result<(), OutOfMemory>
+    ensures { OnOk result (entries.new.items
+        ≡ entries.old.items ++ spec.present ((name.now, value) ∷ [])) }
+{
+    if let Some(value) = value {
+        entries.push((Text::from_slice(alloc, name.as_bytes())?, value))?;
+    }
+    Ok(())
+}
+
+/// The object of these members.
+pub fn sorted_object(entries: Vec<(Text, Val)>) -> Val
+    requires sorted { AreSorted entries.items }
+    requires texts { HaveTextKeys entries.items }
+    ensures { result ≡ plain.object (pairs_of entries.items) }
+{
+    Val::of_obj(Members::of(entries))
+}

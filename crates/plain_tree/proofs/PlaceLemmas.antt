@@ -1,0 +1,90 @@
+-- Where a number stands in a list whose numbers ascend.
+use Rattle.std.proofs.Common.{◌≡◌, ℕ, zero, suc, ◌+◌, ◌<◌, ◌≢◌, List, [], ◌∷◌, length, map, get_or, set, true, false, Option, Some, None, Result, Ok, Err, Less, Equal, Greater, inl, inr, refl, sym, ap, ◌∙◌, arith}
+use Rattle.std.proofs.lemmas.Bool.{eq-eqb, eqb-true, ne_eqb, cases_lt}
+use Rattle.std.proofs.lemmas.Bool.Decides.{nat_tests}
+use Rattle.std.proofs.lemmas.Cmp.{nat_cmp_total}
+use Rattle.std.proofs.lemmas.List.Sorted.{searchable_from_sorted}
+use Rattle.std.proofs.lemmas.Map.Keys.{below_from_sorted}
+use Rattle.std.proofs.lemmas.Option.{slice_get-get_or, same_Some}
+use Rattle.std.specs.List.{slice_get}
+use Rattle.std.specs.List.Sorted.{IsNonDecreasingBy, IsBinarySearchResult, IsSearchInRange}
+use Rattle.std.specs.Option.{option_map_or}
+use Rattle.std.specs.Ordering.{nat_cmp, ordering_index, is_lt}
+use Rattle.std.specs.Result.{MatchResult}
+use Rattle.resource_model.specs.Resource.{ResourceData, has_number}
+use Rattle.tree_model.specs.Tree.{at, replaced, AreAscending, StandsAt}
+
+number_at : (nodes : List ResourceData) (i : ℕ) (d : ResourceData) → get_or (map (λ (r : ResourceData). r.number) nodes) i d.number ≡ (get_or nodes i d).number
+number_at [] i d = refl
+number_at (s ∷ nodes) zero d = refl
+number_at (s ∷ nodes) (suc i) d = number_at nodes i d
+
+numbers_len : (nodes : List ResourceData) → length (map (λ (r : ResourceData). r.number) nodes) ≡ length nodes
+numbers_len [] = refl
+numbers_len (s ∷ nodes) = ap suc (numbers_len nodes)
+
+pub number_order : (nodes : List ResourceData) (i j : ℕ) (d : ResourceData) → AreAscending nodes → i < j → j < length nodes → (get_or nodes i d).number < (get_or nodes j d).number
+number_order nodes i j d sorted before within =
+    let less = below_from_sorted (map (λ (r : ResourceData). r.number) nodes) i j d.number sorted before (omega (arith, numbers_len nodes)) in
+    rw (number_at nodes i d, number_at nodes j d) at less
+
+found_at : (n : ℕ) (nodes : List ResourceData) (i : ℕ) (d : ResourceData) → i < length nodes → ((k : ℕ) → k < i → (get_or nodes k d).number ≢ n) → (get_or nodes i d).number ≡ n → at n nodes ≡ Some (get_or nodes i d)
+found_at n [] i d within earlier is = absurd (omega arith)
+found_at n (s ∷ nodes) zero d within earlier is = rw (eq-eqb s.number n is) refl
+found_at n (s ∷ nodes) (suc i) d within earlier is = rw (ne_eqb s.number n (earlier 0 (omega arith))) (found_at n nodes i d (omega arith) (λ k low. earlier (suc k) (omega arith)) is)
+
+written_at : (r : ResourceData) (nodes : List ResourceData) (i : ℕ) (d : ResourceData) → i < length nodes → ((k : ℕ) → k < i → (get_or nodes k d).number ≢ r.number) → (get_or nodes i d).number ≡ r.number → replaced r nodes ≡ set nodes i r
+written_at r [] i d within earlier is = absurd (omega arith)
+written_at r (s ∷ nodes) zero d within earlier is = rw (eq-eqb s.number r.number is) refl
+written_at r (s ∷ nodes) (suc i) d within earlier is = rw (ne_eqb s.number r.number (earlier 0 (omega arith))) (ap (λ rest. s ∷ rest) (written_at r nodes i d (omega arith) (λ k low. earlier (suc k) (omega arith)) is))
+
+none_at : (n : ℕ) (nodes : List ResourceData) → ((k : ℕ) (d : ResourceData) → k < length nodes → (get_or nodes k d).number ≢ n) → at n nodes ≡ None
+none_at n [] none = refl
+none_at n (s ∷ nodes) none = rw (ne_eqb s.number n (none 0 s (omega arith))) (none_at n nodes (λ k d within. none (suc k) d (omega arith)))
+
+equal_is : (m n : ℕ) → nat_cmp m n ≡ Equal → m ≡ n
+equal_is m n e = grind (arith, nat_tests)
+
+less_is : (m n : ℕ) → nat_cmp m n ≡ Less → m < n
+less_is m n e = grind (arith, nat_tests)
+
+greater_is : (m n : ℕ) → nat_cmp m n ≡ Greater → n < m
+greater_is m n e = grind (arith, nat_tests)
+
+below_not_above : (m n : ℕ) → m < n → is_lt (nat_cmp n m) ≡ false
+below_not_above m n less = grind (arith, nat_tests)
+
+searchable : (nodes : List ResourceData) (n : ℕ) → AreAscending nodes → IsNonDecreasingBy (λ r. ordering_index (nat_cmp r.number n)) nodes
+searchable nodes n sorted = searchable_from_sorted nat_cmp_total (λ (r : ResourceData). r.number) nodes n (λ k d low within. below_not_above _ _ (number_order nodes k (k + 1) d sorted (omega arith) (omega arith)))
+
+-- what a search by halving found
+pub searched : (n : ℕ) (nodes : List ResourceData) (r : Result ℕ ℕ) → AreAscending nodes → IsSearchInRange r (length nodes) → IsBinarySearchResult (λ s. nat_cmp s.number n) nodes r → MatchResult r (StandsAt n nodes) (λ _. at n nodes ≡ None)
+searched n nodes (Ok i) sorted within found =
+    let is : (d : ResourceData) → (get_or nodes i d).number ≡ n = λ d. equal_is _ _ (found d) in
+    let earlier : (d : ResourceData) (k : ℕ) → k < i → (get_or nodes k d).number ≢ n = λ d k low e. (let less : (get_or nodes k d).number < (get_or nodes i d).number = number_order nodes k i d sorted low within in let here = is d in omega arith) in
+    record {
+      within = within;
+      found = λ d. found_at n nodes i d within (earlier d) (is d);
+      written = λ s same. written_at s nodes i s within (λ k low e. earlier s k low (e ∙ same)) (is s ∙ sym same);
+    }
+searched n nodes (Err i) sorted within found =
+    let parted = found (searchable nodes n sorted) in
+    none_at n nodes (λ k d inside e. elim (cases_lt k i) [
+      | inl before ↦ let less : (get_or nodes k d).number < n = less_is _ _ (parted.0 k d (omega arith) before) in omega arith
+      | inr after ↦ let more : n < (get_or nodes k d).number = greater_is _ _ (parted.1 k d after inside) in omega arith
+    ])
+
+inside : (nodes : List ResourceData) (i : ℕ) (r : ResourceData) → Some r ≡ slice_get nodes i → i < length nodes
+inside [] i r got = cc
+inside (s ∷ nodes) zero r got = omega arith
+inside (s ∷ nodes) (suc i) r got = omega (arith, inside nodes i r got)
+
+-- what has a number at a place is found by it
+pub near_found : (nodes : List ResourceData) (i n : ℕ) (o : Option ResourceData) → AreAscending nodes → o ≡ slice_get nodes i → option_map_or (has_number n) o false ≡ true → o ≡ at n nodes
+near_found nodes i n None sorted got is = cc
+near_found nodes i n (Some r) sorted got is =
+    let within : i < length nodes = inside nodes i r got in
+    let here : r ≡ get_or nodes i r = same_Some r (get_or nodes i r) (got ∙ slice_get-get_or nodes i r within) in
+    let number : (get_or nodes i r).number ≡ n = ap (λ (s : ResourceData). s.number) (sym here) ∙ eqb-true r.number n is in
+    let found : at n nodes ≡ Some (get_or nodes i r) = found_at n nodes i r within (λ k low e. (let less : (get_or nodes k r).number < (get_or nodes i r).number = number_order nodes k i r sorted low within in omega arith)) number in
+    ap (λ (s : ResourceData). Some s) here ∙ sym found

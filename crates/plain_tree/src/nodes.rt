@@ -1,0 +1,206 @@
+// The list of resources that every tree keeps.
+ghost use Rattle.std.specs.Prelude.{◌≡◌, ◌+◌, ◌^◌, ◌<◌, ◌≤◌, IsSome, List, [], ◌∷◌, ◌++◌, length};
+ghost use Rattle.std.specs.Prelude.{slice_get, IsTrue, OnOk, OnErr, IfErr, Some, option_map};
+ghost use Rattle.m2m_names.specs.Stamps.{last_moment};
+ghost use Rattle.m2m_names.specs.declared.attributes.Attr.TheVariants.{St};
+ghost use Rattle.resource_model.specs.Attributes.{value_of};
+ghost use Rattle.resource_model.specs.Resource.{ResourceData, has_number};
+ghost use Rattle.tree_model.specs.Tree.{at, due, are_quiet, live, replaced, restamped, fits};
+ghost use Rattle.tree_model.specs.Tree.{restamped_at, has_state, without, is_tree, standing};
+ghost use Rattle.tree_model.specs.Tree.{AreAscending};
+
+use crate::places::Places;
+use crate::placing::{due_in, found, place};
+use crate::removing::{Removal, quiet_in, sweep_out};
+use m2m_names::Attr;
+use m2m_value::Val;
+use resource_model::Resource;
+use std::alloc::{AllocError as OutOfMemory, Global};
+use std::marker::Model;
+use std::sync::ledger::Ledger;
+use tree_model::Steps;
+
+/// The resources of a tree in order of creation.
+#[derive(Drop)]
+pub struct Nodes {
+    resources: Vec<Resource>,
+    places: Places,
+}
+
+impl Model for Nodes {
+    ghost use Rattle.std.specs.Prelude.{List, IsTrue};
+    ghost use Rattle.std.specs.Coded.{coded_list};
+    ghost use Rattle.resource_model.specs.Resource.{ResourceData};
+    ghost use Rattle.resource_model.specs.Codes.{resource_code};
+
+    ghost Value = { List ResourceData };
+
+    ghost coded = { coded_list resource_code };
+
+    ghost use Rattle.tree_model.specs.Tree.{is_tree};
+
+    ghost view = { λ n. n.resources.items };
+
+    ghost invariant = { λ n. IsTrue (is_tree n.resources.items) };
+}
+
+impl Nodes {
+    /// No resource; it takes no memory.
+    pub fn new(alloc: Global) -> Nodes
+        ensures { result ≡ [] }
+    {
+        Nodes {
+            resources: Vec::new(alloc),
+            places: Places::new(alloc),
+        }
+    }
+
+    /// How many resources there are.
+    pub fn len(&self) -> u64
+        ensures value { result ≡ length self.now }
+        ensures tree { IsTrue (is_tree self.now) }
+    {
+        self.resources.len() as u64
+    }
+
+    /// The resource at place k in order of creation, from 0.
+    pub fn nth(&self, k: u64) -> Option<&Resource>
+        ensures { option_map (λ r. r.now) result ≡ slice_get self.now k }
+    {
+        self.resources.get(k as usize)
+    }
+
+    // All of them, for what the plain tree finds by a walk.
+    pub(crate) fn entries(&self) -> &[Resource]
+        ensures { result.now ≡ self.now }
+    {
+        &self.resources
+    }
+
+    /// The resource of a number, found by halving: one step.
+    pub fn at<L: Ledger>(&self, number: u64, steps: &mut Steps<L>) -> Option<&Resource>
+        ensures value { option_map (λ r. r.now) result ≡ at number self.now }
+        ensures cost { steps.new ≡ steps.old + 1 }
+    {
+        steps.tick();
+        self.look_up(number)
+    }
+
+    // The same without a step, for the plain tree alone.
+    pub(crate) fn look_up(&self, number: u64) -> Option<&Resource>
+        ensures { option_map (λ r. r.now) result ≡ at number self.now }
+    {
+        found(&self.resources, number)
+    }
+
+    // When a resource is due whose parent stands there.
+    pub(crate) fn due(&self, resource: &Resource) -> Option<u64>
+        ensures value { result ≡ due self.now resource.now }
+        ensures tree { IsTrue (is_tree self.now) }
+    {
+        due_in(&self.resources, resource)
+    }
+
+    // A moment before which nothing is due.
+    pub(crate) fn quiet(&self) -> u64
+        ensures { IsTrue (are_quiet result self.now) }
+    {
+        quiet_in(&self.resources, &self.places)
+    }
+
+    /// Puts a resource last. Its number is greater than every other, its parent is there (or it is
+    /// the CSEBase and the first), and its name, its AE-ID and its CSE-ID are free.
+    pub fn push(&mut self, resource: Resource) -> Result<(), (Resource, OutOfMemory)>
+        requires { IsTrue (fits self.old resource) }
+        ensures ok { OnOk result (self.new ≡ self.old ++ resource ∷ []) }
+        ensures err { OnErr result (self.new ≡ self.old) }
+        ensures back { IfErr result (λ e. e.0 ≡ resource) }
+    {
+        let parent = place_of(&self.resources, resource.parent());
+        if let Err(_) = self.places.note(self.resources.len(), parent) {
+            return Err((resource, OutOfMemory));
+        }
+        match self.resources.push(resource) {
+            Ok(()) => Ok(()),
+            Err(refused) => Err((refused.value, OutOfMemory)),
+        }
+    }
+
+    /// Puts a resource in the place of the one of its number, which has the same type, name,
+    /// parent, AE-ID and CSE-ID.
+    pub fn replace(&mut self, resource: Resource)
+        requires { option_map standing (at resource.number self.old) ≡ Some (standing resource) }
+        ensures { self.new ≡ replaced resource self.old }
+    {
+        write_over(&mut self.resources, resource)
+    }
+
+    /// Sets the moment of the last change and the state tag of a resource that has one, in place.
+    pub fn restamp(&mut self, number: u64, lt: u64, st: u64)
+        requires there { IsTrue (has_state number self.old) }
+        requires lt { lt ≤ last_moment }
+        requires st { st < 2 ^ 63 }
+        ensures value { self.new ≡ restamped_at number lt st self.old }
+        ensures tree { IsTrue (is_tree self.old) }
+    {
+        restamp_in(&mut self.resources, number, lt, st)
+    }
+
+    /// Removes a resource with all that stands below it.
+    pub fn remove_subtree(&mut self, number: u64)
+        ensures value { self.new ≡ without (has_number number) self.old }
+        ensures tree { IsTrue (is_tree self.old) }
+    {
+        sweep_out(&mut self.resources, &mut self.places, Removal::Of(number))
+    }
+
+    // Removes what is due at a moment, with all that stands below it.
+    pub(crate) fn expire(&mut self, moment: u64)
+        ensures { self.new ≡ live moment self.old }
+    {
+        sweep_out(&mut self.resources, &mut self.places, Removal::Due(moment))
+    }
+}
+
+// Where the resource of a number stands, or else would stand.
+fn place_of(resources: &[Resource], number: u64) -> usize
+    requires { AreAscending resources.now }
+{
+    match place(resources, number) {
+        Ok(at) => at,
+        Err(at) => at,
+    }
+}
+
+// Puts the resource in the place of the one of its number, where there is one.
+fn write_over(resources: &mut Vec<Resource>, resource: Resource)
+    requires { AreAscending resources.old.items }
+    ensures { resources.new.items ≡ replaced resource resources.old.items }
+{
+    if let Ok(at) = place(resources, resource.number()) {
+        resources[at] = resource;
+    }
+}
+
+fn restamp_in(resources: &mut Vec<Resource>, number: u64, lt: u64, st: u64)
+    requires order { AreAscending resources.old.items }
+    requires there { IsTrue (has_state number resources.old.items) }
+    requires lt { lt ≤ last_moment }
+    requires st { st < 2 ^ 63 }
+    ensures { resources.new.items ≡ restamped_at number lt st resources.old.items }
+{
+    if let Ok(at) = place(resources, number) {
+        restamp(&mut resources[at], lt, st);
+    }
+}
+
+fn restamp(resource: &mut Resource, lt: u64, st: u64)
+    requires there { IsSome (value_of St resource.old.attrs) }
+    requires lt { lt ≤ last_moment }
+    requires st { st < 2 ^ 63 }
+    ensures { resource.new ≡ restamped lt st resource.old }
+{
+    resource.set_lt(lt);
+    // It has a value, so that this takes no memory.
+    let _set = resource.set(Attr::St, Val::of_num(st as i64));
+}

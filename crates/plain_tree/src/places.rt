@@ -1,0 +1,72 @@
+// Where the parents of resources stand.
+use std::alloc::{AllocError as OutOfMemory, Global};
+
+// Of a resource: the place of its parent, and the place that the last removal gave it.
+#[derive(Clone, Copy)]
+struct Place {
+    parent: usize,
+    own: usize,
+}
+
+// No resource stands there.
+const NOWHERE: usize = usize::MAX;
+
+/// The places of the parents of all resources, so that a pass over them searches for no parent that
+/// stays. They are hints: a wrong one costs a search, and changes no answer.
+#[derive(Drop)]
+pub(crate) struct Places {
+    places: Vec<Place>,
+}
+
+impl Places {
+    pub(crate) fn new(alloc: Global) -> Places {
+        Places {
+            places: Vec::new(alloc),
+        }
+    }
+
+    /// Notes where the parent of the resource at a place stands, which is the last.
+    pub(crate) fn note(&mut self, at: usize, parent: usize) -> Result<(), OutOfMemory> {
+        self.places.truncate(at);
+        self.places.push(Place { parent, own: at })?;
+        Ok(())
+    }
+
+    /// The place of the parent of the resource at a place.
+    pub(crate) fn parent(&self, at: usize) -> usize {
+        match self.places.get(at) {
+            Some(place) => place.parent,
+            None => NOWHERE,
+        }
+    }
+
+    /// The place that a removal gave that parent.
+    pub(crate) fn moved_parent(&self, at: usize) -> usize {
+        match self.places.get(self.parent(at)) {
+            Some(parent) => parent.own,
+            None => NOWHERE,
+        }
+    }
+
+    /// A removal moves the resource at a place to another, with its parent at this one.
+    pub(crate) fn keep(&mut self, at: usize, to: usize, parent: usize) {
+        if let Some(place) = self.places.get_mut(at) {
+            place.own = to;
+        }
+        if let Some(place) = self.places.get_mut(to) {
+            place.parent = parent;
+        }
+    }
+
+    /// A removal takes the resource at a place.
+    pub(crate) fn take(&mut self, at: usize) {
+        if let Some(place) = self.places.get_mut(at) {
+            place.own = NOWHERE;
+        }
+    }
+
+    /// So many are left.
+    pub(crate) fn truncate(&mut self, len: usize) {
+        self.places.truncate(len);
+    }
+}

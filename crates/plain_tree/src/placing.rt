@@ -1,0 +1,79 @@
+// Where a number stands among resources whose numbers ascend.
+ghost use Rattle.std.specs.Prelude.{◌≡◌, false, None, option_map, MatchResult, slice_get};
+ghost use Rattle.std.specs.Option.{option_map_or};
+ghost use Rattle.std.specs.Ordering.{nat_cmp};
+ghost use Rattle.resource_model.specs.Resource.{has_number};
+ghost use Rattle.tree_model.specs.Tree as spec;
+ghost use Rattle.tree_model.specs.Tree.{at, AreAscending, StandsAt};
+
+use resource_model::Resource;
+use std::cmp::Ordering;
+use tree_model::due_under;
+
+fn number_order(resource: &Resource, number: u64) -> Ordering
+    ensures { result ≡ nat_cmp resource.now.number number }
+{
+    resource.number().cmp(&number)
+}
+
+/// Where the resource of a number stands, or else where one would stand.
+pub(crate) fn place(resources: &[Resource], number: u64) -> Result<usize, usize>
+    requires { AreAscending resources.now }
+    ensures { MatchResult result (StandsAt number resources.now)
+        (λ _. at number resources.now ≡ None) }
+{
+    resources.binary_search_by(|resource| number_order(resource, number))
+}
+
+pub(crate) fn found(resources: &[Resource], number: u64) -> Option<&Resource>
+    requires { AreAscending resources.now }
+    ensures { option_map (λ r. r.now) result ≡ at number resources.now }
+{
+    match place(resources, number) {
+        Ok(at) => Some(&resources[at]),
+        Err(_) => None,
+    }
+}
+
+/// The same, where it is likely to stand at a place, which is looked at first.
+pub(crate) fn found_near(resources: &[Resource], number: u64, near: usize) -> Option<&Resource>
+    requires { AreAscending resources.now }
+    ensures { option_map (λ r. r.now) result ≡ at number resources.now }
+{
+    if is_number_at(resources, number, near) {
+        at_place(resources, near)
+    } else {
+        found(resources, number)
+    }
+}
+
+fn at_place(resources: &[Resource], at: usize) -> Option<&Resource>
+    ensures { option_map (λ r. r.now) result ≡ slice_get resources.now at }
+{
+    resources.get(at)
+}
+
+fn is_number_at(resources: &[Resource], number: u64, at: usize) -> bool
+    ensures { result ≡ option_map_or (has_number number) (slice_get resources.now at) false }
+{
+    match at_place(resources, at) {
+        Some(resource) => resource.number() == number,
+        None => false,
+    }
+}
+
+/// When a resource is due whose parent stands there.
+pub(crate) fn due_in(resources: &[Resource], resource: &Resource) -> Option<u64>
+    requires { AreAscending resources.now }
+    ensures { result ≡ spec.due resources.now resource.now }
+{
+    due_under(found(resources, resource.parent()), resource)
+}
+
+/// The same, where its parent is likely to stand at a place.
+pub(crate) fn due_near(resources: &[Resource], resource: &Resource, near: usize) -> Option<u64>
+    requires { AreAscending resources.now }
+    ensures { result ≡ spec.due resources.now resource.now }
+{
+    due_under(found_near(resources, resource.parent(), near), resource)
+}

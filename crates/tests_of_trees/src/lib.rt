@@ -1,0 +1,20 @@
+//! The tests of trees of resources: of the libraries `tree_model`, `container_limits`,
+//! `policy_eval`, `addressing` and `entity_model`, over their public calls. Each has a small tree
+//! whose answers were worked out by hand. Without its tests this library is empty, and no crate
+//! stands on it.
+#![tactic(auto)]
+
+#[cfg(test)]
+mod of_addressing;
+#[cfg(test)]
+mod of_container_limits;
+#[cfg(test)]
+mod of_entity_model;
+#[cfg(test)]
+mod of_policy_eval;
+#[cfg(test)]
+mod of_retrieve_discover;
+#[cfg(test)]
+mod of_tree_model;
+#[cfg(test)]
+mod texts;

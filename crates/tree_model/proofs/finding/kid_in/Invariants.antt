@@ -1,7 +1,0 @@
-use Rattle.std.proofs.Common.{◌≡◌, drop}
-use Rattle.tree_model.specs.Tree.{children_of, number_at}
-use Rattle.tree_model.proofs.finding.kid_in.Given as goal
-
--- the one that is wanted of the rest is the one that is wanted of all
-abbrev pub invariant-loop-resource : goal.invariant-loop-resource
-invariant-loop-resource l = number_at l.left (children_of l.parent (drop l.resource-index l.resources)) ≡ number_at l.k (children_of l.parent l.resources)
