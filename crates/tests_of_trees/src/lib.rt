@@ -13,6 +13,8 @@ mod of_entity_model;
 #[cfg(test)]
 mod of_policy_eval;
 #[cfg(test)]
+mod of_retrieve_discover;
+#[cfg(test)]
 mod of_tree_model;
 #[cfg(test)]
 mod texts;

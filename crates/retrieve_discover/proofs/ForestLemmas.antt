@@ -1,0 +1,183 @@
+-- Forests: what the first of one are, and one child by child.
+use Rattle.std.specs.Prelude.{◌==◌, nat_lt, slice_get}
+use Rattle.std.proofs.Common.{◌≡◌, ℕ, zero, suc, ◌+◌, ◌-◌, ◌<◌, ◌≤◌, List, [], ◌∷◌, ◌++◌, length, take, drop, Bool, true, false, cond, ◌&&◌, Option, Some, inl, inr, refl, sym, ap, ◌∙◌, arith}
+use Rattle.std.specs.List.{filter}
+use Rattle.std.proofs.lemmas.Bool.{cases_Bool, and_parts, eqb-true, ltb-true, ne_eqb}
+use Rattle.std.proofs.lemmas.Bool.Decides.{nat_tests}
+use Rattle.std.proofs.lemmas.List.{append-nil, length-append}
+use Rattle.m2m_value.specs.Data.{Data, Entry, object, pairs_of}
+use Rattle.m2m_names.specs.Types.{ty_member}
+use Rattle.resource_model.specs.Resource.{ResourceData}
+use Rattle.tree_model.specs.Tree.{children_of, is_tree, is_under}
+use Rattle.retrieve_discover.specs.Contents.{with_forest, with_last}
+use Rattle.retrieve_discover.specs.Descendants.{Forest, bare, rooted, cut, grown, listed, reached, size_of}
+use Rattle.retrieve_discover.proofs.BelowLemmas.{above-filter}
+use Rattle.retrieve_discover.proofs.OrderLemmas.{are_above, in_order, in_order-tree, first_of}
+use Rattle.retrieve_discover.proofs.WalkLemmas.{drop_get}
+
+-- ---- the first of a forest
+
+take-both : {A : Type 0} (m : ℕ) (xs ys : List A) → take m (xs ++ ys) ≡ take m xs ++ take (m - length xs) ys
+take-both m [] ys = by_take m
+  where
+    by_take : (m : ℕ) → take m ys ≡ take m [] ++ take (m - 0) ys
+    by_take zero = refl
+    by_take (suc m) = let e : suc m ≡ suc m - 0 = omega arith in ap (λ k. take k ys) e
+take-both zero (x ∷ xs) ys = let e : 0 ≡ 0 - length (x ∷ xs) = omega arith in ap (λ k. take k ys) e
+take-both (suc m) (x ∷ xs) ys =
+    let e : m - length xs ≡ suc m - length (x ∷ xs) = omega arith in
+    ap (λ zs. x ∷ zs) (take-both m xs ys ∙ ap (λ k. take m xs ++ take k ys) e)
+
+take_first : {A : Type 0} (m : ℕ) (x : A) (xs : List A) → 0 < m → take m (x ∷ xs) ≡ x ∷ take (m - 1) xs
+take_first zero x xs some = absurd (omega (arith, some))
+take_first (suc m) x xs some = let e : m ≡ suc m - 1 = omega arith in ap (λ k. x ∷ take k xs) e
+
+abbrev nothing_of : (A : Type 0) → List A
+nothing_of A = []
+
+take_of_none : (m : ℕ) → take m (nothing_of ResourceData) ≡ nothing_of ResourceData
+take_of_none zero = refl
+take_of_none (suc m) = refl
+
+above_zero : (m : ℕ) → (m == 0) ≡ false → 0 < m
+above_zero m f = grind (arith, nat_tests)
+
+-- they are the first of its list
+pub listed-cut : (f : Forest) (m : ℕ) → listed (cut f m) ≡ take m (listed f)
+listed-cut bare m = sym (take_of_none m)
+listed-cut (rooted r kids more) m = elim (cases_Bool (m == 0)) [
+  | inl t ↦ (let nothing : 0 ≡ m = sym (eqb-true m 0 t) in rw t (ap (λ k. take k (r ∷ (listed kids ++ listed more))) nothing))
+  | inr f ↦
+      let some : 0 < m = above_zero m f in
+      rw f (ap (λ rs. r ∷ (rs ++ listed (cut more (m - 1 - size_of kids)))) (listed-cut kids (m - 1))
+      ∙ ap (λ rs. r ∷ (take (m - 1) (listed kids) ++ rs)) (listed-cut more (m - 1 - size_of kids))
+      ∙ ap (λ rs. r ∷ rs) (sym (take-both (m - 1) (listed kids) (listed more)))
+      ∙ sym (take_first m r (listed kids ++ listed more) some))
+]
+
+-- ---- child by child
+
+module _ (goes : ResourceData → Bool) where
+  -- the children of a resource in order, each with what is reached below it
+  abbrev pub chain : List ResourceData → List ResourceData → Forest
+  chain nodes [] = bare
+  chain nodes (c ∷ kids) = cond (goes c) (rooted c (grown goes c.number nodes) (chain nodes kids)) (chain nodes kids)
+
+  grown_skips : (n : ℕ) (r : ResourceData) (later : List ResourceData) → r.parent < n → grown goes n (r ∷ later) ≡ grown goes n later
+  grown_skips n r later less = rw (ne_eqb r.parent n (λ e. omega (arith, less, e))) refl
+
+  skip_all : (r : ResourceData) (later kids : List ResourceData) → r.parent < r.number → are_above r.number kids ≡ true → chain (r ∷ later) kids ≡ chain later kids
+  skip_all r later [] parent above = refl
+  skip_all r later (c ∷ kids) parent above =
+      let parts = and_parts (nat_lt r.number c.number) _ above in
+      let less : r.number < c.number = ltb-true r.number c.number parts.0 in
+      let here : grown goes c.number (r ∷ later) ≡ grown goes c.number later = grown_skips c.number r later (omega (arith, less, parent)) in
+      ap (λ f. cond (goes c) (rooted c f (chain (r ∷ later) kids)) (chain (r ∷ later) kids)) here
+      ∙ ap (λ f. cond (goes c) (rooted c (grown goes c.number later) f) f) (skip_all r later kids parent parts.1)
+
+  grown_kids : (n : ℕ) (nodes : List ResourceData) → in_order nodes ≡ true → grown goes n nodes ≡ chain nodes (children_of n nodes)
+  grown_kids n [] order = refl
+  grown_kids n (r ∷ later) order =
+      let first = first_of r later order in
+      let rest : chain (r ∷ later) (children_of n later) ≡ grown goes n later =
+      skip_all r later (children_of n later) first.parent (above-filter r.number (is_under n) later first.above)
+      ∙ sym (grown_kids n later first.rest) in
+      elim (cases_Bool (is_under n r)) [
+        | inl t ↦
+            let kids = chain (r ∷ later) (children_of n later) in
+            let all = ap (λ f. cond (goes r) (rooted r f kids) kids) (grown_skips r.number r later first.parent) ∙ ap (λ f. cond (goes r) (rooted r (grown goes r.number later) f) f) rest in
+            rw t (sym all)
+        | inr f ↦ rw f (sym rest)
+      ]
+
+  pub grown_by_kids : (n : ℕ) (nodes : List ResourceData) → is_tree nodes ≡ true → grown goes n nodes ≡ chain nodes (children_of n nodes)
+  grown_by_kids n nodes grew = grown_kids n nodes (in_order-tree nodes grew)
+
+  gone_to : (nodes kids : List ResourceData) (k : ℕ) (r : ResourceData) → slice_get kids k ≡ Some r → goes r ≡ true → chain nodes (drop k kids) ≡ rooted r (grown goes r.number nodes) (chain nodes (drop (k + 1) kids))
+  gone_to nodes kids k r is g = ap (chain nodes) (drop_get kids k r is) ∙ rw g refl
+
+  passed : (nodes kids : List ResourceData) (k : ℕ) (r : ResourceData) → slice_get kids k ≡ Some r → goes r ≡ false → chain nodes (drop k kids) ≡ chain nodes (drop (k + 1) kids)
+  passed nodes kids k r is h = ap (chain nodes) (drop_get kids k r is) ∙ rw h refl
+
+  here_true : (nodes : List ResourceData) (r : ResourceData) → goes r ≡ true → reached goes nodes r ≡ rooted r (grown goes r.number nodes) bare
+  here_true nodes r g = rw g refl
+
+  here_false : (nodes : List ResourceData) (r : ResourceData) → goes r ≡ false → reached goes nodes r ≡ bare
+  here_false nodes r h = rw h refl
+
+  cut_more : (m : ℕ) (r : ResourceData) (below after : Forest) → 0 < m → cut (rooted r below after) m ≡ rooted r (cut below (m - 1)) (cut after (m - 1 - size_of below))
+  cut_more m r below after some = rw (ne_eqb m 0 (λ e. omega (arith, some, e))) refl
+
+  -- one child more, and what is left for the others
+  pub turned : (members : ResourceData → List Entry) (nodes kids : List ResourceData) (k left less : ℕ) (r : ResourceData) (es more : List Entry) → slice_get kids k ≡ Some r → 0 < left → less ≡ left - size_of (reached goes nodes r) → more ≡ with_forest members (cut (reached goes nodes r) left) es → with_forest members (cut (chain nodes (drop k kids)) left) es ≡ with_forest members (cut (chain nodes (drop (k + 1) kids)) less) more
+  turned members nodes kids k left less r es more is some rest grew = elim (cases_Bool (goes r)) [
+    | inl g ↦
+        let below = grown goes r.number nodes in
+        let after = chain nodes (drop (k + 1) kids) in
+        let size : size_of (reached goes nodes r) ≡ length (r ∷ listed below) = ap size_of (here_true nodes r g) ∙ ap (λ (rs : List ResourceData). length (r ∷ rs)) (append-nil (listed below)) in
+        let fewer : left - 1 - size_of below ≡ less = omega (arith, rest, size) in
+        let alone : with_forest members (cut (reached goes nodes r) left) es ≡ with_last (ty_member r.ty) (object (pairs_of (with_forest members (cut below (left - 1)) (members r)))) es =
+        ap (λ f. with_forest members (cut f left) es) (here_true nodes r g) ∙ ap (λ f. with_forest members f es) (cut_more left r below bare some) in
+        ap (λ f. with_forest members (cut f left) es) (gone_to nodes kids k r is g)
+        ∙ ap (λ f. with_forest members f es) (cut_more left r below after some)
+        ∙ ap (λ m. with_forest members (cut after m) (with_last (ty_member r.ty) (object (pairs_of (with_forest members (cut below (left - 1)) (members r)))) es)) fewer
+        ∙ ap (with_forest members (cut after less)) (sym (grew ∙ alone))
+    | inr h ↦
+        let nothing : less ≡ left - size_of bare = rest ∙ ap (λ f. left - size_of f) (here_false nodes r h) in
+        let same : less ≡ left = omega (arith, nothing) in
+        let kept : more ≡ es = grew ∙ ap (λ f. with_forest members (cut f left) es) (here_false nodes r h) in
+        ap (λ f. with_forest members (cut f left) es) (passed nodes kids k r is h)
+        ∙ ap (λ m. with_forest members (cut (chain nodes (drop (k + 1) kids)) m) es) (sym same)
+        ∙ ap (with_forest members (cut (chain nodes (drop (k + 1) kids)) less)) (sym kept)
+  ]
+
+  pub sizes : (nodes kids : List ResourceData) (k left less : ℕ) (r : ResourceData) → slice_get kids k ≡ Some r → less ≡ left - size_of (reached goes nodes r) → left - size_of (chain nodes (drop k kids)) ≡ less - size_of (chain nodes (drop (k + 1) kids))
+  sizes nodes kids k left less r is rest = elim (cases_Bool (goes r)) [
+    | inl g ↦
+        let below = grown goes r.number nodes in
+        let size : size_of (reached goes nodes r) ≡ length (r ∷ listed below) = ap size_of (here_true nodes r g) ∙ ap (λ (rs : List ResourceData). length (r ∷ rs)) (append-nil (listed below)) in
+        let both = ap size_of (gone_to nodes kids k r is g) in
+        let sum = length-append (listed below) (listed (chain nodes (drop (k + 1) kids))) in
+        omega (arith, both, sum, size, rest)
+    | inr h ↦
+        let nothing : less ≡ left - size_of bare = rest ∙ ap (λ f. left - size_of f) (here_false nodes r h) in
+        let same : less ≡ left = omega (arith, nothing) in
+        ap (λ f. left - size_of f) (passed nodes kids k r is h) ∙ ap (λ m. m - size_of (chain nodes (drop (k + 1) kids))) (sym same)
+  ]
+
+  -- no child is left, or nothing more is shown
+  pub none_left : (members : ResourceData → List Entry) (nodes kids : List ResourceData) (k left : ℕ) (es : List Entry) → drop k kids ≡ [] → with_forest members (cut (chain nodes (drop k kids)) left) es ≡ es
+  none_left members nodes kids k left es ends = ap (λ rs. with_forest members (cut (chain nodes rs) left) es) ends
+
+  pub cut_to_nothing : (members : ResourceData → List Entry) (f : Forest) (es : List Entry) → with_forest members (cut f 0) es ≡ es
+  cut_to_nothing members bare es = refl
+  cut_to_nothing members (rooted r kids more) es = refl
+
+  -- a child that isn't gone to adds nothing
+  pub skipped : (members : ResourceData → List Entry) (nodes : List ResourceData) (left : ℕ) (r : ResourceData) (es : List Entry) → goes r ≡ false → (es ≡ with_forest members (cut (reached goes nodes r) left) es) × (left ≡ left - size_of (reached goes nodes r))
+  skipped members nodes left r es none =
+      let nothing = here_false nodes r none in
+      let same : left ≡ left - size_of bare = omega arith in
+      (ap (λ f. with_forest members (cut f left) es) (sym nothing), same ∙ ap (λ f. left - size_of f) (sym nothing))
+
+  -- one that is gone to adds its object, with what is shown below it
+  pub shown_alone : (members : ResourceData → List Entry) (nodes : List ResourceData) (left : ℕ) (r : ResourceData) (es : List Entry) → goes r ≡ true → 0 < left → with_forest members (cut (reached goes nodes r) left) es ≡ with_last (ty_member r.ty) (object (pairs_of (with_forest members (cut (grown goes r.number nodes) (left - 1)) (members r)))) es
+  shown_alone members nodes left r es gone some =
+      ap (λ f. with_forest members (cut f left) es) (here_true nodes r gone)
+      ∙ ap (λ f. with_forest members f es) (cut_more left r (grown goes r.number nodes) bare some)
+
+  pub size_alone : (nodes : List ResourceData) (r : ResourceData) → goes r ≡ true → size_of (reached goes nodes r) ≡ size_of (grown goes r.number nodes) + 1
+  size_alone nodes r gone =
+      let size : size_of (reached goes nodes r) ≡ length (r ∷ listed (grown goes r.number nodes)) = ap size_of (here_true nodes r gone) ∙ ap (λ (rs : List ResourceData). length (r ∷ rs)) (append-nil (listed (grown goes r.number nodes))) in
+      omega (arith, size)
+
+  -- where nothing more is shown, or no child is left, all that is shown has been
+  pub stopped : (members : ResourceData → List Entry) (f : Forest) (left n : ℕ) (es all : List Entry) → left ≡ 0 → with_forest members (cut f left) es ≡ all → left - size_of f ≡ n → (es ≡ all) × (left ≡ n)
+  stopped members f left n es all nothing shown size =
+      (sym (cut_to_nothing members f es) ∙ ap (λ m. with_forest members (cut f m) es) (sym nothing) ∙ shown, omega (arith, nothing, size))
+
+  pub ended : (members : ResourceData → List Entry) (nodes kids : List ResourceData) (k left n : ℕ) (es all : List Entry) → drop k kids ≡ [] → with_forest members (cut (chain nodes (drop k kids)) left) es ≡ all → left - size_of (chain nodes (drop k kids)) ≡ n → (es ≡ all) × (left ≡ n)
+  ended members nodes kids k left n es all none shown size =
+      let same : left ≡ left - size_of bare = omega arith in
+      let less : left - size_of bare ≡ n = sym (ap (λ rs. left - size_of (chain nodes rs)) none) ∙ size in
+      (sym (none_left members nodes kids k left es none) ∙ shown, same ∙ less)

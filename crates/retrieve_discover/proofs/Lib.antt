@@ -1,0 +1,13 @@
+pub mod OrderLemmas
+pub mod BelowLemmas
+pub mod PathLemmas
+pub mod TakeLemmas
+pub mod WalkLemmas
+pub mod MapLemmas
+pub mod ConditionLemmas
+pub mod ReachLemmas
+pub mod ForestLemmas
+pub mod SightLemmas
+pub mod AnswerLemmas
+pub mod GuardLemmas
+pub mod MemberLemmas

@@ -1,0 +1,27 @@
+use Rattle.std.proofs.Common.{◌≡◌, ◌-◌, ◌^◌, ◌+◌, drop}
+use Rattle.m2m_value.specs.Node.{HaveTextKeys}
+use Rattle.tree_model.specs.Tree.{children_of}
+use Rattle.retrieve_discover.specs.Contents.{may_retrieve, members, with_forest}
+use Rattle.retrieve_discover.specs.Descendants.{cut, grown, size_of}
+use Rattle.retrieve_discover.proofs.ForestLemmas.{chain}
+use Rattle.retrieve_discover.proofs.descendants.+descendants.Given as goal
+
+-- what is shown so far, and what is reached through the children that are left, are what is shown
+-- in all, and as many are left
+abbrev pub invariant-add_descendants-loop-k : goal.invariant-add_descendants-loop-k
+invariant-add_descendants-loop-k g l =
+    let nodes = g.T.Tree.nodes l.look.tree.now in
+    let goes = may_retrieve l.look.home.now nodes l.look.o.now in
+    let show = members l.look.home.now nodes in
+    let left = chain goes nodes (drop l.k (children_of l.parent nodes)) in
+    record {
+      shown : with_forest show (cut left l.left) l.members ≡ with_forest show (cut (grown goes l.parent nodes) l.fn.left) l.fn.members;
+      left : l.left - size_of left ≡ l.fn.left - size_of (grown goes l.parent nodes);
+      keys : HaveTextKeys l.fn.members → HaveTextKeys l.members;
+    }
+
+abbrev pub decreases-add_descendants : goal.decreases-add_descendants
+decreases-add_descendants g l = (2 ^ 64 - l.parent) + (2 ^ 64 - l.parent)
+
+abbrev pub decreases-add_child : goal.decreases-add_child
+decreases-add_child g l = (2 ^ 64 - l.child.now.parent) + (2 ^ 64 - l.child.now.parent) - 1

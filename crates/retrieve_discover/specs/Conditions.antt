@@ -1,0 +1,94 @@
+-- The conditions of a filter on a resource, as a table (TS-0001, 8.1.2; TS-0004, 8.2.5).
+use Rattle.std.specs.Prelude.{ℕ, ◌==◌, nat_le, nat_lt, Bool, true, false, ◌||◌, List, [], ◌∷◌}
+use Rattle.std.specs.Prelude.{length, Option, Some, None, option_and_then, unwrap_or}
+use Rattle.std.specs.Prelude.{if◌then◌else◌}
+use Rattle.std.specs.List.{list_all, list_any}
+use Rattle.std.specs.Option.{option_map_or}
+use Rattle.m2m_names.specs.Types.{ty_row}
+use Rattle.m2m_names.specs.declared.attributes.Attr.TheVariants.{Cs, Lbl, St}
+use Rattle.m2m_names.specs.declared.types.Ty.TheVariants.{ContentInstance}
+use Rattle.m2m_value.specs.Data.{Data}
+use Rattle.m2m_value.specs.View.{as_list, as_text}
+use Rattle.filter_criteria.specs.declared.filter.FilterParts.{FilterParts}
+use Rattle.resource_model.specs.Attributes.{count_at, value_of}
+use Rattle.resource_model.specs.Resource.{ResourceData, is_ty}
+use Rattle.tree_model.specs.Tree.{due, same_text}
+use Rattle.retrieve_discover.specs.declared.conditions.Condition.{Condition}
+use Rattle.retrieve_discover.specs.declared.conditions.Condition.TheVariants.{CreatedAfter}
+use Rattle.retrieve_discover.specs.declared.conditions.Condition.TheVariants.{CreatedBefore}
+use Rattle.retrieve_discover.specs.declared.conditions.Condition.TheVariants.{ExpireAfter}
+use Rattle.retrieve_discover.specs.declared.conditions.Condition.TheVariants.{ExpireBefore}
+use Rattle.retrieve_discover.specs.declared.conditions.Condition.TheVariants.{ModifiedSince}
+use Rattle.retrieve_discover.specs.declared.conditions.Condition.TheVariants.{OneLabel, OneType}
+use Rattle.retrieve_discover.specs.declared.conditions.Condition.TheVariants.{SizeAbove, SizeBelow}
+use Rattle.retrieve_discover.specs.declared.conditions.Condition.TheVariants.{StateTagBigger}
+use Rattle.retrieve_discover.specs.declared.conditions.Condition.TheVariants.{StateTagSmaller}
+use Rattle.retrieve_discover.specs.declared.conditions.Condition.TheVariants.{UnmodifiedSince}
+
+-- ---- bounds: where one is given, the resource has a value, and it stands so to the bound
+
+abbrev pub is_below : Option ℕ → Option ℕ → Bool
+is_below None value = true
+is_below (Some bound) value = option_map_or (λ n. nat_lt n bound) value false
+
+abbrev pub is_above : Option ℕ → Option ℕ → Bool
+is_above None value = true
+is_above (Some bound) value = option_map_or (λ n. nat_lt bound n) value false
+
+abbrev pub is_from : Option ℕ → Option ℕ → Bool
+is_from None value = true
+is_from (Some bound) value = option_map_or (λ n. nat_le bound n) value false
+
+-- ---- what a resource has
+
+-- the size of a content instance in bytes; no other resource has one
+abbrev pub size_in : ResourceData → Option ℕ
+size_in r = if is_ty r.ty ContentInstance then count_at Cs r.attrs else None
+
+-- it has the label
+abbrev pub is_label : List ℕ → Data → Bool
+is_label label d = same_text (as_text d) (Some label)
+
+abbrev pub has_label : ResourceData → List ℕ → Bool
+has_label r label =
+    option_map_or (list_any (is_label label)) (option_and_then as_list (value_of Lbl r.attrs)) false
+
+-- where labels are given, it has one of them
+abbrev pub has_one_of : List (List ℕ) → ResourceData → Bool
+has_one_of labels r = (length labels == 0) || list_any (has_label r) labels
+
+-- where types are given, its own is one of them
+abbrev pub is_of_one : List ℕ → ResourceData → Bool
+is_of_one types r = (length types == 0) || list_any (λ n. n == (ty_row r.ty).number) types
+
+-- ---- the table
+
+-- what has to hold of a resource of the list for a condition of the filter; a condition that isn't
+-- given always holds
+abbrev pub holds : Condition → List ResourceData → FilterParts → ResourceData → Bool
+holds CreatedBefore nodes f r = is_below f.crb (Some r.ct)
+holds CreatedAfter nodes f r = is_above f.cra (Some r.ct)
+holds ModifiedSince nodes f r = is_above f.ms (Some r.lt)
+holds UnmodifiedSince nodes f r = is_below f.us (Some r.lt)
+holds StateTagSmaller nodes f r = is_below f.sts (count_at St r.attrs)
+holds StateTagBigger nodes f r = is_above f.stb (count_at St r.attrs)
+holds ExpireBefore nodes f r = is_below f.exb (due nodes r)
+holds ExpireAfter nodes f r = is_above f.exa (due nodes r)
+holds OneLabel nodes f r = has_one_of f.lbl r
+holds OneType nodes f r = is_of_one f.ty r
+holds SizeAbove nodes f r = is_from f.sza (size_in r)
+holds SizeBelow nodes f r = is_below f.szb (size_in r)
+
+abbrev pub all_conditions : List Condition
+all_conditions =
+    CreatedBefore ∷ CreatedAfter ∷ ModifiedSince ∷ UnmodifiedSince ∷ StateTagSmaller
+    ∷ StateTagBigger ∷ ExpireBefore ∷ ExpireAfter ∷ OneLabel ∷ OneType ∷ SizeAbove
+    ∷ SizeBelow ∷ []
+
+-- the resource meets all conditions of the filter
+abbrev pub meets : List ResourceData → FilterParts → ResourceData → Bool
+meets nodes f r = list_all (λ condition. holds condition nodes f r) all_conditions
+
+-- it meets all conditions, where there is a filter
+abbrev pub meets_any : List ResourceData → Option FilterParts → ResourceData → Bool
+meets_any nodes filter r = option_map_or (λ f. meets nodes f r) filter true

@@ -1,0 +1,53 @@
+-- Which resources stand below one.
+use Rattle.std.specs.Prelude.{ℕ, ◌-◌, ◌==◌, Bool, ◌&&◌, List, [], ◌∷◌, ◌++◌, length}
+use Rattle.std.specs.Prelude.{if◌then◌else◌}
+use Rattle.resource_model.specs.Resource.{ResourceData, has_number}
+use Rattle.tree_model.specs.Tree.{is_under, line_of}
+
+-- The descendants of a resource, each child before what stands below it, in order of creation: a
+-- child of it, then what stands below that child, which was created later, then the other
+-- descendants (TS-0001, 9.6; the order is the profile's).
+abbrev pub below : ℕ → List ResourceData → List ResourceData
+below n [] = []
+below n (r ∷ later) =
+    if is_under n r then r ∷ (below r.number later ++ below n later) else below n later
+
+-- a line up to a resource, that one left out
+abbrev pub line_up_to : ℕ → List ResourceData → List ResourceData
+line_up_to n [] = []
+line_up_to n (r ∷ line) = if has_number n r then [] else r ∷ line_up_to n line
+
+-- a descendant, and all that stand between it and the resource
+abbrev pub line_below : ℕ → List ResourceData → ResourceData → List ResourceData
+line_below n nodes r = line_up_to n (line_of r.number nodes)
+
+-- Resources with what stands below each: the first, what stands below it, and those after it.
+pub data Forest : Type 0 where
+  bare : Forest
+  rooted : ResourceData → Forest → Forest → Forest
+
+-- those descendants of a resource that are reached by going down through such resources alone, each
+-- with those below it
+abbrev pub grown : (ResourceData → Bool) → ℕ → List ResourceData → Forest
+grown goes n [] = bare
+grown goes n (r ∷ later) =
+    if is_under n r && goes r then rooted r (grown goes r.number later) (grown goes n later)
+    else grown goes n later
+
+-- the resources of a forest, each before what stands below it
+abbrev pub listed : Forest → List ResourceData
+listed bare = []
+listed (rooted r kids more) = r ∷ (listed kids ++ listed more)
+
+abbrev pub size_of : Forest → ℕ
+size_of forest = length (listed forest)
+
+-- the first of a forest, as many as this
+abbrev pub cut : Forest → ℕ → Forest
+cut bare m = bare
+cut (rooted r kids more) m =
+    if m == 0 then bare else rooted r (cut kids (m - 1)) (cut more (m - 1 - size_of kids))
+
+-- a resource with what is reached below it, where it is reached itself
+abbrev pub reached : (ResourceData → Bool) → List ResourceData → ResourceData → Forest
+reached goes nodes r = if goes r then rooted r (grown goes r.number nodes) bare else bare

@@ -1,0 +1,54 @@
+-- The replies to a Retrieve and to a discovery.
+use Rattle.std.specs.Prelude.{ℕ, pos, Bool, false, not, List, Option, Some, None}
+use Rattle.std.specs.Prelude.{if◌then◌else◌}
+use Rattle.std.specs.Option.{option_map_or}
+use Rattle.std.specs.Ordering.{int_eq}
+use Rattle.m2m_names.specs.declared.codes.Rsc.{Rsc}
+use Rattle.m2m_names.specs.declared.codes.Rsc.TheVariants.{Ok as Fine, NoPrivilege, NotFound}
+use Rattle.m2m_value.specs.Data.{Data}
+use Rattle.primitive_json.specs.declared.reply.ReplyParts.{ReplyParts}
+use Rattle.primitive_json.specs.declared.request.RequestParts.{RequestParts}
+use Rattle.resource_model.specs.Home.{HomeData}
+use Rattle.resource_model.specs.Resource.{ResourceData}
+use Rattle.policy_eval.specs.Rights.{grants}
+use Rattle.policy_eval.specs.Seen.{discovery_bit, retrieve_bit}
+use Rattle.tree_model.specs.Tree.{at}
+use Rattle.retrieve_discover.specs.Conditions.{meets_any}
+use Rattle.retrieve_discover.specs.Contents.{content}
+use Rattle.retrieve_discover.specs.Findings.{address_list, found_addresses}
+
+-- a reply has the identifier of its request (TS-0001, 8.1.3); a refusal has no content
+abbrev pub reply_to : RequestParts → Rsc → Option Data → ReplyParts
+reply_to request rsc content = record { rsc = rsc; rqi = Some request.rqi; pc = content }
+
+abbrev pub refusal : RequestParts → Rsc → ReplyParts
+refusal request rsc = reply_to request rsc None
+
+abbrev pub success : RequestParts → Data → ReplyParts
+success request d = reply_to request Fine (Some d)
+
+-- addresses are wanted as resource ids (TS-0004, 6.3.4.2.8)
+abbrev pub is_by_id : RequestParts → Bool
+is_by_id request = option_map_or (λ z. int_eq z (pos 2)) request.drt false
+
+-- a discovery below the resource of the number: refused without DISCOVERY on it (TS-0001, 10.2.6)
+abbrev pub discovered : HomeData → List ResourceData → List ℕ → RequestParts → ℕ → ReplyParts
+discovered home nodes o request n =
+    if grants home nodes o discovery_bit n
+    then success request
+    (address_list (found_addresses home nodes o (is_by_id request) request.fc n))
+    else refusal request NoPrivilege
+
+-- a Retrieve of a resource: refused without RETRIEVE on it, and then where it doesn't meet the
+-- conditions, so that these tell nothing to who may not retrieve it (TS-0001, 10.2.3)
+abbrev pub retrieved_of : HomeData → List ResourceData → List ℕ → RequestParts → ResourceData →
+    ReplyParts
+retrieved_of home nodes o request r =
+    if not (grants home nodes o retrieve_bit r.number) then refusal request NoPrivilege else
+    if not (meets_any nodes request.fc r) then refusal request NotFound else
+    success request (content home nodes o (is_by_id request) request.rcn r)
+
+-- of the resource of the number
+abbrev pub retrieved : HomeData → List ResourceData → List ℕ → RequestParts → ℕ → ReplyParts
+retrieved home nodes o request n =
+    option_map_or (retrieved_of home nodes o request) (at n nodes) (refusal request NotFound)

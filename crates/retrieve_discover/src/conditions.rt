@@ -1,0 +1,205 @@
+//! The conditions of a filter on a resource, as a table.
+ghost use Rattle.std.specs.Prelude.{◌≡◌, ◌==◌, false};
+ghost use Rattle.std.specs.List.{list_any};
+ghost use Rattle.std.specs.Option.{option_copied, option_map_or};
+ghost use Rattle.m2m_names.specs.Types.{ty_row};
+ghost use Rattle.m2m_value.specs.View.{as_list};
+ghost use Rattle.retrieve_discover.specs.Conditions as spec;
+
+use m2m_names::{Attr, Ty};
+use m2m_value::{Text, Val};
+use primitive_json::{Filter, FilterParts};
+use tree_model::{Resource, Tree, due};
+
+/// A condition of a filter (TS-0001, 8.1.2).
+#[derive(Clone, Copy, Debug, PartialEq, Eq)]
+pub enum Condition {
+    /// `crb`: it was created before this moment.
+    CreatedBefore,
+    /// `cra`: it was created after this moment.
+    CreatedAfter,
+    /// `ms`: it was last changed after this moment.
+    ModifiedSince,
+    /// `us`: it was last changed before this moment.
+    UnmodifiedSince,
+    /// `sts`: its state tag is smaller.
+    StateTagSmaller,
+    /// `stb`: its state tag is bigger.
+    StateTagBigger,
+    /// `exb`: it is due before this moment.
+    ExpireBefore,
+    /// `exa`: it is due after this moment.
+    ExpireAfter,
+    /// `lbl`: it has one of these labels.
+    OneLabel,
+    /// `ty`: it is of one of these types.
+    OneType,
+    /// `sza`: it is a content instance of this size or above, in bytes.
+    SizeAbove,
+    /// `szb`: it is a content instance below this size, in bytes.
+    SizeBelow,
+}
+
+use Condition::*;
+
+impl Condition {
+    /// All conditions.
+    pub const ALL: [Condition; 12] = [
+        CreatedBefore,
+        CreatedAfter,
+        ModifiedSince,
+        UnmodifiedSince,
+        StateTagSmaller,
+        StateTagBigger,
+        ExpireBefore,
+        ExpireAfter,
+        OneLabel,
+        OneType,
+        SizeAbove,
+        SizeBelow,
+    ];
+
+    /// Whether the resource meets this condition of the filter; it does where the filter doesn't
+    /// give it. A resource without a state tag meets none on that, and the CSEBase none on when
+    /// it is due.
+    pub fn holds<T: Tree>(self, tree: &T, filter: &FilterParts, resource: &Resource) -> bool
+        ensures { result ≡ spec.holds self (T.nodes tree.now) filter.now resource.now }
+    {
+        match self {
+            CreatedBefore => is_below(filter.crb, Some(resource.ct())),
+            CreatedAfter => is_above(filter.cra, Some(resource.ct())),
+            ModifiedSince => is_above(filter.ms, Some(resource.lt())),
+            UnmodifiedSince => is_below(filter.us, Some(resource.lt())),
+            StateTagSmaller => is_below(filter.sts, resource.attrs().count(Attr::St)),
+            StateTagBigger => is_above(filter.stb, resource.attrs().count(Attr::St)),
+            ExpireBefore => is_below(filter.exb, due(tree, resource)),
+            ExpireAfter => is_above(filter.exa, due(tree, resource)),
+            OneLabel => has_one_of(resource, filter.lbl.entries()),
+            OneType => is_of_one(resource, filter.ty.entries()),
+            SizeAbove => is_from(filter.sza, size_in(resource)),
+            SizeBelow => is_below(filter.szb, size_in(resource)),
+        }
+    }
+}
+
+/// Whether the resource meets all conditions of the filter.
+pub fn meets<T: Tree>(tree: &T, filter: &FilterParts, resource: &Resource) -> bool
+    ensures { result ≡ spec.meets (T.nodes tree.now) filter.now resource.now }
+{
+    Condition::ALL
+        .iter()
+        .copied()
+        .all(|condition| condition.holds(tree, filter, resource))
+}
+
+/// Whether the resource meets all conditions, where there is a filter.
+pub(crate) fn meets_any<T: Tree>(tree: &T, filter: Option<&Filter>, resource: &Resource) -> bool
+    ensures { result ≡ spec.meets_any (T.nodes tree.now) (option_copied filter.entry)
+        resource.now }
+{
+    match filter {
+        Some(filter) => meets(tree, filter.parts(), resource),
+        None => true,
+    }
+}
+
+fn is_below(bound: Option<u64>, value: Option<u64>) -> bool
+    ensures { result ≡ spec.is_below bound value }
+{
+    match (bound, value) {
+        (None, _) => true,
+        (Some(bound), Some(value)) => value < bound,
+        (Some(_), None) => false,
+    }
+}
+
+fn is_above(bound: Option<u64>, value: Option<u64>) -> bool
+    ensures { result ≡ spec.is_above bound value }
+{
+    match (bound, value) {
+        (None, _) => true,
+        (Some(bound), Some(value)) => bound < value,
+        (Some(_), None) => false,
+    }
+}
+
+fn is_from(bound: Option<u64>, value: Option<u64>) -> bool
+    ensures { result ≡ spec.is_from bound value }
+{
+    match (bound, value) {
+        (None, _) => true,
+        (Some(bound), Some(value)) => bound <= value,
+        (Some(_), None) => false,
+    }
+}
+
+fn size_in(resource: &Resource) -> Option<u64>
+    ensures { result ≡ spec.size_in resource.now }
+{
+    if resource.is(Ty::ContentInstance) {
+        resource.attrs().count(Attr::Cs)
+    } else {
+        None
+    }
+}
+
+fn has_one_of(resource: &Resource, labels: &[Text]) -> bool
+    ensures { result ≡ spec.has_one_of labels.now resource.now }
+{
+    labels.is_empty() || has_some_of(resource, labels)
+}
+
+fn has_some_of(resource: &Resource, labels: &[Text]) -> bool
+    ensures { result ≡ list_any (spec.has_label resource.now) labels.now }
+{
+    labels
+        .iter()
+        .any(|label| has_label(resource, label.entries()))
+}
+
+fn has_label(resource: &Resource, label: &[u8]) -> bool
+    ensures { result ≡ spec.has_label resource.now label.now }
+{
+    match resource.attrs().get(Attr::Lbl) {
+        Some(labels) => lists(labels, label),
+        None => false,
+    }
+}
+
+fn lists(labels: &Val, label: &[u8]) -> bool
+    ensures { result ≡ option_map_or (list_any (spec.is_label label.now))
+        (as_list labels.now) false }
+{
+    match labels.as_list() {
+        Some(items) => is_among(items.entries(), label),
+        None => false,
+    }
+}
+
+fn is_among(values: &[Val], label: &[u8]) -> bool
+    ensures { result ≡ list_any (spec.is_label label.now) values.now }
+{
+    values.iter().any(|value| is_label(value, label))
+}
+
+fn is_label(value: &Val, label: &[u8]) -> bool
+    ensures { result ≡ spec.is_label label.now value.now }
+{
+    match value.as_text() {
+        Some(text) => text.entries() == label,
+        None => false,
+    }
+}
+
+fn is_of_one(resource: &Resource, types: &[u64]) -> bool
+    ensures { result ≡ spec.is_of_one types.now resource.now }
+{
+    types.is_empty() || is_among_types(types, resource.ty())
+}
+
+fn is_among_types(types: &[u64], ty: Ty) -> bool
+    ensures { result ≡ list_any (λ n. n == (ty_row ty).number) types.now }
+{
+    let number = u64::from(ty.number());
+    types.iter().any(|n| *n == number)
+}

@@ -1,0 +1,100 @@
+//! What a Retrieve shows.
+ghost use Rattle.std.specs.Prelude.{◌≡◌, ◌∷◌, [], codes, IfOk, IsTrue, Some};
+ghost use Rattle.m2m_names.specs.Name.{is_originator};
+ghost use Rattle.tree_model.specs.Tree.{at, is_tree};
+ghost use Rattle.retrieve_discover.specs.Contents as spec;
+ghost use Rattle.retrieve_discover.specs.Replies.{is_by_id};
+
+use crate::descendants::add_descendants;
+use crate::look::{Look, members_of};
+use crate::references::references;
+use crate::replies;
+use m2m_value::{Members, Text, Val};
+use primitive_json::Request;
+use std::alloc::{AllocError as OutOfMemory, Global};
+use tree_model::{Home, Resource, Tree, attributes, under_type};
+
+/// The content of the reply to a Retrieve of the target, by its result content.
+pub(crate) fn content<T: Tree>(
+    alloc: Global,
+    tree: &T,
+    home: &Home,
+    o: &[u8],
+    request: &Request,
+    target: &Resource,
+) -> Result<Val, OutOfMemory>
+    requires tree { IsTrue (is_tree (T.nodes tree.now)) }
+    requires originator { IsTrue (is_originator o.now) }
+    requires target { at target.now.number (T.nodes tree.now) ≡ Some target.now }
+    ensures { IfOk result (λ v. v ≡ spec.content home.now (T.nodes tree.now) o.now
+        (is_by_id request.now) request.now.rcn target.now) }
+{
+    let look = Look {
+        tree,
+        home,
+        o,
+        by_id: replies::is_by_id(request),
+    };
+    match request.parts().rcn.unwrap_or(1) {
+        4 => whole(alloc, &look, target),
+        5 => with_references(alloc, &look, target),
+        6 => references_alone(alloc, &look, target),
+        _ => attributes(alloc, tree, home, target),
+    }
+}
+
+// The most descendants that are shown.
+const MOST_SHOWN: usize = 128;
+
+fn whole<T: Tree>(alloc: Global, look: &Look<T>, target: &Resource) -> Result<Val, OutOfMemory>
+    requires tree { IsTrue (is_tree (T.nodes look.now.tree.now)) }
+    requires originator { IsTrue (is_originator look.now.o.now) }
+    ensures { IfOk result (λ v. v ≡ spec.whole look.now.home.now (T.nodes look.now.tree.now)
+        look.now.o.now target.now) }
+{
+    let mut shown = members_of(alloc, look, target)?;
+    let mut left = MOST_SHOWN;
+    add_descendants(alloc, look, target.number(), &mut left, &mut shown)?;
+    under_type(alloc, target.ty(), shown)
+}
+
+fn with_references<T: Tree>(
+    alloc: Global,
+    look: &Look<T>,
+    target: &Resource,
+) -> Result<Val, OutOfMemory>
+    requires tree { IsTrue (is_tree (T.nodes look.now.tree.now)) }
+    requires originator { IsTrue (is_originator look.now.o.now) }
+    requires target { at target.now.number (T.nodes look.now.tree.now) ≡ Some target.now }
+    ensures { IfOk result (λ v. v ≡ spec.with_references look.now.home.now
+        (T.nodes look.now.tree.now) look.now.o.now look.now.by_id target.now) }
+{
+    let mut shown = members_of(alloc, look, target)?;
+    let children = references(alloc, look, target)?;
+    shown.put(Text::from_slice(alloc, b"ch")?, children)?;
+    under_type(alloc, target.ty(), shown)
+}
+
+fn references_alone<T: Tree>(
+    alloc: Global,
+    look: &Look<T>,
+    target: &Resource,
+) -> Result<Val, OutOfMemory>
+    requires tree { IsTrue (is_tree (T.nodes look.now.tree.now)) }
+    requires originator { IsTrue (is_originator look.now.o.now) }
+    requires target { at target.now.number (T.nodes look.now.tree.now) ≡ Some target.now }
+    ensures { IfOk result (λ v. v ≡ spec.references_alone look.now.home.now
+        (T.nodes look.now.tree.now) look.now.o.now look.now.by_id target.now) }
+{
+    let children = references(alloc, look, target)?;
+    under_type(alloc, target.ty(), only_member(alloc, b"ch", children)?)
+}
+
+// The members of an object that has one.
+fn only_member(alloc: Global, key: &[u8], value: Val) -> Result<Members, OutOfMemory>
+    ensures { IfOk result (λ m. m ≡ (key.now, value) ∷ []) }
+{
+    let mut members = Vec::with_capacity(alloc, 1)?;
+    members.push((Text::from_slice(alloc, key)?, value))?;
+    Ok(Members::of(members))
+}

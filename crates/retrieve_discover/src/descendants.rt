@@ -1,0 +1,112 @@
+//! The descendants that a Retrieve shows.
+ghost use Rattle.std.specs.Prelude.{◌≡◌, ◌-◌, ◌<◌, OnOk, IsTrue, Some};
+ghost use Rattle.m2m_names.specs.Name.{is_originator};
+ghost use Rattle.m2m_names.specs.Types.{ty_member};
+ghost use Rattle.m2m_value.specs.Node.{HaveTextKeys};
+ghost use Rattle.m2m_value.specs.View.{as_list};
+ghost use Rattle.policy_eval.specs.Rules.{elements_in};
+ghost use Rattle.tree_model.specs.Tree.{at, is_tree};
+ghost use Rattle.retrieve_discover.specs.Contents as spec;
+ghost use Rattle.retrieve_discover.specs.Descendants.{cut, grown, reached, size_of};
+
+use crate::look::{Look, may_retrieve, members_of};
+use m2m_names::Ty;
+use m2m_value::{Items, Members, Node, Text, Val};
+use std::alloc::{AllocError as OutOfMemory, Global};
+use tree_model::{Resource, Tree, child_at};
+
+/// Adds the objects of those descendants of a resource that are shown to the members of its own, as
+/// many as are left.
+#[cycle(descendants)]
+pub(crate) fn add_descendants<T: Tree>(
+    alloc: Global,
+    look: &Look<T>,
+    parent: u64,
+    left: &mut usize,
+    members: &mut Members,
+) -> Result<(), OutOfMemory>
+    requires tree { IsTrue (is_tree (T.nodes look.now.tree.now)) }
+    requires originator { IsTrue (is_originator look.now.o.now) }
+    ensures members { OnOk result (members.new
+        ≡ spec.with_forest (spec.members look.now.home.now (T.nodes look.now.tree.now))
+        (cut (grown (spec.may_retrieve look.now.home.now (T.nodes look.now.tree.now) look.now.o.now)
+        parent (T.nodes look.now.tree.now)) left.old) members.old) }
+    ensures left { OnOk result (left.new ≡ left.old - size_of
+        (grown (spec.may_retrieve look.now.home.now (T.nodes look.now.tree.now) look.now.o.now)
+        parent (T.nodes look.now.tree.now))) }
+    ensures keys { OnOk result (HaveTextKeys members.old → HaveTextKeys members.new) }
+{
+    for k in 0..look.tree.len() {
+        if *left == 0 {
+            return Ok(());
+        }
+        match child_at(look.tree, parent, k) {
+            Some(child) => add_child(alloc, look, child, left, members)?,
+            None => return Ok(()),
+        }
+    }
+    Ok(())
+}
+
+// The same of a child and its descendants.
+#[cycle(descendants)]
+fn add_child<T: Tree>(
+    alloc: Global,
+    look: &Look<T>,
+    child: &Resource,
+    left: &mut usize,
+    members: &mut Members,
+) -> Result<(), OutOfMemory>
+    requires tree { IsTrue (is_tree (T.nodes look.now.tree.now)) }
+    requires originator { IsTrue (is_originator look.now.o.now) }
+    requires child { at child.now.number (T.nodes look.now.tree.now) ≡ Some child.now }
+    requires left { 0 < left.old }
+    ensures members { OnOk result (members.new
+        ≡ spec.with_forest (spec.members look.now.home.now (T.nodes look.now.tree.now))
+        (cut (reached
+        (spec.may_retrieve look.now.home.now (T.nodes look.now.tree.now) look.now.o.now)
+        (T.nodes look.now.tree.now) child.now) left.old) members.old) }
+    ensures left { OnOk result (left.new ≡ left.old - size_of (reached
+        (spec.may_retrieve look.now.home.now (T.nodes look.now.tree.now) look.now.o.now)
+        (T.nodes look.now.tree.now) child.now)) }
+    ensures keys { OnOk result (HaveTextKeys members.old → HaveTextKeys members.new) }
+{
+    if !may_retrieve(look, child) {
+        return Ok(());
+    }
+    *left -= 1;
+    let mut inner = members_of(alloc, look, child)?;
+    add_descendants(alloc, look, child.number(), left, &mut inner)?;
+    add_last(alloc, members, child.ty(), Val::of_obj(inner))
+}
+
+// Adds an object at the end of the list that the member of its type has.
+fn add_last(alloc: Global, members: &mut Members, ty: Ty, object: Val) -> Result<(), OutOfMemory>
+    ensures value { OnOk result (members.new
+        ≡ spec.with_last (ty_member ty) object members.old) }
+    ensures keys { OnOk result (HaveTextKeys members.old → HaveTextKeys members.new) }
+{
+    let key = Text::from_slice(alloc, ty.member().as_bytes())?;
+    let mut objects = elements(alloc, members.take(key.entries()));
+    objects.push(object)?;
+    members.put(key, Val::of_list(Items::of(objects)))
+}
+
+// The elements of a list; of what is no list none.
+fn elements(alloc: Global, value: Option<Val>) -> Vec<Val>
+    ensures { result.items ≡ elements_in value }
+{
+    match value {
+        Some(value) => elements_of(alloc, value),
+        None => Vec::new(alloc),
+    }
+}
+
+fn elements_of(alloc: Global, value: Val) -> Vec<Val>
+    ensures { result.items ≡ elements_in (Some value) }
+{
+    match value.into_node() {
+        Node::List(items) => items.into_vec(),
+        _ => Vec::new(alloc),
+    }
+}

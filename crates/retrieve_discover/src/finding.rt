@@ -1,0 +1,130 @@
+//! The walk of a discovery.
+ghost use Rattle.std.specs.Prelude.{◌≡◌, ◌≤◌, ◌<◌, [], ◌∷◌, ◌++◌, OnOk, IsTrue, IsUtf8, Some};
+ghost use Rattle.std.specs.Prelude.{length, map, filter, take};
+ghost use Rattle.m2m_names.specs.Name.{is_originator};
+ghost use Rattle.tree_model.specs.Tree.{at, has, is_tree};
+ghost use Rattle.addressing.specs.Names.{structured_of};
+ghost use Rattle.retrieve_discover.specs.Descendants.{below};
+ghost use Rattle.retrieve_discover.specs.Findings as spec;
+
+use crate::conditions::meets;
+use crate::paths::{address, go_down};
+use m2m_value::Val;
+use policy_eval::granted;
+use primitive_json::FilterParts;
+use std::alloc::{AllocError as OutOfMemory, Global};
+use tree_model::{Home, Resource, Tree, child_at};
+
+/// The bit of DISCOVERY in `acop` (TS-0001, 9.6.2.1.2).
+pub(crate) const DISCOVERY_BIT: u32 = 32;
+
+/// What a discovery looks for, by whom, in which form, and how many at most.
+#[derive(Drop)]
+pub(crate) struct Wanted<'a, T: Tree> {
+    pub tree: &'a T,
+    pub home: &'a Home,
+    pub o: &'a [u8],
+    pub filter: &'a FilterParts,
+    pub by_id: bool,
+    pub limit: usize,
+}
+
+/// Adds what is found below a resource, whose path this is, up to the limit.
+#[cycle(finding)]
+pub(crate) fn find_below<T: Tree>(
+    alloc: Global,
+    wanted: &Wanted<T>,
+    parent: u64,
+    path: &mut Vec<u8>,
+    found: &mut Vec<Val>,
+) -> Result<(), OutOfMemory>
+    requires tree { IsTrue (is_tree (T.nodes wanted.now.tree.now)) }
+    requires originator { IsTrue (is_originator wanted.now.o.now) }
+    requires parent { IsTrue (has parent (T.nodes wanted.now.tree.now)) }
+    requires path { path.old.items ≡ structured_of parent (T.nodes wanted.now.tree.now) }
+    requires utf8 { IsUtf8 path.old.items }
+    requires room { length found.old.items ≤ wanted.now.limit }
+    ensures found { OnOk result (found.new.items ≡ take wanted.now.limit
+        (found.old.items ++ map (spec.address wanted.now.by_id (T.nodes wanted.now.tree.now))
+        (spec.all_found wanted.now.home.now (T.nodes wanted.now.tree.now) wanted.now.o.now
+        wanted.now.filter.now parent))) }
+    ensures path { OnOk result (path.new.items ≡ path.old.items) }
+{
+    for k in 0..wanted.tree.len() {
+        if found.len() >= wanted.limit {
+            return Ok(());
+        }
+        match child_at(wanted.tree, parent, k) {
+            Some(child) => visit(alloc, wanted, child, path, found)?,
+            None => return Ok(()),
+        }
+    }
+    Ok(())
+}
+
+// The same of a child and what stands below it.
+#[cycle(finding)]
+fn visit<T: Tree>(
+    alloc: Global,
+    wanted: &Wanted<T>,
+    child: &Resource,
+    path: &mut Vec<u8>,
+    found: &mut Vec<Val>,
+) -> Result<(), OutOfMemory>
+    requires tree { IsTrue (is_tree (T.nodes wanted.now.tree.now)) }
+    requires originator { IsTrue (is_originator wanted.now.o.now) }
+    requires child { at child.now.number (T.nodes wanted.now.tree.now) ≡ Some child.now }
+    requires parent { IsTrue (has child.now.parent (T.nodes wanted.now.tree.now)) }
+    requires path { path.old.items
+        ≡ structured_of child.now.parent (T.nodes wanted.now.tree.now) }
+    requires utf8 { IsUtf8 path.old.items }
+    requires room { length found.old.items < wanted.now.limit }
+    ensures found { OnOk result (found.new.items ≡ take wanted.now.limit
+        (found.old.items ++ map (spec.address wanted.now.by_id (T.nodes wanted.now.tree.now))
+        (filter (spec.is_found wanted.now.home.now (T.nodes wanted.now.tree.now) wanted.now.o.now
+        wanted.now.filter.now)
+        (child.now ∷ below child.now.number (T.nodes wanted.now.tree.now))))) }
+    ensures path { OnOk result (path.new.items ≡ path.old.items) }
+{
+    let above = path.len();
+    go_down(path, child)?;
+    add_found(alloc, wanted, child, path, found)?;
+    find_below(alloc, wanted, child.number(), path, found)?;
+    path.truncate(above);
+    Ok(())
+}
+
+// Adds the address of a resource, whose path this is, where it is found.
+fn add_found<T: Tree>(
+    alloc: Global,
+    wanted: &Wanted<T>,
+    resource: &Resource,
+    path: &[u8],
+    found: &mut Vec<Val>,
+) -> Result<(), OutOfMemory>
+    requires originator { IsTrue (is_originator wanted.now.o.now) }
+    requires resource { IsTrue (has resource.now.number (T.nodes wanted.now.tree.now)) }
+    requires path { path.now
+        ≡ structured_of resource.now.number (T.nodes wanted.now.tree.now) }
+    requires utf8 { IsUtf8 path.now }
+    ensures { OnOk result (found.new.items ≡ found.old.items
+        ++ map (spec.address wanted.now.by_id (T.nodes wanted.now.tree.now))
+        (filter (spec.is_found wanted.now.home.now (T.nodes wanted.now.tree.now) wanted.now.o.now
+        wanted.now.filter.now) (resource.now ∷ []))) }
+{
+    if is_found(wanted, resource) {
+        found.push(address(alloc, wanted.tree, wanted.by_id, resource, path)?)?;
+    }
+    Ok(())
+}
+
+fn is_found<T: Tree>(wanted: &Wanted<T>, resource: &Resource) -> bool
+    requires originator { IsTrue (is_originator wanted.now.o.now) }
+    requires resource { IsTrue (has resource.now.number (T.nodes wanted.now.tree.now)) }
+    ensures { result ≡ spec.is_found wanted.now.home.now (T.nodes wanted.now.tree.now)
+        wanted.now.o.now wanted.now.filter.now resource.now }
+{
+    let number = resource.number();
+    granted(wanted.tree, wanted.home, wanted.o, DISCOVERY_BIT, number)
+        && meets(wanted.tree, wanted.filter, resource)
+}

@@ -1,0 +1,58 @@
+//! Laws of reading, over every list.
+ghost use Rattle.std.specs.Prelude.{◌≡◌, ℕ, List, IsTrue, Some, false};
+ghost use Rattle.std.specs.List.{All};
+ghost use Rattle.m2m_names.specs.declared.codes.Rsc.TheVariants.{NoPrivilege};
+ghost use Rattle.filter_criteria.specs.declared.filter.FilterParts.{FilterParts};
+ghost use Rattle.primitive_json.specs.declared.request.RequestParts.{RequestParts};
+ghost use Rattle.resource_model.specs.Home.{HomeData};
+ghost use Rattle.resource_model.specs.Resource.{ResourceData};
+ghost use Rattle.tree_model.specs.Tree.{at, has, is_tree, is_well_formed};
+ghost use Rattle.policy_eval.specs.Rights.{grants};
+ghost use Rattle.policy_eval.specs.Seen.{discovery_bit, retrieve_bit, seen_list};
+ghost use Rattle.retrieve_discover.specs.Contents.{referred, shown_below, shown_forest};
+ghost use Rattle.retrieve_discover.specs.Descendants.{listed};
+ghost use Rattle.retrieve_discover.specs.Findings.{found};
+ghost use Rattle.retrieve_discover.specs.Replies.{discovered, refusal, retrieved};
+
+/// What a Retrieve shows below a resource are the first of its descendants on which the originator
+/// has RETRIEVE, and on all between: a filter over the list.
+pub fn what_is_shown_is_a_filter()
+    ensures { (home : HomeData) (nodes : List ResourceData) (o : List ℕ) (n : ℕ)
+        (r : ResourceData) → IsTrue (is_tree nodes) → at n nodes ≡ Some r →
+        listed (shown_forest home nodes o n) ≡ shown_below home nodes o n }
+{}
+
+/// Nothing is shown or found without a grant. Without the right on the target the answer is that
+/// alone, whatever else is asked for. Of other resources those alone are shown or referred to on
+/// which the originator has RETRIEVE, and those alone are found on which it has DISCOVERY.
+pub fn nothing_is_shown_or_found_without_a_grant()
+    ensures retrieved { (home : HomeData) (nodes : List ResourceData) (o : List ℕ)
+        (request : RequestParts) (n : ℕ) → IsTrue (has n nodes) →
+        grants home nodes o retrieve_bit n ≡ false →
+        retrieved home nodes o request n ≡ refusal request NoPrivilege }
+    ensures shown { (home : HomeData) (nodes : List ResourceData) (o : List ℕ) (n : ℕ) →
+        All (λ r. IsTrue (grants home nodes o retrieve_bit r.number))
+        (listed (shown_forest home nodes o n)) }
+    ensures referred { (home : HomeData) (nodes : List ResourceData) (o : List ℕ) (n : ℕ) →
+        All (λ r. IsTrue (grants home nodes o retrieve_bit r.number)) (referred home nodes o n) }
+    ensures discovered { (home : HomeData) (nodes : List ResourceData) (o : List ℕ)
+        (request : RequestParts) (n : ℕ) → grants home nodes o discovery_bit n ≡ false →
+        discovered home nodes o request n ≡ refusal request NoPrivilege }
+    ensures found { (home : HomeData) (nodes : List ResourceData) (o : List ℕ)
+        (f : FilterParts) (n : ℕ) →
+        All (λ r. IsTrue (grants home nodes o discovery_bit r.number)) (found home nodes o f n) }
+{}
+
+/// A discovery is answered the same on the list as its originator sees it.
+pub fn sight_keeps_what_is_found()
+    ensures { (home : HomeData) (nodes : List ResourceData) (o : List ℕ)
+        (request : RequestParts) (n : ℕ) → IsTrue (is_well_formed nodes) →
+        discovered home (seen_list home nodes o) o request n ≡ discovered home nodes o request n }
+{}
+
+/// So is a Retrieve.
+pub fn sight_keeps_what_is_shown()
+    ensures { (home : HomeData) (nodes : List ResourceData) (o : List ℕ)
+        (request : RequestParts) (n : ℕ) → IsTrue (is_well_formed nodes) →
+        retrieved home (seen_list home nodes o) o request n ≡ retrieved home nodes o request n }
+{}

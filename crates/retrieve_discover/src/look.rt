@@ -1,0 +1,46 @@
+//! By whom resources are looked at, and where.
+ghost use Rattle.std.specs.Prelude.{◌≡◌, IfOk, IsTrue};
+ghost use Rattle.m2m_names.specs.Name.{is_originator};
+ghost use Rattle.m2m_value.specs.Node.{HaveTextKeys};
+ghost use Rattle.tree_model.specs.Tree.{has};
+ghost use Rattle.retrieve_discover.specs.Contents as spec;
+
+use m2m_names::Op;
+use m2m_value::Members;
+use policy_eval::granted;
+use std::alloc::{AllocError as OutOfMemory, Global};
+use tree_model::{Home, Resource, Tree, shown};
+
+/// By whom resources are looked at, where, and in which form they are addressed.
+#[derive(Drop)]
+pub(crate) struct Look<'a, T: Tree> {
+    pub tree: &'a T,
+    pub home: &'a Home,
+    pub o: &'a [u8],
+    pub by_id: bool,
+}
+
+/// Whether the originator may retrieve the resource.
+pub(crate) fn may_retrieve<T: Tree>(look: &Look<T>, resource: &Resource) -> bool
+    requires originator { IsTrue (is_originator look.now.o.now) }
+    requires resource { IsTrue (has resource.now.number (T.nodes look.now.tree.now)) }
+    ensures { result ≡ spec.may_retrieve look.now.home.now (T.nodes look.now.tree.now)
+        look.now.o.now resource.now }
+{
+    let bit = Op::Retrieve.bit();
+    granted(look.tree, look.home, look.o, bit, resource.number())
+}
+
+/// The members of a resource's object: its attributes.
+pub(crate) fn members_of<T: Tree>(
+    alloc: Global,
+    look: &Look<T>,
+    resource: &Resource,
+) -> Result<Members, OutOfMemory>
+    ensures value { IfOk result (λ m. m
+        ≡ spec.members look.now.home.now (T.nodes look.now.tree.now) resource.now) }
+    ensures keys { IfOk result (λ m. HaveTextKeys m) }
+{
+    let attrs = shown(alloc, look.tree, look.home, resource)?;
+    tree_model::members_of(alloc, attrs)
+}
