@@ -4,11 +4,7 @@ use Rattle.std.specs.List.{All}
 use Rattle.std.proofs.lemmas.List.Elements.{All-head, All-tail}
 use Rattle.turn_desk.specs.Entries.{readings_of, events_of, outcomes_of}
 use Rattle.resource_model.specs.Home.{HomeData}
-use Rattle.resource_model.specs.Resource.{ResourceData}
-use Rattle.tree_model.specs.Tree.{live}
-use Rattle.policy_eval.specs.Seen.{seen_list}
-use Rattle.policy_eval.proofs.TwiceLemmas.{live-same}
-use Rattle.entity_model.specs.Entity.{EntityData, event_moment, swept}
+use Rattle.entity_model.specs.Entity.{EntityData, swept}
 use Rattle.entity_model.specs.Sound.{IsSound}
 use Rattle.entity_model.proofs.SoundLemmas.{sound_swept}
 use Rattle.cse_machine.specs.declared.event.Event.{Event}
@@ -20,36 +16,9 @@ use Rattle.cse_machine.specs.Sight.{sight, IsBy}
 use Rattle.cse_machine.specs.Step.{Step}
 use Rattle.cse_machine.proofs.HistoryLemmas.{none_some, same_first, same_rest}
 use Rattle.cse_machine.proofs.GuardLemmas.{unchanged}
-use Rattle.cse_machine.proofs.SightLemmas.{replies-alike}
+use Rattle.cse_machine.proofs.SightLemmas.{replies-alike, swept-alike}
 
 module _ (o : List ℕ) (one other : EntityData) (sound : IsSound one) (sounds : IsSound other) (same : sight o one ≡ sight o other) where
-  same_home : one.home ≡ other.home
-  same_home = ap (λ (e : EntityData). e.home) same
-
-  same_last : one.last ≡ other.last
-  same_last = ap (λ (e : EntityData). e.last) same
-
-  same_seen : seen_list one.home one.nodes o ≡ seen_list one.home other.nodes o
-  same_seen = ap (λ (e : EntityData). e.nodes) same ∙ ap (λ (h : HomeData). seen_list h other.nodes o) (sym same_home)
-
-  -- what is left of both at a moment is seen alike
-  seen_left : (reading : ℕ) → seen_list one.home (live (event_moment one.last reading) one.nodes) o ≡ seen_list other.home (live (event_moment other.last reading) other.nodes) o
-  seen_left reading =
-      live-same one.home one.nodes other.nodes o (event_moment one.last reading) sound.tree sounds.tree same_seen
-      ∙ ap (λ (h : HomeData). seen_list h (live (event_moment one.last reading) other.nodes) o) same_home
-      ∙ ap (λ (n : ℕ). seen_list other.home (live (event_moment n reading) other.nodes) o) same_last
-
-  -- the entity of these parts
-  abbrev entity_of : HomeData → List ResourceData → ℕ → ℕ → EntityData
-  entity_of home nodes next last = record { home = home; nodes = nodes; next = next; last = last }
-
-  pub swept-alike : (reading : ℕ) → sight o (swept reading one) ≡ sight o (swept reading other)
-  swept-alike reading =
-      ap (λ (ns : List ResourceData). entity_of one.home ns one.next (event_moment one.last reading)) (seen_left reading)
-      ∙ ap (λ (h : HomeData). entity_of h (seen_list other.home (live (event_moment other.last reading) other.nodes) o) one.next (event_moment one.last reading)) same_home
-      ∙ ap (λ (n : ℕ). entity_of other.home (seen_list other.home (live (event_moment other.last reading) other.nodes) o) n (event_moment one.last reading)) (ap (λ (e : EntityData). e.next) same)
-      ∙ ap (λ (n : ℕ). entity_of other.home (seen_list other.home (live (event_moment other.last reading) other.nodes) o) other.next (event_moment n reading)) same_last
-
   -- a step of both
   step_alike : (reading : ℕ) (event : Event) (after left : EntityData) (outcome twin : Outcome) → IsBy one.home o event → Step reading event one outcome after → Step reading event other twin left → IsDone outcome → IsDone twin
       → (outcome ≡ twin) × (sight o after ≡ sight o left) × IsSound after × IsSound left × (one.home ≡ after.home)
@@ -57,7 +26,7 @@ module _ (o : List ℕ) (one other : EntityData) (sound : IsSound one) (sounds :
       let mine : after ≡ swept reading one = first.1 ∙ unchanged (swept reading one) request in
       let theirs : left ≡ swept reading other = second.1 ∙ unchanged (swept reading other) request in (
         first.0 ∙ ap Done (replies-alike one other o reading request sound sounds same by) ∙ sym second.0,
-        ap (sight o) mine ∙ swept-alike reading ∙ sym (ap (sight o) theirs),
+        ap (sight o) mine ∙ swept-alike o one other sound.tree sounds.tree same reading ∙ sym (ap (sight o) theirs),
         subst IsSound (sym mine) (sound_swept reading one sound),
         subst IsSound (sym theirs) (sound_swept reading other sounds),
         sym (ap (λ (e : EntityData). e.home) mine),

@@ -12,9 +12,9 @@ use Rattle.m2m_names.specs.declared.types.Ty.TheVariants.{AccessControlPolicy, A
 use Rattle.m2m_names.proofs.AttributeLemmas.{attr_again}
 use Rattle.m2m_value.specs.Data.{Data, object, pairs_of}
 use Rattle.resource_model.specs.Attributes.{Row}
-use Rattle.tree_model.specs.Shown.{members_of, wrapped}
+use Rattle.tree_model.specs.Shown.{members_of}
 use Rattle.policy_eval.specs.Rules.{member_at}
-use Rattle.cse_machine.specs.Contents.{is_type_name, values_under, unframed, ids_shown, ids_below, references_shown, references_in, addresses_in}
+use Rattle.cse_machine.specs.Contents.{is_type_name, values_under}
 
 -- what passes one test in a list whose elements all pass another passes that one
 found_passes : (p q : Attr → Bool) (xs : List Attr) (a : Attr) → find p xs ≡ Some a → list_all q xs ≡ true → q a ≡ true
@@ -37,15 +37,15 @@ no_type_name a = not-true _ (and_parts (not (is_type_name (attr_short a))) _ (pl
 no_reference_name : (a : Attr) → bytes_eq (codes "ch") (attr_short a) ≡ false
 no_reference_name a = not-true _ (and_parts (not (is_type_name (attr_short a))) _ (plain_name a)).1
 
-none_under : (rows : List Row) → values_under (pairs_of (members_of rows)) ≡ []
+pub none_under : (rows : List Row) → values_under (pairs_of (members_of rows)) ≡ []
 none_under [] = refl
 none_under (row ∷ rows) = rw (no_type_name row.0) (none_under rows)
 
-none_referred : (rows : List Row) → member_at (codes "ch") (object (pairs_of (members_of rows))) ≡ None
+pub none_referred : (rows : List Row) → member_at (codes "ch") (object (pairs_of (members_of rows))) ≡ None
 none_referred [] = refl
 none_referred (row ∷ rows) = rw (no_reference_name row.0) (none_referred rows)
 
-no_list : (ty : Ty) → bytes_eq (codes "m2m:uril") (ty_member ty) ≡ false
+pub no_list : (ty : Ty) → bytes_eq (codes "m2m:uril") (ty_member ty) ≡ false
 no_list AccessControlPolicy = refl
 no_list Ae = refl
 no_list Container = refl
@@ -61,7 +61,7 @@ no_list ContainerAnnc = refl
 no_list ContentInstanceAnnc = refl
 no_list GroupAnnc = refl
 
-no_frame : (ty : Ty) → bytes_eq (codes "m2m:rce") (ty_member ty) ≡ false
+pub no_frame : (ty : Ty) → bytes_eq (codes "m2m:rce") (ty_member ty) ≡ false
 no_frame AccessControlPolicy = refl
 no_frame Ae = refl
 no_frame Container = refl
@@ -76,18 +76,6 @@ no_frame AeAnnc = refl
 no_frame ContainerAnnc = refl
 no_frame ContentInstanceAnnc = refl
 no_frame GroupAnnc = refl
-
-unframed-wrapped : (ty : Ty) (rows : List Row) → unframed (wrapped ty rows) ≡ wrapped ty rows
-unframed-wrapped ty rows = rw (no_frame ty) refl
-
-pub no_ids : (ty : Ty) (rows : List Row) → ids_below (wrapped ty rows) ≡ []
-no_ids ty rows = ap ids_shown (unframed-wrapped ty rows) ∙ rw (none_under rows) refl
-
-pub no_references : (ty : Ty) (rows : List Row) → references_in (wrapped ty rows) ≡ []
-no_references ty rows = ap references_shown (unframed-wrapped ty rows) ∙ rw (none_referred rows) refl
-
-pub no_addresses : (ty : Ty) (rows : List Row) → addresses_in (wrapped ty rows) ≡ []
-no_addresses ty rows = rw (no_list ty) refl
 
 pub nothing_in : {A : Type 0} (x : A) → Contains [] x → ⊥
 nothing_in x there = omega (arith, there.1)

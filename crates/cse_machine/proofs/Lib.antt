@@ -1,8 +1,9 @@
-pub mod AddressLemmas
-pub mod ServedLemmas
+pub mod PlaceLemmas
+pub mod NamedLemmas
 pub mod ContentLemmas
+pub mod ShownLemmas
 pub mod WayLemmas
-pub mod SightLemmas
 pub mod GuardLemmas
 pub mod HistoryLemmas
+pub mod SightLemmas
 pub mod AlikeLemmas

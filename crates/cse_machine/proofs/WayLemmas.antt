@@ -1,50 +1,133 @@
--- What comes of a request: a refusal, or what a Retrieve gives.
+-- What comes of a request: a refusal, or what reading a resource gives.
+use Rattle.std.specs.Prelude.{not}
 use Rattle.std.proofs.Common.{◌≡◌, ◌⊎◌, ℕ, List, Bool, true, false, Option, Some, None, inl, inr, refl, sym, ap, subst, ◌∙◌}
-use Rattle.std.proofs.lemmas.Bool.{cases_Bool}
+use Rattle.std.specs.Option.{option_and_then, option_map_or}
+use Rattle.std.proofs.lemmas.Bool.{cases_Bool, false≢true}
 use Rattle.m2m_names.specs.declared.codes.Rsc.{Rsc}
-use Rattle.m2m_names.specs.declared.codes.Rsc.TheVariants.{BadRequest, NotFound, NoPrivilege}
+use Rattle.m2m_names.specs.declared.codes.Rsc.TheVariants.{BadRequest, NonBlocking, NotFound, NoPrivilege, RequestTimeout}
+use Rattle.m2m_names.specs.declared.operations.Op.{Op}
+use Rattle.m2m_names.specs.declared.operations.Op.TheVariants.{Create, Retrieve, Update, Delete, Notify}
+use Rattle.primitive_json.specs.declared.reply.ReplyParts.{ReplyParts}
 use Rattle.primitive_json.specs.declared.request.RequestParts.{RequestParts}
 use Rattle.resource_model.specs.Resource.{ResourceData}
+use Rattle.tree_model.specs.Tree.{at}
+use Rattle.tree_model.proofs.TreeLemmas.{at_number}
+use Rattle.addressing.specs.Laws.{named_by}
+use Rattle.addressing.specs.declared.spot.Spot.{Spot}
+use Rattle.addressing.specs.declared.spot.Spot.TheVariants.{Resource, Fan, Poll}
+use Rattle.policy_eval.specs.Rights.{grants}
+use Rattle.policy_eval.specs.Seen.{discovery_bit, retrieve_bit}
 use Rattle.entity_model.specs.Entity.{EntityData}
-use Rattle.entity_model.specs.Places.{Effect, refused, unless_refused}
-use Rattle.cse_machine.specs.Answer.{is_served, first_places, retrieved, operated, addressed, reached, effect_of}
-use Rattle.cse_machine.specs.Guard.{is_success}
-use Rattle.cse_machine.specs.Rights.{has_right}
+use Rattle.entity_model.specs.Places.{Effect, answering, refusal, refused}
+use Rattle.retrieve_discover.specs.Conditions.{meets_any}
+use Rattle.retrieve_discover.specs.Contents.{content}
+use Rattle.retrieve_discover.specs.Findings.{address_list, found_addresses}
+use Rattle.retrieve_discover.specs.Replies.{discovered, is_by_id, retrieved, retrieved_of, success}
+use Rattle.cse_machine.specs.Answer.{is_retrieve, is_served, has_originator, has_address, is_in_time, is_blocking, reading_reply, resource_at, addressed, to_resource, at_spot, effect_of}
+use Rattle.cse_machine.specs.Guard.{is_success, fan_group, fanned}
+use Rattle.cse_machine.specs.Rights.{claimed_originator, is_discovery}
+
+-- ---- a request
 
 -- it is refused, and so nothing changes
 abbrev pub IsRefused : EntityData → RequestParts → Effect → Type 0
 IsRefused e request effect = (fault : Rsc) × (is_success fault ≡ false) × (effect ≡ refused e request fault)
 
--- it gives what a Retrieve does, to an originator with the right
-pub record IsRetrieved (e : EntityData) (request : RequestParts) (effect : Effect) : Type 0 where
+-- it gives what reading the resource that its address names gives
+pub record IsRead (e : EntityData) (request : RequestParts) (effect : Effect) : Type 0 where
   pub target : ResourceData
+  pub there : at target.number e.nodes ≡ Some target
   pub named : addressed e request.to ≡ Some target
-  pub right : has_right e request target.number ≡ true
-  pub served : is_served request ≡ true
-  pub is : effect ≡ retrieved e request target
+  pub alone : fanned e request.to ≡ None
+  pub retrieves : request.op ≡ Retrieve
+  pub is : effect ≡ answering e (reading_reply e request target.number)
+
+only_retrieve : (op : Op) → is_retrieve op ≡ true → op ≡ Retrieve
+only_retrieve Create t = absurd (false≢true t)
+only_retrieve Retrieve t = refl
+only_retrieve Update t = absurd (false≢true t)
+only_retrieve Delete t = absurd (false≢true t)
+only_retrieve Notify t = absurd (false≢true t)
 
 module _ (e : EntityData) (request : RequestParts) where
   abbrev Ways : Effect → Type 0
-  Ways effect = IsRefused e request effect ⊎ IsRetrieved e request effect
+  Ways effect = IsRefused e request effect ⊎ IsRead e request effect
 
-  on_target : (target : ResourceData) → is_served request ≡ true → addressed e request.to ≡ Some target → Ways (operated e request target)
-  on_target target served named = elim (cases_Bool (has_right e request target.number)) [
-    | inl t ↦ inr (record { target = target; named = named; right = t; served = served; is = rw t refl })
-    | inr f ↦ inl (NoPrivilege, refl, rw f refl)
-  ]
+  on_resource : (n : ℕ) (o : Option ResourceData) → request.op ≡ Retrieve → named_by e.home request.to e.nodes ≡ Some (Resource n) → at n e.nodes ≡ o → Ways (to_resource e request o)
+  on_resource n None op is found = inl (NotFound, refl, refl)
+  on_resource n (Some r) op is found = inr (record {
+    target = r;
+    there = ap (λ (m : ℕ). at m e.nodes) (at_number n e.nodes r found) ∙ found;
+    named = ap (option_and_then (resource_at e.nodes)) is ∙ found;
+    alone = ap (option_and_then fan_group) is;
+    retrieves = op;
+    is = refl;
+  })
 
-  on_named : (target : Option ResourceData) → is_served request ≡ true → addressed e request.to ≡ target → Ways (reached e request target)
-  on_named None served named = inl (NotFound, refl, refl)
-  on_named (Some target) served named = on_target target served named
+  on_spot : (spot : Option Spot) → request.op ≡ Retrieve → named_by e.home request.to e.nodes ≡ spot → Ways (at_spot e request spot)
+  on_spot None op is = inl (NotFound, refl, refl)
+  on_spot (Some (Resource n)) op is = on_resource n (at n e.nodes) op is refl
+  on_spot (Some (Fan group rest)) op is = inl (BadRequest, refl, refl)
+  on_spot (Some (Poll channel)) op is = inl (BadRequest, refl, refl)
 
-  passed : is_served request ≡ true → effect_of e request ≡ reached e request (addressed e request.to)
-  passed t = rw t refl
-
-  stopped : is_served request ≡ false → effect_of e request ≡ refused e request BadRequest
-  stopped f = rw f refl
+  abbrev spot_is : Option Spot
+  spot_is = named_by e.home request.to e.nodes
 
   pub two_ways : Ways (effect_of e request)
   two_ways = elim (cases_Bool (is_served request)) [
-    | inl t ↦ subst Ways (sym (passed t)) (on_named (addressed e request.to) t refl)
-    | inr f ↦ inl (BadRequest, refl, stopped f)
+    | inr f ↦ inl (BadRequest, refl, rw f refl)
+    | inl s ↦ elim (cases_Bool (has_originator e.home request)) [
+      | inr f ↦ inl (BadRequest, refl, rw (s, f) refl)
+      | inl o ↦ elim (cases_Bool (has_address e.home request)) [
+        | inr f ↦ inl (BadRequest, refl, rw (s, o, f) refl)
+        | inl a ↦ elim (cases_Bool (is_in_time e request)) [
+          | inr f ↦ inl (RequestTimeout, refl, rw (s, o, a, f) refl)
+          | inl t ↦ elim (cases_Bool (is_blocking request)) [
+            | inr f ↦ inl (NonBlocking, refl, rw (s, o, a, t, f) refl)
+            | inl b ↦
+                let passed : effect_of e request ≡ at_spot e request spot_is = rw (s, o, a, t, b) refl in
+                subst Ways (sym passed) (on_spot spot_is (only_retrieve request.op s) refl)
+          ]
+        ]
+      ]
+    ]
+  ]
+
+-- ---- reading
+
+-- reading is refused; or it gives, by the right, what was looked for, or what is shown
+pub data Reading (e : EntityData) (request : RequestParts) (r : ResourceData) (reply : ReplyParts) : Type 0 where
+  denied : (fault : Rsc) → is_success fault ≡ false → reply ≡ refusal request fault → Reading e request r reply
+  searched : is_discovery request ≡ true → grants e.home e.nodes (claimed_originator e.home request) discovery_bit r.number ≡ true
+      → reply ≡ success request (address_list (found_addresses e.home e.nodes (claimed_originator e.home request) (is_by_id request) request.fc r.number)) → Reading e request r reply
+  shown : is_discovery request ≡ false → grants e.home e.nodes (claimed_originator e.home request) retrieve_bit r.number ≡ true
+      → reply ≡ success request (content e.home e.nodes (claimed_originator e.home request) (is_by_id request) request.rcn r) → Reading e request r reply
+
+module _ (e : EntityData) (request : RequestParts) (r : ResourceData) (there : at r.number e.nodes ≡ Some r) where
+  abbrev o : List ℕ
+  o = claimed_originator e.home request
+
+  found_way : is_discovery request ≡ true → Reading e request r (discovered e.home e.nodes o request r.number)
+  found_way d = elim (cases_Bool (grants e.home e.nodes o discovery_bit r.number)) [
+    | inl t ↦ searched d t (rw t refl)
+    | inr f ↦ denied NoPrivilege refl (rw f refl)
+  ]
+
+  shown_way : is_discovery request ≡ false → Reading e request r (retrieved_of e.home e.nodes o request r)
+  shown_way d = elim (cases_Bool (grants e.home e.nodes o retrieve_bit r.number)) [
+    | inr f ↦ denied NoPrivilege refl (rw f refl)
+    | inl t ↦ elim (cases_Bool (meets_any e.nodes request.fc r)) [
+      | inr f ↦ denied NotFound refl (rw (t, f) refl)
+      | inl m ↦ shown d t (rw (t, m) refl)
+    ]
+  ]
+
+  pub reading : Reading e request r (reading_reply e request r.number)
+  reading = elim (cases_Bool (is_discovery request)) [
+    | inl d ↦ (let is : reading_reply e request r.number ≡ discovered e.home e.nodes o request r.number = rw d refl in subst (Reading e request r) (sym is) (found_way d))
+    | inr d ↦
+        let is : reading_reply e request r.number ≡ retrieved e.home e.nodes o request r.number = rw d refl in
+        let of : retrieved e.home e.nodes o request r.number ≡ retrieved_of e.home e.nodes o request r =
+        ap (λ (x : Option ResourceData). option_map_or (retrieved_of e.home e.nodes o request) x (refusal request NotFound)) there in
+        subst (Reading e request r) (sym (is ∙ of)) (shown_way d)
   ]

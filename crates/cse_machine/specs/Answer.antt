@@ -1,23 +1,32 @@
 -- What a CSE answers a request (TS-0001, 10.2; TS-0004, 7.2 and 7.3.3).
-use Rattle.std.specs.Prelude.{◌≡◌, ℕ, Bool, true, false, ◌&&◌, List, [], ◌∷◌, Option, Some, None}
-use Rattle.std.specs.Prelude.{is_none, slice_get, bytes_eq, if◌then◌else◌}
+use Rattle.std.specs.Prelude.{◌≡◌, ℕ, pos, nat_lt, Bool, true, false, not, List, [], ◌∷◌, Option}
+use Rattle.std.specs.Prelude.{Some, None, is_ok, is_some, option_and_then, if◌then◌else◌}
 use Rattle.std.specs.Option.{option_map_or}
-use Rattle.m2m_names.specs.Name.{is_name, is_local_originator}
-use Rattle.m2m_names.specs.declared.codes.Rsc.TheVariants.{Ok as Fine, BadRequest, Internal}
-use Rattle.m2m_names.specs.declared.codes.Rsc.TheVariants.{NotFound, NoPrivilege}
+use Rattle.std.specs.Ordering.{int_eq}
+use Rattle.m2m_names.specs.declared.codes.Rsc.TheVariants.{BadRequest, Internal, NonBlocking}
+use Rattle.m2m_names.specs.declared.codes.Rsc.TheVariants.{NotFound, RequestTimeout}
 use Rattle.m2m_names.specs.declared.operations.Op.{Op}
 use Rattle.m2m_names.specs.declared.operations.Op.TheVariants.{Create, Retrieve, Update, Delete}
 use Rattle.m2m_names.specs.declared.operations.Op.TheVariants.{Notify}
 use Rattle.primitive_json.specs.declared.reply.ReplyParts.{ReplyParts}
 use Rattle.primitive_json.specs.declared.request.RequestParts.{RequestParts}
+use Rattle.primitive_json.specs.declared.request.When.{When}
+use Rattle.primitive_json.specs.declared.request.When.TheVariants.{At, Millis}
+use Rattle.resource_model.specs.Home.{HomeData}
 use Rattle.resource_model.specs.Resource.{ResourceData}
-use Rattle.tree_model.specs.Shown.{attributes_of}
+use Rattle.tree_model.specs.Tree.{at}
+use Rattle.addressing.specs.Addresses.{address_of}
+use Rattle.addressing.specs.Laws.{named_by}
+use Rattle.addressing.specs.Short.{short_of}
+use Rattle.addressing.specs.declared.spot.Spot.{Spot}
+use Rattle.addressing.specs.declared.spot.Spot.TheVariants.{Resource, Fan, Poll}
 use Rattle.entity_model.specs.Entity.{EntityData}
-use Rattle.entity_model.specs.Places.{reply_to, refusal, Effect, answering, refused, Place, unless}
+use Rattle.entity_model.specs.Places.{refusal, Effect, answering, refused, Place, unless}
 use Rattle.entity_model.specs.Places.{unless_refused}
+use Rattle.retrieve_discover.specs.Replies.{discovered, retrieved}
 use Rattle.cse_machine.specs.declared.event.Outcome.{Outcome}
 use Rattle.cse_machine.specs.declared.event.Outcome.TheVariants.{Done}
-use Rattle.cse_machine.specs.Rights.{has_right}
+use Rattle.cse_machine.specs.Rights.{claimed_originator, is_discovery}
 
 -- the reply where memory ran out
 abbrev pub starved : RequestParts → ReplyParts
@@ -33,59 +42,93 @@ is_retrieve Update = false
 is_retrieve Delete = false
 is_retrieve Notify = false
 
--- it has no filter and no other wish
-abbrev pub is_plain : RequestParts → Bool
-is_plain request =
-    is_none request.rqet && is_none request.rt && is_none request.rcn && is_none request.fc
-    && is_none request.drt
-
--- a Retrieve of one name by an originator in its short form, with no filter and no other wish
-abbrev pub is_plain_retrieve : RequestParts → Bool
-is_plain_retrieve request =
-    is_retrieve request.op && is_name request.to
-    && option_map_or is_local_originator request.fr false && is_plain request
-
 -- the requests that are served so far
 abbrev pub is_served : RequestParts → Bool
-is_served request = is_plain_retrieve request
+is_served request = is_retrieve request.op
+
+-- ---- where a request is refused whatever its address names
+
+-- it says who asks, by a text that has a short form (TS-0001, 7.2 and 8.1.2)
+abbrev pub has_originator : HomeData → RequestParts → Bool
+has_originator home request = is_some (option_and_then (short_of home) request.fr)
+
+-- it is sent to an address (TS-0001, 9.3.1)
+abbrev pub has_address : HomeData → RequestParts → Bool
+has_address home request = is_ok (address_of home request.to)
+
+-- the expiry is at an earlier moment; milliseconds never pass (TS-0001, 8.1.2)
+abbrev pub is_past : ℕ → When → Bool
+is_past moment (At at) = nat_lt at moment
+is_past moment (Millis n) = false
+
+abbrev pub is_in_time : EntityData → RequestParts → Bool
+is_in_time e request = not (option_map_or (is_past e.last) request.rqet false)
+
+-- its response type, where one is given, is blockingRequest (TS-0001, 8.2.1; TS-0004, 6.3.4.2.6)
+abbrev pub is_blocking : RequestParts → Bool
+is_blocking request = option_map_or (λ z. int_eq z (pos 3)) request.rt true
+
+-- these places, from the last back to the first: by when and how it is answered; by its address; by
+-- its originator; and as one that isn't served yet, which counts as malformed (TS-0004, 7.3.2.1)
+abbrev pub time_places : EntityData → RequestParts → List Place
+time_places e request =
+    unless (is_in_time e request) RequestTimeout ∷ unless (is_blocking request) NonBlocking ∷ []
+
+abbrev pub address_places : EntityData → RequestParts → List Place
+address_places e request =
+    unless (has_address e.home request) BadRequest ∷ time_places e request
+
+abbrev pub originator_places : EntityData → RequestParts → List Place
+originator_places e request =
+    unless (has_originator e.home request) BadRequest ∷ address_places e request
+
+abbrev pub first_places : EntityData → RequestParts → List Place
+first_places e request = unless (is_served request) BadRequest ∷ originator_places e request
 
 -- ---- one operation
 
--- where a request is refused on a resource that is there: without the right that it needs
--- (TS-0004, 7.3.3.15)
-abbrev pub places_on : EntityData → RequestParts → ResourceData → List Place
-places_on e request target = unless (has_right e request target.number) NoPrivilege ∷ []
-
--- what a Retrieve of a resource gives: its attributes (TS-0001, 10.2.3; TS-0004, 7.3.3)
-abbrev pub retrieved : EntityData → RequestParts → ResourceData → Effect
-retrieved e request target =
-    answering e (reply_to request Fine (Some (attributes_of e.home e.nodes target)))
+-- what a Retrieve of the resource of a number is answered (TS-0001, 10.2.3 and 10.2.6)
+abbrev pub reading_reply : EntityData → RequestParts → ℕ → ReplyParts
+reading_reply e request n =
+    if is_discovery request
+    then discovered e.home e.nodes (claimed_originator e.home request) request n
+    else retrieved e.home e.nodes (claimed_originator e.home request) request n
 
 -- what an operation on a resource gives
 abbrev pub operated : EntityData → RequestParts → ResourceData → Effect
-operated e request target =
-    unless_refused (places_on e request target) e request (retrieved e request target)
+operated e request target = answering e (reading_reply e request target.number)
 
 -- ---- one request
 
--- where a request is refused whatever it addresses: where it isn't served yet, it counts as
--- malformed (TS-0004, 7.3.2.1)
-abbrev pub first_places : RequestParts → List Place
-first_places request = unless (is_served request) BadRequest ∷ []
+-- the resource at what an address names
+abbrev pub resource_at : List ResourceData → Spot → Option ResourceData
+resource_at nodes (Resource n) = at n nodes
+resource_at nodes (Fan group rest) = None
+resource_at nodes (Poll channel) = None
 
--- the resource that an address names: so far the CSEBase, by its name (TS-0001, 9.3.1)
+-- the resource that an address names (TS-0001, 9.3.1)
 abbrev pub addressed : EntityData → List ℕ → Option ResourceData
-addressed e to = if bytes_eq to e.home.base then slice_get e.nodes 0 else None
+addressed e to = option_and_then (resource_at e.nodes) (named_by e.home to e.nodes)
 
--- what a request gives on what its address names; that this is nothing comes before any right
-abbrev pub reached : EntityData → RequestParts → Option ResourceData → Effect
-reached e request None = refused e request NotFound
-reached e request (Some target) = operated e request target
+-- what a request to a resource gives
+abbrev pub to_resource : EntityData → RequestParts → Option ResourceData → Effect
+to_resource e request None = refused e request NotFound
+to_resource e request (Some target) = operated e request target
+
+-- what a request gives at what its address names. That this is nothing comes before any right; so
+-- does a foreign address, as no request goes on to another CSE yet. Fan-out points and poll points
+-- aren't served yet.
+abbrev pub at_spot : EntityData → RequestParts → Option Spot → Effect
+at_spot e request None = refused e request NotFound
+at_spot e request (Some (Resource n)) = to_resource e request (at n e.nodes)
+at_spot e request (Some (Fan group rest)) = refused e request BadRequest
+at_spot e request (Some (Poll channel)) = refused e request BadRequest
 
 -- what comes of a request to an entity from which what is due is gone
 abbrev pub effect_of : EntityData → RequestParts → Effect
 effect_of e request =
-    unless_refused (first_places request) e request (reached e request (addressed e request.to))
+    unless_refused (first_places e request) e request
+    (at_spot e request (named_by e.home request.to e.nodes))
 
 -- the outcome, and the entity after it
 abbrev pub given : EntityData → RequestParts → Outcome × EntityData

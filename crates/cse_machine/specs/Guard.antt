@@ -33,6 +33,7 @@ use Rattle.addressing.specs.declared.spot.Spot.{Spot}
 use Rattle.addressing.specs.declared.spot.Spot.TheVariants.{Resource, Fan, Poll}
 use Rattle.entity_model.specs.Entity.{EntityData, swept}
 use Rattle.entity_model.specs.Places.{reply_to}
+use Rattle.entity_model.specs.Sound.{IsSound}
 use Rattle.cse_machine.specs.declared.event.Event.{Event}
 use Rattle.cse_machine.specs.declared.event.Event.TheVariants.{Ask}
 use Rattle.cse_machine.specs.declared.event.Outcome.{Outcome}
@@ -246,18 +247,20 @@ abbrev pub IsGuarded : EntityData → RequestParts → ReplyParts → EntityData
 IsGuarded before request reply after =
     IsGuardedAt (fanned before request.to) before request reply after
 
--- Each step is guarded, in the entity from which what is due is gone.
+-- Each step of a sound entity is guarded, in the entity from which what is due is gone.
 abbrev pub StepsAreGuarded : Type 0
 StepsAreGuarded =
     (reading : ℕ) (request : RequestParts) (before after : EntityData) (reply : ReplyParts)
-    → Step reading (Ask request) before (Done reply) after
+    → IsSound before → Step reading (Ask request) before (Done reply) after
     → IsGuarded (swept reading before) request reply after
 
--- In a legal history each request was guarded in the entity that the requests before it left.
+-- In a legal history from a sound entity each request was guarded in the entity that the requests
+-- before it left.
 abbrev pub HistoriesAreGuarded : Type 0
 HistoriesAreGuarded =
     (opening e : EntityData) (earlier later : History)
     (reading : ℕ) (request : RequestParts) (reply : ReplyParts)
+    → IsSound opening
     → Leaves opening (earlier ++ entry_of reading (Ask request) (Done reply) ∷ later) e
     → (before : EntityData) × (after : EntityData)
     × Leaves opening earlier before

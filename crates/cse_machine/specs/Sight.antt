@@ -12,7 +12,7 @@ use Rattle.entity_model.specs.Sound.{IsSound}
 use Rattle.cse_machine.specs.declared.event.Event.{Event}
 use Rattle.cse_machine.specs.declared.event.Event.TheVariants.{Ask}
 use Rattle.cse_machine.specs.declared.event.Outcome.TheVariants.{Done}
-use Rattle.cse_machine.specs.Answer.{is_plain_retrieve, is_served, given}
+use Rattle.cse_machine.specs.Answer.{is_retrieve, is_served, given}
 use Rattle.cse_machine.specs.History.{History, Leaves, IsDone}
 use Rattle.cse_machine.specs.Rights.{claimed_originator}
 use Rattle.cse_machine.specs.Step.{Step}
@@ -42,10 +42,10 @@ EqualSightsHaveOneShape =
     → IsSound left → IsSound right → sight o left ≡ sight o right
     → shape o left ≡ shape o right
 
--- the requests of which the laws of equal sight speak so far: a plain Retrieve, and what isn't
--- served, which every entity refuses alike
+-- the requests of which the laws of equal sight speak so far: a Retrieve, and what isn't served,
+-- which every entity refuses alike
 abbrev pub is_covered : RequestParts → Bool
-is_covered request = is_plain_retrieve request || not (is_served request)
+is_covered request = is_retrieve request.op || not (is_served request)
 
 -- the request is one of them, and judged as this originator's, or anyone's where it isn't served
 abbrev pub IsRequestBy : HomeData → List ℕ → RequestParts → Type 0

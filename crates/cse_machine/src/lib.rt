@@ -4,7 +4,8 @@
 //! entity is then the one after it. Both are exactly the relation `Step` of `specs/Step`: one
 //! function of the entity without what is due and of the request, and want of memory as the one
 //! free answer. Every request may be asked. Those that aren't served yet (`is_served` of
-//! `specs/Answer`) are answered as malformed: so far all but a plain Retrieve of one name.
+//! `specs/Answer`) are answered as malformed: so far all but a Retrieve, and that of a virtual
+//! resource, a fan-out point or a poll point.
 //!
 //! Laws over every history stand on functions without a body. What is shown or changed is so by a
 //! grant to the originator; and an originator is answered by no more than it sees, in the requests
@@ -12,9 +13,9 @@
 #![tactic(auto)]
 
 mod event;
+mod judging;
 mod laws;
 mod machine;
-mod served;
 
 pub use event::{Event, Outcome};
 pub use laws::{

@@ -1,22 +1,29 @@
 //! One event after another.
-ghost use Rattle.std.specs.Prelude.{◌≡◌, codes, IfOk, IsTrue, option_map, unwrap_or};
-ghost use Rattle.tree_model.specs.Tree.{has};
-ghost use Rattle.entity_model.specs.Places as places;
-ghost use Rattle.entity_model.specs.Places.{first_fault, refusal};
-ghost use Rattle.cse_machine.specs.Answer as spec;
-ghost use Rattle.cse_machine.specs.Answer.{is_served, effect_of, operated, places_on, retrieved};
+ghost use Rattle.std.specs.Prelude.{◌≡◌, ◌<◌, IfOk, IfSome, IsTrue, Ok, option_map};
+ghost use Rattle.std.specs.Prelude.{option_and_then};
+ghost use Rattle.m2m_names.specs.Name.{is_originator};
+ghost use Rattle.tree_model.specs.Tree.{at, has};
+ghost use Rattle.addressing.specs.Addresses.{address_of};
+ghost use Rattle.addressing.specs.Laws.{named_by, named_here};
+ghost use Rattle.addressing.specs.Names.{IsLocal, segments_of, spot_of};
+ghost use Rattle.addressing.specs.Short.{short_of};
+ghost use Rattle.entity_model.specs.Places.{refusal, unless_refused};
+ghost use Rattle.cse_machine.specs.Answer.{address_places, at_spot, effect_of, reading_reply};
+ghost use Rattle.cse_machine.specs.Answer.{time_places, to_resource};
 ghost use Rattle.cse_machine.specs.Rights as rights;
 ghost use Rattle.cse_machine.specs.Step.{Step};
 
 use crate::event::{Event, Outcome};
-use crate::served::is_served;
+use crate::judging::{is_blocking, is_discovery, is_in_time, is_served};
+use addressing::{Addr, AddrFault, Spot, parse, resolve, short_fr};
 use entity_model::{Entity, sweep};
-use m2m_names::{Op, Rsc};
-use m2m_value::Val;
-use policy_eval::granted;
+use m2m_names::Rsc;
 use primitive_json::{Reply, ReplyParts, Request};
+use retrieve_discover::{discover, retrieve};
 use std::alloc::{AllocError as OutOfMemory, Global};
-use tree_model::{Resource, Tree, attributes};
+use std::marker::Brand;
+use std::sync::ledger::{Blank, Ledger};
+use tree_model::{Home, Resource, Steps, Tree};
 
 /// Takes one event at a reading of the clock, in seconds since 1970: what is due by then is
 /// removed, and the request is answered on what is left. Where memory runs out, nothing has changed
@@ -53,114 +60,160 @@ fn answer<T: Tree>(
     if !is_served(request) {
         return refuse(alloc, request, Rsc::BadRequest);
     }
-    match addressed(entity, request.parts().to.entries()) {
-        Some(target) => operate(alloc, entity, request, target),
+    match originator(&entity.home, request) {
+        Some(o) => answer_to(alloc, entity, request, o),
+        None => refuse(alloc, request, Rsc::BadRequest),
+    }
+}
+
+// Whom the request is judged as, in the short form.
+fn originator<'a>(home: &Home, request: &'a Request) -> Option<&'a [u8]>
+    ensures value { option_map (λ o. o.now) result
+        ≡ option_and_then (short_of home.now) request.now.fr }
+    ensures originator { IfSome result (λ o. IsTrue (is_originator o.now)) }
+{
+    match &request.parts().fr {
+        Some(fr) => short_fr(fr.entries(), home),
+        None => None,
+    }
+}
+
+// What the request of this originator gives, by its address.
+fn answer_to<T: Tree>(
+    alloc: Global,
+    entity: &Entity<T>,
+    request: &Request,
+    o: &[u8],
+) -> Result<Reply, OutOfMemory>
+    requires originator { IsTrue (is_originator o.now) }
+    requires claimed { rights.claimed_originator entity.now.home request.now ≡ o.now }
+    ensures { IfOk result (λ r. r ≡ (unless_refused (address_places entity.now request.now)
+        entity.now request.now (at_spot entity.now request.now
+        (named_by entity.now.home request.now.to entity.now.nodes))).reply) }
+{
+    match parse(alloc, request.parts().to.entries(), &entity.home) {
+        Ok(addr) => answer_at(alloc, entity, request, o, &addr),
+        Err(AddrFault::OutOfMemory) => Err(OutOfMemory),
+        Err(_) => refuse(alloc, request, Rsc::BadRequest),
+    }
+}
+
+// What it gives at an address.
+fn answer_at<T: Tree>(
+    alloc: Global,
+    entity: &Entity<T>,
+    request: &Request,
+    o: &[u8],
+    addr: &Addr,
+) -> Result<Reply, OutOfMemory>
+    requires originator { IsTrue (is_originator o.now) }
+    requires claimed { rights.claimed_originator entity.now.home request.now ≡ o.now }
+    ensures { IfOk result (λ r. r ≡ (unless_refused (time_places entity.now request.now)
+        entity.now request.now (at_spot entity.now request.now
+        (named_here (Ok addr.now) entity.now.nodes))).reply) }
+{
+    if !is_in_time(entity, request) {
+        return refuse(alloc, request, Rsc::RequestTimeout);
+    }
+    if !is_blocking(request) {
+        return refuse(alloc, request, Rsc::NonBlocking);
+    }
+    reach(alloc, entity, request, o, named(&entity.tree, addr))
+}
+
+// What an address names here. Steps aren't counted.
+fn named<T: Tree>(tree: &T, addr: &Addr) -> Option<Spot>
+    ensures { result ≡ named_here (Ok addr.now) (T.nodes tree.now) }
+{
+    match addr {
+        Addr::Local(_) => resolved::<T, Brand>(tree, addr, Blank::new(1)),
+        _ => None,
+    }
+}
+
+fn resolved<T: Tree, L: Ledger>(tree: &T, addr: &Addr, blank: Blank) -> Option<Spot>
+    requires local { IsLocal addr.now }
+    requires name { blank.name ≡ L.name }
+    requires parts { blank.parts ≡ L.parts }
+    requires some { 0 < blank.parts }
+    ensures { result ≡ spot_of (segments_of addr.now) (T.nodes tree.now) }
+{
+    let mut steps = Steps::<L>::new(blank);
+    resolve(tree, addr, &mut steps)
+}
+
+// What it gives at what its address names.
+fn reach<T: Tree>(
+    alloc: Global,
+    entity: &Entity<T>,
+    request: &Request,
+    o: &[u8],
+    spot: Option<Spot>,
+) -> Result<Reply, OutOfMemory>
+    requires originator { IsTrue (is_originator o.now) }
+    requires claimed { rights.claimed_originator entity.now.home request.now ≡ o.now }
+    ensures { IfOk result (λ r. r ≡ (at_spot entity.now request.now spot).reply) }
+{
+    match spot {
+        None => refuse(alloc, request, Rsc::NotFound),
+        Some(Spot::Resource(number)) => reach_resource(alloc, entity, request, o, number),
+        Some(Spot::Fan { .. }) => refuse(alloc, request, Rsc::BadRequest),
+        Some(Spot::Poll(_)) => refuse(alloc, request, Rsc::BadRequest),
+    }
+}
+
+fn reach_resource<T: Tree>(
+    alloc: Global,
+    entity: &Entity<T>,
+    request: &Request,
+    o: &[u8],
+    number: u64,
+) -> Result<Reply, OutOfMemory>
+    requires originator { IsTrue (is_originator o.now) }
+    requires claimed { rights.claimed_originator entity.now.home request.now ≡ o.now }
+    ensures { IfOk result (λ r. r
+        ≡ (to_resource entity.now request.now (at number entity.now.nodes)).reply) }
+{
+    match find(entity, number) {
+        Some(target) => operate(alloc, entity, request, o, target),
         None => refuse(alloc, request, Rsc::NotFound),
     }
 }
 
-// The resource that an address names: so far the CSEBase, by its name.
-fn addressed<'a, T: Tree>(entity: &'a Entity<T>, to: &[u8]) -> Option<&'a Resource>
-    ensures { option_map (λ r. r.now) result ≡ spec.addressed entity.now to.now }
+fn find<T: Tree>(entity: &Entity<T>, number: u64) -> Option<&Resource>
+    ensures value { option_map (λ r. r.now) result ≡ at number entity.now.nodes }
+    ensures there { IfSome result (λ r. IsTrue (has r.now.number entity.now.nodes)) }
 {
-    if to != entity.home.base().entries() {
-        return None;
-    }
-    entity.tree.nth(0)
+    entity.tree.get(number)
 }
 
-// What the request gives on a resource that is there.
+// What it gives on a resource that is there: so far it reads.
 fn operate<T: Tree>(
     alloc: Global,
     entity: &Entity<T>,
     request: &Request,
+    o: &[u8],
     target: &Resource,
 ) -> Result<Reply, OutOfMemory>
-    requires served { IsTrue (spec.is_served request.now) }
+    requires originator { IsTrue (is_originator o.now) }
+    requires claimed { rights.claimed_originator entity.now.home request.now ≡ o.now }
     requires resource { IsTrue (has target.now.number entity.now.nodes) }
-    ensures { IfOk result (λ r. r ≡ (operated entity.now request.now target.now).reply) }
+    ensures { IfOk result (λ r. r ≡ reading_reply entity.now request.now target.now.number) }
 {
-    match judge(entity, request, target) {
-        Some(fault) => refuse(alloc, request, fault),
-        None => retrieve(alloc, entity, request, target),
+    if is_discovery(request) {
+        discover(alloc, &entity.tree, &entity.home, o, request, target.number())
+    } else {
+        retrieve(alloc, &entity.tree, &entity.home, o, request, target.number())
     }
-}
-
-// The status of the first place that refuses the request on the resource.
-fn judge<T: Tree>(entity: &Entity<T>, request: &Request, target: &Resource) -> Option<Rsc>
-    requires served { IsTrue (spec.is_served request.now) }
-    requires resource { IsTrue (has target.now.number entity.now.nodes) }
-    ensures { result ≡ first_fault (places_on entity.now request.now target.now) }
-{
-    if !has_right(entity, request, target) {
-        return Some(Rsc::NoPrivilege);
-    }
-    None
-}
-
-// Whether the originator has the right that the request needs on the resource: so far RETRIEVE.
-fn has_right<T: Tree>(entity: &Entity<T>, request: &Request, target: &Resource) -> bool
-    requires served { IsTrue (spec.is_served request.now) }
-    requires resource { IsTrue (has target.now.number entity.now.nodes) }
-    ensures { result ≡ rights.has_right entity.now request.now target.now.number }
-{
-    let bit = Op::Retrieve.bit();
-    is_granted(entity, request, bit, target)
-}
-
-// Whether the originator has these bits on the resource.
-fn is_granted<T: Tree>(entity: &Entity<T>, request: &Request, bits: u32, target: &Resource) -> bool
-    requires served { IsTrue (spec.is_served request.now) }
-    requires resource { IsTrue (has target.now.number entity.now.nodes) }
-    ensures { result ≡ rights.is_granted entity.now request.now bits target.now.number }
-{
-    // That of a served request is short already.
-    let o = given_originator(request);
-    granted(&entity.tree, &entity.home, o, bits, target.number())
-}
-
-// The originator that the request gives.
-fn given_originator(request: &Request) -> &[u8]
-    ensures { result.now ≡ unwrap_or request.now.fr (codes "C") }
-{
-    match &request.parts().fr {
-        Some(o) => o.entries(),
-        None => b"C",
-    }
-}
-
-// The attributes of the resource.
-fn retrieve<T: Tree>(
-    alloc: Global,
-    entity: &Entity<T>,
-    request: &Request,
-    target: &Resource,
-) -> Result<Reply, OutOfMemory>
-    requires { IsTrue (has target.now.number entity.now.nodes) }
-    ensures { IfOk result (λ r. r ≡ (retrieved entity.now request.now target.now).reply) }
-{
-    let content = attributes(alloc, &entity.tree, &entity.home, target)?;
-    reply_to(alloc, request, Rsc::Ok, Some(content))
 }
 
 fn refuse(alloc: Global, request: &Request, fault: Rsc) -> Result<Reply, OutOfMemory>
     ensures { IfOk result (λ r. r ≡ refusal request.now fault) }
 {
-    reply_to(alloc, request, fault, None)
-}
-
-fn reply_to(
-    alloc: Global,
-    request: &Request,
-    rsc: Rsc,
-    content: Option<Val>,
-) -> Result<Reply, OutOfMemory>
-    ensures { IfOk result (λ r. r ≡ places.reply_to request.now rsc content) }
-{
     let rqi = request.parts().rqi.copy(alloc)?;
     Ok(Reply::of(ReplyParts {
-        rsc,
+        rsc: fault,
         rqi: Some(rqi),
-        pc: content,
+        pc: None,
     }))
 }

@@ -5,6 +5,7 @@ use Rattle.primitive_json.specs.declared.request.RequestParts.{RequestParts}
 use Rattle.turn_desk.specs.Entries.{readings_of, events_of, outcomes_of}
 use Rattle.turn_desk.proofs.GrowthLemmas.{Grew-runs}
 use Rattle.entity_model.specs.Entity.{EntityData, swept}
+use Rattle.entity_model.specs.Sound.{IsSound}
 use Rattle.cse_machine.specs.declared.event.Event.{Event}
 use Rattle.cse_machine.specs.declared.event.Event.TheVariants.{Ask}
 use Rattle.cse_machine.specs.declared.event.Outcome.{Outcome}
@@ -12,7 +13,7 @@ use Rattle.cse_machine.specs.declared.event.Outcome.TheVariants.{Done}
 use Rattle.cse_machine.specs.Guard.{IsGuarded}
 use Rattle.cse_machine.specs.History.{History, Leaves}
 use Rattle.cse_machine.specs.Step.{Step}
-use Rattle.cse_machine.proofs.HistoryLemmas.{none_some, same_first, same_rest, step_guarded}
+use Rattle.cse_machine.proofs.HistoryLemmas.{none_some, same_first, same_rest, sound_step, step_guarded}
 use Rattle.cse_server.specs.Laws.{ServesGuarded}
 
 no_request : (o : Outcome) (before : List Outcome) → length {A = RequestParts} [] ≡ length (o ∷ before) → ⊥
@@ -27,7 +28,7 @@ less_one r earlier o before e = omega (arith, e)
 -- The first part of the history of a run, before the request, and the step of the request.
 guarded_in_run : (mine : History) (opening after : EntityData) (earlier later : List RequestParts) (request : RequestParts)
     (before behind : List Outcome) (reply : ReplyParts)
-    → Leaves opening mine after → events_of mine ≡ map Ask (earlier ++ request ∷ later)
+    → IsSound opening → Leaves opening mine after → events_of mine ≡ map Ask (earlier ++ request ∷ later)
     → outcomes_of mine ≡ before ++ Done reply ∷ behind → length earlier ≡ length before
     → (history : History) × (found : EntityData) × (left : EntityData)
     × (reading : ℕ) × (then : List ℕ)
@@ -36,24 +37,25 @@ guarded_in_run : (mine : History) (opening after : EntityData) (earlier later : 
     × (readings_of mine ≡ readings_of history ++ reading ∷ then)
     × Step reading (Ask request) found (Done reply) left
     × IsGuarded (swept reading found) request reply left
-guarded_in_run [] opening after [] later request before behind reply run events outcomes same =
+guarded_in_run [] opening after [] later request before behind reply sound run events outcomes same =
     absurd (none_some (Ask request) (map Ask later) events)
-guarded_in_run [] opening after (r ∷ earlier) later request before behind reply run events outcomes same =
+guarded_in_run [] opening after (r ∷ earlier) later request before behind reply sound run events outcomes same =
     absurd (none_some (Ask r) (map Ask (earlier ++ request ∷ later)) events)
-guarded_in_run (m ∷ mine) opening after [] later request [] behind reply run events outcomes same =
+guarded_in_run (m ∷ mine) opening after [] later request [] behind reply sound run events outcomes same =
     let asked : m.event ≡ Ask request = same_first m.event (Ask request) (events_of mine) (map Ask later) events in
     let done : m.outcome ≡ Done reply = same_first m.outcome (Done reply) (outcomes_of mine) behind outcomes in
     let step : Step m.reading (Ask request) opening (Done reply) run.0 =
     subst (λ (v : Event). Step m.reading v opening (Done reply) run.0) asked
     (subst (λ (o : Outcome). Step m.reading m.event opening o run.0) done run.1) in
-    ([], opening, run.0, m.reading, readings_of mine, refl, refl, refl, refl, step, step_guarded m.reading request opening run.0 reply step)
-guarded_in_run (m ∷ mine) opening after [] later request (o ∷ before) behind reply run events outcomes same =
+    ([], opening, run.0, m.reading, readings_of mine, refl, refl, refl, refl, step, step_guarded m.reading request opening run.0 reply sound step)
+guarded_in_run (m ∷ mine) opening after [] later request (o ∷ before) behind reply sound run events outcomes same =
     absurd (no_request o before same)
-guarded_in_run (m ∷ mine) opening after (r ∷ earlier) later request [] behind reply run events outcomes same =
+guarded_in_run (m ∷ mine) opening after (r ∷ earlier) later request [] behind reply sound run events outcomes same =
     absurd (no_outcome r earlier same)
-guarded_in_run (m ∷ mine) opening after (r ∷ earlier) later request (o ∷ before) behind reply run events outcomes same =
+guarded_in_run (m ∷ mine) opening after (r ∷ earlier) later request (o ∷ before) behind reply sound run events outcomes same =
     let asked : m.event ≡ Ask r = same_first m.event (Ask r) (events_of mine) (map Ask (earlier ++ request ∷ later)) events in
-    let rest = guarded_in_run mine run.0 after earlier later request before behind reply run.2
+    let rest = guarded_in_run mine run.0 after earlier later request before behind reply
+    (sound_step m.reading m.event opening run.0 m.outcome sound run.1) run.2
     (same_rest m.event (Ask r) (events_of mine) (map Ask (earlier ++ request ∷ later)) events)
     (same_rest m.outcome o (outcomes_of mine) (before ++ Done reply ∷ behind) outcomes)
     (less_one r earlier o before same) in
@@ -72,9 +74,9 @@ guarded_in_run (m ∷ mine) opening after (r ∷ earlier) later request (o ∷ b
     )
 
 pub serves_guarded : ServesGuarded
-serves_guarded opening after old new ended served earlier later request before behind reply requests outcomes same =
+serves_guarded opening after old new ended served earlier later request before behind reply sound requests outcomes same =
     let asked = served.asks.asked in
     let found =
-    guarded_in_run asked.mine opening after earlier later request before behind reply (Grew-runs Step asked.grew)
+    guarded_in_run asked.mine opening after earlier later request before behind reply sound (Grew-runs Step asked.grew)
     (asked.events_are ∙ ap (map Ask) requests) (asked.outcomes_are ∙ outcomes) same in
     (found.0, found.1, found.2, found.3, found.4, found.5, found.6, found.7, sym asked.readings_are ∙ found.8, found.9, found.10)

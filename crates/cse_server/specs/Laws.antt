@@ -31,7 +31,7 @@ NothingIsAnsweredBehindClose =
     → some_closes frames place ≡ true
     → reply_texts (frames ++ more) place replies ≡ reply_texts frames place replies
 
--- What a connection of an entity shows and changes is guarded: where the outcome of a request that
+-- What a connection of a sound entity shows and changes is guarded: where the outcome of a request that
 -- was heard is a reply, this shows nothing and its step changed nothing but by a grant to the
 -- originator, judged on the entity that the history of the requests before it left, with the
 -- outcomes that these had and at the readings that the clock gave, and from which what was due is
@@ -42,7 +42,7 @@ ServesGuarded =
     (served : Serves (IsOwnRun Step) opening after old new ended)
     (earlier later : List RequestParts) (request : RequestParts)
     (before behind : List Outcome) (reply : ReplyParts)
-    → requests_in served.heard ≡ earlier ++ request ∷ later
+    → IsSound opening → requests_in served.heard ≡ earlier ++ request ∷ later
     → served.asks.outcomes ≡ before ++ Done reply ∷ behind
     → length earlier ≡ length before
     → (history : History) × (found : EntityData) × (left : EntityData)

@@ -1,0 +1,43 @@
+-- Places that hold and places that don't, and who asks.
+use Rattle.std.specs.Prelude.{codes, nat_lt, unwrap_or}
+use Rattle.std.proofs.Common.{◌≡◌, ℕ, List, ◌∷◌, length, Bool, true, false, ◌&&◌, Option, Some, None, Result, Ok, Err, IfOk, inl, inr, refl, sym, ◌∙◌}
+use Rattle.std.specs.Option.{option_and_then}
+use Rattle.std.proofs.lemmas.Bool.{cases_Bool}
+use Rattle.std.proofs.lemmas.Option.{same_Some}
+use Rattle.m2m_names.specs.Name.{is_originator}
+use Rattle.m2m_names.specs.declared.codes.Rsc.{Rsc}
+use Rattle.primitive_json.specs.declared.reply.ReplyParts.{ReplyParts}
+use Rattle.primitive_json.specs.declared.request.RequestParts.{RequestParts}
+use Rattle.resource_model.specs.Home.{HomeData}
+use Rattle.addressing.specs.Short.{short_of, shortened}
+use Rattle.entity_model.specs.Entity.{EntityData}
+use Rattle.entity_model.specs.Places.{Effect, Place, refused, unless, unless_refused}
+use Rattle.cse_machine.specs.Rights.{claimed_originator}
+
+-- a place that holds is passed
+pub passes : (holds : Bool) (fault : Rsc) (places : List Place) (e : EntityData) (request : RequestParts) (effect : Effect) → holds ≡ true → unless_refused (unless holds fault ∷ places) e request effect ≡ unless_refused places e request effect
+passes holds fault places e request effect t = rw t refl
+
+-- one that doesn't refuses
+pub stops : (holds : Bool) (fault : Rsc) (places : List Place) (e : EntityData) (request : RequestParts) (effect : Effect) → holds ≡ false → unless_refused (unless holds fault ∷ places) e request effect ≡ refused e request fault
+stops holds fault places e request effect f = rw f refl
+
+-- what is replied is this too, where it is that
+pub replied : {E : Type 0} (result : Result ReplyParts E) (x y : ReplyParts) → y ≡ x → IfOk result (λ r. r ≡ x) → IfOk result (λ r. r ≡ y)
+replied (Ok r) x y same is = is ∙ sym same
+replied (Err e) x y same is = tt
+
+-- ---- who asks
+
+pub short_is : (home : HomeData) (text o : List ℕ) → short_of home text ≡ Some o → shortened home text ≡ o
+short_is home text o e = elim (cases_Bool (is_originator text && nat_lt 0 (length (shortened home text)))) [
+  | inl t ↦ same_Some (shortened home text) o (rw t at e)
+  | inr f ↦ (let none : None ≡ Some o = rw f at e in cc)
+]
+
+pub claimed_is : (home : HomeData) (request : RequestParts) (o : List ℕ) → option_and_then (short_of home) request.fr ≡ Some o → claimed_originator home request ≡ o
+claimed_is home request o = by_fr request.fr
+  where
+    by_fr : (fr : Option (List ℕ)) → option_and_then (short_of home) fr ≡ Some o → shortened home (unwrap_or fr (codes "C")) ≡ o
+    by_fr None e = let none : None ≡ Some o = e in cc
+    by_fr (Some text) e = short_is home text o e
