@@ -1,6 +1,6 @@
 -- What replies tell of other resources is told by right.
 use Rattle.std.proofs.Common.{◌≡◌, ℕ, zero, suc, ℤ, pos, List, [], ◌∷◌, ◌++◌, length, map, take, Bool, true, false, cond, not, ◌&&◌, Option, Some, None, codes, inl, inr, refl, sym, ap, subst, ◌∙◌, arith}
-use Rattle.std.specs.Prelude.{Contains}
+use Rattle.std.specs.Prelude.{Contains, unwrap_or}
 use Rattle.std.specs.BTreeMap.{insert_entry}
 use Rattle.std.specs.List.{AllByRecursion, filter}
 use Rattle.std.specs.Option.{option_map_or}
@@ -15,7 +15,7 @@ use Rattle.m2m_names.specs.declared.codes.Rsc.{Rsc}
 use Rattle.m2m_names.specs.declared.codes.Rsc.TheVariants.{NoPrivilege, NotFound}
 use Rattle.m2m_names.specs.declared.types.Ty.{Ty}
 use Rattle.m2m_value.specs.Data.{Data, Entry, elements_of, list, object, pairs_of, text}
-use Rattle.m2m_value.specs.View.{elements, entries, member_of}
+use Rattle.m2m_value.specs.View.{as_text, elements, entries, member_of}
 use Rattle.m2m_value.proofs.Levels.{elements-elements_of, entries-pairs_of}
 use Rattle.m2m_value.proofs.Lookup.{compared, member_of-put}
 use Rattle.filter_criteria.specs.declared.filter.FilterParts.{FilterParts}
@@ -28,14 +28,13 @@ use Rattle.tree_model.specs.Tree.{at, children_of, is_under}
 use Rattle.tree_model.proofs.ShownLemmas.{shown_value}
 use Rattle.tree_model.proofs.TreeLemmas.{at_number}
 use Rattle.policy_eval.specs.Rights.{discovery_bit, grants, retrieve_bit}
-use Rattle.policy_eval.specs.Rules.{elements_in}
 use Rattle.retrieve_discover.specs.Conditions.{meets, meets_any}
 use Rattle.retrieve_discover.specs.Contents.{content, may_retrieve, members, most_references, most_shown, reference, references, references_alone, referred, shown_forest, wanted_content, whole, with_forest, with_references}
 use Rattle.retrieve_discover.specs.Descendants.{Forest, bare, rooted, below, grown}
 use Rattle.retrieve_discover.specs.Findings.{address, address_in, address_list, found, found_addresses, is_found, most_of}
 use Rattle.retrieve_discover.specs.Guard.{AreNamedByRight, HasOwnAddresses, IsNamedByRight, IsShownByRight, OthersAreShownByRight}
 use Rattle.retrieve_discover.specs.Replies.{discovered, is_by_id, refusal, retrieved, retrieved_of, success}
-use Rattle.retrieve_discover.specs.Told.{address_told, addresses_in, child_told, id_told, ids_below, ids_shown, objects_under, references_in, references_shown, text_told, unframed}
+use Rattle.retrieve_discover.specs.Told.{addresses_in, ids_below, ids_shown, is_object, listed_parts, references_in, references_shown, shown_id, shown_reference, text_in, unframed, values_among, values_under}
 use Rattle.retrieve_discover.proofs.ForestLemmas.{all-cut, all-grown}
 use Rattle.retrieve_discover.proofs.NamedLemmas.{its_address, named_by_right}
 use Rattle.retrieve_discover.proofs.OrderLemmas.{Each, IsFound, each-filter, each_found, in_order-tree}
@@ -47,14 +46,14 @@ use Rattle.retrieve_discover.proofs.ToldLemmas.{AllOf, AllUnder, both, kept_besi
 unframed_under : (ty : Ty) (ms : List Entry) → unframed (under_type ty ms) ≡ under_type ty ms
 unframed_under ty ms = rw (off_types (codes "m2m:rce") refl ty) refl
 
-pub ids_under : (ty : Ty) (ms : List Entry) → ids_below (under_type ty ms) ≡ map id_told (objects_under (pairs_of ms))
-ids_under ty ms = ap ids_shown (unframed_under ty ms) ∙ ap (map id_told) (append-nil (objects_under (pairs_of ms)))
+pub ids_under : (ty : Ty) (ms : List Entry) → ids_below (under_type ty ms) ≡ map shown_id (values_under (pairs_of ms))
+ids_under ty ms = ap ids_shown (unframed_under ty ms) ∙ ap (map shown_id) (append-nil (values_under (pairs_of ms)))
 
-pub references_under : (ty : Ty) (ms : List Entry) → references_in (under_type ty ms) ≡ map child_told (elements_in (member_of (codes "ch") ms))
+pub references_under : (ty : Ty) (ms : List Entry) → references_in (under_type ty ms) ≡ map shown_reference (listed_parts (member_of (codes "ch") ms))
 references_under ty ms =
     ap references_shown (unframed_under ty ms)
-    ∙ ap (map child_told) (append-nil (elements_in (member_of (codes "ch") (entries (pairs_of ms)))))
-    ∙ ap (λ es. map child_told (elements_in (member_of (codes "ch") es))) (entries-pairs_of ms)
+    ∙ ap (map shown_reference) (append-nil (listed_parts (member_of (codes "ch") (entries (pairs_of ms)))))
+    ∙ ap (λ es. map shown_reference (listed_parts (member_of (codes "ch") es))) (entries-pairs_of ms)
 
 pub addresses_under : (ty : Ty) (ms : List Entry) → addresses_in (under_type ty ms) ≡ []
 addresses_under ty ms = rw (off_types (codes "m2m:uril") refl ty) refl
@@ -116,14 +115,14 @@ module _ (home : HomeData) (nodes : List ResourceData) (o : List ℕ) (own : Has
       (each-filter (IsFound nodes) (may_retrieve home nodes o) (children_of n nodes)
       (only_first (IsFound nodes) (λ r. is_under n r ≡ true) (children_of n nodes) (each-filter (IsFound nodes) (is_under n) nodes all_there)))
 
-  references_listed : (by_id : Bool) (rs : List ResourceData) → map child_told (map (reference by_id nodes) rs) ≡ map (address_in by_id nodes) rs
+  references_listed : (by_id : Bool) (rs : List ResourceData) → map shown_reference (map (reference by_id nodes) rs) ≡ map (address_in by_id nodes) rs
   references_listed by_id [] = refl
   references_listed by_id (r ∷ rs) = ap (λ ts. address_in by_id nodes r ∷ ts) (references_listed by_id rs)
 
   -- the addresses of the references in a member
-  referred_by : (by_id : Bool) (n : ℕ) → map child_told (elements_in (Some (references home nodes o by_id n))) ≡ map (address_in by_id nodes) (referred home nodes o n)
+  referred_by : (by_id : Bool) (n : ℕ) → map shown_reference (listed_parts (Some (references home nodes o by_id n))) ≡ map (address_in by_id nodes) (referred home nodes o n)
   referred_by by_id n =
-      ap (map child_told) (elements-elements_of (map (reference by_id nodes) (referred home nodes o n)))
+      ap (map shown_reference) (elements-elements_of (map (reference by_id nodes) (referred home nodes o n)))
       ∙ references_listed by_id (referred home nodes o n)
 
   referred_named : (by_id : Bool) (n : ℕ) (addresses : List (List ℕ)) → addresses ≡ map (address_in by_id nodes) (referred home nodes o n) → AreNamedByRight home nodes o retrieve_bit addresses
@@ -133,19 +132,19 @@ module _ (home : HomeData) (nodes : List ResourceData) (o : List ℕ) (own : Has
   -- ---- objects
 
   abbrev IsNamedObject : Data → Type 0
-  IsNamedObject d = IsNamed retrieve_bit (id_told d)
+  IsNamedObject d = IsNamed retrieve_bit (shown_id d)
 
-  shown_id : (r : ResourceData) (kids : Forest) → id_told (object (pairs_of (with_forest (members home nodes) kids (members home nodes r)))) ≡ id_of r
-  shown_id r kids =
+  its_id : (r : ResourceData) (kids : Forest) → shown_id (object (pairs_of (with_forest (members home nodes) kids (members home nodes r)))) ≡ id_of r
+  its_id r kids =
       let inner = with_forest (members home nodes) kids (members home nodes r) in
-      ap text_told
+      ap text_in
       (ap (member_of (attr_short Ri)) (entries-pairs_of inner)
       ∙ kept_beside (members home nodes) (attr_short Ri) (no_type_name Ri) kids (members home nodes r)
       ∙ member_of-members_of Ri (shown_rows home nodes r)
       ∙ shown_value home nodes r Ri)
 
   own_object : (r : ResourceData) (kids : Forest) → IsGranted retrieve_bit r → IsNamedObject (object (pairs_of (with_forest (members home nodes) kids (members home nodes r))))
-  own_object r kids granted = subst (IsNamed retrieve_bit) (sym (shown_id r kids)) (by_address true retrieve_bit r granted)
+  own_object r kids granted = subst (IsNamed retrieve_bit) (sym (its_id r kids)) (by_address true retrieve_bit r granted)
 
   own_members : (r : ResourceData) → AllUnder IsNamedObject (members home nodes r)
   own_members r = subst (AllOf IsNamedObject) (sym (none_under (shown_rows home nodes r))) tt
@@ -157,14 +156,14 @@ module _ (home : HomeData) (nodes : List ResourceData) (o : List ℕ) (own : Has
 
   told_under : (ty : Ty) (ms : List Entry) → AllUnder IsNamedObject ms → AreNamedByRight home nodes o retrieve_bit (references_in (under_type ty ms)) → IsTold (under_type ty ms)
   told_under ty ms below referred = record {
-    below = are_named retrieve_bit (ids_below (under_type ty ms)) (subst (AllByRecursion (IsNamed retrieve_bit)) (sym (ids_under ty ms)) (told_of retrieve_bit id_told (objects_under (pairs_of ms)) below));
+    below = are_named retrieve_bit (ids_below (under_type ty ms)) (subst (AllByRecursion (IsNamed retrieve_bit)) (sym (ids_under ty ms)) (told_of retrieve_bit shown_id (values_under (pairs_of ms)) below));
     referred = referred;
     found = none_named discovery_bit (addresses_in (under_type ty ms)) (addresses_under ty ms);
   }
 
   none_referred_to : (ty : Ty) (ms : List Entry) → member_of (codes "ch") ms ≡ None → AreNamedByRight home nodes o retrieve_bit (references_in (under_type ty ms))
   none_referred_to ty ms none =
-      none_named retrieve_bit (references_in (under_type ty ms)) (references_under ty ms ∙ ap (λ d. map child_told (elements_in d)) none)
+      none_named retrieve_bit (references_in (under_type ty ms)) (references_under ty ms ∙ ap (λ d. map shown_reference (listed_parts d)) none)
 
   attributes_told : (r : ResourceData) → IsTold (under_type r.ty (members home nodes r))
   attributes_told r =
@@ -185,7 +184,7 @@ module _ (home : HomeData) (nodes : List ResourceData) (o : List ℕ) (own : Has
   referred_beside : (by_id : Bool) (r : ResourceData) → references_in (with_references home nodes o by_id r) ≡ map (address_in by_id nodes) (referred home nodes o r.number)
   referred_beside by_id r =
       references_under r.ty (beside by_id r)
-      ∙ ap (λ d. map child_told (elements_in d)) (member_of-put (codes "ch") (members home nodes r) (references home nodes o by_id r.number))
+      ∙ ap (λ d. map shown_reference (listed_parts d)) (member_of-put (codes "ch") (members home nodes r) (references home nodes o by_id r.number))
       ∙ referred_by by_id r.number
 
   with_references_told : (by_id : Bool) (r : ResourceData) → IsTold (with_references home nodes o by_id r)
@@ -223,6 +222,9 @@ module _ (home : HomeData) (nodes : List ResourceData) (o : List ℕ) (own : Has
       (each_is_found f (filter (is_found home nodes o f) (below n nodes))
       (each-filter (IsFound nodes) (is_found home nodes o f) (below n nodes) (each_below_found nodes n own.tree)))
 
+  abbrev address_told : Data → List ℕ
+  address_told d = unwrap_or (as_text d) []
+
   addresses_listed : (by_id : Bool) (rs : List ResourceData) → map address_told (map (address by_id nodes) rs) ≡ map (address_in by_id nodes) rs
   addresses_listed by_id [] = refl
   addresses_listed by_id (r ∷ rs) = ap (λ ts. address_in by_id nodes r ∷ ts) (addresses_listed by_id rs)
@@ -230,18 +232,27 @@ module _ (home : HomeData) (nodes : List ResourceData) (o : List ℕ) (own : Has
   listed_addresses : (ds : List Data) → addresses_in (address_list ds) ≡ map address_told ds
   listed_addresses ds = ap (map address_told) (elements-elements_of ds)
 
-  found_named : (by_id : Bool) (filter : Option FilterParts) (n : ℕ) → AreNamedByRight home nodes o discovery_bit (addresses_in (address_list (found_addresses home nodes o by_id filter n)))
+  found_named : (by_id : Bool) (given : Option FilterParts) (n : ℕ) → AreNamedByRight home nodes o discovery_bit (addresses_in (address_list (found_addresses home nodes o by_id given n)))
   found_named by_id None n = none_named discovery_bit (addresses_in (address_list [])) refl
   found_named by_id (Some f) n =
       let rs = found home nodes o f n in
       let are : addresses_in (address_list (map (address by_id nodes) rs)) ≡ map (address_in by_id nodes) rs = listed_addresses (map (address by_id nodes) rs) ∙ addresses_listed by_id rs in
       are_named discovery_bit (addresses_in (address_list (map (address by_id nodes) rs))) (subst (AllByRecursion (IsNamed discovery_bit)) (sym are) (each_named by_id discovery_bit rs (found_there f n)))
 
-  list_told : (by_id : Bool) (filter : Option FilterParts) (n : ℕ) → IsTold (address_list (found_addresses home nodes o by_id filter n))
-  list_told by_id filter n = record {
-    below = none_named retrieve_bit (ids_below (address_list (found_addresses home nodes o by_id filter n))) refl;
-    referred = none_named retrieve_bit (references_in (address_list (found_addresses home nodes o by_id filter n))) refl;
-    found = found_named by_id filter n;
+  -- addresses are no objects
+  no_objects : (by_id : Bool) (rs : List ResourceData) → filter is_object (values_among (elements_of (map (address by_id nodes) rs))) ≡ []
+  no_objects by_id [] = refl
+  no_objects by_id (r ∷ rs) = no_objects by_id rs
+
+  no_ids : (by_id : Bool) (given : Option FilterParts) (n : ℕ) → ids_below (address_list (found_addresses home nodes o by_id given n)) ≡ []
+  no_ids by_id None n = refl
+  no_ids by_id (Some f) n = ap (λ ds. map shown_id (ds ++ [])) (no_objects by_id (found home nodes o f n))
+
+  list_told : (by_id : Bool) (given : Option FilterParts) (n : ℕ) → IsTold (address_list (found_addresses home nodes o by_id given n))
+  list_told by_id given n = record {
+    below = none_named retrieve_bit (ids_below (address_list (found_addresses home nodes o by_id given n))) (no_ids by_id given n);
+    referred = none_named retrieve_bit (references_in (address_list (found_addresses home nodes o by_id given n))) refl;
+    found = found_named by_id given n;
   }
 
   -- ---- replies

@@ -25,7 +25,7 @@ use Rattle.policy_eval.specs.Rules.{elements_in}
 use Rattle.retrieve_discover.specs.Contents.{with_forest, with_last}
 use Rattle.retrieve_discover.specs.Descendants.{Forest, bare, rooted}
 use Rattle.retrieve_discover.proofs.ForestLemmas.{AllIn}
-use Rattle.retrieve_discover.specs.Told.{is_type_name, objects_among, objects_in, objects_under}
+use Rattle.retrieve_discover.specs.Told.{is_type_name, values_among, values_in, values_under}
 
 -- ---- names of types, and those of attributes
 
@@ -73,7 +73,7 @@ no_reference_name a = not-true _ (and_parts (not (is_type_name (attr_short a))) 
 
 -- ---- attributes alone
 
-pub none_under : (rows : List Row) → objects_under (pairs_of (members_of rows)) ≡ []
+pub none_under : (rows : List Row) → values_under (pairs_of (members_of rows)) ≡ []
 none_under [] = refl
 none_under (row ∷ rows) = rw (no_type_name row.0) (none_under rows)
 
@@ -99,15 +99,15 @@ kept_beside members key none (rooted r kids more) es =
     kept_beside members key none more (with_last (ty_member r.ty) inner es)
     ∙ member_of-put_other (ty_member r.ty) key es (list (elements_of (elements_in (member_of (ty_member r.ty) es) ++ inner ∷ []))) (off_types key none r.ty)
 
-among-append : (xs ys : List Data) → objects_among (elements_of (xs ++ ys)) ≡ objects_among (elements_of xs) ++ objects_among (elements_of ys)
+among-append : (xs ys : List Data) → values_among (elements_of (xs ++ ys)) ≡ values_among (elements_of xs) ++ values_among (elements_of ys)
 among-append [] ys = refl
 among-append (x ∷ xs) ys =
-    ap (λ ds. objects_in x ++ ds) (among-append xs ys)
-    ∙ sym (append_assoc (objects_in x) (objects_among (elements_of xs)) (objects_among (elements_of ys)))
+    ap (λ ds. values_in x ++ ds) (among-append xs ys)
+    ∙ sym (append_assoc (values_in x) (values_among (elements_of xs)) (values_among (elements_of ys)))
 
-among-elements : (es : Elements) → objects_among (elements_of (elements es)) ≡ objects_among es
+among-elements : (es : Elements) → values_among (elements_of (elements es)) ≡ values_among es
 among-elements no_elements = refl
-among-elements (element d es) = ap (λ ds. objects_in d ++ ds) (among-elements es)
+among-elements (element d es) = ap (λ ds. values_in d ++ ds) (among-elements es)
 
 same_key : (x key : List ℕ) → compared x key ≡ Equal → x ≡ key
 same_key x key e = (bytes_eq-Decides x key).0 (sym (is_eq-slice_cmp x key) ∙ ap is_eq e)
@@ -118,7 +118,7 @@ module _ (Q : Data → Type 0) where
   AllOf ds = AllByRecursion Q ds
 
   abbrev pub AllUnder : List Entry → Type 0
-  AllUnder es = AllOf (objects_under (pairs_of es))
+  AllUnder es = AllOf (values_under (pairs_of es))
 
   pub both : (xs ys : List Data) → AllOf xs → AllOf ys → AllOf (xs ++ ys)
   both [] ys first second = second
@@ -130,25 +130,25 @@ module _ (Q : Data → Type 0) where
 
   -- those that one member tells
   abbrev told_by : Entry → List Data
-  told_by e = cond (is_type_name e.0) (objects_in e.1) []
+  told_by e = cond (is_type_name e.0) (values_in e.1) []
 
   put_at : (o : Ordering) (key : List ℕ) (v : Data) (e : Entry) (es rest : List Entry) → compared key e.0 ≡ o → AllOf (told_by (key, v)) → AllUnder (e ∷ es) → AllUnder rest
       → AllUnder (match_ordering o ((key, v) ∷ e ∷ es) ((e.0, v) ∷ es) (e ∷ rest))
-  put_at Less key v e es rest is own all more = both (told_by (key, v)) (objects_under (pairs_of (e ∷ es))) own all
+  put_at Less key v e es rest is own all more = both (told_by (key, v)) (values_under (pairs_of (e ∷ es))) own all
   put_at Equal key v e es rest is own all more =
-      both (told_by (e.0, v)) (objects_under (pairs_of es))
+      both (told_by (e.0, v)) (values_under (pairs_of es))
       (subst (λ k. AllOf (told_by (k, v))) (same_key key e.0 is) own)
-      (parted (told_by e) (objects_under (pairs_of es)) all).1
+      (parted (told_by e) (values_under (pairs_of es)) all).1
   put_at Greater key v e es rest is own all more =
-      both (told_by e) (objects_under (pairs_of rest)) (parted (told_by e) (objects_under (pairs_of es)) all).0 more
+      both (told_by e) (values_under (pairs_of rest)) (parted (told_by e) (values_under (pairs_of es)) all).0 more
 
   pub under_put : (es : List Entry) (key : List ℕ) (v : Data) → AllOf (told_by (key, v)) → AllUnder es → AllUnder (insert_entry compared es key v)
   under_put [] key v own all = both (told_by (key, v)) [] own tt
   under_put (e ∷ es) key v own all =
       put_at _ key v e es (insert_entry compared es key v) refl own all
-      (under_put es key v own (parted (told_by e) (objects_under (pairs_of es)) all).1)
+      (under_put es key v own (parted (told_by e) (values_under (pairs_of es)) all).1)
 
-  listed_there : (d : Data) → AllOf (objects_in d) → AllOf (objects_among (elements_of (elements_in (Some d))))
+  listed_there : (d : Data) → AllOf (values_in d) → AllOf (values_among (elements_of (elements_in (Some d))))
   listed_there null all = tt
   listed_there (boolean b) all = tt
   listed_there (number z) all = tt
@@ -156,25 +156,25 @@ module _ (Q : Data → Type 0) where
   listed_there (list es) all = subst AllOf (sym (among-elements es)) all
   listed_there (object ps) all = tt
 
-  listed_at : (key : List ℕ) (es : List Entry) → is_type_name key ≡ true → AllUnder es → AllOf (objects_among (elements_of (elements_in (member_of key es))))
+  listed_at : (key : List ℕ) (es : List Entry) → is_type_name key ≡ true → AllUnder es → AllOf (values_among (elements_of (elements_in (member_of key es))))
   listed_at key [] name all = tt
   listed_at key (e ∷ es) name all =
-      let parts = parted (told_by e) (objects_under (pairs_of es)) all in
+      let parts = parted (told_by e) (values_under (pairs_of es)) all in
       elim (cases_Bool (bytes_eq key e.0)) [
         | inl t ↦
             let named : is_type_name e.0 ≡ true = ap is_type_name (sym ((bytes_eq-Decides key e.0).0 t)) ∙ name in
-            rw t (listed_there e.1 (subst (λ b. AllOf (cond b (objects_in e.1) [])) named parts.0))
+            rw t (listed_there e.1 (subst (λ b. AllOf (cond b (values_in e.1) [])) named parts.0))
         | inr f ↦ rw f (listed_at key es name parts.1)
       ]
 
-  under_last : (key : List ℕ) (d : Data) (es : List Entry) → is_type_name key ≡ true → AllOf (objects_in d) → AllUnder es → AllUnder (with_last key d es)
+  under_last : (key : List ℕ) (d : Data) (es : List Entry) → is_type_name key ≡ true → AllOf (values_in d) → AllUnder es → AllUnder (with_last key d es)
   under_last key d es name own all =
       let earlier = elements_in (member_of key es) in
-      let told : AllOf (objects_among (elements_of (earlier ++ d ∷ []))) =
+      let told : AllOf (values_among (elements_of (earlier ++ d ∷ []))) =
       subst AllOf (sym (among-append earlier (d ∷ [])))
-      (both (objects_among (elements_of earlier)) (objects_in d ++ []) (listed_at key es name all) (both (objects_in d) [] own tt)) in
+      (both (values_among (elements_of earlier)) (values_in d ++ []) (listed_at key es name all) (both (values_in d) [] own tt)) in
       under_put es key (list (elements_of (earlier ++ d ∷ [])))
-      (subst (λ b. AllOf (cond b (objects_among (elements_of (earlier ++ d ∷ []))) [])) (sym name) told) all
+      (subst (λ b. AllOf (cond b (values_among (elements_of (earlier ++ d ∷ []))) [])) (sym name) told) all
 
   -- where it holds of each object of a forest by itself, and of what members tell at first
   pub under_forest : (P : ResourceData → Type 0) (members : ResourceData → List Entry) → ((r : ResourceData) (kids : Forest) → P r → Q (object (pairs_of (with_forest members kids (members r))))) → ((r : ResourceData) → AllUnder (members r))

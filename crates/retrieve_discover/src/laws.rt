@@ -56,7 +56,7 @@ pub fn others_are_shown_and_found_by_right()
     ensures discovered { (home : HomeData) (nodes : List ResourceData) (o : List ℕ)
         (request : RequestParts) (n : ℕ) → HasOwnAddresses nodes →
         OthersAreShownByRight home nodes o (discovered home nodes o request n) }
-    ensures addresses { (home : HomeData) (nodes : List ResourceData) (address : List ℕ)
+    ensures addresses { (nodes : List ResourceData) (address : List ℕ)
         (r s : ResourceData) → HasOwnAddresses nodes →
         at r.number nodes ≡ Some r → at s.number nodes ≡ Some s →
         IsTrue (is_address_of nodes address r) → IsTrue (is_address_of nodes address s) →

@@ -22,7 +22,7 @@ mod references;
 mod replies;
 mod retrieving;
 
-pub use conditions::{Condition, meets};
+pub use conditions::{holds, meets};
 pub use discovering::discover;
 pub use laws::{
     nothing_is_shown_or_found_without_a_grant, others_are_shown_and_found_by_right,
