@@ -65,7 +65,7 @@ is_of_one types r = (length types == 0) || list_any (λ n. n == (ty_row r.ty).nu
 -- ---- the table
 
 -- What has to hold of a resource of the list for a condition of the filter; a condition that isn't
--- given always holds. How a filter is used, and how much it asks for, is no condition on a resource.
+-- given always holds. How a filter is used, and how much it asks for, is none on a resource.
 abbrev pub holds : Condition → List ResourceData → FilterParts → ResourceData → Bool
 holds CreatedBefore nodes f r = is_below f.crb (Some r.ct)
 holds CreatedAfter nodes f r = is_above f.cra (Some r.ct)
