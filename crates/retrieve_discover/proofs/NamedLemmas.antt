@@ -20,7 +20,7 @@ use Rattle.addressing.specs.Names.{structured_of}
 use Rattle.addressing.specs.declared.addr.Addr.{Addr}
 use Rattle.addressing.specs.declared.addr.AddrFault.{AddrFault}
 use Rattle.addressing.specs.declared.spot.Spot.{Spot}
-use Rattle.addressing.specs.declared.spot.Spot.TheVariants.{Resource}
+use Rattle.addressing.specs.declared.spot.Spot.TheVariants.{Resource, Fan, Poll}
 use Rattle.addressing.proofs.NameLemmas.{IsChildOfItsName, child_of_its_name, line_of_none, named_by_id, named_by_structured}
 use Rattle.addressing.proofs.PartLemmas.{between_slashes-joined}
 use Rattle.retrieve_discover.specs.Guard.{HasOwnAddresses, IsNamedByRight, is_address_of, is_no_name}
@@ -147,12 +147,13 @@ module _ (nodes : List ResourceData) (tree : is_tree nodes ≡ true) where
 
 -- ---- resource ids
 
+abbrev number_in : Spot → ℕ
+number_in (Resource k) = k
+number_in (Fan group rest) = group
+number_in (Poll channel) = channel
+
 same_spot : (n m : ℕ) → Some (Resource n) ≡ Some (Resource m) → n ≡ m
-same_spot n m same = ap number_at_spot same
-  where
-    number_at_spot : Option Spot → ℕ
-    number_at_spot (Some (Resource k)) = k
-    number_at_spot _ = 0
+same_spot n m same = ap number_in (same_Some (Resource n) (Resource m) same)
 
 -- what names something is short
 named_is_short : (home : HomeData) (text : List ℕ) (nodes : List ResourceData) (spot : Spot) → named_by home text nodes ≡ Some spot → length text ≤ longest
@@ -182,17 +183,17 @@ module _ (home : HomeData) (nodes : List ResourceData) (own : HasOwnAddresses no
   pub one_address : (address : List ℕ) (r s : ResourceData) → IsFound nodes r → IsFound nodes s → is_address_of nodes address r ≡ true → is_address_of nodes address s ≡ true → r.number ≡ s.number
   one_address address r s one two first second = elim (or_cases (bytes_eq address (id_of r)) _ first) [
     | inl a ↦ elim (or_cases (bytes_eq address (id_of s)) _ second) [
-      | inl b ↦ same_spot r.number s.number (sym (id_names r one) ∙ ap (λ t. named_by home t nodes) (sym (text a) ∙ text b) ∙ id_names s two)
-      | inr c ↦ id_or_path r s one two (sym (text a) ∙ text c)
+      | inl b ↦ same_spot r.number s.number (sym (id_names r one) ∙ ap (λ t. named_by home t nodes) (sym (text (id_of r) a) ∙ text (id_of s) b) ∙ id_names s two)
+      | inr c ↦ id_or_path r s one two (sym (text (id_of r) a) ∙ text (structured_of s.number nodes) c)
     ]
     | inr d ↦ elim (or_cases (bytes_eq address (id_of s)) _ second) [
-      | inl b ↦ sym (id_or_path s r two one (sym (text b) ∙ text d))
-      | inr c ↦ same_structured nodes own.tree own.names r s one two (sym (text d) ∙ text c)
+      | inl b ↦ sym (id_or_path s r two one (sym (text (id_of s) b) ∙ text (structured_of r.number nodes) d))
+      | inr c ↦ same_structured nodes own.tree own.names r s one two (sym (text (structured_of r.number nodes) d) ∙ text (structured_of s.number nodes) c)
     ]
   ]
     where
-      text : {t : List ℕ} → bytes_eq address t ≡ true → address ≡ t
-      text {t} is = (bytes_eq-Decides address t).0 is
+      text : (t : List ℕ) → bytes_eq address t ≡ true → address ≡ t
+      text t is = (bytes_eq-Decides address t).0 is
 
   -- so one with the right is named by right, by each of its addresses
   pub named_by_right : (o : List ℕ) (bits : ℕ) (address : List ℕ) (r : ResourceData) → IsFound nodes r → is_address_of nodes address r ≡ true → grants home nodes o bits r.number ≡ true → IsNamedByRight home nodes o bits address

@@ -64,16 +64,10 @@ nothing_in : {A : Type 0} (x : A) → Contains [] x → ⊥
 nothing_in x there = omega (arith, there.1)
 
 each-take : (P : ResourceData → Type 0) (m : ℕ) (rs : List ResourceData) → Each P rs → Each P (take m rs)
-each-take P m [] each = by_count m
-  where
-    by_count : (m : ℕ) → Each P (take m [])
-    by_count zero = tt
-    by_count (suc m) = tt
-each-take P m (r ∷ rs) each = by_count m
-  where
-    by_count : (m : ℕ) → Each P (take m (r ∷ rs))
-    by_count zero = tt
-    by_count (suc m) = (each.0, each-take P m rs each.1)
+each-take P zero [] each = tt
+each-take P zero (r ∷ rs) each = tt
+each-take P (suc m) [] each = tt
+each-take P (suc m) (r ∷ rs) each = (each.0, each-take P m rs each.1)
 
 module _ (home : HomeData) (nodes : List ResourceData) (o : List ℕ) (own : HasOwnAddresses nodes) where
   abbrev IsNamed : ℕ → List ℕ → Type 0
@@ -206,9 +200,16 @@ module _ (home : HomeData) (nodes : List ResourceData) (o : List ℕ) (own : Has
 
   content_told : (by_id : Bool) (rcn : Option ℤ) (r : ResourceData) → IsTold (content home nodes o by_id rcn r)
   content_told by_id rcn r =
-      by_choice (int_eq (wanted_content rcn) (pos 4)) _ _ (whole_told r)
-      (by_choice (int_eq (wanted_content rcn) (pos 5)) _ _ (with_references_told by_id r)
-      (by_choice (int_eq (wanted_content rcn) (pos 6)) _ _ (references_alone_told by_id r) (attributes_told r)))
+      let four = int_eq (wanted_content rcn) (pos 4) in
+      let five = int_eq (wanted_content rcn) (pos 5) in
+      let six = int_eq (wanted_content rcn) (pos 6) in
+      let w = whole home nodes o r in
+      let x = with_references home nodes o by_id r in
+      let y = references_alone home nodes o by_id r in
+      let z = under_type r.ty (members home nodes r) in
+      by_choice four w (cond five x (cond six y z)) (whole_told r)
+      (by_choice five x (cond six y z) (with_references_told by_id r)
+      (by_choice six y z (references_alone_told by_id r) (attributes_told r)))
 
   -- ---- addresses that are found
 
@@ -283,6 +284,7 @@ module _ (home : HomeData) (nodes : List ResourceData) (o : List ℕ) (own : Has
       by_found : (there : Option ResourceData) → IsByRight (option_map_or (retrieved_of home nodes o request) there (refusal request NotFound))
       by_found None = refused_by_right request NotFound
       by_found (Some r) =
-          one_of (not (grants home nodes o retrieve_bit r.number)) (refusal request NoPrivilege) _ (refused_by_right request NoPrivilege)
-          (one_of (not (meets_any nodes request.fc r)) (refusal request NotFound) _ (refused_by_right request NotFound)
+          let shown = success request (content home nodes o (is_by_id request) request.rcn r) in
+          one_of (not (grants home nodes o retrieve_bit r.number)) (refusal request NoPrivilege) (cond (not (meets_any nodes request.fc r)) (refusal request NotFound) shown) (refused_by_right request NoPrivilege)
+          (one_of (not (meets_any nodes request.fc r)) (refusal request NotFound) shown (refused_by_right request NotFound)
           (content_told (is_by_id request) request.rcn r))
