@@ -32,32 +32,10 @@ use Rattle.retrieve_discover.specs.Contents.{content, may_retrieve, members, mos
 use Rattle.retrieve_discover.specs.Descendants.{Forest, bare, rooted, cut, grown, listed, size_of}
 use Rattle.retrieve_discover.specs.Replies.{is_by_id, refusal, retrieved, retrieved_of, success}
 use Rattle.retrieve_discover.proofs.OrderLemmas.{Each, IsFound, each_found, in_order-tree}
+use Rattle.retrieve_discover.proofs.ForestLemmas.{AllIn, all-cut, all-grown}
 use Rattle.retrieve_discover.proofs.ConditionLemmas.{LooksAlike, meets-alike}
 use Rattle.retrieve_discover.proofs.MapLemmas.{children-map, cut-map, filter-map, grown-map, map_forest}
 use Rattle.retrieve_discover.proofs.SightLemmas.{address-seen}
-
--- ---- what holds of each resource of a forest
-
-abbrev AllIn : (ResourceData → Type 0) → Forest → Type 0
-AllIn P bare = Unit {0}
-AllIn P (rooted r kids more) = P r × (AllIn P kids × AllIn P more)
-
-all-cut : (P : ResourceData → Type 0) (f : Forest) (m : ℕ) → AllIn P f → AllIn P (cut f m)
-all-cut P bare m all = tt
-all-cut P (rooted r kids more) m all = elim (cases_Bool (m == 0)) [
-  | inl t ↦ rw t tt
-  | inr f ↦ rw f (all.0, (all-cut P kids (m - 1) all.1.0, all-cut P more (m - 1 - size_of kids) all.1.1))
-]
-
-all-grown : (P : ResourceData → Type 0) (goes : ResourceData → Bool) (rs : List ResourceData) (n : ℕ) → Each P rs → AllIn (λ r. P r × (goes r ≡ true)) (grown goes n rs)
-all-grown P goes [] n each = tt
-all-grown P goes (r ∷ rs) n each = elim (cases_Bool (is_under n r)) [
-  | inl u ↦ elim (cases_Bool (goes r)) [
-    | inl t ↦ rw (u, t) ((each.0, t), (all-grown P goes rs r.number each.1, all-grown P goes rs n each.1))
-    | inr f ↦ rw (u, f) (all-grown P goes rs n each.1)
-  ]
-  | inr v ↦ rw v (all-grown P goes rs n each.1)
-]
 
 -- ---- the members of an object
 

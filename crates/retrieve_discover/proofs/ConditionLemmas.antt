@@ -1,5 +1,5 @@
 -- What the conditions of a filter look at.
-use Rattle.std.proofs.Common.{◌≡◌, ℕ, ◌∷◌, [], List, Bool, false, ◌||◌, Option, Some, None, cond, refl, sym, ap, ◌∙◌, length}
+use Rattle.std.proofs.Common.{◌≡◌, ℕ, ◌∷◌, [], List, Bool, true, false, ◌||◌, Option, Some, None, cond, refl, sym, ap, ◌∙◌, length}
 use Rattle.std.specs.Prelude.{◌==◌, option_and_then}
 use Rattle.std.specs.List.{list_all, list_any}
 use Rattle.std.specs.Option.{option_map_or}
@@ -14,9 +14,10 @@ use Rattle.filter_criteria.specs.declared.filter.FilterParts.{FilterParts}
 use Rattle.resource_model.specs.Attributes.{value_of}
 use Rattle.resource_model.specs.Resource.{ResourceData, is_ty}
 use Rattle.tree_model.specs.Tree.{due}
-use Rattle.retrieve_discover.specs.Conditions.{all_conditions, is_above, is_below, is_from, is_label, is_of_one, meets}
-use Rattle.retrieve_discover.specs.declared.conditions.Condition.{Condition}
-use Rattle.retrieve_discover.specs.declared.conditions.Condition.TheVariants.{CreatedAfter, CreatedBefore, ExpireAfter, ExpireBefore, ModifiedSince, OneLabel, OneType, SizeAbove, SizeBelow, StateTagBigger, StateTagSmaller, UnmodifiedSince}
+use Rattle.retrieve_discover.specs.Conditions.{is_above, is_below, is_from, is_label, is_of_one, meets}
+use Rattle.filter_criteria.specs.Conditions.{all_conditions}
+use Rattle.filter_criteria.specs.declared.condition.Condition.{Condition}
+use Rattle.filter_criteria.specs.declared.condition.Condition.TheVariants.{Limit, Usage, CreatedAfter, CreatedBefore, ExpireAfter, ExpireBefore, ModifiedSince, OneLabel, OneType, SizeAbove, SizeBelow, StateTagBigger, StateTagSmaller, UnmodifiedSince}
 
 abbrev count_in : Option Data → Option ℕ
 count_in d = option_and_then as_count d
@@ -40,6 +41,8 @@ holds_by f ct lt moment st cs lbl ty OneLabel = (length f.lbl == 0) || list_any 
 holds_by f ct lt moment st cs lbl ty OneType = (length f.ty == 0) || list_any (λ n. n == (ty_row ty).number) f.ty
 holds_by f ct lt moment st cs lbl ty SizeAbove = is_from f.sza (size_by cs ty)
 holds_by f ct lt moment st cs lbl ty SizeBelow = is_below f.szb (size_by cs ty)
+holds_by f ct lt moment st cs lbl ty Usage = true
+holds_by f ct lt moment st cs lbl ty Limit = true
 
 abbrev met_by : FilterParts → ℕ → ℕ → Option ℕ → Option Data → Option Data → Option Data → Ty → Bool
 met_by f ct lt moment st cs lbl ty = list_all (holds_by f ct lt moment st cs lbl ty) all_conditions

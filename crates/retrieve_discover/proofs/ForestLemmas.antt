@@ -12,7 +12,7 @@ use Rattle.tree_model.specs.Tree.{children_of, is_tree, is_under}
 use Rattle.retrieve_discover.specs.Contents.{with_forest, with_last}
 use Rattle.retrieve_discover.specs.Descendants.{Forest, bare, rooted, cut, grown, listed, reached, size_of}
 use Rattle.retrieve_discover.proofs.BelowLemmas.{above-filter}
-use Rattle.retrieve_discover.proofs.OrderLemmas.{are_above, in_order, in_order-tree, first_of}
+use Rattle.retrieve_discover.proofs.OrderLemmas.{Each, are_above, in_order, in_order-tree, first_of}
 use Rattle.retrieve_discover.proofs.WalkLemmas.{drop_get}
 
 -- ---- the first of a forest
@@ -53,6 +53,29 @@ listed-cut (rooted r kids more) m = elim (cases_Bool (m == 0)) [
       ∙ ap (λ rs. r ∷ (take (m - 1) (listed kids) ++ rs)) (listed-cut more (m - 1 - size_of kids))
       ∙ ap (λ rs. r ∷ rs) (sym (take-both (m - 1) (listed kids) (listed more)))
       ∙ sym (take_first m r (listed kids ++ listed more) some))
+]
+
+-- ---- what holds of each resource of a forest
+
+abbrev pub AllIn : (ResourceData → Type 0) → Forest → Type 0
+AllIn P bare = Unit {0}
+AllIn P (rooted r kids more) = P r × (AllIn P kids × AllIn P more)
+
+pub all-cut : (P : ResourceData → Type 0) (f : Forest) (m : ℕ) → AllIn P f → AllIn P (cut f m)
+all-cut P bare m all = tt
+all-cut P (rooted r kids more) m all = elim (cases_Bool (m == 0)) [
+  | inl t ↦ rw t tt
+  | inr f ↦ rw f (all.0, (all-cut P kids (m - 1) all.1.0, all-cut P more (m - 1 - size_of kids) all.1.1))
+]
+
+pub all-grown : (P : ResourceData → Type 0) (goes : ResourceData → Bool) (rs : List ResourceData) (n : ℕ) → Each P rs → AllIn (λ r. P r × (goes r ≡ true)) (grown goes n rs)
+all-grown P goes [] n each = tt
+all-grown P goes (r ∷ rs) n each = elim (cases_Bool (is_under n r)) [
+  | inl u ↦ elim (cases_Bool (goes r)) [
+    | inl t ↦ rw (u, t) ((each.0, t), (all-grown P goes rs r.number each.1, all-grown P goes rs n each.1))
+    | inr f ↦ rw (u, f) (all-grown P goes rs n each.1)
+  ]
+  | inr v ↦ rw v (all-grown P goes rs n each.1)
 ]
 
 -- ---- child by child

@@ -7,7 +7,10 @@ pub mod MapLemmas
 pub mod ConditionLemmas
 pub mod ReachLemmas
 pub mod ForestLemmas
+pub mod ToldLemmas
 pub mod SightLemmas
 pub mod AnswerLemmas
 pub mod GuardLemmas
 pub mod MemberLemmas
+pub mod NamedLemmas
+pub mod RightLemmas

@@ -9,21 +9,22 @@ use Rattle.m2m_names.specs.declared.attributes.Attr.TheVariants.{Cs, Lbl, St}
 use Rattle.m2m_names.specs.declared.types.Ty.TheVariants.{ContentInstance}
 use Rattle.m2m_value.specs.Data.{Data}
 use Rattle.m2m_value.specs.View.{as_list, as_text}
+use Rattle.filter_criteria.specs.Conditions.{all_conditions}
 use Rattle.filter_criteria.specs.declared.filter.FilterParts.{FilterParts}
 use Rattle.resource_model.specs.Attributes.{count_at, value_of}
 use Rattle.resource_model.specs.Resource.{ResourceData, is_ty}
 use Rattle.tree_model.specs.Tree.{due, same_text}
-use Rattle.retrieve_discover.specs.declared.conditions.Condition.{Condition}
-use Rattle.retrieve_discover.specs.declared.conditions.Condition.TheVariants.{CreatedAfter}
-use Rattle.retrieve_discover.specs.declared.conditions.Condition.TheVariants.{CreatedBefore}
-use Rattle.retrieve_discover.specs.declared.conditions.Condition.TheVariants.{ExpireAfter}
-use Rattle.retrieve_discover.specs.declared.conditions.Condition.TheVariants.{ExpireBefore}
-use Rattle.retrieve_discover.specs.declared.conditions.Condition.TheVariants.{ModifiedSince}
-use Rattle.retrieve_discover.specs.declared.conditions.Condition.TheVariants.{OneLabel, OneType}
-use Rattle.retrieve_discover.specs.declared.conditions.Condition.TheVariants.{SizeAbove, SizeBelow}
-use Rattle.retrieve_discover.specs.declared.conditions.Condition.TheVariants.{StateTagBigger}
-use Rattle.retrieve_discover.specs.declared.conditions.Condition.TheVariants.{StateTagSmaller}
-use Rattle.retrieve_discover.specs.declared.conditions.Condition.TheVariants.{UnmodifiedSince}
+use Rattle.filter_criteria.specs.declared.condition.Condition.{Condition}
+use Rattle.filter_criteria.specs.declared.condition.Condition.TheVariants.{CreatedAfter}
+use Rattle.filter_criteria.specs.declared.condition.Condition.TheVariants.{CreatedBefore}
+use Rattle.filter_criteria.specs.declared.condition.Condition.TheVariants.{ExpireAfter}
+use Rattle.filter_criteria.specs.declared.condition.Condition.TheVariants.{ExpireBefore, Limit}
+use Rattle.filter_criteria.specs.declared.condition.Condition.TheVariants.{ModifiedSince}
+use Rattle.filter_criteria.specs.declared.condition.Condition.TheVariants.{OneLabel, OneType}
+use Rattle.filter_criteria.specs.declared.condition.Condition.TheVariants.{SizeAbove, SizeBelow}
+use Rattle.filter_criteria.specs.declared.condition.Condition.TheVariants.{StateTagBigger}
+use Rattle.filter_criteria.specs.declared.condition.Condition.TheVariants.{StateTagSmaller}
+use Rattle.filter_criteria.specs.declared.condition.Condition.TheVariants.{UnmodifiedSince, Usage}
 
 -- ---- bounds: where one is given, the resource has a value, and it stands so to the bound
 
@@ -63,8 +64,8 @@ is_of_one types r = (length types == 0) || list_any (λ n. n == (ty_row r.ty).nu
 
 -- ---- the table
 
--- what has to hold of a resource of the list for a condition of the filter; a condition that isn't
--- given always holds
+-- What has to hold of a resource of the list for a condition of the filter; a condition that isn't
+-- given always holds. How a filter is used, and how much it asks for, is none on a resource.
 abbrev pub holds : Condition → List ResourceData → FilterParts → ResourceData → Bool
 holds CreatedBefore nodes f r = is_below f.crb (Some r.ct)
 holds CreatedAfter nodes f r = is_above f.cra (Some r.ct)
@@ -78,12 +79,8 @@ holds OneLabel nodes f r = has_one_of f.lbl r
 holds OneType nodes f r = is_of_one f.ty r
 holds SizeAbove nodes f r = is_from f.sza (size_in r)
 holds SizeBelow nodes f r = is_below f.szb (size_in r)
-
-abbrev pub all_conditions : List Condition
-all_conditions =
-    CreatedBefore ∷ CreatedAfter ∷ ModifiedSince ∷ UnmodifiedSince ∷ StateTagSmaller
-    ∷ StateTagBigger ∷ ExpireBefore ∷ ExpireAfter ∷ OneLabel ∷ OneType ∷ SizeAbove
-    ∷ SizeBelow ∷ []
+holds Usage nodes f r = true
+holds Limit nodes f r = true
 
 -- the resource meets all conditions of the filter
 abbrev pub meets : List ResourceData → FilterParts → ResourceData → Bool

@@ -1,4 +1,4 @@
-//! The conditions of a filter on a resource, as a table.
+//! What the conditions of a filter ask of a resource, as a table.
 ghost use Rattle.std.specs.Prelude.{◌≡◌, ◌==◌, false};
 ghost use Rattle.std.specs.List.{list_any};
 ghost use Rattle.std.specs.Option.{option_copied, option_map_or};
@@ -6,79 +6,37 @@ ghost use Rattle.m2m_names.specs.Types.{ty_row};
 ghost use Rattle.m2m_value.specs.View.{as_list};
 ghost use Rattle.retrieve_discover.specs.Conditions as spec;
 
+use filter_criteria::Condition;
 use m2m_names::{Attr, Ty};
 use m2m_value::{Text, Val};
 use primitive_json::{Filter, FilterParts};
 use tree_model::{Resource, Tree, due};
 
-/// A condition of a filter (TS-0001, 8.1.2).
-#[derive(Clone, Copy, Debug, PartialEq, Eq)]
-pub enum Condition {
-    /// `crb`: it was created before this moment.
-    CreatedBefore,
-    /// `cra`: it was created after this moment.
-    CreatedAfter,
-    /// `ms`: it was last changed after this moment.
-    ModifiedSince,
-    /// `us`: it was last changed before this moment.
-    UnmodifiedSince,
-    /// `sts`: its state tag is smaller.
-    StateTagSmaller,
-    /// `stb`: its state tag is bigger.
-    StateTagBigger,
-    /// `exb`: it is due before this moment.
-    ExpireBefore,
-    /// `exa`: it is due after this moment.
-    ExpireAfter,
-    /// `lbl`: it has one of these labels.
-    OneLabel,
-    /// `ty`: it is of one of these types.
-    OneType,
-    /// `sza`: it is a content instance of this size or above, in bytes.
-    SizeAbove,
-    /// `szb`: it is a content instance below this size, in bytes.
-    SizeBelow,
-}
-
-use Condition::*;
-
-impl Condition {
-    /// All conditions.
-    pub const ALL: [Condition; 12] = [
-        CreatedBefore,
-        CreatedAfter,
-        ModifiedSince,
-        UnmodifiedSince,
-        StateTagSmaller,
-        StateTagBigger,
-        ExpireBefore,
-        ExpireAfter,
-        OneLabel,
-        OneType,
-        SizeAbove,
-        SizeBelow,
-    ];
-
-    /// Whether the resource meets this condition of the filter; it does where the filter doesn't
-    /// give it. A resource without a state tag meets none on that, and the CSEBase none on when
-    /// it is due.
-    pub fn holds<T: Tree>(self, tree: &T, filter: &FilterParts, resource: &Resource) -> bool
-        ensures { result ≡ spec.holds self (T.nodes tree.now) filter.now resource.now }
-    {
-        match self {
-            CreatedBefore => is_below(filter.crb, Some(resource.ct())),
-            CreatedAfter => is_above(filter.cra, Some(resource.ct())),
-            ModifiedSince => is_above(filter.ms, Some(resource.lt())),
-            UnmodifiedSince => is_below(filter.us, Some(resource.lt())),
-            StateTagSmaller => is_below(filter.sts, resource.attrs().count(Attr::St)),
-            StateTagBigger => is_above(filter.stb, resource.attrs().count(Attr::St)),
-            ExpireBefore => is_below(filter.exb, due(tree, resource)),
-            ExpireAfter => is_above(filter.exa, due(tree, resource)),
-            OneLabel => has_one_of(resource, filter.lbl.entries()),
-            OneType => is_of_one(resource, filter.ty.entries()),
-            SizeAbove => is_from(filter.sza, size_in(resource)),
-            SizeBelow => is_below(filter.szb, size_in(resource)),
-        }
+/// Whether the resource meets this condition of the filter; it does where the filter doesn't give
+/// it, and how the filter is used, or how much it asks for, is none on a resource. A resource
+/// without a state tag meets none on that, and the CSEBase none on when it is due.
+pub fn holds<T: Tree>(
+    condition: Condition,
+    tree: &T,
+    filter: &FilterParts,
+    resource: &Resource,
+) -> bool
+    ensures { result ≡ spec.holds condition (T.nodes tree.now) filter.now resource.now }
+{
+    match condition {
+        Condition::CreatedBefore => is_below(filter.crb, Some(resource.ct())),
+        Condition::CreatedAfter => is_above(filter.cra, Some(resource.ct())),
+        Condition::ModifiedSince => is_above(filter.ms, Some(resource.lt())),
+        Condition::UnmodifiedSince => is_below(filter.us, Some(resource.lt())),
+        Condition::StateTagSmaller => is_below(filter.sts, resource.attrs().count(Attr::St)),
+        Condition::StateTagBigger => is_above(filter.stb, resource.attrs().count(Attr::St)),
+        Condition::ExpireBefore => is_below(filter.exb, due(tree, resource)),
+        Condition::ExpireAfter => is_above(filter.exa, due(tree, resource)),
+        Condition::OneLabel => has_one_of(resource, filter.lbl.entries()),
+        Condition::OneType => is_of_one(resource, filter.ty.entries()),
+        Condition::SizeAbove => is_from(filter.sza, size_in(resource)),
+        Condition::SizeBelow => is_below(filter.szb, size_in(resource)),
+        Condition::Usage | Condition::Limit => true,
     }
 }
 
@@ -89,7 +47,7 @@ pub fn meets<T: Tree>(tree: &T, filter: &FilterParts, resource: &Resource) -> bo
     Condition::ALL
         .iter()
         .copied()
-        .all(|condition| condition.holds(tree, filter, resource))
+        .all(|condition| holds(condition, tree, filter, resource))
 }
 
 /// Whether the resource meets all conditions, where there is a filter.

@@ -12,6 +12,8 @@ ghost use Rattle.policy_eval.specs.Seen.{discovery_bit, retrieve_bit, seen_list}
 ghost use Rattle.retrieve_discover.specs.Contents.{referred, shown_below, shown_forest};
 ghost use Rattle.retrieve_discover.specs.Descendants.{listed};
 ghost use Rattle.retrieve_discover.specs.Findings.{found};
+ghost use Rattle.retrieve_discover.specs.Guard.{HasOwnAddresses, OthersAreShownByRight};
+ghost use Rattle.retrieve_discover.specs.Guard.{is_address_of};
 ghost use Rattle.retrieve_discover.specs.Replies.{discovered, refusal, retrieved};
 
 /// What a Retrieve shows below a resource are the first of its descendants on which the originator
@@ -41,6 +43,24 @@ pub fn nothing_is_shown_or_found_without_a_grant()
     ensures found { (home : HomeData) (nodes : List ResourceData) (o : List ℕ)
         (f : FilterParts) (n : ℕ) →
         All (λ r. IsTrue (grants home nodes o discovery_bit r.number)) (found home nodes o f n) }
+{}
+
+/// What a reply tells of other resources is told by right, where no two resources have one address.
+/// Each resource whose object it shows below the first, and each child to which it refers, is one
+/// on which the originator has RETRIEVE, and each address that it gives is that of one on which it
+/// has DISCOVERY.
+pub fn others_are_shown_and_found_by_right()
+    ensures retrieved { (home : HomeData) (nodes : List ResourceData) (o : List ℕ)
+        (request : RequestParts) (n : ℕ) → HasOwnAddresses nodes →
+        OthersAreShownByRight home nodes o (retrieved home nodes o request n) }
+    ensures discovered { (home : HomeData) (nodes : List ResourceData) (o : List ℕ)
+        (request : RequestParts) (n : ℕ) → HasOwnAddresses nodes →
+        OthersAreShownByRight home nodes o (discovered home nodes o request n) }
+    ensures addresses { (nodes : List ResourceData) (address : List ℕ)
+        (r s : ResourceData) → HasOwnAddresses nodes →
+        at r.number nodes ≡ Some r → at s.number nodes ≡ Some s →
+        IsTrue (is_address_of nodes address r) → IsTrue (is_address_of nodes address s) →
+        r.number ≡ s.number }
 {}
 
 /// A discovery is answered the same on the list as its originator sees it.

@@ -22,11 +22,11 @@ mod references;
 mod replies;
 mod retrieving;
 
-pub use conditions::{Condition, meets};
+pub use conditions::{holds, meets};
 pub use discovering::discover;
 pub use laws::{
-    nothing_is_shown_or_found_without_a_grant, sight_keeps_what_is_found,
-    sight_keeps_what_is_shown, what_is_shown_is_a_filter,
+    nothing_is_shown_or_found_without_a_grant, others_are_shown_and_found_by_right,
+    sight_keeps_what_is_found, sight_keeps_what_is_shown, what_is_shown_is_a_filter,
 };
 pub use retrieving::retrieve;
 pub use std::alloc::AllocError as OutOfMemory;
