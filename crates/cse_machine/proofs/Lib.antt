@@ -1,7 +1,5 @@
 pub mod PlaceLemmas
-pub mod NamedLemmas
-pub mod ContentLemmas
-pub mod ShownLemmas
+pub mod OwnLemmas
 pub mod WayLemmas
 pub mod GuardLemmas
 pub mod HistoryLemmas

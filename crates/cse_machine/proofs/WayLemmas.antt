@@ -19,10 +19,7 @@ use Rattle.policy_eval.specs.Rights.{grants}
 use Rattle.policy_eval.specs.Seen.{discovery_bit, retrieve_bit}
 use Rattle.entity_model.specs.Entity.{EntityData}
 use Rattle.entity_model.specs.Places.{Effect, answering, refusal, refused}
-use Rattle.retrieve_discover.specs.Conditions.{meets_any}
-use Rattle.retrieve_discover.specs.Contents.{content}
-use Rattle.retrieve_discover.specs.Findings.{address_list, found_addresses}
-use Rattle.retrieve_discover.specs.Replies.{discovered, is_by_id, retrieved, retrieved_of, success}
+use Rattle.retrieve_discover.specs.Replies.{discovered, retrieved, retrieved_of}
 use Rattle.cse_machine.specs.Answer.{is_retrieve, is_served, has_originator, has_address, is_in_time, is_blocking, reading_reply, resource_at, addressed, to_resource, at_spot, effect_of}
 use Rattle.cse_machine.specs.Guard.{is_success, fan_group, fanned}
 use Rattle.cse_machine.specs.Rights.{claimed_originator, is_discovery}
@@ -95,13 +92,11 @@ module _ (e : EntityData) (request : RequestParts) where
 
 -- ---- reading
 
--- reading is refused; or it gives, by the right, what was looked for, or what is shown
+-- reading is refused; or it looks for resources by DISCOVERY, or shows by RETRIEVE
 pub data Reading (e : EntityData) (request : RequestParts) (r : ResourceData) (reply : ReplyParts) : Type 0 where
   denied : (fault : Rsc) → is_success fault ≡ false → reply ≡ refusal request fault → Reading e request r reply
-  searched : is_discovery request ≡ true → grants e.home e.nodes (claimed_originator e.home request) discovery_bit r.number ≡ true
-      → reply ≡ success request (address_list (found_addresses e.home e.nodes (claimed_originator e.home request) (is_by_id request) request.fc r.number)) → Reading e request r reply
-  shown : is_discovery request ≡ false → grants e.home e.nodes (claimed_originator e.home request) retrieve_bit r.number ≡ true
-      → reply ≡ success request (content e.home e.nodes (claimed_originator e.home request) (is_by_id request) request.rcn r) → Reading e request r reply
+  searched : is_discovery request ≡ true → grants e.home e.nodes (claimed_originator e.home request) discovery_bit r.number ≡ true → Reading e request r reply
+  shown : is_discovery request ≡ false → grants e.home e.nodes (claimed_originator e.home request) retrieve_bit r.number ≡ true → Reading e request r reply
 
 module _ (e : EntityData) (request : RequestParts) (r : ResourceData) (there : at r.number e.nodes ≡ Some r) where
   abbrev o : List ℕ
@@ -109,17 +104,14 @@ module _ (e : EntityData) (request : RequestParts) (r : ResourceData) (there : a
 
   found_way : is_discovery request ≡ true → Reading e request r (discovered e.home e.nodes o request r.number)
   found_way d = elim (cases_Bool (grants e.home e.nodes o discovery_bit r.number)) [
-    | inl t ↦ searched d t (rw t refl)
+    | inl t ↦ searched d t
     | inr f ↦ denied NoPrivilege refl (rw f refl)
   ]
 
   shown_way : is_discovery request ≡ false → Reading e request r (retrieved_of e.home e.nodes o request r)
   shown_way d = elim (cases_Bool (grants e.home e.nodes o retrieve_bit r.number)) [
     | inr f ↦ denied NoPrivilege refl (rw f refl)
-    | inl t ↦ elim (cases_Bool (meets_any e.nodes request.fc r)) [
-      | inr f ↦ denied NotFound refl (rw (t, f) refl)
-      | inl m ↦ shown d t (rw (t, m) refl)
-    ]
+    | inl t ↦ shown d t
   ]
 
   pub reading : Reading e request r (reading_reply e request r.number)

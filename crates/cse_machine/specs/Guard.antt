@@ -1,10 +1,9 @@
 -- What a request may show, and what it may change.
-use Rattle.std.specs.Prelude.{◌≡◌, ◌≢◌, ◌⊎◌, ℕ, Bool, false, ◌||◌, List, [], ◌∷◌, ◌++◌, Contains}
-use Rattle.std.specs.Prelude.{Option, Some, None, option_and_then, IsTrue, bytes_eq, codes, map}
+use Rattle.std.specs.Prelude.{◌≡◌, ◌≢◌, ◌⊎◌, ℕ, Bool, false, List, [], ◌∷◌, ◌++◌, Option, Some}
+use Rattle.std.specs.Prelude.{None, option_and_then, IsTrue, codes, map}
 use Rattle.std.specs.Prelude.{if◌then◌else◌}
 use Rattle.std.specs.Int.{is_in_range}
 use Rattle.std.specs.List.{All, list_any}
-use Rattle.std.specs.Option.{option_map_or}
 use Rattle.m2m_names.specs.declared.attributes.Attr.{Attr}
 use Rattle.m2m_names.specs.declared.attributes.Attr.TheVariants.{Acpi, St}
 use Rattle.m2m_names.specs.declared.types.Ty.{Ty}
@@ -22,24 +21,23 @@ use Rattle.primitive_json.specs.Writing.{reply_rows}
 use Rattle.primitive_json.specs.declared.reply.ReplyParts.{ReplyParts}
 use Rattle.primitive_json.specs.declared.request.RequestParts.{RequestParts}
 use Rattle.resource_model.specs.Attributes.{value_of}
-use Rattle.resource_model.specs.Resource.{ResourceData, has_number, id_of, is_ty}
+use Rattle.resource_model.specs.Resource.{ResourceData, has_number, is_ty}
 use Rattle.turn_desk.specs.Entries.{entry_of}
 use Rattle.tree_model.specs.Tree.{at, is_instance, line_of}
 use Rattle.policy_eval.specs.Alike.{is_one_of}
-use Rattle.policy_eval.specs.Rights.{discovery_bit, relinks, fan_grants}
+use Rattle.policy_eval.specs.Rights.{relinks, fan_grants}
 use Rattle.addressing.specs.Laws.{named_by}
-use Rattle.addressing.specs.Names.{structured_of}
 use Rattle.addressing.specs.declared.spot.Spot.{Spot}
 use Rattle.addressing.specs.declared.spot.Spot.TheVariants.{Resource, Fan, Poll}
 use Rattle.entity_model.specs.Entity.{EntityData, swept}
 use Rattle.entity_model.specs.Places.{reply_to}
 use Rattle.entity_model.specs.Sound.{IsSound}
+use Rattle.retrieve_discover.specs.Guard.{OthersAreShownByRight}
 use Rattle.cse_machine.specs.declared.event.Event.{Event}
 use Rattle.cse_machine.specs.declared.event.Event.TheVariants.{Ask}
 use Rattle.cse_machine.specs.declared.event.Outcome.{Outcome}
 use Rattle.cse_machine.specs.declared.event.Outcome.TheVariants.{Done, Starved}
 use Rattle.cse_machine.specs.Answer.{addressed}
-use Rattle.cse_machine.specs.Contents.{ids_below, references_in, addresses_in}
 use Rattle.cse_machine.specs.History.{History, Leaves}
 use Rattle.cse_machine.specs.Rights.{claimed_originator, is_granted, has_right}
 use Rattle.cse_machine.specs.Step.{Step}
@@ -60,40 +58,6 @@ pub record HasRight (e : EntityData) (request : RequestParts) : Type 0 where
   pub target : ResourceData
   pub named : addressed e request.to ≡ Some target
   pub right : IsTrue (has_right e request target.number)
-
--- the address names the resource of the list: it is its resource id, or its structured address
--- (TS-0001, 9.3.1)
-abbrev pub is_address_of : List ResourceData → List ℕ → ResourceData → Bool
-is_address_of nodes address r =
-    bytes_eq address (id_of r) || bytes_eq address (structured_of r.number nodes)
-
--- the address names some resource of the entity, and on each that it names the originator has these
--- bits
-pub record IsNamedByRight (e : EntityData) (request : RequestParts) (bits : ℕ)
-    (address : List ℕ) : Type 0 where
-  pub some : IsTrue (list_any (is_address_of e.nodes address) e.nodes)
-  pub each : (r : ResourceData) → at r.number e.nodes ≡ Some r
-      → IsTrue (is_address_of e.nodes address r) → IsTrue (is_granted e request bits r.number)
-
--- each of these addresses does
-abbrev pub AreNamedByRight : EntityData → RequestParts → ℕ → List (List ℕ) → Type 0
-AreNamedByRight e request bits addresses =
-    (address : List ℕ) → Contains addresses address → IsNamedByRight e request bits address
-
--- of other resources a content shows those that the originator may retrieve, refers to such ones
--- alone, and gives the addresses of those that it may discover
-pub record IsShownByRight (e : EntityData) (request : RequestParts)
-    (ids children addresses : List (List ℕ)) : Type 0 where
-  pub below : AreNamedByRight e request (op_row Retrieve).bit ids
-  pub referred : AreNamedByRight e request (op_row Retrieve).bit children
-  pub found : AreNamedByRight e request discovery_bit addresses
-
-abbrev pub OthersAreShownByRight : EntityData → RequestParts → ReplyParts → Type 0
-OthersAreShownByRight e request reply =
-    IsShownByRight e request (told ids_below) (told references_in) (told addresses_in)
-  where
-    told : (Data → List (List ℕ)) → List (List ℕ)
-    told part = option_map_or part reply.pc []
 
 -- ---- what is changed
 
@@ -169,7 +133,8 @@ pub record IsRemovedByRight (before : EntityData) (request : RequestParts)
 pub record IsGuardedAlone (before : EntityData) (request : RequestParts) (reply : ReplyParts)
     (after : EntityData) : Type 0 where
   pub shown : DoesShow reply → HasRight before request
-  pub others : OthersAreShownByRight before request reply
+  pub others : OthersAreShownByRight before.home before.nodes
+      (claimed_originator before.home request) reply
   pub created : (r : ResourceData) → IsNew before.nodes after.nodes r
       → IsTrue (is_granted before request (op_row Create).bit r.parent)
   pub changed : (r s : ResourceData) → IsChanged before.nodes after.nodes r s

@@ -3,5 +3,4 @@ pub mod Answer
 pub mod Step
 pub mod History
 pub mod Sight
-pub mod Contents
 pub mod Guard
