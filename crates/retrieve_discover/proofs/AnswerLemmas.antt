@@ -29,7 +29,7 @@ use Rattle.policy_eval.proofs.RetrievedLemmas.{attributes-seen}
 use Rattle.policy_eval.proofs.SeenLemmas.{at-seen, grants-seen, seen_shows}
 use Rattle.retrieve_discover.specs.Conditions.{meets, meets_any}
 use Rattle.retrieve_discover.specs.Contents.{content, may_retrieve, members, most_references, most_shown, reference, references, references_alone, referred, shown_forest, wanted_content, whole, with_forest, with_last, with_member, with_references}
-use Rattle.retrieve_discover.specs.Descendants.{Forest, bare, rooted, cut, grown, listed, size_of}
+use Rattle.retrieve_discover.specs.Descendants.{Forest, bare, rooted, cut, grown, listed, forest_size}
 use Rattle.retrieve_discover.specs.Replies.{is_by_id, refusal, retrieved, retrieved_of, success}
 use Rattle.retrieve_discover.proofs.OrderLemmas.{Each, IsFound, each_found, in_order-tree}
 use Rattle.retrieve_discover.proofs.ForestLemmas.{AllIn, all-cut, all-grown}

@@ -39,14 +39,14 @@ abbrev pub listed : Forest → List ResourceData
 listed bare = []
 listed (rooted r kids more) = r ∷ (listed kids ++ listed more)
 
-abbrev pub size_of : Forest → ℕ
-size_of forest = length (listed forest)
+abbrev pub forest_size : Forest → ℕ
+forest_size forest = length (listed forest)
 
 -- the first of a forest, as many as this
 abbrev pub cut : Forest → ℕ → Forest
 cut bare m = bare
 cut (rooted r kids more) m =
-    if m == 0 then bare else rooted r (cut kids (m - 1)) (cut more (m - 1 - size_of kids))
+    if m == 0 then bare else rooted r (cut kids (m - 1)) (cut more (m - 1 - forest_size kids))
 
 -- a resource with what is reached below it, where it is reached itself
 abbrev pub reached : (ResourceData → Bool) → List ResourceData → ResourceData → Forest

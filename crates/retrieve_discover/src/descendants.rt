@@ -7,7 +7,7 @@ ghost use Rattle.m2m_value.specs.View.{as_list};
 ghost use Rattle.policy_eval.specs.Rules.{elements_in};
 ghost use Rattle.tree_model.specs.Tree.{at, is_tree};
 ghost use Rattle.retrieve_discover.specs.Contents as spec;
-ghost use Rattle.retrieve_discover.specs.Descendants.{cut, grown, reached, size_of};
+ghost use Rattle.retrieve_discover.specs.Descendants.{cut, grown, reached, forest_size};
 
 use crate::look::{Look, may_retrieve, members_of};
 use m2m_names::Ty;
@@ -31,7 +31,7 @@ pub(crate) fn add_descendants<T: Tree>(
         ≡ spec.with_forest (spec.members look.now.home.now (T.nodes look.now.tree.now))
         (cut (grown (spec.may_retrieve look.now.home.now (T.nodes look.now.tree.now) look.now.o.now)
         parent (T.nodes look.now.tree.now)) left.old) members.old) }
-    ensures left { OnOk result (left.new ≡ left.old - size_of
+    ensures left { OnOk result (left.new ≡ left.old - forest_size
         (grown (spec.may_retrieve look.now.home.now (T.nodes look.now.tree.now) look.now.o.now)
         parent (T.nodes look.now.tree.now))) }
     ensures keys { OnOk result (HaveTextKeys members.old → HaveTextKeys members.new) }
@@ -66,7 +66,7 @@ fn add_child<T: Tree>(
         (cut (reached
         (spec.may_retrieve look.now.home.now (T.nodes look.now.tree.now) look.now.o.now)
         (T.nodes look.now.tree.now) child.now) left.old) members.old) }
-    ensures left { OnOk result (left.new ≡ left.old - size_of (reached
+    ensures left { OnOk result (left.new ≡ left.old - forest_size (reached
         (spec.may_retrieve look.now.home.now (T.nodes look.now.tree.now) look.now.o.now)
         (T.nodes look.now.tree.now) child.now)) }
     ensures keys { OnOk result (HaveTextKeys members.old → HaveTextKeys members.new) }
