@@ -29,7 +29,7 @@ use Rattle.policy_eval.proofs.RetrievedLemmas.{attributes-seen}
 use Rattle.policy_eval.proofs.SeenLemmas.{at-seen, grants-seen, seen_shows}
 use Rattle.retrieve_discover.specs.Conditions.{meets, meets_any}
 use Rattle.retrieve_discover.specs.Contents.{content, may_retrieve, members, most_references, most_shown, reference, references, references_alone, referred, shown_forest, wanted_content, whole, with_forest, with_last, with_member, with_references}
-use Rattle.retrieve_discover.specs.Descendants.{Forest, bare, rooted, cut, grown, listed, size_of}
+use Rattle.retrieve_discover.specs.Descendants.{Forest, bare, rooted, cut_forest, grown, listed, forest_size}
 use Rattle.retrieve_discover.specs.Replies.{is_by_id, refusal, retrieved, retrieved_of, success}
 use Rattle.retrieve_discover.proofs.OrderLemmas.{Each, IsFound, each_found, in_order-tree}
 use Rattle.retrieve_discover.proofs.ForestLemmas.{AllIn, all-cut, all-grown}
@@ -122,9 +122,9 @@ module _ (home : HomeData) (nodes : List ResourceData) (o : List ℕ) (well : is
 
   shown-seen : (n : ℕ) (es : List Entry) → with_forest (members home (map g nodes)) (shown_forest home (map g nodes) o n) es ≡ with_forest (members home nodes) (shown_forest home nodes o n) es
   shown-seen n es =
-      ap (λ f. with_forest (members home (map g nodes)) (cut f most_shown) es) (grown-map g (λ s. refl) (λ s. refl) (may_retrieve home (map g nodes) o) goes goes-seen nodes n)
+      ap (λ f. with_forest (members home (map g nodes)) (cut_forest f most_shown) es) (grown-map g (λ s. refl) (λ s. refl) (may_retrieve home (map g nodes) o) goes goes-seen nodes n)
       ∙ ap (λ f. with_forest (members home (map g nodes)) f es) (cut-map g (grown goes n nodes) most_shown)
-      ∙ forest-seen (cut (grown goes n nodes) most_shown) es (all-cut (λ r. IsFound nodes r × (goes r ≡ true)) (grown goes n nodes) most_shown (all-grown (IsFound nodes) goes nodes n (each_found nodes (in_order-tree nodes (tree_from_well_formed nodes well)))))
+      ∙ forest-seen (cut_forest (grown goes n nodes) most_shown) es (all-cut (λ r. IsFound nodes r × (goes r ≡ true)) (grown goes n nodes) most_shown (all-grown (IsFound nodes) goes nodes n (each_found nodes (in_order-tree nodes (tree_from_well_formed nodes well)))))
 
   -- ---- the reply
 

@@ -10,7 +10,7 @@ use Rattle.m2m_names.specs.Types.{ty_member}
 use Rattle.resource_model.specs.Resource.{ResourceData}
 use Rattle.tree_model.specs.Tree.{children_of, is_tree, is_under}
 use Rattle.retrieve_discover.specs.Contents.{with_forest, with_last}
-use Rattle.retrieve_discover.specs.Descendants.{Forest, bare, rooted, cut, grown, listed, reached, size_of}
+use Rattle.retrieve_discover.specs.Descendants.{Forest, bare, rooted, cut_forest, grown, listed, reached_forest, forest_size}
 use Rattle.retrieve_discover.proofs.BelowLemmas.{above-filter}
 use Rattle.retrieve_discover.proofs.OrderLemmas.{Each, are_above, in_order, in_order-tree, first_of}
 use Rattle.retrieve_discover.proofs.WalkLemmas.{drop_get}
@@ -43,14 +43,14 @@ above_zero : (m : ℕ) → (m == 0) ≡ false → 0 < m
 above_zero m f = grind (arith, nat_tests)
 
 -- they are the first of its list
-pub listed-cut : (f : Forest) (m : ℕ) → listed (cut f m) ≡ take m (listed f)
+pub listed-cut : (f : Forest) (m : ℕ) → listed (cut_forest f m) ≡ take m (listed f)
 listed-cut bare m = sym (take_of_none m)
 listed-cut (rooted r kids more) m = elim (cases_Bool (m == 0)) [
   | inl t ↦ (let nothing : 0 ≡ m = sym (eqb-true m 0 t) in rw t (ap (λ k. take k (r ∷ (listed kids ++ listed more))) nothing))
   | inr f ↦
       let some : 0 < m = above_zero m f in
-      rw f (ap (λ rs. r ∷ (rs ++ listed (cut more (m - 1 - size_of kids)))) (listed-cut kids (m - 1))
-      ∙ ap (λ rs. r ∷ (take (m - 1) (listed kids) ++ rs)) (listed-cut more (m - 1 - size_of kids))
+      rw f (ap (λ rs. r ∷ (rs ++ listed (cut_forest more (m - 1 - forest_size kids)))) (listed-cut kids (m - 1))
+      ∙ ap (λ rs. r ∷ (take (m - 1) (listed kids) ++ rs)) (listed-cut more (m - 1 - forest_size kids))
       ∙ ap (λ rs. r ∷ rs) (sym (take-both (m - 1) (listed kids) (listed more)))
       ∙ sym (take_first m r (listed kids ++ listed more) some))
 ]
@@ -61,11 +61,11 @@ abbrev pub AllIn : (ResourceData → Type 0) → Forest → Type 0
 AllIn P bare = Unit {0}
 AllIn P (rooted r kids more) = P r × (AllIn P kids × AllIn P more)
 
-pub all-cut : (P : ResourceData → Type 0) (f : Forest) (m : ℕ) → AllIn P f → AllIn P (cut f m)
+pub all-cut : (P : ResourceData → Type 0) (f : Forest) (m : ℕ) → AllIn P f → AllIn P (cut_forest f m)
 all-cut P bare m all = tt
 all-cut P (rooted r kids more) m all = elim (cases_Bool (m == 0)) [
   | inl t ↦ rw t tt
-  | inr f ↦ rw f (all.0, (all-cut P kids (m - 1) all.1.0, all-cut P more (m - 1 - size_of kids) all.1.1))
+  | inr f ↦ rw f (all.0, (all-cut P kids (m - 1) all.1.0, all-cut P more (m - 1 - forest_size kids) all.1.1))
 ]
 
 pub all-grown : (P : ResourceData → Type 0) (goes : ResourceData → Bool) (rs : List ResourceData) (n : ℕ) → Each P rs → AllIn (λ r. P r × (goes r ≡ true)) (grown goes n rs)
@@ -122,85 +122,85 @@ module _ (goes : ResourceData → Bool) where
   passed : (nodes kids : List ResourceData) (k : ℕ) (r : ResourceData) → slice_get kids k ≡ Some r → goes r ≡ false → chain nodes (drop k kids) ≡ chain nodes (drop (k + 1) kids)
   passed nodes kids k r is h = ap (chain nodes) (drop_get kids k r is) ∙ rw h refl
 
-  here_true : (nodes : List ResourceData) (r : ResourceData) → goes r ≡ true → reached goes nodes r ≡ rooted r (grown goes r.number nodes) bare
+  here_true : (nodes : List ResourceData) (r : ResourceData) → goes r ≡ true → reached_forest goes nodes r ≡ rooted r (grown goes r.number nodes) bare
   here_true nodes r g = rw g refl
 
-  here_false : (nodes : List ResourceData) (r : ResourceData) → goes r ≡ false → reached goes nodes r ≡ bare
+  here_false : (nodes : List ResourceData) (r : ResourceData) → goes r ≡ false → reached_forest goes nodes r ≡ bare
   here_false nodes r h = rw h refl
 
-  cut_more : (m : ℕ) (r : ResourceData) (below after : Forest) → 0 < m → cut (rooted r below after) m ≡ rooted r (cut below (m - 1)) (cut after (m - 1 - size_of below))
+  cut_more : (m : ℕ) (r : ResourceData) (below after : Forest) → 0 < m → cut_forest (rooted r below after) m ≡ rooted r (cut_forest below (m - 1)) (cut_forest after (m - 1 - forest_size below))
   cut_more m r below after some = rw (ne_eqb m 0 (λ e. omega (arith, some, e))) refl
 
   -- one child more, and what is left for the others
-  pub turned : (members : ResourceData → List Entry) (nodes kids : List ResourceData) (k left less : ℕ) (r : ResourceData) (es more : List Entry) → slice_get kids k ≡ Some r → 0 < left → less ≡ left - size_of (reached goes nodes r) → more ≡ with_forest members (cut (reached goes nodes r) left) es → with_forest members (cut (chain nodes (drop k kids)) left) es ≡ with_forest members (cut (chain nodes (drop (k + 1) kids)) less) more
+  pub turned : (members : ResourceData → List Entry) (nodes kids : List ResourceData) (k left less : ℕ) (r : ResourceData) (es more : List Entry) → slice_get kids k ≡ Some r → 0 < left → less ≡ left - forest_size (reached_forest goes nodes r) → more ≡ with_forest members (cut_forest (reached_forest goes nodes r) left) es → with_forest members (cut_forest (chain nodes (drop k kids)) left) es ≡ with_forest members (cut_forest (chain nodes (drop (k + 1) kids)) less) more
   turned members nodes kids k left less r es more is some rest grew = elim (cases_Bool (goes r)) [
     | inl g ↦
         let below = grown goes r.number nodes in
         let after = chain nodes (drop (k + 1) kids) in
-        let size : size_of (reached goes nodes r) ≡ length (r ∷ listed below) = ap size_of (here_true nodes r g) ∙ ap (λ (rs : List ResourceData). length (r ∷ rs)) (append-nil (listed below)) in
-        let fewer : left - 1 - size_of below ≡ less = omega (arith, rest, size) in
-        let alone : with_forest members (cut (reached goes nodes r) left) es ≡ with_last (ty_member r.ty) (object (pairs_of (with_forest members (cut below (left - 1)) (members r)))) es =
-        ap (λ f. with_forest members (cut f left) es) (here_true nodes r g) ∙ ap (λ f. with_forest members f es) (cut_more left r below bare some) in
-        ap (λ f. with_forest members (cut f left) es) (gone_to nodes kids k r is g)
+        let size : forest_size (reached_forest goes nodes r) ≡ length (r ∷ listed below) = ap forest_size (here_true nodes r g) ∙ ap (λ (rs : List ResourceData). length (r ∷ rs)) (append-nil (listed below)) in
+        let fewer : left - 1 - forest_size below ≡ less = omega (arith, rest, size) in
+        let alone : with_forest members (cut_forest (reached_forest goes nodes r) left) es ≡ with_last (ty_member r.ty) (object (pairs_of (with_forest members (cut_forest below (left - 1)) (members r)))) es =
+        ap (λ f. with_forest members (cut_forest f left) es) (here_true nodes r g) ∙ ap (λ f. with_forest members f es) (cut_more left r below bare some) in
+        ap (λ f. with_forest members (cut_forest f left) es) (gone_to nodes kids k r is g)
         ∙ ap (λ f. with_forest members f es) (cut_more left r below after some)
-        ∙ ap (λ m. with_forest members (cut after m) (with_last (ty_member r.ty) (object (pairs_of (with_forest members (cut below (left - 1)) (members r)))) es)) fewer
-        ∙ ap (with_forest members (cut after less)) (sym (grew ∙ alone))
+        ∙ ap (λ m. with_forest members (cut_forest after m) (with_last (ty_member r.ty) (object (pairs_of (with_forest members (cut_forest below (left - 1)) (members r)))) es)) fewer
+        ∙ ap (with_forest members (cut_forest after less)) (sym (grew ∙ alone))
     | inr h ↦
-        let nothing : less ≡ left - size_of bare = rest ∙ ap (λ f. left - size_of f) (here_false nodes r h) in
+        let nothing : less ≡ left - forest_size bare = rest ∙ ap (λ f. left - forest_size f) (here_false nodes r h) in
         let same : less ≡ left = omega (arith, nothing) in
-        let kept : more ≡ es = grew ∙ ap (λ f. with_forest members (cut f left) es) (here_false nodes r h) in
-        ap (λ f. with_forest members (cut f left) es) (passed nodes kids k r is h)
-        ∙ ap (λ m. with_forest members (cut (chain nodes (drop (k + 1) kids)) m) es) (sym same)
-        ∙ ap (with_forest members (cut (chain nodes (drop (k + 1) kids)) less)) (sym kept)
+        let kept : more ≡ es = grew ∙ ap (λ f. with_forest members (cut_forest f left) es) (here_false nodes r h) in
+        ap (λ f. with_forest members (cut_forest f left) es) (passed nodes kids k r is h)
+        ∙ ap (λ m. with_forest members (cut_forest (chain nodes (drop (k + 1) kids)) m) es) (sym same)
+        ∙ ap (with_forest members (cut_forest (chain nodes (drop (k + 1) kids)) less)) (sym kept)
   ]
 
-  pub sizes : (nodes kids : List ResourceData) (k left less : ℕ) (r : ResourceData) → slice_get kids k ≡ Some r → less ≡ left - size_of (reached goes nodes r) → left - size_of (chain nodes (drop k kids)) ≡ less - size_of (chain nodes (drop (k + 1) kids))
+  pub sizes : (nodes kids : List ResourceData) (k left less : ℕ) (r : ResourceData) → slice_get kids k ≡ Some r → less ≡ left - forest_size (reached_forest goes nodes r) → left - forest_size (chain nodes (drop k kids)) ≡ less - forest_size (chain nodes (drop (k + 1) kids))
   sizes nodes kids k left less r is rest = elim (cases_Bool (goes r)) [
     | inl g ↦
         let below = grown goes r.number nodes in
-        let size : size_of (reached goes nodes r) ≡ length (r ∷ listed below) = ap size_of (here_true nodes r g) ∙ ap (λ (rs : List ResourceData). length (r ∷ rs)) (append-nil (listed below)) in
-        let both = ap size_of (gone_to nodes kids k r is g) in
+        let size : forest_size (reached_forest goes nodes r) ≡ length (r ∷ listed below) = ap forest_size (here_true nodes r g) ∙ ap (λ (rs : List ResourceData). length (r ∷ rs)) (append-nil (listed below)) in
+        let both = ap forest_size (gone_to nodes kids k r is g) in
         let sum = length-append (listed below) (listed (chain nodes (drop (k + 1) kids))) in
         omega (arith, both, sum, size, rest)
     | inr h ↦
-        let nothing : less ≡ left - size_of bare = rest ∙ ap (λ f. left - size_of f) (here_false nodes r h) in
+        let nothing : less ≡ left - forest_size bare = rest ∙ ap (λ f. left - forest_size f) (here_false nodes r h) in
         let same : less ≡ left = omega (arith, nothing) in
-        ap (λ f. left - size_of f) (passed nodes kids k r is h) ∙ ap (λ m. m - size_of (chain nodes (drop (k + 1) kids))) (sym same)
+        ap (λ f. left - forest_size f) (passed nodes kids k r is h) ∙ ap (λ m. m - forest_size (chain nodes (drop (k + 1) kids))) (sym same)
   ]
 
   -- no child is left, or nothing more is shown
-  pub none_left : (members : ResourceData → List Entry) (nodes kids : List ResourceData) (k left : ℕ) (es : List Entry) → drop k kids ≡ [] → with_forest members (cut (chain nodes (drop k kids)) left) es ≡ es
-  none_left members nodes kids k left es ends = ap (λ rs. with_forest members (cut (chain nodes rs) left) es) ends
+  pub none_left : (members : ResourceData → List Entry) (nodes kids : List ResourceData) (k left : ℕ) (es : List Entry) → drop k kids ≡ [] → with_forest members (cut_forest (chain nodes (drop k kids)) left) es ≡ es
+  none_left members nodes kids k left es ends = ap (λ rs. with_forest members (cut_forest (chain nodes rs) left) es) ends
 
-  pub cut_to_nothing : (members : ResourceData → List Entry) (f : Forest) (es : List Entry) → with_forest members (cut f 0) es ≡ es
+  pub cut_to_nothing : (members : ResourceData → List Entry) (f : Forest) (es : List Entry) → with_forest members (cut_forest f 0) es ≡ es
   cut_to_nothing members bare es = refl
   cut_to_nothing members (rooted r kids more) es = refl
 
   -- a child that isn't gone to adds nothing
-  pub skipped : (members : ResourceData → List Entry) (nodes : List ResourceData) (left : ℕ) (r : ResourceData) (es : List Entry) → goes r ≡ false → (es ≡ with_forest members (cut (reached goes nodes r) left) es) × (left ≡ left - size_of (reached goes nodes r))
+  pub skipped : (members : ResourceData → List Entry) (nodes : List ResourceData) (left : ℕ) (r : ResourceData) (es : List Entry) → goes r ≡ false → (es ≡ with_forest members (cut_forest (reached_forest goes nodes r) left) es) × (left ≡ left - forest_size (reached_forest goes nodes r))
   skipped members nodes left r es none =
       let nothing = here_false nodes r none in
-      let same : left ≡ left - size_of bare = omega arith in
-      (ap (λ f. with_forest members (cut f left) es) (sym nothing), same ∙ ap (λ f. left - size_of f) (sym nothing))
+      let same : left ≡ left - forest_size bare = omega arith in
+      (ap (λ f. with_forest members (cut_forest f left) es) (sym nothing), same ∙ ap (λ f. left - forest_size f) (sym nothing))
 
   -- one that is gone to adds its object, with what is shown below it
-  pub shown_alone : (members : ResourceData → List Entry) (nodes : List ResourceData) (left : ℕ) (r : ResourceData) (es : List Entry) → goes r ≡ true → 0 < left → with_forest members (cut (reached goes nodes r) left) es ≡ with_last (ty_member r.ty) (object (pairs_of (with_forest members (cut (grown goes r.number nodes) (left - 1)) (members r)))) es
+  pub shown_alone : (members : ResourceData → List Entry) (nodes : List ResourceData) (left : ℕ) (r : ResourceData) (es : List Entry) → goes r ≡ true → 0 < left → with_forest members (cut_forest (reached_forest goes nodes r) left) es ≡ with_last (ty_member r.ty) (object (pairs_of (with_forest members (cut_forest (grown goes r.number nodes) (left - 1)) (members r)))) es
   shown_alone members nodes left r es gone some =
-      ap (λ f. with_forest members (cut f left) es) (here_true nodes r gone)
+      ap (λ f. with_forest members (cut_forest f left) es) (here_true nodes r gone)
       ∙ ap (λ f. with_forest members f es) (cut_more left r (grown goes r.number nodes) bare some)
 
-  pub size_alone : (nodes : List ResourceData) (r : ResourceData) → goes r ≡ true → size_of (reached goes nodes r) ≡ size_of (grown goes r.number nodes) + 1
+  pub size_alone : (nodes : List ResourceData) (r : ResourceData) → goes r ≡ true → forest_size (reached_forest goes nodes r) ≡ forest_size (grown goes r.number nodes) + 1
   size_alone nodes r gone =
-      let size : size_of (reached goes nodes r) ≡ length (r ∷ listed (grown goes r.number nodes)) = ap size_of (here_true nodes r gone) ∙ ap (λ (rs : List ResourceData). length (r ∷ rs)) (append-nil (listed (grown goes r.number nodes))) in
+      let size : forest_size (reached_forest goes nodes r) ≡ length (r ∷ listed (grown goes r.number nodes)) = ap forest_size (here_true nodes r gone) ∙ ap (λ (rs : List ResourceData). length (r ∷ rs)) (append-nil (listed (grown goes r.number nodes))) in
       omega (arith, size)
 
   -- where nothing more is shown, or no child is left, all that is shown has been
-  pub stopped : (members : ResourceData → List Entry) (f : Forest) (left n : ℕ) (es all : List Entry) → left ≡ 0 → with_forest members (cut f left) es ≡ all → left - size_of f ≡ n → (es ≡ all) × (left ≡ n)
+  pub stopped : (members : ResourceData → List Entry) (f : Forest) (left n : ℕ) (es all : List Entry) → left ≡ 0 → with_forest members (cut_forest f left) es ≡ all → left - forest_size f ≡ n → (es ≡ all) × (left ≡ n)
   stopped members f left n es all nothing shown size =
-      (sym (cut_to_nothing members f es) ∙ ap (λ m. with_forest members (cut f m) es) (sym nothing) ∙ shown, omega (arith, nothing, size))
+      (sym (cut_to_nothing members f es) ∙ ap (λ m. with_forest members (cut_forest f m) es) (sym nothing) ∙ shown, omega (arith, nothing, size))
 
-  pub ended : (members : ResourceData → List Entry) (nodes kids : List ResourceData) (k left n : ℕ) (es all : List Entry) → drop k kids ≡ [] → with_forest members (cut (chain nodes (drop k kids)) left) es ≡ all → left - size_of (chain nodes (drop k kids)) ≡ n → (es ≡ all) × (left ≡ n)
+  pub ended : (members : ResourceData → List Entry) (nodes kids : List ResourceData) (k left n : ℕ) (es all : List Entry) → drop k kids ≡ [] → with_forest members (cut_forest (chain nodes (drop k kids)) left) es ≡ all → left - forest_size (chain nodes (drop k kids)) ≡ n → (es ≡ all) × (left ≡ n)
   ended members nodes kids k left n es all none shown size =
-      let same : left ≡ left - size_of bare = omega arith in
-      let less : left - size_of bare ≡ n = sym (ap (λ rs. left - size_of (chain nodes rs)) none) ∙ size in
+      let same : left ≡ left - forest_size bare = omega arith in
+      let less : left - forest_size bare ≡ n = sym (ap (λ rs. left - forest_size (chain nodes rs)) none) ∙ size in
       (sym (none_left members nodes kids k left es none) ∙ shown, same ∙ less)

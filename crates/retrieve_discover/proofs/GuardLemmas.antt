@@ -15,7 +15,7 @@ use Rattle.policy_eval.specs.Rights.{grants}
 use Rattle.policy_eval.specs.Seen.{discovery_bit, retrieve_bit}
 use Rattle.retrieve_discover.specs.Conditions.{meets, meets_any}
 use Rattle.retrieve_discover.specs.Contents.{content, may_retrieve, most_references, most_shown, referred, shown_forest}
-use Rattle.retrieve_discover.specs.Descendants.{below, cut, grown, listed}
+use Rattle.retrieve_discover.specs.Descendants.{below, cut_forest, grown, listed}
 use Rattle.retrieve_discover.specs.Findings.{address_list, all_found, found, found_addresses, is_found, most_of}
 use Rattle.retrieve_discover.specs.Replies.{discovered, is_by_id, refusal, retrieved, retrieved_of, success}
 use Rattle.retrieve_discover.proofs.ForestLemmas.{listed-cut}

@@ -6,7 +6,7 @@ use Rattle.std.proofs.lemmas.Bool.{cases_Bool}
 use Rattle.std.proofs.lemmas.List.{length-map, map-append, reverse-append}
 use Rattle.resource_model.specs.Resource.{ResourceData, has_number}
 use Rattle.tree_model.specs.Tree.{children_of, is_under, line_from, line_of}
-use Rattle.retrieve_discover.specs.Descendants.{Forest, bare, rooted, below, cut, grown, listed, size_of}
+use Rattle.retrieve_discover.specs.Descendants.{Forest, bare, rooted, below, cut_forest, grown, listed, forest_size}
 use Rattle.retrieve_discover.proofs.OrderLemmas.{Each}
 
 module _ (g : ResourceData → ResourceData) where
@@ -37,17 +37,17 @@ module _ (g : ResourceData → ResourceData) where
       ∙ ap (λ rs. g r ∷ (map g (listed kids) ++ rs)) (listed-map more)
       ∙ ap (λ rs. g r ∷ rs) (sym (map-append g (listed kids) (listed more)))
 
-  size-map : (f : Forest) → size_of (map_forest f) ≡ size_of f
+  size-map : (f : Forest) → forest_size (map_forest f) ≡ forest_size f
   size-map f = ap (λ (rs : List ResourceData). length rs) (listed-map f) ∙ length-map (listed f) g
 
-  pub cut-map : (f : Forest) (m : ℕ) → cut (map_forest f) m ≡ map_forest (cut f m)
+  pub cut-map : (f : Forest) (m : ℕ) → cut_forest (map_forest f) m ≡ map_forest (cut_forest f m)
   cut-map bare m = refl
   cut-map (rooted r kids more) m = elim (cases_Bool (m == 0)) [
     | inl t ↦ rw t refl
     | inr f ↦ rw f (
-        ap (λ k. rooted (g r) (cut (map_forest kids) (m - 1)) (cut (map_forest more) (m - 1 - k))) (size-map kids)
-        ∙ ap (λ x. rooted (g r) x (cut (map_forest more) (m - 1 - size_of kids))) (cut-map kids (m - 1))
-        ∙ ap (rooted (g r) (map_forest (cut kids (m - 1)))) (cut-map more (m - 1 - size_of kids)))
+        ap (λ k. rooted (g r) (cut_forest (map_forest kids) (m - 1)) (cut_forest (map_forest more) (m - 1 - k))) (size-map kids)
+        ∙ ap (λ x. rooted (g r) x (cut_forest (map_forest more) (m - 1 - forest_size kids))) (cut-map kids (m - 1))
+        ∙ ap (rooted (g r) (map_forest (cut_forest kids (m - 1)))) (cut-map more (m - 1 - forest_size kids)))
   ]
 
   module _ (number : (r : ResourceData) → (g r).number ≡ r.number) (parent : (r : ResourceData) → (g r).parent ≡ r.parent) where

@@ -15,7 +15,8 @@ use Rattle.policy_eval.specs.Rules.{elements_in}
 use Rattle.policy_eval.specs.Seen.{retrieve_bit}
 use Rattle.tree_model.specs.Shown.{members_of, shown_rows, shown_ty, under_type}
 use Rattle.tree_model.specs.Tree.{children_of}
-use Rattle.retrieve_discover.specs.Descendants.{Forest, bare, rooted, below, cut, grown, line_below}
+use Rattle.retrieve_discover.specs.Descendants.{Forest, bare, rooted, below, cut_forest, grown}
+use Rattle.retrieve_discover.specs.Descendants.{line_below}
 use Rattle.retrieve_discover.specs.Findings.{address}
 
 -- ---- objects
@@ -57,8 +58,8 @@ references home nodes o by_id n =
 
 -- a descendant of a resource is shown: the originator may retrieve it and all between it and that
 -- resource
-abbrev pub is_shown : HomeData → List ResourceData → List ℕ → ℕ → ResourceData → Bool
-is_shown home nodes o n r = list_all (may_retrieve home nodes o) (line_below n nodes r)
+abbrev pub is_shown_below : HomeData → List ResourceData → List ℕ → ℕ → ResourceData → Bool
+is_shown_below home nodes o n r = list_all (may_retrieve home nodes o) (line_below n nodes r)
 
 -- the most descendants that are shown (the number is the profile's)
 abbrev pub most_shown : ℕ
@@ -66,11 +67,12 @@ most_shown = 128
 
 -- the first of those that may be
 abbrev pub shown_below : HomeData → List ResourceData → List ℕ → ℕ → List ResourceData
-shown_below home nodes o n = take most_shown (filter (is_shown home nodes o n) (below n nodes))
+shown_below home nodes o n =
+    take most_shown (filter (is_shown_below home nodes o n) (below n nodes))
 
 -- the same, each with what is shown below it
 abbrev pub shown_forest : HomeData → List ResourceData → List ℕ → ℕ → Forest
-shown_forest home nodes o n = cut (grown (may_retrieve home nodes o) n nodes) most_shown
+shown_forest home nodes o n = cut_forest (grown (may_retrieve home nodes o) n nodes) most_shown
 
 -- an object more at the end of the list that a member has
 abbrev pub with_last : List ℕ → Data → List Entry → List Entry

@@ -39,15 +39,16 @@ abbrev pub listed : Forest → List ResourceData
 listed bare = []
 listed (rooted r kids more) = r ∷ (listed kids ++ listed more)
 
-abbrev pub size_of : Forest → ℕ
-size_of forest = length (listed forest)
+abbrev pub forest_size : Forest → ℕ
+forest_size forest = length (listed forest)
 
 -- the first of a forest, as many as this
-abbrev pub cut : Forest → ℕ → Forest
-cut bare m = bare
-cut (rooted r kids more) m =
-    if m == 0 then bare else rooted r (cut kids (m - 1)) (cut more (m - 1 - size_of kids))
+abbrev pub cut_forest : Forest → ℕ → Forest
+cut_forest bare m = bare
+cut_forest (rooted r kids more) m =
+    if m == 0 then bare
+    else rooted r (cut_forest kids (m - 1)) (cut_forest more (m - 1 - forest_size kids))
 
 -- a resource with what is reached below it, where it is reached itself
-abbrev pub reached : (ResourceData → Bool) → List ResourceData → ResourceData → Forest
-reached goes nodes r = if goes r then rooted r (grown goes r.number nodes) bare else bare
+abbrev pub reached_forest : (ResourceData → Bool) → List ResourceData → ResourceData → Forest
+reached_forest goes nodes r = if goes r then rooted r (grown goes r.number nodes) bare else bare

@@ -7,7 +7,8 @@ ghost use Rattle.m2m_value.specs.View.{as_list};
 ghost use Rattle.policy_eval.specs.Rules.{elements_in};
 ghost use Rattle.tree_model.specs.Tree.{at, is_tree};
 ghost use Rattle.retrieve_discover.specs.Contents as spec;
-ghost use Rattle.retrieve_discover.specs.Descendants.{cut, grown, reached, size_of};
+ghost use Rattle.retrieve_discover.specs.Descendants.{cut_forest, forest_size, grown};
+ghost use Rattle.retrieve_discover.specs.Descendants.{reached_forest};
 
 use crate::look::{Look, may_retrieve, members_of};
 use m2m_names::Ty;
@@ -29,9 +30,10 @@ pub(crate) fn add_descendants<T: Tree>(
     requires originator { IsTrue (is_originator look.now.o.now) }
     ensures members { OnOk result (members.new
         ≡ spec.with_forest (spec.members look.now.home.now (T.nodes look.now.tree.now))
-        (cut (grown (spec.may_retrieve look.now.home.now (T.nodes look.now.tree.now) look.now.o.now)
+        (cut_forest (grown
+        (spec.may_retrieve look.now.home.now (T.nodes look.now.tree.now) look.now.o.now)
         parent (T.nodes look.now.tree.now)) left.old) members.old) }
-    ensures left { OnOk result (left.new ≡ left.old - size_of
+    ensures left { OnOk result (left.new ≡ left.old - forest_size
         (grown (spec.may_retrieve look.now.home.now (T.nodes look.now.tree.now) look.now.o.now)
         parent (T.nodes look.now.tree.now))) }
     ensures keys { OnOk result (HaveTextKeys members.old → HaveTextKeys members.new) }
@@ -63,10 +65,10 @@ fn add_child<T: Tree>(
     requires left { 0 < left.old }
     ensures members { OnOk result (members.new
         ≡ spec.with_forest (spec.members look.now.home.now (T.nodes look.now.tree.now))
-        (cut (reached
+        (cut_forest (reached_forest
         (spec.may_retrieve look.now.home.now (T.nodes look.now.tree.now) look.now.o.now)
         (T.nodes look.now.tree.now) child.now) left.old) members.old) }
-    ensures left { OnOk result (left.new ≡ left.old - size_of (reached
+    ensures left { OnOk result (left.new ≡ left.old - forest_size (reached_forest
         (spec.may_retrieve look.now.home.now (T.nodes look.now.tree.now) look.now.o.now)
         (T.nodes look.now.tree.now) child.now)) }
     ensures keys { OnOk result (HaveTextKeys members.old → HaveTextKeys members.new) }

@@ -3,7 +3,7 @@ use Rattle.std.specs.Prelude.{slice_get}
 use Rattle.tree_model.specs.Tree.{at, children_of}
 use Rattle.tree_model.proofs.TreeLemmas.{at_has}
 use Rattle.retrieve_discover.specs.Contents.{may_retrieve, members, with_forest}
-use Rattle.retrieve_discover.specs.Descendants.{cut, size_of}
+use Rattle.retrieve_discover.specs.Descendants.{cut_forest, forest_size}
 use Rattle.retrieve_discover.proofs.ForestLemmas.{chain, ended, grown_by_kids, sizes, stopped, turned}
 use Rattle.retrieve_discover.proofs.PathLemmas.{above_child}
 use Rattle.retrieve_discover.proofs.WalkLemmas.{drop_none, kids_past}
@@ -16,8 +16,8 @@ add_descendants-loop-k-init g t c =
     let show = members look.home.now nodes in
     let all = sym (grown_by_kids (may_retrieve look.home.now nodes look.o.now) c.args.parent nodes c.requires.tree) in
     record {
-      shown = ap (λ f. with_forest show (cut f c.args.left.now) c.args.members.now) all;
-      left = ap (λ f. c.args.left.now - size_of f) all;
+      shown = ap (λ f. with_forest show (cut_forest f c.args.left.now) c.args.members.now) all;
+      left = ap (λ f. c.args.left.now - forest_size f) all;
       keys = λ h. h;
     }
 
