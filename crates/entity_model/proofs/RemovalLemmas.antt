@@ -1,14 +1,11 @@
--- Removals: two in a row, many in a row, and what a removal makes no larger.
-use Rattle.std.specs.Prelude.{◌==◌, sum_by}
-use Rattle.std.proofs.Common.{◌≡◌, ℕ, ◌+◌, ◌≤◌, List, [], ◌∷◌, ◌++◌, length, Bool, true, false, cond, not, ◌||◌, inl, inr, refl, sym, ap, ◌∙◌, arith}
-use Rattle.std.proofs.lemmas.Bool.{cases_Bool, and_parts, and_from, or_cases, or_parts, or_from, or_left, or_right, not-true, not_from_false, eqb-true, both_ways, false_from_ne_true}
-use Rattle.std.proofs.lemmas.List.{append-nil}
-use Rattle.std.proofs.lemmas.List.Sums.{sum_by-cons}
-use Rattle.std.specs.List.{filter}
-use Rattle.resource_model.specs.Resource.{ResourceData, has_number}
-use Rattle.tree_model.specs.Tree.{has, stays, staying, without, depth, are_below, fits, is_tree}
-use Rattle.tree_model.proofs.TreeLemmas.{has-append, staying-append}
-use Rattle.tree_model.proofs.GrowthLemmas.{growth, next_fits, below_lacks, line-append}
+-- Removals: two in a row, and what a removal makes no longer.
+use Rattle.std.specs.Prelude.{◌==◌}
+use Rattle.std.proofs.Common.{◌≡◌, ℕ, ◌≤◌, List, [], ◌∷◌, ◌++◌, length, Bool, true, false, not, ◌||◌, inl, inr, refl, sym, ap, ◌∙◌, arith}
+use Rattle.std.proofs.lemmas.Bool.{cases_Bool, and_parts, and_from, or_cases, or_parts, or_from, or_left, or_right, not-true, not_from_false, both_ways, false_from_ne_true}
+use Rattle.resource_model.specs.Resource.{ResourceData}
+use Rattle.tree_model.specs.Tree.{has, stays, staying, without, depth, is_tree}
+use Rattle.tree_model.proofs.ChangeLemmas.{line_none}
+use Rattle.tree_model.proofs.TreeLemmas.{has-append}
 
 -- ---- two removals in a row
 
@@ -65,7 +62,7 @@ staying_twice p q more less (r ∷ nodes) covers = elim (cases_Bool (stays (eith
 pub without_twice : (p q : ResourceData → Bool) (nodes : List ResourceData) → without q (without p nodes) ≡ without (either p q) nodes
 without_twice p q nodes = staying_twice p q [] [] nodes (λ n there. there)
 
--- ---- what a removal makes no larger
+-- ---- what a removal makes no longer
 
 pub staying_length : (p : ResourceData → Bool) (stayed nodes : List ResourceData) → length (staying p stayed nodes) ≤ length nodes
 staying_length p stayed [] = omega arith
@@ -74,91 +71,6 @@ staying_length p stayed (r ∷ nodes) = elim (cases_Bool (stays p stayed r)) [
   | inr f ↦ rw f (omega (arith, staying_length p stayed nodes))
 ]
 
-pub staying_filter : (p q : ResourceData → Bool) (stayed nodes : List ResourceData) → length (filter q (staying p stayed nodes)) ≤ length (filter q nodes)
-staying_filter p q stayed [] = omega arith
-staying_filter p q stayed (r ∷ nodes) = elim (cases_Bool (stays p stayed r)) [
-  | inl t ↦ elim (cases_Bool (q r)) [
-    | inl u ↦ rw (t, u) (omega (arith, staying_filter p q (stayed ++ r ∷ []) nodes))
-    | inr v ↦ rw (t, v) (staying_filter p q (stayed ++ r ∷ []) nodes)
-  ]
-  | inr f ↦ elim (cases_Bool (q r)) [
-    | inl u ↦ rw (f, u) (omega (arith, staying_filter p q stayed nodes))
-    | inr v ↦ rw (f, v) (staying_filter p q stayed nodes)
-  ]
-]
-
-pub staying_sum : (p q : ResourceData → Bool) (size : ResourceData → ℕ) (stayed nodes : List ResourceData) → sum_by size (filter q (staying p stayed nodes)) ≤ sum_by size (filter q nodes)
-staying_sum p q size stayed [] = omega arith
-staying_sum p q size stayed (r ∷ nodes) = elim (cases_Bool (stays p stayed r)) [
-  | inl t ↦ elim (cases_Bool (q r)) [
-    | inl u ↦
-        let rest : sum_by size (filter q (staying p (stayed ++ r ∷ []) nodes)) ≤ sum_by size (filter q nodes) = staying_sum p q size (stayed ++ r ∷ []) nodes in
-        let left : sum_by size (filter q (staying p stayed (r ∷ nodes))) ≡ size r + sum_by size (filter q (staying p (stayed ++ r ∷ []) nodes)) = rw (t, u) (sum_by-cons size r (filter q (staying p (stayed ++ r ∷ []) nodes))) in
-        let all : sum_by size (filter q (r ∷ nodes)) ≡ size r + sum_by size (filter q nodes) = rw u (sum_by-cons size r (filter q nodes)) in
-        omega arith
-    | inr v ↦ rw (t, v) (staying_sum p q size (stayed ++ r ∷ []) nodes)
-  ]
-  | inr f ↦ elim (cases_Bool (q r)) [
-    | inl u ↦
-        let rest : sum_by size (filter q (staying p stayed nodes)) ≤ sum_by size (filter q nodes) = staying_sum p q size stayed nodes in
-        let left : sum_by size (filter q (staying p stayed (r ∷ nodes))) ≡ sum_by size (filter q (staying p stayed nodes)) = rw f refl in
-        let all : sum_by size (filter q (r ∷ nodes)) ≡ size r + sum_by size (filter q nodes) = rw u (sum_by-cons size r (filter q nodes)) in
-        omega arith
-    | inr v ↦ rw (f, v) (staying_sum p q size stayed nodes)
-  ]
-]
-
--- how deep a resource stands
-abbrev NoDeeper : (ResourceData → Bool) → List ResourceData → Type 0
-NoDeeper p nodes = (n : ℕ) → depth n (without p nodes) ≤ depth n nodes
-
-without_last : (p : ResourceData → Bool) (before : List ResourceData) (r : ResourceData) → without p (before ++ r ∷ []) ≡ without p before ++ cond (stays p (without p before) r) (r ∷ []) []
-without_last p before r = staying-append p [] before (r ∷ [])
-
-depth_last : (n : ℕ) (nodes : List ResourceData) (r : ResourceData) → depth n (nodes ++ r ∷ []) ≡ cond (has_number n r) (depth r.parent nodes + 1) (depth n nodes)
-depth_last n nodes r = ap length (line-append n nodes r) ∙ elim (cases_Bool (has_number n r)) [
-  | inl t ↦ rw t (omega arith)
-  | inr f ↦ rw f refl
-]
-
 -- a resource that isn't there stands nowhere
 pub no_depth : (n : ℕ) (nodes : List ResourceData) → is_tree nodes ≡ true → has n nodes ≡ false → depth n nodes ≡ 0
-no_depth n nodes tree = growth fits (λ nodes. has n nodes ≡ false → depth n nodes ≡ 0) (λ _. refl) (λ before r grew next holds lacks.
-    let parts = or_parts (has n before) _ (sym (has-append n before (r ∷ [])) ∙ lacks) in
-    let apart : has_number n r ≡ false = (or_parts (has_number n r) false parts.1).0 in
-    depth_last n before r ∙ rw apart (holds parts.0)) nodes tree
-
-no_deeper_last : (p : ResourceData → Bool) (before : List ResourceData) (r : ResourceData) → is_tree before ≡ true → are_below r.number before ≡ true → NoDeeper p before → NoDeeper p (before ++ r ∷ [])
-no_deeper_last p before r tree below holds n = elim (cases_Bool (stays p (without p before) r)) [
-  | inl t ↦
-      let is : without p (before ++ r ∷ []) ≡ without p before ++ r ∷ [] = without_last p before r ∙ rw t refl in
-      elim (cases_Bool (has_number n r)) [
-        | inl here ↦
-            let small : depth n (without p (before ++ r ∷ [])) ≡ depth r.parent (without p before) + 1 = ap (depth n) is ∙ depth_last n (without p before) r ∙ rw here refl in
-            let large : depth n (before ++ r ∷ []) ≡ depth r.parent before + 1 = depth_last n before r ∙ rw here refl in
-            let up : depth r.parent (without p before) ≤ depth r.parent before = holds r.parent in
-            omega arith
-        | inr apart ↦
-            let small : depth n (without p (before ++ r ∷ [])) ≡ depth n (without p before) = ap (depth n) is ∙ depth_last n (without p before) r ∙ rw apart refl in
-            let large : depth n (before ++ r ∷ []) ≡ depth n before = depth_last n before r ∙ rw apart refl in
-            let old : depth n (without p before) ≤ depth n before = holds n in
-            omega arith
-      ]
-  | inr f ↦
-      let is : without p (before ++ r ∷ []) ≡ without p before = without_last p before r ∙ rw f (append-nil (without p before)) in
-      let small : depth n (without p (before ++ r ∷ [])) ≡ depth n (without p before) = ap (depth n) is in
-      let old : depth n (without p before) ≤ depth n before = holds n in
-      elim (cases_Bool (has_number n r)) [
-        | inl here ↦
-            let same : r.number ≡ n = eqb-true r.number n here in
-            let lacks : has n before ≡ false = ap (λ (m : ℕ). has m before) (sym same) ∙ below_lacks r.number before below in
-            let nowhere : depth n before ≡ 0 = no_depth n before tree lacks in
-            omega arith
-        | inr apart ↦
-            let large : depth n (before ++ r ∷ []) ≡ depth n before = depth_last n before r ∙ rw apart refl in
-            omega arith
-      ]
-]
-
-pub no_deeper : (p : ResourceData → Bool) (nodes : List ResourceData) → is_tree nodes ≡ true → NoDeeper p nodes
-no_deeper p = growth fits (NoDeeper p) (λ n. omega arith) (λ before r grew next holds. no_deeper_last p before r grew (next_fits before r next).number holds)
+no_depth n nodes tree lacks = ap length (line_none n nodes tree lacks)

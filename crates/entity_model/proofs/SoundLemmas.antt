@@ -15,6 +15,8 @@ use Rattle.resource_model.specs.Attributes.{count_at}
 use Rattle.resource_model.specs.Home.{HomeData, IsHome, is_base_name, is_cse_type}
 use Rattle.resource_model.specs.Resource.{ResourceData, is_ty, cse_id}
 use Rattle.tree_model.specs.Tree.{at, has, are_below, stays, staying, without, is_spared, is_kin, is_instance, size_of, due_under, is_due, lesser, age_end, live, is_root, is_taken, fits_in, is_well_formed, is_tree}
+use Rattle.tree_model.proofs.ChangeLemmas.{count-without, sum-without, no_deeper}
+use Rattle.tree_model.proofs.QuietLemmas.{lesser_least}
 use Rattle.tree_model.proofs.TreeLemmas.{has_at, staying_all, staying_any, staying_unpicked}
 use Rattle.tree_model.proofs.GrowthLemmas.{growth, tree_from_well_formed, next_fits, root_parent, at-without}
 use Rattle.tree_model.proofs.KeptLemmas.{is_well_formed-without}
@@ -25,7 +27,7 @@ use Rattle.container_limits.specs.Limits.{is_within}
 use Rattle.entity_model.specs.Entity.{EntityData, last_reading, cut, event_moment, swept}
 use Rattle.entity_model.specs.Opening.{opening_base, opening_policy, opening_nodes, opening}
 use Rattle.entity_model.specs.Sound.{has_known_ids, has_free_name, has_size, has_state_tag, is_shallow, is_within_limits, begins_with_base, own_cse_id, cse_ids, are_distinct, has_one_channel, spares_first, greatest_count, IsSound}
-use Rattle.entity_model.proofs.RemovalLemmas.{staying_length, staying_filter, staying_sum, no_deeper}
+use Rattle.entity_model.proofs.RemovalLemmas.{staying_length}
 
 -- ---- tests over a list
 
@@ -59,7 +61,7 @@ shallow_left : (p : ResourceData → Bool) (nodes : List ResourceData) → is_tr
 shallow_left p nodes tree r shallow = small_too _ _ 32 (no_deeper p nodes tree r.number) shallow
 
 channel_left : (p : ResourceData → Bool) (nodes : List ResourceData) (r : ResourceData) → has_one_channel nodes r ≡ true → has_one_channel (without p nodes) r ≡ true
-channel_left p nodes r one = small_too _ _ 1 (staying_filter p (is_kin PollingChannel r.number) [] nodes) one
+channel_left p nodes r one = small_too _ _ 1 (count-without p (is_kin PollingChannel r.number) [] nodes) one
 
 pub limits_left : (p : ResourceData → Bool) (nodes : List ResourceData) (r : ResourceData) → is_within_limits nodes r ≡ true → is_within_limits (without p nodes) r ≡ true
 limits_left p nodes r within = elim (or_cases (not (is_ty r.ty Container)) _ within) [
@@ -67,8 +69,8 @@ limits_left p nodes r within = elim (or_cases (not (is_ty r.ty Container)) _ wit
   | inr both ↦
       let parts = and_parts _ _ both in
       or_right _ _ (and_from _ _
-      (within_too (count_at Mni r.attrs) _ _ (staying_filter p (is_instance r.number) [] nodes) parts.0)
-      (within_too (count_at Mbs r.attrs) _ _ (staying_sum p (is_instance r.number) size_of [] nodes) parts.1))
+      (within_too (count_at Mni r.attrs) _ _ (count-without p (is_instance r.number) [] nodes) parts.0)
+      (within_too (count_at Mbs r.attrs) _ _ (sum-without p (is_instance r.number) size_of [] nodes) parts.1))
 ]
 
 -- a test of the CSE-IDs, as one of the resources
@@ -126,32 +128,28 @@ base_left : (p : ResourceData → Bool) (home : HomeData) (nodes : List Resource
 base_left p home [] well spared base = base
 base_left p home (r ∷ nodes) well spared base = rw (first_stays p r nodes well spared) base
 
--- what is due later than a number is due later than a smaller one
-lesser_le : (n : ℕ) (o : Option ℕ) → lesser n o ≤ n
-lesser_le n None = omega arith
-lesser_le n (Some m) = omega arith
-
-abbrev is_due_by : ℕ → Option ℕ → Bool
-is_due_by moment due = option_map_or (λ end. nat_le end moment) due false
+-- a moment, where there is one, has come
+abbrev is_due_at : ℕ → Option ℕ → Bool
+is_due_at moment due = option_map_or (λ end. nat_le end moment) due false
 
 -- where its parent is gone, a resource isn't due earlier
-due_alone : (moment : ℕ) (o : Option ResourceData) (r : ResourceData) → is_due_by moment (due_under None r) ≡ true → is_due_by moment (due_under o r) ≡ true
+due_alone : (moment : ℕ) (o : Option ResourceData) (r : ResourceData) → is_due_at moment (due_under None r) ≡ true → is_due_at moment (due_under o r) ≡ true
 due_alone moment o r due = elim (cases_Bool (is_ty r.ty CseBase)) [
   | inl t ↦ rw t (rw t at due)
   | inr f ↦ elim (cases_Bool (is_ty r.ty ContentInstance)) [
-    | inl u ↦ rw (f, u) (small_too _ _ moment (lesser_le r.et (age_end o r)) (rw (f, u) at due))
+    | inl u ↦ rw (f, u) (small_too _ _ moment (lesser_least r.et (age_end o r)) (rw (f, u) at due))
     | inr v ↦ rw (f, v) (rw (f, v) at due)
   ]
 ]
 
-due_left_under : (spared : Bool) (moment : ℕ) (o : Option ResourceData) (r : ResourceData) → is_due_by moment (due_under (cond spared o None) r) ≡ true → is_due_by moment (due_under o r) ≡ true
+due_left_under : (spared : Bool) (moment : ℕ) (o : Option ResourceData) (r : ResourceData) → is_due_at moment (due_under (cond spared o None) r) ≡ true → is_due_at moment (due_under o r) ≡ true
 due_left_under true moment o r due = due
 due_left_under false moment o r due = due_alone moment o r due
 
 pub due_left : (p : ResourceData → Bool) (nodes : List ResourceData) (moment : ℕ) (r : ResourceData) → is_tree nodes ≡ true → is_due (without p nodes) moment r ≡ true → is_due nodes moment r ≡ true
 due_left p nodes moment r tree due =
     due_left_under (is_spared p nodes r.parent) moment (at r.parent nodes) r
-    (sym (ap (λ (o : Option ResourceData). is_due_by moment (due_under o r)) (at-without p r.parent nodes tree)) ∙ due)
+    (sym (ap (λ (o : Option ResourceData). is_due_at moment (due_under o r)) (at-without p r.parent nodes tree)) ∙ due)
 
 -- where nothing was due, nothing is
 pub none_due_left : (p : ResourceData → Bool) (nodes : List ResourceData) (moment : ℕ) → is_tree nodes ≡ true → list_any (is_due nodes moment) nodes ≡ false → list_any (is_due (without p nodes) moment) (without p nodes) ≡ false
