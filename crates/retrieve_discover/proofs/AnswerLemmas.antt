@@ -1,35 +1,32 @@
 -- A Retrieve is answered the same on what the originator sees.
-use Rattle.std.specs.Prelude.{◌==◌}
-use Rattle.std.proofs.Common.{◌≡◌, ℕ, ℤ, pos, ◌-◌, List, [], ◌∷◌, ◌++◌, length, map, take, codes, Bool, true, false, cond, not, ◌&&◌, Option, Some, None, option_map, inl, inr, refl, sym, ap, ◌∙◌}
+use Rattle.std.proofs.Common.{◌≡◌, ℕ, ℤ, pos, List, [], ◌∷◌, map, take, codes, Bool, true, false, cond, not, Option, Some, None, option_map, refl, sym, ap, ◌∙◌}
 use Rattle.std.specs.List.{filter}
 use Rattle.std.specs.Option.{option_map_or}
 use Rattle.std.specs.Ordering.{int_eq}
-use Rattle.std.proofs.lemmas.Bool.{cases_Bool}
-use Rattle.std.proofs.lemmas.List.{length-map, map-append, take-map}
+use Rattle.std.proofs.lemmas.List.{take-map}
 use Rattle.m2m_names.specs.Types.{ty_member}
 use Rattle.m2m_names.specs.declared.attributes.Attr.TheVariants.{Cs, Lbl, St}
 use Rattle.m2m_names.specs.declared.codes.Rsc.TheVariants.{NoPrivilege, NotFound}
-use Rattle.m2m_value.specs.Data.{Data, Entry, Pairs, Elements, null, boolean, number, text, list, object, no_pairs, pair, elements_of, pairs_of}
+use Rattle.m2m_value.specs.Data.{Data, Entry, Pairs, null, boolean, number, text, list, object, no_pairs, pair, elements_of, pairs_of}
 use Rattle.m2m_value.specs.View.{entries}
 use Rattle.m2m_value.proofs.Levels.{entries-pairs_of}
 use Rattle.filter_criteria.specs.declared.filter.FilterParts.{FilterParts}
 use Rattle.primitive_json.specs.declared.reply.ReplyParts.{ReplyParts}
 use Rattle.primitive_json.specs.declared.request.RequestParts.{RequestParts}
-use Rattle.resource_model.specs.Attributes.{Row, value_of}
+use Rattle.resource_model.specs.Attributes.{value_of}
 use Rattle.resource_model.specs.Home.{HomeData}
 use Rattle.resource_model.specs.Resource.{ResourceData}
-use Rattle.tree_model.specs.Shown.{attributes_of, members_of, shown_rows, shown_ty, under_type}
-use Rattle.tree_model.specs.Tree.{at, children_of, is_under, is_well_formed}
+use Rattle.tree_model.specs.Shown.{shown_ty, under_type}
+use Rattle.tree_model.specs.Tree.{at, children_of, is_well_formed}
 use Rattle.tree_model.proofs.GrowthLemmas.{tree_from_well_formed}
 use Rattle.tree_model.proofs.TreeLemmas.{at_number}
-use Rattle.policy_eval.specs.Rights.{grants}
 use Rattle.policy_eval.specs.Seen.{retrieve_bit, may, seen, seen_list}
 use Rattle.policy_eval.proofs.DueLemmas.{due-seen}
 use Rattle.policy_eval.proofs.RetrievedLemmas.{attributes-seen}
 use Rattle.policy_eval.proofs.SeenLemmas.{at-seen, grants-seen, seen_shows}
-use Rattle.retrieve_discover.specs.Conditions.{meets, meets_any}
+use Rattle.retrieve_discover.specs.Conditions.{meets_any}
 use Rattle.retrieve_discover.specs.Contents.{content, may_retrieve, members, most_references, most_shown, reference, references, references_alone, referred, shown_forest, wanted_content, whole, with_forest, with_last, with_member, with_references}
-use Rattle.retrieve_discover.specs.Descendants.{Forest, bare, rooted, cut_forest, grown, listed, forest_size}
+use Rattle.retrieve_discover.specs.Descendants.{Forest, bare, rooted, cut_forest, grown}
 use Rattle.retrieve_discover.specs.Replies.{is_by_id, refusal, retrieved, retrieved_of, success}
 use Rattle.retrieve_discover.proofs.OrderLemmas.{Each, IsFound, each_found, in_order-tree}
 use Rattle.retrieve_discover.proofs.ForestLemmas.{AllIn, all-cut, all-grown}

@@ -1,13 +1,12 @@
 -- The descendants of a resource, child by child.
-use Rattle.std.specs.Prelude.{◌==◌, nat_lt}
-use Rattle.std.proofs.Common.{◌≡◌, ℕ, ◌<◌, List, [], ◌∷◌, ◌++◌, map, Bool, true, false, inl, inr, refl, sym, ap, ◌∙◌, arith}
-use Rattle.std.specs.List.{AllByRecursion, filter, flat_map, list_all}
+use Rattle.std.specs.Prelude.{nat_lt}
+use Rattle.std.proofs.Common.{◌≡◌, ℕ, ◌<◌, List, [], ◌∷◌, ◌++◌, Bool, true, inl, inr, refl, sym, ap, ◌∙◌, arith}
+use Rattle.std.specs.List.{filter, flat_map}
 use Rattle.std.proofs.lemmas.Bool.{cases_Bool, and_from, and_parts, ltb-true, ne_eqb}
-use Rattle.std.proofs.lemmas.List.{append_assoc}
 use Rattle.resource_model.specs.Resource.{ResourceData}
 use Rattle.tree_model.specs.Tree.{children_of, is_tree, is_under}
 use Rattle.retrieve_discover.specs.Descendants.{below}
-use Rattle.retrieve_discover.proofs.OrderLemmas.{are_above, in_order, in_order-tree, first_of, Each}
+use Rattle.retrieve_discover.proofs.OrderLemmas.{are_above, in_order, in_order-tree, first_of}
 
 -- a resource with what stands below it
 abbrev pub with_below : List ResourceData → ResourceData → List ResourceData

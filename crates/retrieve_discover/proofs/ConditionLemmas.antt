@@ -1,5 +1,5 @@
 -- What the conditions of a filter look at.
-use Rattle.std.proofs.Common.{◌≡◌, ℕ, ◌∷◌, [], List, Bool, true, false, ◌||◌, Option, Some, None, cond, refl, sym, ap, ◌∙◌, length}
+use Rattle.std.proofs.Common.{◌≡◌, ℕ, List, Bool, true, false, ◌||◌, Option, Some, None, cond, refl, sym, ap, ◌∙◌, length}
 use Rattle.std.specs.Prelude.{◌==◌, option_and_then}
 use Rattle.std.specs.List.{list_all, list_any}
 use Rattle.std.specs.Option.{option_map_or}
@@ -14,7 +14,7 @@ use Rattle.filter_criteria.specs.declared.filter.FilterParts.{FilterParts}
 use Rattle.resource_model.specs.Attributes.{value_of}
 use Rattle.resource_model.specs.Resource.{ResourceData, is_ty}
 use Rattle.tree_model.specs.Tree.{due}
-use Rattle.retrieve_discover.specs.Conditions.{is_above, is_below, is_from, is_label, is_of_one, meets}
+use Rattle.retrieve_discover.specs.Conditions.{is_above, is_below, is_from, is_label, meets}
 use Rattle.filter_criteria.specs.Conditions.{all_conditions}
 use Rattle.filter_criteria.specs.declared.condition.Condition.{Condition}
 use Rattle.filter_criteria.specs.declared.condition.Condition.TheVariants.{Limit, Usage, CreatedAfter, CreatedBefore, ExpireAfter, ExpireBefore, ModifiedSince, OneLabel, OneType, SizeAbove, SizeBelow, StateTagBigger, StateTagSmaller, UnmodifiedSince}

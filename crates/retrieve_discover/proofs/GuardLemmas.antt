@@ -1,5 +1,5 @@
 -- Nothing is shown, referred to or found without a grant.
-use Rattle.std.proofs.Common.{◌≡◌, ℕ, List, [], ◌∷◌, ◌++◌, Bool, true, false, cond, get_or, not, Option, Some, inl, inr, ap, ◌∙◌, refl}
+use Rattle.std.proofs.Common.{◌≡◌, ℕ, List, [], ◌∷◌, Bool, true, false, cond, get_or, not, inl, inr, ap, ◌∙◌}
 use Rattle.std.specs.List.{All, filter}
 use Rattle.std.specs.Option.{option_map_or}
 use Rattle.std.proofs.lemmas.Bool.{and_parts, cases_Bool}
@@ -9,13 +9,13 @@ use Rattle.filter_criteria.specs.declared.filter.FilterParts.{FilterParts}
 use Rattle.primitive_json.specs.declared.request.RequestParts.{RequestParts}
 use Rattle.resource_model.specs.Home.{HomeData}
 use Rattle.resource_model.specs.Resource.{ResourceData}
-use Rattle.tree_model.specs.Tree.{at, children_of, has, is_under}
+use Rattle.tree_model.specs.Tree.{children_of, has, is_under}
 use Rattle.tree_model.proofs.TreeLemmas.{has_at}
 use Rattle.policy_eval.specs.Rights.{grants}
 use Rattle.policy_eval.specs.Seen.{discovery_bit, retrieve_bit}
 use Rattle.retrieve_discover.specs.Conditions.{meets, meets_any}
 use Rattle.retrieve_discover.specs.Contents.{content, may_retrieve, most_references, most_shown, referred, shown_forest}
-use Rattle.retrieve_discover.specs.Descendants.{below, cut_forest, grown, listed}
+use Rattle.retrieve_discover.specs.Descendants.{below, grown, listed}
 use Rattle.retrieve_discover.specs.Findings.{address_list, all_found, found, found_addresses, is_found, most_of}
 use Rattle.retrieve_discover.specs.Replies.{discovered, is_by_id, refusal, retrieved, retrieved_of, success}
 use Rattle.retrieve_discover.proofs.ForestLemmas.{listed-cut}

@@ -1,8 +1,8 @@
 -- An address is that of one resource.
 use Rattle.std.specs.Prelude.{bytes_eq, is_none, nat_lt}
-use Rattle.std.proofs.Common.{◌≡◌, ℕ, zero, suc, ◌<◌, ◌≤◌, ◌^◌, List, [], ◌∷◌, ◌++◌, length, map, reverse, Bool, true, false, cond, ◌&&◌, ◌||◌, Option, Some, None, Result, inl, inr, refl, sym, ap, ◌∙◌, arith}
+use Rattle.std.proofs.Common.{◌≡◌, ℕ, zero, suc, ◌<◌, ◌≤◌, ◌^◌, List, [], ◌∷◌, length, map, reverse, Bool, true, false, cond, ◌&&◌, Option, Some, None, inl, inr, refl, sym, ap, ◌∙◌, arith}
 use Rattle.std.specs.List.{list_all, list_any}
-use Rattle.std.proofs.lemmas.Bool.{and_from, and_parts, cases_Bool, leb-true, le-leb, ltb-false, ltb-true, or_cases, or_left, or_right}
+use Rattle.std.proofs.lemmas.Bool.{and_from, and_parts, cases_Bool, ltb-false, ltb-true, or_cases, or_left, or_right}
 use Rattle.std.proofs.lemmas.List.{length-reverse, reverse-append, reverse-reverse}
 use Rattle.std.proofs.lemmas.List.Folds.{list_all-append}
 use Rattle.std.proofs.lemmas.Option.{same_Some}
@@ -10,18 +10,16 @@ use Rattle.std.proofs.lemmas.Slice.Eq.{bytes_eq-Decides}
 use Rattle.m2m_names.specs.Name.{is_free_name, is_name}
 use Rattle.resource_model.specs.Home.{HomeData}
 use Rattle.resource_model.specs.Resource.{ResourceData, has_number, id_of}
-use Rattle.tree_model.specs.Tree.{are_below, at, child_of, has, is_tree, line_from, line_of}
+use Rattle.tree_model.specs.Tree.{at, child_of, has, is_tree, line_from, line_of}
 use Rattle.tree_model.proofs.GrowthLemmas.{stands, zero_lacks}
 use Rattle.tree_model.proofs.TreeLemmas.{has_at}
 use Rattle.policy_eval.specs.Rights.{grants}
-use Rattle.addressing.specs.Addresses.{address_of, are_names, between_slashes, joined, longest, shaped, unless_shapeless}
-use Rattle.addressing.specs.Laws.{have_free_names, named_by, named_here}
+use Rattle.addressing.specs.Addresses.{are_names, between_slashes, joined, longest}
+use Rattle.addressing.specs.Laws.{have_free_names, named_by}
 use Rattle.addressing.specs.Names.{structured_of}
-use Rattle.addressing.specs.declared.addr.Addr.{Addr}
-use Rattle.addressing.specs.declared.addr.AddrFault.{AddrFault}
 use Rattle.addressing.specs.declared.spot.Spot.{Spot}
 use Rattle.addressing.specs.declared.spot.Spot.TheVariants.{Resource, Fan, Poll}
-use Rattle.addressing.proofs.NameLemmas.{IsChildOfItsName, child_of_its_name, line_of_none, named_by_id, named_by_structured}
+use Rattle.addressing.proofs.NameLemmas.{child_of_its_name, line_of_none, named_by_id, named_by_structured}
 use Rattle.addressing.proofs.PartLemmas.{between_slashes-joined}
 use Rattle.retrieve_discover.specs.Guard.{HasOwnAddresses, IsNamedByRight, is_address_of, is_no_name}
 use Rattle.retrieve_discover.proofs.OrderLemmas.{IsFound}

@@ -1,12 +1,11 @@
 -- Lists of resources whose numbers ascend, each above that of its parent.
-use Rattle.std.specs.Prelude.{◌==◌, nat_lt, slice_get, option_and_then}
-use Rattle.std.proofs.Common.{◌≡◌, ℕ, zero, suc, ◌<◌, List, [], ◌∷◌, ◌++◌, Bool, true, false, ◌&&◌, Option, Some, None, inl, inr, refl, sym, ap, ◌∙◌, arith, subst}
+use Rattle.std.specs.Prelude.{nat_lt}
+use Rattle.std.proofs.Common.{◌≡◌, ℕ, ◌<◌, List, [], ◌∷◌, ◌++◌, Bool, true, false, ◌&&◌, Some, inl, inr, refl, ◌∙◌, arith}
 use Rattle.std.specs.List.{AllByRecursion, filter, list_all}
-use Rattle.std.proofs.lemmas.Bool.{cases_Bool, and_parts, and_from, eq-eqb, eqb-true, ne_eqb, ltb-true, lt-ltb}
+use Rattle.std.proofs.lemmas.Bool.{cases_Bool, and_parts, and_from, eq-eqb, ne_eqb, ltb-true, lt-ltb}
 use Rattle.std.proofs.lemmas.List.Folds.{list_all-append}
-use Rattle.std.proofs.lemmas.Option.{same_Some}
 use Rattle.resource_model.specs.Resource.{ResourceData, has_number}
-use Rattle.tree_model.specs.Tree.{at, are_below, children_of, fits, is_tree, is_under, number_at, number_of}
+use Rattle.tree_model.specs.Tree.{at, are_below, fits, is_tree}
 use Rattle.tree_model.proofs.GrowthLemmas.{growth, next_above_parent, next_fits}
 
 -- every number is above this one

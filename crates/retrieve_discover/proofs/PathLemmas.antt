@@ -1,7 +1,6 @@
 -- Structured addresses, name by name.
-use Rattle.std.proofs.Common.{◌≡◌, ℕ, ◌<◌, List, [], ◌∷◌, ◌++◌, length, map, reverse, take, Option, Some, None, refl, sym, ap, ◌∙◌, true, codes, arith}
-use Rattle.std.specs.List.{join_with_byte}
-use Rattle.std.proofs.lemmas.List.{append_assoc, map-append, reverse-append, take_at}
+use Rattle.std.proofs.Common.{◌≡◌, ℕ, ◌<◌, List, [], ◌∷◌, ◌++◌, length, map, reverse, take, Some, None, refl, sym, ap, ◌∙◌, true, codes, arith}
+use Rattle.std.proofs.lemmas.List.{append_assoc, reverse-append, take_at}
 use Rattle.resource_model.specs.Resource.{ResourceData}
 use Rattle.tree_model.specs.Tree.{at, has, is_tree, line_of}
 use Rattle.tree_model.proofs.GrowthLemmas.{stands}

@@ -1,21 +1,20 @@
 -- What replies tell of other resources is told by right.
-use Rattle.std.proofs.Common.{◌≡◌, ℕ, zero, suc, ℤ, pos, List, [], ◌∷◌, ◌++◌, length, map, take, Bool, true, false, cond, not, ◌&&◌, Option, Some, None, codes, inl, inr, refl, sym, ap, subst, ◌∙◌, arith}
+use Rattle.std.proofs.Common.{◌≡◌, ℕ, zero, suc, ℤ, pos, List, [], ◌∷◌, ◌++◌, map, take, Bool, true, false, cond, not, Option, Some, None, codes, refl, sym, ap, subst, ◌∙◌, arith}
 use Rattle.std.specs.Prelude.{Contains, unwrap_or}
 use Rattle.std.specs.BTreeMap.{insert_entry}
 use Rattle.std.specs.List.{AllByRecursion, filter}
 use Rattle.std.specs.Option.{option_map_or}
 use Rattle.std.specs.Ordering.{int_eq}
-use Rattle.std.proofs.lemmas.Bool.{and_parts, cases_Bool}
+use Rattle.std.proofs.lemmas.Bool.{and_parts}
 use Rattle.std.proofs.lemmas.List.{append-nil}
 use Rattle.std.proofs.lemmas.List.Elements.{All-contains, All-from_recursion}
 use Rattle.m2m_names.specs.Attributes.{attr_short}
-use Rattle.m2m_names.specs.Types.{ty_member}
 use Rattle.m2m_names.specs.declared.attributes.Attr.TheVariants.{Ri}
 use Rattle.m2m_names.specs.declared.codes.Rsc.{Rsc}
 use Rattle.m2m_names.specs.declared.codes.Rsc.TheVariants.{NoPrivilege, NotFound}
 use Rattle.m2m_names.specs.declared.types.Ty.{Ty}
-use Rattle.m2m_value.specs.Data.{Data, Entry, elements_of, list, object, pairs_of, text}
-use Rattle.m2m_value.specs.View.{as_text, elements, entries, member_of}
+use Rattle.m2m_value.specs.Data.{Data, Entry, elements_of, object, pairs_of}
+use Rattle.m2m_value.specs.View.{as_text, entries, member_of}
 use Rattle.m2m_value.proofs.Levels.{elements-elements_of, entries-pairs_of}
 use Rattle.m2m_value.proofs.Lookup.{compared, member_of-put}
 use Rattle.filter_criteria.specs.declared.filter.FilterParts.{FilterParts}
@@ -23,14 +22,13 @@ use Rattle.primitive_json.specs.declared.reply.ReplyParts.{ReplyParts}
 use Rattle.primitive_json.specs.declared.request.RequestParts.{RequestParts}
 use Rattle.resource_model.specs.Home.{HomeData}
 use Rattle.resource_model.specs.Resource.{ResourceData, id_of}
-use Rattle.tree_model.specs.Shown.{members_of, shown_rows, under_type}
+use Rattle.tree_model.specs.Shown.{shown_rows, under_type}
 use Rattle.tree_model.specs.Tree.{at, children_of, is_under}
 use Rattle.tree_model.proofs.ShownLemmas.{shown_value}
-use Rattle.tree_model.proofs.TreeLemmas.{at_number}
 use Rattle.policy_eval.specs.Rights.{discovery_bit, grants, retrieve_bit}
 use Rattle.retrieve_discover.specs.Conditions.{meets, meets_any}
 use Rattle.retrieve_discover.specs.Contents.{content, may_retrieve, members, most_references, most_shown, reference, references, references_alone, referred, shown_forest, wanted_content, whole, with_forest, with_references}
-use Rattle.retrieve_discover.specs.Descendants.{Forest, bare, rooted, below, grown}
+use Rattle.retrieve_discover.specs.Descendants.{Forest, below, grown}
 use Rattle.retrieve_discover.specs.Findings.{address, address_in, address_list, found, found_addresses, is_found, most_of}
 use Rattle.retrieve_discover.specs.Guard.{AreNamedByRight, HasOwnAddresses, IsNamedByRight, IsShownByRight, OthersAreShownByRight}
 use Rattle.retrieve_discover.specs.Replies.{discovered, is_by_id, refusal, retrieved, retrieved_of, success}
@@ -39,7 +37,7 @@ use Rattle.retrieve_discover.proofs.ForestLemmas.{all-cut, all-grown}
 use Rattle.retrieve_discover.proofs.NamedLemmas.{its_address, named_by_right}
 use Rattle.retrieve_discover.proofs.OrderLemmas.{Each, IsFound, each-filter, each_found, in_order-tree}
 use Rattle.retrieve_discover.proofs.ReachLemmas.{each_below_found}
-use Rattle.retrieve_discover.proofs.ToldLemmas.{AllOf, AllUnder, both, kept_beside, member_of-members_of, no_type_name, none_referred, none_under, off_types, under_forest, under_put}
+use Rattle.retrieve_discover.proofs.ToldLemmas.{AllOf, AllUnder, kept_beside, member_of-members_of, no_type_name, none_referred, none_under, off_types, under_forest, under_put}
 
 -- ---- what an object under the name of a type tells
 

@@ -1,16 +1,15 @@
 -- A discovery is answered the same on what the originator sees.
-use Rattle.std.proofs.Common.{◌≡◌, ℕ, List, [], ◌∷◌, map, take, reverse, Bool, true, false, cond, ◌&&◌, Option, Some, None, inl, inr, refl, ap, ap₂, ◌∙◌}
+use Rattle.std.proofs.Common.{◌≡◌, ℕ, List, [], ◌∷◌, map, take, reverse, Bool, true, false, cond, ◌&&◌, Option, Some, None, refl, ap, ap₂, ◌∙◌}
 use Rattle.std.specs.List.{filter}
-use Rattle.std.proofs.lemmas.Bool.{cases_Bool}
 use Rattle.std.proofs.lemmas.List.{take-map}
 use Rattle.m2m_names.specs.declared.attributes.Attr.TheVariants.{Cs, Lbl, St}
 use Rattle.m2m_names.specs.declared.codes.Rsc.TheVariants.{NoPrivilege}
-use Rattle.m2m_value.specs.Data.{Data, text}
+use Rattle.m2m_value.specs.Data.{text}
 use Rattle.filter_criteria.specs.declared.filter.FilterParts.{FilterParts}
 use Rattle.primitive_json.specs.declared.request.RequestParts.{RequestParts}
 use Rattle.resource_model.specs.Home.{HomeData}
 use Rattle.resource_model.specs.Resource.{ResourceData}
-use Rattle.tree_model.specs.Tree.{at, is_well_formed, line_of}
+use Rattle.tree_model.specs.Tree.{is_well_formed, line_of}
 use Rattle.tree_model.proofs.GrowthLemmas.{tree_from_well_formed}
 use Rattle.policy_eval.specs.Rights.{grants}
 use Rattle.policy_eval.specs.Seen.{discovery_bit, may, seen, seen_list}

@@ -1,7 +1,7 @@
 -- What the members of an object tell of the resources below it.
-use Rattle.std.proofs.Common.{◌≡◌, ℕ, List, [], ◌∷◌, ◌++◌, Bool, true, false, cond, not, ◌&&◌, bytes_eq, codes, find, Option, Some, None, Ordering, Less, Equal, Greater, is_eq, inl, inr, refl, sym, ap, subst, ◌∙◌}
+use Rattle.std.proofs.Common.{◌≡◌, ℕ, List, [], ◌∷◌, ◌++◌, Bool, true, false, cond, not, ◌&&◌, bytes_eq, codes, find, Some, None, Ordering, Less, Equal, Greater, is_eq, inl, inr, refl, sym, ap, subst, ◌∙◌}
 use Rattle.std.proofs.lemmas.Bool.{and_parts, cases_Bool, false_from_ne_true, not-true, true≢false}
-use Rattle.std.proofs.lemmas.List.{append-nil, append_assoc}
+use Rattle.std.proofs.lemmas.List.{append_assoc}
 use Rattle.std.proofs.lemmas.Map.Text.{is_eq-slice_cmp}
 use Rattle.std.proofs.lemmas.Option.{same_Some}
 use Rattle.std.proofs.lemmas.Slice.Eq.{bytes_eq-Decides}
@@ -11,11 +11,10 @@ use Rattle.std.specs.Ordering.{match_ordering}
 use Rattle.m2m_names.specs.Attributes.{all_attrs, attr_short}
 use Rattle.m2m_names.specs.Types.{ty_member}
 use Rattle.m2m_names.specs.declared.attributes.Attr.{Attr}
-use Rattle.m2m_names.specs.declared.attributes.Attr.TheVariants.{Ri}
 use Rattle.m2m_names.specs.declared.types.Ty.{Ty}
 use Rattle.m2m_names.specs.declared.types.Ty.TheVariants.{AccessControlPolicy, Ae, Container, ContentInstance, CseBase, Group, PollingChannel, RemoteCse, Subscription, AccessControlPolicyAnnc, AeAnnc, ContainerAnnc, ContentInstanceAnnc, GroupAnnc}
 use Rattle.m2m_names.proofs.AttributeLemmas.{attr_again}
-use Rattle.m2m_value.specs.Data.{Data, Elements, Entry, Pairs, boolean, element, elements_of, list, no_elements, null, number, object, pairs_of, text}
+use Rattle.m2m_value.specs.Data.{Data, Elements, Entry, boolean, element, elements_of, list, no_elements, null, number, object, pairs_of, text}
 use Rattle.m2m_value.specs.View.{elements, member_of}
 use Rattle.m2m_value.proofs.Lookup.{compared, member_of-put_other}
 use Rattle.resource_model.specs.Attributes.{Row, is_attr, value_of}

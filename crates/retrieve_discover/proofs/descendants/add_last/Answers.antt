@@ -1,8 +1,7 @@
-use Rattle.std.proofs.Common.{◌≡◌, List, ℕ, [], ◌∷◌, ◌++◌, IsUtf8, ap, sym, ◌∙◌, subst}
+use Rattle.std.proofs.Common.{◌≡◌, [], ◌∷◌, ◌++◌, IsUtf8, ap, sym, ◌∙◌, subst}
 use Rattle.std.proofs.lemmas.Result.{on_ok_weaker}
 use Rattle.m2m_names.specs.Types.{ty_member}
 use Rattle.m2m_value.specs.Data.{elements_of, list}
-use Rattle.m2m_value.specs.Node.{HaveTextKeys}
 use Rattle.retrieve_discover.proofs.MemberLemmas.{listed_last, taken_texts}
 use Rattle.retrieve_discover.proofs.descendants.add_last.Goals as goal
 

@@ -1,4 +1,4 @@
-use Rattle.std.proofs.Common.{◌≡◌, Some, ap, sym, ◌∙◌}
+use Rattle.std.proofs.Common.{Some, ap, sym, ◌∙◌}
 use Rattle.m2m_value.proofs.Levels.{elements-elements_of}
 use Rattle.policy_eval.specs.Rules.{elements_in}
 use Rattle.retrieve_discover.proofs.descendants.elements_of.Goals as goal

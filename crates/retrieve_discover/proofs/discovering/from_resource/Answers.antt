@@ -1,4 +1,4 @@
-use Rattle.std.proofs.Common.{◌≡◌, ℕ, List, ◌++◌, ap, sym, ◌∙◌, map, take}
+use Rattle.std.proofs.Common.{ℕ, List, ◌++◌, ap, sym, ◌∙◌, map, take}
 use Rattle.m2m_value.specs.Data.{Data}
 use Rattle.addressing.specs.Names.{structured_of}
 use Rattle.tree_model.specs.Tree.{has}

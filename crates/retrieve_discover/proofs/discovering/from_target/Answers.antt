@@ -1,6 +1,6 @@
-use Rattle.std.proofs.Common.{◌≡◌, ℕ, Some, None, true, false, ap, sym, ◌∙◌, map, take}
+use Rattle.std.proofs.Common.{◌≡◌, ℕ, true, false, ap, sym, ◌∙◌, map, take}
 use Rattle.std.proofs.lemmas.Result.{IfOk-weaker}
-use Rattle.tree_model.specs.Tree.{at, has}
+use Rattle.tree_model.specs.Tree.{has}
 use Rattle.tree_model.proofs.TreeLemmas.{at_number, has_from_at}
 use Rattle.retrieve_discover.specs.Findings.{address, all_found}
 use Rattle.retrieve_discover.proofs.PathLemmas.{found_itself}

@@ -1,4 +1,4 @@
-use Rattle.std.proofs.Common.{◌≡◌, ℕ, ◌≤◌, ◌<◌, ◌++◌, ◌∷◌, List, Some, true, length, take, refl, sym, ap, ◌∙◌, subst, arith, rules}
+use Rattle.std.proofs.Common.{◌≡◌, ◌≤◌, ◌<◌, ◌++◌, List, Some, true, length, take, refl, sym, ap, ◌∙◌, subst, arith, rules}
 use Rattle.std.specs.Prelude.{slice_get}
 use Rattle.std.specs.Str.{IsUtf8}
 use Rattle.m2m_value.specs.Data.{Data}
@@ -7,7 +7,6 @@ use Rattle.tree_model.proofs.TreeLemmas.{at_has}
 use Rattle.addressing.specs.Names.{structured_of}
 use Rattle.retrieve_discover.specs.Descendants.{below}
 use Rattle.retrieve_discover.specs.Findings.{address, is_found}
-use Rattle.retrieve_discover.proofs.BelowLemmas.{with_below}
 use Rattle.retrieve_discover.proofs.PathLemmas.{above_child, path_down}
 use Rattle.retrieve_discover.proofs.TakeLemmas.{take-short}
 use Rattle.retrieve_discover.proofs.WalkLemmas.{drop_none, kept, kept_all, kept_more, kept_one, kept_start, kids_past, one_fits}

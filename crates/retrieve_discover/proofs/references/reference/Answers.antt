@@ -1,5 +1,5 @@
 use Rattle.std.proofs.Common.{◌≡◌, ℕ, List, [], ◌∷◌, ◌++◌, codes, ap, sym, ◌∙◌, subst}
-use Rattle.m2m_value.specs.Data.{Data, Entry}
+use Rattle.m2m_value.specs.Data.{Data}
 use Rattle.m2m_value.specs.Node.{AreSorted, HaveTextKeys}
 use Rattle.retrieve_discover.proofs.MemberLemmas.{pushed_three, reference_sorted, reference_texts}
 use Rattle.retrieve_discover.proofs.references.reference.Goals as goal
