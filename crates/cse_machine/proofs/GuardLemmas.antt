@@ -21,7 +21,7 @@ use Rattle.cse_machine.specs.Answer.{addressed, reading_reply, effect_of}
 use Rattle.cse_machine.specs.Guard.{is_success, DoesShow, HasRight, IsNew, IsGone, IsChanged, IsGuardedAlone, fanned, IsGuardedAt, IsGuarded}
 use Rattle.cse_machine.specs.Rights.{claimed_originator, has_right, is_discovery, may_do}
 use Rattle.cse_machine.proofs.OwnLemmas.{own_addresses}
-use Rattle.cse_machine.proofs.WayLemmas.{IsRead, Reading, denied, reading, searched, shown, two_ways}
+use Rattle.cse_machine.proofs.WayLemmas.{IsRead, Reading, refused_read, reading, found_read, shown_read, two_ways}
 
 nothing_in : {A : Type 0} (x : A) → Contains [] x → ⊥
 nothing_in x there = omega (arith, there.1)
@@ -103,9 +103,9 @@ module _ (e : EntityData) (sound : IsSound e) (request : RequestParts) (r : Reso
 
   -- what it shows, it shows by that right
   shows_by_right : (reply : ReplyParts) → addressed e request.to ≡ Some r → request.op ≡ Retrieve → Reading e request r reply → DoesShow reply → HasRight e request
-  shows_by_right reply named op (denied fault other is) shows = absurd (shows_none request fault other (subst DoesShow is shows))
-  shows_by_right reply named op (searched d right) shows = record { target = r; named = named; right = right_is true op d right }
-  shows_by_right reply named op (shown d right) shows = record { target = r; named = named; right = right_is false op d right }
+  shows_by_right reply named op (refused_read fault other is) shows = absurd (shows_none request fault other (subst DoesShow is shows))
+  shows_by_right reply named op (found_read d right) shows = record { target = r; named = named; right = right_is true op d right }
+  shows_by_right reply named op (shown_read d right) shows = record { target = r; named = named; right = right_is false op d right }
 
   pub read_guarded : addressed e request.to ≡ Some r → request.op ≡ Retrieve → at r.number e.nodes ≡ Some r → IsGuardedAlone e request (reading_reply e request r.number) e
   read_guarded named op there =

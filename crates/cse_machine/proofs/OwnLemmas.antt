@@ -8,7 +8,7 @@ use Rattle.std.specs.Option.{option_map, option_or}
 use Rattle.std.proofs.lemmas.Bool.{and_from, and_parts, both_ways, cases_Bool, eqb-true, false_from_ne_true, le-leb, lt-ltb, ltb-true, not-true, or_cases, or_left, or_right}
 use Rattle.std.proofs.lemmas.Fmt.{decimal_by_steps, decimal_nonempty}
 use Rattle.std.proofs.lemmas.List.{length-append}
-use Rattle.std.proofs.lemmas.List.Folds.{find-append, list_all-append}
+use Rattle.std.proofs.lemmas.List.Folds.{find-append, list_all-append, list_any_at}
 use Rattle.std.proofs.lemmas.Slice.Eq.{bytes_eq-Decides}
 use Rattle.std.proofs.Math.Seq.{drop-append_seam}
 use Rattle.m2m_names.specs.Ids.{id_text}
@@ -46,20 +46,20 @@ numbered word n small =
 
 -- what holds of a type holds of some type
 one_of_all : (p : Ty → Bool) (ty : Ty) → p ty ≡ true → list_any p all_types ≡ true
-one_of_all p AccessControlPolicy t = or_left _ _ t
-one_of_all p Ae t = or_right _ _ (or_left _ _ t)
-one_of_all p Container t = or_right _ _ (or_right _ _ (or_left _ _ t))
-one_of_all p ContentInstance t = or_right _ _ (or_right _ _ (or_right _ _ (or_left _ _ t)))
-one_of_all p CseBase t = or_right _ _ (or_right _ _ (or_right _ _ (or_right _ _ (or_left _ _ t))))
-one_of_all p Group t = or_right _ _ (or_right _ _ (or_right _ _ (or_right _ _ (or_right _ _ (or_left _ _ t)))))
-one_of_all p PollingChannel t = or_right _ _ (or_right _ _ (or_right _ _ (or_right _ _ (or_right _ _ (or_right _ _ (or_left _ _ t))))))
-one_of_all p RemoteCse t = or_right _ _ (or_right _ _ (or_right _ _ (or_right _ _ (or_right _ _ (or_right _ _ (or_right _ _ (or_left _ _ t)))))))
-one_of_all p Subscription t = or_right _ _ (or_right _ _ (or_right _ _ (or_right _ _ (or_right _ _ (or_right _ _ (or_right _ _ (or_right _ _ (or_left _ _ t))))))))
-one_of_all p AccessControlPolicyAnnc t = or_right _ _ (or_right _ _ (or_right _ _ (or_right _ _ (or_right _ _ (or_right _ _ (or_right _ _ (or_right _ _ (or_right _ _ (or_left _ _ t)))))))))
-one_of_all p AeAnnc t = or_right _ _ (or_right _ _ (or_right _ _ (or_right _ _ (or_right _ _ (or_right _ _ (or_right _ _ (or_right _ _ (or_right _ _ (or_right _ _ (or_left _ _ t))))))))))
-one_of_all p ContainerAnnc t = or_right _ _ (or_right _ _ (or_right _ _ (or_right _ _ (or_right _ _ (or_right _ _ (or_right _ _ (or_right _ _ (or_right _ _ (or_right _ _ (or_right _ _ (or_left _ _ t)))))))))))
-one_of_all p ContentInstanceAnnc t = or_right _ _ (or_right _ _ (or_right _ _ (or_right _ _ (or_right _ _ (or_right _ _ (or_right _ _ (or_right _ _ (or_right _ _ (or_right _ _ (or_right _ _ (or_right _ _ (or_left _ _ t))))))))))))
-one_of_all p GroupAnnc t = or_right _ _ (or_right _ _ (or_right _ _ (or_right _ _ (or_right _ _ (or_right _ _ (or_right _ _ (or_right _ _ (or_right _ _ (or_right _ _ (or_right _ _ (or_right _ _ (or_right _ _ (or_left _ _ t)))))))))))))
+one_of_all p AccessControlPolicy t = list_any_at p all_types 0 AccessControlPolicy (omega arith) t
+one_of_all p Ae t = list_any_at p all_types 1 Ae (omega arith) t
+one_of_all p Container t = list_any_at p all_types 2 Container (omega arith) t
+one_of_all p ContentInstance t = list_any_at p all_types 3 ContentInstance (omega arith) t
+one_of_all p CseBase t = list_any_at p all_types 4 CseBase (omega arith) t
+one_of_all p Group t = list_any_at p all_types 5 Group (omega arith) t
+one_of_all p PollingChannel t = list_any_at p all_types 6 PollingChannel (omega arith) t
+one_of_all p RemoteCse t = list_any_at p all_types 7 RemoteCse (omega arith) t
+one_of_all p Subscription t = list_any_at p all_types 8 Subscription (omega arith) t
+one_of_all p AccessControlPolicyAnnc t = list_any_at p all_types 9 AccessControlPolicyAnnc (omega arith) t
+one_of_all p AeAnnc t = list_any_at p all_types 10 AeAnnc (omega arith) t
+one_of_all p ContainerAnnc t = list_any_at p all_types 11 ContainerAnnc (omega arith) t
+one_of_all p ContentInstanceAnnc t = list_any_at p all_types 12 ContentInstanceAnnc (omega arith) t
+one_of_all p GroupAnnc t = list_any_at p all_types 13 GroupAnnc (omega arith) t
 
 id_is_resource_id : (ty : Ty) (n : ℕ) → n < 2 ^ 63 → is_resource_id (id_text ty n) ≡ true
 id_is_resource_id ty n small = one_of_all (λ t. is_numbered (ty_row t).word (id_text ty n)) ty (numbered (ty_row ty).word n small)

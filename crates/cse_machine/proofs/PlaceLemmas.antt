@@ -1,7 +1,7 @@
 -- Places that hold and places that don't, and who asks.
 use Rattle.std.specs.Prelude.{codes, nat_lt, unwrap_or}
-use Rattle.std.proofs.Common.{◌≡◌, ℕ, List, ◌∷◌, length, Bool, true, false, ◌&&◌, Option, Some, None, Result, Ok, Err, IfOk, inl, inr, refl, sym, ◌∙◌}
-use Rattle.std.specs.Option.{option_and_then}
+use Rattle.std.proofs.Common.{◌≡◌, ℕ, List, ◌∷◌, length, Bool, true, false, ◌&&◌, Option, Some, None, Result, Ok, Err, IfOk, IfSome, Bor, inl, inr, refl, sym, ap, ◌∙◌}
+use Rattle.std.specs.Option.{option_and_then, option_map}
 use Rattle.std.proofs.lemmas.Bool.{cases_Bool}
 use Rattle.std.proofs.lemmas.Option.{same_Some}
 use Rattle.m2m_names.specs.Name.{is_originator}
@@ -9,10 +9,15 @@ use Rattle.m2m_names.specs.declared.codes.Rsc.{Rsc}
 use Rattle.primitive_json.specs.declared.reply.ReplyParts.{ReplyParts}
 use Rattle.primitive_json.specs.declared.request.RequestParts.{RequestParts}
 use Rattle.resource_model.specs.Home.{HomeData}
+use Rattle.resource_model.specs.Resource.{ResourceData}
+use Rattle.tree_model.specs.Tree.{at, has}
+use Rattle.tree_model.proofs.TreeLemmas.{at_has, at_number}
 use Rattle.addressing.specs.Short.{short_of, shortened}
 use Rattle.entity_model.specs.Entity.{EntityData}
 use Rattle.entity_model.specs.Places.{Effect, Place, refused, unless, unless_refused}
-use Rattle.cse_machine.specs.Rights.{claimed_originator}
+use Rattle.retrieve_discover.specs.Replies.{discovered}
+use Rattle.cse_machine.specs.Answer.{reading_reply}
+use Rattle.cse_machine.specs.Rights.{claimed_originator, is_discovery}
 
 -- a place that holds is passed
 pub passes : (holds : Bool) (fault : Rsc) (places : List Place) (e : EntityData) (request : RequestParts) (effect : Effect) → holds ≡ true → unless_refused (unless holds fault ∷ places) e request effect ≡ unless_refused places e request effect
@@ -41,3 +46,15 @@ claimed_is home request o = by_fr request.fr
     by_fr : (fr : Option (List ℕ)) → option_and_then (short_of home) fr ≡ Some o → shortened home (unwrap_or fr (codes "C")) ≡ o
     by_fr None e = let none : None ≡ Some o = e in cc
     by_fr (Some text) e = short_is home text o e
+
+-- ---- what is looked up, and read
+
+pub found_there : (n : ℕ) (nodes : List ResourceData) (r : Option (Bor ResourceData)) → option_map (λ x. x.now) r ≡ at n nodes → IfSome r (λ x. has x.now.number nodes ≡ true)
+found_there n nodes None found = tt
+found_there n nodes (Some x) found =
+    ap (λ (m : ℕ). has m nodes) (at_number n nodes x.now (sym found)) ∙ at_has n nodes x.now (sym found)
+
+pub reading_found : (e : EntityData) (request : RequestParts) (n : ℕ) (o : List ℕ) → claimed_originator e.home request ≡ o → is_discovery request ≡ true → reading_reply e request n ≡ discovered e.home e.nodes o request n
+reading_found e request n o by d =
+    let first : reading_reply e request n ≡ discovered e.home e.nodes (claimed_originator e.home request) request n = rw d refl in
+    first ∙ ap (λ (t : List ℕ). discovered e.home e.nodes t request n) by

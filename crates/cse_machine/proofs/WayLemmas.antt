@@ -94,9 +94,9 @@ module _ (e : EntityData) (request : RequestParts) where
 
 -- reading is refused; or it looks for resources by DISCOVERY, or shows by RETRIEVE
 pub data Reading (e : EntityData) (request : RequestParts) (r : ResourceData) (reply : ReplyParts) : Type 0 where
-  denied : (fault : Rsc) → is_success fault ≡ false → reply ≡ refusal request fault → Reading e request r reply
-  searched : is_discovery request ≡ true → grants e.home e.nodes (claimed_originator e.home request) discovery_bit r.number ≡ true → Reading e request r reply
-  shown : is_discovery request ≡ false → grants e.home e.nodes (claimed_originator e.home request) retrieve_bit r.number ≡ true → Reading e request r reply
+  refused_read : (fault : Rsc) → is_success fault ≡ false → reply ≡ refusal request fault → Reading e request r reply
+  found_read : is_discovery request ≡ true → grants e.home e.nodes (claimed_originator e.home request) discovery_bit r.number ≡ true → Reading e request r reply
+  shown_read : is_discovery request ≡ false → grants e.home e.nodes (claimed_originator e.home request) retrieve_bit r.number ≡ true → Reading e request r reply
 
 module _ (e : EntityData) (request : RequestParts) (r : ResourceData) (there : at r.number e.nodes ≡ Some r) where
   abbrev o : List ℕ
@@ -104,14 +104,14 @@ module _ (e : EntityData) (request : RequestParts) (r : ResourceData) (there : a
 
   found_way : is_discovery request ≡ true → Reading e request r (discovered e.home e.nodes o request r.number)
   found_way d = elim (cases_Bool (grants e.home e.nodes o discovery_bit r.number)) [
-    | inl t ↦ searched d t
-    | inr f ↦ denied NoPrivilege refl (rw f refl)
+    | inl t ↦ found_read d t
+    | inr f ↦ refused_read NoPrivilege refl (rw f refl)
   ]
 
   shown_way : is_discovery request ≡ false → Reading e request r (retrieved_of e.home e.nodes o request r)
   shown_way d = elim (cases_Bool (grants e.home e.nodes o retrieve_bit r.number)) [
-    | inr f ↦ denied NoPrivilege refl (rw f refl)
-    | inl t ↦ shown d t
+    | inr f ↦ refused_read NoPrivilege refl (rw f refl)
+    | inl t ↦ shown_read d t
   ]
 
   pub reading : Reading e request r (reading_reply e request r.number)

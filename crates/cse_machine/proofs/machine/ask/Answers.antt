@@ -1,0 +1,14 @@
+use Rattle.std.proofs.Common.{sym, ap, ◌∙◌}
+use Rattle.entity_model.specs.Entity.{EntityData}
+use Rattle.cse_machine.specs.Answer.{effect_of}
+use Rattle.cse_machine.specs.declared.event.Outcome.TheVariants.{Done}
+use Rattle.cse_machine.proofs.machine.ask.Goals as goal
+
+-- what comes of the request comes of what is left
+pub returns-in-Ok : goal.returns-in-Ok
+returns-in-Ok g c =
+    let request = c.args.request.now in
+    let left = c.in_default.ensures.ok in (
+      ap Done (c.in-Ok.ensures.reply ∙ ap (λ (e : EntityData). (effect_of e request).reply) left),
+      sym c.in-Ok.ensures.after ∙ ap (λ (e : EntityData). (effect_of e request).after) left,
+    )
