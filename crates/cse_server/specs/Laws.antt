@@ -31,8 +31,8 @@ NothingIsAnsweredBehindClose =
     → some_closes frames place ≡ true
     → reply_texts (frames ++ more) place replies ≡ reply_texts frames place replies
 
--- What a connection of a sound entity shows and changes is guarded: where the outcome of a request that
--- was heard is a reply, this shows nothing and its step changed nothing but by a grant to the
+-- What a connection of a sound entity shows and changes is guarded: where the outcome of a request
+-- that was heard is a reply, this shows nothing and its step changed nothing but by a grant to the
 -- originator, judged on the entity that the history of the requests before it left, with the
 -- outcomes that these had and at the readings that the clock gave, and from which what was due is
 -- gone.
