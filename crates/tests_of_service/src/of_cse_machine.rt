@@ -71,6 +71,9 @@ fn answer(
 const BASE: &str =
     "2000 r1 {\"m2m:cb\":{\"acpi\":[\"acp2\"],\"csi\":\"/id-in\",\"cst\":1,\"ct\":\"20231114T221320\",\"lt\":\"20231114T221320\",\"pi\":\"\",\"ri\":\"cb1\",\"rn\":\"cse-in\",\"srt\":[1,2,3,4,5,9,15,16,23,10001,10002,10003,10004,10009],\"ty\":5}}";
 
+const POLICY: &str =
+    "2000 r1 {\"m2m:acp\":{\"ct\":\"20231114T221320\",\"et\":\"99991231T235959\",\"lt\":\"20231114T221320\",\"pi\":\"cb1\",\"pv\":{\"acr\":[{\"acop\":63,\"acor\":[\"CAdmin\"]},{\"acop\":1,\"acor\":[\"all\"]}]},\"pvs\":{\"acr\":[{\"acop\":63,\"acor\":[\"CAdmin\"]}]},\"ri\":\"acp2\",\"rn\":\"acpAdmin\",\"ty\":1}}";
+
 #[test]
 fn a_retrieve_is_answered_by_name_and_right(rt: HostRuntime) -> Result<(), Fail> {
     let alloc = rt.alloc();
@@ -79,8 +82,13 @@ fn a_retrieve_is_answered_by_name_and_right(rt: HostRuntime) -> Result<(), Fail>
         ("CAdmin", "none", "4004 r1"),
         ("Cx", "none", "4004 r1"),
         ("Cx", "cse-in", "4103 r1"),
-        ("CAdmin", "cse-in/x", "4000 r1"),
-        ("/id-in/CAdmin", "cse-in", "4000 r1"),
+        ("CAdmin", "cse-in/x", "4004 r1"),
+        ("CAdmin", "cse-in/", "4000 r1"),
+        ("CAdmin", "/id-mn/acp2", "4004 r1"),
+        ("/id-in/CAdmin", "cse-in", BASE),
+        ("CAdmin", "acp2", POLICY),
+        ("CAdmin", "//sp.example/id-in/-/acpAdmin", POLICY),
+        ("Cx", "cse-in/acpAdmin", "4103 r1"),
     ] {
         let (text, _) = answer(alloc, 1_700_000_000, 1_700_000_001, fr, to)?;
         assert_eq!(rt; text.as_str(), want);
