@@ -3,7 +3,7 @@ use Rattle.std.proofs.Common.{◌≡◌, ℕ, List, [], ◌∷◌, Bool, true, f
 use Rattle.std.proofs.lemmas.Bool.{and_parts, false≢true, not-true, false_from_ne_true, both_ways}
 use Rattle.std.specs.List.{starts_with}
 use Rattle.std.specs.Option.{option_map_or, option_and_then}
-use Rattle.std.specs.Prelude.{is_none, unwrap_or, codes, nat_eq}
+use Rattle.std.specs.Prelude.{is_none, unwrap_or, codes, drop, nat_eq}
 use Rattle.m2m_names.specs.Name.{is_name, is_originator, is_local_originator}
 use Rattle.m2m_names.specs.Operations.{op_row}
 use Rattle.m2m_names.specs.declared.operations.Op.{Op}
@@ -11,6 +11,7 @@ use Rattle.m2m_names.specs.declared.operations.Op.TheVariants.{Create, Retrieve,
 use Rattle.filter_criteria.specs.declared.filter.FilterParts.{FilterParts}
 use Rattle.primitive_json.specs.declared.request.RequestParts.{RequestParts}
 use Rattle.resource_model.specs.Home.{HomeData}
+use Rattle.policy_eval.proofs.FormLemmas.{rest_starts, starts_rest}
 use Rattle.addressing.specs.Short.{behind, chosen, shortened}
 use Rattle.entity_model.specs.Entity.{EntityData}
 use Rattle.cse_machine.specs.Answer.{is_retrieve, is_plain, is_plain_retrieve, is_served}
@@ -29,8 +30,7 @@ is_nothing (Some a) t = absurd (false≢true t)
 
 -- a text that doesn't begin with a slash doesn't begin with two
 slash_first : (text : List ℕ) → starts_with nat_eq text (codes "//") ≡ true → starts_with nat_eq text (codes "/") ≡ true
-slash_first [] two = two
-slash_first (b ∷ text) two = rw (and_parts (nat_eq b 47) _ two).0 refl
+slash_first text two = rest_starts text (codes "/") (47 ∷ drop 2 text) (starts_rest text (codes "//") two)
 
 -- and so it is short already
 pub short_already : (home : HomeData) (text : List ℕ) → starts_with nat_eq text (codes "/") ≡ false → shortened home text ≡ text
