@@ -1,6 +1,6 @@
 -- Soundness: of the entity as it opens, and of what a removal leaves.
 use Rattle.std.specs.Prelude.{◌==◌, nat_le}
-use Rattle.std.proofs.Common.{◌≡◌, ℕ, ◌≤◌, List, [], ◌∷◌, ◌++◌, length, take, Bool, true, false, cond, not, ◌&&◌, ◌||◌, Option, Some, None, if◌then◌else◌, inl, inr, refl, sym, ap, ◌∙◌, subst, arith, bytes_eq}
+use Rattle.std.proofs.Common.{◌≡◌, ℕ, ◌-◌, ◌^◌, ◌≤◌, List, [], ◌∷◌, ◌++◌, length, take, Bool, true, false, cond, not, ◌&&◌, ◌||◌, Option, Some, None, if◌then◌else◌, inl, inr, refl, sym, ap, ◌∙◌, subst, arith, bytes_eq}
 use Rattle.std.proofs.lemmas.Bool.{cases_Bool, and_parts, and_from, or_cases, or_parts, or_from, or_left, or_right, not-true, not_from_false, leb-true, le-leb, both_ways, false_from_ne_true, eq-eqb}
 use Rattle.std.proofs.lemmas.List.{append-nil}
 use Rattle.std.proofs.lemmas.List.Elements.{filter-append}
@@ -14,7 +14,7 @@ use Rattle.m2m_names.specs.declared.types.Ty.TheVariants.{AccessControlPolicy, A
 use Rattle.resource_model.specs.Attributes.{count_at}
 use Rattle.resource_model.specs.Home.{HomeData, IsHome, is_base_name, is_cse_type}
 use Rattle.resource_model.specs.Resource.{ResourceData, is_ty, cse_id}
-use Rattle.tree_model.specs.Tree.{at, has, stays, staying, without, is_spared, is_kin, is_instance, size_of, due_under, is_due, lesser, age_end, live, is_root, is_taken, fits_in, is_well_formed, is_tree}
+use Rattle.tree_model.specs.Tree.{at, has, are_below, stays, staying, without, is_spared, is_kin, is_instance, size_of, due_under, is_due, lesser, age_end, live, is_root, is_taken, fits_in, is_well_formed, is_tree}
 use Rattle.tree_model.proofs.TreeLemmas.{has_at, staying_all, staying_any, staying_unpicked}
 use Rattle.tree_model.proofs.GrowthLemmas.{growth, tree_from_well_formed, next_fits, root_parent, at-without}
 use Rattle.tree_model.proofs.KeptLemmas.{is_well_formed-without}
@@ -24,7 +24,7 @@ use Rattle.attribute_rules.specs.Kinds.{are_kinds}
 use Rattle.container_limits.specs.Limits.{is_within}
 use Rattle.entity_model.specs.Entity.{EntityData, last_reading, cut, event_moment, swept}
 use Rattle.entity_model.specs.Opening.{opening_base, opening_policy, opening_nodes, opening}
-use Rattle.entity_model.specs.Sound.{has_known_ids, has_size, is_shallow, is_within_limits, begins_with_base, own_cse_id, cse_ids, are_distinct, has_one_channel, spares_first, IsSound}
+use Rattle.entity_model.specs.Sound.{has_known_ids, has_size, has_state_tag, is_shallow, is_within_limits, begins_with_base, own_cse_id, cse_ids, are_distinct, has_one_channel, spares_first, greatest_count, IsSound}
 use Rattle.entity_model.proofs.RemovalLemmas.{staying_length, staying_filter, staying_sum, no_deeper}
 
 -- ---- tests over a list
@@ -51,7 +51,7 @@ all_left p q nodes weaker all = all_weaker (q nodes) (q (without p nodes)) weake
 small_too : (m n k : ℕ) → m ≤ n → nat_le n k ≡ true → nat_le m k ≡ true
 small_too m n k le small = let below : n ≤ k = leb-true n k small in le-leb m k (omega arith)
 
-within_too : (limit : Option ℕ) (m n : ℕ) → m ≤ n → is_within n limit ≡ true → is_within m limit ≡ true
+pub within_too : (limit : Option ℕ) (m n : ℕ) → m ≤ n → is_within n limit ≡ true → is_within m limit ≡ true
 within_too None m n le within = refl
 within_too (Some k) m n le within = small_too m n k le within
 
@@ -61,7 +61,7 @@ shallow_left p nodes tree r shallow = small_too _ _ 32 (no_deeper p nodes tree r
 channel_left : (p : ResourceData → Bool) (nodes : List ResourceData) (r : ResourceData) → has_one_channel nodes r ≡ true → has_one_channel (without p nodes) r ≡ true
 channel_left p nodes r one = small_too _ _ 1 (staying_filter p (is_kin PollingChannel r.number) [] nodes) one
 
-limits_left : (p : ResourceData → Bool) (nodes : List ResourceData) (r : ResourceData) → is_within_limits nodes r ≡ true → is_within_limits (without p nodes) r ≡ true
+pub limits_left : (p : ResourceData → Bool) (nodes : List ResourceData) (r : ResourceData) → is_within_limits nodes r ≡ true → is_within_limits (without p nodes) r ≡ true
 limits_left p nodes r within = elim (or_cases (not (is_ty r.ty Container)) _ within) [
   | inl other ↦ or_left _ _ other
   | inr both ↦
@@ -161,27 +161,83 @@ none_due_left p nodes moment tree none =
 
 -- ---- soundness after a removal
 
+-- what of soundness speaks neither of limits nor of what is due
+pub record IsFramed (e : EntityData) : Type 0 where
+  pub numbers : are_below e.next e.nodes ≡ true
+  pub next : e.next ≤ 2 ^ 63 - 1
+  pub ids : list_all (has_known_ids e.next) e.nodes ≡ true
+  pub tree : is_well_formed e.nodes ≡ true
+  pub base : begins_with_base e.home e.nodes ≡ true
+  pub depth : list_all (is_shallow e.nodes) e.nodes ≡ true
+  pub count : length e.nodes ≤ greatest_count
+  pub kinds : list_all are_kinds e.nodes ≡ true
+  pub tags : list_all has_state_tag e.nodes ≡ true
+  pub cses : are_distinct (cse_ids e.home e.nodes) ≡ true
+  pub channels : list_all (has_one_channel e.nodes) e.nodes ≡ true
+  pub sizes : list_all has_size e.nodes ≡ true
+  pub last : e.last ≤ last_reading
+
+pub framed_from : (e : EntityData) → IsSound e → IsFramed e
+framed_from e sound = record {
+  numbers = sound.numbers;
+  next = sound.next;
+  ids = sound.ids;
+  tree = sound.tree;
+  base = sound.base;
+  depth = sound.depth;
+  count = sound.count;
+  kinds = sound.kinds;
+  tags = sound.tags;
+  cses = sound.cses;
+  channels = sound.channels;
+  sizes = sound.sizes;
+  last = sound.last;
+}
+
+pub sound_framed : (e : EntityData) → IsFramed e → list_all (is_within_limits e.nodes) e.nodes ≡ true → list_any (is_due e.nodes e.last) e.nodes ≡ false → IsSound e
+sound_framed e framed limits due = record {
+  numbers = framed.numbers;
+  next = framed.next;
+  ids = framed.ids;
+  tree = framed.tree;
+  base = framed.base;
+  depth = framed.depth;
+  count = framed.count;
+  kinds = framed.kinds;
+  tags = framed.tags;
+  cses = framed.cses;
+  channels = framed.channels;
+  sizes = framed.sizes;
+  limits = limits;
+  last = framed.last;
+  due = due;
+}
+
+pub framed_left : (p : ResourceData → Bool) (e : EntityData) (last : ℕ) → IsFramed e → spares_first p e.nodes ≡ true → last ≤ last_reading → IsFramed (record { home = e.home; nodes = without p e.nodes; next = e.next; last = last })
+framed_left p e last framed spared small =
+    let tree = tree_from_well_formed e.nodes framed.tree in
+    let fewer : length (without p e.nodes) ≤ length e.nodes = staying_length p [] e.nodes in
+    let few : length e.nodes ≤ 100000 = framed.count in
+    record {
+      numbers = staying_all p _ [] e.nodes framed.numbers;
+      next = framed.next;
+      ids = staying_all p (has_known_ids e.next) [] e.nodes framed.ids;
+      tree = is_well_formed-without p e.nodes framed.tree;
+      base = base_left p e.home e.nodes framed.tree spared framed.base;
+      depth = all_left p is_shallow e.nodes (shallow_left p e.nodes tree) framed.depth;
+      count = omega arith;
+      kinds = staying_all p are_kinds [] e.nodes framed.kinds;
+      tags = staying_all p has_state_tag [] e.nodes framed.tags;
+      cses = cses_left p e.home e.nodes framed.cses;
+      channels = all_left p has_one_channel e.nodes (channel_left p e.nodes) framed.channels;
+      sizes = staying_all p has_size [] e.nodes framed.sizes;
+      last = small;
+    }
+
 pub sound_left : (p : ResourceData → Bool) (e : EntityData) (last : ℕ) → IsSound e → spares_first p e.nodes ≡ true → last ≤ last_reading → list_any (is_due (without p e.nodes) last) (without p e.nodes) ≡ false → IsSound (record { home = e.home; nodes = without p e.nodes; next = e.next; last = last })
 sound_left p e last sound spared small none =
-    let tree = tree_from_well_formed e.nodes sound.tree in
-    let fewer : length (without p e.nodes) ≤ length e.nodes = staying_length p [] e.nodes in
-    let few : length e.nodes ≤ 100000 = sound.count in
-    record {
-      numbers = staying_all p _ [] e.nodes sound.numbers;
-      next = sound.next;
-      ids = staying_all p (has_known_ids e.next) [] e.nodes sound.ids;
-      tree = is_well_formed-without p e.nodes sound.tree;
-      base = base_left p e.home e.nodes sound.tree spared sound.base;
-      depth = all_left p is_shallow e.nodes (shallow_left p e.nodes tree) sound.depth;
-      count = omega arith;
-      kinds = staying_all p are_kinds [] e.nodes sound.kinds;
-      cses = cses_left p e.home e.nodes sound.cses;
-      channels = all_left p has_one_channel e.nodes (channel_left p e.nodes) sound.channels;
-      sizes = staying_all p has_size [] e.nodes sound.sizes;
-      limits = all_left p is_within_limits e.nodes (limits_left p e.nodes) sound.limits;
-      last = small;
-      due = none;
-    }
+    sound_framed _ (framed_left p e last (framed_from e sound) spared small)
+    (all_left p is_within_limits e.nodes (limits_left p e.nodes) sound.limits) none
 
 -- the CSEBase is never due
 base_spared : (home : HomeData) (nodes : List ResourceData) (among : List ResourceData) (moment : ℕ) → begins_with_base home nodes ≡ true → spares_first (is_due among moment) nodes ≡ true
@@ -251,6 +307,7 @@ sound_opening home reading is = record {
   depth = refl;
   count = omega arith;
   kinds = opening_kinds home (cut reading) (admin_admitted home is);
+  tags = refl;
   cses = refl;
   channels = refl;
   sizes = refl;

@@ -1,15 +1,15 @@
 -- Which entities are sound: what holds of an entity at every moment.
 use Rattle.std.specs.Prelude.{◌≡◌, ℕ, ◌-◌, ◌^◌, ◌≤◌, nat_le, nat_lt, Bool, true, false, not, ◌&&◌}
-use Rattle.std.specs.Prelude.{◌||◌, List, [], ◌∷◌, ◌++◌, length, codes}
+use Rattle.std.specs.Prelude.{◌||◌, List, [], ◌∷◌, ◌++◌, length, codes, is_some}
 use Rattle.std.specs.Prelude.{option_and_then, IsTrue}
 use Rattle.std.specs.List.{filter_map, list_all, list_any}
 use Rattle.std.specs.Option.{option_map_or}
 use Rattle.std.specs.Str.{bytes_eq}
-use Rattle.m2m_names.specs.declared.attributes.Attr.TheVariants.{Acpi, Macp, Mbs, Mni}
+use Rattle.m2m_names.specs.declared.attributes.Attr.TheVariants.{Acpi, Macp, Mbs, Mni, St}
 use Rattle.m2m_names.specs.declared.types.Ty.TheVariants.{Container, ContentInstance, CseBase}
 use Rattle.m2m_value.specs.Data.{Data}
 use Rattle.m2m_value.specs.View.{as_text}
-use Rattle.resource_model.specs.Attributes.{count_at}
+use Rattle.resource_model.specs.Attributes.{count_at, value_of}
 use Rattle.resource_model.specs.Home.{HomeData}
 use Rattle.resource_model.specs.Resource.{ResourceData, is_ty, cse_id}
 use Rattle.tree_model.specs.Tree.{channels_of, instances_of, size_of, sizes_of, depth}
@@ -59,6 +59,10 @@ is_within_limits nodes r =
     || (is_within (length (instances_of r.number nodes)) (count_at Mni r.attrs)
     && is_within (sizes_of r.number nodes) (count_at Mbs r.attrs))
 
+-- a container counts its changes (TS-0001, 9.6.6)
+abbrev pub has_state_tag : ResourceData → Bool
+has_state_tag r = not (is_ty r.ty Container) || is_some (value_of St r.attrs)
+
 -- ---- who stands once
 
 -- the list begins with the CSEBase, named by the home's base name
@@ -103,6 +107,8 @@ pub record IsSound (e : EntityData) : Type 0 where
   pub count : length e.nodes ≤ greatest_count
   -- each resource keeps attributes of its type, with values of their kinds
   pub kinds : IsTrue (list_all are_kinds e.nodes)
+  -- each container has its state tag
+  pub tags : IsTrue (list_all has_state_tag e.nodes)
   -- CSE-IDs differ from each other and from the own one, and no resource has two polling channels
   pub cses : IsTrue (are_distinct (cse_ids e.home e.nodes))
   pub channels : IsTrue (list_all (has_one_channel e.nodes) e.nodes)

@@ -1,0 +1,10 @@
+use Rattle.std.proofs.Common.{◌≡◌, true, IfSome, subst}
+use Rattle.tree_model.specs.Tree.{has}
+use Rattle.entity_model.specs.Entity.{EntityData}
+use Rattle.create_delete.proofs.OrderLemmas.{found_there}
+use Rattle.create_delete.proofs.asking.find.Goals as goal
+
+pub returns-clause-there : goal.returns-clause-there
+returns-clause-there g c =
+    subst (λ (e : EntityData). IfSome c.get.result (λ r. has r.now.number e.nodes ≡ true)) c.entity.view_is
+    (found_there c.args.number (g.T.Tree.nodes c.entity.inside.tree) c.get.result c.get.ensures)
