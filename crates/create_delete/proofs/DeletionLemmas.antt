@@ -17,11 +17,13 @@ use Rattle.tree_model.proofs.TreeLemmas.{at_has, at_number}
 use Rattle.policy_eval.specs.Rights.{grants}
 use Rattle.create_delete.specs.Changing.{performed_at}
 use Rattle.entity_model.specs.Entity.{EntityData}
-use Rattle.create_delete.specs.Order.{fault_at, places}
-use Rattle.create_delete.specs.Requests.{has_grant, is_for}
+use Rattle.request_rules.specs.Order.{fault_at, places}
+use Rattle.request_rules.specs.Requests.{is_for}
+use Rattle.request_rules.specs.Rights.{is_granted}
 use Rattle.entity_model.specs.Places.{Effect, reply_to}
 use Rattle.entity_model.specs.Sound.{begins_with_base, spares_first, IsSound}
-use Rattle.create_delete.proofs.OrderLemmas.{all_hold, nothing_on, done_at, refused_at, found_at}
+use Rattle.request_rules.proofs.OrderLemmas.{all_hold, nothing_on, found_at}
+use Rattle.create_delete.proofs.PerformedLemmas.{done_at, refused_at}
 
 abbrev removed_from : EntityData → RequestParts → ℕ → Effect
 removed_from e request n = record {
@@ -43,14 +45,14 @@ is_deletable n e = option_map_or (λ (t : ResourceData). is_for Delete t.ty) (at
 record Target (e : EntityData) (o : List ℕ) (n : ℕ) : Type 0 where
   target : ResourceData
   found : at n e.nodes ≡ Some target
-  right : has_grant e o (op_row Delete).bit target ≡ true
+  right : is_granted e o (op_row Delete).bit target.number ≡ true
   kind : is_for Delete target.ty ≡ true
 
 target_of : (e : EntityData) (o : List ℕ) (request : RequestParts) (n : ℕ) → fault_at Delete e o request n ≡ None → Target e o n
 target_of e o request n none =
     let found = found_at Delete e o request n none in
     let all = all_hold (places Delete e o request found.0) (nothing_on Delete e o request n found.0 found.1 none) in
-    let right = and_parts (has_grant e o (op_row Delete).bit found.0) _ all in
+    let right = and_parts (is_granted e o (op_row Delete).bit found.0.number) _ all in
     let kind = and_parts (is_for Delete found.0.ty) _ right.1 in
     record { target = found.0; found = found.1; right = right.0; kind = kind.0 }
 

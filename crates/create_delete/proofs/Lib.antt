@@ -1,2 +1,2 @@
 pub mod DeletionLemmas
-pub mod OrderLemmas
+pub mod PerformedLemmas

@@ -30,12 +30,12 @@ use Rattle.container_limits.specs.Limits.{evicted}
 use Rattle.container_limits.specs.declared.limits.Limits.{Limits}
 use Rattle.tree_model.specs.Shown.{attributes_of, members_of, shown_rows, with_rows, wrapped}
 use Rattle.tree_model.specs.Tree.{at, instances_of, replaced, restamped_at, without}
-use Rattle.create_delete.specs.Creation.{Creation, new_resource, new_size, next_state}
+use Rattle.request_rules.specs.Creation.{Creation, new_resource, new_size, next_state}
 use Rattle.entity_model.specs.Entity.{EntityData}
-use Rattle.create_delete.specs.Order.{creation_by, places}
+use Rattle.request_rules.specs.Order.{creation_by, places}
 use Rattle.entity_model.specs.Places.{Effect, refused, reply_to, unless_refused}
-use Rattle.create_delete.specs.Policies.{link_row}
-use Rattle.create_delete.specs.Requests.{child_ty, named_by}
+use Rattle.request_rules.specs.Policies.{link_row}
+use Rattle.request_rules.specs.Requests.{child_ty, named_by}
 
 -- ---- what limits push out
 

@@ -1,5 +1,1 @@
 pub mod Changing
-pub mod Creation
-pub mod Order
-pub mod Policies
-pub mod Requests

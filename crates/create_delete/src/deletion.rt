@@ -7,22 +7,21 @@ ghost use Rattle.m2m_names.specs.declared.operations.Op.TheVariants.{Delete};
 ghost use Rattle.resource_model.specs.Resource.{ResourceData, has_number};
 ghost use Rattle.tree_model.specs.Tree.{at, without};
 ghost use Rattle.create_delete.specs.Changing.{performed_at};
-ghost use Rattle.create_delete.specs.Order.{fault_at};
+ghost use Rattle.request_rules.specs.Order.{fault_at};
 ghost use Rattle.entity_model.specs.Places as places;
-ghost use Rattle.create_delete.specs.Requests.{is_for};
+ghost use Rattle.request_rules.specs.Requests.{is_for};
 
-use crate::asking::find;
-use crate::judging::judge_target;
 use crate::replying::{refuse, reply_to};
 use entity_model::Entity;
 use m2m_names::{Op, Rsc};
 use primitive_json::{Reply, Request};
+use request_rules::{find, judge_target};
 use std::alloc::{AllocError as OutOfMemory, Global};
 use tree_model::Tree;
 
 /// Deletes the resource of a number, with all that stands below it, for an originator in its short
 /// form, or refuses to; 4004 where there is none. Where memory runs out, nothing has changed.
-#[tactic(auto, using(crate::proofs::DeletionLemmas::delete_done, crate::proofs::DeletionLemmas::deletable, crate::proofs::OrderLemmas::refused_at))]
+#[tactic(auto, using(crate::proofs::DeletionLemmas::delete_done, crate::proofs::DeletionLemmas::deletable, crate::proofs::PerformedLemmas::refused_at))]
 pub fn delete<T: Tree>(
     alloc: Global,
     entity: &mut Entity<T>,

@@ -14,8 +14,8 @@ ghost use Rattle.entity_model.specs.Entity.{EntityData};
 ghost use Rattle.entity_model.specs.Places.{refused};
 ghost use Rattle.entity_model.specs.Sound.{IsSound};
 ghost use Rattle.create_delete.specs.Changing.{performed_at};
-ghost use Rattle.create_delete.specs.Order.{fault_at};
-ghost use Rattle.create_delete.specs.Requests.{has_right_to};
+ghost use Rattle.request_rules.specs.Order.{fault_at};
+ghost use Rattle.request_rules.specs.Rights.{may_do};
 
 /// A request that a place refuses gets the status of that place, and leaves the entity as it is.
 pub fn a_refusal_changes_nothing()
@@ -29,7 +29,7 @@ pub fn a_refusal_changes_nothing()
 pub fn nothing_is_done_without_the_right()
     ensures { (op : Op) (e : EntityData) (o : List ℕ) (request : RequestParts) (n : ℕ)
         (target : ResourceData) → at n e.nodes ≡ Some target
-        → has_right_to op e o request target ≡ false
+        → may_do op e o request n ≡ false
         → performed_at op e o request n ≡ refused e request NoPrivilege }
 {}
 

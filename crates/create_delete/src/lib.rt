@@ -1,18 +1,13 @@
-//! The requests that change an entity: Create, Update and Delete (TS-0001, 10.2).
+//! The requests that change an entity (TS-0001, 10.2); so far Delete.
 //!
 //! What comes of one is a function of the entity, the originator and the request (`performed_at` of
-//! `specs/Changing`): a refusal by the first place that doesn't hold, in the one list of places of
-//! all operations (`places` of `specs/Order`), and else a reply and the entity after it. A call
-//! judges, which changes nothing; it prepares, which takes all memory; and it applies, which can't
-//! fail but where a resource is put last, which comes first. Where memory runs out nothing has
-//! changed.
-//!
-//! So far `delete` is a call; the definitions of Create and Update stand beside its own.
+//! `specs/Changing`): a refusal by the first place that doesn't hold, in the one order of the crate
+//! request_rules, and else a reply and the entity after it. A call judges, which changes nothing;
+//! it prepares, which takes all memory; and it applies, which can't fail. Where memory runs out
+//! nothing has changed.
 #![tactic(auto)]
 
-mod asking;
 mod deletion;
-mod judging;
 mod laws;
 mod replying;
 

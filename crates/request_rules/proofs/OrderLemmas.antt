@@ -1,20 +1,18 @@
--- What the order of refusals says of what comes of a request.
+-- Lists of places, and the first of them that doesn't hold.
 use Rattle.std.proofs.Common.{◌≡◌, ℕ, List, [], ◌∷◌, ◌++◌, Bool, true, false, not, Option, Some, None, is_some, option_map, Bor, IfSome, inl, inr, refl, sym, ap, ◌∙◌}
 use Rattle.std.proofs.lemmas.Bool.{cases_Bool, and_from, both_ways}
 use Rattle.std.specs.List.{list_all}
 use Rattle.std.specs.Option.{option_map_or, option_or}
 use Rattle.m2m_names.specs.declared.codes.Rsc.{Rsc}
-use Rattle.m2m_names.specs.declared.codes.Rsc.TheVariants.{NoPrivilege, NotFound}
+use Rattle.m2m_names.specs.declared.codes.Rsc.TheVariants.{NotFound}
 use Rattle.m2m_names.specs.declared.operations.Op.{Op}
 use Rattle.primitive_json.specs.declared.request.RequestParts.{RequestParts}
 use Rattle.resource_model.specs.Resource.{ResourceData}
 use Rattle.tree_model.specs.Tree.{at, has}
 use Rattle.tree_model.proofs.TreeLemmas.{at_has, at_number}
-use Rattle.create_delete.specs.Changing.{done_by, performed, performed_at}
 use Rattle.entity_model.specs.Entity.{EntityData}
-use Rattle.create_delete.specs.Order.{fault_on, fault_at}
-use Rattle.create_delete.specs.Requests.{has_right_to}
-use Rattle.entity_model.specs.Places.{Place, refused, first_fault}
+use Rattle.request_rules.specs.Order.{fault_on, fault_at}
+use Rattle.entity_model.specs.Places.{Place, first_fault}
 
 -- ---- a list of places
 
@@ -38,25 +36,11 @@ first_fault-append (place ∷ front) back = elim (cases_Bool place.holds) [
   | inr f ↦ rw f refl
 ]
 
--- ---- what comes of a request
-
-refused_on : (op : Op) (e : EntityData) (o : List ℕ) (request : RequestParts) (found : Option ResourceData) (f : Rsc) → option_map_or (fault_on op e o request) found (Some NotFound) ≡ Some f → option_map_or (performed op e o request) found (refused e request NotFound) ≡ refused e request f
-refused_on op e o request None f is = ap (λ (x : Option Rsc). option_map_or (refused e request) x (refused e request NotFound)) is
-refused_on op e o request (Some t) f is = ap (λ (x : Option Rsc). option_map_or (refused e request) x (done_by op e o request t)) is
-
--- where a place refuses it, it is refused so
-pub refused_at : (op : Op) (e : EntityData) (o : List ℕ) (request : RequestParts) (n : ℕ) (f : Rsc) → fault_at op e o request n ≡ Some f → performed_at op e o request n ≡ refused e request f
-refused_at op e o request n f is = refused_on op e o request (at n e.nodes) f is
+-- ---- a resource of a number
 
 -- where none does on a resource that is there
 pub nothing_on : (op : Op) (e : EntityData) (o : List ℕ) (request : RequestParts) (n : ℕ) (t : ResourceData) → at n e.nodes ≡ Some t → fault_at op e o request n ≡ None → fault_on op e o request t ≡ None
 nothing_on op e o request n t there none = sym (ap (λ (x : Option ResourceData). option_map_or (fault_on op e o request) x (Some NotFound)) there) ∙ none
-
--- it is done
-pub done_at : (op : Op) (e : EntityData) (o : List ℕ) (request : RequestParts) (n : ℕ) (t : ResourceData) → at n e.nodes ≡ Some t → fault_at op e o request n ≡ None → performed_at op e o request n ≡ done_by op e o request t
-done_at op e o request n t there none =
-    ap (λ (x : Option ResourceData). option_map_or (performed op e o request) x (refused e request NotFound)) there
-    ∙ ap (λ (x : Option Rsc). option_map_or (refused e request) x (done_by op e o request t)) (nothing_on op e o request n t there none)
 
 -- where no place refuses it, the resource is there
 pub found_at : (op : Op) (e : EntityData) (o : List ℕ) (request : RequestParts) (n : ℕ) → fault_at op e o request n ≡ None → (t : ResourceData) × (at n e.nodes ≡ Some t)
@@ -70,9 +54,3 @@ found_at op e o request n none = by_found (at n e.nodes) refl
 pub found_there : (n : ℕ) (nodes : List ResourceData) (x : Option (Bor ResourceData)) → option_map (λ r. r.now) x ≡ at n nodes → IfSome x (λ r. has r.now.number nodes ≡ true)
 found_there n nodes None is = tt
 found_there n nodes (Some r) is = at_has r.now.number nodes r.now (ap (λ (m : ℕ). at m nodes) (at_number n nodes r.now (sym is)) ∙ sym is)
-
--- without the right it is refused for that
-pub no_right : (op : Op) (e : EntityData) (o : List ℕ) (request : RequestParts) (n : ℕ) (t : ResourceData) → at n e.nodes ≡ Some t → has_right_to op e o request t ≡ false → performed_at op e o request n ≡ refused e request NoPrivilege
-no_right op e o request n t there none =
-    let fault : fault_on op e o request t ≡ Some NoPrivilege = rw none refl in
-    refused_at op e o request n NoPrivilege (ap (λ (x : Option ResourceData). option_map_or (fault_on op e o request) x (Some NotFound)) there ∙ fault)

@@ -3,7 +3,7 @@ use Rattle.std.specs.Prelude.{ℕ, pos, ◌+◌, ◌-◌, ◌^◌, min, nat_eq, 
 use Rattle.std.specs.Prelude.{◌&&◌, ◌||◌, List, [], ◌∷◌, ◌++◌, length, codes, bytes_eq, Option, Some}
 use Rattle.std.specs.Prelude.{unwrap_or, if◌then◌else◌}
 use Rattle.std.specs.Fmt.{decimal}
-use Rattle.std.specs.List.{list_any, starts_with}
+use Rattle.std.specs.List.{starts_with}
 use Rattle.std.specs.Option.{option_map_or}
 use Rattle.m2m_names.specs.Attributes.{attr_short}
 use Rattle.m2m_names.specs.Name.{is_name}
@@ -20,12 +20,13 @@ use Rattle.m2m_value.specs.View.{member_of}
 use Rattle.resource_model.specs.Attributes.{Row, count_at}
 use Rattle.resource_model.specs.Resource.{ResourceData, is_ty}
 use Rattle.tree_model.specs.Shown.{with_rows}
-use Rattle.tree_model.specs.Tree.{depth, has_ae_id, has_child, has_cse_id, is_kin}
+use Rattle.tree_model.specs.Tree.{depth, has_ae_id, has_channel, has_child, has_cse_id}
 use Rattle.attribute_rules.specs.Admission.{is_named}
 use Rattle.attribute_rules.specs.Contents.{named_text, wanted_in}
+use Rattle.container_limits.specs.Limits.{is_within}
 use Rattle.entity_model.specs.Entity.{EntityData}
-use Rattle.create_delete.specs.Policies.{link_row}
-use Rattle.create_delete.specs.Requests.{named_expiry}
+use Rattle.request_rules.specs.Policies.{link_row}
+use Rattle.request_rules.specs.Requests.{named_expiry}
 use Rattle.entity_model.specs.Sound.{own_cse_id, largest_size, greatest_depth, greatest_count}
 
 -- A creation: in which entity, by whom, of which type, under which parent, and the attributes that
@@ -91,9 +92,6 @@ abbrev pub is_free_cse_id : EntityData → List ℕ → Bool
 is_free_cse_id e csi =
     not (has_cse_id (Some csi) e.nodes) && not (bytes_eq csi (own_cse_id e.home))
 
-abbrev pub has_channel : ℕ → List ResourceData → Bool
-has_channel parent nodes = list_any (is_kin PollingChannel parent) nodes
-
 abbrev pub is_single : Ty → Creation → Bool
 is_single Ae c = not (has_ae_id (Some (new_ae_id c)) c.e.nodes)
 is_single RemoteCse c = option_map_or (is_free_cse_id c.e) (named_text Csi c.named) true
@@ -113,10 +111,7 @@ size_named es = option_map_or (λ d. capped (size_of d)) (member_of (attr_short 
 abbrev pub new_size : Creation → ℕ
 new_size c = size_named c.named
 
--- a bound that is absent is none
-abbrev pub is_at_most : ℕ → Option ℕ → Bool
-is_at_most n bound = option_map_or (nat_le n) bound true
-
+-- below the bound, where there is one
 abbrev pub is_below : ℕ → Option ℕ → Bool
 is_below n bound = option_map_or (nat_lt n) bound true
 
@@ -124,7 +119,7 @@ is_below n bound = option_map_or (nat_lt n) bound true
 -- sizes is passed (TS-0001, 9.6.6)
 abbrev pub takes_instance : ResourceData → ℕ → Bool
 takes_instance container size =
-    nat_le size largest_size && is_at_most size (count_at Mbs container.attrs)
+    nat_le size largest_size && is_within size (count_at Mbs container.attrs)
     && is_below 0 (count_at Mni container.attrs) && is_below 0 (count_at Mia container.attrs)
 
 abbrev pub is_small : Creation → Bool

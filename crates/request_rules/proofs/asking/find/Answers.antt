@@ -1,8 +1,8 @@
 use Rattle.std.proofs.Common.{◌≡◌, true, IfSome, subst}
 use Rattle.tree_model.specs.Tree.{has}
 use Rattle.entity_model.specs.Entity.{EntityData}
-use Rattle.create_delete.proofs.OrderLemmas.{found_there}
-use Rattle.create_delete.proofs.asking.find.Goals as goal
+use Rattle.request_rules.proofs.OrderLemmas.{found_there}
+use Rattle.request_rules.proofs.asking.find.Goals as goal
 
 pub returns-clause-there : goal.returns-clause-there
 returns-clause-there g c =

@@ -14,16 +14,17 @@ use Rattle.m2m_value.specs.Data.{Entry}
 use Rattle.primitive_json.specs.declared.request.RequestParts.{RequestParts}
 use Rattle.resource_model.specs.Resource.{ResourceData}
 use Rattle.tree_model.specs.Tree.{at}
-use Rattle.create_delete.specs.Creation.{Creation, creation_of, is_unique, has_room}
+use Rattle.request_rules.specs.Creation.{Creation, creation_of, is_unique, has_room}
 use Rattle.entity_model.specs.Entity.{EntityData}
 use Rattle.entity_model.specs.Places.{Place, first_fault, unless}
-use Rattle.create_delete.specs.Policies.{links_live}
-use Rattle.create_delete.specs.Requests.{has_right_to, is_for, takes_child, subscribes, child_ty}
-use Rattle.create_delete.specs.Requests.{admits_content, named_for, named_by, named_expiry}
+use Rattle.request_rules.specs.Policies.{links_live}
+use Rattle.request_rules.specs.Requests.{is_for, takes_child, child_ty, admits_content, named_for}
+use Rattle.request_rules.specs.Requests.{named_by, named_expiry}
+use Rattle.request_rules.specs.Rights.{is_subscribing, may_do}
 
 -- a child that isn't taken: a subscription by what has none, any other by what isn't its parent
 abbrev pub child_fault : RequestParts → Rsc
-child_fault request = if subscribes request then NotSubscribable else BadChild
+child_fault request = if is_subscribing request then NotSubscribable else BadChild
 
 -- it expires later than at the moment, where it says when
 abbrev pub expires_later : EntityData → List Entry → Bool
@@ -46,7 +47,7 @@ passes test Notify e o request r = true
 -- for want of the right, then by the types of target and child
 abbrev pub target_places : Op → EntityData → List ℕ → RequestParts → ResourceData → List Place
 target_places op e o request target =
-    unless (has_right_to op e o request target) NoPrivilege
+    unless (may_do op e o request target.number) NoPrivilege
     ∷ unless (is_for op target.ty) NotAllowed
     ∷ unless (takes_child op request target) (child_fault request)
     ∷ []

@@ -1,0 +1,5 @@
+pub mod CreatableLemmas
+pub mod CreatingLemmas
+pub mod DepthLemmas
+pub mod EditingLemmas
+pub mod OrderLemmas
