@@ -1,4 +1,3 @@
-pub mod CreatableLemmas
 pub mod CreatingLemmas
 pub mod DepthLemmas
 pub mod EditingLemmas

@@ -50,7 +50,12 @@ found_at op e o request n none = by_found (at n e.nodes) refl
     by_found None is = (let fault : Some NotFound ≡ None = sym (ap (λ (x : Option ResourceData). option_map_or (fault_on op e o request) x (Some NotFound)) is) ∙ none in cc)
     by_found (Some t) is = (t, is)
 
--- what a number finds is there by its own number
+-- what a number finds stands by its own number
+pub found_stands : (n : ℕ) (nodes : List ResourceData) (x : Option (Bor ResourceData)) → option_map (λ r. r.now) x ≡ at n nodes → IfSome x (λ r. at r.now.number nodes ≡ Some r.now)
+found_stands n nodes None is = tt
+found_stands n nodes (Some r) is = ap (λ (m : ℕ). at m nodes) (at_number n nodes r.now (sym is)) ∙ sym is
+
+-- and so is there
 pub found_there : (n : ℕ) (nodes : List ResourceData) (x : Option (Bor ResourceData)) → option_map (λ r. r.now) x ≡ at n nodes → IfSome x (λ r. has r.now.number nodes ≡ true)
 found_there n nodes None is = tt
-found_there n nodes (Some r) is = at_has r.now.number nodes r.now (ap (λ (m : ℕ). at m nodes) (at_number n nodes r.now (sym is)) ∙ sym is)
+found_there n nodes (Some r) is = at_has r.now.number nodes r.now (found_stands n nodes (Some r) is)

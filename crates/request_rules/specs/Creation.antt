@@ -90,7 +90,7 @@ new_owner c = owner_for c.o c.ty c.e.next
 -- one; and a polling channel stands alone under its parent (TS-0001, 7.1.2, 7.1.4 and 9.6.21)
 abbrev pub is_free_cse_id : EntityData → List ℕ → Bool
 is_free_cse_id e csi =
-    not (has_cse_id (Some csi) e.nodes) && not (bytes_eq csi (own_cse_id e.home))
+    not (has_cse_id (Some csi) e.nodes) && not (bytes_eq (own_cse_id e.home) csi)
 
 abbrev pub is_single : Ty → Creation → Bool
 is_single Ae c = not (has_ae_id (Some (new_ae_id c)) c.e.nodes)

@@ -1,5 +1,5 @@
 //! What a request to a resource asks for.
-ghost use Rattle.std.specs.Prelude.{◌≡◌, false, IfSome, IsTrue, option_map};
+ghost use Rattle.std.specs.Prelude.{◌≡◌, false, IfSome, IsTrue, Some, option_map};
 ghost use Rattle.std.specs.Option.{option_map_or};
 ghost use Rattle.m2m_names.specs.Types.{does_take};
 ghost use Rattle.resource_model.specs.Resource as resources;
@@ -15,6 +15,7 @@ use tree_model::{Resource, Tree};
 pub fn find<T: Tree>(entity: &Entity<T>, number: u64) -> Option<&Resource>
     ensures value { option_map (λ r. r.now) result ≡ at number entity.now.nodes }
     ensures there { IfSome result (λ r. IsTrue (has r.now.number entity.now.nodes)) }
+    ensures stands { IfSome result (λ r. at r.now.number entity.now.nodes ≡ Some r.now) }
 {
     entity.tree.get(number)
 }

@@ -17,7 +17,7 @@ use tree_model::{Home, Resource, Tree, has_ae, has_channel, has_child, has_cse};
 
 // Whether a text is the own CSE-ID.
 fn is_own(home: &Home, csi: &[u8]) -> bool
-    ensures { result ≡ bytes_eq csi.now (own_cse_id home.now) }
+    ensures { result ≡ bytes_eq (own_cse_id home.now) csi.now }
 {
     match csi {
         [b'/', name @ ..] => name == home.csi().entries(),
