@@ -35,3 +35,10 @@ refused_by e o request parent ty es child content admitted =
     ∙ ap (λ (x : List Entry). option_or (fault_named e x) (first_fault (creation_places Create e o request parent))) (named_is request parent ty es child content)
     ∙ ap (λ (b : Bool). option_or (fault_named e es) (first_fault (unless b Conflict ∷ unless (passes has_room Create e o request parent) NotAcceptable ∷ []))) (passes_is is_unique e o request parent ty es child content)
     ∙ ap (λ (b : Bool). option_or (fault_named e es) (first_fault (unless (is_unique (creation_of e o ty parent es)) Conflict ∷ unless b NotAcceptable ∷ []))) (passes_is has_room e o request parent ty es child content)
+
+-- what is created is refused for want of room, or by nothing
+pub new_by_room : (c : Creation) → is_unique c ≡ true → has_room c ≡ false → Some NotAcceptable ≡ fault_new c
+new_by_room c unique room = rw (unique, room) refl
+
+pub new_by_nothing : (c : Creation) → is_unique c ≡ true → has_room c ≡ true → None ≡ fault_new c
+new_by_nothing c unique room = rw (unique, room) refl

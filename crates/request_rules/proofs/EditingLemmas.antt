@@ -21,18 +21,18 @@ use Rattle.request_rules.proofs.OrderLemmas.{first_fault-append}
 
 -- ---- an admitted content is there
 
-some_content : {X : Type 0} (f : Data → Option X) (g : X → Bool) (pc : Option Data) → option_map_or (λ d. option_map_or g (f d) false) pc false ≡ true → option_and_then f pc ≡ None → Unit {0} → ⊥
-some_content f g None t none u = cc
-some_content f g (Some d) t none u = by_found (f d) none t
-  where
-    by_found : (x : Option X) → x ≡ None → option_map_or g x false ≡ true → ⊥
-    by_found None none t = cc
-    by_found (Some y) none t = cc
+no_content : {X : Type 0} (g : X → Bool) (x : Option X) → x ≡ None → option_map_or g x false ≡ true → ⊥
+no_content g None none t = cc
+no_content g (Some y) none t = cc
+
+some_content : {X : Type 0} (f : Data → Option X) (g : X → Bool) (pc : Option Data) → option_map_or (λ d. option_map_or g (f d) false) pc false ≡ true → option_and_then f pc ≡ None → ⊥
+some_content f g None t none = cc
+some_content f g (Some d) t none = no_content g (f d) none t
 
 -- and names attributes
 pub names_some : (writing : Writing) (request : RequestParts) (ty : Ty) → is_content_for writing request ty ≡ true → content_for request ty ≡ None → ⊥
 names_some writing request ty admitted none =
-    some_content (attributes_in ty) (are_admitted writing ty) request.pc (and_parts (not (is_ty ty Group)) _ admitted).1 none tt
+    some_content (attributes_in ty) (are_admitted writing ty) request.pc (and_parts (not (is_ty ty Group)) _ admitted).1 none
 
 -- ---- an Update
 

@@ -1,6 +1,7 @@
 -- Lists of places, and the first of them that doesn't hold.
-use Rattle.std.proofs.Common.{◌≡◌, ℕ, List, [], ◌∷◌, ◌++◌, Bool, true, false, not, Option, Some, None, is_some, option_map, Bor, IfSome, inl, inr, refl, sym, ap, ◌∙◌}
+use Rattle.std.proofs.Common.{◌≡◌, ℕ, List, [], ◌∷◌, ◌++◌, Bool, true, false, not, Option, Some, None, is_some, option_map, Bor, IfOk, IfSome, Result, inl, inr, refl, sym, ap, ◌∙◌}
 use Rattle.std.proofs.lemmas.Bool.{cases_Bool, and_from, both_ways}
+use Rattle.std.proofs.lemmas.Result.{IfOk-weaker}
 use Rattle.std.specs.List.{list_all}
 use Rattle.std.specs.Option.{option_map_or, option_or}
 use Rattle.m2m_names.specs.declared.codes.Rsc.{Rsc}
@@ -35,6 +36,17 @@ first_fault-append (place ∷ front) back = elim (cases_Bool place.holds) [
   | inl t ↦ rw t (first_fault-append front back)
   | inr f ↦ rw f refl
 ]
+
+-- the first list decides, or else the second
+pub front_decides : (front back : List Place) (f : Rsc) → Some f ≡ first_fault front → Some f ≡ first_fault (front ++ back)
+front_decides front back f is = ap (λ (x : Option Rsc). option_or x (first_fault back)) is ∙ sym (first_fault-append front back)
+
+pub rest_decides : (front back : List Place) → None ≡ first_fault front → first_fault back ≡ first_fault (front ++ back)
+rest_decides front back none = ap (λ (x : Option Rsc). option_or x (first_fault back)) none ∙ sym (first_fault-append front back)
+
+-- what is told is told by an equal name
+pub told_as : {X E : Type 0} (r : Result X E) (a b : X) → a ≡ b → IfOk r (λ x. x ≡ a) → IfOk r (λ x. x ≡ b)
+told_as r a b same told = IfOk-weaker r (λ x. x ≡ a) (λ x. x ≡ b) (λ x is. is ∙ same) told
 
 -- ---- a resource of a number
 

@@ -1,10 +1,10 @@
 //! What must not stand twice.
-ghost use Rattle.std.specs.Prelude.{◌≡◌, true, bytes_eq, not, IfOk, Some, option_map, IsTrue};
+ghost use Rattle.std.specs.Prelude.{◌≡◌, true, not, IfOk, Some, option_map, IsTrue};
 ghost use Rattle.std.specs.Option.{option_map_or};
 ghost use Rattle.m2m_names.specs.Name.{is_originator};
 ghost use Rattle.m2m_names.specs.declared.types.Ty.TheVariants.{Ae};
 ghost use Rattle.tree_model.specs.Tree as trees;
-ghost use Rattle.entity_model.specs.Sound.{own_cse_id};
+ghost use Rattle.entity_model.specs.Sound as sound;
 ghost use Rattle.request_rules.specs.Creation as spec;
 ghost use Rattle.request_rules.specs.Creation.{creation_of};
 
@@ -15,29 +15,38 @@ use m2m_value::{Members, Text};
 use std::alloc::{AllocError as OutOfMemory, Global};
 use tree_model::{Home, Resource, Tree, has_ae, has_channel, has_child, has_cse};
 
-// Whether a text is the own CSE-ID.
-fn is_own(home: &Home, csi: &[u8]) -> bool
-    ensures { result ≡ bytes_eq (own_cse_id home.now) csi.now }
+// The own CSE-ID, with its slash.
+fn own_cse_id(alloc: Global, home: &Home) -> Result<Text, OutOfMemory>
+    ensures { IfOk result (λ t. t ≡ sound.own_cse_id home.now) }
 {
-    match csi {
-        [b'/', name @ ..] => name == home.csi().entries(),
-        _ => false,
-    }
+    let mut bytes = Vec::new(alloc);
+    bytes.push(b'/')?;
+    bytes.extend_from_slice(home.csi().entries())?;
+    Ok(Text::of(bytes))
 }
 
-fn is_free_cse_id<T: Tree>(entity: &Entity<T>, csi: &[u8]) -> bool
-    ensures { result ≡ spec.is_free_cse_id entity.now csi.now }
+fn is_free_cse_id<T: Tree>(
+    alloc: Global,
+    entity: &Entity<T>,
+    csi: &[u8],
+) -> Result<bool, OutOfMemory>
+    ensures { IfOk result (λ b. b ≡ spec.is_free_cse_id entity.now csi.now) }
 {
-    !has_cse(&entity.tree, csi) && !is_own(&entity.home, csi)
+    let own = own_cse_id(alloc, &entity.home)?;
+    Ok(!has_cse(&entity.tree, csi) && own.entries() != csi)
 }
 
-fn has_free_cse_id<T: Tree>(entity: &Entity<T>, csi: Option<&Text>) -> bool
-    ensures { result ≡ option_map_or (spec.is_free_cse_id entity.now)
-        (option_map (λ t. t.now) csi.entry) true }
+fn has_free_cse_id<T: Tree>(
+    alloc: Global,
+    entity: &Entity<T>,
+    csi: Option<&Text>,
+) -> Result<bool, OutOfMemory>
+    ensures { IfOk result (λ b. b ≡ option_map_or (spec.is_free_cse_id entity.now)
+        (option_map (λ t. t.now) csi.entry) true) }
 {
     match csi {
-        Some(csi) => is_free_cse_id(entity, csi.entries()),
-        None => true,
+        Some(csi) => is_free_cse_id(alloc, entity, csi.entries()),
+        None => Ok(true),
     }
 }
 
@@ -66,7 +75,7 @@ fn is_single<T: Tree>(
 {
     match ty {
         Ty::Ae => has_free_ae_id(alloc, entity, o),
-        Ty::RemoteCse => Ok(has_free_cse_id(entity, text_named(Attr::Csi, members))),
+        Ty::RemoteCse => has_free_cse_id(alloc, entity, text_named(Attr::Csi, members)),
         Ty::PollingChannel => Ok(!has_channel(&entity.tree, parent.number())),
         _ => Ok(true),
     }
