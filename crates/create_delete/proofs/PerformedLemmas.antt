@@ -32,7 +32,6 @@ done_at op e o request n t there none =
 -- without the right it is refused for that
 pub no_right : (op : Op) (e : EntityData) (o : List ℕ) (request : RequestParts) (n : ℕ) (t : ResourceData) → at n e.nodes ≡ Some t → may_do op e o request n ≡ false → performed_at op e o request n ≡ refused e request NoPrivilege
 no_right op e o request n t there none =
-    let same : may_do op e o request t.number ≡ false = ap (λ (m : ℕ). may_do op e o request m) (sym (at_number n e.nodes t there)) ∙ none in
+    let same : may_do op e o request t.number ≡ false = ap (λ (m : ℕ). may_do op e o request m) (at_number n e.nodes t there) ∙ none in
     let fault : fault_on op e o request t ≡ Some NoPrivilege = rw same refl in
     refused_at op e o request n NoPrivilege (ap (λ (x : Option ResourceData). option_map_or (fault_on op e o request) x (Some NotFound)) there ∙ fault)
-

@@ -10,6 +10,7 @@ use Rattle.m2m_names.specs.Attributes.{attr_short}
 use Rattle.m2m_names.specs.StampReading.{moment_at}
 use Rattle.m2m_names.specs.Stamps.{last_moment}
 use Rattle.m2m_names.specs.Types.{ty_member}
+use Rattle.m2m_names.specs.declared.attributes.Attr.{Attr}
 use Rattle.m2m_names.specs.declared.attributes.Attr.TheVariants.{Acpi, Et, Lt, Macp, Mbs, Mia, Mni}
 use Rattle.m2m_names.specs.declared.attributes.Attr.TheVariants.{St}
 use Rattle.m2m_names.specs.declared.codes.Rsc.TheVariants.{BadChild, Created, Deleted, NotAllowed}
@@ -141,8 +142,11 @@ abbrev pub nodes_updated : EntityData → ResourceData → List ResourceData
 nodes_updated e r = without_all (pushed_by e r) (replaced r e.nodes)
 
 -- the named attributes that have a value now, and `lt` (the choice is the profile's)
+abbrev pub is_told_at : List Entry → Attr → Bool
+is_told_at es attr = is_named attr es || is_attr attr Lt
+
 abbrev pub is_told : List Entry → Row → Bool
-is_told es row = is_named row.0 es || is_attr row.0 Lt
+is_told es row = is_told_at es row.0
 
 abbrev pub told_rows : EntityData → List Entry → ResourceData → List Row
 told_rows e es r = filter (is_told es) (shown_rows e.home e.nodes r)

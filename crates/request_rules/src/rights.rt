@@ -139,13 +139,7 @@ fn may_update<T: Tree>(entity: &Entity<T>, o: &[u8], request: &Request, number: 
 /// of a number: a Create on the parent, and of a subscription RETRIEVE besides; a Retrieve that
 /// looks for resources DISCOVERY; an Update of `acpi` alone by who may change that; every other
 /// operation its own bit.
-pub fn may_do<T: Tree>(
-    op: Op,
-    entity: &Entity<T>,
-    o: &[u8],
-    request: &Request,
-    number: u64,
-) -> bool
+pub fn may_do<T: Tree>(op: Op, entity: &Entity<T>, o: &[u8], request: &Request, number: u64) -> bool
     requires originator { IsTrue (is_originator o.now) }
     requires resource { IsTrue (has number entity.now.nodes) }
     ensures { result ≡ spec.may_do op entity.now o.now request.now number }
