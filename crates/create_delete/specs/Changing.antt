@@ -1,0 +1,199 @@
+-- What a Create, an Update and a Delete leave, and what they reply (TS-0001, 10.2; TS-0004, 7.3.3
+-- and 7.5.2).
+use Rattle.std.specs.Prelude.{ℕ, ℤ, pos, nat_eq, Bool, ◌||◌, List, [], ◌∷◌, ◌++◌}
+use Rattle.std.specs.Prelude.{◌+◌, codes, filter, Option, Some, None, option_and_then, unwrap_or}
+use Rattle.std.specs.Prelude.{if◌then◌else◌}
+use Rattle.std.specs.List.{list_any}
+use Rattle.std.specs.Option.{option_map_or}
+use Rattle.std.specs.Ordering.{int_eq}
+use Rattle.m2m_names.specs.Attributes.{attr_short}
+use Rattle.m2m_names.specs.StampReading.{moment_at}
+use Rattle.m2m_names.specs.Stamps.{last_moment}
+use Rattle.m2m_names.specs.Types.{ty_member}
+use Rattle.m2m_names.specs.declared.attributes.Attr.{Attr}
+use Rattle.m2m_names.specs.declared.attributes.Attr.TheVariants.{Acpi, Et, Lt, Macp, Mbs, Mia, Mni}
+use Rattle.m2m_names.specs.declared.attributes.Attr.TheVariants.{St}
+use Rattle.m2m_names.specs.declared.codes.Rsc.TheVariants.{BadChild, Created, Deleted, NotAllowed}
+use Rattle.m2m_names.specs.declared.codes.Rsc.TheVariants.{NotFound, Updated}
+use Rattle.m2m_names.specs.declared.operations.Op.{Op}
+use Rattle.m2m_names.specs.declared.operations.Op.TheVariants.{Create, Retrieve, Update, Delete}
+use Rattle.m2m_names.specs.declared.operations.Op.TheVariants.{Notify}
+use Rattle.m2m_names.specs.declared.types.Ty.TheVariants.{Container, ContentInstance}
+use Rattle.m2m_value.specs.Data.{Data, Entry, number, object, pairs_of, text}
+use Rattle.m2m_value.specs.View.{as_text, member_of}
+use Rattle.primitive_json.specs.declared.request.RequestParts.{RequestParts}
+use Rattle.resource_model.specs.Attributes.{Row, count_at, is_attr}
+use Rattle.resource_model.specs.Resource.{ResourceData, has_number, is_ty}
+use Rattle.addressing.specs.Names.{structured_of}
+use Rattle.attribute_rules.specs.Admission.{is_named}
+use Rattle.attribute_rules.specs.Contents.{edit_in, edited}
+use Rattle.container_limits.specs.Limits.{evicted}
+use Rattle.container_limits.specs.declared.limits.Limits.{Limits}
+use Rattle.tree_model.specs.Shown.{attributes_of, members_of, shown_rows, with_rows, wrapped}
+use Rattle.tree_model.specs.Tree.{at, instances_of, replaced, restamped_at, without}
+use Rattle.request_rules.specs.Creation.{Creation, new_resource, new_size, next_state}
+use Rattle.entity_model.specs.Entity.{EntityData}
+use Rattle.request_rules.specs.Order.{creation_by, places}
+use Rattle.entity_model.specs.Places.{Effect, refused, reply_to, unless_refused}
+use Rattle.request_rules.specs.Policies.{link_row}
+use Rattle.request_rules.specs.Requests.{child_ty, named_by}
+
+-- ---- what limits push out
+
+-- it has one of these numbers
+abbrev pub is_numbered_in : List ℕ → ResourceData → Bool
+is_numbered_in numbers r = list_any (nat_eq r.number) numbers
+
+-- what stays where the resources of these numbers are removed, with all that stands below them
+abbrev pub without_all : List ℕ → List ResourceData → List ResourceData
+without_all numbers nodes = without (is_numbered_in numbers) nodes
+
+-- the limits of a container
+abbrev pub limits_of : ResourceData → Limits
+limits_of r = record {
+  mni = count_at Mni r.attrs;
+  mbs = count_at Mbs r.attrs;
+  mia = count_at Mia r.attrs;
+}
+
+-- the numbers of the instances that a container pushes out as it is, before one of this size, if
+-- any, oldest first (TS-0001, 9.6.6)
+abbrev pub pushed_out : EntityData → ResourceData → Option ℕ → List ℕ
+pushed_out e container size =
+    evicted (limits_of container) size e.last (instances_of container.number e.nodes)
+
+-- ---- Create
+
+-- the list with the new resource, which is the last in order of creation
+abbrev pub grown : Creation → List ResourceData
+grown c = c.e.nodes ++ new_resource c ∷ []
+
+-- with a new instance: its container was changed at the moment, and has pushed out what doesn't fit
+-- beside it
+abbrev pub with_instance : Creation → List ResourceData
+with_instance c =
+    without_all (pushed_out c.e c.parent (Some (new_size c)))
+    (restamped_at c.parent.number c.e.last (next_state c.parent) (grown c))
+
+abbrev pub nodes_created : Creation → List ResourceData
+nodes_created c = if is_ty c.ty ContentInstance then with_instance c else grown c
+
+-- the structured address of a resource that comes last (TS-0001, 9.3.1)
+abbrev pub address_last : EntityData → ResourceData → Data
+address_last e r = text (structured_of r.number (e.nodes ++ r ∷ []))
+
+-- its attributes and its address (TS-0004, 7.5.2; TS-0001, 8.1.2)
+abbrev pub attributes_and_address : EntityData → ResourceData → Data
+attributes_and_address e r =
+    object (pairs_of ((
+      codes "m2m:rce",
+      object (pairs_of (
+          (ty_member r.ty, object (pairs_of (members_of (shown_rows e.home e.nodes r))))
+          ∷ (codes "uri", address_last e r) ∷ [])),
+    ) ∷ []))
+
+-- the content of the reply by the result content that is asked for: nothing, the attributes, the
+-- address, or both; where none is asked for, the attributes (TS-0001, 8.1.2)
+abbrev pub created_content : ℤ → EntityData → ResourceData → Option Data
+created_content rcn e r =
+    if int_eq rcn (pos 0) then None else
+    if int_eq rcn (pos 1) then Some (attributes_of e.home e.nodes r) else
+    if int_eq rcn (pos 2)
+    then Some (object (pairs_of ((codes "m2m:uri", address_last e r) ∷ [])))
+    else Some (attributes_and_address e r)
+
+abbrev pub create_effect : RequestParts → Creation → Effect
+create_effect request c = record {
+  reply =
+      reply_to request Created
+      (created_content (unwrap_or request.rcn (pos 1)) c.e (new_resource c));
+  after = record c.e { nodes = nodes_created c; next = c.e.next + 1 };
+}
+
+-- ---- Update
+
+-- the moment of expiry after an update: the one that is named, the last one where it is cleared,
+-- else the one before
+abbrev pub expiry_after : List Entry → ℕ → ℕ
+expiry_after es et =
+    option_map_or (λ d. unwrap_or (option_and_then moment_at (as_text d)) last_moment)
+    (member_of (attr_short Et) es) et
+
+-- a container counts its changes
+abbrev pub state_row : ResourceData → List Row
+state_row r = if is_ty r.ty Container then (St, number (pos (next_state r))) ∷ [] else []
+
+-- the resource after an update that names these attributes
+abbrev pub updated_resource : EntityData → List Entry → ResourceData → ResourceData
+updated_resource e es r = record r {
+  lt = e.last;
+  et = expiry_after es r.et;
+  attrs =
+      with_rows (state_row r ++ link_row e es Acpi ++ link_row e es Macp)
+      (edited (edit_in es) r.attrs);
+}
+
+-- a container pushes out what doesn't fit its limits any more
+abbrev pub pushed_by : EntityData → ResourceData → List ℕ
+pushed_by e r = if is_ty r.ty Container then pushed_out e r None else []
+
+-- the list in which it is as it is now
+abbrev pub nodes_updated : EntityData → ResourceData → List ResourceData
+nodes_updated e r = without_all (pushed_by e r) (replaced r e.nodes)
+
+-- the named attributes that have a value now, and `lt` (the choice is the profile's)
+abbrev pub is_told_at : List Entry → Attr → Bool
+is_told_at es attr = is_named attr es || is_attr attr Lt
+
+abbrev pub is_told : List Entry → Row → Bool
+is_told es row = is_told_at es row.0
+
+abbrev pub told_rows : EntityData → List Entry → ResourceData → List Row
+told_rows e es r = filter (is_told es) (shown_rows e.home e.nodes r)
+
+-- the content of the reply by the result content that is asked for: nothing, or these, also where
+-- none is asked for
+abbrev pub updated_content : ℤ → EntityData → List Entry → ResourceData → Option Data
+updated_content rcn e es r =
+    if int_eq rcn (pos 0) then None else Some (wrapped r.ty (told_rows e es r))
+
+-- what comes of an update that names these attributes and leaves the resource so
+abbrev pub updated_to : EntityData → RequestParts → List Entry → ResourceData → Effect
+updated_to e request es r = record {
+  reply = reply_to request Updated (updated_content (unwrap_or request.rcn (pos 1)) e es r);
+  after = record e { nodes = nodes_updated e r };
+}
+
+abbrev pub update_effect : EntityData → RequestParts → List Entry → ResourceData → Effect
+update_effect e request es r = updated_to e request es (updated_resource e es r)
+
+-- ---- Delete
+
+-- the resource is gone, and all that stands below it (TS-0001, 10.2.5)
+abbrev pub delete_effect : EntityData → RequestParts → ResourceData → Effect
+delete_effect e request r = record {
+  reply = reply_to request Deleted None;
+  after = record e { nodes = without (has_number r.number) e.nodes };
+}
+
+-- ---- an operation that may change something
+
+-- what it does where it isn't refused; the others change nothing, and are done elsewhere
+abbrev pub done_by : Op → EntityData → List ℕ → RequestParts → ResourceData → Effect
+done_by Create e o request parent =
+    option_map_or (λ ty. create_effect request (creation_by e o request parent ty))
+    (child_ty request) (refused e request BadChild)
+done_by Update e o request r = update_effect e request (named_by Update request r) r
+done_by Delete e o request r = delete_effect e request r
+done_by Retrieve e o request r = refused e request NotAllowed
+done_by Notify e o request r = refused e request NotAllowed
+
+-- what comes of it on a resource that is there
+abbrev pub performed : Op → EntityData → List ℕ → RequestParts → ResourceData → Effect
+performed op e o request target =
+    unless_refused (places op e o request target) e request (done_by op e o request target)
+
+-- what comes of it on the resource of a number, which is looked up once
+abbrev pub performed_at : Op → EntityData → List ℕ → RequestParts → ℕ → Effect
+performed_at op e o request n =
+    option_map_or (performed op e o request) (at n e.nodes) (refused e request NotFound)

@@ -1,0 +1,5 @@
+pub mod CreatingLemmas
+pub mod DepthLemmas
+pub mod EditingLemmas
+pub mod NamingLemmas
+pub mod OrderLemmas

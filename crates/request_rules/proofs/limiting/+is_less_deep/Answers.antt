@@ -1,0 +1,18 @@
+use Rattle.std.specs.Prelude.{nat_lt}
+use Rattle.std.proofs.Common.{◌<◌, ◌-◌, ap, sym, ◌∙◌, arith}
+use Rattle.tree_model.specs.Tree.{depth}
+use Rattle.request_rules.proofs.DepthLemmas.{less_deep_nowhere, less_deep_up}
+use Rattle.request_rules.proofs.limiting.+is_less_deep.Goals as goal
+
+pub returns-in-Some : goal.returns-in-Some
+returns-in-Some g t c =
+    let nodes = g.T.Tree.nodes c.args.tree.now in
+    let some : 0 < c.args.bound = omega (arith, c.if-bound-eq0.false) in
+    c.is_less_deep.ensures ∙ ap (λ n. nat_lt (depth n nodes) (c.args.bound - 1)) c.parent.ensures.value
+    ∙ less_deep_up nodes c.args.number c.args.bound c.in-Some.resource.now c.requires (sym c.in-Some.ensures) some
+
+pub returns-in-None : goal.returns-in-None
+returns-in-None g t c =
+    let nodes = g.T.Tree.nodes c.args.tree.now in
+    let some : 0 < c.args.bound = omega (arith, c.if-bound-eq0.false) in
+    sym (less_deep_nowhere nodes c.args.number c.args.bound c.requires (sym c.in-None.ensures) some)

@@ -1,0 +1,5 @@
+pub mod Creation
+pub mod Order
+pub mod Policies
+pub mod Requests
+pub mod Rights

@@ -1,0 +1,94 @@
+-- The order in which a request to a resource that is there is refused (TS-0004, 7.3.3).
+use Rattle.std.specs.Prelude.{ℕ, nat_lt, Bool, true, List, [], ◌∷◌, ◌++◌, Option}
+use Rattle.std.specs.Prelude.{Some, if◌then◌else◌}
+use Rattle.std.specs.Option.{option_map_or}
+use Rattle.m2m_names.specs.declared.codes.Rsc.{Rsc}
+use Rattle.m2m_names.specs.declared.codes.Rsc.TheVariants.{BadChild, BadRequest, Conflict}
+use Rattle.m2m_names.specs.declared.codes.Rsc.TheVariants.{NoPrivilege, NotAcceptable, NotAllowed}
+use Rattle.m2m_names.specs.declared.codes.Rsc.TheVariants.{NotFound, NotSubscribable}
+use Rattle.m2m_names.specs.declared.operations.Op.{Op}
+use Rattle.m2m_names.specs.declared.operations.Op.TheVariants.{Create, Retrieve, Update, Delete}
+use Rattle.m2m_names.specs.declared.operations.Op.TheVariants.{Notify}
+use Rattle.m2m_names.specs.declared.types.Ty.{Ty}
+use Rattle.m2m_value.specs.Data.{Entry}
+use Rattle.primitive_json.specs.declared.request.RequestParts.{RequestParts}
+use Rattle.resource_model.specs.Resource.{ResourceData}
+use Rattle.tree_model.specs.Tree.{at}
+use Rattle.request_rules.specs.Creation.{Creation, creation_of, is_unique, has_room}
+use Rattle.entity_model.specs.Entity.{EntityData}
+use Rattle.entity_model.specs.Places.{Place, first_fault, unless}
+use Rattle.request_rules.specs.Policies.{links_live}
+use Rattle.request_rules.specs.Requests.{is_for, takes_child, child_ty, admits_content, named_for}
+use Rattle.request_rules.specs.Requests.{named_by, named_expiry}
+use Rattle.request_rules.specs.Rights.{is_subscribing, may_do}
+
+-- a child that isn't taken: a subscription by what has none, any other by what isn't its parent
+abbrev pub child_fault : RequestParts → Rsc
+child_fault request = if is_subscribing request then NotSubscribable else BadChild
+
+-- it expires later than at the moment, where it says when
+abbrev pub expires_later : EntityData → List Entry → Bool
+expires_later e es = option_map_or (nat_lt e.last) (named_expiry es) true
+
+-- the creation that a Create asks for
+abbrev pub creation_by : EntityData → List ℕ → RequestParts → ResourceData → Ty → Creation
+creation_by e o request parent ty = creation_of e o ty parent (named_for request ty)
+
+-- whether a test of what is created holds; what creates nothing passes it
+abbrev pub passes : (Creation → Bool) → Op → EntityData → List ℕ → RequestParts → ResourceData
+    → Bool
+passes test Create e o request parent =
+    option_map_or (λ ty. test (creation_by e o request parent ty)) (child_ty request) true
+passes test Retrieve e o request r = true
+passes test Update e o request r = true
+passes test Delete e o request r = true
+passes test Notify e o request r = true
+
+-- for want of the right, then by the types of target and child
+abbrev pub target_places : Op → EntityData → List ℕ → RequestParts → ResourceData → List Place
+target_places op e o request target =
+    unless (may_do op e o request target.number) NoPrivilege
+    ∷ unless (is_for op target.ty) NotAllowed
+    ∷ unless (takes_child op request target) (child_fault request)
+    ∷ []
+
+-- then by what the content is and names
+abbrev pub named_places : EntityData → List Entry → List Place
+named_places e es =
+    unless (expires_later e es) BadRequest ∷ unless (links_live e es) BadRequest ∷ []
+
+abbrev pub content_places : Op → EntityData → RequestParts → ResourceData → List Place
+content_places op e request target =
+    unless (admits_content op request target) BadRequest
+    ∷ named_places e (named_by op request target)
+
+-- then by what stands there already, and by a limit
+abbrev pub creation_places : Op → EntityData → List ℕ → RequestParts → ResourceData → List Place
+creation_places op e o request target =
+    unless (passes is_unique op e o request target) Conflict
+    ∷ unless (passes has_room op e o request target) NotAcceptable
+    ∷ []
+
+-- the status by which what a content names, and that by which what is created, is refused
+abbrev pub fault_named : EntityData → List Entry → Option Rsc
+fault_named e es = first_fault (named_places e es)
+
+abbrev pub fault_new : Creation → Option Rsc
+fault_new c =
+    first_fault (unless (is_unique c) Conflict ∷ unless (has_room c) NotAcceptable ∷ [])
+
+-- Every operation is refused in this order. A test that doesn't concern an operation holds of it.
+abbrev pub places : Op → EntityData → List ℕ → RequestParts → ResourceData → List Place
+places op e o request target =
+    target_places op e o request target
+    ++ content_places op e request target
+    ++ creation_places op e o request target
+
+-- the status of the first place that refuses it
+abbrev pub fault_on : Op → EntityData → List ℕ → RequestParts → ResourceData → Option Rsc
+fault_on op e o request target = first_fault (places op e o request target)
+
+-- on the resource of a number, which is looked up once
+abbrev pub fault_at : Op → EntityData → List ℕ → RequestParts → ℕ → Option Rsc
+fault_at op e o request n =
+    option_map_or (fault_on op e o request) (at n e.nodes) (Some NotFound)

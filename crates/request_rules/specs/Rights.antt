@@ -1,0 +1,82 @@
+-- The right that a request needs on its target (TS-0001, 9.6.2; TS-0004, 7.3.3.15).
+use Rattle.std.specs.Prelude.{ℕ, ◌+◌, ◌==◌, Bool, true, false, List, [], ◌∷◌, bytes_eq}
+use Rattle.std.specs.Prelude.{Option, Some, None, option_and_then, if◌then◌else◌}
+use Rattle.std.specs.Option.{option_map_or}
+use Rattle.m2m_names.specs.Attributes.{attr_short}
+use Rattle.m2m_names.specs.Operations.{op_row}
+use Rattle.m2m_names.specs.Types.{ty_row}
+use Rattle.m2m_names.specs.declared.attributes.Attr.TheVariants.{Acpi}
+use Rattle.m2m_names.specs.declared.operations.Op.{Op}
+use Rattle.m2m_names.specs.declared.operations.Op.TheVariants.{Create, Retrieve, Update, Delete}
+use Rattle.m2m_names.specs.declared.operations.Op.TheVariants.{Notify}
+use Rattle.m2m_names.specs.declared.types.Ty.TheVariants.{Subscription}
+use Rattle.m2m_value.specs.Data.{Data, Entry}
+use Rattle.m2m_value.specs.View.{as_object}
+use Rattle.filter_criteria.specs.declared.filter.FilterUsage.{FilterUsage}
+use Rattle.filter_criteria.specs.declared.filter.FilterUsage.TheVariants.{Discovery, Conditional}
+use Rattle.primitive_json.specs.declared.request.RequestParts.{RequestParts}
+use Rattle.policy_eval.specs.Rights.{discovery_bit, grants, relinks}
+use Rattle.entity_model.specs.Entity.{EntityData}
+
+-- the originator has these bits on the resource of the number
+abbrev pub is_granted : EntityData → List ℕ → ℕ → ℕ → Bool
+is_granted e o bits n = grants e.home e.nodes o bits n
+
+-- ---- kinds of requests
+
+-- it creates a subscription
+abbrev pub is_subscribing : RequestParts → Bool
+is_subscribing request = option_map_or (λ n. n == (ty_row Subscription).number) request.ty false
+
+-- the filter is used to look for resources (TS-0001, 10.2.6)
+abbrev pub is_search : FilterUsage → Bool
+is_search Discovery = true
+is_search Conditional = false
+
+abbrev pub is_discovery : RequestParts → Bool
+is_discovery request =
+    option_map_or is_search (option_and_then (λ f. f.fu) request.fc) false
+
+-- the only member of a list of members
+abbrev pub only_member : List Entry → Option Entry
+only_member [] = None
+only_member (e ∷ []) = Some e
+only_member (e ∷ f ∷ es) = None
+
+abbrev pub sole : Data → Option Entry
+sole d = option_and_then only_member (as_object d)
+
+-- the object has the member `acpi`, and no other
+abbrev pub is_link : Data → Bool
+is_link d = option_map_or (λ e. bytes_eq e.0 (attr_short Acpi)) (sole d) false
+
+-- it is of `acpi` alone: the content is one member that holds it, and nothing else
+abbrev pub is_relink : RequestParts → Bool
+is_relink request =
+    option_map_or (λ e. is_link e.1) (option_and_then sole request.pc) false
+
+-- ---- rights
+
+-- the bits that an operation needs on its target; a Create needs them on the parent, and of a
+-- subscription RETRIEVE besides
+abbrev pub create_bits : RequestParts → ℕ
+create_bits request =
+    if is_subscribing request then (op_row Create).bit + (op_row Retrieve).bit
+    else (op_row Create).bit
+
+abbrev pub retrieve_bits : RequestParts → ℕ
+retrieve_bits request = if is_discovery request then discovery_bit else (op_row Retrieve).bit
+
+-- a change of `acpi` alone is judged by who may change it, every other Update by UPDATE
+abbrev pub may_update : EntityData → List ℕ → RequestParts → ℕ → Bool
+may_update e o request n =
+    if is_relink request then relinks e.home e.nodes o n
+    else is_granted e o (op_row Update).bit n
+
+-- the originator has the right that the operation needs on the resource of the number
+abbrev pub may_do : Op → EntityData → List ℕ → RequestParts → ℕ → Bool
+may_do Create e o request n = is_granted e o (create_bits request) n
+may_do Retrieve e o request n = is_granted e o (retrieve_bits request) n
+may_do Update e o request n = may_update e o request n
+may_do Delete e o request n = is_granted e o (op_row Delete).bit n
+may_do Notify e o request n = is_granted e o (op_row Notify).bit n

@@ -1,0 +1,113 @@
+//! The limits on what is created.
+ghost use Rattle.std.specs.Prelude.{◌≡◌, ℕ, ◌-◌, ◌^◌, nat_lt, List, length, not, ◌&&◌, ◌||◌};
+ghost use Rattle.std.specs.Prelude.{IsTrue};
+ghost use Rattle.m2m_names.specs.declared.types.Ty.TheVariants.{ContentInstance};
+ghost use Rattle.resource_model.specs.Resource.{is_ty};
+ghost use Rattle.tree_model.specs.Tree.{depth, is_tree};
+ghost use Rattle.container_limits.specs.Limits as limits;
+ghost use Rattle.request_rules.specs.Creation as spec;
+ghost use Rattle.request_rules.specs.Creation.{creation_of};
+ghost use Rattle.entity_model.specs.Sound as sound;
+
+use entity_model::Entity;
+use m2m_names::{Attr, Ty};
+use m2m_value::Members;
+use tree_model::{Resource, Tree};
+
+/// The greatest size of a content instance, in bytes.
+const LARGEST_SIZE: u64 = 1_048_576;
+
+/// How deep a resource stands at most, the CSEBase being at depth 1.
+const GREATEST_DEPTH: u64 = 32;
+
+/// How many resources there are at most.
+const GREATEST_COUNT: u64 = 100_000;
+
+/// The greatest number, which no resource gets.
+const LAST_NUMBER: u64 = 9_223_372_036_854_775_807;
+
+// Whether a resource stands less deep than this.
+fn is_less_deep<T: Tree>(tree: &T, number: u64, bound: u64) -> bool
+    requires { IsTrue (is_tree (T.nodes tree.now)) }
+    ensures { result ≡ nat_lt (depth number (T.nodes tree.now)) bound }
+{
+    if bound == 0 {
+        return false;
+    }
+    match tree.get(number) {
+        Some(resource) => is_less_deep(tree, resource.parent(), bound - 1),
+        None => true,
+    }
+}
+
+/// The size of a content, in bytes.
+pub fn size_named(members: &Members) -> u64
+    ensures { result ≡ spec.size_named members.now }
+{
+    match members.get(Attr::Con.short().as_bytes()) {
+        Some(content) => content.size(),
+        None => 0,
+    }
+}
+
+fn is_within(n: u64, bound: Option<u64>) -> bool
+    ensures { result ≡ limits.is_within n bound }
+{
+    match bound {
+        Some(most) => n <= most,
+        None => true,
+    }
+}
+
+fn is_below(n: u64, bound: Option<u64>) -> bool
+    ensures { result ≡ spec.is_below n bound }
+{
+    match bound {
+        Some(most) => n < most,
+        None => true,
+    }
+}
+
+// Whether a container takes an instance of this size.
+fn takes_instance(container: &Resource, size: u64) -> bool
+    ensures { result ≡ spec.takes_instance container.now size }
+{
+    let attrs = container.attrs();
+    size <= LARGEST_SIZE
+        && is_within(size, attrs.count(Attr::Mbs))
+        && is_below(0, attrs.count(Attr::Mni))
+        && is_below(0, attrs.count(Attr::Mia))
+}
+
+fn is_small(ty: Ty, parent: &Resource, members: &Members) -> bool
+    ensures { result
+        ≡ (not (is_ty ty ContentInstance)
+        || spec.takes_instance parent.now (spec.size_named members.now)) }
+{
+    ty.number() != Ty::ContentInstance.number() || takes_instance(parent, size_named(members))
+}
+
+// Whether there is room for one more resource below another.
+fn has_place<T: Tree>(entity: &Entity<T>, parent: &Resource) -> bool
+    ensures { result
+        ≡ (nat_lt (length entity.now.nodes) sound.greatest_count
+        && nat_lt entity.now.next (2 ^ 63 - 1)
+        && nat_lt (depth parent.now.number entity.now.nodes) sound.greatest_depth) }
+{
+    entity.tree.len() < GREATEST_COUNT
+        && entity.next < LAST_NUMBER
+        && is_less_deep(&entity.tree, parent.number(), GREATEST_DEPTH)
+}
+
+/// Whether a creation passes no limit.
+pub(crate) fn has_room<T: Tree>(
+    entity: &Entity<T>,
+    ty: Ty,
+    parent: &Resource,
+    members: &Members,
+) -> bool
+    ensures { (o : List ℕ) → result
+        ≡ spec.has_room (creation_of entity.now o ty parent.now members.now) }
+{
+    has_place(entity, parent) && is_small(ty, parent, members)
+}

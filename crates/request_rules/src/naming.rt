@@ -1,0 +1,103 @@
+//! Names and identifiers of what is created.
+ghost use Rattle.std.specs.Prelude.{◌≡◌, ◌++◌, IfOk, IfSome, IsTrue, IsUtf8};
+ghost use Rattle.std.specs.Prelude.{option_map, unwrap_or};
+ghost use Rattle.m2m_names.specs.Name.{is_originator};
+ghost use Rattle.m2m_names.specs.declared.types.Ty.TheVariants.{Ae};
+ghost use Rattle.attribute_rules.specs.Contents.{named_text};
+ghost use Rattle.request_rules.specs.Creation as spec;
+
+use m2m_names::{Attr, Ty, is_name};
+use m2m_value::{Members, Text};
+use std::alloc::{AllocError as OutOfMemory, Global};
+
+/// The resource id of a type and a number.
+pub(crate) fn id_text(alloc: Global, ty: Ty, number: u64) -> Result<Text, OutOfMemory>
+    ensures value { IfOk result (λ t. t ≡ spec.id_for ty number) }
+    ensures utf8 { IfOk result (λ t. IsUtf8 t) }
+{
+    let id = format!(in alloc; "{}{}", ty.word(), number)?;
+    Ok(Text::of(id.into_bytes()))
+}
+
+/// The name that a resource of a type and a number has where none is given.
+pub(crate) fn own_name(alloc: Global, ty: Ty, number: u64) -> Result<Text, OutOfMemory>
+    ensures value { IfOk result (λ t. t ≡ spec.own_name ty number) }
+    ensures utf8 { IfOk result (λ t. IsUtf8 t) }
+{
+    let name = format!(in alloc; "{}_{}", ty.word(), number)?;
+    Ok(Text::of(name.into_bytes()))
+}
+
+/// The text that a content names at an attribute.
+pub(crate) fn text_named(attr: Attr, members: &Members) -> Option<&Text>
+    ensures value { option_map (λ t. t.now) result ≡ named_text attr members.now }
+    ensures utf8 { IfSome result (λ t. IsUtf8 t.now) }
+{
+    members.get(attr.short().as_bytes())?.as_text()
+}
+
+/// Whether an originator is an AE-ID already.
+pub(crate) fn is_ae_id(o: &[u8]) -> bool
+    ensures { result ≡ spec.is_ae_id o.now }
+{
+    is_name(o) && o.len() > 1 && (o.starts_with(b"C") || o.starts_with(b"S"))
+}
+
+fn ae_stem(o: &[u8]) -> &'static [u8]
+    ensures { result.now ≡ spec.ae_stem o.now }
+{
+    if o == b"S".as_slice() { b"S" } else { b"C" }
+}
+
+/// The AE-ID that an originator gets with a resource id.
+pub(crate) fn given_ae_id(alloc: Global, o: &[u8], id: &Text) -> Result<Text, OutOfMemory>
+    requires { IsUtf8 id.now }
+    ensures value { IfOk result (λ t. t ≡ spec.ae_stem o.now ++ id.now) }
+    ensures utf8 { IfOk result (λ t. IsUtf8 t) }
+{
+    let mut bytes = Vec::from_slice(alloc, ae_stem(o))?;
+    bytes.extend_from_slice(id.entries())?;
+    Ok(Text::of(bytes))
+}
+
+/// The AE-ID of a new application entity of a number.
+pub fn new_ae_id(alloc: Global, o: &[u8], number: u64) -> Result<Text, OutOfMemory>
+    requires { IsTrue (is_originator o.now) }
+    ensures value { IfOk result (λ t. t ≡ spec.ae_id_for o.now (spec.id_for Ae number)) }
+    ensures utf8 { IfOk result (λ t. IsUtf8 t) }
+{
+    if is_ae_id(o) {
+        return Text::from_slice(alloc, o);
+    }
+    given_ae_id(alloc, o, &id_text(alloc, Ty::Ae, number)?)
+}
+
+/// Who owns a resource of a type and a number that an originator creates.
+pub fn new_owner(alloc: Global, o: &[u8], ty: Ty, number: u64) -> Result<Text, OutOfMemory>
+    requires { IsTrue (is_originator o.now) }
+    ensures value { IfOk result (λ t. t ≡ spec.owner_for o.now ty number) }
+    ensures utf8 { IfOk result (λ t. IsUtf8 t) }
+{
+    if ty.number() == Ty::Ae.number() {
+        new_ae_id(alloc, o, number)
+    } else {
+        Text::from_slice(alloc, o)
+    }
+}
+
+/// The name of a resource of a type and a number: the one that is given, else its own.
+pub fn new_name(
+    alloc: Global,
+    ty: Ty,
+    number: u64,
+    given: Option<Text>,
+) -> Result<Text, OutOfMemory>
+    requires { IfSome given (λ t. IsUtf8 t) }
+    ensures value { IfOk result (λ t. t ≡ unwrap_or given (spec.own_name ty number)) }
+    ensures utf8 { IfOk result (λ t. IsUtf8 t) }
+{
+    match given {
+        Some(name) => Ok(name),
+        None => own_name(alloc, ty, number),
+    }
+}

@@ -1,0 +1,154 @@
+//! The right that a request needs on its target.
+ghost use Rattle.std.specs.Prelude.{◌≡◌, ◌==◌, false, IsTrue, bytes_eq, option_and_then, option_map};
+ghost use Rattle.std.specs.Option.{option_map_or};
+ghost use Rattle.m2m_names.specs.Name.{is_originator};
+ghost use Rattle.m2m_names.specs.Types.{ty_row};
+ghost use Rattle.m2m_names.specs.declared.types.Ty.TheVariants as types;
+ghost use Rattle.tree_model.specs.Tree.{has};
+ghost use Rattle.request_rules.specs.Rights as spec;
+
+use entity_model::Entity;
+use filter_criteria::FilterUsage;
+use m2m_names::{Attr, Op, Ty};
+use m2m_value::{Text, Val};
+use policy_eval::{granted, may_relink};
+use primitive_json::Request;
+use tree_model::Tree;
+
+// The bit of DISCOVERY in `acop`.
+const DISCOVERY: u32 = 32;
+
+fn is_granted<T: Tree>(entity: &Entity<T>, o: &[u8], bits: u32, number: u64) -> bool
+    requires originator { IsTrue (is_originator o.now) }
+    requires resource { IsTrue (has number entity.now.nodes) }
+    ensures { result ≡ spec.is_granted entity.now o.now bits number }
+{
+    granted(&entity.tree, &entity.home, o, bits, number)
+}
+
+// ---- kinds of requests
+
+fn is_of_subscription(ty: Option<u32>) -> bool
+    ensures { result ≡ option_map_or (λ n. n == (ty_row types.Subscription).number) ty false }
+{
+    match ty {
+        Some(number) => number == Ty::Subscription.number(),
+        None => false,
+    }
+}
+
+/// Whether it creates a subscription.
+pub(crate) fn is_subscribing(request: &Request) -> bool
+    ensures { result ≡ spec.is_subscribing request.now }
+{
+    is_of_subscription(request.parts().ty)
+}
+
+fn is_search(usage: Option<FilterUsage>) -> bool
+    ensures { result ≡ option_map_or spec.is_search usage false }
+{
+    match usage {
+        Some(FilterUsage::Discovery) => true,
+        Some(FilterUsage::Conditional) => false,
+        None => false,
+    }
+}
+
+fn is_discovery(request: &Request) -> bool
+    ensures { result ≡ spec.is_discovery request.now }
+{
+    match &request.parts().fc {
+        Some(filter) => is_search(filter.parts().fu),
+        None => false,
+    }
+}
+
+// The only member of an object.
+fn sole(value: &Val) -> Option<&(Text, Val)>
+    ensures { option_map (λ e. e.now) result ≡ spec.sole value.now }
+{
+    match value.as_obj()?.entries() {
+        [entry] => Some(entry),
+        _ => None,
+    }
+}
+
+fn is_link(value: &Val) -> bool
+    ensures { result ≡ spec.is_link value.now }
+{
+    match sole(value) {
+        Some(entry) => entry.0.entries() == Attr::Acpi.short().as_bytes(),
+        None => false,
+    }
+}
+
+fn holds_link(content: &Val) -> bool
+    ensures { result ≡ option_map_or (λ e. spec.is_link e.1) (spec.sole content.now) false }
+{
+    match sole(content) {
+        Some(entry) => is_link(&entry.1),
+        None => false,
+    }
+}
+
+fn is_relink(request: &Request) -> bool
+    ensures { result ≡ spec.is_relink request.now }
+{
+    match &request.parts().pc {
+        Some(content) => holds_link(content),
+        None => false,
+    }
+}
+
+// ---- rights
+
+fn create_bits(request: &Request) -> u32
+    ensures { result ≡ spec.create_bits request.now }
+{
+    let create = Op::Create.bit();
+    if is_subscribing(request) {
+        create + Op::Retrieve.bit()
+    } else {
+        create
+    }
+}
+
+fn retrieve_bits(request: &Request) -> u32
+    ensures { result ≡ spec.retrieve_bits request.now }
+{
+    if is_discovery(request) {
+        DISCOVERY
+    } else {
+        Op::Retrieve.bit()
+    }
+}
+
+fn may_update<T: Tree>(entity: &Entity<T>, o: &[u8], request: &Request, number: u64) -> bool
+    requires originator { IsTrue (is_originator o.now) }
+    requires resource { IsTrue (has number entity.now.nodes) }
+    ensures { result ≡ spec.may_update entity.now o.now request.now number }
+{
+    if is_relink(request) {
+        may_relink(&entity.tree, &entity.home, o, number)
+    } else {
+        is_granted(entity, o, Op::Update.bit(), number)
+    }
+}
+
+/// Whether an originator, in its short form, has the right that an operation needs on the resource
+/// of a number: a Create on the parent, and of a subscription RETRIEVE besides; a Retrieve that
+/// looks for resources DISCOVERY; an Update of `acpi` alone by who may change that; every other
+/// operation its own bit.
+pub fn may_do<T: Tree>(op: Op, entity: &Entity<T>, o: &[u8], request: &Request, number: u64) -> bool
+    requires originator { IsTrue (is_originator o.now) }
+    requires resource { IsTrue (has number entity.now.nodes) }
+    ensures { result ≡ spec.may_do op entity.now o.now request.now number }
+{
+    match op {
+        Op::Create => is_granted(entity, o, create_bits(request), number),
+        Op::Retrieve => is_granted(entity, o, retrieve_bits(request), number),
+        Op::Update => may_update(entity, o, request, number),
+        Op::Delete => is_granted(entity, o, Op::Delete.bit(), number),
+        Op::Notify => is_granted(entity, o, Op::Notify.bit(), number),
+    }
+}

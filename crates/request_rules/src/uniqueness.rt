@@ -1,0 +1,122 @@
+//! What must not stand twice.
+ghost use Rattle.std.specs.Prelude.{◌≡◌, true, not, IfOk, Some, option_map, IsTrue};
+ghost use Rattle.std.specs.Option.{option_map_or};
+ghost use Rattle.m2m_names.specs.Name.{is_originator};
+ghost use Rattle.m2m_names.specs.declared.types.Ty.TheVariants.{Ae};
+ghost use Rattle.tree_model.specs.Tree as trees;
+ghost use Rattle.entity_model.specs.Sound as sound;
+ghost use Rattle.request_rules.specs.Creation as spec;
+ghost use Rattle.request_rules.specs.Creation.{creation_of};
+
+use crate::naming::{new_ae_id, own_name, text_named};
+use entity_model::Entity;
+use m2m_names::{Attr, Ty};
+use m2m_value::{Members, Text};
+use std::alloc::{AllocError as OutOfMemory, Global};
+use tree_model::{Home, Resource, Tree, has_ae, has_channel, has_child, has_cse};
+
+// The own CSE-ID, with its slash.
+fn own_cse_id(alloc: Global, home: &Home) -> Result<Text, OutOfMemory>
+    ensures { IfOk result (λ t. t ≡ sound.own_cse_id home.now) }
+{
+    let mut bytes = Vec::new(alloc);
+    bytes.push(b'/')?;
+    bytes.extend_from_slice(home.csi().entries())?;
+    Ok(Text::of(bytes))
+}
+
+fn is_free_cse_id<T: Tree>(
+    alloc: Global,
+    entity: &Entity<T>,
+    csi: &[u8],
+) -> Result<bool, OutOfMemory>
+    ensures { IfOk result (λ b. b ≡ spec.is_free_cse_id entity.now csi.now) }
+{
+    let own = own_cse_id(alloc, &entity.home)?;
+    Ok(!has_cse(&entity.tree, csi) && own.entries() != csi)
+}
+
+fn has_free_cse_id<T: Tree>(
+    alloc: Global,
+    entity: &Entity<T>,
+    csi: Option<&Text>,
+) -> Result<bool, OutOfMemory>
+    ensures { IfOk result (λ b. b ≡ option_map_or (spec.is_free_cse_id entity.now)
+        (option_map (λ t. t.now) csi.entry) true) }
+{
+    match csi {
+        Some(csi) => is_free_cse_id(alloc, entity, csi.entries()),
+        None => Ok(true),
+    }
+}
+
+fn has_free_ae_id<T: Tree>(alloc: Global, entity: &Entity<T>, o: &[u8]) -> Result<bool, OutOfMemory>
+    requires { IsTrue (is_originator o.now) }
+    ensures { IfOk result (λ b. b
+        ≡ not (trees.has_ae_id (Some (spec.ae_id_for o.now (spec.id_for Ae entity.now.next)))
+        entity.now.nodes)) }
+{
+    let aei = new_ae_id(alloc, o, entity.next)?;
+    Ok(!has_ae(&entity.tree, aei.entries()))
+}
+
+// Whether it is nothing that it alone may be.
+fn is_single<T: Tree>(
+    alloc: Global,
+    entity: &Entity<T>,
+    o: &[u8],
+    ty: Ty,
+    parent: &Resource,
+    members: &Members,
+) -> Result<bool, OutOfMemory>
+    requires { IsTrue (is_originator o.now) }
+    ensures { IfOk result (λ b. b
+        ≡ spec.is_single ty (creation_of entity.now o.now ty parent.now members.now)) }
+{
+    match ty {
+        Ty::Ae => has_free_ae_id(alloc, entity, o),
+        Ty::RemoteCse => has_free_cse_id(alloc, entity, text_named(Attr::Csi, members)),
+        Ty::PollingChannel => Ok(!has_channel(&entity.tree, parent.number())),
+        _ => Ok(true),
+    }
+}
+
+// Whether no sibling has its name.
+fn has_free_name<T: Tree>(
+    alloc: Global,
+    entity: &Entity<T>,
+    ty: Ty,
+    parent: u64,
+    members: &Members,
+) -> Result<bool, OutOfMemory>
+    ensures { IfOk result (λ b. b
+        ≡ not (trees.has_child parent (spec.name_for ty entity.now.next members.now)
+        entity.now.nodes)) }
+{
+    match text_named(Attr::Rn, members) {
+        Some(name) => Ok(!has_child(&entity.tree, parent, name.entries())),
+        None => {
+            let name = own_name(alloc, ty, entity.next)?;
+            Ok(!has_child(&entity.tree, parent, name.entries()))
+        }
+    }
+}
+
+/// Whether nothing stands in the tree already that a creation alone may be.
+pub(crate) fn is_unique<T: Tree>(
+    alloc: Global,
+    entity: &Entity<T>,
+    o: &[u8],
+    ty: Ty,
+    parent: &Resource,
+    members: &Members,
+) -> Result<bool, OutOfMemory>
+    requires { IsTrue (is_originator o.now) }
+    ensures { IfOk result (λ b. b
+        ≡ spec.is_unique (creation_of entity.now o.now ty parent.now members.now)) }
+{
+    if !has_free_name(alloc, entity, ty, parent.number(), members)? {
+        return Ok(false);
+    }
+    is_single(alloc, entity, o, ty, parent, members)
+}
