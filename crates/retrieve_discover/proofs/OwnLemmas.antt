@@ -1,11 +1,11 @@
 -- In which trees no two resources have one address.
 use Rattle.std.specs.Prelude.{bytes_eq, is_none, nat_eq, nat_lt, option_map}
-use Rattle.std.proofs.Common.{◌≡◌, ℕ, ◌+◌, ◌<◌, ◌^◌, ◌%◌, List, [], ◌∷◌, ◌++◌, length, drop, find, Bool, true, false, cond, not, ◌&&◌, Option, Some, None, refl, sym, ap, ◌∙◌, arith}
+use Rattle.std.proofs.Common.{◌≡◌, ℕ, ◌+◌, ◌<◌, ◌^◌, ◌%◌, List, [], ◌∷◌, ◌++◌, length, Bool, true, false, cond, not, Option, Some, None, inl, inr, refl, sym, ap, ◌∙◌, arith}
 use Rattle.std.specs.Char.{is_ascii_digit}
 use Rattle.std.specs.Fmt.{decimal}
 use Rattle.std.specs.List.{list_all, list_any, starts_with}
 use Rattle.std.proofs.Math.Seq.{drop-append_seam}
-use Rattle.std.proofs.lemmas.Bool.{and_from, and_parts, both_ways, eq-eqb, eqb-true, false_from_ne_true, lt-ltb, ltb-true, not-true, or_from, or_left, or_right}
+use Rattle.std.proofs.lemmas.Bool.{and_from, and_parts, both_ways, eq-eqb, eqb-true, false_from_ne_true, lt-ltb, ltb-true, not-true, or_cases, or_from, or_left, or_right}
 use Rattle.std.proofs.lemmas.Bool.Decides.{nat_tests}
 use Rattle.std.proofs.lemmas.Fmt.{decimal_by_steps, decimal_nonempty}
 use Rattle.std.proofs.lemmas.List.{length-append}
@@ -16,9 +16,9 @@ use Rattle.m2m_names.specs.Types.{all_types, ty_row}
 use Rattle.m2m_names.specs.declared.types.Ty.{Ty}
 use Rattle.m2m_names.specs.declared.types.Ty.TheVariants.{AccessControlPolicy, Ae, Container, ContentInstance, CseBase, Group, PollingChannel, RemoteCse, Subscription, AccessControlPolicyAnnc, AeAnnc, ContainerAnnc, ContentInstanceAnnc, GroupAnnc}
 use Rattle.m2m_names.proofs.StatusLemmas.{find_none}
-use Rattle.resource_model.specs.Home.{HomeData, IsHome, first_bad, is_base_name, is_cse_type}
+use Rattle.resource_model.specs.Home.{HomeData, IsHome, is_base_name}
 use Rattle.resource_model.specs.Resource.{ResourceData, id_of}
-use Rattle.tree_model.specs.Tree.{are_below, at, child_of, is_child, is_tree, is_under}
+use Rattle.tree_model.specs.Tree.{are_below, at, is_child, is_tree, is_under}
 use Rattle.addressing.specs.Laws.{have_free_names}
 use Rattle.retrieve_discover.specs.Guard.{HasOwnAddresses, is_no_name}
 use Rattle.retrieve_discover.proofs.NamedLemmas.{all_found_at}
@@ -47,25 +47,33 @@ all_digits n small =
     (λ n ds big earlier. list_all-append is_ascii_digit ds ((48 + n % 10) ∷ []) ∙ and_from _ _ earlier (and_from _ _ (is_digit (n % 10) (omega arith)) refl))
     n (omega (arith, small))
 
-any_type : (p : Ty → Bool) (ty : Ty) → p ty ≡ true → list_any p all_types ≡ true
-any_type p AccessControlPolicy h = or_left _ _ h
-any_type p Ae h = or_right _ _ (or_left _ _ h)
-any_type p Container h = or_right _ _ (or_right _ _ (or_left _ _ h))
-any_type p ContentInstance h = or_right _ _ (or_right _ _ (or_right _ _ (or_left _ _ h)))
-any_type p CseBase h = or_right _ _ (or_right _ _ (or_right _ _ (or_right _ _ (or_left _ _ h))))
-any_type p Group h = or_right _ _ (or_right _ _ (or_right _ _ (or_right _ _ (or_right _ _ (or_left _ _ h)))))
-any_type p PollingChannel h = or_right _ _ (or_right _ _ (or_right _ _ (or_right _ _ (or_right _ _ (or_right _ _ (or_left _ _ h))))))
-any_type p RemoteCse h = or_right _ _ (or_right _ _ (or_right _ _ (or_right _ _ (or_right _ _ (or_right _ _ (or_right _ _ (or_left _ _ h)))))))
-any_type p Subscription h = or_right _ _ (or_right _ _ (or_right _ _ (or_right _ _ (or_right _ _ (or_right _ _ (or_right _ _ (or_right _ _ (or_left _ _ h))))))))
-any_type p AccessControlPolicyAnnc h = or_right _ _ (or_right _ _ (or_right _ _ (or_right _ _ (or_right _ _ (or_right _ _ (or_right _ _ (or_right _ _ (or_right _ _ (or_left _ _ h)))))))))
-any_type p AeAnnc h = or_right _ _ (or_right _ _ (or_right _ _ (or_right _ _ (or_right _ _ (or_right _ _ (or_right _ _ (or_right _ _ (or_right _ _ (or_right _ _ (or_left _ _ h))))))))))
-any_type p ContainerAnnc h = or_right _ _ (or_right _ _ (or_right _ _ (or_right _ _ (or_right _ _ (or_right _ _ (or_right _ _ (or_right _ _ (or_right _ _ (or_right _ _ (or_right _ _ (or_left _ _ h)))))))))))
-any_type p ContentInstanceAnnc h = or_right _ _ (or_right _ _ (or_right _ _ (or_right _ _ (or_right _ _ (or_right _ _ (or_right _ _ (or_right _ _ (or_right _ _ (or_right _ _ (or_right _ _ (or_right _ _ (or_left _ _ h))))))))))))
-any_type p GroupAnnc h = or_right _ _ (or_right _ _ (or_right _ _ (or_right _ _ (or_right _ _ (or_right _ _ (or_right _ _ (or_right _ _ (or_right _ _ (or_right _ _ (or_right _ _ (or_right _ _ (or_right _ _ (or_left _ _ h)))))))))))))
+-- a test on short words that passes that of one type
+some_word : (q : List ℕ → Bool) (word : List ℕ) (tys : List Ty) → list_any (λ ty. bytes_eq (ty_row ty).word word) tys ≡ true → q word ≡ true → list_any (λ ty. q (ty_row ty).word) tys ≡ true
+some_word q word [] among passes = cc
+some_word q word (ty ∷ tys) among passes = elim (or_cases (bytes_eq (ty_row ty).word word) (list_any (λ t. bytes_eq (ty_row t).word word) tys) among) [
+  | inl t ↦ or_left (q (ty_row ty).word) (list_any (λ t. q (ty_row t).word) tys) (ap q ((bytes_eq-Decides (ty_row ty).word word).0 t) ∙ passes)
+  | inr later ↦ or_right (q (ty_row ty).word) (list_any (λ t. q (ty_row t).word) tys) (some_word q word tys later passes)
+]
+
+has_word : (ty : Ty) → list_any (λ t. bytes_eq (ty_row t).word (ty_row ty).word) all_types ≡ true
+has_word AccessControlPolicy = refl
+has_word Ae = refl
+has_word Container = refl
+has_word ContentInstance = refl
+has_word CseBase = refl
+has_word Group = refl
+has_word PollingChannel = refl
+has_word RemoteCse = refl
+has_word Subscription = refl
+has_word AccessControlPolicyAnnc = refl
+has_word AeAnnc = refl
+has_word ContainerAnnc = refl
+has_word ContentInstanceAnnc = refl
+has_word GroupAnnc = refl
 
 id_is_one : (r : ResourceData) → r.number < 2 ^ 63 → is_resource_id (id_of r) ≡ true
 id_is_one r small =
-    any_type (λ ty. is_numbered (ty_row ty).word (id_of r)) r.ty
+    some_word (λ word. is_numbered word (id_of r)) (ty_row r.ty).word all_types (has_word r.ty)
     (numbered (ty_row r.ty).word (decimal r.number) (decimal_nonempty r.number (omega (arith, small))) (all_digits r.number small))
 
 -- ---- the name of the CSEBase is none
