@@ -49,8 +49,8 @@ pub fn nothing_is_shown_or_found_without_a_grant()
 /// What a reply tells of other resources is told by right, where no two resources have one address.
 /// Each resource whose object it shows below the first, and each child to which it refers, is one
 /// on which the originator has RETRIEVE, and each address that it gives is that of one on which it
-/// has DISCOVERY. No two have one address where each has a free name, and the CSEBase that of the
-/// home.
+/// has DISCOVERY. No two have one address in a tree where each has a free name, the CSEBase that of
+/// the home, and a number below 2^63.
 pub fn others_are_shown_and_found_by_right()
     ensures retrieved { (home : HomeData) (nodes : List ResourceData) (o : List ℕ)
         (request : RequestParts) (n : ℕ) → HasOwnAddresses nodes →
