@@ -1,0 +1,155 @@
+//! Chunked bodies on the stream (RFC 9112, section 7.1).
+ghost use Rattle.std.specs.Prelude.{◌≡◌, ◌+◌, ◌-◌, ◌^◌, ◌<◌, ◌≤◌, ◌++◌, ℕ, IfOk, OnOk, OnErr};
+ghost use Rattle.std.specs.Prelude.{[], length, take, drop};
+ghost use Rattle.httparse.specs.Grammar.{HasNoChunkLine, MayBecomeChunkLine};
+ghost use Rattle.http_frames.specs.ChunkLooks.{IsEndLook, IsLineAt, IsChunkLook, GoesOnBy};
+ghost use Rattle.http_frames.specs.ChunkLooks.{AreChunksAt, IsWalkEnd};
+
+use httparse::{Status, parse_chunk_size};
+use std::alloc::{AllocError, Global};
+
+/// A chunk line has at most so many bytes, its CR LF counted.
+const LINE_LIMIT: usize = 256;
+
+/// What stands at the front of bytes where a chunk or the end of the body is wanted.
+#[derive(Clone, Copy)]
+pub(crate) enum ChunkLook {
+    /// A line that ends there and so many bytes of the body; where there are none, the body's end.
+    Found(usize, usize),
+    /// Neither so far: until so many bytes are there, nothing is settled.
+    Short(usize),
+    /// Neither, whatever follows.
+    Never,
+}
+
+/// What stands at the front of bytes where some of the body and CR LF are wanted.
+#[derive(Clone, Copy)]
+pub(crate) enum EndLook {
+    Whole,
+    /// A front of them: until so many bytes are there, nothing is settled.
+    Short(usize),
+    Never,
+}
+
+/// Whether `n` bytes and CR LF stand at the front.
+fn look_for_end(text: &[u8], n: usize) -> EndLook
+    requires { n < 2 ^ 32 }
+    ensures { IsEndLook text.now n result }
+{
+    if text.len() <= n {
+        return EndLook::Short(n + 1);
+    }
+    if text[n] != b'\r' {
+        return EndLook::Never;
+    }
+    if text.len() == n + 1 {
+        return EndLook::Short(n + 2);
+    }
+    if text[n + 1] == b'\n' {
+        EndLook::Whole
+    } else {
+        EndLook::Never
+    }
+}
+
+/// What stands behind a chunk line that ends at `start` and says that so many bytes follow.
+fn look_behind_line(text: &[u8], most: usize, start: usize, size: u64) -> ChunkLook
+    requires line { IsLineAt text.now start size }
+    requires most { most < 2 ^ 32 }
+    ensures { IsChunkLook most text.now result }
+{
+    if size > most as u64 {
+        return ChunkLook::Never;
+    }
+    let size = size as usize;
+    match look_for_end(&text[start..], size) {
+        EndLook::Whole => ChunkLook::Found(start, size),
+        EndLook::Short(need) => ChunkLook::Short(start + need),
+        EndLook::Never => ChunkLook::Never,
+    }
+}
+
+/// What stands there where no whole chunk line does.
+fn look_without_line(text: &[u8], most: usize) -> ChunkLook
+    requires none { HasNoChunkLine (take 256 text.now) }
+    requires may { MayBecomeChunkLine (take 256 text.now) }
+    ensures { IsChunkLook most text.now result }
+{
+    if text.len() < LINE_LIMIT {
+        ChunkLook::Short(text.len() + 1)
+    } else {
+        ChunkLook::Never
+    }
+}
+
+/// What stands at the front, where at most `most` bytes of the body may come.
+fn look_for_chunk(text: &[u8], most: usize) -> ChunkLook
+    requires { most < 2 ^ 32 }
+    ensures { IsChunkLook most text.now result }
+{
+    match parse_chunk_size(&text[..text.len().min(LINE_LIMIT)]) {
+        Ok(Status::Complete((start, size))) => look_behind_line(text, most, start, size),
+        Ok(Status::Partial) => look_without_line(text, most),
+        Err(_) => ChunkLook::Never,
+    }
+}
+
+/// How far chunks were walked: whole ones, of `at` bytes in all, with this part of the body.
+#[derive(Debug, Drop)]
+pub(crate) struct Walked {
+    pub(crate) at: usize,
+    pub(crate) body: Vec<u8>,
+}
+
+impl Walked {
+    /// None so far.
+    pub(crate) fn new(alloc: Global) -> Walked
+        ensures at { result.at ≡ 0 }
+        ensures body { result.body.items ≡ [] }
+    {
+        Walked {
+            at: 0,
+            body: Vec::new(alloc),
+        }
+    }
+
+    /// Walks over one more chunk, whose line ends `start` bytes behind those that were walked.
+    fn pass(&mut self, carried: &[u8], start: usize, size: usize) -> Result<(), AllocError>
+        requires chunks { AreChunksAt carried.now self.old.at self.old.body.items }
+        requires within { self.old.at ≤ length carried.now }
+        requires chunk { (most : ℕ) × GoesOnBy most (drop self.old.at carried.now) start size }
+        requires some { 0 < size }
+        ensures chunks { AreChunksAt carried.now self.new.at self.new.body.items }
+        ensures within { self.new.at ≤ length carried.now }
+        ensures ok { OnOk result (self.new.at ≡ self.old.at + (start + size + 2)) }
+        ensures len { OnOk result
+            (length self.new.body.items ≡ length self.old.body.items + size) }
+        ensures err { OnErr result (self.new ≡ self.old) }
+    {
+        let from = self.at + start;
+        self.body.extend_from_slice(&carried[from..from + size])?;
+        self.at = from + size + 2;
+        Ok(())
+    }
+
+    /// Walks on over the whole chunks that are there, in a body of at most `limit` bytes, and
+    /// answers what stands behind them: the end of the body, if it is there.
+    pub(crate) fn walk(&mut self, carried: &[u8], limit: usize) -> Result<ChunkLook, AllocError>
+        requires chunks { AreChunksAt carried.now self.old.at self.old.body.items }
+        requires within { self.old.at ≤ length carried.now }
+        requires fits { length self.old.body.items ≤ limit }
+        requires limit { limit < 2 ^ 32 }
+        ensures chunks { AreChunksAt carried.now self.new.at self.new.body.items }
+        ensures within { self.new.at ≤ length carried.now }
+        ensures fits { length self.new.body.items ≤ limit }
+        ensures end { IfOk result (IsWalkEnd (limit - length self.new.body.items)
+            (drop self.new.at carried.now)) }
+    {
+        loop {
+            match look_for_chunk(&carried[self.at..], limit - self.body.len()) {
+                ChunkLook::Found(start, size) if size > 0 => self.pass(carried, start, size)?,
+                look => return Ok(look),
+            }
+        }
+    }
+}
