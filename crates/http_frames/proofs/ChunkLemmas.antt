@@ -1,8 +1,9 @@
 -- What a look at the front of chunks says of the bytes, and of a body that they carry.
-use Rattle.std.proofs.Common.{◌≡◌, ◌≢◌, ℕ, ◌+◌, ◌-◌, ◌<◌, ◌≤◌, ◌⊎◌, List, [], ◌∷◌, ◌++◌, length, take, drop, get_or, refl, sym, ap, subst, ◌∙◌, inl, inr, arith, append_assoc}
+use Rattle.std.proofs.Common.{◌≡◌, ◌≢◌, ℕ, ◌+◌, ◌-◌, ◌<◌, ◌≤◌, ◌⊎◌, min, List, [], ◌∷◌, ◌++◌, length, take, drop, get_or, refl, sym, ap, subst, ◌∙◌, inl, inr, arith, append_assoc}
 use Rattle.std.specs.Prelude.{All}
 use Rattle.std.proofs.Math.Seq.{get_or-append_seam}
 use Rattle.std.proofs.lemmas.List.{take_at, drop_at, append-nil, length-append, length-take, length-drop, take-append-le, take-append-drop, drop-drop, take_all, take_more, drop_more, get_or_append_left, get_or-append-add, flat_map_more}
+use Rattle.std.proofs.lemmas.Bool.{cases_lt}
 use Rattle.std.proofs.lemmas.List.Elements.{All-nil, All-cons, All-append, All-head, All-tail}
 use Rattle.httparse.specs.Ascii.{crlf_bytes}
 use Rattle.httparse.specs.Grammar.{ChunkLine, print_chunk_line, HasNoChunkLine, MayBecomeChunkLine, NeverHasChunkLine}
@@ -28,8 +29,8 @@ crlf_length rest = omega arith
 lacks_short : (n : ℕ) (text part rest : List ℕ) → LacksEnd n text → length part ≡ n → text ≡ part ++ (crlf_bytes ++ rest) → ⊥
 lacks_short n text part rest (inl few) len e =
     absurd (omega (arith, ap length e, length-append part (crlf_bytes ++ rest), crlf_length rest))
-lacks_short n text part rest (inr (front, len_is, is)) len e =
-    absurd (omega (arith, ap length is, length-append front (13 ∷ []), ap length e, length-append part (crlf_bytes ++ rest), crlf_length rest))
+lacks_short n text part rest (inr front) len e =
+    absurd (omega (arith, front.1, ap length front.2, length-append front.0 (13 ∷ []), ap length e, length-append part (crlf_bytes ++ rest), crlf_length rest))
 
 -- the bytes aren't all there
 pub end_later : (text : List ℕ) (n : ℕ) → length text ≤ n → WaitsForEnd text n (n + 1)
@@ -86,6 +87,12 @@ end_whole text n inside cr lf =
 
 -- ---- a chunk line
 
+pub front_is : (text : List ℕ) → take (min (length text) 256) text ≡ take 256 text
+front_is text = elim (cases_lt 256 (length text)) [
+  | inl long ↦ let all : min (length text) 256 ≡ 256 = omega arith in ap (λ k. take k text) all
+  | inr short ↦ take_all (min (length text) 256) text (omega arith) ∙ sym (take_all 256 text short)
+]
+
 -- the first bytes and what stands behind them
 parts_of : (text more : List ℕ) → take 256 text ++ (drop 256 text ++ more) ≡ text ++ more
 parts_of text more = sym (append_assoc (take 256 text) (drop 256 text) more) ∙ ap (λ t. t ++ more) (take-append-drop 256 text)
@@ -137,6 +144,13 @@ behind_excluded most text start size at never = record {
       let that = that_line most text more start size at g in
       never.none more g.part g.rest (sym that.size_is) that.behind;
 }
+
+-- it is there
+pub found_end : (text : List ℕ) (start size : ℕ) → IsLineAt text start size → HasEnd (drop start text) size → size ≡ 0 → GoesOnBy text start 0
+found_end text start size at ends none = subst (λ (n : ℕ). GoesOnBy text start n) none (record { at = at; ends = ends })
+
+pub found_chunk : (text : List ℕ) (start size : ℕ) → IsLineAt text start size → HasEnd (drop start text) size → GoesOnBy text start size
+found_chunk text start size at ends = record { at = at; ends = ends }
 
 -- it may still come
 pub behind_waits : (most : ℕ) (text : List ℕ) (start size need : ℕ) → IsLineAt text start size → size ≤ most
@@ -200,14 +214,20 @@ line_never most text never = record {
 
 -- ---- chunks that were walked
 
+-- a chunk lies within the bytes
+pub chunk_within : (bytes : List ℕ) (at start size : ℕ) → GoesOnBy (drop at bytes) start size → at ≤ length bytes
+    → at + (start + size + 2) ≤ length bytes
+chunk_within bytes at start size g within =
+    omega (arith, g.ends.within, g.at.within, length-drop at bytes, length-drop start (drop at bytes))
+
 -- none were
 pub walked_none : (bytes : List ℕ) → AreChunksAt bytes 0 []
 walked_none bytes = record { chunks = []; each = All-nil IsChunk; bytes_are = refl; at_is = refl; body_is = refl }
 
 -- one more was
-pub walked_on : (bytes body : List ℕ) (at start size most : ℕ) → AreChunksAt bytes at body → GoesOnBy most (drop at bytes) start size → 0 < size
+pub walked_on : (bytes body : List ℕ) (at start size : ℕ) → AreChunksAt bytes at body → GoesOnBy (drop at bytes) start size → 0 < size
     → AreChunksAt bytes (at + (start + size + 2)) (body ++ take size (drop (at + start) bytes))
-walked_on bytes body at start size most w g some =
+walked_on bytes body at start size w g some =
     let rest = drop at bytes in
     let part = take size (drop start rest) in
     let line = print_chunk_line g.at.line in
@@ -217,9 +237,10 @@ walked_on bytes body at start size most w g some =
     let chunk : Chunk = record { line = g.at.line; part = part } in
     let text = chunk_text chunk in
     let before = chunks_text w.chunks in
+    let next_is : at + (start + (size + 2)) ≡ next = omega arith in
     let behind_is : behind ≡ drop next bytes =
     drop-drop (size + 2) start rest ∙ drop-drop (start + (size + 2)) at bytes
-    ∙ ap (λ k. drop k bytes) (omega arith) in
+    ∙ ap (λ k. drop k bytes) next_is in
     let rest_is : rest ≡ text ++ behind =
     g.at.text_is ∙ ap (λ t. line ++ t) (g.ends.text_is ∙ sym (append_assoc part crlf_bytes behind))
     ∙ sym (append_assoc line (part ++ crlf_bytes) behind) in
@@ -253,15 +274,19 @@ goes_on limit [] (c ∷ cs) l z q us vs a e fits =
     }
 goes_on limit (w ∷ ws) [] l z q us vs a e fits =
     let one = All-head IsChunk w ws us in
-    let s = line_same w.line l (length w.part) 0 _ (crlf_bytes ++ q) one.0 a (sym (opened w ws z) ∙ e) in
+    let s = line_same w.line l (length w.part) 0 (w.part ++ (crlf_bytes ++ (chunks_text ws ++ z))) (crlf_bytes ++ q) one.0 a
+    (sym (opened w ws z) ∙ e) in
     absurd (omega (arith, s.1, one.1))
 goes_on limit (w ∷ ws) (c ∷ cs) l z q us vs a e fits =
     let here = All-head IsChunk w ws us in
     let there = All-head IsChunk c cs vs in
     let later = print_chunk_line l ++ (crlf_bytes ++ q) in
     let n = length c.part in
-    let s = line_same w.line c.line (length w.part) n _ _ here.0 there.0 (sym (opened w ws z) ∙ e ∙ opened c cs later) in
-    let behind = sym (drop_at w.part _ n s.1) ∙ ap (drop n) s.2 ∙ drop_at c.part _ n refl in
+    let ours = crlf_bytes ++ (chunks_text ws ++ z) in
+    let theirs = crlf_bytes ++ (chunks_text cs ++ later) in
+    let s = line_same w.line c.line (length w.part) n (w.part ++ ours) (c.part ++ theirs) here.0 there.0
+    (sym (opened w ws z) ∙ e ∙ opened c cs later) in
+    let behind : ours ≡ theirs = sym (drop_at w.part ours n s.1) ∙ ap (drop n) s.2 ∙ drop_at c.part theirs n refl in
     let more = goes_on (limit - n) ws cs l z q (All-tail IsChunk w ws us) (All-tail IsChunk c cs vs) a (ap (drop 2) behind)
     (omega (arith, length-append c.part (chunks_body cs))) in
     let most : limit - n - length (chunks_body ws) ≡ limit - length (chunks_body (w ∷ ws)) =

@@ -10,7 +10,7 @@ use Rattle.http_frames.specs.declared.frame.Side.TheVariants.{Request, Reply}
 use Rattle.http_frames.specs.declared.frame.Start.{Start}
 use Rattle.http_frames.specs.declared.frame.Frame.{Frame}
 use Rattle.http_frames.specs.Lines.{Line}
-use Rattle.http_frames.specs.Body.{Framing, counted, chunked, refused, framing_of, CarriesBody, carried_limit}
+use Rattle.http_frames.specs.Body.{Framing, counted, chunked, refused, framing_of, CarriesBody}
 use Rattle.http_frames.specs.Chunks.{Announces, Chunk, chunk_text, chunks_text, chunks_body, IsChunk, IsChunked}
 use Rattle.httparse.specs.Grammar.{ChunkLine, print_chunk_line, chunk_size}
 use Rattle.httparse.proofs.ChunkLemmas.{chunk_line_unique}
@@ -52,20 +52,24 @@ chunks_same : (cs ds : List Chunk) (l k : ChunkLine) (r q : List ℕ) → All Is
 chunks_same [] [] l k r q us vs a b e = let s = line_same l k 0 0 r q a b e in (refl, s.1, s.2)
 chunks_same [] (d ∷ ds) l k r q us vs a b e =
     let one = All-head IsChunk d ds vs in
-    let s = line_same l d.line 0 (length d.part) r _ a one.0 (e ∙ opened d ds (print_chunk_line k ++ q)) in
+    let later = print_chunk_line k ++ q in
+    let s = line_same l d.line 0 (length d.part) r (d.part ++ (crlf_bytes ++ (chunks_text ds ++ later))) a one.0 (e ∙ opened d ds later) in
     absurd (omega (arith, s.1, one.1))
 chunks_same (c ∷ cs) [] l k r q us vs a b e =
     let one = All-head IsChunk c cs us in
-    let s = line_same k c.line 0 (length c.part) q _ b one.0 (sym e ∙ opened c cs (print_chunk_line l ++ r)) in
+    let later = print_chunk_line l ++ r in
+    let s = line_same k c.line 0 (length c.part) q (c.part ++ (crlf_bytes ++ (chunks_text cs ++ later))) b one.0 (sym e ∙ opened c cs later) in
     absurd (omega (arith, s.1, one.1))
 chunks_same (c ∷ cs) (d ∷ ds) l k r q us vs a b e =
     let here = All-head IsChunk c cs us in
     let there = All-head IsChunk d ds vs in
     let n = length d.part in
-    let s = line_same c.line d.line (length c.part) n _ _ here.0 there.0
+    let ours = crlf_bytes ++ (chunks_text cs ++ (print_chunk_line l ++ r)) in
+    let theirs = crlf_bytes ++ (chunks_text ds ++ (print_chunk_line k ++ q)) in
+    let s = line_same c.line d.line (length c.part) n (c.part ++ ours) (d.part ++ theirs) here.0 there.0
     (sym (opened c cs (print_chunk_line l ++ r)) ∙ e ∙ opened d ds (print_chunk_line k ++ q)) in
-    let part : c.part ≡ d.part = sym (take_at c.part _ n s.1) ∙ ap (take n) s.2 ∙ take_at d.part _ n refl in
-    let behind = sym (drop_at c.part _ n s.1) ∙ ap (drop n) s.2 ∙ drop_at d.part _ n refl in
+    let part : c.part ≡ d.part = sym (take_at c.part ours n s.1) ∙ ap (take n) s.2 ∙ take_at d.part theirs n refl in
+    let behind : ours ≡ theirs = sym (drop_at c.part ours n s.1) ∙ ap (drop n) s.2 ∙ drop_at d.part theirs n refl in
     let more = chunks_same cs ds l k r q (All-tail IsChunk c cs us) (All-tail IsChunk d ds vs) a b (ap (drop 2) behind) in
     (λ i. record { line = s.0 i; part = part i } ∷ more.0 i, more.1, more.2)
 
@@ -104,12 +108,6 @@ chunks_length [] all = omega arith
 chunks_length (c ∷ cs) all =
     let one = All-head IsChunk c cs all in
     omega (arith, one.0.fits, one.1, length-append (chunk_text c) (chunks_text cs), length-append (print_chunk_line c.line) (c.part ++ crlf_bytes), length-append c.part crlf_bytes, length-append c.part (chunks_body cs), chunks_length cs (All-tail IsChunk c cs all))
-
--- what carries a body in chunks is within the limit
-pub chunked_length : (limit : ℕ) (carried body : List ℕ) → IsChunked carried body → length body ≤ limit
-    → length carried ≤ carried_limit limit
-chunked_length limit carried body c fits =
-    omega (arith, ap length c.carried_is, ap length c.body_is, c.ends.fits, chunks_length c.chunks c.each, length-append (chunks_text c.chunks) (print_chunk_line c.last ++ crlf_bytes), length-append (print_chunk_line c.last) crlf_bytes)
 
 -- two frames at the front of one stream are one frame, with one rest
 pub IsFrame_unique : (side : Side) (bytes other : List ℕ) (f g : Frame) (r q : List ℕ)

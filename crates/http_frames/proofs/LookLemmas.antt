@@ -211,6 +211,13 @@ walked_from side bytes body headers head at b = inr (record {
   fits = b.fits;
 })
 
+-- more were walked
+pub behind_on : (side : Side) (bytes body more : List ℕ) (headers : List HeaderSpan) (head : HeadSpans) (at next : ℕ)
+    → AreBehind side bytes headers head at body → AreChunksAt (drop head.len bytes) next more → next ≤ length (drop head.len bytes)
+    → length more ≤ body_limit side → AreBehind side bytes headers head next more
+behind_on side bytes body more headers head at next b chunks within fits =
+    record { good = b.good; framing = b.framing; chunks = chunks; within = within; fits = fits }
+
 -- they stay behind it when more bytes came
 pub walked_more : (side : Side) (bytes read now body : List ℕ) (at : ℕ) → now ≡ bytes ++ read → IsWalked side bytes at body
     → IsWalked side now at body
@@ -265,10 +272,10 @@ chunks_never side bytes body headers head at b never = record {
 }
 
 -- the body ends behind them
-pub chunks_whole : (side : Side) (bytes body : List ℕ) (headers : List HeaderSpan) (head : HeadSpans) (at most start end : ℕ)
-    → AreBehind side bytes headers head at body → GoesOnBy most (drop at (drop head.len bytes)) start 0 → end ≡ head.len + at + start + 2
+pub chunks_whole : (side : Side) (bytes body : List ℕ) (headers : List HeaderSpan) (head : HeadSpans) (at start end : ℕ)
+    → AreBehind side bytes headers head at body → GoesOnBy (drop at (drop head.len bytes)) start 0 → end ≡ head.len + at + start + 2
     → IsFrameAt side bytes headers body (record { start = head.start; lines = head.lines; body = head.len; chunked = true; end = end })
-chunks_whole side bytes body headers head at most start end b g end_is =
+chunks_whole side bytes body headers head at start end b g end_is =
     let len = head.len in
     let rest = drop len bytes in
     let behind = drop at rest in

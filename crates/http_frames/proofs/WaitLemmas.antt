@@ -1,5 +1,5 @@
 -- What settles nothing, and what reads that were needed leave.
-use Rattle.std.proofs.Common.{◌≡◌, ℕ, ◌+◌, ◌-◌, ◌*◌, ◌<◌, ◌≤◌, ◌⊎◌, List, [], ◌∷◌, ◌++◌, length, take, drop, codes, Option, refl, sym, ap, subst, ◌∙◌, inl, inr, arith, append_assoc}
+use Rattle.std.proofs.Common.{◌≡◌, ◌≢◌, ℕ, ◌+◌, ◌-◌, ◌*◌, ◌<◌, ◌≤◌, ◌⊎◌, List, [], ◌∷◌, ◌++◌, length, take, drop, codes, Option, refl, sym, ap, subst, ◌∙◌, inl, inr, arith, append_assoc}
 use Rattle.std.proofs.lemmas.List.{length-append, length-take, length-drop, length-map, append-nil, take-append-drop}
 use Rattle.std.proofs.lemmas.Bool.{cases_lt}
 use Rattle.std.proofs.lemmas.List.Elements.{All-nil, All-cons}
@@ -22,7 +22,7 @@ use Rattle.http_frames.specs.Looks.{WaitsFor}
 use Rattle.http_frames.specs.Frame.{head_limit, lines_limit, body_limit, IsFrame}
 use Rattle.http_frames.specs.Stream.{BeginsWith, HasNoFrame}
 use Rattle.http_frames.specs.Text.{IsSound, phrase_of, IsLine}
-use Rattle.http_frames.specs.Spans.{start_at, lines_at, framing_at, frame_at, IsFrameAt, IsGoodHead, AreBehind, HasNoHead}
+use Rattle.http_frames.specs.Spans.{start_at, lines_at, framing_at, frame_at, IsFrameAt, IsGoodHead, AreBehind, HasNoHead, CanNotBegin}
 use Rattle.http_frames.specs.Waiting.{piece_limit, LackChunk, MayBecomeHead, IsUnsettled, EndsInRead, ReadsAsNeeded, StaysUnsettled, EndsBelow}
 use Rattle.http_frames.specs.Inbox.{Reads, GivesAsNeeded, most_held}
 use Rattle.http_frames.proofs.FrameLemmas.{chunks_length}
@@ -77,6 +77,14 @@ only_first side bytes open_yet = record {
     | x ∷ xs ↦ λ h. absurd (omega (arith, length-append bytes (x ∷ xs)))
   ];
 }
+
+-- where no frame can stand there is something
+none_stands : (side : Side) (bytes text : List ℕ) (frame : Frame) → IsFrame side text frame → CanNotBegin side bytes → bytes ≢ []
+none_stands side bytes text frame f never e = never.none (text ++ []) text [] frame f (ap (λ b. b ++ (text ++ [])) e)
+
+pub never_empty : (side : Side) (bytes : List ℕ) → CanNotBegin side bytes → bytes ≢ []
+never_empty Request bytes = none_stands Request bytes _ plain_request (written_is_read Request plain_request request_sound)
+never_empty Reply bytes = none_stands Reply bytes _ plain_reply (written_is_read Reply plain_reply reply_sound)
 
 pub empty_waits : (side : Side) (bytes : List ℕ) → length bytes ≡ 0 → WaitsFor side bytes 1
 empty_waits side [] h = record {
@@ -178,6 +186,12 @@ chunks_wait side bytes body headers head at need end b waits end_is =
             );
       };
     }
+
+-- where more is waited for there is no frame, also when some more came
+pub waits_still : (side : Side) (held read now : List ℕ) (need : ℕ) → WaitsFor side held need → now ≡ held ++ read → length now < need
+    → HasNoFrame side now
+waits_still side held read now need waits is few =
+    subst (λ (t : List ℕ). HasNoFrame side t) (sym is) (waits.stays.stays read (subst (λ (t : List ℕ). length t < need) is few)).0
 
 -- reads behind bytes that were read before
 pub ends_in_read : (side : Side) (first held now read : List ℕ) (need : ℕ) → held ≡ first ++ read → IsUnsettled side first

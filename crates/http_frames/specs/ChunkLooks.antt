@@ -4,6 +4,8 @@ use Rattle.httparse.specs.Ascii.{crlf_bytes}
 use Rattle.httparse.specs.Grammar.{ChunkLine, print_chunk_line}
 use Rattle.http_frames.specs.declared.chunks.ChunkLook.{ChunkLook}
 use Rattle.http_frames.specs.declared.chunks.ChunkLook.TheVariants as look
+use Rattle.http_frames.specs.declared.chunks.Stop.{Stop}
+use Rattle.http_frames.specs.declared.chunks.Stop.TheVariants as stop
 use Rattle.http_frames.specs.declared.chunks.EndLook.{EndLook}
 use Rattle.http_frames.specs.declared.chunks.EndLook.TheVariants as end
 use Rattle.http_frames.specs.Chunks.{Announces, Chunk, IsChunk, chunks_text, chunks_body}
@@ -53,10 +55,9 @@ pub record GoesOn (most : ℕ) (text : List ℕ) : Type 0 where
   pub fits : length part ≤ most
   pub text_is : text ≡ print_chunk_line line ++ (part ++ (crlf_bytes ++ rest))
 
--- It begins so, the line ends there, and so many bytes of the body follow.
-pub record GoesOnBy (most : ℕ) (text : List ℕ) (start size : ℕ) : Type 0 where
+-- A chunk line ends there, and so many bytes and CR LF stand behind it.
+pub record GoesOnBy (text : List ℕ) (start size : ℕ) : Type 0 where
   pub at : IsLineAt text start size
-  pub fits : size ≤ most
   pub ends : HasEnd (drop start text) size
 
 -- It doesn't before so many bytes are there, and until then it may.
@@ -71,11 +72,18 @@ pub record WaitsForChunk (most : ℕ) (text : List ℕ) (need : ℕ) : Type 0 wh
 pub record ExcludesChunk (most : ℕ) (text : List ℕ) : Type 0 where
   pub none : (more : List ℕ) → ¬ (GoesOn most (text ++ more))
 
--- what a look at the front answers, where at most so many bytes of the body may come
+-- what stands there where no chunk does and at most so many bytes of the body may come: the end of
+-- the body, or neither
+abbrev pub IsStop : ℕ → List ℕ → Stop → Type 0
+IsStop most text (stop.End start) = GoesOnBy text start 0
+IsStop most text (stop.Short need) = WaitsForChunk most text need
+IsStop most text stop.Never = ExcludesChunk most text
+
+-- what a look at the front answers
 abbrev pub IsChunkLook : ℕ → List ℕ → ChunkLook → Type 0
-IsChunkLook most text (look.Found start size) = GoesOnBy most text start size
-IsChunkLook most text (look.Short need) = WaitsForChunk most text need
-IsChunkLook most text look.Never = ExcludesChunk most text
+IsChunkLook most text (look.Chunk start size) =
+    GoesOnBy text start size × (size ≤ most) × (0 < size)
+IsChunkLook most text (look.Rest rest) = IsStop most text rest
 
 -- ---- chunks that were walked
 
@@ -86,10 +94,3 @@ pub record AreChunksAt (bytes : List ℕ) (at : ℕ) (body : List ℕ) : Type 0 
   pub bytes_are : bytes ≡ chunks_text chunks ++ drop at bytes
   pub at_is : at ≡ length (chunks_text chunks)
   pub body_is : body ≡ chunks_body chunks
-
--- what a walk answers: behind the chunks that were walked the body ends, or more has to come, or it
--- can't go on
-abbrev pub IsWalkEnd : ℕ → List ℕ → ChunkLook → Type 0
-IsWalkEnd most text (look.Found start size) = GoesOnBy most text start 0
-IsWalkEnd most text (look.Short need) = WaitsForChunk most text need
-IsWalkEnd most text look.Never = ExcludesChunk most text

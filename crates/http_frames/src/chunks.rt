@@ -3,7 +3,7 @@ ghost use Rattle.std.specs.Prelude.{◌≡◌, ◌+◌, ◌-◌, ◌^◌, ◌<�
 ghost use Rattle.std.specs.Prelude.{[], length, take, drop};
 ghost use Rattle.httparse.specs.Grammar.{HasNoChunkLine, MayBecomeChunkLine};
 ghost use Rattle.http_frames.specs.ChunkLooks.{IsEndLook, IsLineAt, IsChunkLook, GoesOnBy};
-ghost use Rattle.http_frames.specs.ChunkLooks.{AreChunksAt, IsWalkEnd};
+ghost use Rattle.http_frames.specs.ChunkLooks.{AreChunksAt, IsStop};
 
 use httparse::{Status, parse_chunk_size};
 use std::alloc::{AllocError, Global};
@@ -14,9 +14,18 @@ const LINE_LIMIT: usize = 256;
 /// What stands at the front of bytes where a chunk or the end of the body is wanted.
 #[derive(Clone, Copy)]
 pub(crate) enum ChunkLook {
-    /// A line that ends there and so many bytes of the body; where there are none, the body's end.
-    Found(usize, usize),
-    /// Neither so far: until so many bytes are there, nothing is settled.
+    /// A chunk: its line ends there, and it has so many bytes of the body.
+    Chunk(usize, usize),
+    /// No chunk.
+    Rest(Stop),
+}
+
+/// What stands behind the last whole chunk.
+#[derive(Clone, Copy)]
+pub(crate) enum Stop {
+    /// The end of the body, whose line ends there.
+    End(usize),
+    /// Neither that nor a chunk so far: until so many bytes are there, nothing is settled.
     Short(usize),
     /// Neither, whatever follows.
     Never,
@@ -32,6 +41,7 @@ pub(crate) enum EndLook {
 }
 
 /// Whether `n` bytes and CR LF stand at the front.
+#[tactic(auto, using(crate::proofs::ChunkLemmas::end_later, crate::proofs::ChunkLemmas::end_no_cr, crate::proofs::ChunkLemmas::end_cr, crate::proofs::ChunkLemmas::end_no_lf, crate::proofs::ChunkLemmas::end_whole))]
 fn look_for_end(text: &[u8], n: usize) -> EndLook
     requires { n < 2 ^ 32 }
     ensures { IsEndLook text.now n result }
@@ -52,33 +62,53 @@ fn look_for_end(text: &[u8], n: usize) -> EndLook
     }
 }
 
+/// The first bytes, of which a chunk line is no longer.
+fn front_of(text: &[u8]) -> &[u8]
+    ensures { result.now ≡ take 256 text.now }
+{
+    &text[..text.len().min(LINE_LIMIT)]
+}
+
 /// What stands behind a chunk line that ends at `start` and says that so many bytes follow.
-fn look_behind_line(text: &[u8], most: usize, start: usize, size: u64) -> ChunkLook
+#[tactic(auto, using(crate::proofs::ChunkLemmas::found_chunk, crate::proofs::ChunkLemmas::found_end, crate::proofs::ChunkLemmas::behind_waits, crate::proofs::ChunkLemmas::behind_excluded))]
+fn look_behind_line(text: &[u8], most: usize, start: usize, size: usize) -> ChunkLook
+    requires line { IsLineAt text.now start size }
+    requires fits { size ≤ most }
+    requires most { most < 2 ^ 32 }
+    ensures { IsChunkLook most text.now result }
+{
+    match look_for_end(&text[start..], size) {
+        EndLook::Whole if size == 0 => ChunkLook::Rest(Stop::End(start)),
+        EndLook::Whole => ChunkLook::Chunk(start, size),
+        EndLook::Short(need) => ChunkLook::Rest(Stop::Short(start + need)),
+        EndLook::Never => ChunkLook::Rest(Stop::Never),
+    }
+}
+
+/// What stands there where a chunk line does.
+#[tactic(auto, using(crate::proofs::ChunkLemmas::size_too_large))]
+fn look_at_line(text: &[u8], most: usize, start: usize, size: u64) -> ChunkLook
     requires line { IsLineAt text.now start size }
     requires most { most < 2 ^ 32 }
     ensures { IsChunkLook most text.now result }
 {
     if size > most as u64 {
-        return ChunkLook::Never;
+        return ChunkLook::Rest(Stop::Never);
     }
-    let size = size as usize;
-    match look_for_end(&text[start..], size) {
-        EndLook::Whole => ChunkLook::Found(start, size),
-        EndLook::Short(need) => ChunkLook::Short(start + need),
-        EndLook::Never => ChunkLook::Never,
-    }
+    look_behind_line(text, most, start, size as usize)
 }
 
 /// What stands there where no whole chunk line does.
-fn look_without_line(text: &[u8], most: usize) -> ChunkLook
+#[tactic(auto, using(crate::proofs::ChunkLemmas::line_waits, crate::proofs::ChunkLemmas::line_too_long))]
+fn look_without_line(text: &[u8], most: usize) -> Stop
     requires none { HasNoChunkLine (take 256 text.now) }
     requires may { MayBecomeChunkLine (take 256 text.now) }
-    ensures { IsChunkLook most text.now result }
+    ensures { IsStop most text.now result }
 {
     if text.len() < LINE_LIMIT {
-        ChunkLook::Short(text.len() + 1)
+        Stop::Short(text.len() + 1)
     } else {
-        ChunkLook::Never
+        Stop::Never
     }
 }
 
@@ -87,10 +117,10 @@ fn look_for_chunk(text: &[u8], most: usize) -> ChunkLook
     requires { most < 2 ^ 32 }
     ensures { IsChunkLook most text.now result }
 {
-    match parse_chunk_size(&text[..text.len().min(LINE_LIMIT)]) {
-        Ok(Status::Complete((start, size))) => look_behind_line(text, most, start, size),
-        Ok(Status::Partial) => look_without_line(text, most),
-        Err(_) => ChunkLook::Never,
+    match parse_chunk_size(front_of(text)) {
+        Ok(Status::Complete((start, size))) => look_at_line(text, most, start, size),
+        Ok(Status::Partial) => ChunkLook::Rest(look_without_line(text, most)),
+        Err(_) => ChunkLook::Rest(Stop::Never),
     }
 }
 
@@ -117,7 +147,7 @@ impl Walked {
     fn pass(&mut self, carried: &[u8], start: usize, size: usize) -> Result<(), AllocError>
         requires chunks { AreChunksAt carried.now self.old.at self.old.body.items }
         requires within { self.old.at ≤ length carried.now }
-        requires chunk { (most : ℕ) × GoesOnBy most (drop self.old.at carried.now) start size }
+        requires chunk { GoesOnBy (drop self.old.at carried.now) start size }
         requires some { 0 < size }
         ensures chunks { AreChunksAt carried.now self.new.at self.new.body.items }
         ensures within { self.new.at ≤ length carried.now }
@@ -133,8 +163,8 @@ impl Walked {
     }
 
     /// Walks on over the whole chunks that are there, in a body of at most `limit` bytes, and
-    /// answers what stands behind them: the end of the body, if it is there.
-    pub(crate) fn walk(&mut self, carried: &[u8], limit: usize) -> Result<ChunkLook, AllocError>
+    /// answers what stands behind them.
+    pub(crate) fn walk(&mut self, carried: &[u8], limit: usize) -> Result<Stop, AllocError>
         requires chunks { AreChunksAt carried.now self.old.at self.old.body.items }
         requires within { self.old.at ≤ length carried.now }
         requires fits { length self.old.body.items ≤ limit }
@@ -142,13 +172,13 @@ impl Walked {
         ensures chunks { AreChunksAt carried.now self.new.at self.new.body.items }
         ensures within { self.new.at ≤ length carried.now }
         ensures fits { length self.new.body.items ≤ limit }
-        ensures end { IfOk result (IsWalkEnd (limit - length self.new.body.items)
+        ensures stop { IfOk result (IsStop (limit - length self.new.body.items)
             (drop self.new.at carried.now)) }
     {
         loop {
             match look_for_chunk(&carried[self.at..], limit - self.body.len()) {
-                ChunkLook::Found(start, size) if size > 0 => self.pass(carried, start, size)?,
-                look => return Ok(look),
+                ChunkLook::Chunk(start, size) => self.pass(carried, start, size)?,
+                ChunkLook::Rest(stop) => return Ok(stop),
             }
         }
     }

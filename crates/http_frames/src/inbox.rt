@@ -70,7 +70,8 @@ fn settle<S: Source>(
     ensures other { result ≢ Err FrameFault.NoFrame }
 {
     'reads: loop {
-        match look_for_frame(side, held.bytes(), headers, walked)? {
+        let look = look_for_frame(side, held.bytes(), headers, walked)?;
+        match look {
             Look::Whole(spans) => return Ok(Settled::Whole(spans)),
             Look::Never => return Ok(Settled::Never),
             Look::Short(need) => {

@@ -1,5 +1,6 @@
 //! A look for a frame at the front of some bytes.
-ghost use Rattle.std.specs.Prelude.{◌≡◌, ℕ, List, IfOk, length};
+ghost use Rattle.std.specs.Prelude.{◌≡◌, ◌-◌, ℕ, List, IfOk, length, drop};
+ghost use Rattle.http_frames.specs.ChunkLooks.{IsStop};
 ghost use Rattle.http_frames.specs.Body.{counted};
 ghost use Rattle.http_frames.specs.Frame.{lines_limit, body_limit};
 ghost use Rattle.http_frames.specs.Looks.{IsLook};
@@ -7,7 +8,7 @@ ghost use Rattle.http_frames.specs.Spans.{IsGoodHead, IsHeadAt, IsWalked, AreBeh
 
 use crate::Side;
 use crate::body::{Coding, coding_of};
-use crate::chunks::{ChunkLook, Walked};
+use crate::chunks::{Stop, Walked};
 use crate::head::{HeadLook, HeadSpans, StartSpans, look_for_head};
 use httparse::spans::HeaderSpan;
 use std::alloc::AllocError;
@@ -80,7 +81,38 @@ fn look_for_body(side: Side, bytes: &[u8], headers: &[HeaderSpan], head: HeadSpa
     })
 }
 
+/// What frame has this head and the chunks that were walked, behind which a walk stopped.
+#[tactic(auto, using(crate::proofs::LookLemmas::chunks_whole, crate::proofs::LookLemmas::chunks_never, crate::proofs::WaitLemmas::chunks_wait))]
+fn look_behind_chunks(
+    side: Side,
+    bytes: &[u8],
+    headers: &[HeaderSpan],
+    head: HeadSpans,
+    walked: &Walked,
+    stop: Stop,
+) -> Look
+    requires behind { AreBehind side bytes.now headers.now head walked.now.at
+        walked.now.body.items }
+    requires stop { IsStop (body_limit side - length walked.now.body.items)
+        (drop walked.now.at (drop head.len bytes.now)) stop }
+    ensures { IsLook side bytes.now headers.now walked.now.body.items result }
+{
+    let at = head.len + walked.at;
+    match stop {
+        Stop::End(start) => Look::Whole(FrameSpans {
+            start: head.start,
+            lines: head.lines,
+            body: head.len,
+            chunked: true,
+            end: at + start + 2,
+        }),
+        Stop::Short(need) => Look::Short(at + need),
+        Stop::Never => Look::Never,
+    }
+}
+
 /// What frame has this head and chunks, of which some were walked.
+#[tactic(auto, using(crate::proofs::LookLemmas::behind_on))]
 fn look_for_chunks(
     side: Side,
     bytes: &[u8],
@@ -94,22 +126,12 @@ fn look_for_chunks(
     ensures look { IfOk result
         (IsLook side bytes.now headers.now walked.new.body.items) }
 {
-    let end = walked.walk(&bytes[head.len..], body_limit(side))?;
-    let at = head.len + walked.at;
-    Ok(match end {
-        ChunkLook::Found(start, _) => Look::Whole(FrameSpans {
-            start: head.start,
-            lines: head.lines,
-            body: head.len,
-            chunked: true,
-            end: at + start + 2,
-        }),
-        ChunkLook::Short(need) => Look::Short(at + need),
-        ChunkLook::Never => Look::Never,
-    })
+    let stop = walked.walk(&bytes[head.len..], body_limit(side))?;
+    Ok(look_behind_chunks(side, bytes, headers, head, walked, stop))
 }
 
 /// What frame has this head.
+#[tactic(auto, using(crate::proofs::LookLemmas::no_body, crate::proofs::LookLemmas::behind_from, crate::proofs::LookLemmas::walked_from))]
 fn look_behind(
     side: Side,
     bytes: &[u8],
@@ -130,6 +152,7 @@ fn look_behind(
 }
 
 /// What frame has the head that was found, whose length isn't judged yet.
+#[tactic(auto, using(crate::proofs::LookLemmas::head_too_long))]
 fn look_at_head(
     side: Side,
     bytes: &[u8],
@@ -151,6 +174,7 @@ fn look_at_head(
 
 /// What frame of that side stands at the front of the bytes. Where its lines are is written to
 /// `headers`. What was walked of its chunks isn't walked again.
+#[tactic(auto, using(crate::proofs::LookLemmas::no_head_within, crate::proofs::LookLemmas::too_many_lines, crate::proofs::WaitLemmas::empty_waits, crate::proofs::WaitLemmas::head_waits))]
 pub(crate) fn look_for_frame(
     side: Side,
     bytes: &[u8],
