@@ -1,5 +1,5 @@
 -- What a look at the front of chunks says of the bytes, and of a body that they carry.
-use Rattle.std.proofs.Common.{◌≡◌, ◌≢◌, ℕ, ◌+◌, ◌-◌, ◌<◌, ◌≤◌, ◌⊎◌, min, List, [], ◌∷◌, ◌++◌, length, take, drop, get_or, refl, sym, ap, subst, ◌∙◌, inl, inr, arith, append_assoc}
+use Rattle.std.proofs.Common.{◌≡◌, ◌≢◌, ℕ, ◌+◌, ◌-◌, ◌<◌, ◌≤◌, ◌⊎◌, min, List, [], ◌∷◌, ◌++◌, length, take, drop, slice_range, get_or, refl, sym, ap, subst, ◌∙◌, inl, inr, arith, append_assoc}
 use Rattle.std.specs.Prelude.{All}
 use Rattle.std.proofs.Math.Seq.{get_or-append_seam}
 use Rattle.std.proofs.lemmas.List.{take_at, drop_at, append-nil, length-append, length-take, length-drop, take-append-le, take-append-drop, drop-drop, take_all, take_more, drop_more, get_or_append_left, get_or-append-add, flat_map_more}
@@ -225,13 +225,13 @@ pub walked_none : (bytes : List ℕ) → AreChunksAt bytes 0 []
 walked_none bytes = record { chunks = []; each = All-nil IsChunk; bytes_are = refl; at_is = refl; body_is = refl }
 
 -- one more was
-pub walked_on : (bytes body : List ℕ) (at start size : ℕ) → AreChunksAt bytes at body → GoesOnBy (drop at bytes) start size → 0 < size
-    → AreChunksAt bytes (at + (start + size + 2)) (body ++ take size (drop (at + start) bytes))
-walked_on bytes body at start size w g some =
+pub walked_on : (bytes body : List ℕ) (at start size from : ℕ) → AreChunksAt bytes at body → GoesOnBy (drop at bytes) start size → 0 < size
+    → from ≡ at + start → AreChunksAt bytes (from + size + 2) (body ++ slice_range bytes from (from + size))
+walked_on bytes body at start size from w g some from_is =
     let rest = drop at bytes in
     let part = take size (drop start rest) in
     let line = print_chunk_line g.at.line in
-    let next = at + (start + size + 2) in
+    let next = from + size + 2 in
     let behind = drop (size + 2) (drop start rest) in
     let len : length part ≡ size = length-take size (drop start rest) ∙ omega (arith, g.ends.within) in
     let chunk : Chunk = record { line = g.at.line; part = part } in
@@ -239,20 +239,22 @@ walked_on bytes body at start size w g some =
     let before = chunks_text w.chunks in
     let next_is : at + (start + (size + 2)) ≡ next = omega arith in
     let behind_is : behind ≡ drop next bytes =
-    drop-drop (size + 2) start rest ∙ drop-drop (start + (size + 2)) at bytes
-    ∙ ap (λ k. drop k bytes) next_is in
+    drop-drop (size + 2) start rest ∙ drop-drop (start + (size + 2)) at bytes ∙ ap (λ k. drop k bytes) next_is in
     let rest_is : rest ≡ text ++ behind =
     g.at.text_is ∙ ap (λ t. line ++ t) (g.ends.text_is ∙ sym (append_assoc part crlf_bytes behind))
     ∙ sym (append_assoc line (part ++ crlf_bytes) behind) in
     let all : before ++ text ≡ chunks_text (w.chunks ++ chunk ∷ []) = flat_map_more chunk_text [] w.chunks chunk in
     let is : IsChunk chunk = (subst (Announces g.at.line) (sym len) g.at.announces, omega arith) in
+    let width : from + size - from ≡ size = omega arith in
+    let part_is : slice_range bytes from (from + size) ≡ part =
+    (λ i. take (width i) (drop (from_is i) bytes)) ∙ ap (take size) (sym (drop-drop start at bytes)) in
     record {
       chunks = w.chunks ++ chunk ∷ [];
       each = All-append IsChunk w.chunks (chunk ∷ []) w.each (All-cons IsChunk chunk [] is (All-nil IsChunk));
       bytes_are = w.bytes_are ∙ ap (λ t. before ++ t) (rest_is ∙ ap (λ t. text ++ t) behind_is)
           ∙ sym (append_assoc before text (drop next bytes)) ∙ ap (λ t. t ++ drop next bytes) all;
-      at_is = omega (arith, w.at_is, len, g.at.start_is, ap length (sym all), length-append before text, length-append line (part ++ crlf_bytes), length-append part crlf_bytes);
-      body_is = (λ i. w.body_is i ++ take size (sym (drop-drop start at bytes) i)) ∙ flat_map_more (λ (c : Chunk). c.part) [] w.chunks chunk;
+      at_is = omega (arith, w.at_is, len, from_is, g.at.start_is, ap length (sym all), length-append before text, length-append line (part ++ crlf_bytes), length-append part crlf_bytes);
+      body_is = (λ i. w.body_is i ++ part_is i) ∙ flat_map_more (λ (c : Chunk). c.part) [] w.chunks chunk;
     }
 
 -- what stands behind them where they and others carry a body

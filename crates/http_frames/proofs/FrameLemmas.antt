@@ -49,7 +49,7 @@ opened c cs rest = simp append_assoc
 chunks_same : (cs ds : List Chunk) (l k : ChunkLine) (r q : List ℕ) → All IsChunk cs → All IsChunk ds → Announces l 0 → Announces k 0
     → chunks_text cs ++ (print_chunk_line l ++ r) ≡ chunks_text ds ++ (print_chunk_line k ++ q)
     → (cs ≡ ds) × (l ≡ k) × (r ≡ q)
-chunks_same [] [] l k r q us vs a b e = let s = line_same l k 0 0 r q a b e in (refl, s.1, s.2)
+chunks_same [] [] l k r q us vs a b e = let s = line_same l k 0 0 r q a b e in (refl, s.0, s.2)
 chunks_same [] (d ∷ ds) l k r q us vs a b e =
     let one = All-head IsChunk d ds vs in
     let later = print_chunk_line k ++ q in

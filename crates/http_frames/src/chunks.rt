@@ -63,6 +63,7 @@ fn look_for_end(text: &[u8], n: usize) -> EndLook
 }
 
 /// The first bytes, of which a chunk line is no longer.
+#[tactic(auto, using(crate::proofs::ChunkLemmas::front_is))]
 fn front_of(text: &[u8]) -> &[u8]
     ensures { result.now ≡ take 256 text.now }
 {
@@ -144,6 +145,7 @@ impl Walked {
     }
 
     /// Walks over one more chunk, whose line ends `start` bytes behind those that were walked.
+    #[tactic(auto, using(crate::proofs::ChunkLemmas::chunk_within, crate::proofs::ChunkLemmas::walked_on))]
     fn pass(&mut self, carried: &[u8], start: usize, size: usize) -> Result<(), AllocError>
         requires chunks { AreChunksAt carried.now self.old.at self.old.body.items }
         requires within { self.old.at ≤ length carried.now }
@@ -154,7 +156,7 @@ impl Walked {
         ensures ok { OnOk result (self.new.at ≡ self.old.at + (start + size + 2)) }
         ensures len { OnOk result
             (length self.new.body.items ≡ length self.old.body.items + size) }
-        ensures err { OnErr result (self.new ≡ self.old) }
+        ensures err { OnErr result (self.new.body.items ≡ self.old.body.items) }
     {
         let from = self.at + start;
         self.body.extend_from_slice(&carried[from..from + size])?;
@@ -175,7 +177,7 @@ impl Walked {
         ensures stop { IfOk result (IsStop (limit - length self.new.body.items)
             (drop self.new.at carried.now)) }
     {
-        loop {
+        'chunks: loop {
             match look_for_chunk(&carried[self.at..], limit - self.body.len()) {
                 ChunkLook::Chunk(start, size) => self.pass(carried, start, size)?,
                 ChunkLook::Rest(stop) => return Ok(stop),

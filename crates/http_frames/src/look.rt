@@ -1,5 +1,5 @@
 //! A look for a frame at the front of some bytes.
-ghost use Rattle.std.specs.Prelude.{◌≡◌, ◌-◌, ℕ, List, IfOk, length, drop};
+ghost use Rattle.std.specs.Prelude.{◌≡◌, ◌-◌, ◌^◌, ◌<◌, ℕ, List, IfOk, length, drop};
 ghost use Rattle.http_frames.specs.ChunkLooks.{IsStop};
 ghost use Rattle.http_frames.specs.Body.{counted};
 ghost use Rattle.http_frames.specs.Frame.{lines_limit, body_limit};
@@ -50,7 +50,8 @@ pub(crate) enum Look {
 }
 
 fn body_limit(side: Side) -> usize
-    ensures { result ≡ body_limit side }
+    ensures limit { result ≡ body_limit side }
+    ensures small { result < 2 ^ 32 }
 {
     match side {
         Side::Request => REQUEST_BODY_LIMIT,
@@ -59,7 +60,7 @@ fn body_limit(side: Side) -> usize
 }
 
 /// What frame has this head and a body of so many bytes.
-#[tactic(auto, using(crate::proofs::LookLemmas::too_large, crate::proofs::LookLemmas::waits_for_body, crate::proofs::LookLemmas::whole_frame))]
+#[tactic(auto, using(crate::proofs::LookLemmas::too_large, crate::proofs::WaitLemmas::body_waits, crate::proofs::LookLemmas::whole_frame))]
 fn look_for_body(side: Side, bytes: &[u8], headers: &[HeaderSpan], head: HeadSpans, n: u64) -> Look
     requires good { IsGoodHead side bytes.now headers.now head }
     requires framing { framing_at bytes.now headers.now head ≡ counted n }

@@ -21,3 +21,7 @@ settled_none : (s : Settled) (side : Side) (held : List ℕ) (left : Option (Lis
 settled_none (Whole spans) side held left some none end = tt
 settled_none End side held left some none end = tt
 settled_none Never side held left some none end = none_at_end side held left (some refl) none end
+
+-- what a look says of the bytes held
+never_held : (side : Side) (held : List ℕ) (left : Option (List ℕ)) → CanNotBegin side held → HoldsNoFrame side held left
+never_held side held left never = none_ever side held left (never_empty side held never) never
