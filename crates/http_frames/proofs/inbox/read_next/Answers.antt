@@ -5,10 +5,13 @@ use Rattle.http_frames.specs.Settled.{IfSettled}
 use Rattle.http_frames.proofs.WaitLemmas.{taken}
 use Rattle.http_frames.proofs.inbox.read_next.Goals as goal
 
-pub returns-in_ok-take_frame-in-Whole-clause-message : goal.returns-in_ok-take_frame-in-Whole-clause-message
-returns-in_ok-take_frame-in-Whole-clause-message g c =
+pub returns-in_ok-frame-in-Whole-clause-message : goal.returns-in_ok-frame-in-Whole-clause-message
+returns-in_ok-frame-in-Whole-clause-message g c =
     let body = c.settle.new.walked.body.items in
     let whole = subst (λ (s : Settled). IfSettled (Ok s) (IsFrameAt c.args.side c.settle.new.held c.settle.new.headers body)) c.in-Whole.is c.in_ok-spans.ensures.whole in
     taken c.args.side (g.S.Source.left c.args.src.now) (g.S.Source.left c.settle.new.src) c.args.held.now c.settle.new.held c.take_frame.new.held
-    c.args.src.now c.settle.new.src c.settle.new.headers body c.in-Whole.spans c.in_ok-take_frame-in-Whole.field-0
-    c.settle.ensures.reads c.settle.ensures.needed whole c.in_ok-take_frame-in-Whole.ensures.frame c.in_ok-take_frame-in-Whole.ensures.ok
+    c.args.src.now c.settle.new.src c.settle.new.headers body c.in-Whole.spans c.in_ok-frame-in-Whole.frame
+    c.settle.ensures.reads c.settle.ensures.needed whole c.in_ok-frame-in-Whole.ensures.frame c.in_ok-frame-in-Whole.ensures.ok
+
+pub returns-in_err-spans-clause-waiting : goal.returns-in_err-spans-clause-waiting
+returns-in_err-spans-clause-waiting g c = λ e. c.in_err-spans.ensures.waiting (cc)
