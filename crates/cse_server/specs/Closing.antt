@@ -3,8 +3,7 @@ use Rattle.std.specs.Prelude.{ℕ, ◌==◌, nat_le, Bool, ◌&&◌, ◌||◌, L
 use Rattle.std.specs.Prelude.{if◌then◌else◌}
 use Rattle.std.specs.List.{list_all, list_any, slice_split}
 use Rattle.http_frames.specs.declared.frame.Frame.{Frame}
-use Rattle.http_frames.specs.declared.frame.Start.{Start}
-use Rattle.http_frames.specs.declared.frame.Start.TheVariants.{Ask, Answer}
+use Rattle.http_frames.specs.Body.{minor_of}
 use Rattle.http_frames.specs.Lines.{Line, is_same_name}
 use Rattle.http_binding.specs.Headers.{connection_field}
 
@@ -37,11 +36,6 @@ asks_by line = is_same_name line.0 connection_field && lists_close line.1
 -- one of the lines has it
 abbrev pub asks_to_close : List Line → Bool
 asks_to_close lines = list_any asks_by lines
-
--- the last digit of the HTTP version
-abbrev pub minor_of : Start → ℕ
-minor_of (Ask method target minor) = minor
-minor_of (Answer status minor) = minor
 
 -- the most frames that a connection has
 abbrev pub most_frames : ℕ

@@ -2,6 +2,7 @@
 ghost use Rattle.std.specs.Prelude.{◌≡◌};
 ghost use Rattle.std.specs.List.{list_all, list_any};
 ghost use Rattle.http_binding.specs.Headers.{connection_field};
+ghost use Rattle.http_frames.specs.Body.{minor_of};
 ghost use Rattle.http_frames.specs.Lines.{is_same_name};
 ghost use Rattle.cse_server.specs.Closing as spec;
 
@@ -19,7 +20,7 @@ pub(crate) fn closes(place: u64, frame: &Frame) -> bool
 }
 
 fn minor_of(start: &Start) -> u8
-    ensures { result ≡ spec.minor_of start.now }
+    ensures { result ≡ minor_of start.now }
 {
     match start {
         Start::Ask { minor, .. } | Start::Answer { minor, .. } => *minor,

@@ -22,9 +22,10 @@ use Rattle.m2m_value.specs.Data.{Data}
 use Rattle.primitive_json.specs.Bounds.{is_graphic, is_request_id}
 use Rattle.primitive_json.specs.declared.reply.ReplyParts.{ReplyParts}
 use Rattle.http_frames.specs.declared.frame.Side.TheVariants.{Reply}
+use Rattle.http_frames.specs.declared.frame.Start.{Start}
 use Rattle.http_frames.specs.declared.frame.Start.TheVariants.{Answer}
 use Rattle.http_frames.specs.Lines.{Line, is_same_name, values_named}
-use Rattle.http_frames.specs.Body.{counted, framing_of, framing_of_values, is_length, CarriesBody}
+use Rattle.http_frames.specs.Body.{counted, minor_of, framing_of, framing_of_values, is_length, CarriesBody}
 use Rattle.http_frames.specs.Frame.{body_limit}
 use Rattle.http_frames.specs.Stream.{BeginsWith}
 use Rattle.http_frames.specs.Text.{phrase_of, start_text, line_text, frame_text, IsLine, IsSound}
@@ -169,9 +170,9 @@ announces code (Some id) None size true = record { count = omega arith; coding =
 announces code (Some id) (Some content) size false = record { count = omega arith; coding = refl; size_is = refl }
 announces code (Some id) (Some content) size true = record { count = omega arith; coding = refl; size_is = refl }
 
-framing_is : (n : ℕ) (lines : List Line) → n < 10 ^ 7 → Announces (decimal n) lines → framing_of lines ≡ counted n
-framing_is n lines small a =
-    (λ i. framing_of_values (a.coding i) (a.size_is i)) ∙ cond-true _ _ _ (length_is n small) ∙ ap counted (decimal_is_IsNumeral n (omega arith)).1
+framing_is : (start : Start) (n : ℕ) (lines : List Line) → n < 10 ^ 7 → Announces (decimal n) lines → framing_of start lines ≡ counted n
+framing_is start n lines small a =
+    (λ i. framing_of_values (minor_of start) (a.coding i) (a.size_is i)) ∙ cond-true _ _ _ (length_is n small) ∙ ap counted (decimal_is_IsNumeral n (omega arith)).1
 
 -- the size of the head
 lines_length : (lines : List Line) → All IsShortLine lines → length (flat_map line_text lines) ≤ length lines * 160
@@ -189,7 +190,7 @@ reply_sound reply close h =
     let lines = reply_lines reply close in
     let short = short_lines reply close h in
     let says = announces (decimal (rsc_row reply.rsc).number) reply.rqi reply.pc (decimal size) close in
-    let framing = framing_is size lines (body_small size h.body) says in
+    let framing = framing_is (Answer http 1) size lines (body_small size h.body) says in
     record {
       start = (http_small reply.rsc, omega arith);
       lines = All-weaker IsShortLine IsLine (λ line s. s.0) lines short;

@@ -1,5 +1,8 @@
 -- Lengths in digits, and what lines say of a body.
-use Rattle.std.proofs.Common.{◌≡◌, ℕ, ◌+◌, ◌*◌, ◌^◌, ◌<◌, ◌≤◌, true, List, [], ◌∷◌, length, take, get_or, ◌∙◌, arith}
+use Rattle.std.proofs.Common.{◌≡◌, ◌≢◌, ◌==◌, ℕ, ◌+◌, ◌*◌, ◌^◌, ◌<◌, ◌≤◌, Bool, true, false, ◌&&◌, List, [], ◌∷◌, length, take, get_or, codes, refl, sym, ◌∙◌, arith}
+use Rattle.std.specs.Prelude.{if◌then◌else◌}
+use Rattle.http_frames.specs.Lines.{is_same_name}
+use Rattle.http_frames.specs.Body.{Framing, chunked, refused, framing_of_coding, framing_of_values}
 use Rattle.std.specs.List.{list_all}
 use Rattle.std.specs.Char.{is_ascii_digit, digit_value}
 use Rattle.std.specs.Str.Parse.{digits_value, AllDigits}
@@ -44,3 +47,39 @@ digits_step ds i n d inside short so_far digit is =
     let length_is : length (take (i + 1) ds) ≤ 18 = simp length-take (omega arith) in
     let below : digits_value 10 (take (i + 1) ds) < 10 ^ 18 = digits_below (take (i + 1) ds) digits length_is in
     (value, digits, omega arith)
+
+-- ---- what a head says of the body
+
+-- another version
+pub coding_refused : (minor : ℕ) (value : List ℕ) → minor ≢ 1 → framing_of_coding minor value ≡ refused
+coding_refused minor value other =
+    let no : (minor == 1) ≡ false = grind (arith, nat_tests) in
+    λ i. if (no i && is_same_name value (codes "chunked")) then chunked else refused
+
+-- that version: by whether the coding is the one that is served
+pub coding_is : (minor : ℕ) (value : List ℕ) (same : Bool) → minor ≡ 1 → same ≡ is_same_name value (codes "chunked")
+    → framing_of_coding minor value ≡ (if same then chunked else refused)
+coding_is minor value same one is =
+    let yes : (minor == 1) ≡ true = grind (arith, nat_tests) in
+    λ i. if (yes i && sym is i) then chunked else refused
+
+-- a lone coding, beside what there is of a length
+pub lone_framing : (minor : ℕ) (value : List ℕ) (lengths : List (List ℕ)) (framing : Framing) → lengths ≡ []
+    → framing_of_coding minor value ≡ framing → framing_of_values minor (value ∷ []) lengths ≡ framing
+lone_framing minor value lengths framing none is = (λ i. framing_of_values minor (value ∷ []) (none i)) ∙ is
+
+pub both_refused : (minor : ℕ) (value other : List ℕ) (lengths : List (List ℕ)) → lengths ≡ other ∷ []
+    → framing_of_values minor (value ∷ []) lengths ≡ refused
+both_refused minor value other lengths one = λ i. framing_of_values minor (value ∷ []) (one i)
+
+pub many_refused : (minor : ℕ) (value : List ℕ) (lengths : List (List ℕ)) → 2 ≤ length lengths
+    → framing_of_values minor (value ∷ []) lengths ≡ refused
+many_refused minor value [] many = absurd (omega arith)
+many_refused minor value (x ∷ lengths) many = refl
+
+-- two codings or more
+pub codings_refused : (minor : ℕ) (codings lengths : List (List ℕ)) → 2 ≤ length codings
+    → framing_of_values minor codings lengths ≡ refused
+codings_refused minor [] lengths many = absurd (omega arith)
+codings_refused minor (x ∷ []) lengths many = absurd (omega arith)
+codings_refused minor (x ∷ y ∷ codings) lengths many = refl

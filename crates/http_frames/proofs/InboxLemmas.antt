@@ -47,9 +47,9 @@ none_within side held need needs short frame rest b =
     absurd (omega arith)
 
 -- a frame that was found stands at the front
-pub frame_begins : (side : Side) (held : List ℕ) (headers : List HeaderSpan) (spans : FrameSpans)
-    → IsFrameAt side held headers spans → BeginsWith side held (frame_at held headers spans) (drop spans.end held)
-frame_begins side held headers spans f = record {
+pub frame_begins : (side : Side) (held body : List ℕ) (headers : List HeaderSpan) (spans : FrameSpans)
+    → IsFrameAt side held headers body spans → BeginsWith side held (frame_at held headers body spans) (drop spans.end held)
+frame_begins side held body headers spans f = record {
   bytes = take spans.end held;
   is_frame = f.is_frame;
   stream_is = sym (take-append-drop spans.end held);

@@ -1,5 +1,6 @@
 pub mod AnswerLemmas
 pub mod BodyLemmas
+pub mod ChunkLemmas
 pub mod FrameLemmas
 pub mod HeadLemmas
 pub mod InboxLemmas

@@ -1,6 +1,6 @@
 -- What a head at the front of some bytes tells of a frame there.
-use Rattle.std.proofs.Common.{◌≡◌, ℕ, ◌+◌, ◌-◌, ◌<◌, ◌≤◌, List, ◌++◌, length, take, drop, refl, sym, ap, subst, ◌∙◌, inl, inr, arith, append_assoc}
-use Rattle.std.proofs.lemmas.List.{take_at, take-append-le, take-append-drop, take-take, drop-take, length-take, length-map, length-drop, length-append}
+use Rattle.std.proofs.Common.{◌≡◌, ℕ, ◌+◌, ◌-◌, ◌<◌, ◌≤◌, true, false, List, [], ◌++◌, length, take, drop, refl, sym, ap, subst, ◌∙◌, inl, inr, arith, append_assoc}
+use Rattle.std.proofs.lemmas.List.{take_at, take-append-le, take-append-drop, take-take, drop-take, length-take, length-map, length-drop, length-append, drop-append-le}
 use Rattle.std.proofs.lemmas.Bool.{cases_lt}
 use Rattle.httparse.specs.declared.spans.HeaderSpan.{HeaderSpan}
 use Rattle.httparse.specs.Grammar.{RequestHead, print_request, ResponseHead, print_response}
@@ -10,18 +10,15 @@ use Rattle.http_frames.specs.declared.frame.Start.{Start}
 use Rattle.http_frames.specs.declared.frame.Frame.{Frame}
 use Rattle.http_frames.specs.declared.head.HeadSpans.{HeadSpans}
 use Rattle.http_frames.specs.Lines.{Line}
-use Rattle.http_frames.specs.Body.{Framing, counted, framing_of, CarriesBody}
+use Rattle.http_frames.specs.Body.{Framing, counted, chunked, refused, framing_of, CarriesBody}
+use Rattle.http_frames.specs.Chunks.{chunks_text, chunks_body, IsChunked}
+use Rattle.http_frames.specs.ChunkLooks.{AreChunksAt, GoesOn, GoesOnBy, ExcludesChunk}
 use Rattle.http_frames.specs.Frame.{body_limit, IsHead, IsFrame}
-use Rattle.http_frames.specs.Spans.{start_at, lines_at, CarriesNoBody, IsHeadAt, HasNoHead, HeadExceeds, IsFrameAt, NeedsBytes, CanNotBegin}
+use Rattle.http_frames.specs.Spans.{start_at, lines_at, framing_at, IsHeadAt, IsGoodHead, HasWalked, IsWalked, AreBehind, HasNoHead, HeadExceeds, IsFrameAt, NeedsBytes, CanNotBegin}
 use Rattle.http_frames.proofs.FrameLemmas.{IsHead_unique}
-
--- a front that is no longer than the first of two lists is a front of it
-pub front_within : (xs more front rest : List ℕ) → xs ++ more ≡ front ++ rest → length front ≤ length xs
-    → xs ≡ front ++ drop (length front) xs
-front_within xs more front rest e short =
-    let n = length front in
-    let same : take n xs ≡ front = sym (take-append-le n xs more short) ∙ ap (take n) e ∙ take_at front rest n refl in
-    sym (take-append-drop n xs) ∙ ap (λ t. t ++ drop n xs) same
+use Rattle.http_frames.proofs.ChunkLemmas.{front_within, walked_none, goes_on}
+use Rattle.httparse.specs.Ascii.{crlf_bytes}
+use Rattle.httparse.specs.Grammar.{print_chunk_line}
 
 -- where a frame stands, its head does
 head_stands : (side : Side) (bytes more text rest : List ℕ) (frame : Frame) (f : IsFrame side text frame)
@@ -60,13 +57,16 @@ too_many_lines side bytes over = record {
 }
 
 -- the head that was found is the head of a frame there
-record IsThatHead (bytes : List ℕ) (headers : List HeaderSpan) (head : HeadSpans) (start : Start) (lines : List Line) (text : List ℕ) : Type 0 where
-  lines_are : lines_at bytes headers head.lines ≡ lines
+record IsThatHead
+    (bytes more : List ℕ) (headers : List HeaderSpan) (head : HeadSpans) (start : Start) (lines : List Line)
+    (text behind : List ℕ) : Type 0 where
+  framing_is : framing_at bytes headers head ≡ framing_of start lines
   len_is : head.len ≡ length text
+  behind_is : drop head.len bytes ++ more ≡ behind
 
 that_head : (side : Side) (bytes more text rest : List ℕ) (headers : List HeaderSpan) (head : HeadSpans) (frame : Frame)
     → IsHeadAt side bytes headers head → (f : IsFrame side text frame) → bytes ++ more ≡ text ++ rest
-    → IsThatHead bytes headers head frame.start frame.lines f.head
+    → IsThatHead bytes more headers head frame.start frame.lines f.head (f.carried ++ rest)
 that_head side bytes more text rest headers head frame h f e =
     let n = head.len in
     let split : take n bytes ++ (drop n bytes ++ more) ≡ f.head ++ (f.carried ++ rest) =
@@ -75,7 +75,7 @@ that_head side bytes more text rest headers head frame h f e =
     let same = IsHead_unique side (take n bytes) f.head (start_at bytes head.start) frame.start
     (lines_at bytes headers head.lines) frame.lines _ _ h.is_head f.is_head split in
     let whole : length (take n bytes) ≡ n = length-take n bytes ∙ omega (arith, h.lines_fit.len_fits) in
-    record { lines_are = same.1; len_is = sym whole ∙ ap length same.2 }
+    record { framing_is = λ i. framing_of (same.0 i) (same.1 i); len_is = sym whole ∙ ap length same.2; behind_is = same.3 }
 
 -- the head is too long
 pub head_too_long : (side : Side) (bytes : List ℕ) (headers : List HeaderSpan) (head : HeadSpans)
@@ -86,35 +86,40 @@ head_too_long side bytes headers head h long = record {
       absurd (omega (arith, f.head_fits, that.len_is));
 }
 
--- its lines announce no body
+-- how the body of that frame is carried
+that_body : (side : Side) (bytes more text rest : List ℕ) (headers : List HeaderSpan) (head : HeadSpans) (framing : Framing) (frame : Frame)
+    → IsHeadAt side bytes headers head → framing_at bytes headers head ≡ framing → (f : IsFrame side text frame) → bytes ++ more ≡ text ++ rest
+    → CarriesBody (body_limit side) framing f.carried frame.body
+that_body side bytes more text rest headers head framing frame h is f e =
+    let that = that_head side bytes more text rest headers head frame h f e in
+    subst (λ (t : Framing). CarriesBody (body_limit side) t f.carried frame.body) (sym that.framing_is ∙ is) f.body
+
+-- it announces no body
 pub no_body : (side : Side) (bytes : List ℕ) (headers : List HeaderSpan) (head : HeadSpans)
-    → IsHeadAt side bytes headers head
-    → CarriesNoBody (body_limit side) (framing_of (lines_at bytes headers head.lines)) → CanNotBegin side bytes
-no_body side bytes headers head h none = record {
-  none = λ more text rest frame f e.
-      let that = that_head side bytes more text rest headers head frame h f e in
-      none.none f.carried frame.body
-      (subst (λ (lines : List Line). CarriesBody (body_limit side) (framing_of lines) f.carried frame.body) (sym that.lines_are) f.body);
+    → IsGoodHead side bytes headers head → framing_at bytes headers head ≡ refused → CanNotBegin side bytes
+no_body side bytes headers head h is = record {
+  none = λ more text rest frame f e. that_body side bytes more text rest headers head refused frame h.at is f e;
 }
 
--- how many bytes carry a body of a known length
-counted_length : (limit n : ℕ) (framing : Framing) (carried body : List ℕ) → framing ≡ counted n
-    → CarriesBody limit framing carried body → length carried ≡ n
-counted_length limit n framing carried body e b =
-    let c = subst (λ (f : Framing). CarriesBody limit f carried body) e b in
-    ap length c.0 ∙ c.1
+-- it announces too long a body
+pub too_large : (side : Side) (bytes : List ℕ) (headers : List HeaderSpan) (head : HeadSpans) (n : ℕ)
+    → IsGoodHead side bytes headers head → framing_at bytes headers head ≡ counted n → body_limit side < n → CanNotBegin side bytes
+too_large side bytes headers head n h is large = record {
+  none = λ more text rest frame f e.
+      let body = that_body side bytes more text rest headers head (counted n) frame h.at is f e in
+      absurd (omega (arith, body.2));
+}
 
 -- the body's length is known
 pub short_of_body : (side : Side) (bytes : List ℕ) (headers : List HeaderSpan) (head : HeadSpans) (n : ℕ)
-    → IsHeadAt side bytes headers head → framing_of (lines_at bytes headers head.lines) ≡ counted n
+    → IsGoodHead side bytes headers head → framing_at bytes headers head ≡ counted n
     → NeedsBytes side bytes (head.len + n)
-short_of_body side bytes headers head n h e = record {
+short_of_body side bytes headers head n h is = record {
   at_least = λ more text rest frame f at.
-      let that = that_head side bytes more text rest headers head frame h f at in
-      let count = counted_length (body_limit side) n (framing_of frame.lines) f.carried frame.body
-      (sym (ap framing_of that.lines_are) ∙ e) f.body in
+      let that = that_head side bytes more text rest headers head frame h.at f at in
+      let body = that_body side bytes more text rest headers head (counted n) frame h.at is f at in
       let whole : length text ≡ length f.head + length f.carried = ap length f.bytes_are ∙ length-append f.head f.carried in
-      omega (arith, that.len_is);
+      omega (arith, that.len_is, ap length body.0, body.1);
 }
 
 take_split : (xs : List ℕ) (m n : ℕ) → m ≤ n → take n xs ≡ take m xs ++ take (n - m) (drop m xs)
@@ -123,36 +128,184 @@ take_split xs m n ordered =
     sym (take-append-drop m (take n xs))
     ∙ (λ i. take-take m n xs ordered i ++ (ap (λ k. drop m (take k xs)) count ∙ drop-take m (n - m) xs) i)
 
+-- the head and what carries the body are there
+whole : (side : Side) (bytes carried body : List ℕ) (headers : List HeaderSpan) (head : HeadSpans) (end : ℕ)
+    → IsGoodHead side bytes headers head → head.len ≤ end → take (end - head.len) (drop head.len bytes) ≡ carried
+    → CarriesBody (body_limit side) (framing_at bytes headers head) carried body
+    → IsFrame side (take end bytes) (record { start = start_at bytes head.start; lines = lines_at bytes headers head.lines; body = body })
+whole side bytes carried body headers head end h ordered is carries =
+    let len = head.len in
+    let lines = lines_at bytes headers head.lines in
+    let head_is : length (take len bytes) ≤ 16384 = simp length-take (omega (arith, h.fits)) in
+    let lines_is : length lines ≤ 64 = simp (length-map, length-take) (omega (arith, h.room)) in
+    record {
+      head = take len bytes;
+      carried = carried;
+      bytes_are = take_split bytes len end ordered ∙ ap (λ t. take len bytes ++ t) is;
+      is_head = h.at.is_head;
+      head_fits = head_is;
+      lines_fit = lines_is;
+      body = carries;
+    }
+
 -- the body is there
-pub whole_frame : (side : Side) (bytes : List ℕ) (headers : List HeaderSpan) (head : HeadSpans) (n : ℕ)
-    → IsHeadAt side bytes headers head → head.len ≤ 16384 → length headers ≤ 64
-    → framing_of (lines_at bytes headers head.lines) ≡ counted n → n ≤ body_limit side → head.len + n ≤ length bytes
-    → IsFrameAt side bytes headers (record { start = head.start; lines = head.lines; body = head.len; end = head.len + n })
-whole_frame side bytes headers head n h short room e fits there =
+pub whole_frame : (side : Side) (bytes body : List ℕ) (headers : List HeaderSpan) (head : HeadSpans) (n : ℕ)
+    → IsGoodHead side bytes headers head → framing_at bytes headers head ≡ counted n → n ≤ body_limit side → head.len + n ≤ length bytes
+    → IsFrameAt side bytes headers body (record { start = head.start; lines = head.lines; body = head.len; chunked = false; end = head.len + n })
+whole_frame side bytes body headers head n h e fits there =
     let len = head.len in
     let end = len + n in
-    let lines = lines_at bytes headers head.lines in
-    let body = take (end - len) (drop len bytes) in
-    let head_is : length (take len bytes) ≤ 16384 = simp length-take (omega arith) in
-    let lines_is : length lines ≤ 64 = simp (length-map, length-take) (omega arith) in
-    let body_is : length body ≡ n = simp (length-take, length-drop) (omega arith) in
-    let carries : CarriesBody (body_limit side) (framing_of lines) body body =
-    subst (λ (f : Framing). CarriesBody (body_limit side) f body body) (sym e) (refl, body_is, fits) in
+    let carried = take (end - len) (drop len bytes) in
+    let body_is : length carried ≡ n = simp (length-take, length-drop) (omega arith) in
+    let carries : CarriesBody (body_limit side) (framing_at bytes headers head) carried carried =
+    subst (λ (f : Framing). CarriesBody (body_limit side) f carried carried) (sym e) (refl, body_is, fits) in
     record {
-      is_frame = record {
-        head = take len bytes;
-        carried = body;
-        bytes_are = take_split bytes len end (omega arith);
-        is_head = h.is_head;
-        head_fits = head_is;
-        lines_fit = lines_is;
-        body = carries;
-      };
+      is_frame = whole side bytes carried carried headers head end h (omega arith) refl carries;
       within = record {
-        start_fits = h.start_fits;
-        lines_fit = h.lines_fit;
+        start_fits = h.at.start_fits;
+        lines_fit = h.at.lines_fit;
         ordered = omega arith;
         end_fits = there;
+      };
+    }
+
+-- ---- chunks behind the head
+
+-- none were walked yet, or some behind that very head
+pub behind_from : (side : Side) (bytes body : List ℕ) (headers : List HeaderSpan) (head : HeadSpans) (at : ℕ)
+    → IsGoodHead side bytes headers head → framing_at bytes headers head ≡ chunked → IsWalked side bytes at body
+    → AreBehind side bytes headers head at body
+behind_from side bytes body headers head at h is (inl none) =
+    let rest = drop head.len bytes in
+    let start : AreChunksAt rest 0 body = subst (λ (b : List ℕ). AreChunksAt rest 0 b) (sym none.1) (walked_none rest) in
+    record {
+      good = h;
+      framing = is;
+      chunks = subst (λ (k : ℕ). AreChunksAt rest k body) (sym none.0) start;
+      within = omega (arith, none.0);
+      fits = omega (arith, ap length none.1);
+    }
+behind_from side bytes body headers head at h is (inr w) =
+    let n = head.len in
+    let same = IsHead_unique side (take n bytes) w.head (start_at bytes head.start) w.start (lines_at bytes headers head.lines) w.lines
+    (drop n bytes) w.rest h.at.is_head w.is_head (take-append-drop n bytes ∙ w.bytes_are) in
+    record {
+      good = h;
+      framing = is;
+      chunks = subst (λ (r : List ℕ). AreChunksAt r at body) (sym same.3) w.chunks;
+      within = omega (arith, w.within, ap length same.3);
+      fits = w.fits;
+    }
+
+pub walked_from : (side : Side) (bytes body : List ℕ) (headers : List HeaderSpan) (head : HeadSpans) (at : ℕ)
+    → AreBehind side bytes headers head at body → IsWalked side bytes at body
+walked_from side bytes body headers head at b = inr (record {
+  head = take head.len bytes;
+  rest = drop head.len bytes;
+  start = start_at bytes head.start;
+  lines = lines_at bytes headers head.lines;
+  bytes_are = sym (take-append-drop head.len bytes);
+  is_head = b.good.at.is_head;
+  chunks = b.chunks;
+  within = b.within;
+  fits = b.fits;
+})
+
+-- more were walked
+pub behind_on : (side : Side) (bytes body more : List ℕ) (headers : List HeaderSpan) (head : HeadSpans) (at next : ℕ)
+    → AreBehind side bytes headers head at body → AreChunksAt (drop head.len bytes) next more → next ≤ length (drop head.len bytes)
+    → length more ≤ body_limit side → AreBehind side bytes headers head next more
+behind_on side bytes body more headers head at next b chunks within fits =
+    record { good = b.good; framing = b.framing; chunks = chunks; within = within; fits = fits }
+
+-- they stay behind it when more bytes came
+pub walked_more : (side : Side) (bytes read now body : List ℕ) (at : ℕ) → now ≡ bytes ++ read → IsWalked side bytes at body
+    → IsWalked side now at body
+walked_more side bytes read now body at is (inl none) = inl none
+walked_more side bytes read now body at is (inr w) =
+    let before = chunks_text w.chunks.chunks in
+    inr (record {
+      head = w.head;
+      rest = w.rest ++ read;
+      start = w.start;
+      lines = w.lines;
+      bytes_are = is ∙ ap (λ t. t ++ read) w.bytes_are ∙ append_assoc w.head w.rest read;
+      is_head = w.is_head;
+      chunks = record {
+        chunks = w.chunks.chunks;
+        each = w.chunks.each;
+        bytes_are = ap (λ t. t ++ read) w.chunks.bytes_are ∙ append_assoc before (drop at w.rest) read
+            ∙ ap (λ t. before ++ t) (sym (drop-append-le at w.rest read w.within));
+        at_is = w.chunks.at_is;
+        body_is = w.chunks.body_is;
+      };
+      within = omega (arith, w.within, length-append w.rest read);
+      fits = w.fits;
+    })
+
+-- where a frame stands, its chunks go on behind those that were walked
+pub frame_goes_on : (side : Side) (bytes more text rest body : List ℕ) (headers : List HeaderSpan) (head : HeadSpans) (at : ℕ) (frame : Frame)
+    → AreBehind side bytes headers head at body → IsFrame side text frame → bytes ++ more ≡ text ++ rest
+    → GoesOn (body_limit side - length body) (drop at (drop head.len bytes) ++ more)
+frame_goes_on side bytes more text rest body headers head at frame b f e =
+    let limit = body_limit side in
+    let behind = drop at (drop head.len bytes) in
+    let that = that_head side bytes more text rest headers head frame b.good.at f e in
+    let c = that_body side bytes more text rest headers head chunked frame b.good.at b.framing f e in
+    let w = b.chunks in
+    let ours = chunks_text w.chunks in
+    let theirs = chunks_text c.0.chunks in
+    let last = print_chunk_line c.0.last in
+    let same : ours ++ (behind ++ more) ≡ theirs ++ (last ++ (crlf_bytes ++ rest)) =
+    sym (append_assoc ours behind more) ∙ ap (λ t. t ++ more) (sym w.bytes_are) ∙ that.behind_is ∙ ap (λ t. t ++ rest) c.0.carried_is
+    ∙ append_assoc theirs (last ++ crlf_bytes) rest ∙ ap (λ t. theirs ++ t) (append_assoc last crlf_bytes rest) in
+    let found = goes_on limit w.chunks c.0.chunks c.0.last (behind ++ more) rest w.each c.0.each c.0.ends same
+    (omega (arith, c.1, ap length c.0.body_is)) in
+    subst (λ (b : List ℕ). GoesOn (limit - length b) (behind ++ more)) (sym w.body_is) found
+
+-- they can't go on
+pub chunks_never : (side : Side) (bytes body : List ℕ) (headers : List HeaderSpan) (head : HeadSpans) (at : ℕ)
+    → AreBehind side bytes headers head at body → ExcludesChunk (body_limit side - length body) (drop at (drop head.len bytes))
+    → CanNotBegin side bytes
+chunks_never side bytes body headers head at b never = record {
+  none = λ more text rest frame f e. never.none more (frame_goes_on side bytes more text rest body headers head at frame b f e);
+}
+
+-- the body ends behind them
+pub chunks_whole : (side : Side) (bytes body : List ℕ) (headers : List HeaderSpan) (head : HeadSpans) (at start end : ℕ)
+    → AreBehind side bytes headers head at body → GoesOnBy (drop at (drop head.len bytes)) start 0 → end ≡ head.len + at + start + 2
+    → IsFrameAt side bytes headers body (record { start = head.start; lines = head.lines; body = head.len; chunked = true; end = end })
+chunks_whole side bytes body headers head at start end b g end_is =
+    let len = head.len in
+    let rest = drop len bytes in
+    let behind = drop at rest in
+    let before = chunks_text b.chunks.chunks in
+    let last = print_chunk_line g.at.line in
+    let carried = before ++ (last ++ crlf_bytes) in
+    let after = drop 2 (drop start behind) in
+    let all : rest ≡ carried ++ after =
+    b.chunks.bytes_are ∙ ap (λ t. before ++ t) (g.at.text_is ∙ ap (λ t. last ++ t) g.ends.text_is ∙ sym (append_assoc last crlf_bytes after))
+    ∙ sym (append_assoc before (last ++ crlf_bytes) after) in
+    let count : length carried ≡ end - len =
+    omega (arith, end_is, b.chunks.at_is, g.at.start_is, length-append before (last ++ crlf_bytes), length-append last crlf_bytes) in
+    let front : take (end - len) rest ≡ carried = ap (take (end - len)) all ∙ take_at carried after (end - len) count in
+    let is_chunked : IsChunked carried body = record {
+      chunks = b.chunks.chunks;
+      last = g.at.line;
+      each = b.chunks.each;
+      ends = g.at.announces;
+      carried_is = refl;
+      body_is = b.chunks.body_is;
+    } in
+    let carries : CarriesBody (body_limit side) (framing_at bytes headers head) carried body =
+    subst (λ (f : Framing). CarriesBody (body_limit side) f carried body) (sym b.framing) (is_chunked, b.fits) in
+    record {
+      is_frame = whole side bytes carried body headers head end b.good (omega (arith, end_is)) front carries;
+      within = record {
+        start_fits = b.good.at.start_fits;
+        lines_fit = b.good.at.lines_fit;
+        ordered = omega (arith, end_is);
+        end_fits = omega (arith, end_is, g.ends.within, g.at.within, b.within, length-drop len bytes, length-drop at rest, length-drop start behind);
       };
     }
 

@@ -1,6 +1,6 @@
 -- What settles nothing, and what reads that were needed leave.
-use Rattle.std.proofs.Common.{◌≡◌, ℕ, ◌+◌, ◌-◌, ◌<◌, ◌≤◌, List, [], ◌∷◌, ◌++◌, length, take, drop, codes, Option, refl, sym, ap, subst, ◌∙◌, inl, inr, arith, append_assoc}
-use Rattle.std.proofs.lemmas.List.{length-append, length-take, length-map, append-nil, take-append-drop}
+use Rattle.std.proofs.Common.{◌≡◌, ◌≢◌, ℕ, ◌+◌, ◌-◌, ◌*◌, ◌<◌, ◌≤◌, ◌⊎◌, List, [], ◌∷◌, ◌++◌, length, take, drop, codes, Option, refl, sym, ap, subst, ◌∙◌, inl, inr, arith, append_assoc}
+use Rattle.std.proofs.lemmas.List.{length-append, length-take, length-drop, length-map, append-nil, take-append-drop}
 use Rattle.std.proofs.lemmas.Bool.{cases_lt}
 use Rattle.std.proofs.lemmas.List.Elements.{All-nil, All-cons}
 use Rattle.std.proofs.lemmas.List.Sums.{AllPass-from_list_all}
@@ -8,21 +8,26 @@ use Rattle.std.specs.Str.{IsUtf8}
 use Rattle.std.proofs.lemmas.Str.{IsUtf8-from_ascii}
 use Rattle.std.proofs.lemmas.Str.Ascii.{IsAscii-from_all}
 use Rattle.httparse.specs.declared.spans.HeaderSpan.{HeaderSpan}
-use Rattle.httparse.specs.Grammar.{is_token_byte, is_uri_byte}
+use Rattle.httparse.specs.Grammar.{is_token_byte, is_uri_byte, print_chunk_line}
 use Rattle.http_frames.specs.declared.frame.Side.{Side}
 use Rattle.http_frames.specs.declared.frame.Side.TheVariants.{Request, Reply}
 use Rattle.http_frames.specs.declared.frame.Start.TheVariants.{Ask, Answer}
 use Rattle.http_frames.specs.declared.frame.Frame.{Frame}
 use Rattle.http_frames.specs.declared.head.HeadSpans.{HeadSpans}
 use Rattle.http_frames.specs.declared.look.FrameSpans.{FrameSpans}
-use Rattle.http_frames.specs.Body.{counted, framing_of}
+use Rattle.http_frames.specs.Body.{counted, framing_of, carried_limit}
+use Rattle.http_frames.specs.Chunks.{chunks_text, chunks_body, chunk_line_limit, LacksLine, LacksPart}
+use Rattle.http_frames.specs.ChunkLooks.{WaitsForChunk}
+use Rattle.http_frames.specs.Looks.{WaitsFor}
 use Rattle.http_frames.specs.Frame.{head_limit, lines_limit, body_limit, IsFrame}
 use Rattle.http_frames.specs.Stream.{BeginsWith, HasNoFrame}
 use Rattle.http_frames.specs.Text.{IsSound, phrase_of, IsLine}
-use Rattle.http_frames.specs.Spans.{start_at, lines_at, frame_at, IsFrameAt, IsHeadAt, HasNoHead}
-use Rattle.http_frames.specs.Waiting.{piece_limit, MayBecomeHead, IsUnsettled, EndsInRead, ReadsAsNeeded, StaysUnsettled, EndsBelow}
+use Rattle.http_frames.specs.Spans.{start_at, lines_at, framing_at, frame_at, IsFrameAt, IsGoodHead, AreBehind, HasNoHead, CanNotBegin}
+use Rattle.http_frames.specs.Waiting.{piece_limit, LackChunk, MayBecomeHead, IsUnsettled, EndsInRead, ReadsAsNeeded, StaysUnsettled, EndsBelow}
 use Rattle.http_frames.specs.Inbox.{Reads, GivesAsNeeded, most_held}
-use Rattle.http_frames.proofs.LookLemmas.{some_bytes, short_of_head, short_of_body, front_within}
+use Rattle.http_frames.proofs.FrameLemmas.{chunks_length}
+use Rattle.http_frames.proofs.ChunkLemmas.{front_within}
+use Rattle.http_frames.proofs.LookLemmas.{some_bytes, short_of_head, short_of_body, frame_goes_on}
 use Rattle.http_frames.proofs.InboxLemmas.{NeedsBytes-more, none_within, frame_begins}
 use Rattle.http_frames.proofs.TextLemmas.{written_is_read}
 
@@ -73,45 +78,120 @@ only_first side bytes open_yet = record {
   ];
 }
 
-pub empty_stays : (side : Side) (bytes : List ℕ) → length bytes ≡ 0 → StaysUnsettled side bytes 1
-empty_stays side [] h = only_first side [] (none_within side [] 1 (some_bytes side []) (omega arith), inl (record { few = omega arith; may = nothing_may side }))
-empty_stays side (b ∷ bytes) h = absurd (omega arith)
+-- where no frame can stand there is something
+none_stands : (side : Side) (bytes text : List ℕ) (frame : Frame) → IsFrame side text frame → CanNotBegin side bytes → bytes ≢ []
+none_stands side bytes text frame f never e = never.none (text ++ []) text [] frame f (ap (λ b. b ++ (text ++ [])) e)
 
-pub head_stays : (side : Side) (bytes : List ℕ) → HasNoHead side bytes → MayBecomeHead side bytes → length bytes < head_limit → StaysUnsettled side bytes (length bytes + 1)
-head_stays side bytes none may few =
-    only_first side bytes (none_within side bytes (length bytes + 1) (short_of_head side bytes none) (omega arith), inl (record { few = few; may = may }))
+pub never_empty : (side : Side) (bytes : List ℕ) → CanNotBegin side bytes → bytes ≢ []
+never_empty Request bytes = none_stands Request bytes _ plain_request (written_is_read Request plain_request request_sound)
+never_empty Reply bytes = none_stands Reply bytes _ plain_reply (written_is_read Reply plain_reply reply_sound)
 
-pub body_stays : (side : Side) (bytes : List ℕ) (headers : List HeaderSpan) (head : HeadSpans) (n : ℕ)
-    → IsHeadAt side bytes headers head → head.len ≤ head_limit → length headers ≤ lines_limit
-    → framing_of (lines_at bytes headers head.lines) ≡ counted n → n ≤ body_limit side
-    → StaysUnsettled side bytes (head.len + n)
-body_stays side bytes headers head n h short room e fits = record {
-  stays = λ more few.
-      let len = head.len in
-      let needs = NeedsBytes-more side bytes more (bytes ++ more) (len + n) (short_of_body side bytes headers head n h e) refl in
-      let parts : bytes ++ more ≡ take len bytes ++ (drop len bytes ++ more) =
-      ap (λ t. t ++ more) (sym (take-append-drop len bytes)) ∙ append_assoc (take len bytes) (drop len bytes) more in
-      let front : length (take len bytes) ≡ len = length-take len bytes ∙ omega (arith, h.lines_fit.len_fits) in
-      let whole : length (bytes ++ more) ≡ length (take len bytes) + length (drop len bytes ++ more) =
-      ap length parts ∙ length-append (take len bytes) (drop len bytes ++ more) in
-      let lines_few : length (lines_at bytes headers head.lines) ≤ lines_limit = simp (length-map, length-take) (omega arith) in (
-        none_within side (bytes ++ more) (len + n) needs few,
-        inr (record {
-          head = take len bytes;
-          part = drop len bytes ++ more;
-          start = start_at bytes head.start;
-          lines = lines_at bytes headers head.lines;
-          announced = n;
-          bytes_are = parts;
-          is_head = h.is_head;
-          head_fits = omega arith;
-          lines_fit = lines_few;
-          framing = e;
-          body_fits = fits;
-          lacks = omega arith;
-        }),
-      );
+pub empty_waits : (side : Side) (bytes : List ℕ) → length bytes ≡ 0 → WaitsFor side bytes 1
+empty_waits side [] h = record {
+  more_wanted = omega arith;
+  stays = only_first side [] (none_within side [] 1 (some_bytes side []) (omega arith), inl (record { few = omega arith; may = nothing_may side }));
+  most = omega arith;
 }
+empty_waits side (b ∷ bytes) h = absurd (omega arith)
+
+pub head_waits : (side : Side) (bytes : List ℕ) → HasNoHead side bytes → MayBecomeHead side bytes → length bytes < head_limit → WaitsFor side bytes (length bytes + 1)
+head_waits side bytes none may few = record {
+  more_wanted = omega arith;
+  stays = only_first side bytes (none_within side bytes (length bytes + 1) (short_of_head side bytes none) (omega arith), inl (record { few = few; may = may }));
+  most = omega arith;
+}
+
+-- few lines are there
+lines_few : (bytes : List ℕ) (headers : List HeaderSpan) (count : ℕ) → length headers ≤ lines_limit → length (lines_at bytes headers count) ≤ lines_limit
+lines_few bytes headers count room = simp (length-map, length-take) (omega arith)
+
+pub body_waits : (side : Side) (bytes : List ℕ) (headers : List HeaderSpan) (head : HeadSpans) (n : ℕ)
+    → IsGoodHead side bytes headers head → framing_at bytes headers head ≡ counted n → n ≤ body_limit side
+    → length bytes < head.len + n → WaitsFor side bytes (head.len + n)
+body_waits side bytes headers head n h e fits lacking = record {
+  more_wanted = lacking;
+  most = omega (arith, h.fits);
+  stays = record {
+    stays = λ more few.
+        let len = head.len in
+        let needs = NeedsBytes-more side bytes more (bytes ++ more) (len + n) (short_of_body side bytes headers head n h e) refl in
+        let parts : bytes ++ more ≡ take len bytes ++ (drop len bytes ++ more) =
+        ap (λ t. t ++ more) (sym (take-append-drop len bytes)) ∙ append_assoc (take len bytes) (drop len bytes) more in
+        let front : length (take len bytes) ≡ len = length-take len bytes ∙ omega (arith, h.at.lines_fit.len_fits) in
+        let whole : length (bytes ++ more) ≡ length (take len bytes) + length (drop len bytes ++ more) =
+        ap length parts ∙ length-append (take len bytes) (drop len bytes ++ more) in (
+          none_within side (bytes ++ more) (len + n) needs few,
+          inr (inl (record {
+            head = take len bytes;
+            part = drop len bytes ++ more;
+            start = start_at bytes head.start;
+            lines = lines_at bytes headers head.lines;
+            announced = n;
+            bytes_are = parts;
+            is_head = h.at.is_head;
+            head_fits = omega (arith, h.fits, front);
+            lines_fit = lines_few bytes headers head.lines h.room;
+            framing = e;
+            body_fits = fits;
+            lacks = omega (arith, whole, front, few);
+          })),
+        );
+  };
+}
+
+-- the next chunk or the end of the body may still come
+pub chunks_wait : (side : Side) (bytes body : List ℕ) (headers : List HeaderSpan) (head : HeadSpans) (at need end : ℕ)
+    → AreBehind side bytes headers head at body → WaitsForChunk (body_limit side - length body) (drop at (drop head.len bytes)) need
+    → end ≡ head.len + at + need → WaitsFor side bytes end
+chunks_wait side bytes body headers head at need end b waits end_is =
+    let len = head.len in
+    let rest = drop len bytes in
+    let behind = drop at rest in
+    let w = b.chunks in
+    let before = chunks_text w.chunks in
+    let limit = body_limit side in
+    let count : length bytes ≡ len + at + length behind =
+    omega (arith, b.good.at.lines_fit.len_fits, b.within, length-drop len bytes, length-drop at rest) in
+    let walked_fits : at ≤ length body * 259 = omega (arith, w.at_is, ap length w.body_is, chunks_length w.chunks w.each) in
+    let short : (more : List ℕ) → length (bytes ++ more) < end → length (behind ++ more) < need =
+    λ more few. omega (arith, count, end_is, length-append bytes more, length-append behind more) in
+    record {
+      more_wanted = omega (arith, count, end_is, waits.more_wanted);
+      most = omega (arith, b.good.fits, end_is, waits.most_wanted, walked_fits, b.fits);
+      stays = record {
+        stays = λ more few.
+            let parts : bytes ++ more ≡ take len bytes ++ (before ++ (behind ++ more)) =
+            ap (λ t. t ++ more) (sym (take-append-drop len bytes) ∙ ap (λ t. take len bytes ++ t) w.bytes_are)
+            ∙ append_assoc (take len bytes) (before ++ behind) more ∙ ap (λ t. take len bytes ++ t) (append_assoc before behind more) in
+            let front : length (take len bytes) ≡ len = length-take len bytes ∙ omega (arith, b.good.at.lines_fit.len_fits) in
+            let lacks = subst (λ (b : List ℕ). LacksLine (behind ++ more) ⊎ LacksPart (limit - length b) (behind ++ more)) w.body_is
+            (waits.lacks more (short more few)) in (
+              λ frame after begins. waits.none more (short more few)
+                  (frame_goes_on side bytes more begins.bytes after body headers head at frame b begins.is_frame begins.stream_is),
+              inr (inr (record {
+                head = take len bytes;
+                part = behind ++ more;
+                start = start_at bytes head.start;
+                lines = lines_at bytes headers head.lines;
+                chunks = w.chunks;
+                bytes_are = parts;
+                is_head = b.good.at.is_head;
+                head_fits = omega (arith, b.good.fits, front);
+                lines_fit = lines_few bytes headers head.lines b.good.room;
+                framing = b.framing;
+                each = w.each;
+                body_fits = omega (arith, b.fits, ap length w.body_is);
+                lacks = lacks;
+              })),
+            );
+      };
+    }
+
+-- where more is waited for there is no frame, also when some more came
+pub waits_still : (side : Side) (held read now : List ℕ) (need : ℕ) → WaitsFor side held need → now ≡ held ++ read → length now < need
+    → HasNoFrame side now
+waits_still side held read now need waits is few =
+    subst (λ (t : List ℕ). HasNoFrame side t) (sym is) (waits.stays.stays read (subst (λ (t : List ℕ). length t < need) is few)).0
 
 -- reads behind bytes that were read before
 pub ends_in_read : (side : Side) (first held now read : List ℕ) (need : ℕ) → held ≡ first ++ read → IsUnsettled side first
@@ -141,6 +221,22 @@ pub needed_on : {S : Type 0} (side : Side) (first held now read : List ℕ) (src
 needed_on side first held now read src mid after need is needed stays few ends =
     inr (ends_in_read side first held now read need is (opens_at side first held src mid need needed stays few) stays ends)
 
+lacks_few : (most : ℕ) (part : List ℕ) → LacksLine part ⊎ LacksPart most part → length part ≤ most + 257
+lacks_few most part (inl line) = omega (arith, line.few)
+lacks_few most part (inr p) =
+    let count : length p.part ≤ p.announced + 1 = elim p.lacks [
+      | inl few ↦ omega arith
+      | inr front ↦ omega (arith, ap length front.2, length-append front.0 (13 ∷ []), front.1)
+    ] in
+    omega (arith, p.announces.fits, p.fits, ap length p.text_is, length-append (print_chunk_line p.line) p.part)
+
+-- where a chunk is lacking, no more is there than a message may have
+chunk_small : (side : Side) (bytes : List ℕ) → LackChunk side bytes → length bytes < head_limit + carried_limit (body_limit side)
+chunk_small side bytes lack =
+    let before = chunks_text lack.chunks in
+    let part = lacks_few (body_limit side - length (chunks_body lack.chunks)) lack.part lack.lacks in
+    omega (arith, part, lack.head_fits, lack.body_fits, chunks_length lack.chunks lack.each, ap length lack.bytes_are, length-append lack.head (before ++ lack.part), length-append before lack.part)
+
 -- little is held
 pub stays_small : {S : Type 0} (side : Side) (first all : List ℕ) (src after : S) → ReadsAsNeeded side first all src after
     → length first < most_held side → length all < most_held side
@@ -150,18 +246,21 @@ stays_small side first all src after (inr read) small =
     let whole : length all ≡ length before + length read.piece = ap length read.all_is ∙ length-append before read.piece in
     elim read.unsettled.1 [
       | inl lack ↦ omega (arith, lack.few, read.small)
-      | inr lack ↦
-          let parts : length before ≡ length lack.head + length lack.part = ap length lack.bytes_are ∙ length-append lack.head lack.part in
-          omega (arith, lack.head_fits, lack.lacks, lack.body_fits, read.small)
+      | inr later ↦ elim later [
+        | inl lack ↦
+            let parts : length before ≡ length lack.head + length lack.part = ap length lack.bytes_are ∙ length-append lack.head lack.part in
+            omega (arith, lack.head_fits, lack.lacks, lack.body_fits, read.small)
+        | inr lack ↦ omega (arith, chunk_small side before lack, read.small)
+      ]
     ]
 
 -- a message that was taken off the front of what reads gave
 pub taken : {S : Type 0} (side : Side) (left rest : Option (List ℕ)) (held all now : List ℕ) (src after : S) (headers : List HeaderSpan)
-    (spans : FrameSpans) (frame : Frame) → Reads left rest held all → ReadsAsNeeded side held all src after
-    → IsFrameAt side all headers spans → frame ≡ frame_at all headers spans → now ≡ drop spans.end all
+    (body : List ℕ) (spans : FrameSpans) (frame : Frame) → Reads left rest held all → ReadsAsNeeded side held all src after
+    → IsFrameAt side all headers body spans → frame ≡ frame_at all headers body spans → now ≡ drop spans.end all
     → GivesAsNeeded side left rest held now src after frame
-taken side left rest held all now src after headers spans frame reads needed f is now_is =
-    let begins = frame_begins side all headers spans f in
+taken side left rest held all now src after headers body spans frame reads needed f is now_is =
+    let begins = frame_begins side all body headers spans f in
     record {
       given = record {
         all = all;

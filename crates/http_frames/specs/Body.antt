@@ -1,14 +1,20 @@
 -- How long a body is, and how it stands on the stream (RFC 9112, section 6).
-use Rattle.std.specs.Prelude.{◌≡◌, ◌≤◌, ℕ, Bool, ◌&&◌, nat_le, List, [], ◌∷◌, length, codes}
+use Rattle.std.specs.Prelude.{◌≡◌, ◌≤◌, ◌+◌, ◌*◌, ◌==◌, ℕ, Bool, ◌&&◌, nat_le, List, [], ◌∷◌}
+use Rattle.std.specs.Prelude.{length, codes}
 use Rattle.std.specs.Prelude.{if◌then◌else◌}
 use Rattle.std.specs.List.{list_all}
 use Rattle.std.specs.Char.{is_ascii_digit}
 use Rattle.std.specs.Str.Parse.{digits_value}
-use Rattle.http_frames.specs.Lines.{Line, values_named}
+use Rattle.http_frames.specs.declared.frame.Start.{Start}
+use Rattle.http_frames.specs.declared.frame.Start.TheVariants.{Ask, Answer}
+use Rattle.http_frames.specs.Chunks.{chunk_line_limit, IsChunked}
+use Rattle.http_frames.specs.Lines.{Line, is_same_name, values_named}
 
--- What the lines say of the body: it has so many bytes, or no message has such lines.
+-- What the head says of the body: it has so many bytes, or it comes in chunks, or no message has such
+-- a head.
 pub data Framing : Type 0 where
   counted : ℕ → Framing
+  chunked : Framing
   refused : Framing
 
 -- 1 to 18 digits: the value of Content-Length (RFC 9110, section 8.6)
@@ -23,18 +29,38 @@ framing_of_lengths (value ∷ []) =
     if is_length value then counted (digits_value 10 value) else refused
 framing_of_lengths (value ∷ next ∷ more) = refused
 
--- from the values of Transfer-Encoding and of Content-Length: no coding is served
-abbrev pub framing_of_values : List (List ℕ) → List (List ℕ) → Framing
-framing_of_values [] lengths = framing_of_lengths lengths
-framing_of_values (coding ∷ codings) lengths = refused
+-- the last digit of the version of HTTP (RFC 9112, section 2.3)
+abbrev pub minor_of : Start → ℕ
+minor_of (Ask method target minor) = minor
+minor_of (Answer status minor) = minor
 
--- what the lines say of the body (RFC 9112, section 6.3)
-abbrev pub framing_of : List Line → Framing
-framing_of lines =
-    framing_of_values (values_named (codes "transfer-encoding") lines)
+-- chunks alone are served, in HTTP/1.1 alone; the name is compared without regard to case (RFC
+-- 9112, sections 6.1 and 7)
+abbrev pub framing_of_coding : ℕ → List ℕ → Framing
+framing_of_coding minor coding =
+    if (minor == 1) && is_same_name coding (codes "chunked") then chunked else refused
+
+-- from the values of Transfer-Encoding and of Content-Length: at most one line of the two (RFC
+-- 9112, section 6.3)
+abbrev pub framing_of_values : ℕ → List (List ℕ) → List (List ℕ) → Framing
+framing_of_values minor [] lengths = framing_of_lengths lengths
+framing_of_values minor (coding ∷ []) [] = framing_of_coding minor coding
+framing_of_values minor (coding ∷ []) (value ∷ lengths) = refused
+framing_of_values minor (coding ∷ next ∷ codings) lengths = refused
+
+-- what the head says of the body (RFC 9112, section 6.3)
+abbrev pub framing_of : Start → List Line → Framing
+framing_of start lines =
+    framing_of_values (minor_of start) (values_named (codes "transfer-encoding") lines)
     (values_named (codes "content-length") lines)
 
 -- These bytes of the stream carry this body, of at most so many bytes.
 abbrev pub CarriesBody : ℕ → Framing → List ℕ → List ℕ → Type 0
 CarriesBody limit (counted n) carried body = (carried ≡ body) × (length body ≡ n) × (n ≤ limit)
+CarriesBody limit chunked carried body = IsChunked carried body × (length body ≤ limit)
 CarriesBody limit refused carried body = ⊥
+
+-- so many bytes of the stream carry a body of so many at most: each byte in a chunk of its own, with
+-- the longest line and its CR LF, and then the longest last line and CR LF
+abbrev pub carried_limit : ℕ → ℕ
+carried_limit limit = limit * (chunk_line_limit + 3) + (chunk_line_limit + 2)

@@ -53,4 +53,5 @@ pub record IsFrame (side : Side) (bytes : List ℕ) (frame : Frame) : Type 0 whe
   pub is_head : IsHead side head frame.start frame.lines
   pub head_fits : length head ≤ head_limit
   pub lines_fit : length frame.lines ≤ lines_limit
-  pub body : CarriesBody (body_limit side) (framing_of frame.lines) carried frame.body
+  pub body :
+      CarriesBody (body_limit side) (framing_of frame.start frame.lines) carried frame.body

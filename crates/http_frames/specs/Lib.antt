@@ -1,8 +1,11 @@
 pub mod Body
+pub mod Chunks
+pub mod ChunkLooks
 pub mod Faults
 pub mod Frame
 pub mod Inbox
 pub mod Lines
+pub mod Looks
 pub mod Settled
 pub mod Spans
 pub mod Stream

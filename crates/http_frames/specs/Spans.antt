@@ -1,6 +1,6 @@
 -- What the offsets that a look at the bytes answers say of them.
-use Rattle.std.specs.Prelude.{◌≡◌, ℕ, ◌<◌, ◌≤◌, List, ◌++◌, length, take, map, slice_range}
-use Rattle.std.specs.Prelude.{Option, Some, None, ⊤}
+use Rattle.std.specs.Prelude.{◌≡◌, ℕ, ◌<◌, ◌≤◌, ◌⊎◌, List, [], ◌++◌, length, take, drop, map}
+use Rattle.std.specs.Prelude.{slice_range, Option, Some, None, ⊤, if◌then◌else◌}
 use Rattle.httparse.specs.declared.spans.HeaderSpan.{HeaderSpan}
 use Rattle.httparse.specs.Spans.{header_bytes, span_bytes, IsWithin, IsSectionWithin}
 use Rattle.http_frames.specs.declared.frame.Side.{Side}
@@ -13,15 +13,17 @@ use Rattle.http_frames.specs.declared.head.HeadSpans.{HeadSpans}
 use Rattle.http_frames.specs.declared.head.HeadLook.{HeadLook}
 use Rattle.http_frames.specs.declared.head.HeadLook.TheVariants.{Whole, NotYet, Never}
 use Rattle.http_frames.specs.declared.look.FrameSpans.{FrameSpans}
-use Rattle.http_frames.specs.declared.look.Look.{Look}
-use Rattle.http_frames.specs.declared.look.Look.TheVariants as look
+use Rattle.http_frames.specs.declared.body.Coding.{Coding}
+use Rattle.http_frames.specs.declared.body.Coding.TheVariants as coding
 use Rattle.http_frames.specs.Lines.{Line}
-use Rattle.http_frames.specs.Body.{Framing, counted, refused, CarriesBody}
-use Rattle.http_frames.specs.Frame.{IsHead, IsFrame}
+use Rattle.http_frames.specs.Body.{Framing, counted, chunked, refused, framing_of, CarriesBody}
+use Rattle.http_frames.specs.ChunkLooks.{AreChunksAt}
+use Rattle.http_frames.specs.Frame.{head_limit, lines_limit, body_limit, IsHead, IsFrame}
 
--- a length as what it says of the body
-abbrev pub framing_as : Option ℕ → Framing
-framing_as (Some n) = counted n
+-- what was read of the head as what it says of the body
+abbrev pub framing_as : Option Coding → Framing
+framing_as (Some (coding.Counted n)) = counted n
+framing_as (Some coding.Chunked) = chunked
 framing_as None = refused
 
 -- no bytes carry a body within the limit
@@ -51,6 +53,45 @@ pub record IsHeadAt
   pub start_fits : IsStartWithin head.len head.start
   pub lines_fit : IsSectionWithin bytes headers head.len head.lines
 
+-- It is a head within the limits.
+pub record IsGoodHead
+    (side : Side) (bytes : List ℕ) (headers : List HeaderSpan) (head : HeadSpans) : Type 0 where
+  pub at : IsHeadAt side bytes headers head
+  pub fits : head.len ≤ head_limit
+  pub room : length headers ≤ lines_limit
+
+-- what it says of the body
+abbrev pub framing_at : List ℕ → List HeaderSpan → HeadSpans → Framing
+framing_at bytes headers head =
+    framing_of (start_at bytes head.start) (lines_at bytes headers head.lines)
+
+-- A head that announces chunks stands at the front, and behind it chunks were walked, up to a place
+-- and with this part of the body.
+pub record HasWalked (side : Side) (bytes : List ℕ) (at : ℕ) (body : List ℕ) : Type 0 where
+  pub head : List ℕ
+  pub rest : List ℕ
+  pub start : Start
+  pub lines : List Line
+  pub bytes_are : bytes ≡ head ++ rest
+  pub is_head : IsHead side head start lines
+  pub chunks : AreChunksAt rest at body
+  pub within : at ≤ length rest
+  pub fits : length body ≤ body_limit side
+
+-- None were walked yet, or some behind the head.
+abbrev pub IsWalked : Side → List ℕ → ℕ → List ℕ → Type 0
+IsWalked side bytes at body = ((at ≡ 0) × (body ≡ [])) ⊎ HasWalked side bytes at body
+
+-- Chunks were walked behind the head that was found, which announces them.
+pub record AreBehind
+    (side : Side) (bytes : List ℕ) (headers : List HeaderSpan) (head : HeadSpans) (at : ℕ)
+    (body : List ℕ) : Type 0 where
+  pub good : IsGoodHead side bytes headers head
+  pub framing : framing_at bytes headers head ≡ chunked
+  pub chunks : AreChunksAt (drop head.len bytes) at body
+  pub within : at ≤ length (drop head.len bytes)
+  pub fits : length body ≤ body_limit side
+
 -- no head stands at the front
 pub record HasNoHead (side : Side) (bytes : List ℕ) : Type 0 where
   pub none : (text rest : List ℕ) (start : Start) (lines : List Line)
@@ -79,12 +120,12 @@ OnNever (Whole head) P = ⊤
 OnNever NotYet P = ⊤
 OnNever Never P = P
 
--- what the spans of a frame cover
-abbrev pub frame_at : List ℕ → List HeaderSpan → FrameSpans → Frame
-frame_at bytes headers spans = record {
+-- what the spans of a frame cover, where its chunks, if it has any, carry this body
+abbrev pub frame_at : List ℕ → List HeaderSpan → List ℕ → FrameSpans → Frame
+frame_at bytes headers body spans = record {
   start = start_at bytes spans.start;
   lines = lines_at bytes headers spans.lines;
-  body = slice_range bytes spans.body spans.end;
+  body = if spans.chunked then body else slice_range bytes spans.body spans.end;
 }
 
 -- The spans lie in the bytes.
@@ -97,8 +138,9 @@ pub record AreWithin
 
 -- A frame stands at the front of the bytes, and the spans cover its parts.
 pub record IsFrameAt
-    (side : Side) (bytes : List ℕ) (headers : List HeaderSpan) (spans : FrameSpans) : Type 0 where
-  pub is_frame : IsFrame side (take spans.end bytes) (frame_at bytes headers spans)
+    (side : Side) (bytes : List ℕ) (headers : List HeaderSpan) (body : List ℕ)
+    (spans : FrameSpans) : Type 0 where
+  pub is_frame : IsFrame side (take spans.end bytes) (frame_at bytes headers body spans)
   pub within : AreWithin bytes headers spans
 
 -- whatever follows, a frame at the front has at least so many bytes
@@ -110,21 +152,3 @@ pub record NeedsBytes (side : Side) (bytes : List ℕ) (need : ℕ) : Type 0 whe
 pub record CanNotBegin (side : Side) (bytes : List ℕ) : Type 0 where
   pub none : (more text rest : List ℕ) (frame : Frame)
       → IsFrame side text frame → ¬ (bytes ++ more ≡ text ++ rest)
-
--- P of the spans, if there is a whole frame
-abbrev pub IfWholeFrame : Look → (FrameSpans → Type 0) → Type 0
-IfWholeFrame (look.Whole spans) P = P spans
-IfWholeFrame (look.Short need) P = ⊤
-IfWholeFrame look.Never P = ⊤
-
--- P of the number of bytes that a frame has at least, if there is none so far
-abbrev pub IfShort : Look → (ℕ → Type 0) → Type 0
-IfShort (look.Whole spans) P = ⊤
-IfShort (look.Short need) P = P need
-IfShort look.Never P = ⊤
-
--- P, if none can be there
-abbrev pub OnNeverFrame : Look → Type 0 → Type 0
-OnNeverFrame (look.Whole spans) P = ⊤
-OnNeverFrame (look.Short need) P = ⊤
-OnNeverFrame look.Never P = P

@@ -69,7 +69,8 @@ pub record IsSound (side : Side) (frame : Frame) : Type 0 where
   pub lines : All IsLine frame.lines
   pub head_fits : length (head_text frame) ≤ head_limit
   pub lines_fit : length frame.lines ≤ lines_limit
-  pub body : CarriesBody (body_limit side) (framing_of frame.lines) frame.body frame.body
+  pub body :
+      CarriesBody (body_limit side) (framing_of frame.start frame.lines) frame.body frame.body
 
 -- What is written of a sound message is read as that message.
 abbrev pub WrittenIsRead : Type 0

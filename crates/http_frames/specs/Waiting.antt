@@ -1,11 +1,12 @@
 -- When more bytes have to be read, and where the last read began.
-use Rattle.std.specs.Prelude.{◌≡◌, ◌<◌, ◌≤◌, ◌⊎◌, ℕ, List, ◌++◌, length}
+use Rattle.std.specs.Prelude.{◌≡◌, ◌-◌, ◌<◌, ◌≤◌, ◌⊎◌, ℕ, List, ◌++◌, length, All}
 use Rattle.httparse.specs.Grammar.{MayBecomeRequest, MayBecomeResponse}
 use Rattle.http_frames.specs.declared.frame.Side.{Side}
 use Rattle.http_frames.specs.declared.frame.Side.TheVariants.{Request, Reply}
 use Rattle.http_frames.specs.declared.frame.Start.{Start}
 use Rattle.http_frames.specs.Lines.{Line}
-use Rattle.http_frames.specs.Body.{framing_of, counted}
+use Rattle.http_frames.specs.Body.{framing_of, counted, chunked}
+use Rattle.http_frames.specs.Chunks.{Chunk, IsChunk, chunks_text, chunks_body, LacksLine, LacksPart}
 use Rattle.http_frames.specs.Frame.{head_limit, lines_limit, body_limit, IsHead}
 use Rattle.http_frames.specs.Stream.{HasNoFrame}
 
@@ -35,13 +36,32 @@ pub record LackBody (side : Side) (bytes : List ℕ) : Type 0 where
   pub is_head : IsHead side head start lines
   pub head_fits : length head ≤ head_limit
   pub lines_fit : length lines ≤ lines_limit
-  pub framing : framing_of lines ≡ counted announced
+  pub framing : framing_of start lines ≡ counted announced
   pub body_fits : announced ≤ body_limit side
   pub lacks : length part < announced
 
+-- They are a head within the limits that announces chunks, whole chunks, and a front of the next or
+-- of the end of the body, which stays within its limit.
+pub record LackChunk (side : Side) (bytes : List ℕ) : Type 0 where
+  pub head : List ℕ
+  pub part : List ℕ
+  pub start : Start
+  pub lines : List Line
+  pub chunks : List Chunk
+  pub bytes_are : bytes ≡ head ++ (chunks_text chunks ++ part)
+  pub is_head : IsHead side head start lines
+  pub head_fits : length head ≤ head_limit
+  pub lines_fit : length lines ≤ lines_limit
+  pub framing : framing_of start lines ≡ chunked
+  pub each : All IsChunk chunks
+  pub body_fits : length (chunks_body chunks) ≤ body_limit side
+  pub lacks : LacksLine part ⊎ LacksPart (body_limit side - length (chunks_body chunks)) part
+
 -- These bytes neither hold a message nor exclude one.
 abbrev pub IsUnsettled : Side → List ℕ → Type 0
-IsUnsettled side bytes = HasNoFrame side bytes × (LackHead side bytes ⊎ LackBody side bytes)
+IsUnsettled side bytes =
+    HasNoFrame side bytes
+    × (LackHead side bytes ⊎ (LackBody side bytes ⊎ LackChunk side bytes))
 
 -- Some reads gave all that stands behind the first bytes: neither the first read nor the last
 -- began where anything was settled, and the last gave a piece.

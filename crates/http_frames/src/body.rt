@@ -1,12 +1,14 @@
-//! How long a body is, by the lines of its head.
-ghost use Rattle.std.specs.Prelude.{◌≡◌, ◌≤◌, All, IfSome, IfNone, length, map, if◌then◌else◌};
+//! How a body stands on the stream, by the lines of its head.
+ghost use Rattle.std.specs.Prelude.{◌≡◌, ℕ, List, [], ◌∷◌, All, length, map, if◌then◌else◌};
 ghost use Rattle.std.specs.Str.Parse.{digits_value};
 ghost use Rattle.httparse.specs.Spans.{IsWithin, IsHeaderWithin, header_bytes, span_bytes};
 ghost use Rattle.http_frames.specs.Lines.{IfOne, IsFound, values_named};
-ghost use Rattle.http_frames.specs.Body.{is_length, framing_of, counted};
-ghost use Rattle.http_frames.specs.Spans.{framing_as, CarriesNoBody};
+ghost use Rattle.http_frames.specs.Body.{is_length, framing_of_lengths, framing_of_coding};
+ghost use Rattle.http_frames.specs.Body.{framing_of_values, framing_of, minor_of};
+ghost use Rattle.http_frames.specs.Spans.{framing_as, start_at};
 
 use crate::Found;
+use crate::head::StartSpans;
 use httparse::spans::{HeaderSpan, Span};
 
 /// A length has at most so many digits.
@@ -45,33 +47,71 @@ fn parse_length(value: &[u8]) -> Option<u64>
     Some(n)
 }
 
-/// The length that the lines announce, or None where no message has such lines.
-fn announced_length(buf: &[u8], headers: &[HeaderSpan]) -> Option<u64>
-    requires { All (IsHeaderWithin (length buf.now)) headers.now }
-    ensures { framing_of (map (header_bytes buf.now) headers.now) ≡ framing_as result }
+/// How a body stands on the stream.
+#[derive(Clone, Copy)]
+pub(crate) enum Coding {
+    /// As it is, with so many bytes.
+    Counted(u64),
+    /// In chunks.
+    Chunked,
+}
+
+/// What a lone Content-Length says, or that there is none.
+fn length_coding(buf: &[u8], found: Found<Span>) -> Option<Coding>
+    requires { IfOne found (IsWithin (length buf.now)) }
+    ensures { (values : List (List ℕ)) → IsFound (span_bytes buf.now) found values
+        → framing_of_lengths values ≡ framing_as result }
 {
-    let Found::Absent = find_span(buf, headers, b"transfer-encoding") else {
-        return None;
-    };
-    match find_span(buf, headers, b"content-length") {
-        Found::Absent => Some(0),
-        Found::One(value) => parse_length(value.of(buf)),
+    match found {
+        Found::Absent => Some(Coding::Counted(0)),
+        Found::One(value) => Some(Coding::Counted(parse_length(value.of(buf))?)),
         Found::Repeated => None,
     }
 }
 
-/// How many bytes of the stream carry the body, where a body of at most `limit` bytes is announced.
-pub(crate) fn carried_length(buf: &[u8], headers: &[HeaderSpan], limit: usize) -> Option<usize>
-    requires { All (IsHeaderWithin (length buf.now)) headers.now }
-    ensures some { IfSome result
-        (λ n. framing_of (map (header_bytes buf.now) headers.now) ≡ counted n) }
-    ensures fits { IfSome result (λ n. n ≤ limit) }
-    ensures none { IfNone result
-        (CarriesNoBody limit (framing_of (map (header_bytes buf.now) headers.now))) }
+/// What a lone Transfer-Encoding says in a message of HTTP/1.`minor`.
+fn named_coding(buf: &[u8], minor: u8, coding: Span) -> Option<Coding>
+    requires { IsWithin (length buf.now) coding }
+    ensures { framing_of_coding minor (span_bytes buf.now coding) ≡ framing_as result }
 {
-    let n = announced_length(buf, headers)?;
-    if n > limit as u64 {
-        return None;
+    if minor == 1 && coding.of(buf).eq_ignore_ascii_case(b"chunked") {
+        Some(Coding::Chunked)
+    } else {
+        None
     }
-    Some(n as usize)
+}
+
+/// What a lone Transfer-Encoding says beside what there is of Content-Length.
+fn lone_coding(buf: &[u8], minor: u8, coding: Span, size: Found<Span>) -> Option<Coding>
+    requires { IsWithin (length buf.now) coding }
+    ensures { (lengths : List (List ℕ)) → IsFound (span_bytes buf.now) size lengths
+        → framing_of_values minor (span_bytes buf.now coding ∷ []) lengths ≡ framing_as result }
+{
+    match size {
+        Found::Absent => named_coding(buf, minor, coding),
+        Found::One(_) | Found::Repeated => None,
+    }
+}
+
+/// The last digit of the version of HTTP.
+fn minor_of(start: StartSpans) -> u8
+    ensures { (bytes : List ℕ) → result ≡ minor_of (start_at bytes start) }
+{
+    match start {
+        StartSpans::Ask { minor, .. } | StartSpans::Answer { minor, .. } => minor,
+    }
+}
+
+/// How the body of a message stands on the stream, or None where no message has such a head.
+pub(crate) fn coding_of(buf: &[u8], start: StartSpans, headers: &[HeaderSpan]) -> Option<Coding>
+    requires { All (IsHeaderWithin (length buf.now)) headers.now }
+    ensures { framing_of (start_at buf.now start) (map (header_bytes buf.now) headers.now)
+        ≡ framing_as result }
+{
+    let size = find_span(buf, headers, b"content-length");
+    match find_span(buf, headers, b"transfer-encoding") {
+        Found::Absent => length_coding(buf, size),
+        Found::One(coding) => lone_coding(buf, minor_of(start), coding, size),
+        Found::Repeated => None,
+    }
 }

@@ -17,8 +17,8 @@ const PIECE: usize = 4_096;
 /// Room for the longest head and a piece, so that few streams need more.
 const ROOM: usize = 20_480;
 
-/// The bytes that were read and are not yet given. Those that are given stay at the front until
-/// room is needed.
+/// The bytes that were read and are not yet given. Of those that are given some stay at the front
+/// until room is needed, and no more than there was room for from the start.
 #[derive(Debug, Drop)]
 pub(crate) struct Held {
     bytes: Vec<u8>,
@@ -33,7 +33,8 @@ impl Model for Held {
 
     ghost view = { λ h. drop h.start h.bytes.items };
 
-    ghost invariant = { λ h. (h.start ≤ length h.bytes.items) × (length h.piece.items ≡ 4096) };
+    ghost invariant = { λ h. (h.start ≤ length h.bytes.items) × (h.start ≤ 20480)
+        × (length h.piece.items ≡ 4096) };
 }
 
 /// Moves the bytes from `start` on to the front.
@@ -53,6 +54,7 @@ fn make_room(bytes: &mut Vec<u8>, start: &mut usize) -> Result<(), AllocError>
     requires { start.old ≤ length bytes.old.items }
     ensures bytes { drop start.new bytes.new.items ≡ drop start.old bytes.old.items }
     ensures start { start.new ≤ length bytes.new.items }
+    ensures given { start.new ≤ start.old }
     ensures room { OnOk result (vec_len bytes.new + piece_limit ≤ vec_capacity bytes.new) }
 {
     if bytes.capacity().saturating_sub(bytes.len()) < PIECE {
@@ -78,12 +80,16 @@ impl Held {
         &self.bytes[self.start..]
     }
 
-    /// Gives the first `n` bytes away.
+    /// Gives the first `n` bytes away, and after a long message the room that it needed.
     pub(crate) fn skip(&mut self, n: usize)
         requires { n ≤ length self.old }
         ensures { self.new ≡ drop n self.old }
     {
         self.start += n;
+        if self.start > ROOM {
+            move_to_front(&mut self.bytes, &mut self.start);
+            self.bytes.shrink_to(ROOM);
+        }
     }
 
     /// Reads once, and answers how many bytes came: 0 only at the end.

@@ -5,12 +5,13 @@ ghost use Rattle.std.specs.Io.KnownBytes.{IsAtEnd};
 ghost use Rattle.m2m_io.specs.Counts.{Rose};
 ghost use Rattle.http_frames.specs.Frame.{lines_limit};
 ghost use Rattle.http_frames.specs.Stream.{HasNoFrame};
-ghost use Rattle.http_frames.specs.Spans.{IsFrameAt, AreWithin, frame_at};
+ghost use Rattle.http_frames.specs.Spans.{IsFrameAt, AreWithin, IsWalked, frame_at};
 ghost use Rattle.http_frames.specs.Inbox.{Reads, GivesAsNeeded, HoldsNoFrame, IfMessage};
 ghost use Rattle.http_frames.specs.Inbox.{UnlessMessage, is_refusal, TakesNext};
 ghost use Rattle.http_frames.specs.Waiting.{ReadsAsNeeded};
 ghost use Rattle.http_frames.specs.Settled.{IfSettled, OnSettledEnd, OnSettledNever, IsNoFrame};
 
+use crate::chunks::Walked;
 use crate::held::Held;
 use crate::look::{FrameSpans, LINES_LIMIT, Look, look_for_frame};
 use crate::parts::frame_of;
@@ -43,21 +44,25 @@ fn settled_at_end(held: &Held) -> Settled
 }
 
 /// Reads until it is settled what stands at the front of the stream: only while the bytes held
-/// settle nothing. Where a frame's lines are is written to `headers`.
+/// settle nothing. Where a frame's lines are is written to `headers`, and what its chunks carry to
+/// `walked`.
 fn settle<S: Source>(
     held: &mut Held,
     src: &mut S,
     side: Side,
     headers: &mut [HeaderSpan],
+    walked: &mut Walked,
 ) -> Result<Settled, FrameFault>
-    requires { length headers.old ≡ lines_limit }
+    requires room { length headers.old ≡ lines_limit }
+    requires walked { IsWalked side held.old walked.old.at walked.old.body.items }
     ensures reads { Reads (S.left src.old) (S.left src.new) held.old held.new }
     ensures needed { ReadsAsNeeded side held.old held.new src.old src.new }
-    ensures whole { IfSettled result (IsFrameAt side held.new headers.new) }
+    ensures whole { IfSettled result
+        (IsFrameAt side held.new headers.new walked.new.body.items) }
     ensures end { OnSettledEnd result (held.new ≡ []) }
     ensures at_end { OnSettledEnd result (IsAtEnd (S.left src.new)) }
     ensures never { OnSettledNever result (HoldsNoFrame side held.new (S.left src.new)) }
-    ensures waiting { OnErr result (HasNoFrame side held.new) }
+    ensures waiting { result ≡ Err FrameFault.ReadFault → HasNoFrame side held.new }
     ensures faults { S.faults src.old ≤ S.faults src.new }
     ensures beside { S.kept_by_read src.new ≡ S.kept_by_read src.old }
     ensures cause { result ≡ Err FrameFault.ReadFault → Rose (S.faults src.old) (S.faults src.new) }
@@ -65,7 +70,8 @@ fn settle<S: Source>(
     ensures other { result ≢ Err FrameFault.NoFrame }
 {
     'reads: loop {
-        match look_for_frame(side, held.bytes(), headers) {
+        let look = look_for_frame(side, held.bytes(), headers, walked)?;
+        match look {
             Look::Whole(spans) => return Ok(Settled::Whole(spans)),
             Look::Never => return Ok(Settled::Never),
             Look::Short(need) => {
@@ -83,13 +89,15 @@ fn take_frame(
     alloc: Global,
     headers: &[HeaderSpan],
     spans: FrameSpans,
+    chunks: Vec<u8>,
 ) -> Result<Frame, AllocError>
     requires { AreWithin held.old headers.now spans }
-    ensures frame { IfOk result (λ frame. frame ≡ frame_at held.old headers.now spans) }
+    ensures frame { IfOk result
+        (λ frame. frame ≡ frame_at held.old headers.now chunks.items spans) }
     ensures ok { OnOk result (held.new ≡ drop spans.end held.old) }
     ensures err { OnErr result (held.new ≡ held.old) }
 {
-    let frame = frame_of(alloc, held.bytes(), headers, spans)?;
+    let frame = frame_of(alloc, held.bytes(), headers, spans, chunks)?;
     held.skip(spans.end);
     Ok(frame)
 }
@@ -116,8 +124,12 @@ fn read_next<S: Source>(
     ensures steady { result ≢ Err FrameFault.ReadFault → S.faults src.new ≡ S.faults src.old }
 {
     let mut headers = [EMPTY_HEADER_SPAN; LINES_LIMIT];
-    match settle(held, src, side, &mut headers)? {
-        Settled::Whole(spans) => Ok(Next::Message(take_frame(held, alloc, &headers, spans)?)),
+    let mut walked = Walked::new(alloc);
+    match settle(held, src, side, &mut headers, &mut walked)? {
+        Settled::Whole(spans) => {
+            let frame = take_frame(held, alloc, &headers, spans, walked.body)?;
+            Ok(Next::Message(frame))
+        }
         Settled::End => Ok(Next::End),
         Settled::Never => Err(FrameFault::NoFrame),
     }

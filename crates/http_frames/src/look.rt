@@ -1,14 +1,17 @@
 //! A look for a frame at the front of some bytes.
-ghost use Rattle.std.specs.Prelude.{◌≡◌, ◌≢◌, [], ◌+◌, ◌<◌, ◌≤◌, length};
-ghost use Rattle.http_frames.specs.Frame.{head_limit, lines_limit, body_limit};
-ghost use Rattle.http_frames.specs.Spans.{IsHeadAt, IfWholeFrame, IfShort, OnNeverFrame};
-ghost use Rattle.http_frames.specs.Spans.{IsFrameAt, NeedsBytes, CanNotBegin};
-ghost use Rattle.http_frames.specs.Waiting.{StaysUnsettled};
+ghost use Rattle.std.specs.Prelude.{◌≡◌, ◌-◌, ◌^◌, ◌<◌, ℕ, List, IfOk, length, drop};
+ghost use Rattle.http_frames.specs.ChunkLooks.{IsStop};
+ghost use Rattle.http_frames.specs.Body.{counted};
+ghost use Rattle.http_frames.specs.Frame.{lines_limit, body_limit};
+ghost use Rattle.http_frames.specs.Looks.{IsLook};
+ghost use Rattle.http_frames.specs.Spans.{IsGoodHead, IsHeadAt, IsWalked, AreBehind, framing_at};
 
 use crate::Side;
-use crate::body::carried_length;
+use crate::body::{Coding, coding_of};
+use crate::chunks::{Stop, Walked};
 use crate::head::{HeadLook, HeadSpans, StartSpans, look_for_head};
 use httparse::spans::HeaderSpan;
+use std::alloc::AllocError;
 
 /// A head has at most so many bytes.
 const HEAD_LIMIT: usize = 16_384;
@@ -28,8 +31,10 @@ pub(crate) struct FrameSpans {
     pub(crate) start: StartSpans,
     /// How many lines it has.
     pub(crate) lines: usize,
-    /// Where the body begins.
+    /// Where what carries the body begins.
     pub(crate) body: usize,
+    /// Whether the body comes in chunks.
+    pub(crate) chunked: bool,
     /// Where the frame ends.
     pub(crate) end: usize,
 }
@@ -38,14 +43,15 @@ pub(crate) struct FrameSpans {
 #[derive(Clone, Copy)]
 pub(crate) enum Look {
     Whole(FrameSpans),
-    /// No whole frame so far: one here has at least so many bytes.
+    /// No whole frame so far: until so many bytes are there, nothing is settled.
     Short(usize),
     /// No frame, whatever follows.
     Never,
 }
 
 fn body_limit(side: Side) -> usize
-    ensures { result ≡ body_limit side }
+    ensures limit { result ≡ body_limit side }
+    ensures small { result < 2 ^ 32 }
 {
     match side {
         Side::Request => REQUEST_BODY_LIMIT,
@@ -53,23 +59,17 @@ fn body_limit(side: Side) -> usize
     }
 }
 
-/// What frame has this head.
-#[tactic(auto, using(crate::proofs::LookLemmas::no_body, crate::proofs::LookLemmas::short_of_body, crate::proofs::LookLemmas::whole_frame, crate::proofs::WaitLemmas::body_stays))]
-fn look_behind(side: Side, bytes: &[u8], headers: &[HeaderSpan], head: HeadSpans) -> Look
-    requires is_head { IsHeadAt side bytes.now headers.now head }
-    requires head_fits { head.len ≤ head_limit }
-    requires room { length headers.now ≤ lines_limit }
-    ensures whole { IfWholeFrame result (IsFrameAt side bytes.now headers.now) }
-    ensures short { IfShort result (λ need. NeedsBytes side bytes.now need) }
-    ensures more { IfShort result (λ need. length bytes.now < need) }
-    ensures stays { IfShort result (λ need. StaysUnsettled side bytes.now need) }
-    ensures most { IfShort result (λ need. need ≤ head_limit + body_limit side) }
-    ensures never { OnNeverFrame result (CanNotBegin side bytes.now) }
+/// What frame has this head and a body of so many bytes.
+#[tactic(auto, using(crate::proofs::LookLemmas::too_large, crate::proofs::WaitLemmas::body_waits, crate::proofs::LookLemmas::whole_frame))]
+fn look_for_body(side: Side, bytes: &[u8], headers: &[HeaderSpan], head: HeadSpans, n: u64) -> Look
+    requires good { IsGoodHead side bytes.now headers.now head }
+    requires framing { framing_at bytes.now headers.now head ≡ counted n }
+    ensures { (body : List ℕ) → IsLook side bytes.now headers.now body result }
 {
-    let Some(len) = carried_length(bytes, &headers[..head.lines], body_limit(side)) else {
+    if n > body_limit(side) as u64 {
         return Look::Never;
-    };
-    let end = head.len + len;
+    }
+    let end = head.len + n as usize;
     if bytes.len() < end {
         return Look::Short(end);
     }
@@ -77,31 +77,122 @@ fn look_behind(side: Side, bytes: &[u8], headers: &[HeaderSpan], head: HeadSpans
         start: head.start,
         lines: head.lines,
         body: head.len,
+        chunked: false,
         end,
     })
 }
 
+/// What frame has this head and the chunks that were walked, behind which a walk stopped.
+#[tactic(auto, using(crate::proofs::LookLemmas::chunks_whole, crate::proofs::LookLemmas::chunks_never, crate::proofs::WaitLemmas::chunks_wait))]
+fn look_behind_chunks(
+    side: Side,
+    bytes: &[u8],
+    headers: &[HeaderSpan],
+    head: HeadSpans,
+    walked: &Walked,
+    stop: Stop,
+) -> Look
+    requires behind { AreBehind side bytes.now headers.now head walked.now.at
+        walked.now.body.items }
+    requires stop { IsStop (body_limit side - length walked.now.body.items)
+        (drop walked.now.at (drop head.len bytes.now)) stop }
+    ensures { IsLook side bytes.now headers.now walked.now.body.items result }
+{
+    let at = head.len + walked.at;
+    match stop {
+        Stop::End(start) => Look::Whole(FrameSpans {
+            start: head.start,
+            lines: head.lines,
+            body: head.len,
+            chunked: true,
+            end: at + start + 2,
+        }),
+        Stop::Short(need) => Look::Short(at + need),
+        Stop::Never => Look::Never,
+    }
+}
+
+/// What frame has this head and chunks, of which some were walked.
+#[tactic(auto, using(crate::proofs::LookLemmas::behind_on))]
+fn look_for_chunks(
+    side: Side,
+    bytes: &[u8],
+    headers: &[HeaderSpan],
+    head: HeadSpans,
+    walked: &mut Walked,
+) -> Result<Look, AllocError>
+    requires { AreBehind side bytes.now headers.now head walked.old.at walked.old.body.items }
+    ensures walked { AreBehind side bytes.now headers.now head walked.new.at
+        walked.new.body.items }
+    ensures look { IfOk result
+        (IsLook side bytes.now headers.now walked.new.body.items) }
+{
+    let stop = walked.walk(&bytes[head.len..], body_limit(side))?;
+    Ok(look_behind_chunks(side, bytes, headers, head, walked, stop))
+}
+
+/// What frame has this head.
+#[tactic(auto, using(crate::proofs::LookLemmas::no_body, crate::proofs::LookLemmas::behind_from, crate::proofs::LookLemmas::walked_from))]
+fn look_behind(
+    side: Side,
+    bytes: &[u8],
+    headers: &[HeaderSpan],
+    head: HeadSpans,
+    walked: &mut Walked,
+) -> Result<Look, AllocError>
+    requires good { IsGoodHead side bytes.now headers.now head }
+    requires walked { IsWalked side bytes.now walked.old.at walked.old.body.items }
+    ensures walked { IsWalked side bytes.now walked.new.at walked.new.body.items }
+    ensures look { IfOk result (IsLook side bytes.now headers.now walked.new.body.items) }
+{
+    match coding_of(bytes, head.start, &headers[..head.lines]) {
+        None => Ok(Look::Never),
+        Some(Coding::Counted(n)) => Ok(look_for_body(side, bytes, headers, head, n)),
+        Some(Coding::Chunked) => look_for_chunks(side, bytes, headers, head, walked),
+    }
+}
+
+/// What frame has the head that was found, whose length isn't judged yet.
+#[tactic(auto, using(crate::proofs::LookLemmas::head_too_long))]
+fn look_at_head(
+    side: Side,
+    bytes: &[u8],
+    headers: &[HeaderSpan],
+    head: HeadSpans,
+    walked: &mut Walked,
+) -> Result<Look, AllocError>
+    requires head { IsHeadAt side bytes.now headers.now head }
+    requires room { length headers.now ≡ lines_limit }
+    requires walked { IsWalked side bytes.now walked.old.at walked.old.body.items }
+    ensures walked { IsWalked side bytes.now walked.new.at walked.new.body.items }
+    ensures look { IfOk result (IsLook side bytes.now headers.now walked.new.body.items) }
+{
+    if head.len > HEAD_LIMIT {
+        return Ok(Look::Never);
+    }
+    look_behind(side, bytes, headers, head, walked)
+}
+
 /// What frame of that side stands at the front of the bytes. Where its lines are is written to
-/// `headers`.
-#[tactic(auto, using(crate::proofs::LookLemmas::some_bytes, crate::proofs::LookLemmas::short_of_head, crate::proofs::LookLemmas::no_head_within, crate::proofs::LookLemmas::head_too_long, crate::proofs::LookLemmas::too_many_lines, crate::proofs::WaitLemmas::empty_stays, crate::proofs::WaitLemmas::head_stays))]
-pub(crate) fn look_for_frame(side: Side, bytes: &[u8], headers: &mut [HeaderSpan]) -> Look
-    requires { length headers.old ≡ lines_limit }
-    ensures whole { IfWholeFrame result (IsFrameAt side bytes.now headers.new) }
-    ensures short { IfShort result (λ need. NeedsBytes side bytes.now need) }
-    ensures more { IfShort result (λ need. length bytes.now < need) }
-    ensures stays { IfShort result (λ need. StaysUnsettled side bytes.now need) }
-    ensures most { IfShort result (λ need. need ≤ head_limit + body_limit side) }
-    ensures never { OnNeverFrame result (CanNotBegin side bytes.now) }
-    ensures some { OnNeverFrame result (bytes.now ≢ []) }
+/// `headers`. What was walked of its chunks isn't walked again.
+#[tactic(auto, using(crate::proofs::LookLemmas::no_head_within, crate::proofs::LookLemmas::too_many_lines, crate::proofs::WaitLemmas::empty_waits, crate::proofs::WaitLemmas::head_waits))]
+pub(crate) fn look_for_frame(
+    side: Side,
+    bytes: &[u8],
+    headers: &mut [HeaderSpan],
+    walked: &mut Walked,
+) -> Result<Look, AllocError>
+    requires room { length headers.old ≡ lines_limit }
+    requires walked { IsWalked side bytes.now walked.old.at walked.old.body.items }
+    ensures walked { IsWalked side bytes.now walked.new.at walked.new.body.items }
+    ensures look { IfOk result (IsLook side bytes.now headers.new walked.new.body.items) }
 {
     if bytes.is_empty() {
-        return Look::Short(1);
+        return Ok(Look::Short(1));
     }
     match look_for_head(side, bytes, headers) {
-        HeadLook::Whole(head) if head.len <= HEAD_LIMIT => {
-            look_behind(side, bytes, headers, head)
-        }
-        HeadLook::NotYet if bytes.len() < HEAD_LIMIT => Look::Short(bytes.len() + 1),
-        _ => Look::Never,
+        HeadLook::Whole(head) => look_at_head(side, bytes, headers, head, walked),
+        HeadLook::NotYet if bytes.len() < HEAD_LIMIT => Ok(Look::Short(bytes.len() + 1)),
+        HeadLook::NotYet | HeadLook::Never => Ok(Look::Never),
     }
 }

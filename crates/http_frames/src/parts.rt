@@ -1,5 +1,6 @@
 //! A frame out of the spans of its parts.
-ghost use Rattle.std.specs.Prelude.{◌≡◌, All, IfOk, length, map};
+ghost use Rattle.std.specs.Prelude.{◌≡◌, ◌≤◌, All, IfOk, length, map, slice_range};
+ghost use Rattle.std.specs.Prelude.{if◌then◌else◌};
 ghost use Rattle.httparse.specs.Spans.{IsWithin, IsHeaderWithin, header_bytes, span_bytes};
 ghost use Rattle.http_frames.specs.Spans.{IsStartWithin, AreWithin, frame_at, start_at};
 
@@ -48,23 +49,39 @@ fn lines_of(alloc: Global, bytes: &[u8], headers: &[HeaderSpan]) -> Result<Lines
     Ok(Lines::of(lines))
 }
 
-/// The frame that the spans cover.
+/// The body that the spans cover, where `chunks` is what its chunks carry, if it has any.
+fn body_of(
+    alloc: Global,
+    bytes: &[u8],
+    spans: FrameSpans,
+    chunks: Vec<u8>,
+) -> Result<Text, AllocError>
+    requires ordered { spans.body ≤ spans.end }
+    requires within { spans.end ≤ length bytes.now }
+    ensures { IfOk result (λ body. body ≡ (if spans.chunked then chunks.items
+        else slice_range bytes.now spans.body spans.end)) }
+{
+    if spans.chunked {
+        Ok(Text::of(chunks))
+    } else {
+        Text::from_slice(alloc, &bytes[spans.body..spans.end])
+    }
+}
+
+/// The frame that the spans cover. Its body is copied once, and what its chunks carry never.
 pub(crate) fn frame_of(
     alloc: Global,
     bytes: &[u8],
     headers: &[HeaderSpan],
     spans: FrameSpans,
+    chunks: Vec<u8>,
 ) -> Result<Frame, AllocError>
     requires { AreWithin bytes.now headers.now spans }
-    ensures { IfOk result (λ frame. frame ≡ frame_at bytes.now headers.now spans) }
+    ensures { IfOk result (λ frame. frame ≡ frame_at bytes.now headers.now chunks.items spans) }
 {
-    let body = Span {
-        start: spans.body,
-        end: spans.end,
-    };
     Ok(Frame {
         start: start_of(alloc, bytes, spans.start)?,
         lines: lines_of(alloc, bytes, &headers[..spans.lines])?,
-        body: text_of(alloc, bytes, body)?,
+        body: body_of(alloc, bytes, spans, chunks)?,
     })
 }

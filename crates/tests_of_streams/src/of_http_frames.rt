@@ -58,6 +58,24 @@ fn messages_are_cut_as_rfc_9112_says(rt: HostRuntime) -> Result<(), Fail> {
             "HTTP/1.1 200\r\nContent-Length: 2\r\n\r\nokHTTP/1.0 599 Odd\r\n\r\n",
             "HTTP/1.1 200 OK\r\nContent-Length: 2\r\n\r\nok|HTTP/1.0 599 \r\n\r\n|end|",
         ),
+        // Chunks have extensions and blanks behind their lengths, which are read in any case; what
+        // is shown of them is the body.
+        (
+            Side::Request,
+            "POST /x HTTP/1.1\r\nTransfer-Encoding: CHUNKED\r\n\r\n\
+             2;a=b\r\nab\r\nA \t\r\n0123456789\r\n00\r\n\r\nG",
+            "POST /x HTTP/1.1\r\nTransfer-Encoding: CHUNKED\r\n\r\nab0123456789|none|none|",
+        ),
+        (
+            Side::Reply,
+            "HTTP/1.1 200 OK\r\ntransfer-encoding: chunked\r\n\r\n1\r\n\n\r\n0\r\n\r\n",
+            "HTTP/1.1 200 OK\r\ntransfer-encoding: chunked\r\n\r\n\n|end|end|",
+        ),
+        (
+            Side::Reply,
+            "HTTP/1.0 200 OK\r\nTransfer-Encoding: chunked\r\n\r\n0\r\n\r\n",
+            "none|none|none|",
+        ),
     ];
     for (side, stream, want) in rows {
         for cut in [1usize, 7, 9_999] {

@@ -1,6 +1,8 @@
 use Rattle.std.proofs.Common.{◌≡◌, ◌+◌, ◌-◌, length}
 use Rattle.http_frames.specs.Frame.{head_limit, body_limit}
+use Rattle.http_frames.specs.Body.{carried_limit}
 use Rattle.http_frames.specs.Inbox.{Reads}
+use Rattle.http_frames.specs.Spans.{IsWalked}
 use Rattle.http_frames.specs.Waiting.{ReadsAsNeeded}
 use Rattle.http_frames.proofs.inbox.settle.Given as goal
 
@@ -10,7 +12,8 @@ invariant-reads g l = record {
   needed : ReadsAsNeeded l.side l.initial.held l.held l.initial.src l.src;
   faults : g.S.Source.faults l.src ≡ g.S.Source.faults l.initial.src;
   beside : g.S.Source.kept_by_read l.src ≡ g.S.Source.kept_by_read l.initial.src;
+  walked : IsWalked l.side l.held l.walked.at l.walked.body.items;
 }
 
 abbrev pub decreases-reads : goal.decreases-reads
-decreases-reads g l = head_limit + body_limit l.side - length l.held
+decreases-reads g l = head_limit + carried_limit (body_limit l.side) - length l.held
