@@ -32,37 +32,43 @@ const VALUES: [(Kind, &str, &str); 18] = [
     (Kind::Content, r#"{"a":null}"#, "null"),
 ];
 
+fn is_of(alloc: Global, kind: Kind, json: &str) -> Result<bool, Fail> {
+    Ok(kind.has(&read(alloc, json.as_bytes())?))
+}
+
 #[test]
 fn a_value_of_each_kind_and_a_near_miss(rt: HostRuntime) -> Result<(), Fail> {
     for (kind, good, bad) in VALUES {
-        assert!(rt; kind.has(&read(rt.alloc(), good.as_bytes())?));
-        assert!(rt; !kind.has(&read(rt.alloc(), bad.as_bytes())?));
+        assert!(rt; is_of(rt.alloc(), kind, good)?, "{good}");
+        assert!(rt; !is_of(rt.alloc(), kind, bad)?, "{bad}");
     }
     Ok(())
 }
 
-// A container that has one attribute.
-fn container(alloc: Global, attr: Attr, value: Val) -> Result<Resource, OutOfMemory> {
+// Whether a container keeps an attribute with this value.
+fn is_kept(alloc: Global, attr: Attr, value: i64) -> Result<bool, OutOfMemory> {
     let empty = || m2m_value::Text::of(Vec::new(alloc));
     let moments = Moments {
         ct: 0,
         lt: 0,
         et: 1,
     };
-    let mut attrs = Attrs::new(alloc);
-    attrs.set(attr, value)?;
-    Ok(Resource::of(4, Ty::Container, empty(), 1, empty(), moments, attrs))
+    let attrs = Attrs::new(alloc);
+    let mut made = Resource::of(4, Ty::Container, empty(), 1, empty(), moments, attrs);
+    made.set(attr, Val::of_num(value))?;
+    Ok(keeps_kinds(&made))
 }
 
 #[test]
 fn a_resource_keeps_the_attributes_of_its_type(rt: HostRuntime) -> Result<(), Fail> {
-    let alloc = rt.alloc();
-    assert_eq!(rt; kind_of(Ty::CseBase, Attr::Acpi), Some(Kind::Policies));
     assert_eq!(rt; kind_of(Ty::Subscription, Attr::Cr), Some(Kind::Originator));
-    assert_eq!(rt; kind_of(Ty::AeAnnc, Attr::Aei), Some(Kind::Label));
-    assert!(rt; keeps_kinds(&container(alloc, Attr::Mni, Val::of_num(2))?));
-    assert!(rt; !keeps_kinds(&container(alloc, Attr::Mni, Val::of_num(-2))?));
-    assert!(rt; !keeps_kinds(&container(alloc, Attr::Rr, Val::of_num(2))?));
+    for (attr, value, want) in [
+        (Attr::Mni, 2, true),
+        (Attr::Mni, -2, false),
+        (Attr::Rr, 2, false),
+    ] {
+        assert_eq!(rt; is_kept(rt.alloc(), attr, value)?, want);
+    }
     Ok(())
 }
 
@@ -337,13 +343,20 @@ fn content(alloc: Global, ty: Ty, attrs: &str) -> Result<Val, Fail> {
     Ok(read(alloc, text.as_bytes())?)
 }
 
+fn may_create(alloc: Global, ty: Ty, attrs: &str) -> Result<bool, Fail> {
+    Ok(admits_create(ty, &content(alloc, ty, attrs)?))
+}
+
+fn may_update(alloc: Global, ty: Ty, attrs: &str) -> Result<bool, Fail> {
+    Ok(admits_update(ty, &content(alloc, ty, attrs)?))
+}
+
 #[test]
 fn contents_of_each_type_are_admitted(rt: HostRuntime) -> Result<(), Fail> {
-    let alloc = rt.alloc();
     for (ty, fewest, most, update) in CONTENTS {
-        assert!(rt; admits_create(ty, &content(alloc, ty, fewest)?), "{fewest}");
-        assert!(rt; admits_create(ty, &content(alloc, ty, most)?), "{most}");
-        assert!(rt; admits_update(ty, &content(alloc, ty, update)?), "{update}");
+        assert!(rt; may_create(rt.alloc(), ty, fewest)?, "{fewest}");
+        assert!(rt; may_create(rt.alloc(), ty, most)?, "{most}");
+        assert!(rt; may_update(rt.alloc(), ty, update)?, "{update}");
     }
     Ok(())
 }
@@ -418,21 +431,42 @@ fn told(alloc: Global, fault: AttrFault) -> Result<String, OutOfMemory> {
     }
 }
 
+fn is_shapeless(alloc: Global, json: &str) -> Result<bool, Fail> {
+    let answer = admit_create(alloc, Ty::Container, read(alloc, json.as_bytes())?);
+    Ok(matches!(answer, Err(AttrFault::Shape)))
+}
+
 #[test]
-fn the_first_fault_is_told(rt: HostRuntime) -> Result<(), Fail> {
-    let alloc = rt.alloc();
+fn what_is_no_content_is_told(rt: HostRuntime) -> Result<(), Fail> {
     for shape in SHAPES {
-        let answer = admit_create(alloc, Ty::Container, read(alloc, shape.as_bytes())?);
-        assert!(rt; matches!(answer, Err(AttrFault::Shape)), "{shape}");
+        assert!(rt; is_shapeless(rt.alloc(), shape)?, "{shape}");
     }
+    Ok(())
+}
+
+fn creation_fault(alloc: Global, ty: Ty, attrs: &str) -> Result<String, Fail> {
+    let answer = admit_create(alloc, ty, content(alloc, ty, attrs)?);
+    Ok(told(alloc, answer.err().ok_or("admitted")?)?)
+}
+
+#[test]
+fn the_first_fault_of_a_creation_is_told(rt: HostRuntime) -> Result<(), Fail> {
     for (ty, fault, attrs) in REFUSED_CREATIONS {
-        let answer = admit_create(alloc, ty, content(alloc, ty, attrs)?);
-        let told = told(alloc, answer.err().ok_or("admitted")?)?;
+        let told = creation_fault(rt.alloc(), ty, attrs)?;
         assert_eq!(rt; told.as_str(), fault, "{attrs}");
     }
+    Ok(())
+}
+
+fn update_fault(alloc: Global, ty: Ty, attrs: &str) -> Result<String, Fail> {
+    let answer = admit_update(alloc, ty, content(alloc, ty, attrs)?);
+    Ok(told(alloc, answer.err().ok_or("admitted")?)?)
+}
+
+#[test]
+fn the_first_fault_of_an_update_is_told(rt: HostRuntime) -> Result<(), Fail> {
     for (ty, fault, attrs) in REFUSED_UPDATES {
-        let answer = admit_update(alloc, ty, content(alloc, ty, attrs)?);
-        let told = told(alloc, answer.err().ok_or("admitted")?)?;
+        let told = update_fault(rt.alloc(), ty, attrs)?;
         assert_eq!(rt; told.as_str(), fault, "{attrs}");
     }
     Ok(())
@@ -458,38 +492,38 @@ fn values(alloc: Global, attrs: &Attrs) -> Result<Vec<u8>, OutOfMemory> {
     Ok(text)
 }
 
-// What a creation wants: the name, the moment of expiry, whether it keeps the originator, and the
-// attributes.
+// What a creation wants: whether it keeps the originator, the moment of expiry, and the attributes.
 fn wish(alloc: Global, wanted: Wanted) -> Result<String, Fail> {
-    let name = wanted.name.ok_or("no name")?.into_vec();
-    let name = std::str::from_utf8(&name).unwrap_or("");
-    let et = wanted.et.ok_or("no expiry")?;
     let attrs = values(alloc, &wanted.attrs)?;
     let attrs = std::str::from_utf8(&attrs).unwrap_or("");
-    Ok(format!(in alloc; "{name} {et} {} {attrs}", wanted.creator)?)
+    let et = wanted.et.unwrap_or(0);
+    Ok(format!(in alloc; "{} {et} {attrs}", wanted.creator)?)
 }
 
-fn taken_wish(alloc: Global, ty: Ty, content: Val) -> Result<Wanted, Fail> {
+fn admitted_wish(alloc: Global, ty: Ty, attrs: &str) -> Result<String, Fail> {
+    let answer = admit_create(alloc, ty, content(alloc, ty, attrs)?);
+    wish(alloc, answer.ok().ok_or("refused")?)
+}
+
+fn taken_wish(alloc: Global, ty: Ty, attrs: &str) -> Result<String, Fail> {
+    let content = content(alloc, ty, attrs)?;
     if admits_create(ty, &content) {
-        Ok(take_wanted(alloc, ty, content)?)
+        wish(alloc, take_wanted(alloc, ty, content)?)
     } else {
         Err("refused".into())
     }
 }
 
+const CREATION: &str = r#""acpi":[],"cr":null,"et":"19700101T000010","lbl":[],"macp":["acp2"],
+    "mid":[],"mnm":1,"rn":"n""#;
+
 #[test]
 fn a_creation_is_taken_apart(rt: HostRuntime) -> Result<(), Fail> {
-    let alloc = rt.alloc();
-    let attrs = r#""acpi":[],"cr":null,"et":"19700101T000010","lbl":[],"macp":["acp2"],"mid":[],
-        "mnm":1,"rn":"n""#;
-    let admitted = admit_create(alloc, Ty::Group, content(alloc, Ty::Group, attrs)?);
-    let taken = taken_wish(alloc, Ty::Group, content(alloc, Ty::Group, attrs)?)?;
-    let wanted = r#"n 10 true lbl[]macp["acp2"]mid[]mnm1"#;
-    assert_eq!(rt;
-        wish(alloc, admitted.map_err(|_| "refused")?)?.as_str(),
-        wanted
-    );
-    assert_eq!(rt; wish(alloc, taken)?.as_str(), wanted);
+    let wanted = r#"true 10 lbl[]macp["acp2"]mid[]mnm1"#;
+    let admitted = admitted_wish(rt.alloc(), Ty::Group, CREATION)?;
+    assert_eq!(rt; admitted.as_str(), wanted);
+    let taken = taken_wish(rt.alloc(), Ty::Group, CREATION)?;
+    assert_eq!(rt; taken.as_str(), wanted);
     Ok(())
 }
 
@@ -501,25 +535,28 @@ fn changes(alloc: Global, edit: Edit) -> Result<String, OutOfMemory> {
     format!(in alloc; "{sets} {clears}")
 }
 
-fn taken_changes(alloc: Global, ty: Ty, content: Val) -> Result<Edit, Fail> {
+fn admitted_changes(alloc: Global, ty: Ty, attrs: &str) -> Result<String, Fail> {
+    let answer = admit_update(alloc, ty, content(alloc, ty, attrs)?);
+    Ok(changes(alloc, answer.ok().ok_or("refused")?)?)
+}
+
+fn taken_changes(alloc: Global, ty: Ty, attrs: &str) -> Result<String, Fail> {
+    let content = content(alloc, ty, attrs)?;
     if admits_update(ty, &content) {
-        Ok(take_edit(alloc, ty, content)?)
+        Ok(changes(alloc, take_edit(alloc, ty, content)?)?)
     } else {
         Err("refused".into())
     }
 }
 
+const UPDATE: &str = r#""et":"19700101T000010","gn":null,"lbl":["l"],"macp":[],"mnm":1"#;
+
 #[test]
 fn an_update_is_taken_apart(rt: HostRuntime) -> Result<(), Fail> {
-    let alloc = rt.alloc();
-    let attrs = r#""et":"19700101T000010","gn":null,"lbl":["l"],"macp":[],"mnm":1"#;
-    let admitted = admit_update(alloc, Ty::Group, content(alloc, Ty::Group, attrs)?);
-    let taken = taken_changes(alloc, Ty::Group, content(alloc, Ty::Group, attrs)?)?;
     let edit = r#"et"19700101T000010"lbl["l"]mnm1 gn macp "#;
-    assert_eq!(rt;
-        changes(alloc, admitted.map_err(|_| "refused")?)?.as_str(),
-        edit
-    );
-    assert_eq!(rt; changes(alloc, taken)?.as_str(), edit);
+    let admitted = admitted_changes(rt.alloc(), Ty::Group, UPDATE)?;
+    assert_eq!(rt; admitted.as_str(), edit);
+    let taken = taken_changes(rt.alloc(), Ty::Group, UPDATE)?;
+    assert_eq!(rt; taken.as_str(), edit);
     Ok(())
 }

@@ -178,44 +178,53 @@ fn check_request(rt: &(impl Abort + AllocGlobal), text: &str, want: &[u8]) -> Re
     Ok(())
 }
 
-#[test]
-fn reads_requests_and_writes_them(rt: HostRuntime) -> Result<(), Fail> {
-    for line in REQUESTS.lines() {
-        let (text, want) = parts_of(&rt, line);
-        check_request(&rt, text, want.as_bytes())?;
+fn check_requests(rt: &(impl Abort + AllocGlobal), table: &str) -> Result<(), Fail> {
+    for line in table.lines() {
+        let (text, want) = parts_of(rt, line);
+        check_request(rt, text, want.as_bytes())?;
     }
     Ok(())
 }
 
 #[test]
+fn reads_requests_and_writes_them(rt: HostRuntime) -> Result<(), Fail> {
+    check_requests(&rt, REQUESTS)
+}
+
+#[test]
 fn names_the_first_fault(rt: HostRuntime) -> Result<(), Fail> {
-    for line in FAULTS.lines() {
-        let (text, want) = parts_of(&rt, line);
-        check_request(&rt, text, want.as_bytes())?;
-    }
-    Ok(())
+    check_requests(&rt, FAULTS)
+}
+
+/// A Retrieve with these members is written with those.
+fn check_members(rt: &(impl Abort + AllocGlobal), more: &str, kept: &str) -> Result<(), Fail> {
+    let text = retrieve(rt.alloc(), more)?;
+    let kept = retrieve(rt.alloc(), kept)?;
+    let want = told_text(rt.alloc(), Ok(parsed(rt.alloc(), kept.as_str())?))?;
+    check_request(rt, text.as_str(), want.as_slice())
 }
 
 #[test]
 fn reads_members_of_their_kinds(rt: HostRuntime) -> Result<(), Fail> {
     for line in MEMBERS.lines() {
         let (more, kept) = parts_of(&rt, line);
-        let text = retrieve(rt.alloc(), more)?;
-        let kept = parsed(rt.alloc(), retrieve(rt.alloc(), kept)?.as_str())?;
-        let mut want = Vec::new(rt.alloc());
-        write(&kept, &mut want)?;
-        check_request(&rt, text.as_str(), want.as_slice())?;
+        check_members(&rt, more, kept)?;
     }
     Ok(())
+}
+
+/// A Retrieve with this member has a fault of that name.
+fn check_fault(rt: &(impl Abort + AllocGlobal), more: &str, name: &str) -> Result<(), Fail> {
+    let text = retrieve(rt.alloc(), more)?;
+    let want = format!(in rt.alloc(); "bad {name}")?;
+    check_request(rt, text.as_str(), want.as_bytes())
 }
 
 #[test]
 fn refuses_values_outside_their_kind(rt: HostRuntime) -> Result<(), Fail> {
     for line in BAD_MEMBERS.lines() {
         let (more, name) = parts_of(&rt, line);
-        let text = retrieve(rt.alloc(), more)?;
-        let want = format!(in rt.alloc(); "bad {name}")?;
-        check_request(&rt, text.as_str(), want.as_bytes())?;
+        check_fault(&rt, more, name)?;
     }
     Ok(())
 }
