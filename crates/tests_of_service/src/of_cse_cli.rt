@@ -62,12 +62,12 @@ fn an_error_of_the_writer_is_one_fault(rt: HostRuntime) {
     assert_eq!(rt; full.put(b"a"), Err(Failed));
 }
 
-/// Whether a reader of these bytes gives them all by one read.
+/// Whether a reader of 70,000 bytes gives them all by one read.
 fn is_read_whole(alloc: Global, bytes: &[u8]) -> Result<bool, AllocError> {
-    let mut buf = vec![in alloc; 0u8; bytes.len()]?;
+    let mut buf = vec![in alloc; 0u8; 70_000]?;
     let mut input = StdIn::new(bytes);
     let read = input.read(&mut buf);
-    Ok(read == Ok(bytes.len()) && buf.as_slice() == bytes)
+    Ok(read == Ok(70_000) && buf.as_slice() == bytes)
 }
 
 /// Whether a writer takes these bytes by one put.

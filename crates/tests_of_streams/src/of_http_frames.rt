@@ -26,7 +26,7 @@ fn written(alloc: Global, next: &Next) -> Result<MemSink, Fail> {
 #[test]
 fn a_reply_is_cut_as_rfc_9112_says(rt: HostRuntime) -> Result<(), Fail> {
     let alloc = rt.alloc();
-    let stream = b"HTTP/1.1 200\nContent-Length:\t2 \r\n\r\nokHTTP/1.0";
+    let stream = b"HTTP/1.1 200\r\nContent-Length:\t2 \r\n\r\nokHTTP/1.0";
     let bytes = Vec::from_slice(alloc, stream)?;
     let mut source = MemSource::new(bytes, Vec::new(alloc), Vec::new(alloc));
     let sink = written(alloc, &next_reply(alloc, &mut source)?)?;

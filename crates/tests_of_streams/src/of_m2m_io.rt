@@ -7,7 +7,9 @@ use std::sync::atomic::{AtomicU64, Ordering};
 use std::test::Fail;
 
 fn is_exchange(exchanged: &Exchanged) -> bool {
-    exchanged.host() == b"h:1" && exchanged.request() == b"A" && exchanged.answer() == Some(b"one")
+    exchanged.host() == b"h:1".as_slice()
+        && exchanged.request() == b"A".as_slice()
+        && exchanged.answer() == Some(b"one".as_slice())
 }
 
 fn is_answered(alloc: Global, link: &mut MemLink) -> Result<bool, LinkFault> {

@@ -95,7 +95,7 @@ fn resource(alloc: Global, row: Row) -> Result<Resource, AllocError> {
 
 /// Puts a resource where it may stand.
 pub(crate) fn put(tree: &mut ListTree, resource: Resource) {
-    if may_insert(tree, &resource) {
+    if may_insert(&*tree, &resource) {
         let _put = tree.insert(resource);
     }
 }
