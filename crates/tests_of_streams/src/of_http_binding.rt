@@ -1,11 +1,11 @@
 //! A reply as its frame and as its bytes, which tell its length in bytes. What binds to which
 //! request stands in the cases.
-use crate::texts::show;
+use crate::texts::{show, text};
 use http_binding::{of_reply, write_reply};
 use http_frames::write_frame;
 use m2m_io::MemSink;
 use m2m_names::Rsc;
-use m2m_value::{Text, read};
+use m2m_value::{Val, read};
 use primitive_json::{Reply, ReplyParts};
 use std::alloc::Global;
 use std::test::Fail;
@@ -14,9 +14,13 @@ const WRITTEN: &str = "HTTP/1.1 409 Conflict\r\nX-M2M-RSC: 4105\r\nX-M2M-RI: r1\
     Content-Type: application/json\r\nContent-Length: 10\r\nConnection: close\r\n\r\n\
     {\"a\":\"é\"}";
 
+fn parsed(alloc: Global, json: &str) -> Result<Val, Fail> {
+    Ok(read(alloc, json.as_bytes())?)
+}
+
 fn conflict(alloc: Global) -> Result<Reply, Fail> {
-    let rqi = Text::from_slice(alloc, b"r1")?;
-    let content = read(alloc, "{ \"a\": \"é\" }".as_bytes())?;
+    let rqi = text(alloc, "r1")?;
+    let content = parsed(alloc, "{ \"a\": \"é\" }")?;
     Ok(Reply::of(ReplyParts {
         rsc: Rsc::Conflict,
         rqi: Some(rqi),

@@ -9,9 +9,9 @@ use m2m_io::{Failed, MemSink, MemSource, Source};
 use std::alloc::Global;
 use std::test::Fail;
 
-fn next_reply(alloc: Global, source: &mut MemSource) -> Result<Next, Fail> {
+fn next_reply(alloc: Global, source: &mut MemSource) -> Result<Next, FrameFault> {
     let mut inbox = Inbox::new(alloc)?;
-    Ok(inbox.next_reply(alloc, source)?)
+    inbox.next_reply(alloc, source)
 }
 
 /// What is written of the message, and nothing at the end of the stream.
@@ -23,13 +23,23 @@ fn written(alloc: Global, next: &Next) -> Result<MemSink, Fail> {
     Ok(sink)
 }
 
+/// The next reply of a source, as it is written.
+fn reply_text(alloc: Global, source: &mut MemSource) -> Result<MemSink, Fail> {
+    let next = next_reply(alloc, source)?;
+    written(alloc, &next)
+}
+
+fn source_of(alloc: Global, stream: &str) -> Result<MemSource, Fail> {
+    let bytes = Vec::from_slice(alloc, stream.as_bytes())?;
+    Ok(MemSource::new(bytes, Vec::new(alloc), Vec::new(alloc)))
+}
+
+const STREAM: &str = "HTTP/1.1 200\r\nContent-Length:\t2 \r\n\r\nokHTTP/1.0";
+
 #[test]
 fn a_reply_is_cut_as_rfc_9112_says(rt: HostRuntime) -> Result<(), Fail> {
-    let alloc = rt.alloc();
-    let stream = b"HTTP/1.1 200\r\nContent-Length:\t2 \r\n\r\nokHTTP/1.0";
-    let bytes = Vec::from_slice(alloc, stream)?;
-    let mut source = MemSource::new(bytes, Vec::new(alloc), Vec::new(alloc));
-    let sink = written(alloc, &next_reply(alloc, &mut source)?)?;
+    let mut source = source_of(rt.alloc(), STREAM)?;
+    let sink = reply_text(rt.alloc(), &mut source)?;
     assert_eq!(rt;
         show(sink.written()),
         "HTTP/1.1 200 OK\r\nContent-Length: 2\r\n\r\nok"

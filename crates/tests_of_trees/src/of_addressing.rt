@@ -4,6 +4,7 @@ ghost use Rattle.std.specs.Prelude.{◌≡◌, ◌<◌};
 
 use crate::samples::sample;
 use addressing::*;
+use m2m_value::Text;
 use plain_tree::ListTree;
 use std::alloc::{AllocError, AllocGlobal, Global};
 use std::marker::Brand;
@@ -134,11 +135,18 @@ fn addresses_name_what_stands(rt: HostRuntime) -> Result<(), Fail> {
     Ok(())
 }
 
-fn printed_again(alloc: Global, text: &str, home: &Home) -> Result<Vec<u8>, AllocError> {
+fn printed(alloc: Global, addr: &Addr, home: &Home) -> Result<Text, AllocError> {
+    match addr {
+        Addr::Local(_) => print(alloc, addr, home),
+        Addr::Foreign(_) => print(alloc, addr, home),
+        Addr::OtherProvider => Ok(Text::of(Vec::new(alloc))),
+    }
+}
+
+fn printed_again(alloc: Global, text: &str, home: &Home) -> Result<Text, AllocError> {
     match parse(alloc, text.as_bytes(), home) {
-        Ok(Addr::Local(segments)) => { Ok(print(alloc, &Addr::Local(segments), home)?.into_vec()) }
-        Ok(Addr::Foreign(text)) => Ok(print(alloc, &Addr::Foreign(text), home)?.into_vec()),
-        _ => Ok(Vec::new(alloc)),
+        Ok(addr) => printed(alloc, &addr, home),
+        Err(_) => Err(AllocError),
     }
 }
 
@@ -152,7 +160,7 @@ fn addresses_print(rt: HostRuntime) -> Result<(), Fail> {
         ("//sp.example/id-in", "/id-in"),
     ] {
         let printed = printed_again(rt.alloc(), text, &home)?;
-        assert_eq!(rt; printed.as_slice(), want.as_bytes());
+        assert_eq!(rt; printed.entries(), want.as_bytes());
     }
     Ok(())
 }

@@ -1,7 +1,9 @@
 //! What the limits of a container push out, and what is overdue.
 use crate::samples::sample;
 use container_limits::{Limits, evictions, overdue};
-use std::alloc::AllocError;
+use m2m_value::Numbers;
+use plain_tree::ListTree;
+use std::alloc::{AllocError, Global};
 
 // The limits on count, bytes and age, the size of a new instance, the moment, and what goes.
 type Case = (
@@ -27,12 +29,22 @@ const CASES: [Case; 11] = [
     (Some(4), None, None, None, 200, &[18]),
 ];
 
+fn pushed_out(
+    alloc: Global,
+    tree: &ListTree,
+    limits: Limits,
+    new_size: Option<u64>,
+    moment: u64,
+) -> Result<Numbers, AllocError> {
+    evictions(alloc, tree, 15, limits, new_size, moment)
+}
+
 #[test]
 fn pushes_out_what_the_limits_say(rt: HostRuntime) -> Result<(), AllocError> {
     let tree = sample(rt.alloc())?;
     for (mni, mbs, mia, new_size, moment, want) in CASES {
         let limits = Limits { mni, mbs, mia };
-        let gone = evictions(rt.alloc(), &tree, 15, limits, new_size, moment)?;
+        let gone = pushed_out(rt.alloc(), &tree, limits, new_size, moment)?;
         assert!(rt; gone.entries() == want, "{want:?}");
     }
     Ok(())
@@ -45,11 +57,15 @@ const OVERDUE: [(u64, &[u64]); 4] = [
     (300, &[10, 11, 18, 22]),
 ];
 
+fn overdue_at(alloc: Global, tree: &ListTree, moment: u64) -> Result<Numbers, AllocError> {
+    overdue(alloc, tree, moment)
+}
+
 #[test]
 fn tells_what_is_overdue(rt: HostRuntime) -> Result<(), AllocError> {
     let tree = sample(rt.alloc())?;
     for (moment, want) in OVERDUE {
-        let numbers = overdue(rt.alloc(), &tree, moment)?;
+        let numbers = overdue_at(rt.alloc(), &tree, moment)?;
         assert!(rt; numbers.entries() == want, "at {moment}");
     }
     Ok(())

@@ -18,12 +18,16 @@ fn opened(alloc: Global) -> Result<Entity<ListTree>, OutOfMemory> {
     Entity::open(alloc, home, ListTree::new(alloc), CLOCK)
 }
 
+fn swept(alloc: Global, entity: &mut Entity<ListTree>, reading: u64) -> Result<(), OutOfMemory> {
+    sweep(alloc, entity, reading)
+}
+
 #[test]
 fn opens_with_the_policy_of_the_administrator(rt: HostRuntime) -> Result<(), OutOfMemory> {
     let mut entity = opened(rt.alloc())?;
     let policy = shown(rt.alloc(), &entity.tree, 2)?;
     assert!(rt; policy.as_slice() == POLICY.as_bytes());
-    sweep(rt.alloc(), &mut entity, CLOCK + 9)?;
+    swept(rt.alloc(), &mut entity, CLOCK + 9)?;
     assert!(rt; entity.next == 3 && entity.last == CLOCK + 9);
     Ok(())
 }

@@ -108,12 +108,21 @@ pub(crate) fn sample(alloc: Global) -> Result<ListTree, AllocError> {
     Ok(tree)
 }
 
+fn written(alloc: Global, value: &Val) -> Result<Vec<u8>, AllocError> {
+    let mut out = Vec::new(alloc);
+    write(value, &mut out)?;
+    Ok(out)
+}
+
+fn value_of(alloc: Global, tree: &ListTree, resource: &Resource) -> Result<Val, AllocError> {
+    let home = Home::with_defaults(alloc)?;
+    attributes(alloc, tree, &home, resource)
+}
+
 /// The attributes of a resource as they are shown; nothing where there is none.
 pub(crate) fn shown(alloc: Global, tree: &ListTree, number: u64) -> Result<Vec<u8>, AllocError> {
-    let home = Home::with_defaults(alloc)?;
-    let mut out = Vec::new(alloc);
-    if let Some(resource) = tree.get(number) {
-        write(&attributes(alloc, tree, &home, resource)?, &mut out)?;
+    match tree.get(number) {
+        Some(resource) => written(alloc, &value_of(alloc, tree, resource)?),
+        None => Ok(Vec::new(alloc)),
     }
-    Ok(out)
 }

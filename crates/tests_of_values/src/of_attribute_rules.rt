@@ -1,7 +1,8 @@
 //! Values of each kind and near misses, the columns of each type, and contents with their answers.
+use crate::texts::parsed;
 use attribute_rules::*;
 use m2m_names::{Attr, Ty};
-use m2m_value::{Val, read, write};
+use m2m_value::{Val, write};
 use resource_model::{Attrs, Moments, OutOfMemory, Resource};
 use std::alloc::Global;
 use std::test::Fail;
@@ -33,7 +34,7 @@ const VALUES: [(Kind, &str, &str); 18] = [
 ];
 
 fn is_of(alloc: Global, kind: Kind, json: &str) -> Result<bool, Fail> {
-    Ok(kind.has(&read(alloc, json.as_bytes())?))
+    Ok(kind.has(&parsed(alloc, json)?))
 }
 
 #[test]
@@ -340,7 +341,7 @@ const CONTENTS: [(Ty, &str, &str, &str); 14] = [
 // The content that names these attributes of a type.
 fn content(alloc: Global, ty: Ty, attrs: &str) -> Result<Val, Fail> {
     let text = format!(in alloc; "{{\"{}\":{{{attrs}}}}}", ty.member())?;
-    Ok(read(alloc, text.as_bytes())?)
+    Ok(parsed(alloc, text.as_str())?)
 }
 
 fn may_create(alloc: Global, ty: Ty, attrs: &str) -> Result<bool, Fail> {
@@ -431,8 +432,12 @@ fn told(alloc: Global, fault: AttrFault) -> Result<String, OutOfMemory> {
     }
 }
 
+fn admitted(alloc: Global, ty: Ty, content: Val) -> Result<Wanted, AttrFault> {
+    admit_create(alloc, ty, content)
+}
+
 fn is_shapeless(alloc: Global, json: &str) -> Result<bool, Fail> {
-    let answer = admit_create(alloc, Ty::Container, read(alloc, json.as_bytes())?);
+    let answer = admitted(alloc, Ty::Container, parsed(alloc, json)?);
     Ok(matches!(answer, Err(AttrFault::Shape)))
 }
 
@@ -444,29 +449,39 @@ fn what_is_no_content_is_told(rt: HostRuntime) -> Result<(), Fail> {
     Ok(())
 }
 
-fn creation_fault(alloc: Global, ty: Ty, attrs: &str) -> Result<String, Fail> {
-    let answer = admit_create(alloc, ty, content(alloc, ty, attrs)?);
-    Ok(told(alloc, answer.err().ok_or("admitted")?)?)
+/// What a creation wants, or its first fault.
+fn creation(alloc: Global, ty: Ty, attrs: &str) -> Result<String, Fail> {
+    match admitted(alloc, ty, content(alloc, ty, attrs)?) {
+        Ok(wanted) => Ok(wish(alloc, wanted)?),
+        Err(fault) => Ok(told(alloc, fault)?),
+    }
 }
 
 #[test]
 fn the_first_fault_of_a_creation_is_told(rt: HostRuntime) -> Result<(), Fail> {
     for (ty, fault, attrs) in REFUSED_CREATIONS {
-        let told = creation_fault(rt.alloc(), ty, attrs)?;
+        let told = creation(rt.alloc(), ty, attrs)?;
         assert_eq!(rt; told.as_str(), fault, "{attrs}");
     }
     Ok(())
 }
 
-fn update_fault(alloc: Global, ty: Ty, attrs: &str) -> Result<String, Fail> {
-    let answer = admit_update(alloc, ty, content(alloc, ty, attrs)?);
-    Ok(told(alloc, answer.err().ok_or("admitted")?)?)
+fn allowed(alloc: Global, ty: Ty, content: Val) -> Result<Edit, AttrFault> {
+    admit_update(alloc, ty, content)
+}
+
+/// What an update changes, or its first fault.
+fn update(alloc: Global, ty: Ty, attrs: &str) -> Result<String, Fail> {
+    match allowed(alloc, ty, content(alloc, ty, attrs)?) {
+        Ok(edit) => Ok(changes(alloc, edit)?),
+        Err(fault) => Ok(told(alloc, fault)?),
+    }
 }
 
 #[test]
 fn the_first_fault_of_an_update_is_told(rt: HostRuntime) -> Result<(), Fail> {
     for (ty, fault, attrs) in REFUSED_UPDATES {
-        let told = update_fault(rt.alloc(), ty, attrs)?;
+        let told = update(rt.alloc(), ty, attrs)?;
         assert_eq!(rt; told.as_str(), fault, "{attrs}");
     }
     Ok(())
@@ -493,25 +508,24 @@ fn values(alloc: Global, attrs: &Attrs) -> Result<Vec<u8>, OutOfMemory> {
 }
 
 // What a creation wants: whether it keeps the originator, the moment of expiry, and the attributes.
-fn wish(alloc: Global, wanted: Wanted) -> Result<String, Fail> {
+fn wish(alloc: Global, wanted: Wanted) -> Result<String, OutOfMemory> {
     let attrs = values(alloc, &wanted.attrs)?;
     let attrs = std::str::from_utf8(&attrs).unwrap_or("");
     let et = wanted.et.unwrap_or(0);
-    Ok(format!(in alloc; "{} {et} {attrs}", wanted.creator)?)
+    format!(in alloc; "{} {et} {attrs}", wanted.creator)
 }
 
-fn admitted_wish(alloc: Global, ty: Ty, attrs: &str) -> Result<String, Fail> {
-    let answer = admit_create(alloc, ty, content(alloc, ty, attrs)?);
-    wish(alloc, answer.ok().ok_or("refused")?)
+fn taken(alloc: Global, ty: Ty, content: Val) -> Result<Option<Wanted>, OutOfMemory> {
+    if admits_create(ty, &content) {
+        Ok(Some(take_wanted(alloc, ty, content)?))
+    } else {
+        Ok(None)
+    }
 }
 
 fn taken_wish(alloc: Global, ty: Ty, attrs: &str) -> Result<String, Fail> {
-    let content = content(alloc, ty, attrs)?;
-    if admits_create(ty, &content) {
-        wish(alloc, take_wanted(alloc, ty, content)?)
-    } else {
-        Err("refused".into())
-    }
+    let taken = taken(alloc, ty, content(alloc, ty, attrs)?)?;
+    Ok(wish(alloc, taken.ok_or("refused")?)?)
 }
 
 const CREATION: &str = r#""acpi":[],"cr":null,"et":"19700101T000010","lbl":[],"macp":["acp2"],
@@ -520,7 +534,7 @@ const CREATION: &str = r#""acpi":[],"cr":null,"et":"19700101T000010","lbl":[],"m
 #[test]
 fn a_creation_is_taken_apart(rt: HostRuntime) -> Result<(), Fail> {
     let wanted = r#"true 10 lbl[]macp["acp2"]mid[]mnm1"#;
-    let admitted = admitted_wish(rt.alloc(), Ty::Group, CREATION)?;
+    let admitted = creation(rt.alloc(), Ty::Group, CREATION)?;
     assert_eq!(rt; admitted.as_str(), wanted);
     let taken = taken_wish(rt.alloc(), Ty::Group, CREATION)?;
     assert_eq!(rt; taken.as_str(), wanted);
@@ -535,18 +549,17 @@ fn changes(alloc: Global, edit: Edit) -> Result<String, OutOfMemory> {
     format!(in alloc; "{sets} {clears}")
 }
 
-fn admitted_changes(alloc: Global, ty: Ty, attrs: &str) -> Result<String, Fail> {
-    let answer = admit_update(alloc, ty, content(alloc, ty, attrs)?);
-    Ok(changes(alloc, answer.ok().ok_or("refused")?)?)
+fn taken_edit(alloc: Global, ty: Ty, content: Val) -> Result<Option<Edit>, OutOfMemory> {
+    if admits_update(ty, &content) {
+        Ok(Some(take_edit(alloc, ty, content)?))
+    } else {
+        Ok(None)
+    }
 }
 
 fn taken_changes(alloc: Global, ty: Ty, attrs: &str) -> Result<String, Fail> {
-    let content = content(alloc, ty, attrs)?;
-    if admits_update(ty, &content) {
-        Ok(changes(alloc, take_edit(alloc, ty, content)?)?)
-    } else {
-        Err("refused".into())
-    }
+    let edit = taken_edit(alloc, ty, content(alloc, ty, attrs)?)?;
+    Ok(changes(alloc, edit.ok_or("refused")?)?)
 }
 
 const UPDATE: &str = r#""et":"19700101T000010","gn":null,"lbl":["l"],"macp":[],"mnm":1"#;
@@ -554,7 +567,7 @@ const UPDATE: &str = r#""et":"19700101T000010","gn":null,"lbl":["l"],"macp":[],"
 #[test]
 fn an_update_is_taken_apart(rt: HostRuntime) -> Result<(), Fail> {
     let edit = r#"et"19700101T000010"lbl["l"]mnm1 gn macp "#;
-    let admitted = admitted_changes(rt.alloc(), Ty::Group, UPDATE)?;
+    let admitted = update(rt.alloc(), Ty::Group, UPDATE)?;
     assert_eq!(rt; admitted.as_str(), edit);
     let taken = taken_changes(rt.alloc(), Ty::Group, UPDATE)?;
     assert_eq!(rt; taken.as_str(), edit);

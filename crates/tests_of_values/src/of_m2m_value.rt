@@ -1,19 +1,18 @@
 //! Values from outside: what JSON texts spell, and how values print.
+use crate::texts::{parsed, spelled};
 use m2m_value::*;
 use std::alloc::Global;
 use std::test::Fail;
 
 // The text of what is read, or the fault's name.
 fn answer(alloc: Global, bytes: &[u8]) -> Result<Vec<u8>, OutOfMemory> {
-    let mut out = Vec::new(alloc);
     match read(alloc, bytes) {
-        Ok(value) => write(&value, &mut out)?,
-        Err(ValFault::NotJson) => out.extend_from_slice(b"not JSON")?,
-        Err(ValFault::TooWide) => out.extend_from_slice(b"too wide")?,
-        Err(ValFault::Fraction) => out.extend_from_slice(b"fraction")?,
-        Err(ValFault::OutOfMemory) => return Err(OutOfMemory),
+        Ok(value) => spelled(alloc, &value),
+        Err(ValFault::NotJson) => Vec::from_slice(alloc, b"not JSON"),
+        Err(ValFault::TooWide) => Vec::from_slice(alloc, b"too wide"),
+        Err(ValFault::Fraction) => Vec::from_slice(alloc, b"fraction"),
+        Err(ValFault::OutOfMemory) => Err(OutOfMemory),
     }
-    Ok(out)
 }
 
 const ROWS: [(&str, &str); 28] = [
@@ -92,7 +91,7 @@ fn is_copied(alloc: Global, value: &Val) -> Result<bool, OutOfMemory> {
 #[test]
 fn values_are_copied_compared_and_measured(rt: HostRuntime) -> Result<(), Fail> {
     for (text, size) in [(r#""\n\u00e9""#, 3), (r#"{"a":"\u0001","b":[1,-2]}"#, 25)] {
-        let value = read(rt.alloc(), text.as_bytes())?;
+        let value = parsed(rt.alloc(), text)?;
         assert!(rt; value.size() == size && value != Val::null(), "{text}");
         assert!(rt; is_copied(rt.alloc(), &value)?, "{text}");
     }

@@ -2,9 +2,9 @@
 ghost use Rattle.std.specs.Prelude.{IfOk};
 ghost use Rattle.primitive_json.specs.Notes.{IsSomeUrl, IsSoundDest};
 
-use crate::texts::text;
+use crate::texts::{parsed, text};
 use m2m_names::read_url;
-use m2m_value::{Text, read};
+use m2m_value::{Text, Val};
 use primitive_json::*;
 use std::alloc::{AllocError, Global};
 use std::process::Abort;
@@ -18,12 +18,20 @@ fn url_of(rt: &impl Abort, alloc: Global, words: &str) -> Result<Text, AllocErro
     Ok(url)
 }
 
+fn request_in(alloc: Global, value: Val) -> Result<Request, PrimFault> {
+    request_from(alloc, value)
+}
+
+fn request_of(alloc: Global, json: &str) -> Result<Request, Fail> {
+    let value = parsed(alloc, json)?;
+    Ok(request_in(alloc, value)?)
+}
+
 /// The parts of a copy of an item that goes there.
 fn copied(alloc: Global, dest: Dest) -> Result<NoteParts, Fail>
     requires { IsSoundDest dest }
 {
-    let value = read(alloc, b"{\"op\":4,\"rqi\":\"r1\",\"to\":\"a\"}")?;
-    let request = request_from(alloc, value)?;
+    let request = request_of(alloc, r#"{"op":4,"rqi":"r1","to":"a"}"#)?;
     let note = Note::of(NoteParts {
         kind: Kind::Copy,
         dest,
@@ -100,12 +108,12 @@ fn fault_parts(fault: Option<Fault<'_>>) -> (&str, &[u8]) {
 }
 
 fn is_request_fault(alloc: Global, json: &str, want: (&str, &[u8])) -> Result<bool, Fail> {
-    let value = read(alloc, json.as_bytes())?;
+    let value = parsed(alloc, json)?;
     Ok(fault_parts(request_fault(&value)) == want)
 }
 
 fn is_reply_fault(alloc: Global, json: &str, want: (&str, &[u8])) -> Result<bool, Fail> {
-    let value = read(alloc, json.as_bytes())?;
+    let value = parsed(alloc, json)?;
     Ok(fault_parts(reply_fault(&value)) == want)
 }
 
