@@ -14,3 +14,4 @@ pub mod GuardLemmas
 pub mod MemberLemmas
 pub mod NamedLemmas
 pub mod RightLemmas
+pub mod OwnLemmas

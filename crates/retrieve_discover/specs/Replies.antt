@@ -1,13 +1,13 @@
 -- The replies to a Retrieve and to a discovery.
-use Rattle.std.specs.Prelude.{ℕ, pos, Bool, false, not, List, Option, Some, None}
+use Rattle.std.specs.Prelude.{ℕ, pos, Bool, false, not, List, Some}
 use Rattle.std.specs.Prelude.{if◌then◌else◌}
 use Rattle.std.specs.Option.{option_map_or}
 use Rattle.std.specs.Ordering.{int_eq}
-use Rattle.m2m_names.specs.declared.codes.Rsc.{Rsc}
 use Rattle.m2m_names.specs.declared.codes.Rsc.TheVariants.{Ok as Fine, NoPrivilege, NotFound}
 use Rattle.m2m_value.specs.Data.{Data}
 use Rattle.primitive_json.specs.declared.reply.ReplyParts.{ReplyParts}
 use Rattle.primitive_json.specs.declared.request.RequestParts.{RequestParts}
+pub use Rattle.entity_model.specs.Places.{reply_to, refusal}
 use Rattle.resource_model.specs.Home.{HomeData}
 use Rattle.resource_model.specs.Resource.{ResourceData}
 use Rattle.policy_eval.specs.Rights.{grants}
@@ -17,13 +17,7 @@ use Rattle.retrieve_discover.specs.Conditions.{meets_any}
 use Rattle.retrieve_discover.specs.Contents.{content}
 use Rattle.retrieve_discover.specs.Findings.{address_list, found_addresses}
 
--- a reply has the identifier of its request (TS-0001, 8.1.3); a refusal has no content
-abbrev pub reply_to : RequestParts → Rsc → Option Data → ReplyParts
-reply_to request rsc content = record { rsc = rsc; rqi = Some request.rqi; pc = content }
-
-abbrev pub refusal : RequestParts → Rsc → ReplyParts
-refusal request rsc = reply_to request rsc None
-
+-- a reply with content, to a request that was served
 abbrev pub success : RequestParts → Data → ReplyParts
 success request d = reply_to request Fine (Some d)
 

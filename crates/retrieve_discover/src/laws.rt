@@ -1,12 +1,13 @@
 //! Laws of reading, over every list.
-ghost use Rattle.std.specs.Prelude.{◌≡◌, ℕ, List, IsTrue, Some, false};
+ghost use Rattle.std.specs.Prelude.{◌≡◌, ℕ, ◌^◌, List, IsTrue, Some, false};
 ghost use Rattle.std.specs.List.{All};
 ghost use Rattle.m2m_names.specs.declared.codes.Rsc.TheVariants.{NoPrivilege};
 ghost use Rattle.filter_criteria.specs.declared.filter.FilterParts.{FilterParts};
 ghost use Rattle.primitive_json.specs.declared.request.RequestParts.{RequestParts};
-ghost use Rattle.resource_model.specs.Home.{HomeData};
+ghost use Rattle.resource_model.specs.Home.{HomeData, IsHome};
 ghost use Rattle.resource_model.specs.Resource.{ResourceData};
-ghost use Rattle.tree_model.specs.Tree.{at, has, is_tree, is_well_formed};
+ghost use Rattle.tree_model.specs.Tree.{are_below, at, has, is_tree, is_well_formed};
+ghost use Rattle.addressing.specs.Laws.{have_free_names};
 ghost use Rattle.policy_eval.specs.Rights.{grants};
 ghost use Rattle.policy_eval.specs.Seen.{discovery_bit, retrieve_bit, seen_list};
 ghost use Rattle.retrieve_discover.specs.Contents.{referred, shown_below, shown_forest};
@@ -48,7 +49,8 @@ pub fn nothing_is_shown_or_found_without_a_grant()
 /// What a reply tells of other resources is told by right, where no two resources have one address.
 /// Each resource whose object it shows below the first, and each child to which it refers, is one
 /// on which the originator has RETRIEVE, and each address that it gives is that of one on which it
-/// has DISCOVERY.
+/// has DISCOVERY. No two have one address in a tree where each has a free name, the CSEBase that of
+/// the home, and a number below 2^63.
 pub fn others_are_shown_and_found_by_right()
     ensures retrieved { (home : HomeData) (nodes : List ResourceData) (o : List ℕ)
         (request : RequestParts) (n : ℕ) → HasOwnAddresses nodes →
@@ -61,6 +63,11 @@ pub fn others_are_shown_and_found_by_right()
         at r.number nodes ≡ Some r → at s.number nodes ≡ Some s →
         IsTrue (is_address_of nodes address r) → IsTrue (is_address_of nodes address s) →
         r.number ≡ s.number }
+    ensures own { (home : HomeData) (nodes : List ResourceData) → IsHome home →
+        IsTrue (is_tree nodes) →
+        ((r : ResourceData) → at r.number nodes ≡ Some r → r.parent ≡ 0 → r.name ≡ home.base) →
+        IsTrue (have_free_names nodes) → IsTrue (are_below (2 ^ 63) nodes) →
+        HasOwnAddresses nodes }
 {}
 
 /// A discovery is answered the same on the list as its originator sees it.
