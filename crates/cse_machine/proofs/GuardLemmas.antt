@@ -20,7 +20,7 @@ use Rattle.retrieve_discover.proofs.RightLemmas.{discovered_by_right, retrieved_
 use Rattle.cse_machine.specs.Answer.{addressed, reading_reply, effect_of}
 use Rattle.cse_machine.specs.Guard.{is_success, DoesShow, HasRight, IsNew, IsGone, IsChanged, IsGuardedAlone, fanned, IsGuardedAt, IsGuarded}
 use Rattle.cse_machine.specs.Rights.{claimed_originator, has_right, is_discovery, may_do}
-use Rattle.cse_machine.proofs.OwnLemmas.{own_addresses}
+use Rattle.cse_machine.proofs.OwnLemmas.{apart_addresses}
 use Rattle.cse_machine.proofs.WayLemmas.{IsRead, Reading, refused_read, reading, found_read, shown_read, two_ways}
 
 nothing_in : {A : Type 0} (x : A) → Contains [] x → ⊥
@@ -90,7 +90,7 @@ module _ (e : EntityData) (sound : IsSound e) (request : RequestParts) (r : Reso
   tells : IsToldByRight e request (reading_reply e request r.number)
   tells =
       one_of (is_discovery request) (discovered e.home e.nodes o request r.number) (retrieved e.home e.nodes o request r.number)
-      (discovered_by_right e.home e.nodes o (own_addresses e sound) request r.number) (retrieved_by_right e.home e.nodes o (own_addresses e sound) request r.number)
+      (discovered_by_right e.home e.nodes o (apart_addresses e sound) request r.number) (retrieved_by_right e.home e.nodes o (apart_addresses e sound) request r.number)
 
   -- the right that it needs
   abbrev bit_of : Bool → ℕ

@@ -167,7 +167,7 @@ pub record IsFramed (e : EntityData) : Type 0 where
   pub tree : is_well_formed e.nodes ≡ true
   pub base : begins_with_base e.home e.nodes ≡ true
   pub names : list_all has_free_name e.nodes ≡ true
-  pub home : is_base_name e.home.base ≡ true
+  pub home : IsHome e.home
   pub depth : list_all (is_shallow e.nodes) e.nodes ≡ true
   pub count : length e.nodes ≤ greatest_count
   pub kinds : list_all are_kinds e.nodes ≡ true
@@ -323,7 +323,7 @@ sound_opening home reading is = record {
   tree = refl;
   base = (bytes_eq-Decides home.base home.base).1 refl;
   names = opening_names home (cut reading) (base_admitted home is);
-  home = base_admitted home is;
+  home = is;
   depth = refl;
   count = omega arith;
   kinds = opening_kinds home (cut reading) (admin_admitted home is);

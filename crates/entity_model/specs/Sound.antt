@@ -11,7 +11,7 @@ use Rattle.m2m_names.specs.declared.types.Ty.TheVariants.{Container, ContentInst
 use Rattle.m2m_value.specs.Data.{Data}
 use Rattle.m2m_value.specs.View.{as_text}
 use Rattle.resource_model.specs.Attributes.{count_at, value_of}
-use Rattle.resource_model.specs.Home.{HomeData, is_base_name}
+use Rattle.resource_model.specs.Home.{HomeData, IsHome}
 use Rattle.resource_model.specs.Resource.{ResourceData, is_ty, cse_id}
 use Rattle.tree_model.specs.Tree.{channels_of, instances_of, size_of, sizes_of, depth}
 use Rattle.tree_model.specs.Tree.{are_below, is_well_formed}
@@ -108,9 +108,9 @@ pub record IsSound (e : EntityData) : Type 0 where
   -- the resources are a tree, each under a type that takes it
   pub tree : IsTrue (is_well_formed e.nodes)
   pub base : IsTrue (begins_with_base e.home e.nodes)
-  -- each has a name that addresses nothing else, and that of the CSEBase is no resource id
+  -- each has a name that addresses nothing else, and the home is one
   pub names : IsTrue (list_all has_free_name e.nodes)
-  pub home : IsTrue (is_base_name e.home.base)
+  pub home : IsHome e.home
   pub depth : IsTrue (list_all (is_shallow e.nodes) e.nodes)
   pub count : length e.nodes ≤ greatest_count
   -- each resource keeps attributes of its type, with values of their kinds
