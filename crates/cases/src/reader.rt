@@ -54,35 +54,20 @@ pub fn read(alloc: Global, text: &str) -> Result<Vec<Case>, Fault> {
         cases: Vec::new(alloc),
         block: None,
     };
-    reader.take_lines(text)?;
-    Ok(reader.cases)
+    let mut number = 0usize;
+    for line in text.lines() {
+        number = number.saturating_add(1);
+        if let Err(wrong) = reader.take_line(number, line) {
+            return Err(wrong.at(number));
+        }
+    }
+    match reader.into_cases() {
+        Ok(cases) => Ok(cases),
+        Err(wrong) => Err(wrong.at(number)),
+    }
 }
 
 impl Reader {
-    fn take_lines(&mut self, text: &str) -> Result<(), Fault> {
-        let mut number = 0usize;
-        for line in text.lines() {
-            number = number.saturating_add(1);
-            if let Err(wrong) = self.take_line(number, line) {
-                return Err(wrong.at(number));
-            }
-        }
-        match self.end() {
-            Ok(()) => Ok(()),
-            Err(wrong) => Err(wrong.at(number)),
-        }
-    }
-
-    /// Ends the file.
-    fn end(&mut self) -> Result<(), Wrong> {
-        self.close_block()?;
-        self.end_case()?;
-        if self.cases.is_empty() {
-            return Err(Wrong::Why("no case stands above"));
-        }
-        Ok(())
-    }
-
     fn take_line(&mut self, number: usize, line: &str) -> Result<(), Wrong> {
         if let Some(text) = line.strip_prefix("|") {
             return self.take_text(text);
@@ -288,7 +273,16 @@ impl Reader {
         let Some(case) = self.cases.last_mut() else {
             return Ok(());
         };
-        take_missing(self.alloc, &mut case.setting, &self.setting)?;
+        if case.setting.words.is_none()
+            && let Some(words) = &self.setting.words
+        {
+            case.setting.words = Some(copy_words(self.alloc, words)?);
+        }
+        if case.setting.clock.is_none()
+            && let Some(clock) = &self.setting.clock
+        {
+            case.setting.clock = Some(clock.clone()?);
+        }
         if case.status.is_none() {
             case.status = Some(0);
         }
@@ -300,21 +294,15 @@ impl Reader {
         }
         Ok(())
     }
-}
 
-/// Takes what a setting lacks from that of the file.
-fn take_missing(alloc: Global, setting: &mut Setting, of_file: &Setting) -> Result<(), Wrong> {
-    if setting.words.is_none()
-        && let Some(words) = &of_file.words
-    {
-        setting.words = Some(copy_words(alloc, words)?);
+    fn into_cases(mut self) -> Result<Vec<Case>, Wrong> {
+        self.close_block()?;
+        self.end_case()?;
+        if self.cases.is_empty() {
+            return Err(Wrong::Why("no case stands above"));
+        }
+        Ok(self.cases)
     }
-    if setting.clock.is_none()
-        && let Some(clock) = &of_file.clock
-    {
-        setting.clock = Some(clock.clone()?);
-    }
-    Ok(())
 }
 
 fn new_block(alloc: Global, goal: Goal, name: String, times: usize) -> Block {

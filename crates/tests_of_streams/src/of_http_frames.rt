@@ -34,26 +34,16 @@ fn source_of(alloc: Global, stream: &str) -> Result<MemSource, Fail> {
     Ok(MemSource::new(bytes, Vec::new(alloc), Vec::new(alloc)))
 }
 
-/// Replies, each with what is written of it: of one in chunks the body, from which the chunks are
-/// gone.
-const REPLIES: [(&str, &str); 2] = [
-    (
-        "HTTP/1.1 200\r\nContent-Length:\t2 \r\n\r\nokHTTP/1.0",
-        "HTTP/1.1 200 OK\r\nContent-Length: 2\r\n\r\nok",
-    ),
-    (
-        "HTTP/1.1 200 OK\r\nTransfer-Encoding: CHUNKED\r\n\r\nA;x=y\r\n0123456789\r\n0\r\n\r\n",
-        "HTTP/1.1 200 OK\r\nTransfer-Encoding: CHUNKED\r\n\r\n0123456789",
-    ),
-];
+const STREAM: &str = "HTTP/1.1 200\r\nContent-Length:\t2 \r\n\r\nokHTTP/1.0";
 
 #[test]
 fn a_reply_is_cut_as_rfc_9112_says(rt: HostRuntime) -> Result<(), Fail> {
-    for (stream, want) in REPLIES {
-        let mut source = source_of(rt.alloc(), stream)?;
-        let sink = reply_text(rt.alloc(), &mut source)?;
-        assert_eq!(rt; show(sink.written()), want);
-    }
+    let mut source = source_of(rt.alloc(), STREAM)?;
+    let sink = reply_text(rt.alloc(), &mut source)?;
+    assert_eq!(rt;
+        show(sink.written()),
+        "HTTP/1.1 200 OK\r\nContent-Length: 2\r\n\r\nok"
+    );
     Ok(())
 }
 

@@ -4,7 +4,7 @@ ghost use Rattle.m2m_names.specs.Name.{is_originator};
 ghost use Rattle.m2m_names.specs.Stamps.{last_moment};
 ghost use Rattle.tree_model.specs.Tree.{has};
 
-use crate::samples::text;
+use crate::texts::text;
 use m2m_names::{Attr, Ty, is_originator};
 use m2m_value::{read, write};
 use plain_tree::ListTree;

@@ -1,8 +1,7 @@
 //! Values of each kind and near misses, the columns of each type, and contents with their answers.
-use crate::texts::parsed;
 use attribute_rules::*;
 use m2m_names::{Attr, Ty};
-use m2m_value::{Val, write};
+use m2m_value::{Val, read, write};
 use resource_model::{Attrs, Moments, OutOfMemory, Resource};
 use std::alloc::Global;
 use std::test::Fail;
@@ -33,43 +32,37 @@ const VALUES: [(Kind, &str, &str); 18] = [
     (Kind::Content, r#"{"a":null}"#, "null"),
 ];
 
-fn is_of(alloc: Global, kind: Kind, json: &str) -> Result<bool, Fail> {
-    Ok(kind.has(&parsed(alloc, json)?))
-}
-
 #[test]
 fn a_value_of_each_kind_and_a_near_miss(rt: HostRuntime) -> Result<(), Fail> {
     for (kind, good, bad) in VALUES {
-        assert!(rt; is_of(rt.alloc(), kind, good)?, "{good}");
-        assert!(rt; !is_of(rt.alloc(), kind, bad)?, "{bad}");
+        assert!(rt; kind.has(&read(rt.alloc(), good.as_bytes())?));
+        assert!(rt; !kind.has(&read(rt.alloc(), bad.as_bytes())?));
     }
     Ok(())
 }
 
-// Whether a container keeps an attribute with this value.
-fn is_kept(alloc: Global, attr: Attr, value: i64) -> Result<bool, OutOfMemory> {
+// A container that has one attribute.
+fn container(alloc: Global, attr: Attr, value: Val) -> Result<Resource, OutOfMemory> {
     let empty = || m2m_value::Text::of(Vec::new(alloc));
     let moments = Moments {
         ct: 0,
         lt: 0,
         et: 1,
     };
-    let attrs = Attrs::new(alloc);
-    let mut made = Resource::of(4, Ty::Container, empty(), 1, empty(), moments, attrs);
-    made.set(attr, Val::of_num(value))?;
-    Ok(keeps_kinds(&made))
+    let mut attrs = Attrs::new(alloc);
+    attrs.set(attr, value)?;
+    Ok(Resource::of(4, Ty::Container, empty(), 1, empty(), moments, attrs))
 }
 
 #[test]
 fn a_resource_keeps_the_attributes_of_its_type(rt: HostRuntime) -> Result<(), Fail> {
+    let alloc = rt.alloc();
+    assert_eq!(rt; kind_of(Ty::CseBase, Attr::Acpi), Some(Kind::Policies));
     assert_eq!(rt; kind_of(Ty::Subscription, Attr::Cr), Some(Kind::Originator));
-    for (attr, value, want) in [
-        (Attr::Mni, 2, true),
-        (Attr::Mni, -2, false),
-        (Attr::Rr, 2, false),
-    ] {
-        assert_eq!(rt; is_kept(rt.alloc(), attr, value)?, want);
-    }
+    assert_eq!(rt; kind_of(Ty::AeAnnc, Attr::Aei), Some(Kind::Label));
+    assert!(rt; keeps_kinds(&container(alloc, Attr::Mni, Val::of_num(2))?));
+    assert!(rt; !keeps_kinds(&container(alloc, Attr::Mni, Val::of_num(-2))?));
+    assert!(rt; !keeps_kinds(&container(alloc, Attr::Rr, Val::of_num(2))?));
     Ok(())
 }
 
@@ -341,23 +334,16 @@ const CONTENTS: [(Ty, &str, &str, &str); 14] = [
 // The content that names these attributes of a type.
 fn content(alloc: Global, ty: Ty, attrs: &str) -> Result<Val, Fail> {
     let text = format!(in alloc; "{{\"{}\":{{{attrs}}}}}", ty.member())?;
-    Ok(parsed(alloc, text.as_str())?)
-}
-
-fn may_create(alloc: Global, ty: Ty, attrs: &str) -> Result<bool, Fail> {
-    Ok(admits_create(ty, &content(alloc, ty, attrs)?))
-}
-
-fn may_update(alloc: Global, ty: Ty, attrs: &str) -> Result<bool, Fail> {
-    Ok(admits_update(ty, &content(alloc, ty, attrs)?))
+    Ok(read(alloc, text.as_bytes())?)
 }
 
 #[test]
 fn contents_of_each_type_are_admitted(rt: HostRuntime) -> Result<(), Fail> {
+    let alloc = rt.alloc();
     for (ty, fewest, most, update) in CONTENTS {
-        assert!(rt; may_create(rt.alloc(), ty, fewest)?, "{fewest}");
-        assert!(rt; may_create(rt.alloc(), ty, most)?, "{most}");
-        assert!(rt; may_update(rt.alloc(), ty, update)?, "{update}");
+        assert!(rt; admits_create(ty, &content(alloc, ty, fewest)?), "{fewest}");
+        assert!(rt; admits_create(ty, &content(alloc, ty, most)?), "{most}");
+        assert!(rt; admits_update(ty, &content(alloc, ty, update)?), "{update}");
     }
     Ok(())
 }
@@ -432,56 +418,21 @@ fn told(alloc: Global, fault: AttrFault) -> Result<String, OutOfMemory> {
     }
 }
 
-fn admitted(alloc: Global, ty: Ty, content: Val) -> Result<Wanted, AttrFault> {
-    admit_create(alloc, ty, content)
-}
-
-fn is_shapeless(alloc: Global, json: &str) -> Result<bool, Fail> {
-    let answer = admitted(alloc, Ty::Container, parsed(alloc, json)?);
-    Ok(matches!(answer, Err(AttrFault::Shape)))
-}
-
 #[test]
-fn what_is_no_content_is_told(rt: HostRuntime) -> Result<(), Fail> {
+fn the_first_fault_is_told(rt: HostRuntime) -> Result<(), Fail> {
+    let alloc = rt.alloc();
     for shape in SHAPES {
-        assert!(rt; is_shapeless(rt.alloc(), shape)?, "{shape}");
+        let answer = admit_create(alloc, Ty::Container, read(alloc, shape.as_bytes())?);
+        assert!(rt; matches!(answer, Err(AttrFault::Shape)), "{shape}");
     }
-    Ok(())
-}
-
-/// What a creation wants, or its first fault.
-fn creation(alloc: Global, ty: Ty, attrs: &str) -> Result<String, Fail> {
-    match admitted(alloc, ty, content(alloc, ty, attrs)?) {
-        Ok(wanted) => Ok(wish(alloc, wanted)?),
-        Err(fault) => Ok(told(alloc, fault)?),
-    }
-}
-
-#[test]
-fn the_first_fault_of_a_creation_is_told(rt: HostRuntime) -> Result<(), Fail> {
     for (ty, fault, attrs) in REFUSED_CREATIONS {
-        let told = creation(rt.alloc(), ty, attrs)?;
+        let answer = admit_create(alloc, ty, content(alloc, ty, attrs)?);
+        let told = told(alloc, answer.err().ok_or("admitted")?)?;
         assert_eq!(rt; told.as_str(), fault, "{attrs}");
     }
-    Ok(())
-}
-
-fn allowed(alloc: Global, ty: Ty, content: Val) -> Result<Edit, AttrFault> {
-    admit_update(alloc, ty, content)
-}
-
-/// What an update changes, or its first fault.
-fn update(alloc: Global, ty: Ty, attrs: &str) -> Result<String, Fail> {
-    match allowed(alloc, ty, content(alloc, ty, attrs)?) {
-        Ok(edit) => Ok(changes(alloc, edit)?),
-        Err(fault) => Ok(told(alloc, fault)?),
-    }
-}
-
-#[test]
-fn the_first_fault_of_an_update_is_told(rt: HostRuntime) -> Result<(), Fail> {
     for (ty, fault, attrs) in REFUSED_UPDATES {
-        let told = update(rt.alloc(), ty, attrs)?;
+        let answer = admit_update(alloc, ty, content(alloc, ty, attrs)?);
+        let told = told(alloc, answer.err().ok_or("admitted")?)?;
         assert_eq!(rt; told.as_str(), fault, "{attrs}");
     }
     Ok(())
@@ -507,37 +458,38 @@ fn values(alloc: Global, attrs: &Attrs) -> Result<Vec<u8>, OutOfMemory> {
     Ok(text)
 }
 
-// What a creation wants: whether it keeps the originator, the moment of expiry, and the attributes.
-fn wish(alloc: Global, wanted: Wanted) -> Result<String, OutOfMemory> {
+// What a creation wants: the name, the moment of expiry, whether it keeps the originator, and the
+// attributes.
+fn wish(alloc: Global, wanted: Wanted) -> Result<String, Fail> {
+    let name = wanted.name.ok_or("no name")?.into_vec();
+    let name = std::str::from_utf8(&name).unwrap_or("");
+    let et = wanted.et.ok_or("no expiry")?;
     let attrs = values(alloc, &wanted.attrs)?;
     let attrs = std::str::from_utf8(&attrs).unwrap_or("");
-    let et = wanted.et.unwrap_or(0);
-    format!(in alloc; "{} {et} {attrs}", wanted.creator)
+    Ok(format!(in alloc; "{name} {et} {} {attrs}", wanted.creator)?)
 }
 
-fn taken(alloc: Global, ty: Ty, content: Val) -> Result<Option<Wanted>, OutOfMemory> {
+fn taken_wish(alloc: Global, ty: Ty, content: Val) -> Result<Wanted, Fail> {
     if admits_create(ty, &content) {
-        Ok(Some(take_wanted(alloc, ty, content)?))
+        Ok(take_wanted(alloc, ty, content)?)
     } else {
-        Ok(None)
+        Err("refused".into())
     }
 }
 
-fn taken_wish(alloc: Global, ty: Ty, attrs: &str) -> Result<String, Fail> {
-    let taken = taken(alloc, ty, content(alloc, ty, attrs)?)?;
-    Ok(wish(alloc, taken.ok_or("refused")?)?)
-}
-
-const CREATION: &str = r#""acpi":[],"cr":null,"et":"19700101T000010","lbl":[],"macp":["acp2"],
-    "mid":[],"mnm":1,"rn":"n""#;
-
 #[test]
 fn a_creation_is_taken_apart(rt: HostRuntime) -> Result<(), Fail> {
-    let wanted = r#"true 10 lbl[]macp["acp2"]mid[]mnm1"#;
-    let admitted = creation(rt.alloc(), Ty::Group, CREATION)?;
-    assert_eq!(rt; admitted.as_str(), wanted);
-    let taken = taken_wish(rt.alloc(), Ty::Group, CREATION)?;
-    assert_eq!(rt; taken.as_str(), wanted);
+    let alloc = rt.alloc();
+    let attrs = r#""acpi":[],"cr":null,"et":"19700101T000010","lbl":[],"macp":["acp2"],"mid":[],
+        "mnm":1,"rn":"n""#;
+    let admitted = admit_create(alloc, Ty::Group, content(alloc, Ty::Group, attrs)?);
+    let taken = taken_wish(alloc, Ty::Group, content(alloc, Ty::Group, attrs)?)?;
+    let wanted = r#"n 10 true lbl[]macp["acp2"]mid[]mnm1"#;
+    assert_eq!(rt;
+        wish(alloc, admitted.map_err(|_| "refused")?)?.as_str(),
+        wanted
+    );
+    assert_eq!(rt; wish(alloc, taken)?.as_str(), wanted);
     Ok(())
 }
 
@@ -549,27 +501,25 @@ fn changes(alloc: Global, edit: Edit) -> Result<String, OutOfMemory> {
     format!(in alloc; "{sets} {clears}")
 }
 
-fn taken_edit(alloc: Global, ty: Ty, content: Val) -> Result<Option<Edit>, OutOfMemory> {
+fn taken_changes(alloc: Global, ty: Ty, content: Val) -> Result<Edit, Fail> {
     if admits_update(ty, &content) {
-        Ok(Some(take_edit(alloc, ty, content)?))
+        Ok(take_edit(alloc, ty, content)?)
     } else {
-        Ok(None)
+        Err("refused".into())
     }
 }
 
-fn taken_changes(alloc: Global, ty: Ty, attrs: &str) -> Result<String, Fail> {
-    let edit = taken_edit(alloc, ty, content(alloc, ty, attrs)?)?;
-    Ok(changes(alloc, edit.ok_or("refused")?)?)
-}
-
-const UPDATE: &str = r#""et":"19700101T000010","gn":null,"lbl":["l"],"macp":[],"mnm":1"#;
-
 #[test]
 fn an_update_is_taken_apart(rt: HostRuntime) -> Result<(), Fail> {
+    let alloc = rt.alloc();
+    let attrs = r#""et":"19700101T000010","gn":null,"lbl":["l"],"macp":[],"mnm":1"#;
+    let admitted = admit_update(alloc, Ty::Group, content(alloc, Ty::Group, attrs)?);
+    let taken = taken_changes(alloc, Ty::Group, content(alloc, Ty::Group, attrs)?)?;
     let edit = r#"et"19700101T000010"lbl["l"]mnm1 gn macp "#;
-    let admitted = update(rt.alloc(), Ty::Group, UPDATE)?;
-    assert_eq!(rt; admitted.as_str(), edit);
-    let taken = taken_changes(rt.alloc(), Ty::Group, UPDATE)?;
-    assert_eq!(rt; taken.as_str(), edit);
+    assert_eq!(rt;
+        changes(alloc, admitted.map_err(|_| "refused")?)?.as_str(),
+        edit
+    );
+    assert_eq!(rt; changes(alloc, taken)?.as_str(), edit);
     Ok(())
 }

@@ -1,18 +1,19 @@
 //! Values from outside: what JSON texts spell, and how values print.
-use crate::texts::{parsed, spelled};
 use m2m_value::*;
 use std::alloc::Global;
 use std::test::Fail;
 
 // The text of what is read, or the fault's name.
 fn answer(alloc: Global, bytes: &[u8]) -> Result<Vec<u8>, OutOfMemory> {
+    let mut out = Vec::new(alloc);
     match read(alloc, bytes) {
-        Ok(value) => spelled(alloc, &value),
-        Err(ValFault::NotJson) => Vec::from_slice(alloc, b"not JSON"),
-        Err(ValFault::TooWide) => Vec::from_slice(alloc, b"too wide"),
-        Err(ValFault::Fraction) => Vec::from_slice(alloc, b"fraction"),
-        Err(ValFault::OutOfMemory) => Err(OutOfMemory),
+        Ok(value) => write(&value, &mut out)?,
+        Err(ValFault::NotJson) => out.extend_from_slice(b"not JSON")?,
+        Err(ValFault::TooWide) => out.extend_from_slice(b"too wide")?,
+        Err(ValFault::Fraction) => out.extend_from_slice(b"fraction")?,
+        Err(ValFault::OutOfMemory) => return Err(OutOfMemory),
     }
+    Ok(out)
 }
 
 const ROWS: [(&str, &str); 28] = [
@@ -84,30 +85,33 @@ fn reads_127_levels_and_no_more(rt: HostRuntime) -> Result<(), Fail> {
     Ok(())
 }
 
-fn is_copied(alloc: Global, value: &Val) -> Result<bool, OutOfMemory> {
-    Ok(value.copy(alloc)? == *value)
-}
-
 #[test]
 fn values_are_copied_compared_and_measured(rt: HostRuntime) -> Result<(), Fail> {
     for (text, size) in [(r#""\n\u00e9""#, 3), (r#"{"a":"\u0001","b":[1,-2]}"#, 25)] {
-        let value = parsed(rt.alloc(), text)?;
-        assert!(rt; value.size() == size && value != Val::null(), "{text}");
-        assert!(rt; is_copied(rt.alloc(), &value)?, "{text}");
+        let value = read(rt.alloc(), text.as_bytes())?;
+        assert_eq!(rt; value.size(), size, "{text}");
+        assert!(rt; value.copy(rt.alloc())? == value);
+        assert!(rt; value != Val::null());
     }
     Ok(())
 }
 
-fn put(alloc: Global, members: &mut Members, key: &[u8], n: i64) -> Result<(), OutOfMemory> {
-    members.put(Text::from_slice(alloc, key)?, Val::of_num(n))
-}
-
 #[test]
-fn a_member_is_written_over(rt: HostRuntime) -> Result<(), Fail> {
+fn members_stand_in_the_order_of_their_keys(rt: HostRuntime) -> Result<(), Fail> {
     let mut members = Members::new(rt.alloc());
-    put(rt.alloc(), &mut members, b"a", 1)?;
-    put(rt.alloc(), &mut members, b"a", 2)?;
-    assert_eq!(rt; members.get(b"a").and_then(Val::as_num), Some(2));
+    for (key, n) in [("b", 1), ("", 2), ("ba", 3), ("B", 4), ("b", 5)] {
+        members.put(
+            Text::from_slice(rt.alloc(), key.as_bytes())?,
+            Val::of_num(n),
+        )?;
+    }
+    let mut keys = Vec::new(rt.alloc());
+    for (key, _) in members.entries() {
+        keys.extend_from_slice(key.entries())?;
+        keys.push(b' ')?;
+    }
+    assert_eq!(rt; keys.as_slice(), b" B b ba ".as_slice());
+    assert_eq!(rt; members.get(b"b").and_then(Val::as_num), Some(5));
     Ok(())
 }
 

@@ -2,9 +2,9 @@
 ghost use Rattle.std.specs.Prelude.{IfOk};
 ghost use Rattle.primitive_json.specs.Notes.{IsSomeUrl, IsSoundDest};
 
-use crate::texts::{parsed, text};
+use crate::texts::text;
 use m2m_names::read_url;
-use m2m_value::{Text, Val};
+use m2m_value::{Text, read};
 use primitive_json::*;
 use std::alloc::{AllocError, Global};
 use std::process::Abort;
@@ -18,26 +18,16 @@ fn url_of(rt: &impl Abort, alloc: Global, words: &str) -> Result<Text, AllocErro
     Ok(url)
 }
 
-fn request_in(alloc: Global, value: Val) -> Result<Request, PrimFault> {
-    request_from(alloc, value)
-}
-
-fn request_of(alloc: Global, json: &str) -> Result<Request, Fail> {
-    let value = parsed(alloc, json)?;
-    Ok(request_in(alloc, value)?)
-}
-
-/// The parts of a copy of an item that goes there.
-fn copied(alloc: Global, dest: Dest) -> Result<NoteParts, Fail>
+fn note_to(alloc: Global, kind: Kind, dest: Dest) -> Result<Note, Fail>
     requires { IsSoundDest dest }
 {
-    let request = request_of(alloc, r#"{"op":4,"rqi":"r1","to":"a"}"#)?;
-    let note = Note::of(NoteParts {
-        kind: Kind::Copy,
+    let value = read(alloc, b"{\"op\":4,\"rqi\":\"r1\",\"to\":\"a\"}")?;
+    let request = request_from(alloc, value)?;
+    Ok(Note::of(NoteParts {
+        kind,
         dest,
         request,
-    });
-    Ok(note.copy(alloc)?.into_parts())
+    }))
 }
 
 /// A destination by its variant, its URL and its number.
@@ -50,28 +40,20 @@ fn dest_parts(dest: &Dest) -> (u8, &[u8], u64) {
     }
 }
 
-/// Whether the item is a copy that goes there, of a request with the identifier `r1`.
-fn is_note(note: &NoteParts, dest: (u8, &[u8], u64)) -> bool {
-    note.kind == Kind::Copy
+/// Whether the item is this, of a request with the identifier `r1`.
+fn is_note(note: NoteParts, kind: Kind, dest: (u8, &[u8], u64)) -> bool {
+    note.kind == kind
         && dest_parts(&note.dest) == dest
         && note.request.parts().rqi.entries() == b"r1".as_slice()
 }
 
-const URL: &str = "http://h:8080/in";
-
 #[test]
-fn items_to_urls_are_copied(rt: HostRuntime) -> Result<(), Fail> {
-    let direct = copied(rt.alloc(), Dest::Direct(url_of(&rt, rt.alloc(), URL)?))?;
-    assert!(rt; is_note(&direct, (0, URL.as_bytes(), 0)));
-    let peer = copied(rt.alloc(), Dest::Peer(url_of(&rt, rt.alloc(), URL)?))?;
-    assert!(rt; is_note(&peer, (1, URL.as_bytes(), 0)));
-    Ok(())
-}
-
-#[test]
-fn items_to_channels_are_copied(rt: HostRuntime) -> Result<(), Fail> {
-    assert!(rt; is_note(&copied(rt.alloc(), Dest::Channel(7))?, (2, b"", 7)));
-    assert!(rt; is_note(&copied(rt.alloc(), Dest::Nowhere)?, (3, b"", 0)));
+fn copies_of_notes(rt: HostRuntime) -> Result<(), Fail> {
+    let peer = Dest::Peer(url_of(&rt, rt.alloc(), "http://h:8080/in")?);
+    let copy = note_to(rt.alloc(), Kind::Copy, peer)?.copy(rt.alloc())?;
+    assert!(rt; is_note(copy.into_parts(), Kind::Copy, (1, b"http://h:8080/in", 0)));
+    let copy = note_to(rt.alloc(), Kind::Relay, Dest::Channel(7))?.copy(rt.alloc())?;
+    assert!(rt; is_note(copy.into_parts(), Kind::Relay, (2, b"", 7)));
     Ok(())
 }
 
@@ -107,21 +89,15 @@ fn fault_parts(fault: Option<Fault<'_>>) -> (&str, &[u8]) {
     }
 }
 
-fn is_request_fault(alloc: Global, json: &str, want: (&str, &[u8])) -> Result<bool, Fail> {
-    let value = parsed(alloc, json)?;
-    Ok(fault_parts(request_fault(&value)) == want)
-}
-
-fn is_reply_fault(alloc: Global, json: &str, want: (&str, &[u8])) -> Result<bool, Fail> {
-    let value = parsed(alloc, json)?;
-    Ok(fault_parts(reply_fault(&value)) == want)
-}
-
 #[test]
 fn faults_are_lent(rt: HostRuntime) -> Result<(), Fail> {
-    let request = r#"{"op":4,"rqi":"r1","to":"a","x":1}"#;
-    assert!(rt; is_request_fault(rt.alloc(), request, ("bad", b"x"))?);
-    assert!(rt; is_reply_fault(rt.alloc(), request, ("missing", b"rsc"))?);
-    assert!(rt; is_reply_fault(rt.alloc(), r#"{"rsc":2000}"#, ("none", b""))?);
+    let value = read(
+        rt.alloc(),
+        b"{\"op\":4,\"rqi\":\"r1\",\"to\":\"a\",\"x\":1}",
+    )?;
+    assert!(rt; fault_parts(request_fault(&value)) == ("bad", b"x"));
+    assert!(rt; fault_parts(reply_fault(&value)) == ("missing", b"rsc"));
+    let value = read(rt.alloc(), b"{\"rsc\":2000}")?;
+    assert!(rt; fault_parts(reply_fault(&value)) == ("none", b""));
     Ok(())
 }

@@ -1,7 +1,6 @@
 //! Requests and replies read from JSON and written again, and the first faults of values that are
 //! none. Each line of a table is a value, an arrow, and what is told of it.
-use crate::texts::{parsed, spelled};
-use m2m_value::Val;
+use m2m_value::{Val, read, write};
 use primitive_json::*;
 use std::alloc::{AllocGlobal, Global};
 use std::process::Abort;
@@ -108,6 +107,10 @@ null => missing rsc
 {"rsc":10000} => bad rsc
 {"rsc":"2000"} => bad rsc"#;
 
+fn parsed(alloc: Global, text: &str) -> Result<Val, OutOfMemory> {
+    read(alloc, text.as_bytes()).map_err(|_| OutOfMemory)
+}
+
 /// A value, and what is wanted of it.
 fn parts_of<'a>(rt: &impl Abort, line: &'a str) -> (&'a str, &'a str) {
     match line.split_once(" => ").expect(rt, "an arrow") {
@@ -121,52 +124,47 @@ fn retrieve(alloc: Global, more: &str) -> Result<String, OutOfMemory> {
     format!(in alloc; "{{\"op\":2,\"rqi\":\"r\",\"to\":\"a\"{more}}}")
 }
 
-/// A word, and a name behind it.
-fn named(alloc: Global, word: &str, name: &[u8]) -> Result<Vec<u8>, OutOfMemory> {
-    let mut out = Vec::from_slice(alloc, word.as_bytes())?;
+/// The kind of a fault, and the name in it.
+fn fault_text(alloc: Global, kind: &str, name: &[u8]) -> Result<Vec<u8>, OutOfMemory> {
+    let mut out = Vec::from_slice(alloc, kind.as_bytes())?;
     out.extend_from_slice(name)?;
     Ok(out)
 }
 
-/// The kind of a fault, and the name in it.
-fn fault_text(alloc: Global, fault: &PrimFault) -> Result<Vec<u8>, OutOfMemory> {
-    match fault {
-        PrimFault::Missing(name) => named(alloc, "missing ", name.entries()),
-        PrimFault::Bad(name) => named(alloc, "bad ", name.entries()),
-        PrimFault::OutOfMemory => Err(OutOfMemory),
+/// The text of a value that was written, or of the fault.
+fn told_text(alloc: Global, written: Result<Val, PrimFault>) -> Result<Vec<u8>, OutOfMemory> {
+    match written {
+        Ok(value) => {
+            let mut out = Vec::new(alloc);
+            write(&value, &mut out)?;
+            Ok(out)
+        }
+        Err(PrimFault::Missing(name)) => fault_text(alloc, "missing ", name.entries()),
+        Err(PrimFault::Bad(name)) => fault_text(alloc, "bad ", name.entries()),
+        Err(PrimFault::OutOfMemory) => Err(OutOfMemory),
     }
 }
 
 /// What is written of a copy of the request.
-fn written_again(alloc: Global, request: &Request) -> Result<Val, OutOfMemory> {
-    let copy = request.copy(alloc)?;
-    write_request(alloc, &copy)
-}
-
-/// The text of what was read, written again, or of the fault.
-fn told(alloc: Global, read: Result<Request, PrimFault>) -> Result<Vec<u8>, OutOfMemory> {
-    match read {
-        Ok(request) => spelled(alloc, &written_again(alloc, &request)?),
-        Err(fault) => fault_text(alloc, &fault),
-    }
+fn written_again(alloc: Global, request: Request) -> Result<Val, PrimFault> {
+    Ok(write_request(alloc, &request.copy(alloc)?)?)
 }
 
 fn told_lent(alloc: Global, value: &Val) -> Result<Vec<u8>, OutOfMemory> {
-    told(alloc, read_request(alloc, value))
+    let written = read_request(alloc, value).and_then(|request| written_again(alloc, request));
+    told_text(alloc, written)
 }
 
 fn told_given(alloc: Global, value: Val) -> Result<Vec<u8>, OutOfMemory> {
-    told(alloc, request_from(alloc, value))
+    let written = request_from(alloc, value).and_then(|request| written_again(alloc, request));
+    told_text(alloc, written)
 }
 
-fn reply_text(alloc: Global, reply: &Reply) -> Result<Vec<u8>, OutOfMemory> {
-    spelled(alloc, &write_reply(alloc, reply)?)
-}
-
-fn told_reply(alloc: Global, value: &Val) -> Result<Vec<u8>, OutOfMemory> {
-    match read_reply(alloc, value) {
-        Ok(reply) => reply_text(alloc, &reply),
-        Err(fault) => fault_text(alloc, &fault),
+fn told_reply(alloc: Global, text: &str) -> Result<Vec<u8>, OutOfMemory> {
+    let value = parsed(alloc, text)?;
+    match read_reply(alloc, &value) {
+        Ok(reply) => told_text(alloc, Ok(write_reply(alloc, &reply)?)),
+        Err(fault) => told_text(alloc, Err(fault)),
     }
 }
 
@@ -180,53 +178,44 @@ fn check_request(rt: &(impl Abort + AllocGlobal), text: &str, want: &[u8]) -> Re
     Ok(())
 }
 
-fn check_requests(rt: &(impl Abort + AllocGlobal), table: &str) -> Result<(), Fail> {
-    for line in table.lines() {
-        let (text, want) = parts_of(rt, line);
-        check_request(rt, text, want.as_bytes())?;
+#[test]
+fn reads_requests_and_writes_them(rt: HostRuntime) -> Result<(), Fail> {
+    for line in REQUESTS.lines() {
+        let (text, want) = parts_of(&rt, line);
+        check_request(&rt, text, want.as_bytes())?;
     }
     Ok(())
 }
 
 #[test]
-fn reads_requests_and_writes_them(rt: HostRuntime) -> Result<(), Fail> {
-    check_requests(&rt, REQUESTS)
-}
-
-#[test]
 fn names_the_first_fault(rt: HostRuntime) -> Result<(), Fail> {
-    check_requests(&rt, FAULTS)
-}
-
-/// A Retrieve with these members is written with those.
-fn check_members(rt: &(impl Abort + AllocGlobal), more: &str, kept: &str) -> Result<(), Fail> {
-    let text = retrieve(rt.alloc(), more)?;
-    let kept = retrieve(rt.alloc(), kept)?;
-    let want = spelled(rt.alloc(), &parsed(rt.alloc(), kept.as_str())?)?;
-    check_request(rt, text.as_str(), want.as_slice())
+    for line in FAULTS.lines() {
+        let (text, want) = parts_of(&rt, line);
+        check_request(&rt, text, want.as_bytes())?;
+    }
+    Ok(())
 }
 
 #[test]
 fn reads_members_of_their_kinds(rt: HostRuntime) -> Result<(), Fail> {
     for line in MEMBERS.lines() {
         let (more, kept) = parts_of(&rt, line);
-        check_members(&rt, more, kept)?;
+        let text = retrieve(rt.alloc(), more)?;
+        let kept = parsed(rt.alloc(), retrieve(rt.alloc(), kept)?.as_str())?;
+        let mut want = Vec::new(rt.alloc());
+        write(&kept, &mut want)?;
+        check_request(&rt, text.as_str(), want.as_slice())?;
     }
     Ok(())
-}
-
-/// A Retrieve with this member has a fault of that name.
-fn check_fault(rt: &(impl Abort + AllocGlobal), more: &str, name: &str) -> Result<(), Fail> {
-    let text = retrieve(rt.alloc(), more)?;
-    let want = format!(in rt.alloc(); "bad {name}")?;
-    check_request(rt, text.as_str(), want.as_bytes())
 }
 
 #[test]
 fn refuses_values_outside_their_kind(rt: HostRuntime) -> Result<(), Fail> {
     for line in BAD_MEMBERS.lines() {
         let (more, name) = parts_of(&rt, line);
-        check_fault(&rt, more, name)?;
+        let text = retrieve(rt.alloc(), more)?;
+        let want = format!(in rt.alloc(); "bad {name}")?;
+        check_request(&rt, text.as_str(), want.as_bytes())?;
     }
     Ok(())
 }
@@ -235,8 +224,7 @@ fn refuses_values_outside_their_kind(rt: HostRuntime) -> Result<(), Fail> {
 fn reads_replies_and_writes_them(rt: HostRuntime) -> Result<(), Fail> {
     for line in REPLIES.lines() {
         let (text, want) = parts_of(&rt, line);
-        let value = parsed(rt.alloc(), text)?;
-        let told = told_reply(rt.alloc(), &value)?;
+        let told = told_reply(rt.alloc(), text)?;
         assert!(rt; told.as_slice() == want.as_bytes(), "{text}");
     }
     Ok(())
