@@ -10,7 +10,7 @@ use Rattle.m2m_names.specs.declared.attributes.Attr.TheVariants.{Ri}
 use Rattle.m2m_value.specs.Data.{Data, null, boolean, number, text, list, object, Elements}
 use Rattle.m2m_value.specs.Data.{no_elements, element, Pairs, no_pairs, pair, Entry}
 use Rattle.m2m_value.specs.View.{as_object, as_text}
-use Rattle.policy_eval.specs.Rules.{member_at, elements_in, texts_of}
+use Rattle.policy_eval.specs.Rules.{member_at, listed_in, texts_of}
 
 -- the name of a type in JSON, as `m2m:cnt`; no attribute has such a name (TS-0004, 8.2.4)
 abbrev pub is_type_name : List ℕ → Bool
@@ -67,19 +67,19 @@ ids_below content = ids_shown (unframed content)
 abbrev pub references_shown : Data → List (List ℕ)
 references_shown inner =
     filter_map (λ d. option_and_then as_text (member_at (codes "val") d))
-    (flat_map (λ d. elements_in (member_at (codes "ch") d)) (member_values inner))
+    (flat_map (λ d. listed_in (member_at (codes "ch") d)) (member_values inner))
 
 abbrev pub references_in : Data → List (List ℕ)
 references_in content = references_shown (unframed content)
 
 -- the addresses that were found (TS-0004, 7.5.2)
 abbrev pub addresses_in : Data → List (List ℕ)
-addresses_in content = texts_of (elements_in (member_at (codes "m2m:uril") content))
+addresses_in content = texts_of (listed_in (member_at (codes "m2m:uril") content))
 
 -- the contents of the replies that the reply to a fan-out gathers, where these have some (TS-0004,
 -- 7.5.2)
 abbrev pub gathered_in : Data → List (Option Data)
 gathered_in content =
     map (member_at (codes "pc"))
-    (elements_in
+    (listed_in
     (option_and_then (member_at (codes "m2m:rsp")) (member_at (codes "m2m:agr") content)))

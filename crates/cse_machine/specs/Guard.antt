@@ -22,7 +22,7 @@ use Rattle.resource_model.specs.Attributes.{value_of}
 use Rattle.resource_model.specs.Resource.{ResourceData, has_number, id_of, is_ty}
 use Rattle.turn_desk.specs.Entries.{entry_of}
 use Rattle.tree_model.specs.Tree.{at, is_instance, line_of}
-use Rattle.policy_eval.specs.Alike.{is_one_of}
+use Rattle.policy_eval.specs.Alike.{is_attr_in}
 use Rattle.policy_eval.specs.Rights.{discovery_bit, relinks, fan_grants}
 use Rattle.addressing.specs.Addresses.{address_of}
 use Rattle.addressing.specs.Names.{segments_of, spot_of, structured_of}
@@ -116,7 +116,7 @@ pub record IsUpdated (r s : ResourceData) : Type 0 where
 -- The resource differs in nothing but these attributes and its last change.
 pub record DiffersIn (attrs : List Attr) (r s : ResourceData) : Type 0 where
   pub rest : s ≡ record r { lt = s.lt; attrs = s.attrs }
-  pub others : (a : Attr) → is_one_of attrs a ≡ false → value_of a s.attrs ≡ value_of a r.attrs
+  pub others : (a : Attr) → is_attr_in attrs a ≡ false → value_of a s.attrs ≡ value_of a r.attrs
 
 -- what an Update of `acpi` alone changes: `acpi`, and the state tag that a container has (TS-0001,
 -- 9.6.1.3.2)

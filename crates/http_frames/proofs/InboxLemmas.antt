@@ -6,7 +6,7 @@ use Rattle.httparse.specs.declared.spans.HeaderSpan.{HeaderSpan}
 use Rattle.m2m_io.specs.Counts.{Rose}
 use Rattle.http_frames.specs.declared.frame.Side.{Side}
 use Rattle.http_frames.specs.declared.look.FrameSpans.{FrameSpans}
-use Rattle.http_frames.specs.Stream.{BeginsWith, HasNoFrame}
+use Rattle.http_frames.specs.Stream.{BeginsWithFrame, HasNoFrame}
 use Rattle.http_frames.specs.Spans.{frame_at, IsFrameAt, NeedsBytes, CanNotBegin}
 use Rattle.http_frames.specs.Inbox.{Reads, HoldsNoFrame}
 
@@ -48,7 +48,7 @@ none_within side held need needs short frame rest b =
 
 -- a frame that was found stands at the front
 pub frame_begins : (side : Side) (held : List ℕ) (headers : List HeaderSpan) (spans : FrameSpans)
-    → IsFrameAt side held headers spans → BeginsWith side held (frame_at held headers spans) (drop spans.end held)
+    → IsFrameAt side held headers spans → BeginsWithFrame side held (frame_at held headers spans) (drop spans.end held)
 frame_begins side held headers spans f = record {
   bytes = take spans.end held;
   is_frame = f.is_frame;
