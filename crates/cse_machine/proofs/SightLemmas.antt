@@ -19,7 +19,7 @@ use Rattle.policy_eval.proofs.RetrievedLemmas.{attributes-live}
 use Rattle.policy_eval.proofs.ShapeLemmas.{sight_shape}
 use Rattle.entity_model.specs.Entity.{EntityData, event_moment, swept}
 use Rattle.entity_model.specs.Places.{reply_to, refusal}
-use Rattle.entity_model.specs.Sound.{IsSound}
+use Rattle.entity_model.specs.Sound.{IsSoundEntity}
 use Rattle.cse_machine.specs.Answer.{is_plain_retrieve, is_served, addressed, operated, reached, effect_of}
 use Rattle.cse_machine.specs.Rights.{claimed_originator, is_granted, has_right}
 use Rattle.cse_machine.specs.Sight.{sight, shape, IsRequestBy, SightHasItsShape, EqualSightsHaveOneShape}
@@ -59,7 +59,7 @@ plain_by o request by served = (
   ],
 )
 
-module _ (e : EntityData) (o : List ℕ) (reading : ℕ) (sound : IsSound e) where
+module _ (e : EntityData) (o : List ℕ) (reading : ℕ) (sound : IsSoundEntity e) where
   abbrev moment : ℕ
   moment = event_moment e.last reading
 
@@ -121,7 +121,7 @@ module _ (e : EntityData) (o : List ℕ) (reading : ℕ) (sound : IsSound e) whe
     | inr other ↦ unserved_reply shown request other ∙ sym (unserved_reply left request other)
   ]
 
-pub replies-alike : (one other : EntityData) (o : List ℕ) (reading : ℕ) (request : RequestParts) → IsSound one → IsSound other → sight o one ≡ sight o other → IsRequestBy o request → (effect_of (swept reading one) request).reply ≡ (effect_of (swept reading other) request).reply
+pub replies-alike : (one other : EntityData) (o : List ℕ) (reading : ℕ) (request : RequestParts) → IsSoundEntity one → IsSoundEntity other → sight o one ≡ sight o other → IsRequestBy o request → (effect_of (swept reading one) request).reply ≡ (effect_of (swept reading other) request).reply
 replies-alike one other o reading request sound sounds same by =
     sym (reply-seen one o reading sound request by)
     ∙ ap (λ (e : EntityData). (effect_of (swept reading e) request).reply) same

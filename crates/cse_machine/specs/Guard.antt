@@ -1,6 +1,7 @@
 -- What a request may show, and what it may change.
 use Rattle.std.specs.Prelude.{◌≡◌, ◌≢◌, ◌⊎◌, ℕ, Bool, false, ◌||◌, List, [], ◌∷◌, ◌++◌, Contains}
-use Rattle.std.specs.Prelude.{Option, Some, None, option_and_then, Result, Ok, Err, IsTrue, bytes_eq}
+use Rattle.std.specs.Prelude.{Option, Some, None, option_and_then, Result, Ok, Err, IsTrue}
+use Rattle.std.specs.Prelude.{bytes_eq}
 use Rattle.std.specs.Prelude.{map, if◌then◌else◌}
 use Rattle.std.specs.Int.{is_in_range}
 use Rattle.std.specs.List.{All, list_any}
@@ -37,7 +38,7 @@ use Rattle.cse_machine.specs.declared.event.Outcome.{Outcome}
 use Rattle.cse_machine.specs.declared.event.Outcome.TheVariants.{Done, Starved}
 use Rattle.cse_machine.specs.Answer.{addressed}
 use Rattle.cse_machine.specs.Contents.{ids_below, references_in, addresses_in, gathered_in}
-use Rattle.cse_machine.specs.History.{History, Leaves}
+use Rattle.cse_machine.specs.History.{History, HistoryLeaves}
 use Rattle.cse_machine.specs.Rights.{claimed_originator, is_granted, has_right}
 use Rattle.cse_machine.specs.Step.{Step}
 
@@ -160,7 +161,8 @@ pub record IsRemovedByRight (before : EntityData) (request : RequestParts)
 
 -- ---- what is guarded
 
--- One operation shows and changes nothing but by a grant to the originator, in the entity before it.
+-- One operation shows and changes nothing but by a grant to the originator, in the entity before
+-- it.
 pub record IsGuardedAlone (before : EntityData) (request : RequestParts) (reply : ReplyParts)
     (after : EntityData) : Type 0 where
   pub shown : DoesShow reply → HasRight before request
@@ -216,7 +218,8 @@ pub record IsGuardedFan (before : EntityData) (request : RequestParts) (reply : 
   pub singles : List Single
   pub same : All (IsSingleOf request) singles
   pub guarded : AreGuarded before singles after
-  pub gathered : option_map_or gathered_in reply.pc [] ≡ map (λ (single : Single). single.reply.pc) singles
+  pub gathered : option_map_or gathered_in reply.pc []
+      ≡ map (λ (single : Single). single.reply.pc) singles
 
 -- Nothing is shown or changed but by a grant to the originator, in the entity before the request.
 abbrev pub IsGuarded : EntityData → RequestParts → ReplyParts → EntityData → Type 0
@@ -235,10 +238,10 @@ abbrev pub HistoriesAreGuarded : Type 0
 HistoriesAreGuarded =
     (opening e : EntityData) (earlier later : History)
     (reading : ℕ) (request : RequestParts) (reply : ReplyParts)
-    → Leaves opening (earlier ++ entry_of reading (Ask request) (Done reply) ∷ later) e
+    → HistoryLeaves opening (earlier ++ entry_of reading (Ask request) (Done reply) ∷ later) e
     → (before : EntityData) × (after : EntityData)
-    × Leaves opening earlier before
-    × Leaves opening (earlier ++ entry_of reading (Ask request) (Done reply) ∷ []) after
+    × HistoryLeaves opening earlier before
+    × HistoryLeaves opening (earlier ++ entry_of reading (Ask request) (Done reply) ∷ []) after
     × IsGuarded (swept reading before) request reply after
 
 -- ---- what changes nothing

@@ -7,12 +7,12 @@ use Rattle.primitive_json.specs.declared.request.RequestParts.{RequestParts}
 use Rattle.policy_eval.specs.Seen.{seen_list}
 use Rattle.policy_eval.specs.Shape.{shape_list}
 use Rattle.entity_model.specs.Entity.{EntityData, swept}
-use Rattle.entity_model.specs.Sound.{IsSound}
+use Rattle.entity_model.specs.Sound.{IsSoundEntity}
 use Rattle.cse_machine.specs.declared.event.Event.{Event}
 use Rattle.cse_machine.specs.declared.event.Event.TheVariants.{Ask}
 use Rattle.cse_machine.specs.declared.event.Outcome.TheVariants.{Done}
 use Rattle.cse_machine.specs.Answer.{is_plain_retrieve, is_served, given}
-use Rattle.cse_machine.specs.History.{History, Leaves, IsDone}
+use Rattle.cse_machine.specs.History.{History, HistoryLeaves, IsDone}
 use Rattle.cse_machine.specs.Step.{Step}
 
 -- the entity as the originator sees it: of each resource what it sees whatever its rights, and what
@@ -31,13 +31,14 @@ shape o e = record e { nodes = shape_list e.home e.nodes o }
 -- What an originator sees of a sound entity has the shape of that entity.
 abbrev pub SightHasItsShape : Type 0
 SightHasItsShape =
-    (e : EntityData) (o : List ℕ) → IsSound e → shape o (sight o e) ≡ shape o e
+    (e : EntityData) (o : List ℕ) → IsSoundEntity e → shape o (sight o e) ≡ shape o e
 
 -- Two entities of which the originator sees the same have one shape.
 abbrev pub EqualSightsHaveOneShape : Type 0
 EqualSightsHaveOneShape =
     (left right : EntityData) (o : List ℕ)
-    → IsSound left → IsSound right → sight o left ≡ sight o right → shape o left ≡ shape o right
+    → IsSoundEntity left → IsSoundEntity right → sight o left ≡ sight o right
+    → shape o left ≡ shape o right
 
 -- the requests of which the laws of equal sight speak so far: a plain Retrieve, and what isn't
 -- served, which every entity refuses alike
@@ -53,7 +54,7 @@ IsRequestBy o request =
 abbrev pub IsAnsweredBySight : Type 0
 IsAnsweredBySight =
     (e : EntityData) (o : List ℕ) (reading : ℕ) (request : RequestParts)
-    → IsSound e → IsRequestBy o request
+    → IsSoundEntity e → IsRequestBy o request
     → (given (swept reading (sight o e)) request).0 ≡ (given (swept reading e) request).0
 
 -- Two entities of which the originator sees the same give it the same reply.
@@ -61,7 +62,8 @@ abbrev pub EqualSightsAnswerAlike : Type 0
 EqualSightsAnswerAlike =
     (left right after other : EntityData) (o : List ℕ)
     (reading : ℕ) (request : RequestParts) (reply replied : ReplyParts)
-    → IsSound left → IsSound right → sight o left ≡ sight o right → IsRequestBy o request
+    → IsSoundEntity left → IsSoundEntity right → sight o left ≡ sight o right
+    → IsRequestBy o request
     → Step reading (Ask request) left (Done reply) after
     → Step reading (Ask request) right (Done replied) other
     → reply ≡ replied
@@ -76,8 +78,8 @@ IsBy o (Ask request) = IsRequestBy o request
 abbrev pub EqualSightsStayAlike : Type 0
 EqualSightsStayAlike =
     (left right after other : EntityData) (o : List ℕ) (history twin : History)
-    → IsSound left → IsSound right → sight o left ≡ sight o right
-    → Leaves left history after → Leaves right twin other
+    → IsSoundEntity left → IsSoundEntity right → sight o left ≡ sight o right
+    → HistoryLeaves left history after → HistoryLeaves right twin other
     → readings_of history ≡ readings_of twin → events_of history ≡ events_of twin
     → All (IsBy o) (events_of history)
     → All IsDone (outcomes_of history) → All IsDone (outcomes_of twin)

@@ -29,7 +29,7 @@ use Rattle.cse_server.specs.Closing.{closes}
 use Rattle.cse_server.specs.Talk.{requests_in, talk, some_closes, ends_at_close}
 use Rattle.cse_server.specs.Connection.{IsThese, RefusesRightly, EndsRightly, Says, AsksFrames}
 use Rattle.cse_server.specs.Replies.{GivesReplies}
-use Rattle.cse_server.specs.Laws.{IsWhole, ServesBoth, AreServedAlike, IsAnsweredInOneWay, EqualSightsAreServedAlike}
+use Rattle.cse_server.specs.Laws.{IsFaultless, ServesBoth, AreServedAlike, IsAnsweredInOneWay, EqualSightsAreServedAlike}
 use Rattle.cse_server.proofs.RepliesLemmas.{gives_one_way}
 
 -- ---- where a stream ends
@@ -44,7 +44,7 @@ pub record Settles (place : ℕ) (ended : Ended) (refused : Bool) (heard : List 
   pub refusal : refused ≡ true → (ended ≡ NoFrame) × (some_closes heard place ≡ false) × (rest ≢ []) × HasNoFrame Request rest
 
 settles : (place : ℕ) (ended : Ended) (refused : Bool) (heard : List Frame) (rest : List ℕ) (now : Option (List ℕ))
-    → IsWhole ended → RefusesRightly place refused heard rest → EndsRightly place ended refused heard rest now
+    → IsFaultless ended → RefusesRightly place refused heard rest → EndsRightly place ended refused heard rest now
     → Settles place ended refused heard rest
 settles place Closed refused heard rest now whole right ends = record {
   closed = λ f. (refl, ends.1);
@@ -136,7 +136,7 @@ heard_one_way (x ∷ xs) (y ∷ ys) place ended end refused denied stream rest o
 -- ---- what is said
 
 -- where it ends whole, all of its talk is written
-said_whole : (ended : Ended) (old new before text : List ℕ) → IsWhole ended → Says ended (Some old) (Some new) before text → new ≡ old ++ text
+said_whole : (ended : Ended) (old new before text : List ℕ) → IsFaultless ended → Says ended (Some old) (Some new) before text → new ≡ old ++ text
 said_whole Closed old new before text whole said = said
 said_whole NoFrame old new before text whole said = said
 said_whole ReadFault old new before text whole said = absurd whole

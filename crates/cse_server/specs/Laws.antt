@@ -9,12 +9,12 @@ use Rattle.primitive_json.specs.declared.reply.ReplyParts.{ReplyParts}
 use Rattle.primitive_json.specs.declared.request.RequestParts.{RequestParts}
 use Rattle.http_frames.specs.declared.frame.Frame.{Frame}
 use Rattle.entity_model.specs.Entity.{EntityData, swept}
-use Rattle.entity_model.specs.Sound.{IsSound}
+use Rattle.entity_model.specs.Sound.{IsSoundEntity}
 use Rattle.cse_machine.specs.declared.event.Event.TheVariants.{Ask}
 use Rattle.cse_machine.specs.declared.event.Outcome.{Outcome}
 use Rattle.cse_machine.specs.declared.event.Outcome.TheVariants.{Done}
 use Rattle.cse_machine.specs.Guard.{IsGuarded}
-use Rattle.cse_machine.specs.History.{History, Leaves, IsDone}
+use Rattle.cse_machine.specs.History.{History, HistoryLeaves, IsDone}
 use Rattle.cse_machine.specs.Sight.{sight, IsRequestBy}
 use Rattle.cse_machine.specs.Step.{Step}
 use Rattle.cse_server.specs.declared.connection.Ended.{Ended}
@@ -47,19 +47,19 @@ ServesGuarded =
     → length earlier ≡ length before
     → (history : History) × (found : EntityData) × (left : EntityData)
     × (reading : ℕ) × (then : List ℕ)
-    × Leaves opening history found × (events_of history ≡ map Ask earlier)
+    × HistoryLeaves opening history found × (events_of history ≡ map Ask earlier)
     × (outcomes_of history ≡ before)
     × (served.asks.readings ≡ readings_of history ++ reading ∷ then)
     × Step reading (Ask request) found (Done reply) left
     × IsGuarded (swept reading found) request reply left
 
 -- nothing went wrong with the connection: it was closed, or nothing more can be heard
-abbrev pub IsWhole : Ended → Type 0
-IsWhole Closed = ⊤
-IsWhole NoFrame = ⊤
-IsWhole ReadFault = ⊥
-IsWhole WriteFault = ⊥
-IsWhole Memory = ⊥
+abbrev pub IsFaultless : Ended → Type 0
+IsFaultless Closed = ⊤
+IsFaultless NoFrame = ⊤
+IsFaultless ReadFault = ⊥
+IsFaultless WriteFault = ⊥
+IsFaultless Memory = ⊥
 
 -- Two connections were served with one stream at the same readings, the first by the entity `left`,
 -- which it left as `after`, and the second by `right`, which it left as `other`. Nothing went wrong
@@ -87,8 +87,8 @@ pub record ServesBoth (left right after other : EntityData) : Type 0 where
   pub second : Serves (IsOwnRun Step) right other
       (outside (Some stream) (Some old) (Some given) other_link)
       (outside other_rest (Some twin) (Some told) other_made) end
-  pub whole : IsWhole ended
-  pub wholes : IsWhole end
+  pub whole : IsFaultless ended
+  pub wholes : IsFaultless end
   pub done : All IsDone first.asks.outcomes
   pub dones : All IsDone second.asks.outcomes
 
@@ -112,6 +112,6 @@ IsAnsweredInOneWay =
 abbrev pub EqualSightsAreServedAlike : Type 0
 EqualSightsAreServedAlike =
     (left right after other : EntityData) (o : List ℕ) (both : ServesBoth left right after other)
-    → IsSound left → IsSound right → sight o left ≡ sight o right
+    → IsSoundEntity left → IsSoundEntity right → sight o left ≡ sight o right
     → All (IsRequestBy o) (requests_in both.first.heard)
     → AreServedAlike both × (sight o after ≡ sight o other)

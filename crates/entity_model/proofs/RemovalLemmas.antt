@@ -6,7 +6,7 @@ use Rattle.std.proofs.lemmas.List.{append-nil}
 use Rattle.std.proofs.lemmas.List.Sums.{sum_by-cons}
 use Rattle.std.specs.List.{filter}
 use Rattle.resource_model.specs.Resource.{ResourceData, has_number}
-use Rattle.tree_model.specs.Tree.{has, stays, staying, without, depth, are_below, fits, is_tree}
+use Rattle.tree_model.specs.Tree.{has, stays, staying, without, depth, are_below, may_stand, is_tree}
 use Rattle.tree_model.proofs.TreeLemmas.{has-append, staying-append}
 use Rattle.tree_model.proofs.GrowthLemmas.{growth, next_fits, below_lacks, line-append}
 
@@ -123,7 +123,7 @@ depth_last n nodes r = ap length (line-append n nodes r) ∙ elim (cases_Bool (h
 
 -- a resource that isn't there stands nowhere
 pub no_depth : (n : ℕ) (nodes : List ResourceData) → is_tree nodes ≡ true → has n nodes ≡ false → depth n nodes ≡ 0
-no_depth n nodes tree = growth fits (λ nodes. has n nodes ≡ false → depth n nodes ≡ 0) (λ _. refl) (λ before r grew next holds lacks.
+no_depth n nodes tree = growth may_stand (λ nodes. has n nodes ≡ false → depth n nodes ≡ 0) (λ _. refl) (λ before r grew next holds lacks.
     let parts = or_parts (has n before) _ (sym (has-append n before (r ∷ [])) ∙ lacks) in
     let apart : has_number n r ≡ false = (or_parts (has_number n r) false parts.1).0 in
     depth_last n before r ∙ rw apart (holds parts.0)) nodes tree
@@ -161,4 +161,4 @@ no_deeper_last p before r tree below holds n = elim (cases_Bool (stays p (withou
 ]
 
 pub no_deeper : (p : ResourceData → Bool) (nodes : List ResourceData) → is_tree nodes ≡ true → NoDeeper p nodes
-no_deeper p = growth fits (NoDeeper p) (λ n. omega arith) (λ before r grew next holds. no_deeper_last p before r grew (next_fits before r next).number holds)
+no_deeper p = growth may_stand (NoDeeper p) (λ n. omega arith) (λ before r grew next holds. no_deeper_last p before r grew (next_fits before r next).number holds)

@@ -13,7 +13,7 @@ use Rattle.m2m_value.specs.View.{as_text}
 use Rattle.resource_model.specs.Attributes.{value_of}
 use Rattle.resource_model.specs.Home.{HomeData}
 use Rattle.resource_model.specs.Resource.{ResourceData, is_ty, has_number}
-use Rattle.tree_model.specs.Tree.{at, due, due_under, fits, fits_in, is_taken, is_well_formed}
+use Rattle.tree_model.specs.Tree.{at, due, due_under, may_stand, fits_in, is_taken, is_well_formed}
 use Rattle.tree_model.proofs.GrowthLemmas.{IsNext, below_has, grows-append, next_fits, stands, tree_from_well_formed}
 use Rattle.tree_model.proofs.TreeLemmas.{at-append, at_has, at_number}
 use Rattle.policy_eval.specs.Alike.{Alike, AreAlike, FindAlike}
@@ -102,8 +102,8 @@ module _ (xs : List ResourceData) (r : ResourceData) (well : is_well_formed (xs 
   halves : (is_well_formed xs ≡ true) × (fits_in xs r ≡ true)
   halves = and_parts (is_well_formed xs) (fits_in xs r) (sym (grows-append fits_in [] xs r) ∙ well)
 
-  next_parts : (fits xs r ≡ true) × (is_taken xs r ≡ true)
-  next_parts = and_parts (fits xs r) (is_taken xs r) halves.1
+  next_parts : (may_stand xs r ≡ true) × (is_taken xs r ≡ true)
+  next_parts = and_parts (may_stand xs r) (is_taken xs r) halves.1
 
   next : IsNext xs r
   next = next_fits xs r next_parts.0

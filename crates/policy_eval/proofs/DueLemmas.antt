@@ -15,7 +15,7 @@ use Rattle.m2m_value.specs.Shapes.{as_count}
 use Rattle.resource_model.specs.Attributes.{value_of}
 use Rattle.resource_model.specs.Home.{HomeData}
 use Rattle.resource_model.specs.Resource.{ResourceData, is_ty, has_number}
-use Rattle.tree_model.specs.Tree.{at, due, due_under, lesser, is_due, live, are_below, fits, fits_in, is_taken, is_well_formed}
+use Rattle.tree_model.specs.Tree.{at, due, due_under, lesser, is_due, live, are_below, may_stand, fits_in, is_taken, is_well_formed}
 use Rattle.tree_model.proofs.GrowthLemmas.{growth, next_above_parent, next_fits, tree_from_well_formed}
 use Rattle.tree_model.proofs.TreeLemmas.{at-append, at-map}
 use Rattle.policy_eval.specs.Alike.{AreAlike, is_attr_in, shape_attrs}
@@ -54,7 +54,7 @@ all_stand_later nodes r (s ∷ xs) stood below =
 
 all_stand : (nodes : List ResourceData) → is_well_formed nodes ≡ true → list_all (stands_under nodes) nodes ≡ true
 all_stand = growth fits_in (λ nodes. list_all (stands_under nodes) nodes ≡ true) refl (λ before r grew fit stood.
-    let parts = and_parts (fits before r) _ fit in
+    let parts = and_parts (may_stand before r) _ fit in
     let next = next_fits before r parts.0 in
     let up : r.parent < r.number = next_above_parent before r next in
     list_all-append (stands_under (before ++ r ∷ [])) before (r ∷ [])

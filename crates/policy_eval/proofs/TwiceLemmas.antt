@@ -14,7 +14,7 @@ use Rattle.m2m_value.specs.Data.{Data}
 use Rattle.resource_model.specs.Attributes.{Row}
 use Rattle.resource_model.specs.Home.{HomeData}
 use Rattle.resource_model.specs.Resource.{ResourceData}
-use Rattle.tree_model.specs.Tree.{at, due, due_under, fits, is_due, is_spared, is_tree, is_well_formed, live, without}
+use Rattle.tree_model.specs.Tree.{at, due, due_under, may_stand, is_due, is_spared, is_tree, is_well_formed, live, without}
 use Rattle.tree_model.proofs.GrowthLemmas.{at-without, below_lacks, growth, next_fits, tree_from_well_formed}
 use Rattle.tree_model.proofs.KeptLemmas.{is_tree-without}
 use Rattle.tree_model.proofs.LiveLemmas.{at-without_parent, due-without}
@@ -132,7 +132,7 @@ module _ (home : HomeData) (o : List ℕ) (less more : List ResourceData) (keeps
 -- ---- a map over a tree asks each resource that is found
 
 pub zip-found : (R : ResourceData → ResourceData → Type 0) (g : ResourceData → ResourceData) (nodes : List ResourceData) → is_tree nodes ≡ true → ((r : ResourceData) → at r.number nodes ≡ Some r → R (g r) r) → AllZip R (map g nodes) nodes
-zip-found R g = growth fits (λ nodes. ((r : ResourceData) → at r.number nodes ≡ Some r → R (g r) r) → AllZip R (map g nodes) nodes) (λ rel. tt) (λ before r grew fit holds rel.
+zip-found R g = growth may_stand (λ nodes. ((r : ResourceData) → at r.number nodes ≡ Some r → R (g r) r) → AllZip R (map g nodes) nodes) (λ rel. tt) (λ before r grew fit holds rel.
     let free : at r.number before ≡ None = at_none r.number before (below_lacks r.number before (next_fits before r fit).number) in
     let last : at r.number (before ++ r ∷ []) ≡ Some r =
     at-append r.number before (r ∷ []) ∙ ap (λ (x : Option ResourceData). option_or x (at r.number (r ∷ []))) free ∙ ap (λ b. cond b (Some r) None) (eq-eqb r.number r.number refl) in
