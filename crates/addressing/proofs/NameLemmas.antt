@@ -20,7 +20,7 @@ use Rattle.m2m_names.proofs.IdLemmas.{id_parts-id_text}
 use Rattle.m2m_names.proofs.StatusLemmas.{find_none}
 use Rattle.resource_model.specs.Home.{HomeData}
 use Rattle.resource_model.specs.Resource.{ResourceData, has_number, id_of, is_ty}
-use Rattle.tree_model.specs.Tree.{ae_of, at, child_of, fits, has, has_child, is_child, is_tree, line_from, line_of, number_of}
+use Rattle.tree_model.specs.Tree.{ae_of, at, child_of, may_stand, has, has_child, is_child, is_tree, line_from, line_of, resource_number}
 use Rattle.tree_model.proofs.GrowthLemmas.{IsNext, growth, line-append, next_fits, root_parent, stands, zero_lacks}
 use Rattle.tree_model.proofs.TreeLemmas.{at_has, at_number, at-append, has-append, has_at, has_from_at}
 use Rattle.addressing.specs.Addresses.{are_names, joined, longest}
@@ -130,22 +130,22 @@ pub record IsChildOfItsName (nodes : List ResourceData) (r : ResourceData) : Typ
   pub child : child_of r.parent r.name nodes ≡ Some r.number
   pub placed : (r.parent ≡ 0) ⊎ (has r.parent nodes ≡ true)
 
-some_number : (o : Option ResourceData) (n : ℕ) → number_of o ≡ Some n → (x : ResourceData) × (o ≡ Some x)
+some_number : (o : Option ResourceData) (n : ℕ) → resource_number o ≡ Some n → (x : ResourceData) × (o ≡ Some x)
 some_number None n e = let none : None ≡ Some n = e in cc
 some_number (Some x) n e = (x, refl)
 
 child_old : (before : List ResourceData) (s r : ResourceData) → child_of r.parent r.name before ≡ Some r.number → child_of r.parent r.name (before ++ s ∷ []) ≡ Some r.number
 child_old before s r child =
     let there = some_number (find (is_child r.parent r.name) before) r.number child in
-    ap number_of (find-append (is_child r.parent r.name) before (s ∷ []) ∙ ap (λ (o : Option ResourceData). option_or o (find (is_child r.parent r.name) (s ∷ []))) there.1)
-    ∙ sym (ap number_of there.1) ∙ child
+    ap resource_number (find-append (is_child r.parent r.name) before (s ∷ []) ∙ ap (λ (o : Option ResourceData). option_or o (find (is_child r.parent r.name) (s ∷ []))) there.1)
+    ∙ sym (ap resource_number there.1) ∙ child
 
 child_new : (before : List ResourceData) (s : ResourceData) → IsNext before s → child_of s.parent s.name (before ++ s ∷ []) ≡ Some s.number
 child_new before s next =
     let none : find (is_child s.parent s.name) before ≡ None = find_none (is_child s.parent s.name) before next.name in
     let hit : is_child s.parent s.name s ≡ true = and_from _ _ (eq-eqb s.parent s.parent refl) ((bytes_eq-Decides s.name s.name).1 refl) in
     let there : find (is_child s.parent s.name) (before ++ s ∷ []) ≡ Some s = find-append (is_child s.parent s.name) before (s ∷ []) ∙ rw (none, hit) refl in
-    ap number_of there
+    ap resource_number there
 
 placed_new : (before : List ResourceData) (s : ResourceData) → IsNext before s → (s.parent ≡ 0) ⊎ (has s.parent (before ++ s ∷ []) ≡ true)
 placed_new before s next = elim (or_cases (has s.parent before) _ next.parent) [
@@ -158,7 +158,7 @@ placed_old before s r (inl root) = inl root
 placed_old before s r (inr there) = inr (has-append r.parent before (s ∷ []) ∙ or_left _ _ there)
 
 pub child_of_its_name : (nodes : List ResourceData) → is_tree nodes ≡ true → (n : ℕ) (r : ResourceData) → at n nodes ≡ Some r → IsChildOfItsName nodes r
-child_of_its_name = growth fits (λ nodes. (n : ℕ) (r : ResourceData) → at n nodes ≡ Some r → IsChildOfItsName nodes r)
+child_of_its_name = growth may_stand (λ nodes. (n : ℕ) (r : ResourceData) → at n nodes ≡ Some r → IsChildOfItsName nodes r)
     (λ n r found. let none : None ≡ Some r = found in cc)
     (λ before s grew next holds n r found. by_where before s r n (next_fits before s next) (holds n) (at n before) refl (sym (at-append n before (s ∷ [])) ∙ found))
   where
@@ -179,7 +179,7 @@ child_of_its_name = growth fits (λ nodes. (n : ℕ) (r : ResourceData) → at n
         })
 
 pub line_of_none : (nodes : List ResourceData) → is_tree nodes ≡ true → (n : ℕ) → has n nodes ≡ false → line_of n nodes ≡ []
-line_of_none = growth fits (λ nodes. (n : ℕ) → has n nodes ≡ false → line_of n nodes ≡ []) (λ n none. refl) (λ before s grew next holds n none.
+line_of_none = growth may_stand (λ nodes. (n : ℕ) → has n nodes ≡ false → line_of n nodes ≡ []) (λ n none. refl) (λ before s grew next holds n none.
     let parts = or_parts (has n before) (has n (s ∷ [])) (sym (has-append n before (s ∷ [])) ∙ none) in
     let apart : has_number n s ≡ false = (or_parts (has_number n s) false parts.1).0 in
     line-append n before s ∙ rw apart (holds n parts.0))

@@ -10,7 +10,7 @@ use Rattle.m2m_names.specs.declared.types.Ty.{Ty}
 use Rattle.m2m_names.specs.declared.types.Ty.TheVariants.{ContentInstance, Group, PollingChannel}
 use Rattle.resource_model.specs.Home.{HomeData}
 use Rattle.resource_model.specs.Resource.{ResourceData, ae_id, is_ty}
-use Rattle.tree_model.specs.Tree.{ae_of, at, child_of, children_of, first_number, instance_of, instances_of, is_ae, is_child, is_instance, is_under, last_number, number_at, number_of, same_text}
+use Rattle.tree_model.specs.Tree.{ae_of, at, child_of, children_of, first_number, instance_of, instances_of, is_ae, is_child, is_instance, is_under, last_number, number_at, resource_number, same_text}
 use Rattle.tree_model.proofs.TreeLemmas.{at-map}
 use Rattle.policy_eval.specs.Seen.{seen, seen_list}
 use Rattle.policy_eval.proofs.SeenLemmas.{ae_id-seen}
@@ -33,12 +33,12 @@ find-kept g p same (r ∷ rs) = elim (cases_Bool (p r)) [
 ]
 
 module _ (g : ResourceData → ResourceData) (number : (r : ResourceData) → (g r).number ≡ r.number) (parent : (r : ResourceData) → (g r).parent ≡ r.parent) (ty : (r : ResourceData) → (g r).ty ≡ r.ty) (name : (r : ResourceData) → (g r).name ≡ r.name) (aei : (r : ResourceData) → ae_id (g r) ≡ ae_id r) where
-  number_of-kept : (o : Option ResourceData) → number_of (option_map g o) ≡ number_of o
+  number_of-kept : (o : Option ResourceData) → resource_number (option_map g o) ≡ resource_number o
   number_of-kept None = refl
   number_of-kept (Some r) = ap Some (number r)
 
   number_at-kept : (k : ℕ) (rs : List ResourceData) → number_at k (map g rs) ≡ number_at k rs
-  number_at-kept k rs = ap number_of (slice_get-map g rs k) ∙ number_of-kept (slice_get rs k)
+  number_at-kept k rs = ap resource_number (slice_get-map g rs k) ∙ number_of-kept (slice_get rs k)
 
   under-kept : (n : ℕ) (r : ResourceData) → is_under n (g r) ≡ is_under n r
   under-kept n r = ap (λ (m : ℕ). m == n) (parent r)
@@ -48,12 +48,12 @@ module _ (g : ResourceData → ResourceData) (number : (r : ResourceData) → (g
 
   child_of-kept : (n : ℕ) (s : List ℕ) (nodes : List ResourceData) → child_of n s (map g nodes) ≡ child_of n s nodes
   child_of-kept n s nodes =
-      ap number_of (find-kept g (is_child n s) (λ r. ap₂ (λ a b. a && b) (under-kept n r) (ap (λ t. bytes_eq t s) (name r))) nodes)
+      ap resource_number (find-kept g (is_child n s) (λ r. ap₂ (λ a b. a && b) (under-kept n r) (ap (λ t. bytes_eq t s) (name r))) nodes)
       ∙ number_of-kept (find (is_child n s) nodes)
 
   ae_of-kept : (s : List ℕ) (nodes : List ResourceData) → ae_of s (map g nodes) ≡ ae_of s nodes
   ae_of-kept s nodes =
-      ap number_of (find-kept g (is_ae s) (λ r. ap (λ o. same_text o (Some s)) (aei r)) nodes)
+      ap resource_number (find-kept g (is_ae s) (λ r. ap (λ o. same_text o (Some s)) (aei r)) nodes)
       ∙ number_of-kept (find (is_ae s) nodes)
 
   instances_of-kept : (n : ℕ) (nodes : List ResourceData) → instances_of n (map g nodes) ≡ map g (instances_of n nodes)

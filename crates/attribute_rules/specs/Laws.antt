@@ -6,7 +6,7 @@ use Rattle.m2m_names.specs.declared.attributes.Attr.{Attr}
 use Rattle.m2m_names.specs.declared.types.Ty.{Ty}
 use Rattle.resource_model.specs.Attributes.{Row, is_attr}
 use Rattle.attribute_rules.specs.Admission.{is_clearable, is_given}
-use Rattle.attribute_rules.specs.Table.{AttrRow, is_among, is_mandatory, is_permitted}
+use Rattle.attribute_rules.specs.Table.{AttrRow, is_type_among, is_mandatory, is_permitted}
 use Rattle.attribute_rules.specs.Table.{announceable_types, rule_of}
 use Rattle.attribute_rules.specs.declared.table.Rule.{Rule}
 use Rattle.attribute_rules.specs.declared.table.Source.{Source}
@@ -16,7 +16,8 @@ use Rattle.attribute_rules.specs.declared.table.Writing.TheVariants.{Update}
 
 -- two rows are for different attributes, or for different types
 abbrev pub are_apart : AttrRow → AttrRow → Bool
-are_apart a b = not (is_attr a.attr b.attr) || not (list_any (λ ty. is_among ty b.types) a.types)
+are_apart a b =
+    not (is_attr a.attr b.attr) || not (list_any (λ ty. is_type_among ty b.types) a.types)
 
 -- no attribute has two rows of one type
 abbrev pub stand_once : List AttrRow → Bool
@@ -45,7 +46,7 @@ has_needed row = not (is_mandatory row.rule.update) || is_mandatory row.rule.cre
 -- what is announced is of types that can be
 abbrev pub has_original : AttrRow → Bool
 has_original row =
-    not row.rule.announced || list_all (λ ty. is_among ty announceable_types) row.types
+    not row.rule.announced || list_all (λ ty. is_type_among ty announceable_types) row.types
 
 -- ---- what an update may do to a resource of a type
 

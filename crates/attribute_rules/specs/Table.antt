@@ -63,8 +63,8 @@ abbrev pub authored_types : List Ty
 authored_types = Container ∷ ContentInstance ∷ Group ∷ Subscription ∷ []
 
 -- the type is among these
-abbrev pub is_among : Ty → List Ty → Bool
-is_among ty types = list_any (is_ty ty) types
+abbrev pub is_type_among : Ty → List Ty → Bool
+is_type_among ty types = list_any (is_ty ty) types
 
 -- the type of the resources of which those of an announced type are announced (TS-0001, 9.6.26)
 abbrev pub original_of : Ty → Option Ty
@@ -155,7 +155,7 @@ attr_rows =
 
 -- the row is for this attribute of this type
 abbrev pub is_row_for : Ty → Attr → AttrRow → Bool
-is_row_for ty attr row = is_attr attr row.attr && is_among ty row.types
+is_row_for ty attr row = is_attr attr row.attr && is_type_among ty row.types
 
 -- what the table says of an attribute of a type
 abbrev pub table_rule : Ty → Attr → Option Rule
@@ -202,4 +202,5 @@ is_permitted NotPermitted = false
 abbrev pub mandatory_attrs : Ty → List Attr
 mandatory_attrs ty =
     map (λ (row : AttrRow). row.attr)
-    (filter (λ (row : AttrRow). is_mandatory row.rule.create && is_among ty row.types) attr_rows)
+    (filter (λ (row : AttrRow). is_mandatory row.rule.create && is_type_among ty row.types)
+        attr_rows)

@@ -230,7 +230,7 @@ fn row(
     columns: (Optionality, Optionality),
     announced: bool,
 ) -> Option<Rule>
-    ensures { result ≡ if spec.is_among ty types.now
+    ensures { result ≡ if spec.is_type_among ty types.now
         then Some (spec.rule source columns.0 columns.1 announced) else None }
 {
     if types.contains(&ty) {

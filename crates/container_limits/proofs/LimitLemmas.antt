@@ -9,7 +9,7 @@ use Rattle.std.proofs.lemmas.List.Sums.{sum_by-append}
 use Rattle.std.proofs.Math.Numerals.{suc-eq-add-one}
 use Rattle.std.specs.List.{filter, list_any, slice_get, sum_by}
 use Rattle.resource_model.specs.Resource.{ResourceData}
-use Rattle.tree_model.specs.Tree.{has, size_of}
+use Rattle.tree_model.specs.Tree.{has, instance_size}
 use Rattle.container_limits.specs.Limits.{is_within, do_fit, suffixes, longest_fit, is_due_by, lasts, goes, going, kept, evicted, numbers_of}
 use Rattle.container_limits.specs.declared.limits.Limits.{Limits}
 use Rattle.tree_model.proofs.OrderLemmas.{ascend}
@@ -35,8 +35,8 @@ module _ (mia : Option ℕ) (moment : ℕ) where
   pub counts_split : (rs : List ResourceData) → length rs ≡ length (filter end rs) + length (filter last rs)
   counts_split rs = sym (length-filter_both end last (λ r. refl) rs)
 
-  pub sizes_split : (rs : List ResourceData) → sum_by size_of rs ≡ sum_by size_of (filter end rs) + sum_by size_of (filter last rs)
-  sizes_split rs = sym (sum_by-filter_both end last (λ r. refl) size_of rs)
+  pub sizes_split : (rs : List ResourceData) → sum_by instance_size rs ≡ sum_by instance_size (filter end rs) + sum_by instance_size (filter last rs)
+  sizes_split rs = sym (sum_by-filter_both end last (λ r. refl) instance_size rs)
 
   none_end : (rs : List ResourceData) → list_any end rs ≡ false → filter end rs ≡ []
   none_end [] none = refl
@@ -65,9 +65,9 @@ module _ (p : ResourceData → Bool) (rs : List ResourceData) (k base : ℕ) (o 
       let split : length (filter p (drop k rs)) ≡ length (filter p (option_to_list o)) + length (filter p (drop (k + 1) rs)) = ap length step ∙ length-append (filter p (option_to_list o)) (filter p (drop (k + 1) rs)) in
       omega arith
 
-  pub size_turn : (n after : ℕ) → n ≡ sum_by size_of (filter p (drop k rs)) + base → after ≡ n - sum_by size_of (filter p (option_to_list o)) → after ≡ sum_by size_of (filter p (drop (k + 1) rs)) + base
+  pub size_turn : (n after : ℕ) → n ≡ sum_by instance_size (filter p (drop k rs)) + base → after ≡ n - sum_by instance_size (filter p (option_to_list o)) → after ≡ sum_by instance_size (filter p (drop (k + 1) rs)) + base
   size_turn n after is less =
-      let split : sum_by size_of (filter p (drop k rs)) ≡ sum_by size_of (filter p (option_to_list o)) + sum_by size_of (filter p (drop (k + 1) rs)) = ap (sum_by size_of) step ∙ sum_by-append size_of (filter p (option_to_list o)) (filter p (drop (k + 1) rs)) in
+      let split : sum_by instance_size (filter p (drop k rs)) ≡ sum_by instance_size (filter p (option_to_list o)) + sum_by instance_size (filter p (drop (k + 1) rs)) = ap (sum_by instance_size) step ∙ sum_by-append instance_size (filter p (option_to_list o)) (filter p (drop (k + 1) rs)) in
       omega arith
 
 -- ---- the longest suffix that fits
@@ -97,7 +97,7 @@ fit_turn l new p rs k over =
     ap (longest_fit l new) split ∙ fit_next l new p (slice_get rs k) (filter p (drop (k + 1) rs)) (ap (do_fit l new) (sym split) ∙ over)
 
 -- the test on the totals is that on the list
-pub fits_totals : (l : Limits) (new : Option ℕ) (rs : List ResourceData) (count sizes : ℕ) → count ≡ length rs + length (option_to_list new) → sizes ≡ sum_by size_of rs + unwrap_or new 0 → (is_within count l.mni && is_within sizes l.mbs) ≡ do_fit l new rs
+pub fits_totals : (l : Limits) (new : Option ℕ) (rs : List ResourceData) (count sizes : ℕ) → count ≡ length rs + length (option_to_list new) → sizes ≡ sum_by instance_size rs + unwrap_or new 0 → (is_within count l.mni && is_within sizes l.mbs) ≡ do_fit l new rs
 fits_totals l new rs count sizes few small = ap (λ (n : ℕ). is_within n l.mni && is_within sizes l.mbs) few ∙ ap (λ (n : ℕ). is_within (length rs + length (option_to_list new)) l.mni && is_within n l.mbs) small
 
 -- behind the last there is none

@@ -8,7 +8,7 @@ use Rattle.std.specs.Option.{option_map_or}
 use Rattle.m2m_names.specs.declared.attributes.Attr.TheVariants.{Mia}
 use Rattle.resource_model.specs.Attributes.{count_at}
 use Rattle.resource_model.specs.Resource.{ResourceData}
-use Rattle.tree_model.specs.Tree.{has, size_of, lesser}
+use Rattle.tree_model.specs.Tree.{has, instance_size, lesser}
 use Rattle.container_limits.specs.declared.limits.Limits.{Limits}
 
 -- at most the limit, where there is one
@@ -20,7 +20,7 @@ is_within n limit = option_map_or (λ most. nat_le n most) limit true
 abbrev pub do_fit : Limits → Option ℕ → List ResourceData → Bool
 do_fit limits new rs =
     is_within (length rs + length (option_to_list new)) limits.mni
-    && is_within (sum_by size_of rs + unwrap_or new 0) limits.mbs
+    && is_within (sum_by instance_size rs + unwrap_or new 0) limits.mbs
 
 -- all suffixes of a list, the longest first
 abbrev pub suffixes : List ResourceData → List (List ResourceData)

@@ -1,7 +1,7 @@
 // What the limits of a container push out.
-ghost use Rattle.std.specs.Prelude.{◌≡◌, ◌≢◌, ◌^◌, ◌<◌, [], ◌∷◌, ◌++◌, length, filter, sum_by, drop};
-ghost use Rattle.std.specs.Prelude.{option_map, option_to_list, IfOk, OnOk, OnErr};
-ghost use Rattle.tree_model.specs.Tree.{instances_of, size_of};
+ghost use Rattle.std.specs.Prelude.{◌≡◌, ◌≢◌, ◌^◌, ◌<◌, [], ◌∷◌, ◌++◌, length, filter, sum_by};
+ghost use Rattle.std.specs.Prelude.{drop, option_map, option_to_list, IfOk, OnOk, OnErr};
+ghost use Rattle.tree_model.specs.Tree.{instances_of, instance_size};
 ghost use Rattle.container_limits.specs.Limits.{lasts, goes, going, kept, evicted, numbers_of};
 ghost use Rattle.container_limits.specs.Limits.{IsQuiet};
 
@@ -73,8 +73,8 @@ fn total_of<T: Tree>(tree: &T, container: u64, mia: Option<u64>, moment: u64, qu
     requires { IsQuiet quiet mia moment (instances_of container (T.nodes tree.now)) }
     ensures count { result.count
         ≡ length (filter (lasts mia moment) (instances_of container (T.nodes tree.now))) }
-    ensures sizes { result.sizes
-        ≡ sum_by size_of (filter (lasts mia moment) (instances_of container (T.nodes tree.now))) }
+    ensures sizes { result.sizes ≡ sum_by instance_size
+        (filter (lasts mia moment) (instances_of container (T.nodes tree.now))) }
     ensures few { result.count < 2 ^ 64 }
     ensures small { result.sizes < 2 ^ 127 }
 {

@@ -1,7 +1,7 @@
 // The instances of a container, one by one, and what they add up to.
 ghost use Rattle.std.specs.Prelude.{◌≡◌, ◌+◌, ◌-◌, ◌^◌, ◌<◌, length, filter, sum_by};
 ghost use Rattle.std.specs.Prelude.{option_map, option_to_list, unwrap_or};
-ghost use Rattle.tree_model.specs.Tree.{instances_of, size_of};
+ghost use Rattle.tree_model.specs.Tree.{instances_of, instance_size};
 ghost use Rattle.container_limits.specs.Limits.{lasts, is_in_state, is_age, has_mia, is_mia_of};
 ghost use Rattle.container_limits.specs.Limits.{IsQuiet};
 
@@ -11,14 +11,14 @@ use resource_model::Resource;
 use tree_model::{Tree, instance_at};
 
 fn size(resource: &Resource) -> u64
-    ensures { result ≡ size_of resource.now }
+    ensures { result ≡ instance_size resource.now }
 {
     resource.attrs().count(Attr::Cs).unwrap_or(0)
 }
 
 fn less(total: Total, resource: &Resource) -> Total
     ensures count { result.count ≡ total.count - 1 }
-    ensures sizes { result.sizes ≡ total.sizes - size_of resource.now }
+    ensures sizes { result.sizes ≡ total.sizes - instance_size resource.now }
 {
     Total {
         count: total.count.saturating_sub(1),
@@ -48,7 +48,7 @@ pub(crate) fn without(
         ≡ total.count - length (filter (is_in_state due mia moment)
         (option_to_list (option_map (λ r. r.now) resource.entry))) }
     ensures sizes { result.sizes
-        ≡ total.sizes - sum_by size_of (filter (is_in_state due mia moment)
+        ≡ total.sizes - sum_by instance_size (filter (is_in_state due mia moment)
         (option_to_list (option_map (λ r. r.now) resource.entry))) }
 {
     match resource {
@@ -82,7 +82,8 @@ pub(crate) fn with_new(total: Total, new_size: Option<u64>) -> Total
 /// The total of a container's instances.
 pub(crate) fn total<T: Tree>(tree: &T, container: u64) -> Total
     ensures count { result.count ≡ length (instances_of container (T.nodes tree.now)) }
-    ensures sizes { result.sizes ≡ sum_by size_of (instances_of container (T.nodes tree.now)) }
+    ensures sizes { result.sizes
+        ≡ sum_by instance_size (instances_of container (T.nodes tree.now)) }
     ensures few { result.count < 2 ^ 64 }
     ensures small { result.sizes < 2 ^ 127 }
 {
@@ -101,8 +102,8 @@ pub(crate) fn lasting_total<T: Tree>(
 ) -> Total
     ensures count { result.count
         ≡ length (filter (lasts mia moment) (instances_of container (T.nodes tree.now))) }
-    ensures sizes { result.sizes
-        ≡ sum_by size_of (filter (lasts mia moment) (instances_of container (T.nodes tree.now))) }
+    ensures sizes { result.sizes ≡ sum_by instance_size
+        (filter (lasts mia moment) (instances_of container (T.nodes tree.now))) }
     ensures few { result.count < 2 ^ 64 }
     ensures small { result.sizes < 2 ^ 127 }
 {

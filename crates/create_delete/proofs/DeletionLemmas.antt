@@ -21,7 +21,7 @@ use Rattle.request_rules.specs.Order.{fault_at, places}
 use Rattle.request_rules.specs.Requests.{is_for}
 use Rattle.request_rules.specs.Rights.{is_granted}
 use Rattle.entity_model.specs.Places.{Effect, reply_to}
-use Rattle.entity_model.specs.Sound.{begins_with_base, spares_first, IsSound}
+use Rattle.entity_model.specs.Sound.{begins_with_base, spares_first, IsSoundEntity}
 use Rattle.request_rules.proofs.OrderLemmas.{all_hold, nothing_on, found_at}
 use Rattle.create_delete.proofs.PerformedLemmas.{done_at, refused_at}
 
@@ -80,7 +80,7 @@ spared home (r ∷ nodes) n t base there other = elim (cases_Bool (has_number n 
 ]
 
 -- what may be deleted isn't the first resource
-pub deletable_spared : (n : ℕ) (e : EntityData) → IsSound e → is_deletable n e ≡ true → spares_first (has_number n) e.nodes ≡ true
+pub deletable_spared : (n : ℕ) (e : EntityData) → IsSoundEntity e → is_deletable n e ≡ true → spares_first (has_number n) e.nodes ≡ true
 deletable_spared n e sound may =
     let found = deletable_found n e.nodes (at n e.nodes) refl may in
     spared e.home e.nodes n found.0 sound.base found.1 (not-true _ found.2)
@@ -111,7 +111,7 @@ not_not_picked : (b : Bool) → not b ≡ false → b ≡ true
 not_not_picked true none = refl
 not_not_picked false none = cc
 
-pub deletion_takes : (e : EntityData) (o : List ℕ) (request : RequestParts) (n : ℕ) (r : ResourceData) → IsSound e → at r.number e.nodes ≡ Some r → at r.number (performed_at Delete e o request n).after.nodes ≡ None → (list_any (has_number n) (line_of r.number e.nodes) ≡ true) × (grants e.home e.nodes o (op_row Delete).bit n ≡ true)
+pub deletion_takes : (e : EntityData) (o : List ℕ) (request : RequestParts) (n : ℕ) (r : ResourceData) → IsSoundEntity e → at r.number e.nodes ≡ Some r → at r.number (performed_at Delete e o request n).after.nodes ≡ None → (list_any (has_number n) (line_of r.number e.nodes) ≡ true) × (grants e.home e.nodes o (op_row Delete).bit n ≡ true)
 deletion_takes e o request n r sound there gone = by_fault (fault_at Delete e o request n) refl
   where
     by_fault : (fault : Option Rsc) → fault_at Delete e o request n ≡ fault → (list_any (has_number n) (line_of r.number e.nodes) ≡ true) × (grants e.home e.nodes o (op_row Delete).bit n ≡ true)
@@ -127,7 +127,7 @@ spared_found : (spared : Bool) (o : Option ResourceData) (r : ResourceData) → 
 spared_found true o r found = found
 spared_found false o r found = cc
 
-pub deletion_keeps : (e : EntityData) (o : List ℕ) (request : RequestParts) (n : ℕ) (r : ResourceData) → IsSound e → at r.number (performed_at Delete e o request n).after.nodes ≡ Some r → at r.number e.nodes ≡ Some r
+pub deletion_keeps : (e : EntityData) (o : List ℕ) (request : RequestParts) (n : ℕ) (r : ResourceData) → IsSoundEntity e → at r.number (performed_at Delete e o request n).after.nodes ≡ Some r → at r.number e.nodes ≡ Some r
 deletion_keeps e o request n r sound left = by_fault (fault_at Delete e o request n) refl
   where
     by_fault : (fault : Option Rsc) → fault_at Delete e o request n ≡ fault → at r.number e.nodes ≡ Some r

@@ -12,7 +12,7 @@ ghost use Rattle.tree_model.specs.Tree.{at, line_of};
 ghost use Rattle.policy_eval.specs.Rights.{grants};
 ghost use Rattle.entity_model.specs.Entity.{EntityData};
 ghost use Rattle.entity_model.specs.Places.{refused};
-ghost use Rattle.entity_model.specs.Sound.{IsSound};
+ghost use Rattle.entity_model.specs.Sound.{IsSoundEntity};
 ghost use Rattle.create_delete.specs.Changing.{performed_at};
 ghost use Rattle.request_rules.specs.Order.{fault_at};
 ghost use Rattle.request_rules.specs.Rights.{may_do};
@@ -37,11 +37,11 @@ pub fn nothing_is_done_without_the_right()
 /// the originator may delete the target; what stays, stays as it was.
 pub fn a_deletion_takes_what_stands_at_or_below_its_target()
     ensures gone { (e : EntityData) (o : List ℕ) (request : RequestParts) (n : ℕ) (r : ResourceData)
-        → IsSound e → at r.number e.nodes ≡ Some r
+        → IsSoundEntity e → at r.number e.nodes ≡ Some r
         → at r.number (performed_at Delete e o request n).after.nodes ≡ None
         → IsTrue (list_any (has_number n) (line_of r.number e.nodes))
         × IsTrue (grants e.home e.nodes o (op_row Delete).bit n) }
     ensures kept { (e : EntityData) (o : List ℕ) (request : RequestParts) (n : ℕ) (r : ResourceData)
-        → IsSound e → at r.number (performed_at Delete e o request n).after.nodes ≡ Some r
+        → IsSoundEntity e → at r.number (performed_at Delete e o request n).after.nodes ≡ Some r
         → at r.number e.nodes ≡ Some r }
 {}

@@ -5,36 +5,36 @@ use Rattle.std.proofs.lemmas.List.Elements.{All-head, All-tail}
 use Rattle.turn_desk.specs.Entries.{readings_of, events_of, outcomes_of}
 use Rattle.resource_model.specs.Home.{HomeData}
 use Rattle.entity_model.specs.Entity.{EntityData, swept}
-use Rattle.entity_model.specs.Sound.{IsSound}
+use Rattle.entity_model.specs.Sound.{IsSoundEntity}
 use Rattle.entity_model.proofs.SoundLemmas.{sound_swept}
 use Rattle.cse_machine.specs.declared.event.Event.{Event}
 use Rattle.cse_machine.specs.declared.event.Event.TheVariants.{Ask}
 use Rattle.cse_machine.specs.declared.event.Outcome.{Outcome}
 use Rattle.cse_machine.specs.declared.event.Outcome.TheVariants.{Done, Starved}
-use Rattle.cse_machine.specs.History.{History, Leaves, IsDone}
+use Rattle.cse_machine.specs.History.{History, HistoryLeaves, IsDone}
 use Rattle.cse_machine.specs.Sight.{sight, IsBy}
 use Rattle.cse_machine.specs.Step.{Step}
 use Rattle.cse_machine.proofs.HistoryLemmas.{none_some, same_first, same_rest}
 use Rattle.cse_machine.proofs.GuardLemmas.{unchanged}
 use Rattle.cse_machine.proofs.SightLemmas.{replies-alike, swept-alike}
 
-module _ (o : List ℕ) (one other : EntityData) (sound : IsSound one) (sounds : IsSound other) (same : sight o one ≡ sight o other) where
+module _ (o : List ℕ) (one other : EntityData) (sound : IsSoundEntity one) (sounds : IsSoundEntity other) (same : sight o one ≡ sight o other) where
   -- a step of both
   step_alike : (reading : ℕ) (event : Event) (after left : EntityData) (outcome twin : Outcome) → IsBy one.home o event → Step reading event one outcome after → Step reading event other twin left → IsDone outcome → IsDone twin
-      → (outcome ≡ twin) × (sight o after ≡ sight o left) × IsSound after × IsSound left × (one.home ≡ after.home)
+      → (outcome ≡ twin) × (sight o after ≡ sight o left) × IsSoundEntity after × IsSoundEntity left × (one.home ≡ after.home)
   step_alike reading (Ask request) after left (Done reply) (Done replied) by first second done dones =
       let mine : after ≡ swept reading one = first.1 ∙ unchanged (swept reading one) request in
       let theirs : left ≡ swept reading other = second.1 ∙ unchanged (swept reading other) request in (
         first.0 ∙ ap Done (replies-alike one other o reading request sound sounds same by) ∙ sym second.0,
         ap (sight o) mine ∙ swept-alike o one other sound.tree sounds.tree same reading ∙ sym (ap (sight o) theirs),
-        subst IsSound (sym mine) (sound_swept reading one sound),
-        subst IsSound (sym theirs) (sound_swept reading other sounds),
+        subst IsSoundEntity (sym mine) (sound_swept reading one sound),
+        subst IsSoundEntity (sym theirs) (sound_swept reading other sounds),
         sym (ap (λ (e : EntityData). e.home) mine),
       )
   step_alike reading (Ask request) after left (Done reply) (Starved none) by first second done dones = absurd dones
   step_alike reading (Ask request) after left (Starved none) twin by first second done dones = absurd done
 
-pub stay_alike : (history twin : History) (o : List ℕ) (left right after other : EntityData) → IsSound left → IsSound right → sight o left ≡ sight o right → Leaves left history after → Leaves right twin other
+pub stay_alike : (history twin : History) (o : List ℕ) (left right after other : EntityData) → IsSoundEntity left → IsSoundEntity right → sight o left ≡ sight o right → HistoryLeaves left history after → HistoryLeaves right twin other
     → readings_of history ≡ readings_of twin → events_of history ≡ events_of twin → All (IsBy left.home o) (events_of history)
     → All IsDone (outcomes_of history) → All IsDone (outcomes_of twin) → (outcomes_of history ≡ outcomes_of twin) × (sight o after ≡ sight o other)
 stay_alike [] [] o left right after other sound sounds same first second readings events by done dones =

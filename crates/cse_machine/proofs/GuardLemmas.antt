@@ -13,7 +13,7 @@ use Rattle.tree_model.specs.Tree.{at}
 use Rattle.policy_eval.specs.Rights.{discovery_bit, grants, retrieve_bit}
 use Rattle.entity_model.specs.Entity.{EntityData}
 use Rattle.entity_model.specs.Places.{refusal, refused, Effect}
-use Rattle.entity_model.specs.Sound.{IsSound}
+use Rattle.entity_model.specs.Sound.{IsSoundEntity}
 use Rattle.retrieve_discover.specs.Guard.{OthersAreShownByRight}
 use Rattle.retrieve_discover.specs.Replies.{discovered, retrieved}
 use Rattle.retrieve_discover.proofs.RightLemmas.{discovered_by_right, retrieved_by_right}
@@ -78,7 +78,7 @@ refused_guarded e request fault other =
 
 -- ---- reading
 
-module _ (e : EntityData) (sound : IsSound e) (request : RequestParts) (r : ResourceData) where
+module _ (e : EntityData) (sound : IsSoundEntity e) (request : RequestParts) (r : ResourceData) where
   abbrev o : List ℕ
   o = claimed_originator e.home request
 
@@ -122,13 +122,13 @@ refused_by : (e : EntityData) (request : RequestParts) (fault : Rsc) (group : Op
 refused_by e request fault None other = refused_guarded e request fault other
 refused_by e request fault (Some n) other = inl ((λ shows. shows_none request fault other shows), refl)
 
-read_by : (e : EntityData) (request : RequestParts) (effect : Effect) → IsSound e → IsRead e request effect → IsGuardedBy e request effect (fanned e request.to)
+read_by : (e : EntityData) (request : RequestParts) (effect : Effect) → IsSoundEntity e → IsRead e request effect → IsGuardedBy e request effect (fanned e request.to)
 read_by e request effect sound way =
     subst (IsGuardedBy e request effect) (sym way.alone)
     (subst (IsGuardedIn e request) (sym way.is)
     (read_guarded e sound request way.target way.named way.retrieves way.there))
 
-pub guarded : (e : EntityData) (request : RequestParts) → IsSound e → IsGuarded e request (effect_of e request).reply (effect_of e request).after
+pub guarded : (e : EntityData) (request : RequestParts) → IsSoundEntity e → IsGuarded e request (effect_of e request).reply (effect_of e request).after
 guarded e request sound = elim (two_ways e request) [
   | inl refusal ↦
       subst (λ (effect : Effect). IsGuardedBy e request effect (fanned e request.to)) (sym refusal.2)

@@ -7,7 +7,7 @@ use Rattle.turn_desk.specs.Joins.{Runs-append}
 use Rattle.primitive_json.specs.declared.reply.ReplyParts.{ReplyParts}
 use Rattle.primitive_json.specs.declared.request.RequestParts.{RequestParts}
 use Rattle.entity_model.specs.Entity.{EntityData, swept}
-use Rattle.entity_model.specs.Sound.{IsSound}
+use Rattle.entity_model.specs.Sound.{IsSoundEntity}
 use Rattle.entity_model.proofs.SoundLemmas.{sound_swept}
 use Rattle.cse_machine.specs.declared.event.Event.{Event}
 use Rattle.cse_machine.specs.declared.event.Event.TheVariants.{Ask}
@@ -15,7 +15,7 @@ use Rattle.cse_machine.specs.declared.event.Outcome.{Outcome}
 use Rattle.cse_machine.specs.declared.event.Outcome.TheVariants.{Done, Starved}
 use Rattle.cse_machine.specs.Guard.{IsGuarded}
 use Rattle.cse_machine.specs.Answer.{effect_of}
-use Rattle.cse_machine.specs.History.{History, Leaves, IsDone}
+use Rattle.cse_machine.specs.History.{History, HistoryLeaves, IsDone}
 use Rattle.cse_machine.specs.Step.{Step}
 use Rattle.cse_machine.proofs.GuardLemmas.{guarded, unchanged}
 
@@ -24,18 +24,18 @@ pub changes : (reading : ℕ) (event : Event) (before after : EntityData) (outco
 changes reading (Ask request) before after (Done reply) step = inr (step.1 ∙ unchanged (swept reading before) request)
 changes reading (Ask request) before after (Starved done) step = step.1
 
-pub one_more : (opening before after : EntityData) (history : History) (reading : ℕ) (event : Event) (outcome : Outcome) → Leaves opening history before → Step reading event before outcome after → Leaves opening (history ++ entry_of reading event outcome ∷ []) after
+pub one_more : (opening before after : EntityData) (history : History) (reading : ℕ) (event : Event) (outcome : Outcome) → HistoryLeaves opening history before → Step reading event before outcome after → HistoryLeaves opening (history ++ entry_of reading event outcome ∷ []) after
 one_more opening before after history reading event outcome run step =
     Runs-append Step history (entry_of reading event outcome ∷ []) opening before after run (after, step, refl)
 
 pub sound_step : (reading : ℕ) (event : Event) (before after : EntityData) (outcome : Outcome) → IsSound before → Step reading event before outcome after → IsSound after
 sound_step reading event before after outcome sound step = elim (changes reading event before after outcome step) [
-  | inl same ↦ subst IsSound (sym same) sound
-  | inr left ↦ subst IsSound (sym left) (sound_swept reading before sound)
+  | inl same ↦ subst IsSoundEntity (sym same) sound
+  | inr left ↦ subst IsSoundEntity (sym left) (sound_swept reading before sound)
 ]
 
-pub sound_after : (history : History) (opening e : EntityData) → IsSound opening → Leaves opening history e → IsSound e
-sound_after [] opening e sound run = subst IsSound (sym run) sound
+pub sound_after : (history : History) (opening e : EntityData) → IsSoundEntity opening → HistoryLeaves opening history e → IsSoundEntity e
+sound_after [] opening e sound run = subst IsSoundEntity (sym run) sound
 sound_after (entry ∷ history) opening e sound run =
     sound_after history run.0 e (sound_step entry.reading entry.event opening run.0 entry.outcome sound run.1) run.2
 
@@ -50,8 +50,8 @@ step_guarded reading request before after reply sound step =
     (guarded (swept reading before) request (sound_swept reading before sound)))
 
 -- an entry of a history is the step that it tells
-pub guarded_in_history : (earlier later : History) (opening e : EntityData) (reading : ℕ) (request : RequestParts) (reply : ReplyParts) → IsSound opening → Leaves opening (earlier ++ entry_of reading (Ask request) (Done reply) ∷ later) e
-    → (before : EntityData) × (after : EntityData) × Leaves opening earlier before × Leaves opening (earlier ++ entry_of reading (Ask request) (Done reply) ∷ []) after × IsGuarded (swept reading before) request reply after
+pub guarded_in_history : (earlier later : History) (opening e : EntityData) (reading : ℕ) (request : RequestParts) (reply : ReplyParts) → IsSound opening → HistoryLeaves opening (earlier ++ entry_of reading (Ask request) (Done reply) ∷ later) e
+    → (before : EntityData) × (after : EntityData) × HistoryLeaves opening earlier before × HistoryLeaves opening (earlier ++ entry_of reading (Ask request) (Done reply) ∷ []) after × IsGuarded (swept reading before) request reply after
 guarded_in_history [] later opening e reading request reply sound run =
     (opening, run.0, refl, (run.0, run.1, refl), step_guarded reading request opening run.0 reply sound run.1)
 guarded_in_history (entry ∷ earlier) later opening e reading request reply sound run =
@@ -76,7 +76,7 @@ step_one_way reading (Ask request) before after other (Done reply) (Done replied
 step_one_way reading (Ask request) before after other (Done reply) (Starved none) first second done dones = absurd dones
 step_one_way reading (Ask request) before after other (Starved none) twin first second done dones = absurd done
 
-pub one_way : (history twin : History) (opening e other : EntityData) → Leaves opening history e → Leaves opening twin other
+pub one_way : (history twin : History) (opening e other : EntityData) → HistoryLeaves opening history e → HistoryLeaves opening twin other
     → readings_of history ≡ readings_of twin → events_of history ≡ events_of twin
     → All IsDone (outcomes_of history) → All IsDone (outcomes_of twin) → (outcomes_of history ≡ outcomes_of twin) × (e ≡ other)
 one_way [] [] opening e other first second readings events done dones = (refl, first ∙ sym second)
@@ -89,7 +89,7 @@ one_way (h ∷ history) (t ∷ twin) opening e other first second readings event
     (subst (λ (v : Event). Step t.reading v opening t.outcome second.0) (sym (same_first h.event t.event (events_of history) (events_of twin) events)) second.1))
     (All-head IsDone h.outcome (outcomes_of history) done) (All-head IsDone t.outcome (outcomes_of twin) dones) in
     let rest =
-    one_way history twin first.0 e other first.2 (subst (λ (b : EntityData). Leaves b twin other) (sym step.1) second.2)
+    one_way history twin first.0 e other first.2 (subst (λ (b : EntityData). HistoryLeaves b twin other) (sym step.1) second.2)
     (same_rest h.reading t.reading (readings_of history) (readings_of twin) readings)
     (same_rest h.event t.event (events_of history) (events_of twin) events)
     (All-tail IsDone h.outcome (outcomes_of history) done) (All-tail IsDone t.outcome (outcomes_of twin) dones) in

@@ -6,11 +6,11 @@ use Rattle.std.proofs.lemmas.Bool.{and_from, and_parts, both_ways, cases_Bool, e
 use Rattle.std.proofs.lemmas.List.Folds.{find-append}
 use Rattle.std.proofs.lemmas.Slice.Eq.{bytes_eq-Decides}
 use Rattle.resource_model.specs.Resource.{ResourceData}
-use Rattle.tree_model.specs.Tree.{are_below, at, child_of, fits, has, is_child, is_root, is_tree, is_under}
+use Rattle.tree_model.specs.Tree.{are_below, at, child_of, may_stand, has, is_child, is_root, is_tree, is_under}
 use Rattle.tree_model.proofs.GrowthLemmas.{growth, next_fits, tree_from_well_formed, zero_lacks}
 use Rattle.addressing.proofs.NameLemmas.{child_of_its_name}
 use Rattle.entity_model.specs.Entity.{EntityData}
-use Rattle.entity_model.specs.Sound.{IsSound, begins_with_base}
+use Rattle.entity_model.specs.Sound.{IsSoundEntity, begins_with_base}
 use Rattle.retrieve_discover.specs.Guard.{HasOwnAddresses}
 use Rattle.retrieve_discover.proofs.OwnLemmas.{own_addresses}
 
@@ -24,7 +24,7 @@ is_first_named text (r ∷ nodes) = bytes_eq r.name text
 abbrev NoneAtRoot : List ℕ → List ResourceData → Type 0
 NoneAtRoot text nodes = is_first_named text nodes ≡ false → find (is_child 0 text) nodes ≡ None
 
-none_more : (text : List ℕ) (before : List ResourceData) (r : ResourceData) → is_tree before ≡ true → fits before r ≡ true → NoneAtRoot text before → NoneAtRoot text (before ++ r ∷ [])
+none_more : (text : List ℕ) (before : List ResourceData) (r : ResourceData) → is_tree before ≡ true → may_stand before r ≡ true → NoneAtRoot text before → NoneAtRoot text (before ++ r ∷ [])
 none_more text [] r tree fit holds other = elim (cases_Bool (is_under 0 r)) [
   | inl t ↦ rw (t, other) refl
   | inr f ↦ rw f refl
@@ -42,11 +42,11 @@ none_more text (s ∷ before) r tree fit holds other =
     ]
 
 none_at_root : (text : List ℕ) (nodes : List ResourceData) → is_tree nodes ≡ true → is_first_named text nodes ≡ false → find (is_child 0 text) nodes ≡ None
-none_at_root text = growth fits (NoneAtRoot text) (λ _. refl) (λ before r grew next holds. none_more text before r grew next holds)
+none_at_root text = growth may_stand (NoneAtRoot text) (λ _. refl) (λ before r grew next holds. none_more text before r grew next holds)
 
 -- ---- in a sound entity
 
-module _ (e : EntityData) (sound : IsSound e) where
+module _ (e : EntityData) (sound : IsSoundEntity e) where
   tree_is : is_tree e.nodes ≡ true
   tree_is = tree_from_well_formed e.nodes sound.tree
 

@@ -23,7 +23,7 @@ use Rattle.addressing.specs.declared.addr.AddrFault.{AddrFault}
 use Rattle.addressing.specs.declared.spot.Spot.{Spot}
 use Rattle.addressing.specs.declared.spot.Spot.TheVariants.{Resource, Fan, Poll}
 use Rattle.addressing.proofs.SightLemmas.{spot_of-seen}
-use Rattle.policy_eval.specs.Alike.{is_one_of, shape_attrs}
+use Rattle.policy_eval.specs.Alike.{is_attr_in, shape_attrs}
 use Rattle.policy_eval.specs.Seen.{seen, seen_list}
 use Rattle.policy_eval.proofs.DueLemmas.{is_due-seen}
 use Rattle.policy_eval.proofs.SeenLemmas.{ae_id-seen, at-seen, seen_alike}
@@ -31,7 +31,7 @@ use Rattle.policy_eval.proofs.ShapeLemmas.{sight_shape}
 use Rattle.policy_eval.proofs.TwiceLemmas.{live-same, seen_list-twice}
 use Rattle.entity_model.specs.Entity.{EntityData, event_moment, swept}
 use Rattle.entity_model.specs.Places.{Effect, answering, first_fault, refusal, refused}
-use Rattle.entity_model.specs.Sound.{IsSound}
+use Rattle.entity_model.specs.Sound.{IsSoundEntity}
 use Rattle.retrieve_discover.specs.Replies.{discovered, retrieved}
 use Rattle.retrieve_discover.proofs.AnswerLemmas.{retrieved-seen}
 use Rattle.retrieve_discover.proofs.SightLemmas.{discovered-seen}
@@ -104,7 +104,7 @@ well_live nodes m well = is_well_formed-without (is_due nodes m) nodes well
 no_both : (ty : Ty) → is_ty ty Ae ≡ true → is_ty ty RemoteCse ≡ true → ⊥
 no_both ty ae cse = omega (arith, eqb-true (ty_row ty).number 2 ae, eqb-true (ty_row ty).number 16 cse)
 
-cse_judged : (ty : Ty) → is_ty ty RemoteCse ≡ true → is_one_of (shape_attrs ty) Csi ≡ true
+cse_judged : (ty : Ty) → is_ty ty RemoteCse ≡ true → is_attr_in (shape_attrs ty) Csi ≡ true
 cse_judged ty cse = elim (cases_Bool (is_ty ty Ae)) [
   | inl t ↦ absurd (no_both ty t cse)
   | inr f ↦ rw (f, cse) refl
@@ -167,14 +167,14 @@ alike one other o request well wells same by =
     ∙ ap (λ (e : EntityData). (effect_of e request).reply) same
     ∙ reply_by_sight other o wells request (subst (λ (h : HomeData). IsRequestBy h o request) (ap (λ (e : EntityData). e.home) same) by)
 
-pub replies-alike : (one other : EntityData) (o : List ℕ) (reading : ℕ) (request : RequestParts) → IsSound one → IsSound other → sight o one ≡ sight o other → IsRequestBy one.home o request → (effect_of (swept reading one) request).reply ≡ (effect_of (swept reading other) request).reply
+pub replies-alike : (one other : EntityData) (o : List ℕ) (reading : ℕ) (request : RequestParts) → IsSoundEntity one → IsSoundEntity other → sight o one ≡ sight o other → IsRequestBy one.home o request → (effect_of (swept reading one) request).reply ≡ (effect_of (swept reading other) request).reply
 replies-alike one other o reading request sound sounds same by =
     alike (swept reading one) (swept reading other) o request
     (well_live one.nodes (event_moment one.last reading) sound.tree) (well_live other.nodes (event_moment other.last reading) sounds.tree)
     (swept-alike o one other sound.tree sounds.tree same reading) by
 
 -- on what it sees of an entity it is answered as by the entity
-pub reply-seen : (e : EntityData) (o : List ℕ) (reading : ℕ) (request : RequestParts) → IsSound e → IsRequestBy e.home o request → (effect_of (swept reading (sight o e)) request).reply ≡ (effect_of (swept reading e) request).reply
+pub reply-seen : (e : EntityData) (o : List ℕ) (reading : ℕ) (request : RequestParts) → IsSoundEntity e → IsRequestBy e.home o request → (effect_of (swept reading (sight o e)) request).reply ≡ (effect_of (swept reading e) request).reply
 reply-seen e o reading request sound by =
     let m = event_moment e.last reading in
     let left : seen_list e.home (live m (seen_list e.home e.nodes o)) o ≡ seen_list e.home (live m e.nodes) o =

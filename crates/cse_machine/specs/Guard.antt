@@ -24,21 +24,21 @@ use Rattle.resource_model.specs.Attributes.{value_of}
 use Rattle.resource_model.specs.Resource.{ResourceData, has_number, is_ty}
 use Rattle.turn_desk.specs.Entries.{entry_of}
 use Rattle.tree_model.specs.Tree.{at, is_instance, line_of}
-use Rattle.policy_eval.specs.Alike.{is_one_of}
+use Rattle.policy_eval.specs.Alike.{is_attr_in}
 use Rattle.policy_eval.specs.Rights.{relinks, fan_grants}
 use Rattle.addressing.specs.Laws.{named_by}
 use Rattle.addressing.specs.declared.spot.Spot.{Spot}
 use Rattle.addressing.specs.declared.spot.Spot.TheVariants.{Resource, Fan, Poll}
 use Rattle.entity_model.specs.Entity.{EntityData, swept}
 use Rattle.entity_model.specs.Places.{reply_to}
-use Rattle.entity_model.specs.Sound.{IsSound}
+use Rattle.entity_model.specs.Sound.{IsSoundEntity}
 use Rattle.retrieve_discover.specs.Guard.{OthersAreShownByRight}
 use Rattle.cse_machine.specs.declared.event.Event.{Event}
 use Rattle.cse_machine.specs.declared.event.Event.TheVariants.{Ask}
 use Rattle.cse_machine.specs.declared.event.Outcome.{Outcome}
 use Rattle.cse_machine.specs.declared.event.Outcome.TheVariants.{Done, Starved}
 use Rattle.cse_machine.specs.Answer.{addressed}
-use Rattle.cse_machine.specs.History.{History, Leaves}
+use Rattle.cse_machine.specs.History.{History, HistoryLeaves}
 use Rattle.cse_machine.specs.Rights.{claimed_originator, is_granted, has_right}
 use Rattle.cse_machine.specs.Step.{Step}
 
@@ -83,7 +83,7 @@ pub record IsUpdated (r s : ResourceData) : Type 0 where
 -- The resource differs in nothing but these attributes and its last change.
 pub record DiffersIn (attrs : List Attr) (r s : ResourceData) : Type 0 where
   pub rest : s ≡ record r { lt = s.lt; attrs = s.attrs }
-  pub others : (a : Attr) → is_one_of attrs a ≡ false → value_of a s.attrs ≡ value_of a r.attrs
+  pub others : (a : Attr) → is_attr_in attrs a ≡ false → value_of a s.attrs ≡ value_of a r.attrs
 
 -- what an Update of `acpi` alone changes: `acpi`, and the state tag that a container has (TS-0001,
 -- 9.6.1.3.2)
@@ -216,7 +216,7 @@ IsGuarded before request reply after =
 abbrev pub StepsAreGuarded : Type 0
 StepsAreGuarded =
     (reading : ℕ) (request : RequestParts) (before after : EntityData) (reply : ReplyParts)
-    → IsSound before → Step reading (Ask request) before (Done reply) after
+    → IsSoundEntity before → Step reading (Ask request) before (Done reply) after
     → IsGuarded (swept reading before) request reply after
 
 -- In a legal history from a sound entity each request was guarded in the entity that the requests
@@ -225,11 +225,11 @@ abbrev pub HistoriesAreGuarded : Type 0
 HistoriesAreGuarded =
     (opening e : EntityData) (earlier later : History)
     (reading : ℕ) (request : RequestParts) (reply : ReplyParts)
-    → IsSound opening
-    → Leaves opening (earlier ++ entry_of reading (Ask request) (Done reply) ∷ later) e
+    → IsSoundEntity opening
+    → HistoryLeaves opening (earlier ++ entry_of reading (Ask request) (Done reply) ∷ later) e
     → (before : EntityData) × (after : EntityData)
-    × Leaves opening earlier before
-    × Leaves opening (earlier ++ entry_of reading (Ask request) (Done reply) ∷ []) after
+    × HistoryLeaves opening earlier before
+    × HistoryLeaves opening (earlier ++ entry_of reading (Ask request) (Done reply) ∷ []) after
     × IsGuarded (swept reading before) request reply after
 
 -- ---- what changes nothing

@@ -4,7 +4,7 @@ use Rattle.std.specs.List.{All}
 use Rattle.turn_desk.specs.declared.entry.Entry.{Entry}
 use Rattle.turn_desk.specs.Entries.{entry_of, readings_of, events_of, outcomes_of, Runs}
 use Rattle.entity_model.specs.Entity.{EntityData}
-use Rattle.entity_model.specs.Sound.{IsSound}
+use Rattle.entity_model.specs.Sound.{IsSoundEntity}
 use Rattle.cse_machine.specs.declared.event.Event.{Event}
 use Rattle.cse_machine.specs.declared.event.Outcome.{Outcome}
 use Rattle.cse_machine.specs.declared.event.Outcome.TheVariants.{Done, Starved}
@@ -15,26 +15,26 @@ abbrev pub History : Type 0
 History = List (Entry Event Outcome)
 
 -- the entries are steps one after another, from the entity that opened to this one
-abbrev pub Leaves : EntityData → History → EntityData → Type 0
-Leaves opening history e = Runs Step opening history e
+abbrev pub HistoryLeaves : EntityData → History → EntityData → Type 0
+HistoryLeaves opening history e = Runs Step opening history e
 
 -- Where nothing has happened, the entity is the one that opened.
 abbrev pub BeginsLegal : Type 0
-BeginsLegal = (opening : EntityData) → Leaves opening [] opening
+BeginsLegal = (opening : EntityData) → HistoryLeaves opening [] opening
 
 -- A history grows by a step of the entity that it leaves.
 abbrev pub StaysLegal : Type 0
 StaysLegal =
     (opening before after : EntityData) (history : History)
     (reading : ℕ) (event : Event) (outcome : Outcome)
-    → Leaves opening history before → Step reading event before outcome after
-    → Leaves opening (history ++ entry_of reading event outcome ∷ []) after
+    → HistoryLeaves opening history before → Step reading event before outcome after
+    → HistoryLeaves opening (history ++ entry_of reading event outcome ∷ []) after
 
 -- A sound entity is sound after every history.
 abbrev pub StaysSound : Type 0
 StaysSound =
     (opening e : EntityData) (history : History)
-    → IsSound opening → Leaves opening history e → IsSound e
+    → IsSoundEntity opening → HistoryLeaves opening history e → IsSoundEntity e
 
 -- there was memory for it
 abbrev pub IsDone : Outcome → Type 0
@@ -46,7 +46,7 @@ IsDone (Starved done) = ⊥
 abbrev pub GoesOneWay : Type 0
 GoesOneWay =
     (opening e other : EntityData) (history twin : History)
-    → Leaves opening history e → Leaves opening twin other
+    → HistoryLeaves opening history e → HistoryLeaves opening twin other
     → readings_of history ≡ readings_of twin → events_of history ≡ events_of twin
     → All IsDone (outcomes_of history) → All IsDone (outcomes_of twin)
     → (outcomes_of history ≡ outcomes_of twin) × (e ≡ other)

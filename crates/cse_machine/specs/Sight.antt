@@ -8,12 +8,12 @@ use Rattle.resource_model.specs.Home.{HomeData}
 use Rattle.policy_eval.specs.Seen.{seen_list}
 use Rattle.policy_eval.specs.Shape.{shape_list}
 use Rattle.entity_model.specs.Entity.{EntityData, swept}
-use Rattle.entity_model.specs.Sound.{IsSound}
+use Rattle.entity_model.specs.Sound.{IsSoundEntity}
 use Rattle.cse_machine.specs.declared.event.Event.{Event}
 use Rattle.cse_machine.specs.declared.event.Event.TheVariants.{Ask}
 use Rattle.cse_machine.specs.declared.event.Outcome.TheVariants.{Done}
 use Rattle.cse_machine.specs.Answer.{is_retrieve, is_served, given}
-use Rattle.cse_machine.specs.History.{History, Leaves, IsDone}
+use Rattle.cse_machine.specs.History.{History, HistoryLeaves, IsDone}
 use Rattle.cse_machine.specs.Rights.{claimed_originator}
 use Rattle.cse_machine.specs.Step.{Step}
 
@@ -33,7 +33,7 @@ shape o e = record e { nodes = shape_list e.home e.nodes o }
 -- What an originator sees of a sound entity has the shape of that entity.
 abbrev pub SightHasItsShape : Type 0
 SightHasItsShape =
-    (e : EntityData) (o : List ℕ) → IsSound e → shape o (sight o e) ≡ shape o e
+    (e : EntityData) (o : List ℕ) → IsSoundEntity e → shape o (sight o e) ≡ shape o e
 
 -- Two entities of which the originator sees the same have one shape.
 abbrev pub EqualSightsHaveOneShape : Type 0
@@ -81,8 +81,8 @@ IsBy home o (Ask request) = IsRequestBy home o request
 abbrev pub EqualSightsStayAlike : Type 0
 EqualSightsStayAlike =
     (left right after other : EntityData) (o : List ℕ) (history twin : History)
-    → IsSound left → IsSound right → sight o left ≡ sight o right
-    → Leaves left history after → Leaves right twin other
+    → IsSoundEntity left → IsSoundEntity right → sight o left ≡ sight o right
+    → HistoryLeaves left history after → HistoryLeaves right twin other
     → readings_of history ≡ readings_of twin → events_of history ≡ events_of twin
     → All (IsBy left.home o) (events_of history)
     → All IsDone (outcomes_of history) → All IsDone (outcomes_of twin)

@@ -5,13 +5,13 @@ use Rattle.primitive_json.specs.declared.request.RequestParts.{RequestParts}
 use Rattle.turn_desk.specs.Entries.{readings_of, events_of, outcomes_of}
 use Rattle.turn_desk.proofs.GrowthLemmas.{Grew-runs}
 use Rattle.entity_model.specs.Entity.{EntityData, swept}
-use Rattle.entity_model.specs.Sound.{IsSound}
+use Rattle.entity_model.specs.Sound.{IsSoundEntity}
 use Rattle.cse_machine.specs.declared.event.Event.{Event}
 use Rattle.cse_machine.specs.declared.event.Event.TheVariants.{Ask}
 use Rattle.cse_machine.specs.declared.event.Outcome.{Outcome}
 use Rattle.cse_machine.specs.declared.event.Outcome.TheVariants.{Done}
 use Rattle.cse_machine.specs.Guard.{IsGuarded}
-use Rattle.cse_machine.specs.History.{History, Leaves}
+use Rattle.cse_machine.specs.History.{History, HistoryLeaves}
 use Rattle.cse_machine.specs.Step.{Step}
 use Rattle.cse_machine.proofs.HistoryLemmas.{none_some, same_first, same_rest, sound_step, step_guarded}
 use Rattle.cse_server.specs.Laws.{ServesGuarded}
@@ -28,11 +28,11 @@ less_one r earlier o before e = omega (arith, e)
 -- The first part of the history of a run, before the request, and the step of the request.
 guarded_in_run : (mine : History) (opening after : EntityData) (earlier later : List RequestParts) (request : RequestParts)
     (before behind : List Outcome) (reply : ReplyParts)
-    → IsSound opening → Leaves opening mine after → events_of mine ≡ map Ask (earlier ++ request ∷ later)
+    → IsSoundEntity opening → Leaves opening mine after → events_of mine ≡ map Ask (earlier ++ request ∷ later)
     → outcomes_of mine ≡ before ++ Done reply ∷ behind → length earlier ≡ length before
     → (history : History) × (found : EntityData) × (left : EntityData)
     × (reading : ℕ) × (then : List ℕ)
-    × Leaves opening history found × (events_of history ≡ map Ask earlier)
+    × HistoryLeaves opening history found × (events_of history ≡ map Ask earlier)
     × (outcomes_of history ≡ before)
     × (readings_of mine ≡ readings_of history ++ reading ∷ then)
     × Step reading (Ask request) found (Done reply) left

@@ -5,7 +5,7 @@ use Rattle.std.specs.Io.KnownBytes.{IsAtEnd}
 use Rattle.http_frames.specs.declared.frame.Frame.{Frame}
 use Rattle.http_frames.specs.declared.frame.Side.TheVariants.{Request}
 use Rattle.http_frames.specs.Stream.{HasNoFrame}
-use Rattle.http_frames.specs.Inbox.{stream_of, Reads, Gives, HoldsNoFrame, most_held}
+use Rattle.http_frames.specs.Inbox.{stream_of, Reads, GivesFrame, HoldsNoFrame, most_held}
 use Rattle.http_binding.specs.Replying.{reply_text}
 use Rattle.primitive_json.specs.declared.reply.ReplyParts.{ReplyParts}
 use Rattle.cse_server.specs.Closing.{closes}
@@ -27,7 +27,7 @@ reads_little (Some l) None held now r few = tt
 reads_little (Some l) (Some m) held now r few = record { held = now; rest_is = kept_leads (Some l) (Some m) held now r; few = few }
 
 -- a frame was given: it began the stream
-pub given_leads : (left rest : Option (List ℕ)) (held now : List ℕ) (frame : Frame) → Gives Request left rest held now frame → Leads (stream_of held left) (frame ∷ []) (stream_of now rest)
+pub given_leads : (left rest : Option (List ℕ)) (held now : List ℕ) (frame : Frame) → GivesFrame Request left rest held now frame → Leads (stream_of held left) (frame ∷ []) (stream_of now rest)
 given_leads None rest held now frame g = tt
 given_leads (Some l) None held now frame g = absurd g.reads.consumed
 given_leads (Some l) (Some m) held now frame g =
@@ -64,7 +64,7 @@ nothing_read None = tt
 nothing_read (Some bytes) = record { held = []; rest_is = refl; few = omega arith }
 
 -- what was read with a frame was little
-pub given_little : (left rest : Option (List ℕ)) (held now : List ℕ) (frame : Frame) → Gives Request left rest held now frame
+pub given_little : (left rest : Option (List ℕ)) (held now : List ℕ) (frame : Frame) → GivesFrame Request left rest held now frame
     → length held < most_held Request → IfSome (stream_of held left) (λ bytes. IfSome rest (ReadsLittle bytes))
 given_little left rest held now frame g few = reads_little left rest held g.all g.reads (g.few few)
 

@@ -10,7 +10,7 @@ use Rattle.turn_desk.specs.Growth.{IsOwnRun}
 use Rattle.turn_desk.proofs.GrowthLemmas.{Grew-runs}
 use Rattle.http_frames.specs.declared.frame.Frame.{Frame}
 use Rattle.http_frames.specs.declared.frame.Side.TheVariants.{Request}
-use Rattle.http_frames.specs.Stream.{BeginsWith, HasNoFrame}
+use Rattle.http_frames.specs.Stream.{BeginsWithFrame, HasNoFrame}
 use Rattle.http_frames.proofs.FrameLemmas.{BeginsWith_unique}
 use Rattle.http_frames.proofs.InboxLemmas.{none_within}
 use Rattle.http_frames.proofs.LookLemmas.{some_bytes}
@@ -104,9 +104,9 @@ heard_one_way [] [] place ended end refused denied stream rest other a b up ups 
     let ends = same_end place ended end refused denied [] rest s (subst (λ (v : List ℕ). Settles place end denied [] v) (sym b ∙ a) t) in
     (refl, ends.0, ends.1)
 heard_one_way [] (y ∷ ys) place ended end refused denied stream rest other a b up ups s t =
-    absurd (none_behind place ended refused [] rest refl s y b.0 (subst (λ (v : List ℕ). BeginsWith Request v y b.0) a b.1))
+    absurd (none_behind place ended refused [] rest refl s y b.0 (subst (λ (v : List ℕ). BeginsWithFrame Request v y b.0) a b.1))
 heard_one_way (x ∷ xs) [] place ended end refused denied stream rest other a b up ups s t =
-    absurd (none_behind place end denied [] other refl t x a.0 (subst (λ (v : List ℕ). BeginsWith Request v x a.0) b a.1))
+    absurd (none_behind place end denied [] other refl t x a.0 (subst (λ (v : List ℕ). BeginsWithFrame Request v x a.0) b a.1))
 heard_one_way (x ∷ xs) (y ∷ ys) place ended end refused denied stream rest other a b up ups s t =
     let first = BeginsWith_unique Request stream x y a.0 b.0 a.1 b.1 in
     elim (cases_Bool (closes place y)) [

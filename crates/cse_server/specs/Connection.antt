@@ -12,7 +12,7 @@ use Rattle.turn_desk.specs.Growth.{AsksAll}
 use Rattle.http_frames.specs.declared.frame.Frame.{Frame}
 use Rattle.http_frames.specs.declared.frame.Side.TheVariants.{Request}
 use Rattle.http_frames.specs.Inbox.{most_held}
-use Rattle.http_frames.specs.Stream.{BeginsWith, HasNoFrame}
+use Rattle.http_frames.specs.Stream.{BeginsWithFrame, HasNoFrame}
 use Rattle.cse_machine.specs.declared.event.Event.{Event}
 use Rattle.cse_machine.specs.declared.event.Event.TheVariants.{Ask}
 use Rattle.cse_machine.specs.declared.event.Outcome.{Outcome}
@@ -28,7 +28,7 @@ use Rattle.cse_server.specs.Talk.{requests_in, talk, talk_before_last, some_clos
 abbrev pub IsThese : List ℕ → List Frame → List ℕ → Type 0
 IsThese stream [] rest = stream ≡ rest
 IsThese stream (frame ∷ frames) rest =
-    (after : List ℕ) × BeginsWith Request stream frame after × IsThese after frames rest
+    (after : List ℕ) × BeginsWithFrame Request stream frame after × IsThese after frames rest
 
 -- ---- how it ends
 

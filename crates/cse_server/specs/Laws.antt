@@ -9,12 +9,12 @@ use Rattle.primitive_json.specs.declared.reply.ReplyParts.{ReplyParts}
 use Rattle.primitive_json.specs.declared.request.RequestParts.{RequestParts}
 use Rattle.http_frames.specs.declared.frame.Frame.{Frame}
 use Rattle.entity_model.specs.Entity.{EntityData, swept}
-use Rattle.entity_model.specs.Sound.{IsSound}
+use Rattle.entity_model.specs.Sound.{IsSoundEntity}
 use Rattle.cse_machine.specs.declared.event.Event.TheVariants.{Ask}
 use Rattle.cse_machine.specs.declared.event.Outcome.{Outcome}
 use Rattle.cse_machine.specs.declared.event.Outcome.TheVariants.{Done}
 use Rattle.cse_machine.specs.Guard.{IsGuarded}
-use Rattle.cse_machine.specs.History.{History, Leaves, IsDone}
+use Rattle.cse_machine.specs.History.{History, HistoryLeaves, IsDone}
 use Rattle.cse_machine.specs.Sight.{sight, IsRequestBy}
 use Rattle.cse_machine.specs.Step.{Step}
 use Rattle.cse_server.specs.declared.connection.Ended.{Ended}
@@ -47,7 +47,7 @@ ServesGuarded =
     → length earlier ≡ length before
     → (history : History) × (found : EntityData) × (left : EntityData)
     × (reading : ℕ) × (then : List ℕ)
-    × Leaves opening history found × (events_of history ≡ map Ask earlier)
+    × HistoryLeaves opening history found × (events_of history ≡ map Ask earlier)
     × (outcomes_of history ≡ before)
     × (served.asks.readings ≡ readings_of history ++ reading ∷ then)
     × Step reading (Ask request) found (Done reply) left

@@ -14,7 +14,7 @@ use Rattle.m2m_names.specs.declared.types.Ty.TheVariants.{AccessControlPolicy, A
 use Rattle.resource_model.specs.Attributes.{count_at}
 use Rattle.resource_model.specs.Home.{HomeData, IsHome, is_base_name, is_cse_type}
 use Rattle.resource_model.specs.Resource.{ResourceData, is_ty, cse_id}
-use Rattle.tree_model.specs.Tree.{at, has, are_below, stays, staying, without, is_spared, is_kin, is_instance, size_of, due_under, is_due, lesser, age_end, live, is_root, is_taken, fits_in, is_well_formed, is_tree}
+use Rattle.tree_model.specs.Tree.{at, has, are_below, stays, staying, without, is_spared, is_kin, is_instance, instance_size, due_under, is_due, lesser, age_end, live, is_root, is_taken, fits_in, is_well_formed, is_tree}
 use Rattle.tree_model.proofs.ChangeLemmas.{count-without, sum-without, no_deeper}
 use Rattle.tree_model.proofs.QuietLemmas.{lesser_least}
 use Rattle.tree_model.proofs.TreeLemmas.{has_at, staying_all, staying_any, staying_unpicked}
@@ -26,7 +26,7 @@ use Rattle.attribute_rules.specs.Kinds.{are_kinds}
 use Rattle.container_limits.specs.Limits.{is_within}
 use Rattle.entity_model.specs.Entity.{EntityData, last_reading, cut, event_moment, swept}
 use Rattle.entity_model.specs.Opening.{opening_base, opening_policy, opening_nodes, opening}
-use Rattle.entity_model.specs.Sound.{has_known_ids, has_free_name, has_size, has_state_tag, is_shallow, is_within_limits, begins_with_base, own_cse_id, cse_ids, are_distinct, has_one_channel, spares_first, greatest_count, IsSound}
+use Rattle.entity_model.specs.Sound.{has_known_ids, has_free_name, has_size, has_state_tag, is_shallow, is_within_limits, begins_with_base, own_cse_id, cse_ids, are_distinct, has_one_channel, spares_first, greatest_count, IsSoundEntity}
 use Rattle.entity_model.proofs.RemovalLemmas.{staying_length}
 
 -- ---- tests over a list
@@ -70,7 +70,7 @@ limits_left p nodes r within = elim (or_cases (not (is_ty r.ty Container)) _ wit
       let parts = and_parts _ _ both in
       or_right _ _ (and_from _ _
       (within_too (count_at Mni r.attrs) _ _ (count-without p (is_instance r.number) [] nodes) parts.0)
-      (within_too (count_at Mbs r.attrs) _ _ (sum-without p (is_instance r.number) size_of [] nodes) parts.1))
+      (within_too (count_at Mbs r.attrs) _ _ (sum-without p (is_instance r.number) instance_size [] nodes) parts.1))
 ]
 
 -- a test of the CSE-IDs, as one of the resources
@@ -177,7 +177,7 @@ pub record IsFramed (e : EntityData) : Type 0 where
   pub sizes : list_all has_size e.nodes ≡ true
   pub last : e.last ≤ last_reading
 
-pub framed_from : (e : EntityData) → IsSound e → IsFramed e
+pub framed_from : (e : EntityData) → IsSoundEntity e → IsFramed e
 framed_from e sound = record {
   numbers = sound.numbers;
   next = sound.next;
@@ -196,7 +196,7 @@ framed_from e sound = record {
   last = sound.last;
 }
 
-pub sound_framed : (e : EntityData) → IsFramed e → list_all (is_within_limits e.nodes) e.nodes ≡ true → list_any (is_due e.nodes e.last) e.nodes ≡ false → IsSound e
+pub sound_framed : (e : EntityData) → IsFramed e → list_all (is_within_limits e.nodes) e.nodes ≡ true → list_any (is_due e.nodes e.last) e.nodes ≡ false → IsSoundEntity e
 sound_framed e framed limits due = record {
   numbers = framed.numbers;
   next = framed.next;
@@ -240,7 +240,7 @@ framed_left p e last framed spared small =
       last = small;
     }
 
-pub sound_left : (p : ResourceData → Bool) (e : EntityData) (last : ℕ) → IsSound e → spares_first p e.nodes ≡ true → last ≤ last_reading → list_any (is_due (without p e.nodes) last) (without p e.nodes) ≡ false → IsSound (record { home = e.home; nodes = without p e.nodes; next = e.next; last = last })
+pub sound_left : (p : ResourceData → Bool) (e : EntityData) (last : ℕ) → IsSoundEntity e → spares_first p e.nodes ≡ true → last ≤ last_reading → list_any (is_due (without p e.nodes) last) (without p e.nodes) ≡ false → IsSoundEntity (record { home = e.home; nodes = without p e.nodes; next = e.next; last = last })
 sound_left p e last sound spared small none =
     sound_framed _ (framed_left p e last (framed_from e sound) spared small)
     (all_left p is_within_limits e.nodes (limits_left p e.nodes) sound.limits) none
@@ -259,18 +259,18 @@ none_live nodes moment tree =
 moment_small : (last reading : ℕ) → last ≤ 253402300798 → event_moment last reading ≤ 253402300798
 moment_small last reading small = omega arith
 
-pub sound_swept : (reading : ℕ) (e : EntityData) → IsSound e → IsSound (swept reading e)
+pub sound_swept : (reading : ℕ) (e : EntityData) → IsSoundEntity e → IsSoundEntity (swept reading e)
 sound_swept reading e sound =
     sound_left (is_due e.nodes (event_moment e.last reading)) e (event_moment e.last reading) sound
     (base_spared e.home e.nodes e.nodes (event_moment e.last reading) sound.base)
     (moment_small e.last reading sound.last)
     (none_live e.nodes (event_moment e.last reading) (tree_from_well_formed e.nodes sound.tree))
 
-pub sound_removed : (p : ResourceData → Bool) (e : EntityData) → IsSound e → spares_first p e.nodes ≡ true → IsSound (record { home = e.home; nodes = without p e.nodes; next = e.next; last = e.last })
+pub sound_removed : (p : ResourceData → Bool) (e : EntityData) → IsSoundEntity e → spares_first p e.nodes ≡ true → IsSoundEntity (record { home = e.home; nodes = without p e.nodes; next = e.next; last = e.last })
 sound_removed p e sound spared = sound_left p e e.last sound spared sound.last (none_due_left p e.nodes e.last (tree_from_well_formed e.nodes sound.tree) sound.due)
 
 -- where no time passes, nothing is due
-pub swept_still : (reading : ℕ) (e : EntityData) → IsSound e → cut reading ≤ e.last → swept reading e ≡ e
+pub swept_still : (reading : ℕ) (e : EntityData) → IsSoundEntity e → cut reading ≤ e.last → swept reading e ≡ e
 swept_still reading e sound early =
     let entity : List ResourceData → ℕ → EntityData = λ nodes last. record { home = e.home; nodes = nodes; next = e.next; last = last } in
     let same : event_moment e.last reading ≡ e.last = omega arith in
@@ -315,7 +315,7 @@ policy_kinds home moment admitted = rw admitted refl
 opening_kinds : (home : HomeData) (moment : ℕ) → is_originator home.admin ≡ true → list_all are_kinds (opening_base home moment ∷ opening_policy home moment ∷ []) ≡ true
 opening_kinds home moment admitted = and_from (are_kinds (opening_base home moment)) _ refl (and_from (are_kinds (opening_policy home moment)) _ (policy_kinds home moment admitted) refl)
 
-pub sound_opening : (home : HomeData) (reading : ℕ) → IsHome home → IsSound (opening home reading)
+pub sound_opening : (home : HomeData) (reading : ℕ) → IsHome home → IsSoundEntity (opening home reading)
 sound_opening home reading is = record {
   numbers = refl;
   next = omega arith;
@@ -337,11 +337,11 @@ sound_opening home reading is = record {
 }
 
 -- the same, of what stands for its parts
-pub sound_opened : (home : HomeData) (reading moment : ℕ) (nodes : List ResourceData) → IsHome home → moment ≡ cut reading → nodes ≡ opening_nodes home moment → IsSound (record { home = home; nodes = nodes; next = 3; last = moment })
+pub sound_opened : (home : HomeData) (reading moment : ℕ) (nodes : List ResourceData) → IsHome home → moment ≡ cut reading → nodes ≡ opening_nodes home moment → IsSoundEntity (record { home = home; nodes = nodes; next = 3; last = moment })
 sound_opened home reading moment nodes is when stand =
     let entity : List ResourceData → ℕ → EntityData = λ ns m. record { home = home; nodes = ns; next = 3; last = m } in
     let same : entity nodes moment ≡ opening home reading = ap (λ (ns : List ResourceData). entity ns moment) stand ∙ ap (λ (m : ℕ). entity (opening_nodes home m) m) when in
-    subst IsSound (sym same) (sound_opening home reading is)
+    subst IsSoundEntity (sym same) (sound_opening home reading is)
 
 -- ---- one CSEBase
 
@@ -397,5 +397,5 @@ base_last (s ∷ before) r fit holds =
       | inr root ↦ absurd (both_ways _ refl root)
     ]
 
-pub one_base : (e : EntityData) → IsSound e → filter is_base e.nodes ≡ take 1 e.nodes
+pub one_base : (e : EntityData) → IsSoundEntity e → filter is_base e.nodes ≡ take 1 e.nodes
 one_base e sound = growth fits_in (λ nodes. filter is_base nodes ≡ take 1 nodes) refl (λ before r grew next holds. base_last before r next holds) e.nodes sound.tree

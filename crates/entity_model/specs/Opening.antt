@@ -30,8 +30,8 @@ abbrev pub policy_rows : HomeData → List Row
 policy_rows home = (Pv, opening_pv home) ∷ (Pvs, opening_pvs home) ∷ []
 
 -- the CSEBase is judged by that policy
-abbrev pub base_rows : List Row
-base_rows = (Acpi, list (elements_of (text (codes "acp2") ∷ []))) ∷ []
+abbrev pub opening_rows : List Row
+opening_rows = (Acpi, list (elements_of (text (codes "acp2") ∷ []))) ∷ []
 
 -- the CSEBase (TS-0001, 9.6.3)
 abbrev pub opening_base : HomeData → ℕ → ResourceData
@@ -44,7 +44,7 @@ opening_base home moment = record {
   ct = moment;
   lt = moment;
   et = last_moment;
-  attrs = base_rows;
+  attrs = opening_rows;
 }
 
 -- the administrator's policy (TS-0001, 9.6.2)

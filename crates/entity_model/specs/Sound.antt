@@ -13,7 +13,7 @@ use Rattle.m2m_value.specs.View.{as_text}
 use Rattle.resource_model.specs.Attributes.{count_at, value_of}
 use Rattle.resource_model.specs.Home.{HomeData, IsHome}
 use Rattle.resource_model.specs.Resource.{ResourceData, is_ty, cse_id}
-use Rattle.tree_model.specs.Tree.{channels_of, instances_of, size_of, sizes_of, depth}
+use Rattle.tree_model.specs.Tree.{channels_of, instances_of, instance_size, sizes_of, depth}
 use Rattle.tree_model.specs.Tree.{are_below, is_well_formed}
 use Rattle.attribute_rules.specs.Kinds.{are_kinds}
 use Rattle.container_limits.specs.Limits.{is_within}
@@ -40,7 +40,7 @@ largest_size = 1048576
 
 -- it is no larger, where it is a content instance
 abbrev pub has_size : ResourceData → Bool
-has_size r = not (is_ty r.ty ContentInstance) || nat_le (size_of r) largest_size
+has_size r = not (is_ty r.ty ContentInstance) || nat_le (instance_size r) largest_size
 
 -- how deep a resource stands at most, and how many resources there are at most
 abbrev pub greatest_depth : ℕ
@@ -100,7 +100,7 @@ spares_first picks [] = true
 spares_first picks (r ∷ nodes) = not (picks r)
 
 -- what holds of an entity at every moment
-pub record IsSound (e : EntityData) : Type 0 where
+pub record IsSoundEntity (e : EntityData) : Type 0 where
   -- numbers are given out in order, and none twice
   pub numbers : IsTrue (are_below e.next e.nodes)
   pub next : e.next ≤ 2 ^ 63 - 1

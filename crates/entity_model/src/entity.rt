@@ -26,7 +26,7 @@ impl<T: Tree> Model for Entity<T> {
 
     ghost coded = { entity_code };
 
-    ghost use Rattle.entity_model.specs.Sound.{IsSound};
+    ghost use Rattle.entity_model.specs.Sound.{IsSoundEntity};
 
     ghost view = { λ e. record {
       home = e.home;
@@ -36,7 +36,7 @@ impl<T: Tree> Model for Entity<T> {
           e.last;
     } };
 
-    ghost invariant = { λ e. IsSound (record {
+    ghost invariant = { λ e. IsSoundEntity (record {
       home = e.home;
       nodes = T.nodes e.tree;
       next = e.next;

@@ -6,27 +6,28 @@ ghost use Rattle.resource_model.specs.Resource.{ResourceData, is_ty};
 ghost use Rattle.tree_model.specs.Tree.{without};
 ghost use Rattle.entity_model.specs.Entity.{EntityData, cut, swept};
 ghost use Rattle.entity_model.specs.Opening.{opening};
-ghost use Rattle.entity_model.specs.Sound.{IsSound, spares_first};
+ghost use Rattle.entity_model.specs.Sound.{IsSoundEntity, spares_first};
 
 /// An entity opens sound, and stays sound: under the expiry, and where some resources are removed
 /// with all that stands below them, unless the CSEBase is.
 pub fn an_entity_stays_sound()
     ensures opened { (home : HomeData) (reading : ℕ) → IsHome home
-        → IsSound (opening home reading) }
-    ensures swept { (reading : ℕ) (e : EntityData) → IsSound e → IsSound (swept reading e) }
-    ensures removed { (picks : ResourceData → Bool) (e : EntityData) → IsSound e
+        → IsSoundEntity (opening home reading) }
+    ensures swept { (reading : ℕ) (e : EntityData) → IsSoundEntity e
+        → IsSoundEntity (swept reading e) }
+    ensures removed { (picks : ResourceData → Bool) (e : EntityData) → IsSoundEntity e
         → IsTrue (spares_first picks e.nodes)
-        → IsSound (record e { nodes = without picks e.nodes }) }
+        → IsSoundEntity (record e { nodes = without picks e.nodes }) }
 {}
 
 /// The first resource of a sound entity is its only CSEBase.
 pub fn a_sound_entity_has_one_base()
-    ensures { (e : EntityData) → IsSound e
+    ensures { (e : EntityData) → IsSoundEntity e
         → filter (λ (r : ResourceData). is_ty r.ty CseBase) e.nodes ≡ take 1 e.nodes }
 {}
 
 /// An event that doesn't come later than the last one finds the entity as that one left it.
 pub fn nothing_expires_while_no_time_passes()
-    ensures { (reading : ℕ) (e : EntityData) → IsSound e → cut reading ≤ e.last
+    ensures { (reading : ℕ) (e : EntityData) → IsSoundEntity e → cut reading ≤ e.last
         → swept reading e ≡ e }
 {}

@@ -2,7 +2,7 @@
 ghost use Rattle.std.specs.Prelude.{◌≡◌, ◌≤◌, [], ◌∷◌, ◌++◌, IfOk, OnOk, IsUtf8, IsTrue};
 ghost use Rattle.m2m_names.specs.Stamps.{last_moment};
 ghost use Rattle.m2m_value.specs.Data as json;
-ghost use Rattle.tree_model.specs.Tree.{fits};
+ghost use Rattle.tree_model.specs.Tree.{may_stand};
 ghost use Rattle.policy_eval.specs.Rules as policies;
 ghost use Rattle.entity_model.specs.Opening as spec;
 
@@ -83,7 +83,7 @@ fn policy_attrs(alloc: Global, home: &Home) -> Result<Attrs, OutOfMemory>
 }
 
 fn base_attrs(alloc: Global) -> Result<Attrs, OutOfMemory>
-    ensures { IfOk result (λ a. a ≡ spec.base_rows) }
+    ensures { IfOk result (λ a. a ≡ spec.opening_rows) }
 {
     let mut attrs = Attrs::new(alloc);
     attrs.set(
@@ -127,7 +127,7 @@ fn opening_policy(alloc: Global, home: &Home, moment: u64) -> Result<Resource, O
 }
 
 fn put_last<T: Tree>(tree: &mut T, resource: Resource) -> Result<(), OutOfMemory>
-    requires { IsTrue (fits (T.nodes tree.old) resource) }
+    requires { IsTrue (may_stand (T.nodes tree.old) resource) }
     ensures { OnOk result (T.nodes tree.new ≡ T.nodes tree.old ++ resource ∷ []) }
 {
     match tree.insert(resource) {

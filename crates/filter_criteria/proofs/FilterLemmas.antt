@@ -8,10 +8,10 @@ use Rattle.m2m_value.specs.Shapes.{as_count, is_label}
 use Rattle.m2m_value.specs.View.{as_text, as_number, member_of}
 use Rattle.m2m_value.proofs.Levels.{entries-pairs_of}
 use Rattle.filter_criteria.specs.Bounds.{IsMoment}
-use Rattle.filter_criteria.specs.Conditions.{read_moment, label_of, read_usage, alternatives, all_of, row_of, name_of, condition_named, is_of, is_condition, is_filter, all_conditions, moment_for, count_for, usage_in, labels_in, types_in, filter_in}
+use Rattle.filter_criteria.specs.Conditions.{read_moment, label_of, read_usage, alternatives, all_of, row_of_condition, name_of_condition, condition_named, is_of, is_condition, is_filter, all_conditions, moment_for, count_for, usage_in, labels_in, types_in, filter_in}
 use Rattle.filter_criteria.specs.Values.{members_in, read_type_number, NamedValue, present, object_of, count_data, moment_data}
 use Rattle.filter_criteria.specs.Laws.{IsFilterOfKinds}
-use Rattle.filter_criteria.specs.Writing.{filled_list, usage_number, condition_value, condition_row, written_filter}
+use Rattle.filter_criteria.specs.Writing.{filled_list, usage_number, condition_value, written_condition, written_filter}
 use Rattle.filter_criteria.proofs.PartLemmas.{where_kept, where_passes, passes_along, each_back, moment_back, moment_last, AllBack, list_back, list_passes, all_back, all_pass as each_passes}
 use Rattle.filter_criteria.proofs.Present.{names, member_of-present, members_in-object_of, all_pass, all_rows}
 use Rattle.filter_criteria.specs.declared.condition.Condition.{Condition}
@@ -35,25 +35,25 @@ types_kept ns h = all_back read_type_number count_data (λ n. nat_le n 65_535) (
 -- ---- the filter of the members
 
 -- the value at the name of a condition
-there : (f : FilterParts) (condition : Condition) → member_of (name_of condition) (present (map (condition_row f) all_conditions)) ≡ condition_value f condition
-there f CreatedAfter = member_of-present (name_of CreatedAfter) (map (condition_row f) all_conditions) refl
-there f CreatedBefore = member_of-present (name_of CreatedBefore) (map (condition_row f) all_conditions) refl
-there f ExpireAfter = member_of-present (name_of ExpireAfter) (map (condition_row f) all_conditions) refl
-there f ExpireBefore = member_of-present (name_of ExpireBefore) (map (condition_row f) all_conditions) refl
-there f Usage = member_of-present (name_of Usage) (map (condition_row f) all_conditions) refl
-there f OneLabel = member_of-present (name_of OneLabel) (map (condition_row f) all_conditions) refl
-there f Limit = member_of-present (name_of Limit) (map (condition_row f) all_conditions) refl
-there f ModifiedSince = member_of-present (name_of ModifiedSince) (map (condition_row f) all_conditions) refl
-there f StateTagBigger = member_of-present (name_of StateTagBigger) (map (condition_row f) all_conditions) refl
-there f StateTagSmaller = member_of-present (name_of StateTagSmaller) (map (condition_row f) all_conditions) refl
-there f SizeAbove = member_of-present (name_of SizeAbove) (map (condition_row f) all_conditions) refl
-there f SizeBelow = member_of-present (name_of SizeBelow) (map (condition_row f) all_conditions) refl
-there f OneType = member_of-present (name_of OneType) (map (condition_row f) all_conditions) refl
-there f UnmodifiedSince = member_of-present (name_of UnmodifiedSince) (map (condition_row f) all_conditions) refl
+there : (f : FilterParts) (condition : Condition) → member_of (name_of_condition condition) (present (map (written_condition f) all_conditions)) ≡ condition_value f condition
+there f CreatedAfter = member_of-present (name_of_condition CreatedAfter) (map (written_condition f) all_conditions) refl
+there f CreatedBefore = member_of-present (name_of_condition CreatedBefore) (map (written_condition f) all_conditions) refl
+there f ExpireAfter = member_of-present (name_of_condition ExpireAfter) (map (written_condition f) all_conditions) refl
+there f ExpireBefore = member_of-present (name_of_condition ExpireBefore) (map (written_condition f) all_conditions) refl
+there f Usage = member_of-present (name_of_condition Usage) (map (written_condition f) all_conditions) refl
+there f OneLabel = member_of-present (name_of_condition OneLabel) (map (written_condition f) all_conditions) refl
+there f Limit = member_of-present (name_of_condition Limit) (map (written_condition f) all_conditions) refl
+there f ModifiedSince = member_of-present (name_of_condition ModifiedSince) (map (written_condition f) all_conditions) refl
+there f StateTagBigger = member_of-present (name_of_condition StateTagBigger) (map (written_condition f) all_conditions) refl
+there f StateTagSmaller = member_of-present (name_of_condition StateTagSmaller) (map (written_condition f) all_conditions) refl
+there f SizeAbove = member_of-present (name_of_condition SizeAbove) (map (written_condition f) all_conditions) refl
+there f SizeBelow = member_of-present (name_of_condition SizeBelow) (map (written_condition f) all_conditions) refl
+there f OneType = member_of-present (name_of_condition OneType) (map (written_condition f) all_conditions) refl
+there f UnmodifiedSince = member_of-present (name_of_condition UnmodifiedSince) (map (written_condition f) all_conditions) refl
 
 module _ (f : FilterParts) where
   abbrev es : List Entry
-  es = present (map (condition_row f) all_conditions)
+  es = present (map (written_condition f) all_conditions)
 
   moment_there : (condition : Condition) (at : Option ℕ) → condition_value f condition ≡ option_map moment_data at → IfSome at IsMoment → moment_for condition es ≡ at
   moment_there condition at is kind = ap (option_and_then read_moment) (there f condition ∙ is) ∙ each_back read_moment moment_data IsMoment moment_back at kind
@@ -95,7 +95,7 @@ module _ (f : FilterParts) where
       let szb = count_there SizeBelow f.szb refl in
       let fu = usage_there in
       let lim = count_there Limit f.lim refl in
-      ap filter_in (members_in-object_of (map (condition_row f) all_conditions))
+      ap filter_in (members_in-object_of (map (written_condition f) all_conditions))
       ∙ (λ i. record { crb = crb i; cra = cra i; ms = ms i; us = us i; sts = sts i; stb = stb i; exb = exb i; exa = exa i; lbl = lbl i; ty = ty i; sza = sza i; szb = szb i; fu = fu i; lim = lim i })
 
 -- ---- and it is an object of conditions
@@ -112,7 +112,7 @@ fits_usage : (u : Option FilterUsage) → IfSome (option_map (λ usage. number (
 fits_usage None = tt
 fits_usage (Some u) = ap is_some (usage_back u)
 
-each_fits : (f : FilterParts) → IsFilterOfKinds f → (condition : Condition) → IfSome (condition_value f condition) (λ d. is_condition (name_of condition, d) ≡ true)
+each_fits : (f : FilterParts) → IsFilterOfKinds f → (condition : Condition) → IfSome (condition_value f condition) (λ d. is_condition (name_of_condition condition, d) ≡ true)
 each_fits f kinds CreatedAfter = fits_moment f.cra kinds.cra
 each_fits f kinds CreatedBefore = fits_moment f.crb kinds.crb
 each_fits f kinds ExpireAfter = fits_moment f.exa kinds.exa
@@ -130,13 +130,13 @@ each_fits f kinds UnmodifiedSince = fits_moment f.us kinds.us
 
 pub filter_fits : (f : FilterParts) → IsFilterOfKinds f → is_filter (written_filter f) ≡ true
 filter_fits f kinds =
-    ap (list_all is_condition) (entries-pairs_of (present (map (condition_row f) all_conditions)))
-    ∙ all_pass is_condition (map (condition_row f) all_conditions) (all_rows is_condition (condition_row f) (each_fits f kinds) all_conditions)
+    ap (list_all is_condition) (entries-pairs_of (present (map (written_condition f) all_conditions)))
+    ∙ all_pass is_condition (map (written_condition f) all_conditions) (all_rows is_condition (written_condition f) (each_fits f kinds) all_conditions)
 
 -- ---- what is read is of its kinds
 
 moment_kind : (condition : Condition) (es : List Entry) → IfSome (moment_for condition es) IsMoment
-moment_kind condition es = passes_along IsMoment read_moment moment_last (member_of (name_of condition) es)
+moment_kind condition es = passes_along IsMoment read_moment moment_last (member_of (name_of_condition condition) es)
 
 all_of_kind : {A : Type 0} (read : Data → Option A) (test : A → Bool) → ((d : Data) → IfSome (read d) (λ a. test a ≡ true)) → (o : Option Data) → list_all test (option_map_or (all_of read) o []) ≡ true
 all_of_kind read test each None = refl
@@ -150,6 +150,6 @@ filter_of_kinds es = record {
   us = moment_kind UnmodifiedSince es;
   exb = moment_kind ExpireBefore es;
   exa = moment_kind ExpireAfter es;
-  lbl = all_of_kind label_of (is_filled 256) (λ d. where_passes (is_filled 256) (as_text d)) (member_of (name_of OneLabel) es);
-  ty = all_of_kind read_type_number (λ n. nat_le n 65_535) (λ d. where_passes (λ n. nat_le n 65_535) (as_count d)) (member_of (name_of OneType) es);
+  lbl = all_of_kind label_of (is_filled 256) (λ d. where_passes (is_filled 256) (as_text d)) (member_of (name_of_condition OneLabel) es);
+  ty = all_of_kind read_type_number (λ n. nat_le n 65_535) (λ d. where_passes (λ n. nat_le n 65_535) (as_count d)) (member_of (name_of_condition OneType) es);
 }

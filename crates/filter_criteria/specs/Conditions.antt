@@ -13,7 +13,8 @@ use Rattle.filter_criteria.specs.Values.{where_it, read_type_number}
 use Rattle.filter_criteria.specs.declared.condition.Condition.{Condition}
 use Rattle.filter_criteria.specs.declared.condition.Condition.TheVariants.{CreatedAfter}
 use Rattle.filter_criteria.specs.declared.condition.Condition.TheVariants.{CreatedBefore}
-use Rattle.filter_criteria.specs.declared.condition.Condition.TheVariants.{ExpireAfter, ExpireBefore}
+use Rattle.filter_criteria.specs.declared.condition.Condition.TheVariants.{ExpireAfter}
+use Rattle.filter_criteria.specs.declared.condition.Condition.TheVariants.{ExpireBefore}
 use Rattle.filter_criteria.specs.declared.condition.Condition.TheVariants.{Usage, OneLabel, Limit}
 use Rattle.filter_criteria.specs.declared.condition.Condition.TheVariants.{ModifiedSince}
 use Rattle.filter_criteria.specs.declared.condition.Condition.TheVariants.{StateTagBigger}
@@ -69,21 +70,21 @@ pub record ConditionRow : Type 0 where
 abbrev pub condition_row : List ℕ → Sort → ConditionRow
 condition_row name sort = record { name = name; sort = sort }
 
-abbrev pub row_of : Condition → ConditionRow
-row_of CreatedAfter = condition_row (codes "cra") Moment
-row_of CreatedBefore = condition_row (codes "crb") Moment
-row_of ExpireAfter = condition_row (codes "exa") Moment
-row_of ExpireBefore = condition_row (codes "exb") Moment
-row_of Usage = condition_row (codes "fu") Use
-row_of OneLabel = condition_row (codes "lbl") Labels
-row_of Limit = condition_row (codes "lim") Count
-row_of ModifiedSince = condition_row (codes "ms") Moment
-row_of StateTagBigger = condition_row (codes "stb") Count
-row_of StateTagSmaller = condition_row (codes "sts") Count
-row_of SizeAbove = condition_row (codes "sza") Count
-row_of SizeBelow = condition_row (codes "szb") Count
-row_of OneType = condition_row (codes "ty") Types
-row_of UnmodifiedSince = condition_row (codes "us") Moment
+abbrev pub row_of_condition : Condition → ConditionRow
+row_of_condition CreatedAfter = condition_row (codes "cra") Moment
+row_of_condition CreatedBefore = condition_row (codes "crb") Moment
+row_of_condition ExpireAfter = condition_row (codes "exa") Moment
+row_of_condition ExpireBefore = condition_row (codes "exb") Moment
+row_of_condition Usage = condition_row (codes "fu") Use
+row_of_condition OneLabel = condition_row (codes "lbl") Labels
+row_of_condition Limit = condition_row (codes "lim") Count
+row_of_condition ModifiedSince = condition_row (codes "ms") Moment
+row_of_condition StateTagBigger = condition_row (codes "stb") Count
+row_of_condition StateTagSmaller = condition_row (codes "sts") Count
+row_of_condition SizeAbove = condition_row (codes "sza") Count
+row_of_condition SizeBelow = condition_row (codes "szb") Count
+row_of_condition OneType = condition_row (codes "ty") Types
+row_of_condition UnmodifiedSince = condition_row (codes "us") Moment
 
 -- all conditions, in byte order of their short names
 abbrev pub all_conditions : List Condition
@@ -92,12 +93,13 @@ all_conditions =
     ModifiedSince ∷ StateTagBigger ∷ StateTagSmaller ∷ SizeAbove ∷ SizeBelow ∷ OneType ∷
     UnmodifiedSince ∷ []
 
-abbrev pub name_of : Condition → List ℕ
-name_of condition = (row_of condition).name
+abbrev pub name_of_condition : Condition → List ℕ
+name_of_condition condition = (row_of_condition condition).name
 
 -- the condition of a short name
 abbrev pub condition_named : List ℕ → Option Condition
-condition_named name = find (λ condition. bytes_eq (name_of condition) name) all_conditions
+condition_named name =
+    find (λ condition. bytes_eq (name_of_condition condition) name) all_conditions
 
 -- the value is of the sort
 abbrev pub is_of : Sort → Data → Bool
@@ -110,7 +112,8 @@ is_of Use d = is_some (read_usage d)
 -- the member is a condition, and its value of the sort of it
 abbrev pub is_condition : Entry → Bool
 is_condition e =
-    option_map_or (λ condition. is_of (row_of condition).sort e.1) (condition_named e.0) false
+    option_map_or (λ condition. is_of (row_of_condition condition).sort e.1)
+        (condition_named e.0) false
 
 -- an object of conditions
 abbrev pub is_filter : Data → Bool
@@ -119,23 +122,23 @@ is_filter d = option_map_or (λ es. list_all is_condition es) (as_object d) fals
 -- ---- the filter that the members make
 
 abbrev pub moment_for : Condition → List Entry → Option ℕ
-moment_for condition es = option_and_then read_moment (member_of (name_of condition) es)
+moment_for condition es = option_and_then read_moment (member_of (name_of_condition condition) es)
 
 abbrev pub count_for : Condition → List Entry → Option ℕ
-count_for condition es = option_and_then as_count (member_of (name_of condition) es)
+count_for condition es = option_and_then as_count (member_of (name_of_condition condition) es)
 
 abbrev pub usage_in : List Entry → Option FilterUsage
-usage_in es = option_and_then read_usage (member_of (name_of Usage) es)
+usage_in es = option_and_then read_usage (member_of (name_of_condition Usage) es)
 
 -- the labels of the value at `lbl`, if there is one
 abbrev pub labels_of : Option Data → List (List ℕ)
 labels_of d = option_map_or (all_of label_of) d []
 
 abbrev pub labels_in : List Entry → List (List ℕ)
-labels_in es = labels_of (member_of (name_of OneLabel) es)
+labels_in es = labels_of (member_of (name_of_condition OneLabel) es)
 
 abbrev pub types_in : List Entry → List ℕ
-types_in es = option_map_or (all_of read_type_number) (member_of (name_of OneType) es) []
+types_in es = option_map_or (all_of read_type_number) (member_of (name_of_condition OneType) es) []
 
 abbrev pub filter_in : List Entry → FilterParts
 filter_in es = record {

@@ -1,7 +1,7 @@
 -- Filters as values (TS-0004, 8.2.5): the conditions that are there, in byte order of their names.
 use Rattle.std.specs.Prelude.{ℕ, ℤ, pos, List, [], ◌∷◌, map, Option, Some, None, option_map}
 use Rattle.m2m_value.specs.Data.{Data, number, text, list, elements_of}
-use Rattle.filter_criteria.specs.Conditions.{all_conditions, name_of}
+use Rattle.filter_criteria.specs.Conditions.{all_conditions, name_of_condition}
 use Rattle.filter_criteria.specs.Values.{NamedValue, object_of, count_data, moment_data}
 use Rattle.filter_criteria.specs.declared.condition.Condition.{Condition}
 use Rattle.filter_criteria.specs.declared.condition.Condition.TheVariants.{CreatedAfter}
@@ -45,8 +45,8 @@ condition_value f SizeBelow = option_map count_data f.szb
 condition_value f OneType = filled_list (map count_data f.ty)
 condition_value f UnmodifiedSince = option_map moment_data f.us
 
-abbrev pub condition_row : FilterParts → Condition → NamedValue
-condition_row f condition = (name_of condition, condition_value f condition)
+abbrev pub written_condition : FilterParts → Condition → NamedValue
+written_condition f condition = (name_of_condition condition, condition_value f condition)
 
 abbrev pub written_filter : FilterParts → Data
-written_filter f = object_of (map (condition_row f) all_conditions)
+written_filter f = object_of (map (written_condition f) all_conditions)

@@ -66,8 +66,8 @@ impl Condition {
 
     /// Its row of the table.
     fn row(self) -> Row
-        ensures name { result.name.now ≡ (spec.row_of self).name }
-        ensures sort { result.sort ≡ (spec.row_of self).sort }
+        ensures name { result.name.now ≡ (spec.row_of_condition self).name }
+        ensures sort { result.sort ≡ (spec.row_of_condition self).sort }
     {
         let (name, sort) = match self {
             CreatedAfter => ("cra", Sort::Moment),
@@ -90,14 +90,14 @@ impl Condition {
 
     /// Its short name (TS-0004, 8.2.5).
     pub fn name(self) -> &'static str
-        ensures { result.now ≡ spec.name_of self }
+        ensures { result.now ≡ spec.name_of_condition self }
     {
         self.row().name
     }
 
     /// What its value is.
     pub fn sort(self) -> Sort
-        ensures { result ≡ (spec.row_of self).sort }
+        ensures { result ≡ (spec.row_of_condition self).sort }
     {
         self.row().sort
     }

@@ -27,8 +27,8 @@ use Rattle.http_frames.specs.declared.frame.Start.TheVariants.{Answer}
 use Rattle.http_frames.specs.Lines.{Line, is_same_name, values_named}
 use Rattle.http_frames.specs.Body.{counted, minor_of, framing_of, framing_of_values, is_length, CarriesBody}
 use Rattle.http_frames.specs.Frame.{body_limit}
-use Rattle.http_frames.specs.Stream.{BeginsWith}
-use Rattle.http_frames.specs.Text.{phrase_of, start_text, line_text, frame_text, IsLine, IsSound}
+use Rattle.http_frames.specs.Stream.{BeginsWithFrame}
+use Rattle.http_frames.specs.Text.{phrase_of, start_text, line_text, frame_text, IsLine, IsSoundFrame}
 use Rattle.http_frames.proofs.TextLemmas.{written_is_read}
 use Rattle.http_binding.specs.declared.headers.Field.TheVariants.{Id, ContentType}
 use Rattle.http_binding.specs.Headers.{field_name, code_field, length_field, connection_field}
@@ -183,7 +183,7 @@ lines_length (line ∷ lines) all =
 start_length : (http : ℕ) → http < 1000 → length (start_text (Answer http 1)) ≤ 120
 start_length http small = omega (arith, length-append (phrase_of http) (13 ∷ 10 ∷ []), phrase_short http small)
 
-pub reply_sound : (reply : ReplyParts) (close : Bool) → IsWithinLimits reply → IsSound Reply (reply_frame reply close)
+pub reply_sound : (reply : ReplyParts) (close : Bool) → IsWithinLimits reply → IsSoundFrame Reply (reply_frame reply close)
 reply_sound reply close h =
     let http = (rsc_row reply.rsc).http in
     let size = length (body_of reply.pc) in
@@ -199,7 +199,7 @@ reply_sound reply close h =
       body = subst (λ f. CarriesBody (body_limit Reply) f (body_of reply.pc) (body_of reply.pc)) (sym framing) (refl, refl, h.body);
     }
 
-pub read_back : (reply : ReplyParts) (close : Bool) → IsWithinLimits reply → (rest : List ℕ) → BeginsWith Reply (reply_text reply close ++ rest) (reply_frame reply close) rest
+pub read_back : (reply : ReplyParts) (close : Bool) → IsWithinLimits reply → (rest : List ℕ) → BeginsWithFrame Reply (reply_text reply close ++ rest) (reply_frame reply close) rest
 read_back reply close h rest = record {
   bytes = frame_text (reply_frame reply close);
   is_frame = written_is_read Reply (reply_frame reply close) (reply_sound reply close h);

@@ -9,8 +9,8 @@ use Rattle.primitive_json.specs.declared.reply.ReplyParts.{ReplyParts}
 use Rattle.http_frames.specs.declared.frame.Frame.{Frame}
 use Rattle.http_frames.specs.declared.frame.Side.TheVariants.{Reply}
 use Rattle.http_frames.specs.Frame.{body_limit}
-use Rattle.http_frames.specs.Stream.{BeginsWith}
-use Rattle.http_frames.specs.Text.{IsSound}
+use Rattle.http_frames.specs.Stream.{BeginsWithFrame}
+use Rattle.http_frames.specs.Text.{IsSoundFrame}
 use Rattle.http_binding.specs.Binding.{Binds, echo_of}
 use Rattle.http_binding.specs.Replying.{body_of, reply_frame, reply_text}
 
@@ -56,6 +56,6 @@ pub record IsWithinLimits (reply : ReplyParts) : Type 0 where
 abbrev pub ReplyIsReadBack : Type 0
 ReplyIsReadBack =
     (reply : ReplyParts) (close : Bool) → IsWithinLimits reply
-    → IsSound Reply (reply_frame reply close)
+    → IsSoundFrame Reply (reply_frame reply close)
     × ((rest : List ℕ)
-    → BeginsWith Reply (reply_text reply close ++ rest) (reply_frame reply close) rest)
+    → BeginsWithFrame Reply (reply_text reply close ++ rest) (reply_frame reply close) rest)

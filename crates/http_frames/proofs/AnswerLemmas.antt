@@ -7,10 +7,10 @@ use Rattle.http_frames.specs.declared.frame.Next.{Next}
 use Rattle.http_frames.specs.declared.frame.Next.TheVariants.{Message, End}
 use Rattle.http_frames.specs.declared.fault.FrameFault.{FrameFault}
 use Rattle.http_frames.specs.declared.fault.FrameFault.TheVariants.{NoFrame, ReadFault, OutOfMemory}
-use Rattle.http_frames.specs.Stream.{BeginsWith, HasNoFrame, Frames}
-use Rattle.http_frames.specs.Inbox.{Reads, Gives, GivesAsNeeded, HoldsNoFrame, IfMessage, UnlessMessage, AnswersNext, GivesNext, stream_of, most_held}
+use Rattle.http_frames.specs.Stream.{BeginsWithFrame, HasNoFrame, Frames}
+use Rattle.http_frames.specs.Inbox.{Reads, GivesFrame, GivesAsNeeded, HoldsNoFrame, IfMessage, UnlessMessage, AnswersNext, GivesNext, stream_of, most_held}
 use Rattle.http_frames.specs.Waiting.{piece_limit, ReadsAsNeeded}
-use Rattle.http_frames.proofs.FrameLemmas.{BeginsWith_unique, BeginsWith-append}
+use Rattle.http_frames.proofs.FrameLemmas.{BeginsWith_unique, BeginsWithFrame-append}
 use Rattle.http_frames.proofs.LookLemmas.{some_bytes}
 use Rattle.http_frames.proofs.InboxLemmas.{none_within}
 use Rattle.http_frames.proofs.WaitLemmas.{little_left, stays_small}
@@ -25,10 +25,10 @@ some_append [] ys some e = some refl
 some_append (x ∷ xs) ys some e = cc
 
 after_message : (side : Side) (stream now : List ℕ) (frame : Frame) (frames : List Frame) (tail : List ℕ)
-    → BeginsWith side stream frame now → Frames side stream frames tail
+    → BeginsWithFrame side stream frame now → Frames side stream frames tail
     → (later : List Frame) × (frames ≡ frame ∷ later) × Frames side now later tail
 after_message side stream now frame [] tail begins f =
-    absurd (f.1 frame now (subst (λ (v : List ℕ). BeginsWith side v frame now) f.0 begins))
+    absurd (f.1 frame now (subst (λ (v : List ℕ). BeginsWithFrame side v frame now) f.0 begins))
 after_message side stream now frame (g ∷ gs) tail begins f =
     let same = BeginsWith_unique side stream frame g now f.0 begins f.1 in
     (gs, sym (ap (λ h. h ∷ gs) same.0), subst (λ (v : List ℕ). Frames side v gs tail) (sym same.1) f.2)
@@ -44,15 +44,15 @@ nothing_begins side = none_within side [] 1 (some_bytes side []) (omega arith)
 
 -- the answer by what it says of the bytes held and left
 answers_told : (side : Side) (result : Result Next FrameFault) (s t held now : List ℕ)
-    → IfMessage result (Gives side (Some s) (Some t) held now) → UnlessMessage result (Reads (Some s) (Some t) held now)
+    → IfMessage result (GivesFrame side (Some s) (Some t) held now) → UnlessMessage result (Reads (Some s) (Some t) held now)
     → (result ≡ Ok End → (now ≡ []) × IsAtEnd (Some t)) → (result ≡ Err NoFrame → HoldsNoFrame side now (Some t))
     → (frames : List Frame) (tail : List ℕ) → Frames side (held ++ s) frames tail
     → AnswersNext side result frames tail (Some (now ++ t))
 answers_told side (Ok (Message frame)) s t held now message kept end none frames tail f =
     let stream = same_stream s t held message.all message.reads in
-    let begins = BeginsWith-append side message.all frame now t message.begins in
+    let begins = BeginsWithFrame-append side message.all frame now t message.begins in
     after_message side (held ++ s) (now ++ t) frame frames tail
-    (subst (λ (v : List ℕ). BeginsWith side v frame (now ++ t)) (sym stream) begins) f
+    (subst (λ (v : List ℕ). BeginsWithFrame side v frame (now ++ t)) (sym stream) begins) f
 answers_told side (Ok End) s t held now message kept end none frames tail f =
     let ended = end refl in
     let empty : held ++ s ≡ [] = same_stream s t held now kept ∙ (λ i. ended.0 i ++ ended.1 i) in
@@ -70,7 +70,7 @@ answers_told side (Err OutOfMemory) s t held now message kept end none frames ta
 
 -- where the source told what it had left, it still does
 still_told : (side : Side) (result : Result Next FrameFault) (s held now : List ℕ)
-    → IfMessage result (Gives side (Some s) None held now) → UnlessMessage result (Reads (Some s) None held now) → ⊥
+    → IfMessage result (GivesFrame side (Some s) None held now) → UnlessMessage result (Reads (Some s) None held now) → ⊥
 still_told side (Ok (Message frame)) s held now message kept = message.reads.consumed
 still_told side (Ok End) s held now message kept = kept.consumed
 still_told side (Err NoFrame) s held now message kept = kept.consumed
@@ -78,7 +78,7 @@ still_told side (Err ReadFault) s held now message kept = kept.consumed
 still_told side (Err OutOfMemory) s held now message kept = kept.consumed
 
 pub gives_next : (side : Side) (result : Result Next FrameFault) (left rest : Option (List ℕ)) (held now : List ℕ)
-    → IfMessage result (Gives side left rest held now) → UnlessMessage result (Reads left rest held now)
+    → IfMessage result (GivesFrame side left rest held now) → UnlessMessage result (Reads left rest held now)
     → (result ≡ Ok End → (now ≡ []) × IsAtEnd rest) → (result ≡ Err NoFrame → HoldsNoFrame side now rest)
     → GivesNext side (stream_of held left) result (stream_of now rest)
 gives_next side result None rest held now message kept end none = tt
@@ -88,7 +88,7 @@ gives_next side result (Some s) (Some t) held now message kept end none =
 
 -- what a message of which each read was needed leaves
 pub message_given : {S : Type 0} (side : Side) (left rest : Option (List ℕ)) (held now : List ℕ) (src after : S) (result : Result Next FrameFault)
-    → IfMessage result (GivesAsNeeded side left rest held now src after) → IfMessage result (Gives side left rest held now)
+    → IfMessage result (GivesAsNeeded side left rest held now src after) → IfMessage result (GivesFrame side left rest held now)
 message_given side left rest held now src after (Ok (Message frame)) g = g.given
 message_given side left rest held now src after (Ok End) g = tt
 message_given side left rest held now src after (Err fault) g = tt

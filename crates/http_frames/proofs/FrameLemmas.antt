@@ -15,7 +15,7 @@ use Rattle.http_frames.specs.Chunks.{Announces, Chunk, chunk_text, chunks_text, 
 use Rattle.httparse.specs.Grammar.{ChunkLine, print_chunk_line, chunk_size}
 use Rattle.httparse.proofs.ChunkLemmas.{chunk_line_unique}
 use Rattle.http_frames.specs.Frame.{IsHead, IsFrame, body_limit}
-use Rattle.http_frames.specs.Stream.{BeginsWith, Frames, FramesAreUnique, NoFrameBeginsAnother}
+use Rattle.http_frames.specs.Stream.{BeginsWithFrame, Frames, FramesAreUnique, NoFrameBeginsAnother}
 
 -- two heads at the front of one stream are one head, with one rest
 pub IsHead_unique : (side : Side) (text other : List ℕ) (start begin : Start) (lines rows : List Line)
@@ -125,15 +125,15 @@ IsFrame_unique side bytes other f g r q a b e =
     (a.bytes_are ∙ cc (heads.2, bodies.0) ∙ sym b.bytes_are, frame_same f g heads.0 heads.1 bodies.1, bodies.2)
 
 pub BeginsWith_unique : (side : Side) (stream : List ℕ) (f g : Frame) (r q : List ℕ)
-    → BeginsWith side stream f r → BeginsWith side stream g q → (f ≡ g) × (r ≡ q)
+    → BeginsWithFrame side stream f r → BeginsWithFrame side stream g q → (f ≡ g) × (r ≡ q)
 BeginsWith_unique side stream f g r q a b =
     let same = IsFrame_unique side a.bytes b.bytes f g r q a.is_frame b.is_frame (sym a.stream_is ∙ b.stream_is) in
     (same.1, same.2)
 
 -- what follows the stream follows the rest
-pub BeginsWith-append : (side : Side) (stream : List ℕ) (f : Frame) (rest more : List ℕ)
-    → BeginsWith side stream f rest → BeginsWith side (stream ++ more) f (rest ++ more)
-BeginsWith-append side stream f rest more a = record {
+pub BeginsWithFrame-append : (side : Side) (stream : List ℕ) (f : Frame) (rest more : List ℕ)
+    → BeginsWithFrame side stream f rest → BeginsWithFrame side (stream ++ more) f (rest ++ more)
+BeginsWithFrame-append side stream f rest more a = record {
   bytes = a.bytes;
   is_frame = a.is_frame;
   stream_is = ap (λ t. t ++ more) a.stream_is ∙ append_assoc a.bytes rest more;
@@ -141,8 +141,8 @@ BeginsWith-append side stream f rest more a = record {
 
 pub Frames_unique : FramesAreUnique
 Frames_unique side stream [] [] rest other a b = (refl, sym a.0 ∙ b.0)
-Frames_unique side stream [] (g ∷ gs) rest other a b = absurd (a.1 g b.0 (subst (λ (s : List ℕ). BeginsWith side s g b.0) a.0 b.1))
-Frames_unique side stream (f ∷ fs) [] rest other a b = absurd (b.1 f a.0 (subst (λ (s : List ℕ). BeginsWith side s f a.0) b.0 a.1))
+Frames_unique side stream [] (g ∷ gs) rest other a b = absurd (a.1 g b.0 (subst (λ (s : List ℕ). BeginsWithFrame side s g b.0) a.0 b.1))
+Frames_unique side stream (f ∷ fs) [] rest other a b = absurd (b.1 f a.0 (subst (λ (s : List ℕ). BeginsWithFrame side s f a.0) b.0 a.1))
 Frames_unique side stream (f ∷ fs) (g ∷ gs) rest other a b =
     let first = BeginsWith_unique side stream f g a.0 b.0 a.1 b.1 in
     let later = Frames_unique side b.0 fs gs rest other

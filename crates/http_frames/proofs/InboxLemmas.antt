@@ -6,7 +6,7 @@ use Rattle.httparse.specs.declared.spans.HeaderSpan.{HeaderSpan}
 use Rattle.m2m_io.specs.Counts.{Rose}
 use Rattle.http_frames.specs.declared.frame.Side.{Side}
 use Rattle.http_frames.specs.declared.look.FrameSpans.{FrameSpans}
-use Rattle.http_frames.specs.Stream.{BeginsWith, HasNoFrame}
+use Rattle.http_frames.specs.Stream.{BeginsWithFrame, HasNoFrame}
 use Rattle.http_frames.specs.Spans.{frame_at, IsFrameAt, NeedsBytes, CanNotBegin}
 use Rattle.http_frames.specs.Inbox.{Reads, HoldsNoFrame}
 

@@ -17,7 +17,7 @@ use Rattle.http_frames.specs.declared.frame.Start.{Start}
 use Rattle.http_frames.specs.declared.frame.Start.TheVariants.{Ask, Answer}
 use Rattle.http_frames.specs.Lines.{Line}
 use Rattle.http_frames.specs.Frame.{IsFrame}
-use Rattle.http_frames.specs.Text.{phrase_of, version_text, status_digits, line_text, head_text, frame_text, IsLine, IsSound, WrittenIsRead}
+use Rattle.http_frames.specs.Text.{phrase_of, version_text, status_digits, line_text, head_text, frame_text, IsLine, IsSoundFrame, WrittenIsRead}
 
 unwrap_now : (r : Option (Bor (List ℕ))) (d : Bor (List ℕ)) → (unwrap_or r d).now ≡ unwrap_or (option_map (λ s. s.now) r) d.now
 unwrap_now None d = refl
@@ -176,7 +176,7 @@ phrase_valid status =
     ]
 
 written_by : (side : Side) (start : Start) (lines : List Line) (body : List ℕ)
-    → IsSound side (record { start = start; lines = lines; body = body })
+    → IsSoundFrame side (record { start = start; lines = lines; body = body })
     → IsFrame side (frame_text (record { start = start; lines = lines; body = body })) (record { start = start; lines = lines; body = body })
 written_by Request (Ask method target minor) lines body s = record {
   head = head_text (record { start = Ask method target minor; lines = lines; body = body });

@@ -41,7 +41,7 @@ plain_reply = record { start = Answer 200 1; lines = []; body = [] }
 slash_is_utf8 : IsUtf8 (codes "/")
 slash_is_utf8 = IsUtf8-from_ascii (codes "/") (IsAscii-from_all (codes "/") (All-cons (λ b. b < 128) 47 [] (omega arith) (All-nil (λ b. b < 128))))
 
-request_sound : IsSound Request plain_request
+request_sound : IsSoundFrame Request plain_request
 unfolding is_token_byte
 request_sound = record {
   start = ((omega arith, AllPass-from_list_all is_token_byte (codes "GET") refl), omega arith, AllPass-from_list_all is_uri_byte (codes "/") refl, slash_is_utf8, omega arith);
@@ -51,7 +51,7 @@ request_sound = record {
   body = (refl, refl, omega arith);
 }
 
-reply_sound : IsSound Reply plain_reply
+reply_sound : IsSoundFrame Reply plain_reply
 unfolding phrase_of
 reply_sound = record {
   start = (omega arith, omega arith);
@@ -277,9 +277,9 @@ taken side left rest held all now src after headers body spans frame reads neede
 
 -- a message that had to be read leaves less than a piece
 pub little_left : {S : Type 0} (side : Side) (first all now : List ℕ) (src after : S) (frame : Frame)
-    → ReadsAsNeeded side first all src after → BeginsWith side all frame now → HasNoFrame side first → length now < piece_limit
+    → ReadsAsNeeded side first all src after → BeginsWithFrame side all frame now → HasNoFrame side first → length now < piece_limit
 little_left side first all now src after frame (inl same) begins none =
-    absurd (none frame now (subst (λ (v : List ℕ). BeginsWith side v frame now) same.0 begins))
+    absurd (none frame now (subst (λ (v : List ℕ). BeginsWithFrame side v frame now) same.0 begins))
 little_left side first all now src after frame (inr read) begins none =
     let before = first ++ read.earlier in
     let same : before ++ read.piece ≡ begins.bytes ++ now = sym read.all_is ∙ begins.stream_is in

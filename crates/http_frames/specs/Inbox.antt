@@ -10,7 +10,7 @@ use Rattle.http_frames.specs.declared.fault.FrameFault.{FrameFault}
 use Rattle.http_frames.specs.declared.fault.FrameFault.TheVariants.{NoFrame, ReadFault, OutOfMemory}
 use Rattle.http_frames.specs.Body.{carried_limit}
 use Rattle.http_frames.specs.Frame.{head_limit, body_limit}
-use Rattle.http_frames.specs.Stream.{BeginsWith, HasNoFrame, Frames}
+use Rattle.http_frames.specs.Stream.{BeginsWithFrame, HasNoFrame, Frames}
 use Rattle.http_frames.specs.Waiting.{piece_limit, ReadsAsNeeded}
 
 -- the bytes that were read and aren't given yet, and whether no frame can be given any more
@@ -53,18 +53,18 @@ most_held side = head_limit + carried_limit (body_limit side) + piece_limit
 
 -- The frame stood in front of what is held now, in the bytes held before and those that the
 -- source gave, which were few where those were.
-pub record Gives
+pub record GivesFrame
     (side : Side) (left rest : Option (List ℕ)) (held now : List ℕ) (frame : Frame) : Type 0 where
   pub all : List ℕ
   pub reads : Reads left rest held all
   pub few : length held < most_held side → length all < most_held side
-  pub begins : BeginsWith side all frame now
+  pub begins : BeginsWithFrame side all frame now
 
 -- The same, and each read of the source was needed.
 pub record GivesAsNeeded {S : Type 0}
     (side : Side) (left rest : Option (List ℕ)) (held now : List ℕ) (src after : S)
     (frame : Frame) : Type 0 where
-  pub given : Gives side left rest held now frame
+  pub given : GivesFrame side left rest held now frame
   pub needed : ReadsAsNeeded side held given.all src after
 
 -- Some bytes are left, and no frame stands at their front: not in those held, nor in these and
@@ -104,7 +104,7 @@ pub record TakesNext
   pub frames : old.refused ≡ false
       → GivesNext side (stream_of old.held left) result (stream_of new.held rest)
   -- a frame stood in front of what is held now, and else all that was read is held
-  pub message : IfMessage result (Gives side left rest old.held new.held)
+  pub message : IfMessage result (GivesFrame side left rest old.held new.held)
   pub kept : UnlessMessage result (Reads left rest old.held new.held)
   -- the end comes once nothing is held and the source has nothing left
   pub end : result ≡ Ok End → (new.held ≡ []) × IsAtEnd rest

@@ -5,24 +5,22 @@ use Rattle.http_frames.specs.declared.frame.Frame.{Frame}
 use Rattle.http_frames.specs.Frame.{IsFrame}
 
 -- The stream is the bytes of this frame, and then a rest.
-pub record BeginsWith (side : Side) (stream : List ℕ) (frame : Frame) (rest : List ℕ) : Type 0 where
+pub record BeginsWithFrame
+    (side : Side) (stream : List ℕ) (frame : Frame) (rest : List ℕ) : Type 0 where
   pub bytes : List ℕ
   pub is_frame : IsFrame side bytes frame
   pub stream_is : stream ≡ bytes ++ rest
 
--- some frame stands at the front of the stream
-abbrev pub HasFrame : Side → List ℕ → Type 0
-HasFrame side stream = (frame : Frame) × (rest : List ℕ) × BeginsWith side stream frame rest
-
 -- no prefix of the stream is a frame
 abbrev pub HasNoFrame : Side → List ℕ → Type 0
-HasNoFrame side stream = (frame : Frame) (rest : List ℕ) → ¬ (BeginsWith side stream frame rest)
+HasNoFrame side stream =
+    (frame : Frame) (rest : List ℕ) → ¬ (BeginsWithFrame side stream frame rest)
 
 -- The stream is these frames one after another, and then a rest that begins with none.
 abbrev pub Frames : Side → List ℕ → List Frame → List ℕ → Type 0
 Frames side stream [] rest = (stream ≡ rest) × HasNoFrame side rest
 Frames side stream (frame ∷ frames) rest =
-    (after : List ℕ) × BeginsWith side stream frame after × Frames side after frames rest
+    (after : List ℕ) × BeginsWithFrame side stream frame after × Frames side after frames rest
 
 -- A stream has one list of frames, and one rest.
 abbrev pub FramesAreUnique : Type 0

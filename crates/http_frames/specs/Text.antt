@@ -64,7 +64,7 @@ IsLine line = IsToken line.0 × AllPass is_value_byte line.1 × (trim_ows line.1
 
 -- A message of the grammar and within the limits, whose body has the length that its lines
 -- announce.
-pub record IsSound (side : Side) (frame : Frame) : Type 0 where
+pub record IsSoundFrame (side : Side) (frame : Frame) : Type 0 where
   pub start : IsStart side frame.start
   pub lines : All IsLine frame.lines
   pub head_fits : length (head_text frame) ≤ head_limit
@@ -75,4 +75,4 @@ pub record IsSound (side : Side) (frame : Frame) : Type 0 where
 -- What is written of a sound message is read as that message.
 abbrev pub WrittenIsRead : Type 0
 WrittenIsRead =
-    (side : Side) (frame : Frame) → IsSound side frame → IsFrame side (frame_text frame) frame
+    (side : Side) (frame : Frame) → IsSoundFrame side frame → IsFrame side (frame_text frame) frame

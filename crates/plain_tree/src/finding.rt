@@ -1,8 +1,9 @@
 // What a list of resources has, found by a walk.
 ghost use Rattle.std.specs.Prelude.{◌≡◌, ◌^◌, ◌<◌, length, find, reverse};
-ghost use Rattle.tree_model.specs.Tree.{is_child, is_kin, is_ae, is_cse, number_of, number_at};
+ghost use Rattle.tree_model.specs.Tree.{is_child, is_kin, is_ae, is_cse, resource_number};
+ghost use Rattle.tree_model.specs.Tree.{number_at};
 ghost use Rattle.tree_model.specs.Tree.{last_number, children_of, child_of, ae_of, cse_of, kin_of};
-ghost use Rattle.tree_model.specs.Tree.{instances_of, size_of, sizes_of, channel_of};
+ghost use Rattle.tree_model.specs.Tree.{instances_of, instance_size, sizes_of, channel_of};
 
 use m2m_names::{Attr, Ty};
 use resource_model::Resource;
@@ -38,7 +39,7 @@ fn is_cse(resource: &Resource, csi: &[u8]) -> bool
 }
 
 fn size_in_bytes(resource: &Resource) -> u64
-    ensures value { result ≡ size_of resource.now }
+    ensures value { result ≡ instance_size resource.now }
     ensures bound { result < 2 ^ 63 }
 {
     resource.attrs().count(Attr::Cs).unwrap_or(0)
@@ -118,7 +119,7 @@ pub(crate) fn last_kin_in(resources: &[Resource], ty: Ty, parent: u64) -> Option
 }
 
 fn first_from_the_end(resources: &[Resource], ty: Ty, parent: u64) -> Option<u64>
-    ensures { result ≡ number_of (find (is_kin ty parent) (reverse resources.now)) }
+    ensures { result ≡ resource_number (find (is_kin ty parent) (reverse resources.now)) }
 {
     let found = resources.iter().rev().find(|r| is_kin(r, ty, parent))?;
     Some(found.number())

@@ -5,7 +5,7 @@ ghost use Rattle.m2m_names.specs.Stamps.{last_moment};
 ghost use Rattle.m2m_names.specs.declared.attributes.Attr.TheVariants.{St};
 ghost use Rattle.resource_model.specs.Attributes.{value_of};
 ghost use Rattle.resource_model.specs.Resource.{ResourceData, has_number};
-ghost use Rattle.tree_model.specs.Tree.{at, due, are_quiet, live, replaced, restamped, fits};
+ghost use Rattle.tree_model.specs.Tree.{at, due, are_quiet, live, replaced, restamped, may_stand};
 ghost use Rattle.tree_model.specs.Tree.{restamped_at, has_state, without, is_tree, standing};
 ghost use Rattle.tree_model.specs.Tree.{AreAscending};
 
@@ -111,7 +111,7 @@ impl Nodes {
     /// Puts a resource last. Its number is greater than every other, its parent is there (or it is
     /// the CSEBase and the first), and its name, its AE-ID and its CSE-ID are free.
     pub fn push(&mut self, resource: Resource) -> Result<(), (Resource, OutOfMemory)>
-        requires { IsTrue (fits self.old resource) }
+        requires { IsTrue (may_stand self.old resource) }
         ensures ok { OnOk result (self.new ≡ self.old ++ resource ∷ []) }
         ensures err { OnErr result (self.new ≡ self.old) }
         ensures back { IfErr result (λ e. e.0 ≡ resource) }

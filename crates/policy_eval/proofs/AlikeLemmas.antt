@@ -18,14 +18,14 @@ use Rattle.resource_model.specs.Home.{HomeData}
 use Rattle.resource_model.specs.Resource.{ResourceData, is_ty, has_number, ae_id}
 use Rattle.tree_model.specs.Tree.{at, has, is_child, child_of, replaced, stays, staying, without}
 use Rattle.policy_eval.specs.Alike.{Alike, AreAlike, FindAlike}
-use Rattle.policy_eval.specs.Rules.{only, Rule, rule_for, all_bits, rules_in, policy_number, policy_at, policy_named, policy_of, policies_of, joined, elements_in, ids_at, lists_ids, registree, linked_rules, channel_rules, rules_of, fan_rules, link_rules}
-use Rattle.policy_eval.specs.Rights.{is_among, with_rule, with_rules, bits_by, do_give, update_bit, grants, relinks, fan_grants}
+use Rattle.policy_eval.specs.Rules.{only, Rule, rule_for, all_bits, rules_in, policy_number, policy_at, policy_named, policy_of, policies_of, rules_by, listed_in, ids_at, lists_ids, registree, linked_rules, channel_rules, rules_of, fan_rules, link_rules}
+use Rattle.policy_eval.specs.Rights.{is_subject, with_rule, with_rules, bits_by, do_give, update_bit, grants, relinks, fan_grants}
 use Rattle.policy_eval.proofs.BitLemmas.{with_rules-append}
 
 -- ---- bits that are joined from the left are a union
 
 with_rule-zero : (home : HomeData) (o : List ℕ) (a : ℕ) (rule : Rule) → with_rule home o a rule ≡ bit_or a (with_rule home o 0 rule)
-with_rule-zero home o a rule = elim (cases_Bool (is_among home o rule.subjects)) [
+with_rule-zero home o a rule = elim (cases_Bool (is_subject home o rule.subjects)) [
   | inl t ↦ rw t (same_from_bits _ _ (λ i. omega (arith, bit_at_or a rule.bits i, bit_at_or a (bit_or 0 rule.bits) i, bit_at_or 0 rule.bits i, bit_at-zero i)))
   | inr f ↦ rw f (same_from_bits _ _ (λ i. omega (arith, bit_at_or a 0 i, bit_at-zero i)))
 ]
@@ -162,7 +162,7 @@ module _ (home : HomeData) (o : List ℕ) where
   ty-alike s r alike t = ap (λ x. is_ty x t) alike.ty
 
   pub ids-alike : (attr : Attr) (s r : ResourceData) → value_of attr s.attrs ≡ value_of attr r.attrs → ids_at attr s ≡ ids_at attr r
-  ids-alike attr s r same = ap elements_in same
+  ids-alike attr s r same = ap listed_in same
 
   pub ae_id-alike : (s r : ResourceData) → Alike home o s r → ae_id s ≡ ae_id r
   ae_id-alike s r alike = elim (cases_Bool (is_ty r.ty Ae)) [
@@ -265,7 +265,7 @@ module _ (home : HomeData) (o : List ℕ) where
         by_text None = tt
         by_text (Some text) = by_number (policy_number text)
 
-    same_joined : (attr : Attr) → ((s r : ResourceData) → Alike home o s r → is_ty r.ty AccessControlPolicy ≡ true → GiveSame home o (by_list attr s) (by_list attr r)) → (ids : List Data) (a : ℕ) → with_rules home o a (joined attr ss ids) ≡ with_rules home o a (joined attr rs ids)
+    same_joined : (attr : Attr) → ((s r : ResourceData) → Alike home o s r → is_ty r.ty AccessControlPolicy ≡ true → GiveSame home o (by_list attr s) (by_list attr r)) → (ids : List Data) (a : ℕ) → with_rules home o a (rules_by attr ss ids) ≡ with_rules home o a (rules_by attr rs ids)
     same_joined attr same [] a = refl
     same_joined attr same (id ∷ ids) a =
         same_policies (by_list attr) same (policy_of ss id) (policy_of rs id) (policy_of-alike id) (policies_of ss ids) (policies_of rs ids) (same_joined attr same ids) a

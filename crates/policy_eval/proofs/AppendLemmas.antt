@@ -13,14 +13,14 @@ use Rattle.m2m_value.specs.View.{as_text}
 use Rattle.resource_model.specs.Attributes.{value_of}
 use Rattle.resource_model.specs.Home.{HomeData}
 use Rattle.resource_model.specs.Resource.{ResourceData, is_ty, has_number}
-use Rattle.tree_model.specs.Tree.{at, due, due_under, fits, fits_in, is_taken, is_well_formed}
+use Rattle.tree_model.specs.Tree.{at, due, due_under, may_stand, fits_in, is_taken, is_well_formed}
 use Rattle.tree_model.proofs.GrowthLemmas.{IsNext, below_has, grows-append, next_fits, stands, tree_from_well_formed}
 use Rattle.tree_model.proofs.TreeLemmas.{at-append, at_has, at_number}
 use Rattle.policy_eval.specs.Alike.{Alike, AreAlike, FindAlike}
 use Rattle.policy_eval.specs.Changes.{is_id_of, does_link, is_linked, learns_limits}
-use Rattle.policy_eval.specs.Rules.{elements_in, fan_rules, policy_number, policy_at, policy_named, policy_of}
+use Rattle.policy_eval.specs.Rules.{listed_in, fan_rules, policy_number, policy_at, policy_named, policy_of}
 use Rattle.policy_eval.specs.Rights.{bits_by, has_bits, update_bit}
-use Rattle.policy_eval.specs.Seen.{create_bit, retrieve_bit, may, fills, is_filled_in, seen, seen_list}
+use Rattle.policy_eval.specs.Seen.{create_bit, retrieve_bit, has_bit, fills, is_filled_in, seen, seen_list}
 use Rattle.policy_eval.proofs.AlikeLemmas.{alike_itself, append-alike, at-alike, fan_rules-alike, map_from_zip, rules-alike, ty-alike}
 use Rattle.policy_eval.proofs.DueLemmas.{due_base, due_other, in_container, or_none, same_fill, same_may}
 use Rattle.policy_eval.proofs.EqualLemmas.{same_alike}
@@ -51,14 +51,14 @@ module _ (home : HomeData) (o : List ℕ) (xs ys : List ResourceData) (same : se
 -- ---- on lists that are alike the originator may do the same with a resource
 
 module _ (home : HomeData) (o : List ℕ) (zs ws : List ResourceData) (all : AreAlike home o zs ws) where
-  may_alike : (p q : ResourceData) → Alike home o p q → (bit : ℕ) → may home zs o bit p ≡ may home ws o bit q
+  may_alike : (p q : ResourceData) → Alike home o p q → (bit : ℕ) → has_bit home zs o bit p ≡ has_bit home ws o bit q
   may_alike p q one bit = ap (λ bits. has_bits bits bit) ((rules-alike home o zs ws all p q one).bits 0)
 
   fills_alike : (p q : ResourceData) → Alike home o p q → fills home zs o p ≡ fills home ws o q
   fills_alike p q one =
-      ap (λ b. b && (may home zs o create_bit p || may home zs o update_bit p)) (ty-alike home o p q one Container)
-      ∙ ap (λ b. is_ty q.ty Container && (b || may home zs o update_bit p)) (may_alike p q one create_bit)
-      ∙ ap (λ b. is_ty q.ty Container && (may home ws o create_bit q || b)) (may_alike p q one 4)
+      ap (λ b. b && (has_bit home zs o create_bit p || has_bit home zs o update_bit p)) (ty-alike home o p q one Container)
+      ∙ ap (λ b. is_ty q.ty Container && (b || has_bit home zs o update_bit p)) (may_alike p q one create_bit)
+      ∙ ap (λ b. is_ty q.ty Container && (has_bit home ws o create_bit q || b)) (may_alike p q one 4)
 
   filled_alike : (p q : Option ResourceData) → FindAlike home o p q → option_map_or (fills home zs o) p false ≡ option_map_or (fills home ws o) q false
   filled_alike None None found = refl
@@ -73,7 +73,7 @@ module _ (home : HomeData) (o : List ℕ) (zs ws : List ResourceData) (all : Are
     inside = ap (λ b. is_ty r.ty ContentInstance && b) (filled_alike (at r.parent zs) (at r.parent ws) (at-alike home o zs ws all r.parent));
     uses =
         ap (λ b. is_ty r.ty Group && (b || nat_lt 0 (bits_by home o (fan_rules zs r)))) (may_alike r r (alike_itself home o r) 4)
-        ∙ ap (λ bits. is_ty r.ty Group && (may home ws o update_bit r || nat_lt 0 bits)) ((fan_rules-alike home o zs ws all r r (alike_itself home o r)).bits 0);
+        ∙ ap (λ bits. is_ty r.ty Group && (has_bit home ws o update_bit r || nat_lt 0 bits)) ((fan_rules-alike home o zs ws all r r (alike_itself home o r)).bits 0);
   }
 
 -- ---- the links to a policy are seen
@@ -83,8 +83,8 @@ linked_alike home o p [] [] all = refl
 linked_alike home o p [] (y ∷ ys) all = absurd all
 linked_alike home o p (x ∷ xs) [] all = absurd all
 linked_alike home o p (x ∷ xs) (y ∷ ys) all =
-    ap (λ (d : Option Data). (list_any (is_id_of p) (elements_in d) || list_any (is_id_of p) (elements_in (value_of Macp x.attrs))) || is_linked p xs) (all.0.shape Acpi refl)
-    ∙ ap (λ (d : Option Data). (list_any (is_id_of p) (elements_in (value_of Acpi y.attrs)) || list_any (is_id_of p) (elements_in d)) || is_linked p xs) (all.0.shape Macp refl)
+    ap (λ (d : Option Data). (list_any (is_id_of p) (listed_in d) || list_any (is_id_of p) (listed_in (value_of Macp x.attrs))) || is_linked p xs) (all.0.shape Acpi refl)
+    ∙ ap (λ (d : Option Data). (list_any (is_id_of p) (listed_in (value_of Acpi y.attrs)) || list_any (is_id_of p) (listed_in d)) || is_linked p xs) (all.0.shape Macp refl)
     ∙ ap (λ b. does_link p y || b) (linked_alike home o p xs ys all.1)
 
 free_found : (p : ResourceData → Bool) (n : ℕ) (xs : List ResourceData) (r : ResourceData) → list_any p xs ≡ false → at n xs ≡ Some r → p r ≡ false
@@ -102,8 +102,8 @@ module _ (xs : List ResourceData) (r : ResourceData) (well : is_well_formed (xs 
   halves : (is_well_formed xs ≡ true) × (fits_in xs r ≡ true)
   halves = and_parts (is_well_formed xs) (fits_in xs r) (sym (grows-append fits_in [] xs r) ∙ well)
 
-  next_parts : (fits xs r ≡ true) × (is_taken xs r ≡ true)
-  next_parts = and_parts (fits xs r) (is_taken xs r) halves.1
+  next_parts : (may_stand xs r ≡ true) × (is_taken xs r ≡ true)
+  next_parts = and_parts (may_stand xs r) (is_taken xs r) halves.1
 
   next : IsNext xs r
   next = next_fits xs r next_parts.0
@@ -164,7 +164,7 @@ module _ (xs : List ResourceData) (r : ResourceData) (well : is_well_formed (xs 
           (map_from_zip (seen home xs o) (map f xs) xs (zip-found (λ s q. s ≡ seen home xs o q) f xs (tree_from_well_formed xs halves.0) seen_before))
 
       -- who learns the limits of its container sees when an instance ends
-      learned : is_ty r.ty ContentInstance ≡ true → (p : Option ResourceData) → at r.parent xs ≡ p → learns_limits home xs o r.parent ≡ true → (may home (xs ++ r ∷ []) o retrieve_bit r || is_filled_in home (xs ++ r ∷ []) o r) ≡ true
+      learned : is_ty r.ty ContentInstance ≡ true → (p : Option ResourceData) → at r.parent xs ≡ p → learns_limits home xs o r.parent ≡ true → (has_bit home (xs ++ r ∷ []) o retrieve_bit r || is_filled_in home (xs ++ r ∷ []) o r) ≡ true
       learned instance None found learns = absurd (let none : false ≡ true = rw found at learns in both_ways _ refl none)
       learned instance (Some p) found learns =
           let zs = xs ++ r ∷ [] in
@@ -173,8 +173,8 @@ module _ (xs : List ResourceData) (r : ResourceData) (well : is_well_formed (xs 
           let before : r.parent < r.number = below_has r.number r.parent xs next.number (at_has r.parent xs p found) in
           let there : at r.parent zs ≡ Some p = at_earlier r.parent before ∙ found in
           let rights = may_the_same home o (is_id_of r) zs xs finds p p r.parent (judge_itself p) found refl in
-          let has : ((may home xs o create_bit p || may home xs o update_bit p) || may home xs o retrieve_bit p) ≡ true = rw found at learns in
-          elim (or_cases (may home xs o create_bit p || may home xs o update_bit p) (may home xs o retrieve_bit p) has) [
+          let has : ((has_bit home xs o create_bit p || has_bit home xs o update_bit p) || has_bit home xs o retrieve_bit p) ≡ true = rw found at learns in
+          elim (or_cases (has_bit home xs o create_bit p || has_bit home xs o update_bit p) (has_bit home xs o retrieve_bit p) has) [
             | inl fill ↦ or_right _ _ (same_fill home zs o r p instance there container ∙ rights.fills ∙ and_from _ _ container fill)
             | inr read ↦ or_left _ _ (same_may home zs o r p instance there container retrieve_bit ∙ rights.may retrieve_bit ∙ read)
           ]
@@ -188,11 +188,11 @@ append-same home xs ys o r wellx welly unlinked learns same =
     let alike : AreAlike home o xs ys = alike_from_seen home o xs ys same in
     let all : AreAlike home o zs ws = append-alike home o xs ys r r alike (alike_itself home o r) in
     let both : MaySame home o zs ws r r = may_all_alike home o zs ws all r in
-    let end : (may home ws o retrieve_bit r || is_filled_in home ws o r) ≡ false → due zs r ≡ due ws r = λ hides. elim (cases_Bool (is_ty r.ty ContentInstance)) [
+    let end : (has_bit home ws o retrieve_bit r || is_filled_in home ws o r) ≡ false → due zs r ≡ due ws r = λ hides. elim (cases_Bool (is_ty r.ty ContentInstance)) [
       | inl instance ↦
           let tells = learned xs r wellx unlinked home o instance (at r.parent xs) refl (learns instance) in
-          let alike_test : (may home zs o retrieve_bit r || is_filled_in home zs o r) ≡ (may home ws o retrieve_bit r || is_filled_in home ws o r) =
-          ap (λ b. b || is_filled_in home zs o r) (both.may retrieve_bit) ∙ ap (λ b. may home ws o retrieve_bit r || b) both.inside in
+          let alike_test : (has_bit home zs o retrieve_bit r || is_filled_in home zs o r) ≡ (has_bit home ws o retrieve_bit r || is_filled_in home ws o r) =
+          ap (λ b. b || is_filled_in home zs o r) (both.may retrieve_bit) ∙ ap (λ b. has_bit home ws o retrieve_bit r || b) both.inside in
           absurd (both_ways _ (alike_test ∙ hides) tells)
       | inr other ↦ elim (cases_Bool (is_ty r.ty CseBase)) [
         | inl base ↦ due_base (at r.parent zs) r base ∙ sym (due_base (at r.parent ws) r base)

@@ -6,7 +6,7 @@ use Rattle.std.specs.Int.{bit_at}
 use Rattle.std.specs.Int.RustNames.{bit_and, bit_or}
 use Rattle.resource_model.specs.Home.{HomeData}
 use Rattle.policy_eval.specs.Rules.{Rule}
-use Rattle.policy_eval.specs.Rights.{is_among, with_rule, with_rules, has_bits}
+use Rattle.policy_eval.specs.Rights.{is_subject, with_rule, with_rules, has_bits}
 
 -- every bit of the one is a bit of the other
 pub record IsBelow (a b : ℕ) : Type 0 where
@@ -29,13 +29,13 @@ below_or a more = record { places = λ i. omega (arith, bit_at_or a more i) }
 
 -- a rule adds to what was there, and more to more
 with_rule_adds : (home : HomeData) (o : List ℕ) (a : ℕ) (rule : Rule) → IsBelow a (with_rule home o a rule)
-with_rule_adds home o a rule = elim (cases_Bool (is_among home o rule.subjects)) [
+with_rule_adds home o a rule = elim (cases_Bool (is_subject home o rule.subjects)) [
   | inl t ↦ rw t (below_or a rule.bits)
   | inr f ↦ rw f (below_itself a)
 ]
 
 with_rule_more : (home : HomeData) (o : List ℕ) (a b : ℕ) (rule : Rule) → IsBelow a b → IsBelow (with_rule home o a rule) (with_rule home o b rule)
-with_rule_more home o a b rule ab = elim (cases_Bool (is_among home o rule.subjects)) [
+with_rule_more home o a b rule ab = elim (cases_Bool (is_subject home o rule.subjects)) [
   | inl t ↦ rw t (or_below a b rule.bits ab)
   | inr f ↦ rw f ab
 ]

@@ -15,13 +15,13 @@ use Rattle.m2m_value.specs.Shapes.{as_count}
 use Rattle.resource_model.specs.Attributes.{value_of}
 use Rattle.resource_model.specs.Home.{HomeData}
 use Rattle.resource_model.specs.Resource.{ResourceData, is_ty, has_number}
-use Rattle.tree_model.specs.Tree.{at, due, due_under, lesser, is_due, live, are_below, fits, fits_in, is_taken, is_well_formed}
+use Rattle.tree_model.specs.Tree.{at, due, due_under, lesser, is_due, live, are_below, may_stand, fits_in, is_taken, is_well_formed}
 use Rattle.tree_model.proofs.GrowthLemmas.{growth, next_above_parent, next_fits, tree_from_well_formed}
 use Rattle.tree_model.proofs.TreeLemmas.{at-append, at-map}
-use Rattle.policy_eval.specs.Alike.{AreAlike, is_one_of, shape_attrs}
+use Rattle.policy_eval.specs.Alike.{AreAlike, is_attr_in, shape_attrs}
 use Rattle.policy_eval.specs.Rules.{Rule, linked_rules, rules_of}
 use Rattle.policy_eval.specs.Rights.{bits_by, has_bits, do_give, grants, relinks, fan_grants}
-use Rattle.policy_eval.specs.Seen.{retrieve_bit, may, fills, is_filled_in, is_shown, seen_ct, seen_et, with_seen_owner, seen, seen_list}
+use Rattle.policy_eval.specs.Seen.{retrieve_bit, has_bit, fills, is_filled_in, is_shown, seen_ct, seen_et, with_seen_owner, seen, seen_list}
 use Rattle.policy_eval.proofs.AlikeLemmas.{without-zip, zip-map, map_from_zip, grants-alike, relinks-alike, fan_grants-alike}
 use Rattle.policy_eval.proofs.RemovalLemmas.{keeps_without, grants_before}
 use Rattle.policy_eval.proofs.SeenLemmas.{at-seen, seen_map_alike, seen_shows}
@@ -54,7 +54,7 @@ all_stand_later nodes r (s ∷ xs) stood below =
 
 all_stand : (nodes : List ResourceData) → is_well_formed nodes ≡ true → list_all (stands_under nodes) nodes ≡ true
 all_stand = growth fits_in (λ nodes. list_all (stands_under nodes) nodes ≡ true) refl (λ before r grew fit stood.
-    let parts = and_parts (fits before r) _ fit in
+    let parts = and_parts (may_stand before r) _ fit in
     let next = next_fits before r parts.0 in
     let up : r.parent < r.number = next_above_parent before r next in
     list_all-append (stands_under (before ++ r ∷ [])) before (r ∷ [])
@@ -95,7 +95,7 @@ in_container nodes r p taken instance found =
     holds_instances p.ty (sym (ap (λ (n : ℕ). list_any (λ ty. (ty_row ty).number == n) (ty_row p.ty).takes) (number_of r.ty ContentInstance instance)) ∙ takes)
 
 -- the greatest age isn't always seen
-no_shape : (t : Ty) → is_one_of (shape_attrs t) Mia ≡ false
+no_shape : (t : Ty) → is_attr_in (shape_attrs t) Mia ≡ false
 no_shape t = elim (cases_Bool (is_ty t Ae)) [
   | inl is ↦ rw is refl
   | inr f ↦ elim (cases_Bool (is_ty t RemoteCse)) [
@@ -112,7 +112,7 @@ instance_rules : (nodes : List ResourceData) (r p : ResourceData) → (ty_row r.
 instance_rules nodes r p number found = rw (number, found) refl
 
 module _ (home : HomeData) (nodes : List ResourceData) (o : List ℕ) (r p : ResourceData) (instance : is_ty r.ty ContentInstance ≡ true) (found : at r.parent nodes ≡ Some p) (container : is_ty p.ty Container ≡ true) where
-  pub same_may : (bit : ℕ) → may home nodes o bit r ≡ may home nodes o bit p
+  pub same_may : (bit : ℕ) → has_bit home nodes o bit r ≡ has_bit home nodes o bit p
   same_may bit =
       ap (λ (rules : List Rule). has_bits (bits_by home o rules) bit)
       (instance_rules nodes r p (number_of r.ty ContentInstance instance) found ∙ sym (container_rules nodes p (number_of p.ty Container container)))
@@ -121,22 +121,22 @@ module _ (home : HomeData) (nodes : List ResourceData) (o : List ℕ) (r p : Res
   same_fill = rw (instance, found) refl
 
   -- the greatest age is seen of the container where the moments are seen of the instance
-  age_seen : (may home nodes o retrieve_bit r || is_filled_in home nodes o r) ≡ true → value_of Mia (seen home nodes o p).attrs ≡ value_of Mia p.attrs
-  age_seen shown = elim (or_cases (may home nodes o retrieve_bit r) _ shown) [
+  age_seen : (has_bit home nodes o retrieve_bit r || is_filled_in home nodes o r) ≡ true → value_of Mia (seen home nodes o p).attrs ≡ value_of Mia p.attrs
+  age_seen shown = elim (or_cases (has_bit home nodes o retrieve_bit r) _ shown) [
     | inl right ↦ ap (value_of Mia) ((seen_shows home nodes o p).retrieved (sym (same_may retrieve_bit) ∙ right)).0
     | inr right ↦ (seen_shows home nodes o p).filled (sym same_fill ∙ right) Mia refl
   ]
 
-  ct_seen : (may home nodes o retrieve_bit r || is_filled_in home nodes o r) ≡ true → seen_ct home nodes o r ≡ r.ct
-  ct_seen shown = cond-true _ r.ct 0 (elim (or_cases (may home nodes o retrieve_bit r) _ shown) [
+  ct_seen : (has_bit home nodes o retrieve_bit r || is_filled_in home nodes o r) ≡ true → seen_ct home nodes o r ≡ r.ct
+  ct_seen shown = cond-true _ r.ct 0 (elim (or_cases (has_bit home nodes o retrieve_bit r) _ shown) [
     | inl right ↦ or_left _ _ (or_left _ _ right)
     | inr right ↦ or_right _ _ right
   ])
 
-  age_hidden : (may home nodes o retrieve_bit r || is_filled_in home nodes o r) ≡ false → value_of Mia (seen home nodes o p).attrs ≡ None
+  age_hidden : (has_bit home nodes o retrieve_bit r || is_filled_in home nodes o r) ≡ false → value_of Mia (seen home nodes o p).attrs ≡ None
   age_hidden hides =
-      let parts = or_parts (may home nodes o retrieve_bit r) _ hides in
-      let right : may home nodes o retrieve_bit p ≡ false = sym (same_may retrieve_bit) ∙ parts.0 in
+      let parts = or_parts (has_bit home nodes o retrieve_bit r) _ hides in
+      let right : has_bit home nodes o retrieve_bit p ≡ false = sym (same_may retrieve_bit) ∙ parts.0 in
       let fill : fills home nodes o p ≡ false = sym same_fill ∙ parts.1 in
       let none : is_shown home nodes o p Mia ≡ false =
       or_from _ _ (or_from _ _ (or_from _ _ (or_from _ _ (or_from _ _ (no_shape p.ty) right) (and_right _ _ refl)) (and_left _ _ fill)) (and_right _ _ refl)) (and_right _ _ refl) in
@@ -173,10 +173,10 @@ module _ (home : HomeData) (nodes : List ResourceData) (o : List ℕ) where
 
   -- where it is due at its expiry, that is seen
   et_seen : (r : ResourceData) → due nodes r ≡ Some r.et → seen_et home nodes o r ≡ r.et
-  et_seen r is = ap (λ (d : Option ℕ). cond (may home nodes o retrieve_bit r || is_filled_in home nodes o r) r.et (unwrap_or d 0)) is ∙ same_choice _ r.et
+  et_seen r is = ap (λ (d : Option ℕ). cond (has_bit home nodes o retrieve_bit r || is_filled_in home nodes o r) r.et (unwrap_or d 0)) is ∙ same_choice _ r.et
 
   end_seen : (r p : ResourceData) → is_ty r.ty ContentInstance ≡ true → at r.parent nodes ≡ Some p → is_ty p.ty Container ≡ true → end_of (seen_et home nodes o r) (seen_ct home nodes o r) (value_of Mia (seen home nodes o p).attrs) ≡ end_of r.et r.ct (value_of Mia p.attrs)
-  end_seen r p instance found container = elim (cases_Bool (may home nodes o retrieve_bit r || is_filled_in home nodes o r)) [
+  end_seen r p instance found container = elim (cases_Bool (has_bit home nodes o retrieve_bit r || is_filled_in home nodes o r)) [
     | inl shown ↦
         ap (λ et. end_of et (seen_ct home nodes o r) (value_of Mia (seen home nodes o p).attrs)) (cond-true _ r.et _ shown)
         ∙ ap (λ ct. end_of r.et ct (value_of Mia (seen home nodes o p).attrs)) (ct_seen home nodes o r p instance found container shown)
@@ -211,12 +211,12 @@ module _ (home : HomeData) (nodes : List ResourceData) (o : List ℕ) where
   pub is_due-taken : (m : ℕ) (r : ResourceData) → is_taken nodes r ≡ true → is_due (seen_list home nodes o) m (seen home nodes o r) ≡ is_due nodes m r
   is_due-taken m r taken = ap (λ (d : Option ℕ). option_map_or (λ n. nat_le n m) d false) (due-taken r taken)
 
-  pub seen_whole : (r : ResourceData) → may home nodes o retrieve_bit r ≡ true → seen home nodes o r ≡ with_seen_owner home o r
+  pub seen_whole : (r : ResourceData) → has_bit home nodes o retrieve_bit r ≡ true → seen home nodes o r ≡ with_seen_owner home o r
   seen_whole r right =
       let whole = (seen_shows home nodes o r).retrieved right in
       rw (whole.0, whole.1, whole.2, whole.3) refl
 
-  whole_at : (p : Option ResourceData) → ((r : ResourceData) → p ≡ Some r → may home nodes o retrieve_bit r ≡ true) → option_map (seen home nodes o) p ≡ option_map (with_seen_owner home o) p
+  whole_at : (p : Option ResourceData) → ((r : ResourceData) → p ≡ Some r → has_bit home nodes o retrieve_bit r ≡ true) → option_map (seen home nodes o) p ≡ option_map (with_seen_owner home o) p
   whole_at None right = refl
   whole_at (Some r) right = ap (λ (x : ResourceData). Some x) (seen_whole r (right r refl))
 
@@ -256,7 +256,7 @@ module _ (home : HomeData) (nodes : List ResourceData) (o : List ℕ) where
     -- ---- what may be retrieved is seen whole
 
     -- what may be done with what is live may be done with it in the whole list
-    pub live_may : (m n : ℕ) (r : ResourceData) → at n (live m nodes) ≡ Some r → grants home (live m nodes) o retrieve_bit n ≡ true → may home nodes o retrieve_bit r ≡ true
+    pub live_may : (m n : ℕ) (r : ResourceData) → at n (live m nodes) ≡ Some r → grants home (live m nodes) o retrieve_bit n ≡ true → has_bit home nodes o retrieve_bit r ≡ true
     live_may m n r found right =
         let tree = tree_from_well_formed nodes well in
         let had : grants home nodes o retrieve_bit n ≡ true = grants_before home o retrieve_bit n (is_due nodes m) nodes tree right in

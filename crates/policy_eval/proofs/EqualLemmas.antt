@@ -12,11 +12,11 @@ use Rattle.resource_model.specs.Home.{HomeData}
 use Rattle.resource_model.specs.Resource.{ResourceData, is_ty}
 use Rattle.tree_model.specs.Tree.{at, has}
 use Rattle.tree_model.proofs.TreeLemmas.{at-map, has-map}
-use Rattle.policy_eval.specs.Alike.{Alike, is_one_of, shape_attrs}
+use Rattle.policy_eval.specs.Alike.{Alike, is_attr_in, shape_attrs}
 use Rattle.policy_eval.specs.Originators.{is_same}
 use Rattle.policy_eval.specs.Rules.{rules_in, fan_rules}
 use Rattle.policy_eval.specs.Rights.{bits_by, has_bits}
-use Rattle.policy_eval.specs.Seen.{create_bit, update_bit, retrieve_bit, discovery_bit, may, fills, is_filled_in, may_use, found_attrs, limit_attrs, size_attrs, member_attrs, is_shown, is_rules, is_way, way_in, seen, seen_list, Shows}
+use Rattle.policy_eval.specs.Seen.{create_bit, update_bit, retrieve_bit, discovery_bit, has_bit, fills, is_filled_in, may_use, found_attrs, limit_attrs, size_attrs, member_attrs, is_shown, is_policy_rules, is_way, way_in, seen, seen_list, Shows}
 use Rattle.policy_eval.proofs.AlikeLemmas.{rules-alike, fan_rules-alike}
 use Rattle.policy_eval.proofs.SeenLemmas.{at-seen, seen_alike, seen_map_alike, seen_shows}
 
@@ -26,14 +26,14 @@ module _ (home : HomeData) (o : List ℕ) (nodes rs : List ResourceData) where
   abbrev seen_of : List ResourceData
   seen_of = map (seen home nodes o) rs
 
-  pub may-seen : (bit : ℕ) (r : ResourceData) → may home (map (seen home nodes o) rs) o bit (seen home nodes o r) ≡ may home rs o bit r
+  pub may-seen : (bit : ℕ) (r : ResourceData) → has_bit home (map (seen home nodes o) rs) o bit (seen home nodes o r) ≡ has_bit home rs o bit r
   may-seen bit r =
       ap (λ bits. has_bits bits bit) ((rules-alike home o seen_of rs (seen_map_alike home nodes o rs) (seen home nodes o r) r (seen_alike home nodes o r)).bits 0)
 
   pub fills-seen : (r : ResourceData) → fills home (map (seen home nodes o) rs) o (seen home nodes o r) ≡ fills home rs o r
   fills-seen r =
-      ap (λ b. is_ty r.ty Container && (b || may home seen_of o update_bit (seen home nodes o r))) (may-seen create_bit r)
-      ∙ ap (λ b. is_ty r.ty Container && (may home rs o create_bit r || b)) (may-seen update_bit r)
+      ap (λ b. is_ty r.ty Container && (b || has_bit home seen_of o update_bit (seen home nodes o r))) (may-seen create_bit r)
+      ∙ ap (λ b. is_ty r.ty Container && (has_bit home rs o create_bit r || b)) (may-seen update_bit r)
 
   pub is_filled_in-seen : (r : ResourceData) → is_filled_in home (map (seen home nodes o) rs) o (seen home nodes o r) ≡ is_filled_in home rs o r
   is_filled_in-seen r =
@@ -47,23 +47,23 @@ module _ (home : HomeData) (o : List ℕ) (nodes rs : List ResourceData) where
   pub may_use-seen : (r : ResourceData) → may_use home (map (seen home nodes o) rs) o (seen home nodes o r) ≡ may_use home rs o r
   may_use-seen r =
       ap (λ b. is_ty r.ty Group && (b || nat_lt 0 (bits_by home o (fan_rules seen_of (seen home nodes o r))))) (may-seen update_bit r)
-      ∙ ap (λ bits. is_ty r.ty Group && (may home rs o update_bit r || nat_lt 0 bits)) ((fan_rules-alike home o seen_of rs (seen_map_alike home nodes o rs) (seen home nodes o r) r (seen_alike home nodes o r)).bits 0)
+      ∙ ap (λ bits. is_ty r.ty Group && (has_bit home rs o update_bit r || nat_lt 0 bits)) ((fan_rules-alike home o seen_of rs (seen_map_alike home nodes o rs) (seen home nodes o r) r (seen_alike home nodes o r)).bits 0)
 
   -- an attribute is shown, by what the originator may do
   abbrev shown_by : Ty → Attr → Bool → Bool → Bool → Bool → Bool → Bool
   shown_by ty a retrieves finds fill inside uses =
-      is_one_of (shape_attrs ty) a || retrieves || (finds && is_one_of found_attrs a) || (fill && is_one_of limit_attrs a)
-      || (inside && is_one_of size_attrs a) || (uses && is_one_of member_attrs a)
+      is_attr_in (shape_attrs ty) a || retrieves || (finds && is_attr_in found_attrs a) || (fill && is_attr_in limit_attrs a)
+      || (inside && is_attr_in size_attrs a) || (uses && is_attr_in member_attrs a)
 
   pub is_shown-seen : (a : Attr) (r : ResourceData) → is_shown home (map (seen home nodes o) rs) o (seen home nodes o r) a ≡ is_shown home rs o r a
   is_shown-seen a r =
       let ss = seen_of in
       let s = seen home nodes o r in
-      ap (λ b. shown_by r.ty a b (may home ss o discovery_bit s) (fills home ss o s) (is_filled_in home ss o s) (may_use home ss o s)) (may-seen retrieve_bit r)
-      ∙ ap (λ b. shown_by r.ty a (may home rs o retrieve_bit r) b (fills home ss o s) (is_filled_in home ss o s) (may_use home ss o s)) (may-seen discovery_bit r)
-      ∙ ap (λ b. shown_by r.ty a (may home rs o retrieve_bit r) (may home rs o discovery_bit r) b (is_filled_in home ss o s) (may_use home ss o s)) (fills-seen r)
-      ∙ ap (λ b. shown_by r.ty a (may home rs o retrieve_bit r) (may home rs o discovery_bit r) (fills home rs o r) b (may_use home ss o s)) (is_filled_in-seen r)
-      ∙ ap (λ b. shown_by r.ty a (may home rs o retrieve_bit r) (may home rs o discovery_bit r) (fills home rs o r) (is_filled_in home rs o r) b) (may_use-seen r)
+      ap (λ b. shown_by r.ty a b (has_bit home ss o discovery_bit s) (fills home ss o s) (is_filled_in home ss o s) (may_use home ss o s)) (may-seen retrieve_bit r)
+      ∙ ap (λ b. shown_by r.ty a (has_bit home rs o retrieve_bit r) b (fills home ss o s) (is_filled_in home ss o s) (may_use home ss o s)) (may-seen discovery_bit r)
+      ∙ ap (λ b. shown_by r.ty a (has_bit home rs o retrieve_bit r) (has_bit home rs o discovery_bit r) b (is_filled_in home ss o s) (may_use home ss o s)) (fills-seen r)
+      ∙ ap (λ b. shown_by r.ty a (has_bit home rs o retrieve_bit r) (has_bit home rs o discovery_bit r) (fills home rs o r) b (may_use home ss o s)) (is_filled_in-seen r)
+      ∙ ap (λ b. shown_by r.ty a (has_bit home rs o retrieve_bit r) (has_bit home rs o discovery_bit r) (fills home rs o r) (is_filled_in home rs o r) b) (may_use-seen r)
 
 -- ---- two lists of which the originator sees the same
 
@@ -77,11 +77,11 @@ module _ (home : HomeData) (o : List ℕ) (xs ys : List ResourceData) (same : se
     through : {X : Type 0} (f : ResourceData → X) → f (seen home xs o r) ≡ f r → f (seen home ys o q) ≡ f q → f r ≡ f q
     through f left right = sym left ∙ ap f e ∙ right
 
-    retrieves : may home xs o retrieve_bit r ≡ may home ys o retrieve_bit q
-    retrieves = same_by (λ nodes s. may home nodes o retrieve_bit s) (λ (nodes : List ResourceData). may-seen home o nodes nodes retrieve_bit)
+    retrieves : has_bit home xs o retrieve_bit r ≡ has_bit home ys o retrieve_bit q
+    retrieves = same_by (λ nodes s. has_bit home nodes o retrieve_bit s) (λ (nodes : List ResourceData). may-seen home o nodes nodes retrieve_bit)
 
-    finds : may home xs o discovery_bit r ≡ may home ys o discovery_bit q
-    finds = same_by (λ nodes s. may home nodes o discovery_bit s) (λ (nodes : List ResourceData). may-seen home o nodes nodes discovery_bit)
+    finds : has_bit home xs o discovery_bit r ≡ has_bit home ys o discovery_bit q
+    finds = same_by (λ nodes s. has_bit home nodes o discovery_bit s) (λ (nodes : List ResourceData). may-seen home o nodes nodes discovery_bit)
 
     filling : fills home xs o r ≡ fills home ys o q
     filling = same_by (λ nodes s. fills home nodes o s) (λ (nodes : List ResourceData). fills-seen home o nodes nodes)
@@ -109,7 +109,7 @@ module _ (home : HomeData) (o : List ℕ) (xs ys : List ResourceData) (same : se
           parent = h.parent ∙ ap (λ (x : ResourceData). x.parent) e;
           owned = h.owned ∙ through (λ (x : ResourceData). is_same home o x.owner) left.owned right.owned;
           shape = λ a one.
-              let was : is_one_of (shape_attrs r.ty) a ≡ true = ap (λ (x : ResourceData). is_one_of (shape_attrs x.ty) a) e ∙ one in
+              let was : is_attr_in (shape_attrs r.ty) a ≡ true = ap (λ (x : ResourceData). is_attr_in (shape_attrs x.ty) a) e ∙ one in
               h.shape a was ∙ value_through a (left.shape a was) (right.shape a one);
           pv = λ policy.
               let was : is_ty r.ty AccessControlPolicy ≡ true = ap (λ (x : ResourceData). is_ty x.ty AccessControlPolicy) e ∙ policy in
@@ -154,14 +154,14 @@ module _ (home : HomeData) (o : List ℕ) (xs ys : List ResourceData) (same : se
               h.used was a one ∙ value_through a (left.used was a one) (right.used may_it a one);
           owner = h.owner ∙ sym left.owner ∙ ap (λ (x : ResourceData). x.owner) e ∙ right.owner;
           rules = λ a rules hides.
-              let was : is_rules r a ≡ true = ap (λ (x : ResourceData). is_rules x a) e ∙ rules in
+              let was : is_policy_rules r a ≡ true = ap (λ (x : ResourceData). is_policy_rules x a) e ∙ rules in
               let hid = showing a ∙ hides in
               h.rules a was hid ∙ sym (left.rules a was hid) ∙ ap (λ (x : ResourceData). value_of a x.attrs) e ∙ right.rules a rules hides;
           points = λ remote hides.
               let was : is_ty r.ty RemoteCse ≡ true = ap (λ (x : ResourceData). is_ty x.ty RemoteCse) e ∙ remote in
               let hid = showing Poa ∙ hides in
               h.points was hid ∙ sym (left.points was hid) ∙ ap (λ (x : ResourceData). value_of Poa x.attrs) e ∙ right.points remote hides;
-          hidden = λ a hides other away. h.hidden a (showing a ∙ hides) (ap (λ (x : ResourceData). is_rules x a) e ∙ other) (ap (λ (x : ResourceData). is_way x a) e ∙ away);
+          hidden = λ a hides other away. h.hidden a (showing a ∙ hides) (ap (λ (x : ResourceData). is_policy_rules x a) e ∙ other) (ap (λ (x : ResourceData). is_way x a) e ∙ away);
           silent_ct = λ right_off tell never. h.silent_ct (retrieves ∙ right_off) (finds ∙ tell) (within ∙ never);
           silent_lt = λ right_off tell. h.silent_lt (retrieves ∙ right_off) (finds ∙ tell);
           silent_et = λ right_off never.

@@ -13,10 +13,10 @@ use Rattle.resource_model.specs.Attributes.{Row, is_attr, value_of}
 use Rattle.resource_model.specs.Home.{HomeData}
 use Rattle.resource_model.specs.Resource.{ResourceData, is_ty}
 use Rattle.tree_model.specs.Tree.{at, due}
-use Rattle.policy_eval.specs.Alike.{is_one_of, shape_attrs}
-use Rattle.policy_eval.specs.Rules.{only, Rule, rule_for, all_bits, rules_in, policy_of, policies_of, joined, elements_in, ids_at, owner_rules, registree, linked_rules, channel_rules, rules_of, fan_rules}
+use Rattle.policy_eval.specs.Alike.{is_attr_in, shape_attrs}
+use Rattle.policy_eval.specs.Rules.{only, Rule, rule_for, all_bits, rules_in, policy_of, policies_of, rules_by, listed_in, ids_at, owner_rules, registree, linked_rules, channel_rules, rules_of, fan_rules}
 use Rattle.policy_eval.specs.Rights.{bits_by, has_bits}
-use Rattle.policy_eval.specs.Seen.{create_bit, update_bit, retrieve_bit, discovery_bit, may, fills, is_filled_in, may_use, found_attrs, limit_attrs, size_attrs, member_attrs, is_shown, seen_value, seen_row, seen_owner, seen, is_rules, is_way}
+use Rattle.policy_eval.specs.Seen.{create_bit, update_bit, retrieve_bit, discovery_bit, has_bit, fills, is_filled_in, may_use, found_attrs, limit_attrs, size_attrs, member_attrs, is_shown, seen_value, seen_row, seen_owner, seen, is_policy_rules, is_way}
 use Rattle.policy_eval.proofs.TwiceLemmas.{made, value_by}
 
 -- ---- rules
@@ -87,18 +87,18 @@ module _ (named : Data → Bool) (zs xs : List ResourceData) (finds : FindsSame 
       ap (λ (d : Option Data). rules_in d ++ flat_map (λ (r : ResourceData). rules_in (value_of Pv r.attrs)) ps) found.pv
       ∙ ap (λ (rules : List Rule). rules_in (value_of Pv q.attrs) ++ rules) rest
 
-  joined_same : (ids : List Data) → list_any named ids ≡ false → joined Pv zs ids ≡ joined Pv xs ids
+  joined_same : (ids : List Data) → list_any named ids ≡ false → rules_by Pv zs ids ≡ rules_by Pv xs ids
   joined_same [] none = refl
   joined_same (id ∷ ids) none =
       let parts = or_parts (named id) (list_any named ids) none in
       one_joined (policy_of zs id) (policy_of xs id) (finds.policies id parts.0) (policies_of zs ids) (policies_of xs ids) (joined_same ids parts.1)
 
   -- by the ids that an attribute lists, else by other rules
-  by_ids_same : (d e : Option Data) (rules more : List Rule) → d ≡ e → list_any named (elements_in e) ≡ false → rules ≡ more → cond (nat_lt 0 (length (elements_in d))) (joined Pv zs (elements_in d)) rules ≡ cond (nat_lt 0 (length (elements_in e))) (joined Pv xs (elements_in e)) more
+  by_ids_same : (d e : Option Data) (rules more : List Rule) → d ≡ e → list_any named (listed_in e) ≡ false → rules ≡ more → cond (nat_lt 0 (length (listed_in d))) (rules_by Pv zs (listed_in d)) rules ≡ cond (nat_lt 0 (length (listed_in e))) (rules_by Pv xs (listed_in e)) more
   by_ids_same d e rules more same none other =
-      ap (λ (x : Option Data). cond (nat_lt 0 (length (elements_in x))) (joined Pv zs (elements_in x)) rules) same
-      ∙ ap (λ (those : List Rule). cond (nat_lt 0 (length (elements_in e))) those rules) (joined_same (elements_in e) none)
-      ∙ ap (cond (nat_lt 0 (length (elements_in e))) (joined Pv xs (elements_in e))) other
+      ap (λ (x : Option Data). cond (nat_lt 0 (length (listed_in x))) (rules_by Pv zs (listed_in x)) rules) same
+      ∙ ap (λ (those : List Rule). cond (nat_lt 0 (length (listed_in e))) those rules) (joined_same (listed_in e) none)
+      ∙ ap (cond (nat_lt 0 (length (listed_in e))) (rules_by Pv xs (listed_in e))) other
 
   linked_same : (s r : ResourceData) (n : ℕ) → JudgeSame s r → at n xs ≡ Some r → linked_rules Pv zs s ≡ linked_rules Pv xs r
   linked_same s r n same found =
@@ -132,12 +132,12 @@ module _ (named : Data → Bool) (zs xs : List ResourceData) (finds : FindsSame 
 -- an attribute is shown, by what the originator may do
 abbrev showing_by : Ty → Attr → Bool → Bool → Bool → Bool → Bool → Bool
 showing_by ty a retrieves tells fill inside uses =
-    is_one_of (shape_attrs ty) a || retrieves || (tells && is_one_of found_attrs a) || (fill && is_one_of limit_attrs a)
-    || (inside && is_one_of size_attrs a) || (uses && is_one_of member_attrs a)
+    is_attr_in (shape_attrs ty) a || retrieves || (tells && is_attr_in found_attrs a) || (fill && is_attr_in limit_attrs a)
+    || (inside && is_attr_in size_attrs a) || (uses && is_attr_in member_attrs a)
 
 -- the originator may do the same with a resource of each of two lists
 pub record MaySame (home : HomeData) (o : List ℕ) (zs xs : List ResourceData) (s r : ResourceData) : Type 0 where
-  pub may : (bit : ℕ) → may home zs o bit s ≡ may home xs o bit r
+  pub may : (bit : ℕ) → has_bit home zs o bit s ≡ has_bit home xs o bit r
   pub fills : fills home zs o s ≡ fills home xs o r
   pub inside : is_filled_in home zs o s ≡ is_filled_in home xs o r
   pub uses : may_use home zs o s ≡ may_use home xs o r
@@ -145,10 +145,10 @@ pub record MaySame (home : HomeData) (o : List ℕ) (zs xs : List ResourceData) 
 module _ (home : HomeData) (o : List ℕ) (zs xs : List ResourceData) where
   pub shown_same : (s r : ResourceData) → s.ty ≡ r.ty → MaySame home o zs xs s r → (a : Attr) → is_shown home zs o s a ≡ is_shown home xs o r a
   shown_same s r ty both a =
-      let retrieves = may home xs o retrieve_bit r in
-      let tells = may home xs o discovery_bit r in
-      ap (λ t. showing_by t a (may home zs o retrieve_bit s) (may home zs o discovery_bit s) (fills home zs o s) (is_filled_in home zs o s) (may_use home zs o s)) ty
-      ∙ ap (λ b. showing_by r.ty a b (may home zs o discovery_bit s) (fills home zs o s) (is_filled_in home zs o s) (may_use home zs o s)) (both.may retrieve_bit)
+      let retrieves = has_bit home xs o retrieve_bit r in
+      let tells = has_bit home xs o discovery_bit r in
+      ap (λ t. showing_by t a (has_bit home zs o retrieve_bit s) (has_bit home zs o discovery_bit s) (fills home zs o s) (is_filled_in home zs o s) (may_use home zs o s)) ty
+      ∙ ap (λ b. showing_by r.ty a b (has_bit home zs o discovery_bit s) (fills home zs o s) (is_filled_in home zs o s) (may_use home zs o s)) (both.may retrieve_bit)
       ∙ ap (λ b. showing_by r.ty a retrieves b (fills home zs o s) (is_filled_in home zs o s) (may_use home zs o s)) (both.may discovery_bit)
       ∙ ap (λ b. showing_by r.ty a retrieves tells b (is_filled_in home zs o s) (may_use home zs o s)) both.fills
       ∙ ap (λ b. showing_by r.ty a retrieves tells (fills home xs o r) b (may_use home zs o s)) both.inside
@@ -156,8 +156,8 @@ module _ (home : HomeData) (o : List ℕ) (zs xs : List ResourceData) where
 
   pub value_same : (s r : ResourceData) → s.ty ≡ r.ty → MaySame home o zs xs s r → (a : Attr) (d : Data) → seen_value home zs o s a d ≡ seen_value home xs o r a d
   value_same s r ty both a d =
-      ap (λ b. value_by home o b (is_rules s a) (is_way s a) d) (shown_same s r ty both a)
-      ∙ ap (λ t. value_by home o (is_shown home xs o r a) (is_ty t AccessControlPolicy && is_one_of (Pv ∷ Pvs ∷ []) a) (is_ty t RemoteCse && is_attr a Poa) d) ty
+      ap (λ b. value_by home o b (is_policy_rules s a) (is_way s a) d) (shown_same s r ty both a)
+      ∙ ap (λ t. value_by home o (is_shown home xs o r a) (is_ty t AccessControlPolicy && is_attr_in (Pv ∷ Pvs ∷ []) a) (is_ty t RemoteCse && is_attr a Poa) d) ty
 
   pub row_same : (s r : ResourceData) → s.ty ≡ r.ty → MaySame home o zs xs s r → (row : Row) → seen_row home zs o s row ≡ seen_row home xs o r row
   row_same s r ty both row = ap (option_map (λ d. (row.0, d))) (value_same s r ty both row.0 row.1)
@@ -167,11 +167,11 @@ filter_map_same f g same [] = refl
 filter_map_same f g same (x ∷ xs) =
     ap (λ y. cons_option y (filter_map f xs)) (same x) ∙ ap (cons_option (g x)) (filter_map_same f g same xs)
 
-module _ (home : HomeData) (o : List ℕ) (zs xs : List ResourceData) (r : ResourceData) (both : MaySame home o zs xs r r) (end : (may home xs o retrieve_bit r || is_filled_in home xs o r) ≡ false → due zs r ≡ due xs r) where
-  et_same : cond (may home xs o retrieve_bit r || is_filled_in home xs o r) r.et (unwrap_or (due zs r) 0) ≡ cond (may home xs o retrieve_bit r || is_filled_in home xs o r) r.et (unwrap_or (due xs r) 0)
-  et_same = elim (cases_Bool (may home xs o retrieve_bit r || is_filled_in home xs o r)) [
+module _ (home : HomeData) (o : List ℕ) (zs xs : List ResourceData) (r : ResourceData) (both : MaySame home o zs xs r r) (end : (has_bit home xs o retrieve_bit r || is_filled_in home xs o r) ≡ false → due zs r ≡ due xs r) where
+  et_same : cond (has_bit home xs o retrieve_bit r || is_filled_in home xs o r) r.et (unwrap_or (due zs r) 0) ≡ cond (has_bit home xs o retrieve_bit r || is_filled_in home xs o r) r.et (unwrap_or (due xs r) 0)
+  et_same = elim (cases_Bool (has_bit home xs o retrieve_bit r || is_filled_in home xs o r)) [
     | inl t ↦ rw t refl
-    | inr f ↦ ap (λ (d : Option ℕ). cond (may home xs o retrieve_bit r || is_filled_in home xs o r) r.et (unwrap_or d 0)) (end f)
+    | inr f ↦ ap (λ (d : Option ℕ). cond (has_bit home xs o retrieve_bit r || is_filled_in home xs o r) r.et (unwrap_or d 0)) (end f)
   ]
 
   -- by the two rights and the place by which the moments are seen
@@ -181,11 +181,11 @@ module _ (home : HomeData) (o : List ℕ) (zs xs : List ResourceData) (r : Resou
 
   pub seen_same : seen home zs o r ≡ seen home xs o r
   seen_same =
-      let retrieves = may home xs o retrieve_bit r in
-      let tells = may home xs o discovery_bit r in
+      let retrieves = has_bit home xs o retrieve_bit r in
+      let tells = has_bit home xs o discovery_bit r in
       let inside = is_filled_in home xs o r in
       let attrs = filter_map (seen_row home xs o r) r.attrs in
-      ap (λ b. seen_by b (may home zs o discovery_bit r) (is_filled_in home zs o r) (seen home zs o r).attrs) (both.may retrieve_bit)
+      ap (λ b. seen_by b (has_bit home zs o discovery_bit r) (is_filled_in home zs o r) (seen home zs o r).attrs) (both.may retrieve_bit)
       ∙ ap (λ b. seen_by retrieves b (is_filled_in home zs o r) (seen home zs o r).attrs) (both.may discovery_bit)
       ∙ ap (λ b. seen_by retrieves tells b (seen home zs o r).attrs) both.inside
       ∙ ap (seen_by retrieves tells inside) (filter_map_same (seen_row home zs o r) (seen_row home xs o r) (row_same home o zs xs r r refl both) r.attrs)
@@ -194,14 +194,14 @@ module _ (home : HomeData) (o : List ℕ) (zs xs : List ResourceData) (r : Resou
 -- ---- what is found the same gives the same rights
 
 module _ (home : HomeData) (o : List ℕ) (named : Data → Bool) (zs xs : List ResourceData) (finds : FindsSame named zs xs) where
-  pub may_same : (s r : ResourceData) (n : ℕ) → JudgeSame s r → at n xs ≡ Some r → (bit : ℕ) → may home zs o bit s ≡ may home xs o bit r
+  pub may_same : (s r : ResourceData) (n : ℕ) → JudgeSame s r → at n xs ≡ Some r → (bit : ℕ) → has_bit home zs o bit s ≡ has_bit home xs o bit r
   may_same s r n same found bit = ap (λ (rules : List Rule). has_bits (bits_by home o rules) bit) (rules_same named zs xs finds s r n same found)
 
   fills_same : (s r : ResourceData) (n : ℕ) → JudgeSame s r → at n xs ≡ Some r → fills home zs o s ≡ fills home xs o r
   fills_same s r n same found =
-      ap (λ ty. is_ty ty Container && (may home zs o create_bit s || may home zs o update_bit s)) same.ty
-      ∙ ap (λ b. is_ty r.ty Container && (b || may home zs o update_bit s)) (may_same s r n same found create_bit)
-      ∙ ap (λ b. is_ty r.ty Container && (may home xs o create_bit r || b)) (may_same s r n same found 4)
+      ap (λ ty. is_ty ty Container && (has_bit home zs o create_bit s || has_bit home zs o update_bit s)) same.ty
+      ∙ ap (λ b. is_ty r.ty Container && (b || has_bit home zs o update_bit s)) (may_same s r n same found create_bit)
+      ∙ ap (λ b. is_ty r.ty Container && (has_bit home xs o create_bit r || b)) (may_same s r n same found 4)
 
   filled_same : (p q : Option ResourceData) (n : ℕ) → at n xs ≡ q → FindSame p q → option_map_or (fills home zs o) p false ≡ option_map_or (fills home xs o) q false
   filled_same None None n there found = refl
@@ -216,9 +216,9 @@ module _ (home : HomeData) (o : List ℕ) (named : Data → Bool) (zs xs : List 
 
   pub use_same : (s r : ResourceData) (n : ℕ) → JudgeSame s r → at n xs ≡ Some r → value_of Macp s.attrs ≡ value_of Macp r.attrs → may_use home zs o s ≡ may_use home xs o r
   use_same s r n same found macp =
-      ap (λ ty. is_ty ty Group && (may home zs o update_bit s || nat_lt 0 (bits_by home o (fan_rules zs s)))) same.ty
+      ap (λ ty. is_ty ty Group && (has_bit home zs o update_bit s || nat_lt 0 (bits_by home o (fan_rules zs s)))) same.ty
       ∙ ap (λ b. is_ty r.ty Group && (b || nat_lt 0 (bits_by home o (fan_rules zs s)))) (may_same s r n same found 4)
-      ∙ ap (λ (rules : List Rule). is_ty r.ty Group && (may home xs o update_bit r || nat_lt 0 (bits_by home o rules))) (fan_same named zs xs finds s r n same found macp)
+      ∙ ap (λ (rules : List Rule). is_ty r.ty Group && (has_bit home xs o update_bit r || nat_lt 0 (bits_by home o rules))) (fan_same named zs xs finds s r n same found macp)
 
   -- but for the use of a group whose `macp` differs
   pub may_same_but : (s r : ResourceData) (n : ℕ) → JudgeSame s r → at n xs ≡ Some r → may_use home zs o s ≡ may_use home xs o r → MaySame home o zs xs s r
@@ -232,5 +232,5 @@ module _ (home : HomeData) (o : List ℕ) (named : Data → Bool) (zs xs : List 
   pub may_the_same : (s r : ResourceData) (n : ℕ) → JudgeSame s r → at n xs ≡ Some r → value_of Macp s.attrs ≡ value_of Macp r.attrs → MaySame home o zs xs s r
   may_the_same s r n same found macp = may_same_but s r n same found (use_same s r n same found macp)
 
-  pub seen_found : (r : ResourceData) (n : ℕ) → at n xs ≡ Some r → ((may home xs o retrieve_bit r || is_filled_in home xs o r) ≡ false → due zs r ≡ due xs r) → seen home zs o r ≡ seen home xs o r
+  pub seen_found : (r : ResourceData) (n : ℕ) → at n xs ≡ Some r → ((has_bit home xs o retrieve_bit r || is_filled_in home xs o r) ≡ false → due zs r ≡ due xs r) → seen home zs o r ≡ seen home xs o r
   seen_found r n found end = seen_same home o zs xs r (may_the_same r r n (judge_itself r) found refl) end

@@ -14,7 +14,7 @@ use Rattle.resource_model.specs.Home.{HomeData}
 use Rattle.resource_model.specs.Resource.{ResourceData, is_ty}
 use Rattle.tree_model.specs.Tree.{at, is_spared, is_tree, without}
 use Rattle.tree_model.proofs.GrowthLemmas.{at-without}
-use Rattle.policy_eval.specs.Rules.{Rule, rules_in, policy_number, policy_at, policy_named, policy_of, policies_of, joined, ids_at, lists_ids, linked_rules, channel_rules, rules_of, fan_rules, link_rules}
+use Rattle.policy_eval.specs.Rules.{Rule, rules_in, policy_number, policy_at, policy_named, policy_of, policies_of, rules_by, ids_at, lists_ids, linked_rules, channel_rules, rules_of, fan_rules, link_rules}
 use Rattle.policy_eval.specs.Rights.{with_rules, bits_by, do_give, update_bit, grants, relinks, fan_grants}
 use Rattle.policy_eval.specs.Laws.{IsNeverGained}
 use Rattle.policy_eval.proofs.BitLemmas.{IsBelow, below_itself, below_through, zero_below, with_rules_adds, with_rules_more, with_rules-append, has_more}
@@ -59,7 +59,7 @@ policies_below home o f (Some r) (Some s) xs ys kept rest a b ab =
     rw (same_Some s r (kept r refl), with_rules-append home o a (f r) (flat_map f xs), with_rules-append home o b (f r) (flat_map f ys))
     (rest _ _ (with_rules_more home o a b (f r) ab))
 
-joined_below : (home : HomeData) (o : List ℕ) (attr : Attr) (less more : List ResourceData) → Keeps less more → (ids : List Data) (a b : ℕ) → IsBelow a b → IsBelow (with_rules home o a (joined attr less ids)) (with_rules home o b (joined attr more ids))
+joined_below : (home : HomeData) (o : List ℕ) (attr : Attr) (less more : List ResourceData) → Keeps less more → (ids : List Data) (a b : ℕ) → IsBelow a b → IsBelow (with_rules home o a (rules_by attr less ids)) (with_rules home o b (rules_by attr more ids))
 joined_below home o attr less more keeps [] a b ab = ab
 joined_below home o attr less more keeps (id ∷ ids) a b ab =
     policies_below home o (λ (p : ResourceData). rules_in (value_of attr p.attrs)) (policy_of less id) (policy_of more id) (policies_of less ids) (policies_of more ids)

@@ -20,11 +20,11 @@ use Rattle.resource_model.proofs.AttributeLemmas.{is_attr-itself, is_attr-same, 
 use Rattle.tree_model.specs.Tree.{at, due, due_under, is_taken, is_well_formed, replaced}
 use Rattle.tree_model.proofs.GrowthLemmas.{tree_from_well_formed}
 use Rattle.tree_model.proofs.TreeLemmas.{at-replaced, at-replaced_other, at_has, at_number, map-replaced}
-use Rattle.policy_eval.specs.Alike.{is_one_of}
+use Rattle.policy_eval.specs.Alike.{is_attr_in}
 use Rattle.policy_eval.specs.Changes.{NewValue, ShowNoMore, changed, do_judge, do_reach, does_judge, seen_changes, with_change, with_changes}
 use Rattle.policy_eval.specs.Rules.{ids_at, policy_at, policy_named, policy_number}
 use Rattle.policy_eval.specs.Rights.{update_bit}
-use Rattle.policy_eval.specs.Seen.{retrieve_bit, discovery_bit, may, fills, is_filled_in, may_use, seen_value, seen_row, seen_owner, seen, seen_list}
+use Rattle.policy_eval.specs.Seen.{retrieve_bit, discovery_bit, has_bit, fills, is_filled_in, may_use, seen_value, seen_row, seen_owner, seen, seen_list}
 use Rattle.policy_eval.proofs.AlikeLemmas.{map_from_zip}
 use Rattle.policy_eval.proofs.DueLemmas.{all_taken, due_base, due_instance, due_other, end_of, found_passes, in_container, same_fill}
 use Rattle.policy_eval.proofs.EqualLemmas.{same_by, may-seen, fills-seen, is_filled_in-seen, may_use-seen}
@@ -132,8 +132,8 @@ module _ (ty : Ty) (changes : List NewValue) (free : do_judge ty changes ≡ fal
   judge_kept : (b : Attr) → does_judge ty b ≡ true → is_changed changes b ≡ false
   judge_kept b one = test_kept (does_judge ty) b changes one free
 
-reach_kept : (b : Attr) (changes : List NewValue) → is_one_of (Mia ∷ Macp ∷ []) b ≡ true → do_reach changes ≡ false → is_changed changes b ≡ false
-reach_kept b changes one none = test_kept (is_one_of (Mia ∷ Macp ∷ [])) b changes one none
+reach_kept : (b : Attr) (changes : List NewValue) → is_attr_in (Mia ∷ Macp ∷ []) b ≡ true → do_reach changes ≡ false → is_changed changes b ≡ false
+reach_kept b changes one none = test_kept (is_attr_in (Mia ∷ Macp ∷ [])) b changes one none
 
 -- ---- a resource gets changes
 
@@ -165,7 +165,7 @@ abbrev after : ResourceData → Option ℕ → Option ℕ → Bool → Bool → 
 after s lt et retrieves tells inside changes =
     made s s.owner s.ct (lt_by lt (retrieves || tells) s.lt) (et_by et (retrieves || inside) (is_ty s.ty CseBase) s.et) (with_changes changes s.attrs)
 
-module _ (home : HomeData) (o : List ℕ) (xs : List ResourceData) (well : is_well_formed xs ≡ true) (n : ℕ) (r : ResourceData) (found : at n xs ≡ Some r) (other : is_ty r.ty ContentInstance ≡ false) (changes : List NewValue) (lt et : Option ℕ) (free : do_judge r.ty changes ≡ false) (limits : do_reach changes ≡ true → may home xs o update_bit r ≡ true) where
+module _ (home : HomeData) (o : List ℕ) (xs : List ResourceData) (well : is_well_formed xs ≡ true) (n : ℕ) (r : ResourceData) (found : at n xs ≡ Some r) (other : is_ty r.ty ContentInstance ≡ false) (changes : List NewValue) (lt et : Option ℕ) (free : do_judge r.ty changes ≡ false) (limits : do_reach changes ≡ true → has_bit home xs o update_bit r ≡ true) where
   abbrev new : ResourceData
   new = changed changes lt et r
 
@@ -223,7 +223,7 @@ module _ (home : HomeData) (o : List ℕ) (xs : List ResourceData) (well : is_we
       by_text (Some text) = by_number (policy_number text)
 
   -- an instance of a container whose greatest age is changed is seen with its end
-  end_same : (s : ResourceData) → at s.number xs ≡ Some s → (may home xs o retrieve_bit s || is_filled_in home xs o s) ≡ false → due (replaced (changed changes lt et r) xs) s ≡ due xs s
+  end_same : (s : ResourceData) → at s.number xs ≡ Some s → (has_bit home xs o retrieve_bit s || is_filled_in home xs o s) ≡ false → due (replaced (changed changes lt et r) xs) s ≡ due xs s
   end_same s at_s hides = elim (cases_Bool (is_ty s.ty ContentInstance)) [
     | inr f ↦ elim (cases_Bool (is_ty s.ty CseBase)) [
       | inl base ↦ due_base (at s.parent zs) s base ∙ sym (due_base (at s.parent xs) s base)
@@ -244,7 +244,7 @@ module _ (home : HomeData) (o : List ℕ) (xs : List ResourceData) (well : is_we
                 let taken : is_taken xs s ≡ true = found_passes (is_taken xs) s.number xs s (all_taken xs well) at_s in
                 let container : is_ty r.ty Container ≡ true = in_container xs s r taken instance before in
                 let inside : is_filled_in home xs o s ≡ true = same_fill home xs o s r instance before container ∙ and_from _ _ container (or_right _ _ (limits some)) in
-                absurd (both_ways _ (or_parts (may home xs o retrieve_bit s) (is_filled_in home xs o s) hides).1 inside)
+                absurd (both_ways _ (or_parts (has_bit home xs o retrieve_bit s) (is_filled_in home xs o s) hides).1 inside)
           ]
     ]
   ]
@@ -259,8 +259,8 @@ module _ (home : HomeData) (o : List ℕ) (xs : List ResourceData) (well : is_we
   use_kept = elim (cases_Bool (do_reach changes)) [
     | inr none ↦ use_same home o no_id zs xs finds new r n judge found (kept Macp (reach_kept Macp changes refl none))
     | inl some ↦
-        let was : may home xs o update_bit r ≡ true = limits some in
-        let is : may home zs o update_bit new ≡ true = may_same home o no_id zs xs finds new r n judge found update_bit ∙ was in
+        let was : has_bit home xs o update_bit r ≡ true = limits some in
+        let is : has_bit home zs o update_bit new ≡ true = may_same home o no_id zs xs finds new r n judge found update_bit ∙ was in
         ap (λ b. is_ty r.ty Group && b) (or_left _ _ is) ∙ sym (ap (λ b. is_ty r.ty Group && b) (or_left _ _ was))
   ]
 
@@ -288,15 +288,15 @@ module _ (home : HomeData) (o : List ℕ) (xs : List ResourceData) (well : is_we
   et_after tells (Some m) = refl
 
   abbrev retrieves : Bool
-  retrieves = may home xs o retrieve_bit r
+  retrieves = has_bit home xs o retrieve_bit r
 
   abbrev tells : Bool
-  tells = may home xs o discovery_bit r
+  tells = has_bit home xs o discovery_bit r
 
   abbrev inside : Bool
   inside = is_filled_in home xs o r
 
-  et_seen_after : cond (may home xs o retrieve_bit r || is_filled_in home xs o r) (unwrap_or et r.et) (unwrap_or (due (replaced (changed changes lt et r) xs) (changed changes lt et r)) 0) ≡ et_by et (may home xs o retrieve_bit r || is_filled_in home xs o r) (is_ty r.ty CseBase) (seen home xs o r).et
+  et_seen_after : cond (has_bit home xs o retrieve_bit r || is_filled_in home xs o r) (unwrap_or et r.et) (unwrap_or (due (replaced (changed changes lt et r) xs) (changed changes lt et r)) 0) ≡ et_by et (has_bit home xs o retrieve_bit r || is_filled_in home xs o r) (is_ty r.ty CseBase) (seen home xs o r).et
   et_seen_after =
       ap (cond (retrieves || inside) (unwrap_or et r.et)) (due_after (unwrap_or et r.et) new refl refl (at r.parent zs))
       ∙ et_after (retrieves || inside) et
@@ -308,17 +308,17 @@ module _ (home : HomeData) (o : List ℕ) (xs : List ResourceData) (well : is_we
       made r (seen_owner home o r) (cond (a || b || c) r.ct 0) (cond (a || b) (unwrap_or lt r.lt) 0) (cond (a || c) (unwrap_or et r.et) (unwrap_or (due zs new) 0)) attrs
 
   -- what is then seen of the resource follows from what was seen of it
-  seen_after : seen home (replaced (changed changes lt et r) xs) o (changed changes lt et r) ≡ after (seen home xs o r) lt et (may home xs o retrieve_bit r) (may home xs o discovery_bit r) (is_filled_in home xs o r) (changes_by (seen_value home xs o r) changes)
+  seen_after : seen home (replaced (changed changes lt et r) xs) o (changed changes lt et r) ≡ after (seen home xs o r) lt et (has_bit home xs o retrieve_bit r) (has_bit home xs o discovery_bit r) (is_filled_in home xs o r) (changes_by (seen_value home xs o r) changes)
   seen_after =
       let attrs = with_changes (changes_by (seen_value home xs o r) changes) (seen home xs o r).attrs in
-      ap (λ b. seen_new b (may home zs o discovery_bit new) (is_filled_in home zs o new) (seen home zs o new).attrs) (both.may retrieve_bit)
+      ap (λ b. seen_new b (has_bit home zs o discovery_bit new) (is_filled_in home zs o new) (seen home zs o new).attrs) (both.may retrieve_bit)
       ∙ ap (λ b. seen_new retrieves b (is_filled_in home zs o new) (seen home zs o new).attrs) (both.may discovery_bit)
       ∙ ap (λ b. seen_new retrieves tells b (seen home zs o new).attrs) both.inside
       ∙ ap (seen_new retrieves tells inside) attrs_after
       ∙ ap (λ m. made r (seen_owner home o r) (seen home xs o r).ct m (cond (retrieves || inside) (unwrap_or et r.et) (unwrap_or (due zs new) 0)) attrs) (lt_after (retrieves || tells) lt)
       ∙ ap (λ m. made r (seen_owner home o r) (seen home xs o r).ct (lt_by lt (retrieves || tells) (seen home xs o r).lt) m attrs) et_seen_after
 
-  seen_list_after : seen_list home (replaced (changed changes lt et r) xs) o ≡ replaced (after (seen home xs o r) lt et (may home xs o retrieve_bit r) (may home xs o discovery_bit r) (is_filled_in home xs o r) (changes_by (seen_value home xs o r) changes)) (seen_list home xs o)
+  seen_list_after : seen_list home (replaced (changed changes lt et r) xs) o ≡ replaced (after (seen home xs o r) lt et (has_bit home xs o retrieve_bit r) (has_bit home xs o discovery_bit r) (is_filled_in home xs o r) (changes_by (seen_value home xs o r) changes)) (seen_list home xs o)
   seen_list_after =
       map-replaced (seen home zs o) (λ s. refl) new xs
       ∙ ap (replaced (seen home zs o new)) seen_list_others
@@ -328,7 +328,7 @@ module _ (home : HomeData) (o : List ℕ) (xs : List ResourceData) (well : is_we
 
 may_seen_same : (home : HomeData) (xs ys : List ResourceData) (o : List ℕ) (same : seen_list home xs o ≡ seen_list home ys o) (r q : ResourceData) → seen home xs o r ≡ seen home ys o q → MaySame home o xs ys r q
 may_seen_same home xs ys o same r q e = record {
-  may = λ bit. same_by home o xs ys same r q e (λ nodes s. may home nodes o bit s) (λ (nodes : List ResourceData). may-seen home o nodes nodes bit);
+  may = λ bit. same_by home o xs ys same r q e (λ nodes s. has_bit home nodes o bit s) (λ (nodes : List ResourceData). may-seen home o nodes nodes bit);
   fills = same_by home o xs ys same r q e (λ nodes s. fills home nodes o s) (λ (nodes : List ResourceData). fills-seen home o nodes nodes);
   inside = same_by home o xs ys same r q e (λ nodes s. is_filled_in home nodes o s) (λ (nodes : List ResourceData). is_filled_in-seen home o nodes nodes);
   uses = same_by home o xs ys same r q e (λ nodes s. may_use home nodes o s) (λ (nodes : List ResourceData). may_use-seen home o nodes nodes);
@@ -348,16 +348,16 @@ replace-seen home xs ys o n r q changes others lt et wellx welly found place tou
     let rights : MaySame home o xs ys r q = may_seen_same home xs ys o same r q e in
     let tests : (p : Attr → Bool) → list_any (λ (c : NewValue). p c.0) changes ≡ list_any (λ (c : NewValue). p c.0) others = λ p.
     sym (changes_test (seen_value home xs o r) p changes) ∙ ap (list_any (λ (c : NewValue). p c.0)) alike ∙ changes_test (seen_value home ys o q) p others in
-    let yours : do_reach others ≡ true → may home ys o update_bit q ≡ true = λ some. sym (rights.may update_bit) ∙ touch.reach (tests (is_one_of (Mia ∷ Macp ∷ [])) ∙ some) in
+    let yours : do_reach others ≡ true → has_bit home ys o update_bit q ≡ true = λ some. sym (rights.may update_bit) ∙ touch.reach (tests (is_attr_in (Mia ∷ Macp ∷ [])) ∙ some) in
     let free_too : do_judge q.ty others ≡ false = sym (tests (does_judge q.ty)) ∙ sym (ap (λ t. do_judge t changes) ty) ∙ touch.free in
     let shown = changes_by (seen_value home xs o r) changes in
     seen_list_after home o xs wellx n r found touch.other changes lt et touch.free touch.reach
-    ∙ ap (λ (nodes : List ResourceData). replaced (after (seen home xs o r) lt et (may home xs o retrieve_bit r) (may home xs o discovery_bit r) (is_filled_in home xs o r) shown) nodes) same
-    ∙ ap (λ s. replaced (after s lt et (may home xs o retrieve_bit r) (may home xs o discovery_bit r) (is_filled_in home xs o r) shown) (seen_list home ys o)) e
-    ∙ ap (λ b. replaced (after (seen home ys o q) lt et b (may home xs o discovery_bit r) (is_filled_in home xs o r) shown) (seen_list home ys o)) (rights.may retrieve_bit)
-    ∙ ap (λ b. replaced (after (seen home ys o q) lt et (may home ys o retrieve_bit q) b (is_filled_in home xs o r) shown) (seen_list home ys o)) (rights.may discovery_bit)
-    ∙ ap (λ b. replaced (after (seen home ys o q) lt et (may home ys o retrieve_bit q) (may home ys o discovery_bit q) b shown) (seen_list home ys o)) rights.inside
-    ∙ ap (λ those. replaced (after (seen home ys o q) lt et (may home ys o retrieve_bit q) (may home ys o discovery_bit q) (is_filled_in home ys o q) those) (seen_list home ys o)) alike
+    ∙ ap (λ (nodes : List ResourceData). replaced (after (seen home xs o r) lt et (has_bit home xs o retrieve_bit r) (has_bit home xs o discovery_bit r) (is_filled_in home xs o r) shown) nodes) same
+    ∙ ap (λ s. replaced (after s lt et (has_bit home xs o retrieve_bit r) (has_bit home xs o discovery_bit r) (is_filled_in home xs o r) shown) (seen_list home ys o)) e
+    ∙ ap (λ b. replaced (after (seen home ys o q) lt et b (has_bit home xs o discovery_bit r) (is_filled_in home xs o r) shown) (seen_list home ys o)) (rights.may retrieve_bit)
+    ∙ ap (λ b. replaced (after (seen home ys o q) lt et (has_bit home ys o retrieve_bit q) b (is_filled_in home xs o r) shown) (seen_list home ys o)) (rights.may discovery_bit)
+    ∙ ap (λ b. replaced (after (seen home ys o q) lt et (has_bit home ys o retrieve_bit q) (has_bit home ys o discovery_bit q) b shown) (seen_list home ys o)) rights.inside
+    ∙ ap (λ those. replaced (after (seen home ys o q) lt et (has_bit home ys o retrieve_bit q) (has_bit home ys o discovery_bit q) (is_filled_in home ys o q) those) (seen_list home ys o)) alike
     ∙ sym (seen_list_after home o ys welly n q place (sym (ap (λ t. is_ty t ContentInstance) ty) ∙ touch.other) others lt et free_too yours)
 
 -- it sees the same of the same changes

@@ -9,11 +9,11 @@ use Rattle.resource_model.specs.Attributes.{Row, count_at}
 use Rattle.resource_model.specs.Home.{HomeData}
 use Rattle.resource_model.specs.Resource.{ResourceData, is_ty, id_of}
 use Rattle.tree_model.specs.Shown.{parent_id, container_rows, added_rows, attributes_of, with_rows, wrapped}
-use Rattle.tree_model.specs.Tree.{at, is_due, is_instance, is_well_formed, live, size_of}
+use Rattle.tree_model.specs.Tree.{at, is_due, is_instance, is_well_formed, live, instance_size}
 use Rattle.tree_model.proofs.TreeLemmas.{at-map, at_number}
 use Rattle.tree_model.proofs.GrowthLemmas.{tree_from_well_formed}
 use Rattle.policy_eval.specs.Rights.{grants}
-use Rattle.policy_eval.specs.Seen.{retrieve_bit, may, with_seen_owner, seen, seen_list}
+use Rattle.policy_eval.specs.Seen.{retrieve_bit, has_bit, with_seen_owner, seen, seen_list}
 use Rattle.policy_eval.proofs.RemovalLemmas.{keeps_without}
 use Rattle.policy_eval.proofs.SeenLemmas.{seen_shows}
 use Rattle.policy_eval.proofs.DueLemmas.{same_may, live-seen, live_may, seen_whole}
@@ -33,13 +33,13 @@ summed g p w same weigh (r ∷ rs) a = elim (cases_Bool (p r)) [
   | inr f ↦ rw (same r ∙ f, f) (summed g p w same weigh rs a)
 ]
 
-module _ (home : HomeData) (nodes : List ResourceData) (o : List ℕ) (r : ResourceData) (found : at r.number nodes ≡ Some r) (right : may home nodes o retrieve_bit r ≡ true) where
+module _ (home : HomeData) (nodes : List ResourceData) (o : List ℕ) (r : ResourceData) (found : at r.number nodes ≡ Some r) (right : has_bit home nodes o retrieve_bit r ≡ true) where
   -- the sizes of the instances of a container are seen by who may retrieve it
-  size_seen : is_ty r.ty Container ≡ true → (s : ResourceData) → is_instance r.number s ≡ true → size_of (seen home nodes o s) ≡ size_of s
+  size_seen : is_ty r.ty Container ≡ true → (s : ResourceData) → is_instance r.number s ≡ true → instance_size (seen home nodes o s) ≡ instance_size s
   size_seen container s inside =
       let parts = and_parts (s.parent == r.number) _ inside in
       let above : at s.parent nodes ≡ Some r = ap (λ (n : ℕ). at n nodes) (eqb-true s.parent r.number parts.0) ∙ found in
-      let also : may home nodes o retrieve_bit s ≡ true = same_may home nodes o s r parts.1 above container retrieve_bit ∙ right in
+      let also : has_bit home nodes o retrieve_bit s ≡ true = same_may home nodes o s r parts.1 above container retrieve_bit ∙ right in
       ap (λ (rows : List Row). unwrap_or (count_at Cs rows) 0) ((seen_shows home nodes o s).retrieved also).0
 
   parent_seen : (rs : List ResourceData) → parent_id (map (seen home nodes o) rs) r ≡ parent_id rs r
@@ -51,7 +51,7 @@ module _ (home : HomeData) (nodes : List ResourceData) (o : List ℕ) (r : Resou
 
   container_seen : (rs : List ResourceData) → is_ty r.ty Container ≡ true → container_rows (map (seen home nodes o) rs) r ≡ container_rows rs r
   container_seen rs container =
-      rw (summed (seen home nodes o) (is_instance r.number) size_of (λ s. refl) (size_seen container) rs 0, counted (seen home nodes o) (is_instance r.number) (λ s. refl) rs) refl
+      rw (summed (seen home nodes o) (is_instance r.number) instance_size (λ s. refl) (size_seen container) rs 0, counted (seen home nodes o) (is_instance r.number) (λ s. refl) rs) refl
 
   holding_seen : (rs : List ResourceData) → cond (is_ty r.ty Container) (container_rows (map (seen home nodes o) rs) r) [] ≡ cond (is_ty r.ty Container) (container_rows rs r) []
   holding_seen rs = elim (cases_Bool (is_ty r.ty Container)) [

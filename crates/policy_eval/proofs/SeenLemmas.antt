@@ -1,7 +1,7 @@
 -- What an originator sees keeps its rights.
-use Rattle.std.specs.Prelude.{codes, nat_eq, nat_lt}
+use Rattle.std.specs.Prelude.{codes, nat_eq, nat_le}
 use Rattle.std.proofs.Common.{◌≡◌, ℕ, ◌<◌, List, [], ◌∷◌, ◌++◌, map, length, Bool, true, false, cond, Option, Some, None, option_map, inl, inr, refl, sym, ap, ◌∙◌, subst, arith, append_assoc, length-append}
-use Rattle.std.proofs.lemmas.Bool.{cases_Bool, lt-ltb, ltb-true, false_from_ne_true, or_cases, or_left, or_right, or_from, and_from, and_parts, and_right, cond-true, cond-false}
+use Rattle.std.proofs.lemmas.Bool.{cases_Bool, le-leb, leb-true, false_from_ne_true, or_cases, or_left, or_right, or_from, and_from, and_parts, and_right, cond-true, cond-false}
 use Rattle.std.proofs.lemmas.Nat.{or_lt}
 use Rattle.std.proofs.lemmas.Nat.Bits.{bit_at_or, bit_at-zero, same_from_bits}
 use Rattle.std.proofs.lemmas.Option.{same_Some}
@@ -24,10 +24,10 @@ use Rattle.tree_model.specs.Tree.{at, child_of}
 use Rattle.resource_model.proofs.AttributeLemmas.{is_attr-same}
 use Rattle.tree_model.proofs.TreeLemmas.{at-map}
 use Rattle.policy_eval.specs.Originators.{full_form, own_lead, is_same}
-use Rattle.policy_eval.specs.Rules.{texts_of, member_at, number_at, sum_of_bits, rule_of, rules_in, elements_in}
-use Rattle.policy_eval.specs.Rights.{is_among, with_rule, with_rules, bits_by, grants, relinks, fan_grants}
-use Rattle.policy_eval.specs.Alike.{is_one_of, shape_attrs, Alike, AreAlike}
-use Rattle.policy_eval.specs.Seen.{is_url, first_url, only_point, seen_points, way_in, retrieve_bit, discovery_bit, may, fills, is_filled_in, may_use, found_attrs, limit_attrs, size_attrs, member_attrs, Shows, is_shown, plain_rules, seen_rules, is_rules, is_way, seen_value, another, seen_owner, seen_ct, seen_lt, seen_et, seen, seen_list}
+use Rattle.policy_eval.specs.Rules.{texts_of, member_at, member_number, all_bits, sum_of_bits, stated_rule, rules_in, listed_in}
+use Rattle.policy_eval.specs.Rights.{is_subject, with_rule, with_rules, bits_by, grants, relinks, fan_grants}
+use Rattle.policy_eval.specs.Alike.{is_attr_in, shape_attrs, Alike, AreAlike}
+use Rattle.policy_eval.specs.Seen.{is_url, first_url, only_point, seen_points, way_in, retrieve_bit, discovery_bit, has_bit, fills, is_filled_in, may_use, found_attrs, limit_attrs, size_attrs, member_attrs, Shows, is_shown, plain_rules, seen_rules, is_policy_rules, is_way, seen_value, another, seen_owner, seen_ct, seen_lt, seen_et, seen, seen_list}
 use Rattle.policy_eval.proofs.AlikeLemmas.{GiveSame, same_itself, same_from_by, alike-map, child-alike, ae_id-alike, grants-alike, relinks-alike, fan_grants-alike}
 
 -- ---- values
@@ -53,31 +53,31 @@ itself (Some d) = refl
 -- ---- rules
 
 sum_below : (z : ℤ) → sum_of_bits z < 64
-sum_below (pos n) = elim (cases_Bool (nat_lt n 64)) [
-  | inl t ↦ rw t (ltb-true n 64 t)
+sum_below (pos n) = elim (cases_Bool (nat_le n all_bits)) [
+  | inl t ↦ rw t (omega (arith, leb-true n all_bits t))
   | inr f ↦ rw f (omega arith)
 ]
 sum_below (negsuc n) = omega arith
 
-rule_below : (d : Data) → (rule_of d).bits < 64
-rule_below d = by_number (number_at (codes "acop") d)
+rule_below : (d : Data) → (stated_rule d).bits < 64
+rule_below d = by_number (member_number (codes "acop") d)
   where
     by_number : (z : Option ℤ) → option_map_or sum_of_bits z 0 < 64
     by_number None = omega arith
     by_number (Some z) = sum_below z
 
-with_below : (home : HomeData) (o : List ℕ) (a : ℕ) (ds : List Data) → a < 64 → with_rules home o a (map rule_of ds) < 64
+with_below : (home : HomeData) (o : List ℕ) (a : ℕ) (ds : List Data) → a < 64 → with_rules home o a (map stated_rule ds) < 64
 with_below home o a [] small = small
-with_below home o a (d ∷ ds) small = with_below home o (with_rule home o a (rule_of d)) ds (elim (cases_Bool (is_among home o (rule_of d).subjects)) [
-  | inl t ↦ rw t (or_lt 6 a (rule_of d).bits small (rule_below d))
+with_below home o a (d ∷ ds) small = with_below home o (with_rule home o a (stated_rule d)) ds (elim (cases_Bool (is_subject home o (stated_rule d).subjects)) [
+  | inl t ↦ rw t (or_lt 6 a (stated_rule d).bits small (rule_below d))
   | inr f ↦ rw f small
 ])
 
 pub bits_below : (home : HomeData) (o : List ℕ) (d : Option Data) → bits_by home o (rules_in d) < 64
-bits_below home o d = with_below home o 0 (elements_in (option_and_then (member_at (codes "acr")) d)) (omega arith)
+bits_below home o d = with_below home o 0 (listed_in (option_and_then (member_at (codes "acr")) d)) (omega arith)
 
 pub plain_bits : (home : HomeData) (o : List ℕ) (n : ℕ) → n < 64 → bits_by home o (rules_in (Some (plain_rules n))) ≡ n
-plain_bits home o n small = rw (lt-ltb n 64 small) (same_from_bits _ _ (λ i. omega (arith, bit_at_or 0 n i, bit_at-zero i)))
+plain_bits home o n small = rw (le-leb n all_bits (omega (arith, small))) (same_from_bits _ _ (λ i. omega (arith, bit_at_or 0 n i, bit_at-zero i)))
 
 seen_same : (home : HomeData) (o : List ℕ) (d : Data) → GiveSame home o (rules_in (Some (seen_rules home o d))) (rules_in (Some d))
 seen_same home o d = same_from_by home o _ _ (plain_bits home o _ (bits_below home o (Some d)))
@@ -126,11 +126,11 @@ kept_value home nodes o r a shown = value-shown (seen_value home nodes o r) a (�
 shown_kept : (home : HomeData) (nodes : List ResourceData) (o : List ℕ) (r : ResourceData) (a : Attr) → is_shown home nodes o r a ≡ true → value_of a (seen home nodes o r).attrs ≡ value_of a r.attrs
 shown_kept home nodes o r a shown = kept_value home nodes o r a (λ d. rw shown refl)
 
-shape_shown : (home : HomeData) (nodes : List ResourceData) (o : List ℕ) (r : ResourceData) (a : Attr) → is_one_of (shape_attrs r.ty) a ≡ true → is_shown home nodes o r a ≡ true
+shape_shown : (home : HomeData) (nodes : List ResourceData) (o : List ℕ) (r : ResourceData) (a : Attr) → is_attr_in (shape_attrs r.ty) a ≡ true → is_shown home nodes o r a ≡ true
 shape_shown home nodes o r a one = or_left _ _ (or_left _ _ (or_left _ _ (or_left _ _ (or_left _ _ one))))
 
 -- of the rules of a policy either all is seen or what they give
-rules_shown : (home : HomeData) (nodes : List ResourceData) (o : List ℕ) (r : ResourceData) (a : Attr) → is_rules r a ≡ true → (d : Data) → seen_value home nodes o r a d ≡ Some (cond (is_shown home nodes o r a) d (seen_rules home o d))
+rules_shown : (home : HomeData) (nodes : List ResourceData) (o : List ℕ) (r : ResourceData) (a : Attr) → is_policy_rules r a ≡ true → (d : Data) → seen_value home nodes o r a d ≡ Some (cond (is_shown home nodes o r a) d (seen_rules home o d))
 rules_shown home nodes o r a rules d =
     ap (λ b. cond (is_shown home nodes o r a) (Some d) (cond b (Some (seen_rules home o d)) (cond (is_way r a) (seen_points d) None))) rules
     ∙ shown_or (is_shown home nodes o r a) d (seen_rules home o d)
@@ -174,19 +174,19 @@ fan_grants-seen home nodes o bit n = fan_grants-alike home o (seen_list home nod
 
 -- ---- what is shown of a resource
 
-retrieve_shown : (home : HomeData) (nodes : List ResourceData) (o : List ℕ) (r : ResourceData) (a : Attr) → may home nodes o retrieve_bit r ≡ true → is_shown home nodes o r a ≡ true
+retrieve_shown : (home : HomeData) (nodes : List ResourceData) (o : List ℕ) (r : ResourceData) (a : Attr) → has_bit home nodes o retrieve_bit r ≡ true → is_shown home nodes o r a ≡ true
 retrieve_shown home nodes o r a right = or_left _ _ (or_left _ _ (or_left _ _ (or_left _ _ (or_right _ _ right))))
 
-found_shown : (home : HomeData) (nodes : List ResourceData) (o : List ℕ) (r : ResourceData) (a : Attr) → may home nodes o discovery_bit r ≡ true → is_one_of found_attrs a ≡ true → is_shown home nodes o r a ≡ true
+found_shown : (home : HomeData) (nodes : List ResourceData) (o : List ℕ) (r : ResourceData) (a : Attr) → has_bit home nodes o discovery_bit r ≡ true → is_attr_in found_attrs a ≡ true → is_shown home nodes o r a ≡ true
 found_shown home nodes o r a right one = or_left _ _ (or_left _ _ (or_left _ _ (or_right _ _ (and_from _ _ right one))))
 
-limits_shown : (home : HomeData) (nodes : List ResourceData) (o : List ℕ) (r : ResourceData) (a : Attr) → fills home nodes o r ≡ true → is_one_of limit_attrs a ≡ true → is_shown home nodes o r a ≡ true
+limits_shown : (home : HomeData) (nodes : List ResourceData) (o : List ℕ) (r : ResourceData) (a : Attr) → fills home nodes o r ≡ true → is_attr_in limit_attrs a ≡ true → is_shown home nodes o r a ≡ true
 limits_shown home nodes o r a right one = or_left _ _ (or_left _ _ (or_right _ _ (and_from _ _ right one)))
 
-size_shown : (home : HomeData) (nodes : List ResourceData) (o : List ℕ) (r : ResourceData) (a : Attr) → is_filled_in home nodes o r ≡ true → is_one_of size_attrs a ≡ true → is_shown home nodes o r a ≡ true
+size_shown : (home : HomeData) (nodes : List ResourceData) (o : List ℕ) (r : ResourceData) (a : Attr) → is_filled_in home nodes o r ≡ true → is_attr_in size_attrs a ≡ true → is_shown home nodes o r a ≡ true
 size_shown home nodes o r a right one = or_left _ _ (or_right _ _ (and_from _ _ right one))
 
-members_shown : (home : HomeData) (nodes : List ResourceData) (o : List ℕ) (r : ResourceData) (a : Attr) → may_use home nodes o r ≡ true → is_one_of member_attrs a ≡ true → is_shown home nodes o r a ≡ true
+members_shown : (home : HomeData) (nodes : List ResourceData) (o : List ℕ) (r : ResourceData) (a : Attr) → may_use home nodes o r ≡ true → is_attr_in member_attrs a ≡ true → is_shown home nodes o r a ≡ true
 members_shown home nodes o r a right one = or_right _ _ (and_from _ _ right one)
 
 rows_kept : (h : Row → Option Row) → ((row : Row) → h row ≡ Some row) → (rows : List Row) → filter_map h rows ≡ rows
@@ -214,7 +214,7 @@ pub one_point : (u : List ℕ) → is_url u ≡ true → first_url (Some (only_p
 one_point u is = rw is refl
 
 pub first_passes : (d : Data) (u : List ℕ) → first_url (Some d) ≡ Some u → is_url u ≡ true
-first_passes d u first = find_passes is_url (texts_of (elements_in (Some d))) u first
+first_passes d u first = find_passes is_url (texts_of (listed_in (Some d))) u first
 
 -- a row of points of access that is shown, or of which the first URL is shown
 one_way : (b : Attr) (d : Data) (s : Bool) → is_attr Poa b ≡ true → (more less : List Row) → way_in more ≡ way_in less → way_in (cons_option (option_map (λ (x : Data). (b, x)) (cond s (Some d) (seen_points d))) more) ≡ option_or (first_url (Some d)) (way_in less)
@@ -303,10 +303,10 @@ seen_shows home nodes o r = record {
   silent_et = λ right never. cond-false _ r.et _ (or_from _ _ right never);
 }
   where
-    found_ct : may home nodes o discovery_bit r ≡ true → (seen home nodes o r).ct ≡ r.ct
+    found_ct : has_bit home nodes o discovery_bit r ≡ true → (seen home nodes o r).ct ≡ r.ct
     found_ct right = cond-true _ r.ct 0 (or_left _ _ (or_right _ _ right))
 
-    found_lt : may home nodes o discovery_bit r ≡ true → (seen home nodes o r).lt ≡ r.lt
+    found_lt : has_bit home nodes o discovery_bit r ≡ true → (seen home nodes o r).lt ≡ r.lt
     found_lt right = cond-true _ r.lt 0 (or_right _ _ right)
 
     inside_ct : is_filled_in home nodes o r ≡ true → (seen home nodes o r).ct ≡ r.ct
@@ -326,8 +326,8 @@ module _ (home : HomeData) (nodes : List ResourceData) (o : List ℕ) (r s : Res
       | inl shown ↦ elim (or_cases _ _ shown) [
         | inr filled ↦ (let parts = and_parts (fills home nodes o r) _ filled in shows.filled parts.0 a parts.1)
         | inl shown ↦ elim (or_cases _ _ shown) [
-          | inr found ↦ (let parts = and_parts (may home nodes o discovery_bit r) _ found in (shows.found parts.0).0 a parts.1)
-          | inl shown ↦ elim (or_cases (is_one_of (shape_attrs r.ty) a) _ shown) [
+          | inr found ↦ (let parts = and_parts (has_bit home nodes o discovery_bit r) _ found in (shows.found parts.0).0 a parts.1)
+          | inl shown ↦ elim (or_cases (is_attr_in (shape_attrs r.ty) a) _ shown) [
             | inr right ↦ ap (value_of a) (shows.retrieved right).0
             | inl one ↦ shows.always.shape a one
           ]
@@ -341,7 +341,7 @@ module _ (home : HomeData) (nodes : List ResourceData) (o : List ℕ) (r s : Res
       let sight = seen_shows home nodes o r in
       elim (cases_Bool (is_shown home nodes o r a)) [
         | inl shown ↦ by_rights a shown ∙ sym (shown_kept home nodes o r a shown)
-        | inr hides ↦ elim (cases_Bool (is_rules r a)) [
+        | inr hides ↦ elim (cases_Bool (is_policy_rules r a)) [
           | inl rules ↦ shows.rules a rules hides ∙ sym (sight.rules a rules hides)
           | inr other ↦ elim (cases_Bool (is_way r a)) [
             | inl way ↦
@@ -357,7 +357,7 @@ module _ (home : HomeData) (nodes : List ResourceData) (o : List ℕ) (r s : Res
   pub moments-pinned : (s.ct ≡ seen_ct home nodes o r) × (s.lt ≡ seen_lt home nodes o r) × (s.et ≡ seen_et home nodes o r)
   moments-pinned =
       let sight = seen_shows home nodes o r in
-      elim (cases_Bool (may home nodes o retrieve_bit r)) [
+      elim (cases_Bool (has_bit home nodes o retrieve_bit r)) [
         | inl right ↦
             let mine = shows.retrieved right in
             let whole = sight.retrieved right in
@@ -365,14 +365,14 @@ module _ (home : HomeData) (nodes : List ResourceData) (o : List ℕ) (r s : Res
         | inr none ↦ (by_ct none, by_lt none, by_et none)
       ]
     where
-      by_lt : may home nodes o retrieve_bit r ≡ false → s.lt ≡ seen_lt home nodes o r
-      by_lt none = elim (cases_Bool (may home nodes o discovery_bit r)) [
+      by_lt : has_bit home nodes o retrieve_bit r ≡ false → s.lt ≡ seen_lt home nodes o r
+      by_lt none = elim (cases_Bool (has_bit home nodes o discovery_bit r)) [
         | inl finds ↦ (shows.found finds).2 ∙ sym ((seen_shows home nodes o r).found finds).2
         | inr silent ↦ shows.silent_lt none silent ∙ sym ((seen_shows home nodes o r).silent_lt none silent)
       ]
 
-      by_ct : may home nodes o retrieve_bit r ≡ false → s.ct ≡ seen_ct home nodes o r
-      by_ct none = elim (cases_Bool (may home nodes o discovery_bit r)) [
+      by_ct : has_bit home nodes o retrieve_bit r ≡ false → s.ct ≡ seen_ct home nodes o r
+      by_ct none = elim (cases_Bool (has_bit home nodes o discovery_bit r)) [
         | inl finds ↦ (shows.found finds).1 ∙ sym ((seen_shows home nodes o r).found finds).1
         | inr silent ↦ elim (cases_Bool (is_filled_in home nodes o r)) [
           | inl inside ↦ (shows.inside inside).1 ∙ sym ((seen_shows home nodes o r).inside inside).1
@@ -380,7 +380,7 @@ module _ (home : HomeData) (nodes : List ResourceData) (o : List ℕ) (r s : Res
         ]
       ]
 
-      by_et : may home nodes o retrieve_bit r ≡ false → s.et ≡ seen_et home nodes o r
+      by_et : has_bit home nodes o retrieve_bit r ≡ false → s.et ≡ seen_et home nodes o r
       by_et none = elim (cases_Bool (is_filled_in home nodes o r)) [
         | inl inside ↦ (shows.inside inside).2 ∙ sym ((seen_shows home nodes o r).inside inside).2
         | inr never ↦ shows.silent_et none never ∙ sym ((seen_shows home nodes o r).silent_et none never)

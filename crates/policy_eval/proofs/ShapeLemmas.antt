@@ -10,15 +10,15 @@ use Rattle.resource_model.specs.Home.{HomeData}
 use Rattle.resource_model.specs.Resource.{ResourceData}
 use Rattle.tree_model.specs.Tree.{at, due, is_well_formed}
 use Rattle.tree_model.proofs.GrowthLemmas.{tree_from_well_formed}
-use Rattle.policy_eval.specs.Alike.{is_one_of, shape_attrs}
-use Rattle.policy_eval.specs.Seen.{is_shown, is_rules, is_way, seen_value, seen_row, seen_owner, seen, seen_list}
+use Rattle.policy_eval.specs.Alike.{is_attr_in, shape_attrs}
+use Rattle.policy_eval.specs.Seen.{is_shown, is_policy_rules, is_way, seen_value, seen_row, seen_owner, seen, seen_list}
 use Rattle.policy_eval.specs.Shape.{shape_value, shape_row, shape_of, shape_list, SightHasShape}
 use Rattle.policy_eval.proofs.AlikeLemmas.{map_from_zip}
 use Rattle.policy_eval.proofs.DueLemmas.{due-seen}
 use Rattle.policy_eval.proofs.TwiceLemmas.{made, owner_twice, twice_filtered, value_twice, zip-found}
 
 module _ (home : HomeData) (nodes : List ResourceData) (o : List ℕ) where
-  is_shown-shape : (r : ResourceData) (a : Attr) → is_one_of (shape_attrs r.ty) a ≡ true → is_shown home nodes o r a ≡ true
+  is_shown-shape : (r : ResourceData) (a : Attr) → is_attr_in (shape_attrs r.ty) a ≡ true → is_shown home nodes o r a ≡ true
   is_shown-shape r a one = or_left _ _ (or_left _ _ (or_left _ _ (or_left _ _ (or_left _ _ one))))
 
   attrs-shape : (r : ResourceData) → (shape_of home (seen_list home nodes o) o (seen home nodes o r)).attrs ≡ (shape_of home nodes o r).attrs
@@ -27,7 +27,7 @@ module _ (home : HomeData) (nodes : List ResourceData) (o : List ℕ) where
     where
       row_shape : (a : Attr) (d : Data) → option_and_then (shape_row home o (seen home nodes o r)) (option_map (λ x. (a, x)) (seen_value home nodes o r a d)) ≡ option_map (λ x. (a, x)) (shape_value home o r a d)
       row_shape a d =
-          by_value (seen_value home nodes o r a d) _ (value_twice home o (is_one_of (shape_attrs r.ty) a) (is_shown home nodes o r a) (is_rules r a) (is_way r a) d (is_shown-shape r a))
+          by_value (seen_value home nodes o r a d) _ (value_twice home o (is_attr_in (shape_attrs r.ty) a) (is_shown home nodes o r a) (is_policy_rules r a) (is_way r a) d (is_shown-shape r a))
         where
           by_value : (x y : Option Data) → option_and_then (shape_value home o (seen home nodes o r) a) x ≡ y → option_and_then (shape_row home o (seen home nodes o r)) (option_map (λ z. (a, z)) x) ≡ option_map (λ z. (a, z)) y
           by_value None y e = rw (sym e) refl

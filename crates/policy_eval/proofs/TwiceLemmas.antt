@@ -14,7 +14,7 @@ use Rattle.m2m_value.specs.Data.{Data}
 use Rattle.resource_model.specs.Attributes.{Row}
 use Rattle.resource_model.specs.Home.{HomeData}
 use Rattle.resource_model.specs.Resource.{ResourceData}
-use Rattle.tree_model.specs.Tree.{at, due, due_under, fits, is_due, is_spared, is_tree, is_well_formed, live, without}
+use Rattle.tree_model.specs.Tree.{at, due, due_under, may_stand, is_due, is_spared, is_tree, is_well_formed, live, without}
 use Rattle.tree_model.proofs.GrowthLemmas.{at-without, below_lacks, growth, next_fits, tree_from_well_formed}
 use Rattle.tree_model.proofs.KeptLemmas.{is_tree-without}
 use Rattle.tree_model.proofs.LiveLemmas.{at-without_parent, due-without}
@@ -22,7 +22,7 @@ use Rattle.tree_model.proofs.TreeLemmas.{at-append, at-map, at_none}
 use Rattle.policy_eval.specs.Originators.{is_same}
 use Rattle.policy_eval.specs.Rules.{rules_in}
 use Rattle.policy_eval.specs.Rights.{bits_by}
-use Rattle.policy_eval.specs.Seen.{retrieve_bit, discovery_bit, create_bit, update_bit, may, fills, is_filled_in, may_use, is_shown, is_url, first_url, only_point, plain_rules, seen_rules, seen_points, is_rules, is_way, seen_value, seen_row, another, seen_owner, seen_ct, seen_lt, seen_et, seen, seen_list}
+use Rattle.policy_eval.specs.Seen.{retrieve_bit, discovery_bit, create_bit, update_bit, has_bit, fills, is_filled_in, may_use, is_shown, is_url, first_url, only_point, plain_rules, seen_rules, seen_points, is_policy_rules, is_way, seen_value, seen_row, another, seen_owner, seen_ct, seen_lt, seen_et, seen, seen_list}
 use Rattle.policy_eval.proofs.AlikeLemmas.{without-zip, map_from_zip}
 use Rattle.policy_eval.proofs.BitLemmas.{IsBelow, has_more}
 use Rattle.policy_eval.proofs.RemovalLemmas.{Keeps, keeps_without, rules_less, fan_less}
@@ -102,7 +102,7 @@ value_twice home o false false false false d kept = refl
 -- ---- what rights show on the lesser list they show on the greater
 
 module _ (home : HomeData) (o : List ℕ) (less more : List ResourceData) (keeps : Keeps less more) where
-  may-more : (bit : ℕ) (r : ResourceData) → may home less o bit r ≡ true → may home more o bit r ≡ true
+  may-more : (bit : ℕ) (r : ResourceData) → has_bit home less o bit r ≡ true → has_bit home more o bit r ≡ true
   may-more bit r = has_more _ _ bit (rules_less home o less more keeps r).bits
 
   fills-more : (r : ResourceData) → fills home less o r ≡ true → fills home more o r ≡ true
@@ -132,7 +132,7 @@ module _ (home : HomeData) (o : List ℕ) (less more : List ResourceData) (keeps
 -- ---- a map over a tree asks each resource that is found
 
 pub zip-found : (R : ResourceData → ResourceData → Type 0) (g : ResourceData → ResourceData) (nodes : List ResourceData) → is_tree nodes ≡ true → ((r : ResourceData) → at r.number nodes ≡ Some r → R (g r) r) → AllZip R (map g nodes) nodes
-zip-found R g = growth fits (λ nodes. ((r : ResourceData) → at r.number nodes ≡ Some r → R (g r) r) → AllZip R (map g nodes) nodes) (λ rel. tt) (λ before r grew fit holds rel.
+zip-found R g = growth may_stand (λ nodes. ((r : ResourceData) → at r.number nodes ≡ Some r → R (g r) r) → AllZip R (map g nodes) nodes) (λ rel. tt) (λ before r grew fit holds rel.
     let free : at r.number before ≡ None = at_none r.number before (below_lacks r.number before (next_fits before r fit).number) in
     let last : at r.number (before ++ r ∷ []) ≡ Some r =
     at-append r.number before (r ∷ []) ∙ ap (λ (x : Option ResourceData). option_or x (at r.number (r ∷ []))) free ∙ ap (λ b. cond b (Some r) None) (eq-eqb r.number r.number refl) in
@@ -171,12 +171,12 @@ module _ (home : HomeData) (nodes : List ResourceData) (o : List ℕ) (well : is
 
   -- the moments are seen by these
   abbrev tells : List ResourceData → ResourceData → Bool
-  tells rs r = may home rs o retrieve_bit r || may home rs o discovery_bit r
+  tells rs r = has_bit home rs o retrieve_bit r || has_bit home rs o discovery_bit r
 
   tells-seen : (r : ResourceData) → tells had (seen home nodes o r) ≡ tells left r
   tells-seen r =
-      ap (λ b. b || may home had o discovery_bit (seen home nodes o r)) (may-seen home o nodes left retrieve_bit r)
-      ∙ ap (λ b. may home left o retrieve_bit r || b) (may-seen home o nodes left discovery_bit r)
+      ap (λ b. b || has_bit home had o discovery_bit (seen home nodes o r)) (may-seen home o nodes left retrieve_bit r)
+      ∙ ap (λ b. has_bit home left o retrieve_bit r || b) (may-seen home o nodes left discovery_bit r)
 
   tells-more : (r : ResourceData) → tells left r ≡ true → tells nodes r ≡ true
   tells-more r = or_more _ _ _ _ (may-more home o left nodes keeps retrieve_bit r) (may-more home o left nodes keeps discovery_bit r)
@@ -204,8 +204,8 @@ module _ (home : HomeData) (nodes : List ResourceData) (o : List ℕ) (well : is
 
           value_seen : (a : Attr) (d : Data) → option_and_then (seen_value home had o (seen home nodes o r) a) (seen_value home nodes o r a d) ≡ seen_value home left o r a d
           value_seen a d =
-              ap (λ b. option_and_then (value_by home o b (is_rules r a) (is_way r a)) (seen_value home nodes o r a d)) (is_shown-seen home o nodes left a r)
-              ∙ value_twice home o (is_shown home left o r a) (is_shown home nodes o r a) (is_rules r a) (is_way r a) d (is_shown-more home o left nodes keeps r a)
+              ap (λ b. option_and_then (value_by home o b (is_policy_rules r a) (is_way r a)) (seen_value home nodes o r a d)) (is_shown-seen home o nodes left a r)
+              ∙ value_twice home o (is_shown home left o r a) (is_shown home nodes o r a) (is_policy_rules r a) (is_way r a) d (is_shown-more home o left nodes keeps r a)
 
   module _ (r : ResourceData) (found : at r.number (without picks nodes) ≡ Some r) where
     there : at r.number nodes ≡ Some r
@@ -232,9 +232,9 @@ module _ (home : HomeData) (nodes : List ResourceData) (o : List ℕ) (well : is
         let et = seen_et home nodes o r in
         let end = unwrap_or (due had (seen home nodes o r)) 0 in
         ap (λ b. cond (b || is_filled_in home had o (seen home nodes o r)) et end) (may-seen home o nodes left retrieve_bit r)
-        ∙ ap (λ b. cond (may home left o retrieve_bit r || b) et end) (is_filled_in-seen home o nodes left r)
+        ∙ ap (λ b. cond (has_bit home left o retrieve_bit r || b) et end) (is_filled_in-seen home o nodes left r)
         ∙ twice_chosen _ _ r.et (unwrap_or (due nodes r) 0) end (or_more _ _ _ _ (may-more home o left nodes keeps retrieve_bit r) (is_filled_in-more home o left nodes keeps r))
-        ∙ ap (λ (d : Option ℕ). cond (may home left o retrieve_bit r || is_filled_in home left o r) r.et (unwrap_or d 0)) (due-had ∙ sym (due-without picks nodes r tree there spared))
+        ∙ ap (λ (d : Option ℕ). cond (has_bit home left o retrieve_bit r || is_filled_in home left o r) r.et (unwrap_or d 0)) (due-had ∙ sym (due-without picks nodes r tree there spared))
 
     pub seen-twice : seen home (map (seen home nodes o) (without picks nodes)) o (seen home nodes o r) ≡ seen home (without picks nodes) o r
     seen-twice =

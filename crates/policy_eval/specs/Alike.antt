@@ -13,12 +13,12 @@ use Rattle.policy_eval.specs.Rules.{rules_in}
 use Rattle.policy_eval.specs.Rights.{bits_by}
 
 -- one of these attributes
-abbrev pub is_one_of : List Attr → Attr → Bool
-is_one_of attrs a = list_any (is_attr a) attrs
+abbrev pub is_attr_in : List Attr → Attr → Bool
+is_attr_in attrs a = list_any (is_attr a) attrs
 
 -- these attributes have the same values
 abbrev pub Agree : List Attr → ResourceData → ResourceData → Type 0
-Agree attrs s r = (a : Attr) → is_one_of attrs a ≡ true → value_of a s.attrs ≡ value_of a r.attrs
+Agree attrs s r = (a : Attr) → is_attr_in attrs a ≡ true → value_of a s.attrs ≡ value_of a r.attrs
 
 -- attributes that name a resource of the type: the AE-ID of an AE, the CSE-ID of a remote CSE
 abbrev pub id_attrs : Ty → List Attr

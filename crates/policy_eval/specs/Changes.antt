@@ -13,10 +13,10 @@ use Rattle.m2m_value.specs.View.{as_text}
 use Rattle.resource_model.specs.Attributes.{Row, with_value, without_value}
 use Rattle.resource_model.specs.Home.{HomeData}
 use Rattle.resource_model.specs.Resource.{ResourceData, is_ty, has_number}
-use Rattle.policy_eval.specs.Alike.{is_one_of, id_attrs}
+use Rattle.policy_eval.specs.Alike.{is_attr_in, id_attrs}
 use Rattle.policy_eval.specs.Rules.{policy_number, ids_at}
 use Rattle.policy_eval.specs.Rights.{create_bit, retrieve_bit, update_bit, grants}
-use Rattle.policy_eval.specs.Seen.{may, seen_value}
+use Rattle.policy_eval.specs.Seen.{has_bit, seen_value}
 
 -- the resource is a policy, and the id is its resource id
 abbrev pub is_id_of : ResourceData → Data → Bool
@@ -67,7 +67,7 @@ changed changes lt et r = record r {
 -- elsewhere, but for a fan-out: which policies hold for it, a policy's rules, and whose a polling
 -- channel is
 abbrev pub does_judge : Ty → Attr → Bool
-does_judge ty a = is_one_of (Acpi ∷ Pv ∷ Pvs ∷ id_attrs ty) a
+does_judge ty a = is_attr_in (Acpi ∷ Pv ∷ Pvs ∷ id_attrs ty) a
 
 -- one of the changes is of such an attribute
 abbrev pub do_judge : Ty → List NewValue → Bool
@@ -76,7 +76,7 @@ do_judge ty changes = list_any (λ c. does_judge ty c.0) changes
 -- one of the changes is of an attribute by which something else is seen: when the instances of a
 -- container are due, or who may fan out to a group and so sees its members
 abbrev pub do_reach : List NewValue → Bool
-do_reach changes = list_any (λ c. is_one_of (Mia ∷ Macp ∷ []) c.0) changes
+do_reach changes = list_any (λ c. is_attr_in (Mia ∷ Macp ∷ []) c.0) changes
 
 -- what the originator sees of changes of a resource
 abbrev pub seen_changes : HomeData → List ResourceData → List ℕ → ResourceData → List NewValue →
@@ -91,4 +91,4 @@ pub record ShowNoMore (home : HomeData) (nodes : List ResourceData) (o : List �
     (r : ResourceData) (changes : List NewValue) : Type 0 where
   pub other : is_ty r.ty ContentInstance ≡ false
   pub free : do_judge r.ty changes ≡ false
-  pub reach : do_reach changes ≡ true → may home nodes o update_bit r ≡ true
+  pub reach : do_reach changes ≡ true → has_bit home nodes o update_bit r ≡ true

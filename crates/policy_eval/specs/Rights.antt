@@ -29,14 +29,14 @@ discovery_bit = 32
 -- ---- who has them
 
 -- the originator is one of these
-abbrev pub is_among : HomeData → List ℕ → Subjects → Bool
-is_among home o (named entries) = list_any (does_name home o) entries
-is_among home o (only text) = is_same home o text
+abbrev pub is_subject : HomeData → List ℕ → Subjects → Bool
+is_subject home o (named entries) = list_any (does_name home o) entries
+is_subject home o (only text) = is_same home o text
 
 -- these bits and those of a rule that is for the originator
 abbrev pub with_rule : HomeData → List ℕ → ℕ → Rule → ℕ
 with_rule home o bits rule =
-    if is_among home o rule.subjects then bit_or bits rule.bits else bits
+    if is_subject home o rule.subjects then bit_or bits rule.bits else bits
 
 -- these bits and those of all rules that are for the originator
 abbrev pub with_rules : HomeData → List ℕ → ℕ → List Rule → ℕ

@@ -1,6 +1,6 @@
 -- The rules of a resource.
-use Rattle.std.specs.Prelude.{ℕ, nat_lt, ℤ, pos, negsuc, Bool, List, [], ◌∷◌, length, map, codes}
-use Rattle.std.specs.Prelude.{Option, Some, None, option_and_then, unwrap_or, if◌then◌else◌}
+use Rattle.std.specs.Prelude.{ℕ, nat_le, nat_lt, ℤ, pos, negsuc, Bool, List, [], ◌∷◌, length, map}
+use Rattle.std.specs.Prelude.{codes, Option, Some, None, option_and_then, unwrap_or, if◌then◌else◌}
 use Rattle.std.specs.List.{filter_map, flat_map}
 use Rattle.std.specs.Option.{option_map_or}
 use Rattle.m2m_names.specs.declared.attributes.Attr.{Attr}
@@ -37,7 +37,7 @@ all_bits = 63
 
 -- a sum of the six bits; a number that is none gives nothing
 abbrev pub sum_of_bits : ℤ → ℕ
-sum_of_bits (pos n) = if nat_lt n 64 then n else 0
+sum_of_bits (pos n) = if nat_le n all_bits then n else 0
 sum_of_bits (negsuc n) = 0
 
 -- a rule that gives one originator, or everyone for `all`, these bits
@@ -54,26 +54,26 @@ written_rules rules = object (pairs_of ((codes "acr", list (elements_of rules)) 
 abbrev pub member_at : List ℕ → Data → Option Data
 member_at key d = option_and_then (member_of key) (as_object d)
 
-abbrev pub number_at : List ℕ → Data → Option ℤ
-number_at key d = option_and_then as_number (member_at key d)
+abbrev pub member_number : List ℕ → Data → Option ℤ
+member_number key d = option_and_then as_number (member_at key d)
 
 -- the elements of a list; of what is no list none
-abbrev pub elements_in : Option Data → List Data
-elements_in d = unwrap_or (option_and_then as_list d) []
+abbrev pub listed_in : Option Data → List Data
+listed_in d = unwrap_or (option_and_then as_list d) []
 
 -- the texts among values
 abbrev pub texts_of : List Data → List (List ℕ)
 texts_of ds = filter_map as_text ds
 
 -- a rule as it is written: its `acor` and its `acop` (TS-0004, 7.4.2)
-abbrev pub rule_of : Data → Rule
-rule_of d =
-    rule_for (named (texts_of (elements_in (member_at (codes "acor") d))))
-    (option_map_or sum_of_bits (number_at (codes "acop") d) 0)
+abbrev pub stated_rule : Data → Rule
+stated_rule d =
+    rule_for (named (texts_of (listed_in (member_at (codes "acor") d))))
+    (option_map_or sum_of_bits (member_number (codes "acop") d) 0)
 
 -- the rules of `pv` or `pvs`: its `acr`
 abbrev pub rules_in : Option Data → List Rule
-rules_in d = map rule_of (elements_in (option_and_then (member_at (codes "acr")) d))
+rules_in d = map stated_rule (listed_in (option_and_then (member_at (codes "acr")) d))
 
 -- ---- the policies that a list of resource ids names
 
@@ -101,15 +101,15 @@ abbrev pub policies_of : List ResourceData → List Data → List ResourceData
 policies_of nodes ids = filter_map (policy_of nodes) ids
 
 -- their rules by one of their two lists, `pv` or `pvs`, joined
-abbrev pub joined : Attr → List ResourceData → List Data → List Rule
-joined attr nodes ids =
+abbrev pub rules_by : Attr → List ResourceData → List Data → List Rule
+rules_by attr nodes ids =
     flat_map (λ (p : ResourceData). rules_in (value_of attr p.attrs)) (policies_of nodes ids)
 
 -- ---- the rules of a resource
 
 -- the ids that an attribute of it lists; an empty list is as good as none
 abbrev pub ids_at : Attr → ResourceData → List Data
-ids_at attr r = elements_in (value_of attr r.attrs)
+ids_at attr r = listed_in (value_of attr r.attrs)
 
 -- it lists at least one
 abbrev pub lists_ids : Attr → ResourceData → Bool
@@ -123,7 +123,7 @@ owner_rules r = rule_for (only r.owner) all_bits ∷ []
 -- (TS-0001, 9.6.1.3.2)
 abbrev pub linked_rules : Attr → List ResourceData → ResourceData → List Rule
 linked_rules attr nodes r =
-    if lists_ids Acpi r then joined attr nodes (ids_at Acpi r) else owner_rules r
+    if lists_ids Acpi r then rules_by attr nodes (ids_at Acpi r) else owner_rules r
 
 -- the AE-ID or CSE-ID of an application entity or of a remote CSE
 abbrev pub registree : ResourceData → Option (List ℕ)
@@ -152,7 +152,7 @@ rules_of nodes r =
 -- absent or empty (TS-0001, 9.6.13)
 abbrev pub fan_rules : List ResourceData → ResourceData → List Rule
 fan_rules nodes group =
-    if lists_ids Macp group then joined Pv nodes (ids_at Macp group) else rules_of nodes group
+    if lists_ids Macp group then rules_by Pv nodes (ids_at Macp group) else rules_of nodes group
 
 -- the rules by which a change of `acpi` is judged: by `pvs` of the policies that it names as it
 -- stands

@@ -19,21 +19,21 @@ use Rattle.resource_model.specs.Home.{HomeData}
 use Rattle.resource_model.specs.Resource.{ResourceData, is_ty}
 use Rattle.tree_model.specs.Tree.{at, due}
 use Rattle.policy_eval.specs.Originators.{is_same}
-use Rattle.policy_eval.specs.Rules.{rules_in, rules_of, fan_rules, texts_of, elements_in}
+use Rattle.policy_eval.specs.Rules.{rules_in, rules_of, fan_rules, texts_of, listed_in}
 use Rattle.policy_eval.specs.Rules.{written_rule, written_rules}
 pub use Rattle.policy_eval.specs.Rights.{create_bit, retrieve_bit, update_bit, discovery_bit}
 use Rattle.policy_eval.specs.Rights.{bits_by, do_give}
-use Rattle.policy_eval.specs.Alike.{is_one_of, Agree, shape_attrs, Alike}
+use Rattle.policy_eval.specs.Alike.{is_attr_in, Agree, shape_attrs, Alike}
 
 -- ---- rights of the originator, by what they show
 
 -- it has this bit on the resource
-abbrev pub may : HomeData → List ResourceData → List ℕ → ℕ → ResourceData → Bool
-may home nodes o bit r = do_give home o bit (rules_of nodes r)
+abbrev pub has_bit : HomeData → List ResourceData → List ℕ → ℕ → ResourceData → Bool
+has_bit home nodes o bit r = do_give home o bit (rules_of nodes r)
 
 -- it may add to the resource or change it, so that it can learn the resource's limits
 abbrev pub may_fill : HomeData → List ResourceData → List ℕ → ResourceData → Bool
-may_fill home nodes o r = may home nodes o create_bit r || may home nodes o update_bit r
+may_fill home nodes o r = has_bit home nodes o create_bit r || has_bit home nodes o update_bit r
 
 -- a container that it may fill
 abbrev pub fills : HomeData → List ResourceData → List ℕ → ResourceData → Bool
@@ -48,7 +48,7 @@ is_filled_in home nodes o r =
 abbrev pub may_use : HomeData → List ResourceData → List ℕ → ResourceData → Bool
 may_use home nodes o r =
     is_ty r.ty Group
-    && (may home nodes o update_bit r || nat_lt 0 (bits_by home o (fan_rules nodes r)))
+    && (has_bit home nodes o update_bit r || nat_lt 0 (bits_by home o (fan_rules nodes r)))
 
 -- ---- what is shown of a resource
 
@@ -71,12 +71,12 @@ member_attrs = Mid ∷ Mnm ∷ Mt ∷ Csy ∷ []
 -- the value of an attribute is shown
 abbrev pub is_shown : HomeData → List ResourceData → List ℕ → ResourceData → Attr → Bool
 is_shown home nodes o r a =
-    is_one_of (shape_attrs r.ty) a
-    || may home nodes o retrieve_bit r
-    || (may home nodes o discovery_bit r && is_one_of found_attrs a)
-    || (fills home nodes o r && is_one_of limit_attrs a)
-    || (is_filled_in home nodes o r && is_one_of size_attrs a)
-    || (may_use home nodes o r && is_one_of member_attrs a)
+    is_attr_in (shape_attrs r.ty) a
+    || has_bit home nodes o retrieve_bit r
+    || (has_bit home nodes o discovery_bit r && is_attr_in found_attrs a)
+    || (fills home nodes o r && is_attr_in limit_attrs a)
+    || (is_filled_in home nodes o r && is_attr_in size_attrs a)
+    || (may_use home nodes o r && is_attr_in member_attrs a)
 
 -- rules that give everyone these bits, as `pv` or `pvs` writes them
 abbrev pub plain_rules : ℕ → Data
@@ -87,8 +87,8 @@ abbrev pub seen_rules : HomeData → List ℕ → Data → Data
 seen_rules home o rules = plain_rules (bits_by home o (rules_in (Some rules)))
 
 -- the rules of a policy
-abbrev pub is_rules : ResourceData → Attr → Bool
-is_rules r a = is_ty r.ty AccessControlPolicy && is_one_of (Pv ∷ Pvs ∷ []) a
+abbrev pub is_policy_rules : ResourceData → Attr → Bool
+is_policy_rules r a = is_ty r.ty AccessControlPolicy && is_attr_in (Pv ∷ Pvs ∷ []) a
 
 -- a point of access that is an http URL (RFC 3986)
 abbrev pub is_url : List ℕ → Bool
@@ -96,7 +96,7 @@ is_url address = is_some (host_end_at address)
 
 -- the first of the points of access that is a URL
 abbrev pub first_url : Option Data → Option (List ℕ)
-first_url points = find is_url (texts_of (elements_in points))
+first_url points = find is_url (texts_of (listed_in points))
 
 -- the URL as the only point of access
 abbrev pub only_point : List ℕ → Data
@@ -121,7 +121,7 @@ is_way r a = is_ty r.ty RemoteCse && is_attr a Poa
 -- in, and of all else nothing
 abbrev pub hidden_value : HomeData → List ℕ → ResourceData → Attr → Data → Option Data
 hidden_value home o r a d =
-    if is_rules r a then Some (seen_rules home o d) else
+    if is_policy_rules r a then Some (seen_rules home o d) else
     if is_way r a then seen_points d else None
 
 -- what it sees of a value
@@ -150,18 +150,18 @@ with_seen_owner home o r = record r { owner = seen_owner home o r }
 -- its moments
 abbrev pub seen_ct : HomeData → List ResourceData → List ℕ → ResourceData → ℕ
 seen_ct home nodes o r =
-    if may home nodes o retrieve_bit r || may home nodes o discovery_bit r
+    if has_bit home nodes o retrieve_bit r || has_bit home nodes o discovery_bit r
     || is_filled_in home nodes o r
     then r.ct else 0
 
 abbrev pub seen_lt : HomeData → List ResourceData → List ℕ → ResourceData → ℕ
 seen_lt home nodes o r =
-    if may home nodes o retrieve_bit r || may home nodes o discovery_bit r then r.lt else 0
+    if has_bit home nodes o retrieve_bit r || has_bit home nodes o discovery_bit r then r.lt else 0
 
 -- where the expiry is hidden, when it is due is seen
 abbrev pub seen_et : HomeData → List ResourceData → List ℕ → ResourceData → ℕ
 seen_et home nodes o r =
-    if may home nodes o retrieve_bit r || is_filled_in home nodes o r
+    if has_bit home nodes o retrieve_bit r || is_filled_in home nodes o r
     then r.et else unwrap_or (due nodes r) 0
 
 -- the resource as the originator sees it
@@ -192,10 +192,10 @@ pub record Shows (home : HomeData) (nodes : List ResourceData) (o : List ℕ)
   pub always : Alike home o s r
   pub way : is_ty r.ty RemoteCse ≡ true → way_in s.attrs ≡ way_in r.attrs
   -- with RETRIEVE all but the owner's name
-  pub retrieved : may home nodes o retrieve_bit r ≡ true →
+  pub retrieved : has_bit home nodes o retrieve_bit r ≡ true →
       (s.attrs ≡ r.attrs) × (s.ct ≡ r.ct) × (s.lt ≡ r.lt) × (s.et ≡ r.et)
   -- with DISCOVERY
-  pub found : may home nodes o discovery_bit r ≡ true →
+  pub found : has_bit home nodes o discovery_bit r ≡ true →
       Agree found_attrs s r × (s.ct ≡ r.ct) × (s.lt ≡ r.lt)
   -- of a container that it may fill, and of its instances
   pub filled : fills home nodes o r ≡ true → Agree limit_attrs s r
@@ -206,20 +206,21 @@ pub record Shows (home : HomeData) (nodes : List ResourceData) (o : List ℕ)
   -- of an owner nothing but whether it is the originator
   pub owner : s.owner ≡ seen_owner home o r
   -- of hidden rules nothing but what they give the originator
-  pub rules : (a : Attr) → is_rules r a ≡ true → is_shown home nodes o r a ≡ false →
+  pub rules : (a : Attr) → is_policy_rules r a ≡ true → is_shown home nodes o r a ≡ false →
       value_of a s.attrs ≡ option_map (seen_rules home o) (value_of a r.attrs)
   -- of hidden points of access nothing but the first URL
   pub points : is_ty r.ty RemoteCse ≡ true → is_shown home nodes o r Poa ≡ false →
       value_of Poa s.attrs ≡ option_map only_point (way_in r.attrs)
   -- of other hidden attributes nothing
   pub hidden : (a : Attr) → is_shown home nodes o r a ≡ false →
-      is_rules r a ≡ false → is_way r a ≡ false → value_of a s.attrs ≡ None
+      is_policy_rules r a ≡ false → is_way r a ≡ false → value_of a s.attrs ≡ None
   -- hidden moments are 0, but when it is due is seen
-  pub silent_ct : may home nodes o retrieve_bit r ≡ false →
-      may home nodes o discovery_bit r ≡ false →
+  pub silent_ct : has_bit home nodes o retrieve_bit r ≡ false →
+      has_bit home nodes o discovery_bit r ≡ false →
       is_filled_in home nodes o r ≡ false → s.ct ≡ 0
-  pub silent_lt : may home nodes o retrieve_bit r ≡ false →
-      may home nodes o discovery_bit r ≡ false →
+  pub silent_lt : has_bit home nodes o retrieve_bit r ≡ false →
+      has_bit home nodes o discovery_bit r ≡ false →
       s.lt ≡ 0
-  pub silent_et : may home nodes o retrieve_bit r ≡ false → is_filled_in home nodes o r ≡ false →
+  pub silent_et : has_bit home nodes o retrieve_bit r ≡ false →
+      is_filled_in home nodes o r ≡ false →
       s.et ≡ unwrap_or (due nodes r) 0

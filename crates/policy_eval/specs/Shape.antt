@@ -11,13 +11,13 @@ use Rattle.resource_model.specs.Attributes.{Row}
 use Rattle.resource_model.specs.Home.{HomeData}
 use Rattle.resource_model.specs.Resource.{ResourceData}
 use Rattle.tree_model.specs.Tree.{due, is_well_formed}
-use Rattle.policy_eval.specs.Alike.{is_one_of, shape_attrs}
+use Rattle.policy_eval.specs.Alike.{is_attr_in, shape_attrs}
 use Rattle.policy_eval.specs.Seen.{hidden_value, seen_owner, seen_list}
 
 -- of a value
 abbrev pub shape_value : HomeData → List ℕ → ResourceData → Attr → Data → Option Data
 shape_value home o r a d =
-    if is_one_of (shape_attrs r.ty) a then Some d else hidden_value home o r a d
+    if is_attr_in (shape_attrs r.ty) a then Some d else hidden_value home o r a d
 
 abbrev pub shape_row : HomeData → List ℕ → ResourceData → Row → Option Row
 shape_row home o r row = option_map (λ d. (row.0, d)) (shape_value home o r row.0 row.1)

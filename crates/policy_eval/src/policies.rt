@@ -9,6 +9,9 @@ use m2m_names::{Attr, Ty, read_id};
 use m2m_value::Val;
 use tree_model::{Resource, Tree};
 
+/// All six bits of `acop`.
+pub const ALL_BITS: u32 = 63;
+
 /// The member of an object.
 fn member_at<'a>(value: &'a Val, key: &[u8]) -> Option<&'a Val>
     ensures { option_map (λ v. v.now) result ≡ spec.member_at key.now value.now }
@@ -17,8 +20,8 @@ fn member_at<'a>(value: &'a Val, key: &[u8]) -> Option<&'a Val>
 }
 
 /// The elements of a list; of what is no list none.
-fn elements_in(value: Option<&Val>) -> &[Val]
-    ensures { result.now ≡ spec.elements_in (option_map (λ v. v.now) value.entry) }
+fn listed_in(value: Option<&Val>) -> &[Val]
+    ensures { result.now ≡ spec.listed_in (option_map (λ v. v.now) value.entry) }
 {
     match value {
         Some(value) => elements_of(value),
@@ -27,7 +30,7 @@ fn elements_in(value: Option<&Val>) -> &[Val]
 }
 
 fn elements_of(value: &Val) -> &[Val]
-    ensures { result.now ≡ spec.elements_in (Some value.now) }
+    ensures { result.now ≡ spec.listed_in (Some value.now) }
 {
     match value.as_list() {
         Some(items) => items.entries(),
@@ -37,33 +40,34 @@ fn elements_of(value: &Val) -> &[Val]
 
 /// The rules of `pv` or `pvs`, as they are written.
 pub fn rules_in(value: Option<&Val>) -> &[Val]
-    ensures { map spec.rule_of result.now ≡ spec.rules_in (option_map (λ v. v.now) value.entry) }
+    ensures { map spec.stated_rule result.now
+        ≡ spec.rules_in (option_map (λ v. v.now) value.entry) }
 {
     match value {
-        Some(value) => elements_in(member_at(value, b"acr")),
+        Some(value) => listed_in(member_at(value, b"acr")),
         None => &[],
     }
 }
 
 /// The entries of a rule's `acor`.
 pub fn entries_of(rule: &Val) -> &[Val]
-    ensures { result.now ≡ spec.elements_in (spec.member_at (codes "acor") rule.now) }
+    ensures { result.now ≡ spec.listed_in (spec.member_at (codes "acor") rule.now) }
 {
-    elements_in(member_at(rule, b"acor"))
+    listed_in(member_at(rule, b"acor"))
 }
 
 /// The bits that a rule gives, by its `acop`.
 pub fn bits_of(rule: &Val) -> u32
-    ensures { result ≡ (spec.rule_of rule.now).bits }
+    ensures { result ≡ (spec.stated_rule rule.now).bits }
 {
-    match number_at(rule, b"acop") {
+    match member_number(rule, b"acop") {
         Some(n) => sum_of_bits(n),
         None => 0,
     }
 }
 
-fn number_at(value: &Val, key: &[u8]) -> Option<i64>
-    ensures { result ≡ spec.number_at key.now value.now }
+fn member_number(value: &Val, key: &[u8]) -> Option<i64>
+    ensures { result ≡ spec.member_number key.now value.now }
 {
     member_at(value, key)?.as_num()
 }
@@ -71,7 +75,11 @@ fn number_at(value: &Val, key: &[u8]) -> Option<i64>
 fn sum_of_bits(n: i64) -> u32
     ensures { result ≡ spec.sum_of_bits n }
 {
-    if n < 0 || n > 63 { 0 } else { n as u32 }
+    if n < 0 || n > ALL_BITS as i64 {
+        0
+    } else {
+        n as u32
+    }
 }
 
 /// The number in the resource id of a policy.
@@ -110,7 +118,7 @@ pub fn policy_named<'a, T: Tree>(tree: &'a T, id: &Val) -> Option<&'a Resource>
 pub fn ids_at(attr: Attr, resource: &Resource) -> &[Val]
     ensures { result.now ≡ spec.ids_at attr resource.now }
 {
-    elements_in(resource.attrs().get(attr))
+    listed_in(resource.attrs().get(attr))
 }
 
 /// The AE-ID or CSE-ID of an application entity or of a remote CSE.

@@ -7,16 +7,14 @@ ghost use Rattle.policy_eval.specs.Rules.{named, texts_of};
 ghost use Rattle.policy_eval.specs.Rights as spec;
 
 use crate::originators::{does_name, is_same};
-use crate::policies::{bits_of, entries_of, ids_at, policy_named, registree, rules_in};
+use crate::policies::{ALL_BITS, bits_of, entries_of, ids_at, policy_named, registree, rules_in};
 use m2m_names::{Attr, Op, Ty};
 use m2m_value::Val;
 use tree_model::{Home, Resource, Tree};
 
-const ALL_BITS: u32 = 63;
-
 /// Whether an entry of `acor` names the originator.
 fn is_named(home: &Home, o: &[u8], entries: &[Val]) -> bool
-    ensures { result ≡ spec.is_among home.now o.now (named (texts_of entries.now)) }
+    ensures { result ≡ spec.is_subject home.now o.now (named (texts_of entries.now)) }
 {
     for entry in entries {
         if let Some(text) = entry.as_text() {
@@ -29,7 +27,7 @@ fn is_named(home: &Home, o: &[u8], entries: &[Val]) -> bool
 }
 
 fn with_rule(home: &Home, o: &[u8], bits: u32, rule: &Val) -> u32
-    ensures { result ≡ spec.with_rule home.now o.now bits (spec_rules.rule_of rule.now) }
+    ensures { result ≡ spec.with_rule home.now o.now bits (spec_rules.stated_rule rule.now) }
 {
     if is_named(home, o, entries_of(rule)) {
         bits | bits_of(rule)
@@ -40,7 +38,7 @@ fn with_rule(home: &Home, o: &[u8], bits: u32, rule: &Val) -> u32
 
 /// The bits, and those that rules give the originator besides.
 fn with_rules(home: &Home, o: &[u8], bits: u32, rules: &[Val]) -> u32
-    ensures { result ≡ spec.with_rules home.now o.now bits (map spec_rules.rule_of rules.now) }
+    ensures { result ≡ spec.with_rules home.now o.now bits (map spec_rules.stated_rule rules.now) }
 {
     let mut bits = bits;
     for rule in rules {
@@ -50,9 +48,9 @@ fn with_rules(home: &Home, o: &[u8], bits: u32, rules: &[Val]) -> u32
 }
 
 /// The bits that the policies which ids name give by one of their lists of rules.
-fn joined<T: Tree>(tree: &T, home: &Home, o: &[u8], attr: Attr, ids: &[Val]) -> u32
+fn bits_by_policies<T: Tree>(tree: &T, home: &Home, o: &[u8], attr: Attr, ids: &[Val]) -> u32
     ensures { result
-        ≡ spec.bits_by home.now o.now (spec_rules.joined attr (T.nodes tree.now) ids.now) }
+        ≡ spec.bits_by home.now o.now (spec_rules.rules_by attr (T.nodes tree.now) ids.now) }
 {
     let mut bits = 0;
     for id in ids {
@@ -81,7 +79,7 @@ fn linked<T: Tree>(tree: &T, home: &Home, o: &[u8], attr: Attr, resource: &Resou
     if ids.is_empty() {
         only(home, o, resource.owner().entries())
     } else {
-        joined(tree, home, o, attr, ids)
+        bits_by_policies(tree, home, o, attr, ids)
     }
 }
 
@@ -126,7 +124,7 @@ fn fan_bits<T: Tree>(tree: &T, home: &Home, o: &[u8], group: &Resource) -> u32
     if ids.is_empty() {
         bits(tree, home, o, group)
     } else {
-        joined(tree, home, o, Attr::Pv, ids)
+        bits_by_policies(tree, home, o, Attr::Pv, ids)
     }
 }
 

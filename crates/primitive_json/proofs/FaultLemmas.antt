@@ -7,7 +7,7 @@ use Rattle.m2m_names.specs.declared.operations.Op.TheVariants.{Create}
 use Rattle.m2m_value.specs.Data.{Data, Entry}
 use Rattle.m2m_value.specs.View.{member_of}
 use Rattle.primitive_json.specs.Kinds.{read_operation}
-use Rattle.primitive_json.specs.Members.{row_of, all_members, name_of, member_named, is_one_unread, is_read, is_needed}
+use Rattle.primitive_json.specs.Members.{row_of_member, all_members, name_of_member, member_named, is_one_unread, is_read, is_needed}
 use Rattle.primitive_json.specs.Reading.{read_as, is_of_kind, is_good_member, is_good, is_missing, missing_member, bad_entry, request_fault, operation_in}
 use Rattle.primitive_json.specs.declared.fault.PrimFault.{PrimFault}
 use Rattle.primitive_json.specs.declared.fault.PrimFault.TheVariants.{Missing, Bad}
@@ -15,7 +15,7 @@ use Rattle.primitive_json.specs.declared.member.Member.{Member}
 use Rattle.primitive_json.specs.declared.member.Member.TheVariants.{DesiredForm, FilterCriteria, Originator, Operation, Content, ResultContent, Expiry, RequestId, ResponseType, Target, ResourceType}
 
 -- each member is found at its name
-pub named_again : (member : Member) → member_named (name_of member) ≡ Some member
+pub named_again : (member : Member) → member_named (name_of_member member) ≡ Some member
 named_again DesiredForm = refl
 named_again FilterCriteria = refl
 named_again Originator = refl
@@ -36,7 +36,7 @@ read_without_fault (Some fault) made a e = cc
 pub read_if_no_fault : {A : Type 0} (fault : Option PrimFault) (made a : A) → fault ≡ None → made ≡ a → read_as fault made ≡ Ok a
 read_if_no_fault fault made a none same = ap (λ f. read_as f made) none ∙ ap Ok same
 
-neither : (m : Option Member) (e : Option Entry) → option_or (option_map (λ member. Missing (name_of member)) m) (option_map (λ e. Bad e.0) e) ≡ None → (m ≡ None) × (e ≡ None)
+neither : (m : Option Member) (e : Option Entry) → option_or (option_map (λ member. Missing (name_of_member member)) m) (option_map (λ e. Bad e.0) e) ≡ None → (m ≡ None) × (e ≡ None)
 neither None None h = (refl, refl)
 neither None (Some e) h = cc
 neither (Some m) e h = cc
@@ -87,9 +87,9 @@ not_missing op es h =
     ]
 
 -- what must be there is there
-pub needed_is_there : (op : Option Op) (es : List Entry) (member : Member) → request_fault op es ≡ None → is_needed op member ≡ true → (d : Data) × (member_of (name_of member) es ≡ Some d)
+pub needed_is_there : (op : Option Op) (es : List Entry) (member : Member) → request_fault op es ≡ None → is_needed op member ≡ true → (d : Data) × (member_of (name_of_member member) es ≡ Some d)
 needed_is_there op es member h needed =
-    there (member_of (name_of member) es) (need_met (is_needed op member) _ (not_missing op es (no_fault op es h).0 member) needed)
+    there (member_of (name_of_member member) es) (need_met (is_needed op member) _ (not_missing op es (no_fault op es h).0 member) needed)
 
 -- ---- nothing is bad
 
@@ -115,11 +115,11 @@ read_fits true fit e h = h
 read_fits false fit e h = cc
 
 -- what is read is of its kind
-pub fitting : (op : Option Op) (es : List Entry) (member : Member) (d : Data) → request_fault op es ≡ None → is_read op member ≡ true → member_of (name_of member) es ≡ Some d → is_of_kind op (row_of member).kind d ≡ true
+pub fitting : (op : Option Op) (es : List Entry) (member : Member) (d : Data) → request_fault op es ≡ None → is_read op member ≡ true → member_of (name_of_member member) es ≡ Some d → is_of_kind op (row_of_member member).kind d ≡ true
 fitting op es member d h read found =
-    let good = good_at op (name_of member) d es (no_fault op es h).1 found in
-    read_fits (is_read op member) (is_of_kind op (row_of member).kind d) read
-    (sym (ap (λ m. option_map_or (is_good_member op d) m (is_one_unread (name_of member))) (named_again member)) ∙ good)
+    let good = good_at op (name_of_member member) d es (no_fault op es h).1 found in
+    read_fits (is_read op member) (is_of_kind op (row_of_member member).kind d) read
+    (sym (ap (λ m. option_map_or (is_good_member op d) m (is_one_unread (name_of_member member))) (named_again member)) ∙ good)
 
 -- ---- the operation is known
 

@@ -24,7 +24,7 @@ taken_other (Some x) key name other old new same taken absent apart =
     ap (member_of other) (taken ∙ ap (λ k. insert_entry compared old k null) same) ∙ member_of-put_other name other old null apart
 
 -- a filter is made again of its labels and the rest of it
-filter_again : (o : Option Data) → option_map (with_labels (labels_of (option_and_then (λ d. member_of (conditions.name_of OneLabel) (members_in d)) o))) (option_map (with_labels []) (option_map (λ d. filter_in (members_in d)) o)) ≡ option_map (λ d. filter_in (members_in d)) o
+filter_again : (o : Option Data) → option_map (with_labels (labels_of (option_and_then (λ d. member_of (conditions.name_of_member OneLabel) (members_in d)) o))) (option_map (with_labels []) (option_map (λ d. filter_in (members_in d)) o)) ≡ option_map (λ d. filter_in (members_in d)) o
 filter_again None = refl
 filter_again (Some d) = refl
 

@@ -21,11 +21,11 @@ use Rattle.filter_criteria.specs.declared.filter.FilterParts.{FilterParts}
 use Rattle.filter_criteria.proofs.FilterLemmas.{filter_back, filter_fits, filter_of_kinds}
 use Rattle.filter_criteria.proofs.PartLemmas.{where_kept, where_passes, passes_along, each_back}
 use Rattle.filter_criteria.proofs.Present.{member_of-present, members_in-object_of, none_fails, all_rows}
-use Rattle.primitive_json.specs.Kinds.{is_among, address_forms, read_operation, result_contents, read_response_type, read_expiry}
+use Rattle.primitive_json.specs.Kinds.{is_number_among, address_forms, read_operation, result_contents, read_response_type, read_expiry}
 use Rattle.primitive_json.specs.Laws.{IsWhenOfKind, IsShortWhen, IsOfKinds, HasShortExpiry}
-use Rattle.primitive_json.specs.Members.{creates, retrieves, has_content, has_result, all_members, name_of, is_read, is_needed}
+use Rattle.primitive_json.specs.Members.{creates, retrieves, has_content, has_result, all_members, name_of_member, is_read, is_needed}
 use Rattle.primitive_json.specs.Reading.{read_as, is_good, is_missing, missing_member, bad_entry, request_fault, value_read, operation_in, request_made, request_of, read_request}
-use Rattle.primitive_json.specs.Writing.{only_where, expiry_data, member_value, member_row, written_request}
+use Rattle.primitive_json.specs.Writing.{only_where, expiry_data, member_value, written_member, written_request}
 use Rattle.primitive_json.proofs.FaultLemmas.{named_again, read_without_fault, read_if_no_fault, needed_is_there, fitting, operation_is_known}
 use Rattle.primitive_json.proofs.KindLemmas.{told_passes, told_or_passes, expiry_back, when_of_kind}
 use Rattle.primitive_json.specs.declared.fault.PrimFault.TheVariants.{Missing, Bad}
@@ -36,18 +36,18 @@ use Rattle.primitive_json.specs.declared.request.When.{When}
 
 -- ---- the value at the name of a member of what is written
 
-pub there : (r : RequestParts) (member : Member) → member_of (name_of member) (present (map (member_row r) all_members)) ≡ member_value r member
-there r DesiredForm = member_of-present (name_of DesiredForm) (map (member_row r) all_members) refl
-there r FilterCriteria = member_of-present (name_of FilterCriteria) (map (member_row r) all_members) refl
-there r Originator = member_of-present (name_of Originator) (map (member_row r) all_members) refl
-there r Operation = member_of-present (name_of Operation) (map (member_row r) all_members) refl
-there r Content = member_of-present (name_of Content) (map (member_row r) all_members) refl
-there r ResultContent = member_of-present (name_of ResultContent) (map (member_row r) all_members) refl
-there r Expiry = member_of-present (name_of Expiry) (map (member_row r) all_members) refl
-there r RequestId = member_of-present (name_of RequestId) (map (member_row r) all_members) refl
-there r ResponseType = member_of-present (name_of ResponseType) (map (member_row r) all_members) refl
-there r Target = member_of-present (name_of Target) (map (member_row r) all_members) refl
-there r ResourceType = member_of-present (name_of ResourceType) (map (member_row r) all_members) refl
+pub there : (r : RequestParts) (member : Member) → member_of (name_of_member member) (present (map (written_member r) all_members)) ≡ member_value r member
+there r DesiredForm = member_of-present (name_of_member DesiredForm) (map (written_member r) all_members) refl
+there r FilterCriteria = member_of-present (name_of_member FilterCriteria) (map (written_member r) all_members) refl
+there r Originator = member_of-present (name_of_member Originator) (map (written_member r) all_members) refl
+there r Operation = member_of-present (name_of_member Operation) (map (written_member r) all_members) refl
+there r Content = member_of-present (name_of_member Content) (map (written_member r) all_members) refl
+there r ResultContent = member_of-present (name_of_member ResultContent) (map (written_member r) all_members) refl
+there r Expiry = member_of-present (name_of_member Expiry) (map (written_member r) all_members) refl
+there r RequestId = member_of-present (name_of_member RequestId) (map (written_member r) all_members) refl
+there r ResponseType = member_of-present (name_of_member ResponseType) (map (written_member r) all_members) refl
+there r Target = member_of-present (name_of_member Target) (map (written_member r) all_members) refl
+there r ResourceType = member_of-present (name_of_member ResourceType) (map (written_member r) all_members) refl
 
 -- ---- nothing is missing
 
@@ -92,26 +92,26 @@ if_kept : {A : Type 0} (Q : A → Type 0) (b : Bool) (o : Option A) → IfSome o
 if_kept Q true o h = h
 if_kept Q false o h = tt
 
-each_good : (r : RequestParts) → IsOfKinds r → HasShortExpiry r → (member : Member) → IfSome (member_value r member) (λ d. is_good (Some r.op) (name_of member, d) ≡ true)
+each_good : (r : RequestParts) → IsOfKinds r → HasShortExpiry r → (member : Member) → IfSome (member_value r member) (λ d. is_good (Some r.op) (name_of_member member, d) ≡ true)
 each_good r kinds short DesiredForm =
-    if_some number (λ z. list_any (λ n. int_eq n z) address_forms ≡ true) (λ d. is_good (Some r.op) (name_of DesiredForm, d) ≡ true)
+    if_some number (λ z. list_any (λ n. int_eq n z) address_forms ≡ true) (λ d. is_good (Some r.op) (name_of_member DesiredForm, d) ≡ true)
     (λ z h. h) r.drt kinds.drt
 each_good r kinds short FilterCriteria =
-    let Q : Data → Type 0 = λ d. is_good (Some r.op) (name_of FilterCriteria, d) ≡ true in
+    let Q : Data → Type 0 = λ d. is_good (Some r.op) (name_of_member FilterCriteria, d) ≡ true in
     if_kept Q (retrieves r.op) (option_map written_filter r.fc)
     (if_some written_filter (λ f. (retrieves r.op ≡ true) × IsFilterOfKinds f) Q (λ f h. rw h.0 (filter_fits f h.1)) r.fc kinds.fc)
 each_good r kinds short Originator =
-    if_some text (λ s. is_originator s ≡ true) (λ d. is_good (Some r.op) (name_of Originator, d) ≡ true) (λ s h. h) r.fr kinds.fr
+    if_some text (λ s. is_originator s ≡ true) (λ d. is_good (Some r.op) (name_of_member Originator, d) ≡ true) (λ s h. h) r.fr kinds.fr
 each_good r kinds short Operation = ap is_some (op_again r.op)
 each_good r kinds short Content =
-    let Q : Data → Type 0 = λ d. is_good (Some r.op) (name_of Content, d) ≡ true in
+    let Q : Data → Type 0 = λ d. is_good (Some r.op) (name_of_member Content, d) ≡ true in
     if_kept Q (has_content r.op) r.pc (weaker r.pc kinds.pc)
   where
     weaker : (o : Option Data) → IfSome o (λ d. is_some (as_object d) ≡ true) → IfSome o (λ d. not (has_content r.op) || is_some (as_object d) ≡ true)
     weaker None h = tt
     weaker (Some d) h = passes_or (not (has_content r.op)) (is_some (as_object d)) h
 each_good r kinds short ResultContent =
-    if_some number (λ z. list_any (λ n. int_eq n z) (result_contents r.op) ≡ true) (λ d. is_good (Some r.op) (name_of ResultContent, d) ≡ true)
+    if_some number (λ z. list_any (λ n. int_eq n z) (result_contents r.op) ≡ true) (λ d. is_good (Some r.op) (name_of_member ResultContent, d) ≡ true)
     (λ z h. passes_or (not (has_result r.op)) _ h) r.rcn kinds.rcn
 each_good r kinds short Expiry = timely r.rqet kinds.rqet short
   where
@@ -119,14 +119,14 @@ each_good r kinds short Expiry = timely r.rqet kinds.rqet short
     timely None kind short = tt
     timely (Some when) kind short = ap is_some (expiry_back when kind short)
 each_good r kinds short RequestId = kinds.rqi
-each_good r kinds short ResponseType = if_some number (λ z. Unit {0}) (λ d. is_good (Some r.op) (name_of ResponseType, d) ≡ true) (λ z h. refl) r.rt (any r.rt)
+each_good r kinds short ResponseType = if_some number (λ z. Unit {0}) (λ d. is_good (Some r.op) (name_of_member ResponseType, d) ≡ true) (λ z h. refl) r.rt (any r.rt)
   where
     any : (o : Option ℤ) → IfSome o (λ z. Unit {0})
     any None = tt
     any (Some z) = tt
 each_good r kinds short Target = kinds.to
 each_good r kinds short ResourceType =
-    let Q : Data → Type 0 = λ d. is_good (Some r.op) (name_of ResourceType, d) ≡ true in
+    let Q : Data → Type 0 = λ d. is_good (Some r.op) (name_of_member ResourceType, d) ≡ true in
     if_kept Q (creates r.op) (option_map count_data r.ty)
     (if_some count_data (λ n. nat_le n 65_535 ≡ true) Q (λ n h. passes_or (not (creates r.op)) _ (ap is_some (where_kept (λ n. nat_le n 65_535) n h))) r.ty kinds.ty)
 
@@ -172,14 +172,14 @@ filter_there false None h = refl
 filter_there true (Some f) h = ap Some (filter_back f h.1)
 filter_there false (Some f) h = cc
 
-both_none : (m : Option Member) (e : Option Entry) → m ≡ None → e ≡ None → option_or (option_map (λ member. Missing (name_of member)) m) (option_map (λ e. Bad e.0) e) ≡ None
+both_none : (m : Option Member) (e : Option Entry) → m ≡ None → e ≡ None → option_or (option_map (λ member. Missing (name_of_member member)) m) (option_map (λ e. Bad e.0) e) ≡ None
 both_none None None a b = refl
 both_none None (Some e) a b = cc
 both_none (Some m) e a b = cc
 
 module _ (r : RequestParts) (kinds : IsOfKinds r) (short : HasShortExpiry r) where
   abbrev es : List Entry
-  es = present (map (member_row r) all_members)
+  es = present (map (written_member r) all_members)
 
   same_request : request_made r.op es ≡ r
   same_request =
@@ -200,7 +200,7 @@ module _ (r : RequestParts) (kinds : IsOfKinds r) (short : HasShortExpiry r) whe
   nothing_missing = none_found (is_missing (Some r.op) es) (λ member. ap (λ (d : Option Data). is_needed (Some r.op) member && is_none d) (there r member) ∙ written_if_needed r kinds member) all_members
 
   nothing_bad : bad_entry (Some r.op) es ≡ None
-  nothing_bad = none_fails (is_good (Some r.op)) (map (member_row r) all_members) (all_rows (is_good (Some r.op)) (member_row r) (each_good r kinds short) all_members)
+  nothing_bad = none_fails (is_good (Some r.op)) (map (written_member r) all_members) (all_rows (is_good (Some r.op)) (written_member r) (each_good r kinds short) all_members)
 
   without_fault : request_fault (Some r.op) es ≡ None
   without_fault = both_none (missing_member (Some r.op) es) (bad_entry (Some r.op) es) nothing_missing nothing_bad
@@ -211,7 +211,7 @@ module _ (r : RequestParts) (kinds : IsOfKinds r) (short : HasShortExpiry r) whe
   -- a request of its kinds is read back
   pub request_back : read_request (written_request r) ≡ Ok r
   request_back =
-      ap request_of (members_in-object_of (map (member_row r) all_members))
+      ap request_of (members_in-object_of (map (written_member r) all_members))
       ∙ ap (λ (o : Option Op). read_as (request_fault o es) (request_made (unwrap_or o Create) es)) operation_there
       ∙ read_if_no_fault (request_fault (Some r.op) es) (request_made r.op es) r without_fault same_request
 
@@ -249,18 +249,18 @@ kinds_of op es h =
     record {
       to = ap (λ (d : Option Data). is_filled 1024 (unwrap_or (option_and_then as_text d) [])) to.1
           ∙ told_or_passes (is_filled 1024) (as_text to.0) [] (fitting (Some op) es Target to.0 h refl to.1);
-      fr = read_along as_text is_originator true (member_of (name_of Originator) es) (λ read d found. fitting (Some op) es Originator d h refl found);
+      fr = read_along as_text is_originator true (member_of (name_of_member Originator) es) (λ read d found. fitting (Some op) es Originator d h refl found);
       rqi = ap (λ (d : Option Data). is_request_id (unwrap_or (option_and_then as_text d) [])) rqi.1
           ∙ told_or_passes is_request_id (as_text rqi.0) [] (fitting (Some op) es RequestId rqi.0 h refl rqi.1);
       ty = passes_along (λ n. nat_le n 65_535 ≡ true) read_type_number (λ d. where_passes (λ n. nat_le n 65_535) (as_count d)) (value_read op ResourceType es);
-      ty_there = scoped_there read_type_number (creates op) (member_of (name_of ResourceType) es) (λ created.
+      ty_there = scoped_there read_type_number (creates op) (member_of (name_of_member ResourceType) es) (λ created.
           let at = needed_is_there (Some op) es ResourceType h created in (at.0, at.1, fitting (Some op) es ResourceType at.0 h created at.1));
-      pc = if_read (λ d. is_some (as_object d) ≡ true) (has_content op) (member_of (name_of Content) es) (λ has d found. fitting (Some op) es Content d h has found);
-      pc_there = kept_there (has_content op) (member_of (name_of Content) es) (λ has. needed_is_there (Some op) es Content h has);
+      pc = if_read (λ d. is_some (as_object d) ≡ true) (has_content op) (member_of (name_of_member Content) es) (λ has d found. fitting (Some op) es Content d h has found);
+      pc_there = kept_there (has_content op) (member_of (name_of_member Content) es) (λ has. needed_is_there (Some op) es Content h has);
       rqet = passes_along IsWhenOfKind read_expiry when_of_kind (value_read op Expiry es);
-      rcn = read_along as_number (λ z. list_any (λ n. int_eq n z) (result_contents op)) (has_result op) (member_of (name_of ResultContent) es) (λ read d found. fitting (Some op) es ResultContent d h read found);
-      fc = filter_read (retrieves op ≡ true) (member_of (name_of FilterCriteria) es) (λ d found. (and_parts (retrieves op) (is_filter d) (fitting (Some op) es FilterCriteria d h refl found)).0);
-      drt = read_along as_number (λ z. list_any (λ n. int_eq n z) address_forms) true (member_of (name_of DesiredForm) es) (λ read d found. fitting (Some op) es DesiredForm d h refl found);
+      rcn = read_along as_number (λ z. list_any (λ n. int_eq n z) (result_contents op)) (has_result op) (member_of (name_of_member ResultContent) es) (λ read d found. fitting (Some op) es ResultContent d h read found);
+      fc = filter_read (retrieves op ≡ true) (member_of (name_of_member FilterCriteria) es) (λ d found. (and_parts (retrieves op) (is_filter d) (fitting (Some op) es FilterCriteria d h refl found)).0);
+      drt = read_along as_number (λ z. list_any (λ n. int_eq n z) address_forms) true (member_of (name_of_member DesiredForm) es) (λ read d found. fitting (Some op) es DesiredForm d h refl found);
     }
 
 pub request_of_kinds : (d : Data) (r : RequestParts) → read_request d ≡ Ok r → IsOfKinds r

@@ -81,18 +81,18 @@ member_row name kind scope needed =
     record { name = name; kind = kind; scope = scope; needed = needed }
 
 -- the table
-abbrev pub row_of : Member → MemberRow
-row_of DesiredForm = member_row (codes "drt") AddressForm Always false
-row_of FilterCriteria = member_row (codes "fc") FilterObject Always false
-row_of Originator = member_row (codes "fr") OriginatorText Always false
-row_of Operation = member_row (codes "op") OperationNumber Always true
-row_of Content = member_row (codes "pc") AnyObject WithContent true
-row_of ResultContent = member_row (codes "rcn") ResultNumber WithResult false
-row_of Expiry = member_row (codes "rqet") ExpiryTime Always false
-row_of RequestId = member_row (codes "rqi") IdText Always true
-row_of ResponseType = member_row (codes "rt") ResponseForm Always false
-row_of Target = member_row (codes "to") AddressText Always true
-row_of ResourceType = member_row (codes "ty") TypeNumber OnCreate true
+abbrev pub row_of_member : Member → MemberRow
+row_of_member DesiredForm = member_row (codes "drt") AddressForm Always false
+row_of_member FilterCriteria = member_row (codes "fc") FilterObject Always false
+row_of_member Originator = member_row (codes "fr") OriginatorText Always false
+row_of_member Operation = member_row (codes "op") OperationNumber Always true
+row_of_member Content = member_row (codes "pc") AnyObject WithContent true
+row_of_member ResultContent = member_row (codes "rcn") ResultNumber WithResult false
+row_of_member Expiry = member_row (codes "rqet") ExpiryTime Always false
+row_of_member RequestId = member_row (codes "rqi") IdText Always true
+row_of_member ResponseType = member_row (codes "rt") ResponseForm Always false
+row_of_member Target = member_row (codes "to") AddressText Always true
+row_of_member ResourceType = member_row (codes "ty") TypeNumber OnCreate true
 
 -- all members, in byte order of their short names
 abbrev pub all_members : List Member
@@ -100,12 +100,12 @@ all_members =
     DesiredForm ∷ FilterCriteria ∷ Originator ∷ Operation ∷ Content ∷ ResultContent ∷ Expiry ∷
     RequestId ∷ ResponseType ∷ Target ∷ ResourceType ∷ []
 
-abbrev pub name_of : Member → List ℕ
-name_of member = (row_of member).name
+abbrev pub name_of_member : Member → List ℕ
+name_of_member member = (row_of_member member).name
 
 -- the member of a short name
 abbrev pub member_named : List ℕ → Option Member
-member_named name = find (λ member. bytes_eq (name_of member) name) all_members
+member_named name = find (λ member. bytes_eq (name_of_member member) name) all_members
 
 -- the members that are accepted and never read (the profile's)
 abbrev pub unread_names : List (List ℕ)
@@ -118,8 +118,8 @@ is_one_unread name = is_one_of unread_names name
 
 -- a member is read on an operation, as far as that is known
 abbrev pub is_read : Option Op → Member → Bool
-is_read op member = covers (row_of member).scope op
+is_read op member = covers (row_of_member member).scope op
 
 -- a member must be there
 abbrev pub is_needed : Option Op → Member → Bool
-is_needed op member = (row_of member).needed && is_read op member
+is_needed op member = (row_of_member member).needed && is_read op member

@@ -14,10 +14,11 @@ use Rattle.filter_criteria.specs.Conditions as conditions
 use Rattle.filter_criteria.specs.Conditions.{is_filter, filter_in, labels_of, with_labels}
 use Rattle.filter_criteria.specs.Values.{members_in, read_type_number}
 use Rattle.primitive_json.specs.Kinds.{is_address_text, is_originator_text, is_id_text}
-use Rattle.primitive_json.specs.Kinds.{is_among, address_forms, read_operation}
+use Rattle.primitive_json.specs.Kinds.{is_number_among, address_forms, read_operation}
 use Rattle.primitive_json.specs.Kinds.{result_contents, read_response_type, read_expiry}
 use Rattle.primitive_json.specs.Kinds.{read_status}
-use Rattle.primitive_json.specs.Members.{retrieves, row_of, all_members, name_of, member_named}
+use Rattle.primitive_json.specs.Members.{retrieves, row_of_member, all_members, name_of_member}
+use Rattle.primitive_json.specs.Members.{member_named}
 use Rattle.primitive_json.specs.Members.{is_one_unread, is_read, is_needed}
 use Rattle.filter_criteria.specs.declared.condition.Condition.TheVariants.{OneLabel}
 use Rattle.primitive_json.specs.declared.fault.Fault.{Fault}
@@ -63,12 +64,12 @@ owned (lent.Bad name) = Bad name.now
 
 -- the value is of the kind, on an operation as far as that is known
 abbrev pub is_of_kind : Option Op → MemberKind → Data → Bool
-is_of_kind op AddressForm d = is_among address_forms d
+is_of_kind op AddressForm d = is_number_among address_forms d
 is_of_kind op FilterObject d = option_map_or retrieves op false && is_filter d
 is_of_kind op OriginatorText d = is_originator_text d
 is_of_kind op OperationNumber d = is_some (read_operation d)
 is_of_kind op AnyObject d = is_some (as_object d)
-is_of_kind op ResultNumber d = option_map_or (λ o. is_among (result_contents o) d) op false
+is_of_kind op ResultNumber d = option_map_or (λ o. is_number_among (result_contents o) d) op false
 is_of_kind op ExpiryTime d = is_some (read_expiry d)
 is_of_kind op IdText d = is_id_text d
 is_of_kind op ResponseForm d = is_some (read_response_type d)
@@ -77,7 +78,7 @@ is_of_kind op TypeNumber d = is_some (read_type_number d)
 
 -- a member is good that is not read there, or whose value is of its kind
 abbrev pub is_good_member : Option Op → Data → Member → Bool
-is_good_member op d member = not (is_read op member) || is_of_kind op (row_of member).kind d
+is_good_member op d member = not (is_read op member) || is_of_kind op (row_of_member member).kind d
 
 -- and so is one that is never read; any other name is that of no member
 abbrev pub is_good : Option Op → Entry → Bool
@@ -85,7 +86,7 @@ is_good op e = option_map_or (is_good_member op e.1) (member_named e.0) (is_one_
 
 -- a member must be there and isn't
 abbrev pub is_missing : Option Op → List Entry → Member → Bool
-is_missing op es member = is_needed op member && is_none (member_of (name_of member) es)
+is_missing op es member = is_needed op member && is_none (member_of (name_of_member member) es)
 
 -- the first such member, in byte order
 abbrev pub missing_member : Option Op → List Entry → Option Member
@@ -98,17 +99,18 @@ bad_entry op es = find (λ e. not (is_good op e)) es
 -- a member that is missing comes before one that is bad
 abbrev pub request_fault : Option Op → List Entry → Option PrimFault
 request_fault op es =
-    option_or (option_map (λ member. Missing (name_of member)) (missing_member op es))
+    option_or (option_map (λ member. Missing (name_of_member member)) (missing_member op es))
     (option_map (λ e. Bad e.0) (bad_entry op es))
 
 -- ---- a request
 
 -- the value of a member, where it is read on the operation
 abbrev pub value_read : Op → Member → List Entry → Option Data
-value_read op member es = if is_read (Some op) member then member_of (name_of member) es else None
+value_read op member es =
+    if is_read (Some op) member then member_of (name_of_member member) es else None
 
 abbrev pub operation_in : List Entry → Option Op
-operation_in es = option_and_then read_operation (member_of (name_of Operation) es)
+operation_in es = option_and_then read_operation (member_of (name_of_member Operation) es)
 
 -- the request that members make which have no fault: then those are there that must be, and each
 -- that is read is of its kind
@@ -145,7 +147,7 @@ kept_in op es = record {
   rqi = value_read op RequestId es;
   pc = value_read op Content es;
   lbl =
-      option_and_then (λ d. member_of (conditions.name_of OneLabel) (members_in d))
+      option_and_then (λ d. member_of (conditions.name_of_member OneLabel) (members_in d))
       (value_read op FilterCriteria es);
 }
 

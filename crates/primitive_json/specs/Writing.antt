@@ -10,7 +10,8 @@ use Rattle.m2m_names.specs.StatusCodes.{rsc_row}
 use Rattle.m2m_value.specs.Data.{Data, number, text, list, object, Entry, elements_of, pairs_of}
 use Rattle.filter_criteria.specs.Values.{NamedValue, object_of, count_data}
 use Rattle.filter_criteria.specs.Writing.{written_filter}
-use Rattle.primitive_json.specs.Members.{creates, retrieves, has_content, all_members, name_of}
+use Rattle.primitive_json.specs.Members.{creates, retrieves, has_content, all_members}
+use Rattle.primitive_json.specs.Members.{name_of_member}
 use Rattle.primitive_json.specs.Reading.{rsc_name, rqi_name, pc_name}
 use Rattle.primitive_json.specs.declared.member.Member.{Member}
 use Rattle.primitive_json.specs.declared.member.Member.TheVariants.{DesiredForm, FilterCriteria}
@@ -59,11 +60,11 @@ member_value r ResponseType = option_map number r.rt
 member_value r Target = Some (text r.to)
 member_value r ResourceType = type_value r
 
-abbrev pub member_row : RequestParts → Member → NamedValue
-member_row r member = (name_of member, member_value r member)
+abbrev pub written_member : RequestParts → Member → NamedValue
+written_member r member = (name_of_member member, member_value r member)
 
 abbrev pub written_request : RequestParts → Data
-written_request r = object_of (map (member_row r) all_members)
+written_request r = object_of (map (written_member r) all_members)
 
 -- ---- a reply
 

@@ -18,13 +18,13 @@ fn is_of_kind(op: Option<Op>, kind: MemberKind, value: &Val) -> bool
     ensures { result ≡ spec.is_of_kind op kind value.now }
 {
     match kind {
-        MemberKind::AddressForm => is_among(&[1, 2], value),
+        MemberKind::AddressForm => is_number_among(&[1, 2], value),
         MemberKind::FilterObject => matches!(op, Some(Op::Retrieve)) && is_filter(value),
         MemberKind::OriginatorText => is_originator_text(value),
         MemberKind::OperationNumber => read_operation(value).is_some(),
         MemberKind::AnyObject => value.as_obj().is_some(),
         MemberKind::ResultNumber => match op {
-            Some(op) => is_among(result_contents(op), value),
+            Some(op) => is_number_among(result_contents(op), value),
             None => false,
         },
         MemberKind::ExpiryTime => read_expiry(value).is_some(),

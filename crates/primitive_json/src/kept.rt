@@ -7,7 +7,7 @@ ghost use Rattle.m2m_value.specs.View.{as_text, member_of};
 ghost use Rattle.filter_criteria.specs.Conditions as conditions;
 ghost use Rattle.filter_criteria.specs.Values.{members_in};
 ghost use Rattle.filter_criteria.specs.declared.condition.Condition.TheVariants.{OneLabel};
-ghost use Rattle.primitive_json.specs.Members.{name_of};
+ghost use Rattle.primitive_json.specs.Members.{name_of_member};
 ghost use Rattle.primitive_json.specs.Reading as spec;
 
 use crate::member::Member;
@@ -73,8 +73,8 @@ fn members_into(alloc: Global, value: Val) -> Members
 
 /// The value of a member, taken out of the members.
 fn take_at(member: Member, members: &mut Members) -> Option<Val>
-    ensures value { result ≡ member_of (name_of member) members.old }
-    ensures others { (key : List ℕ) → bytes_eq key (name_of member) ≡ false
+    ensures value { result ≡ member_of (name_of_member member) members.old }
+    ensures others { (key : List ℕ) → bytes_eq key (name_of_member member) ≡ false
         → member_of key members.new ≡ member_of key members.old }
 {
     members.take(member.name().as_bytes())
@@ -83,7 +83,7 @@ fn take_at(member: Member, members: &mut Members) -> Option<Val>
 /// The value of a member that is read on the operation, taken out of the members.
 fn take_read(op: Op, member: Member, members: &mut Members) -> Option<Val>
     ensures value { result ≡ spec.value_read op member members.old }
-    ensures others { (key : List ℕ) → bytes_eq key (name_of member) ≡ false
+    ensures others { (key : List ℕ) → bytes_eq key (name_of_member member) ≡ false
         → member_of key members.new ≡ member_of key members.old }
 {
     if member.is_read(Some(op)) {
@@ -95,7 +95,7 @@ fn take_read(op: Op, member: Member, members: &mut Members) -> Option<Val>
 
 fn labels_into(alloc: Global, filter: Option<Val>) -> Option<Val>
     ensures { result ≡ option_and_then
-        (λ d. member_of (conditions.name_of OneLabel) (members_in d)) filter }
+        (λ d. member_of (conditions.name_of_condition OneLabel) (members_in d)) filter }
 {
     let mut conditions = members_into(alloc, filter?);
     conditions.take(Condition::OneLabel.name().as_bytes())

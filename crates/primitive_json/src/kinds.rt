@@ -37,8 +37,8 @@ pub fn is_id_text(value: &Val) -> bool
 }
 
 /// Whether it is one of these numbers.
-pub fn is_among(numbers: &[i64], value: &Val) -> bool
-    ensures { result ≡ spec.is_among numbers.now value.now }
+pub fn is_number_among(numbers: &[i64], value: &Val) -> bool
+    ensures { result ≡ spec.is_number_among numbers.now value.now }
 {
     match value.as_num() {
         Some(number) => numbers.contains(&number),

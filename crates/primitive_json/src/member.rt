@@ -1,7 +1,8 @@
 //! The members of a request, as a table.
 ghost use Rattle.std.specs.Prelude.{◌≡◌, ◌≢◌, IfSome, IfNone};
 ghost use Rattle.primitive_json.specs.Members as spec;
-ghost use Rattle.primitive_json.specs.Members.{row_of, name_of, member_named, is_one_unread};
+ghost use Rattle.primitive_json.specs.Members.{row_of_member, name_of_member, member_named};
+ghost use Rattle.primitive_json.specs.Members.{is_one_unread};
 ghost use Rattle.primitive_json.specs.declared.member.Member.{Member};
 
 use m2m_names::Op;
@@ -119,10 +120,10 @@ impl Member {
 
     /// Its row of the table.
     fn row(self) -> Row
-        ensures name { result.name.now ≡ (row_of self).name }
-        ensures kind { result.kind ≡ (row_of self).kind }
-        ensures scope { result.scope ≡ (row_of self).scope }
-        ensures needed { result.needed ≡ (row_of self).needed }
+        ensures name { result.name.now ≡ (row_of_member self).name }
+        ensures kind { result.kind ≡ (row_of_member self).kind }
+        ensures scope { result.scope ≡ (row_of_member self).scope }
+        ensures needed { result.needed ≡ (row_of_member self).needed }
     {
         let (name, kind, scope, needed) = match self {
             DesiredForm => ("drt", MemberKind::AddressForm, Scope::Always, false),
@@ -147,14 +148,14 @@ impl Member {
 
     /// Its short name (TS-0004, 8.2.2).
     pub fn name(self) -> &'static str
-        ensures { result.now ≡ name_of self }
+        ensures { result.now ≡ name_of_member self }
     {
         self.row().name
     }
 
     /// What its value is.
     pub fn kind(self) -> MemberKind
-        ensures { result ≡ (row_of self).kind }
+        ensures { result ≡ (row_of_member self).kind }
     {
         self.row().kind
     }
@@ -172,8 +173,8 @@ impl Member {
     /// The member of a short name.
     pub fn named(name: &[u8]) -> Option<Member>
         ensures value { result ≡ member_named name.now }
-        ensures found { IfSome result (λ member. name_of member ≡ name.now) }
-        ensures none { IfNone result ((member : Member) → name_of member ≢ name.now) }
+        ensures found { IfSome result (λ member. name_of_member member ≡ name.now) }
+        ensures none { IfNone result ((member : Member) → name_of_member member ≢ name.now) }
     {
         Member::find(name)
     }

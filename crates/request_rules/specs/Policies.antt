@@ -16,7 +16,7 @@ use Rattle.addressing.specs.declared.addr.Addr.TheVariants.{Local, Foreign, Othe
 use Rattle.addressing.specs.declared.addr.AddrFault.{AddrFault}
 use Rattle.addressing.specs.declared.spot.Spot.{Spot}
 use Rattle.addressing.specs.declared.spot.Spot.TheVariants.{Resource, Fan, Poll}
-use Rattle.policy_eval.specs.Rules.{elements_in, policy_at}
+use Rattle.policy_eval.specs.Rules.{listed_in, policy_at}
 use Rattle.entity_model.specs.Entity.{EntityData}
 
 -- the policy that stands where an address leads
@@ -42,7 +42,7 @@ policy_meant e d = option_and_then (policy_addressed e) (as_text d)
 
 -- the values that an attribute lists in a content
 abbrev pub listed : Attr → List Entry → List Data
-listed attr es = elements_in (member_of (attr_short attr) es)
+listed attr es = listed_in (member_of (attr_short attr) es)
 
 -- all of them address live policies
 abbrev pub are_policies : EntityData → Attr → List Entry → Bool

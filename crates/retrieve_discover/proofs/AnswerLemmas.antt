@@ -20,7 +20,7 @@ use Rattle.tree_model.specs.Shown.{shown_ty, under_type}
 use Rattle.tree_model.specs.Tree.{at, children_of, is_well_formed}
 use Rattle.tree_model.proofs.GrowthLemmas.{tree_from_well_formed}
 use Rattle.tree_model.proofs.TreeLemmas.{at_number}
-use Rattle.policy_eval.specs.Seen.{retrieve_bit, may, seen, seen_list}
+use Rattle.policy_eval.specs.Seen.{retrieve_bit, has_bit, seen, seen_list}
 use Rattle.policy_eval.proofs.DueLemmas.{due-seen}
 use Rattle.policy_eval.proofs.RetrievedLemmas.{attributes-seen}
 use Rattle.policy_eval.proofs.SeenLemmas.{at-seen, grants-seen, seen_shows}
@@ -74,7 +74,7 @@ module _ (home : HomeData) (nodes : List ResourceData) (o : List ℕ) (well : is
   goes-seen : (r : ResourceData) → may_retrieve home (map g nodes) o (g r) ≡ goes r
   goes-seen r = grants-seen home nodes o retrieve_bit r.number
 
-  right_of : (r : ResourceData) → IsFound nodes r → goes r ≡ true → may home nodes o retrieve_bit r ≡ true
+  right_of : (r : ResourceData) → IsFound nodes r → goes r ≡ true → has_bit home nodes o retrieve_bit r ≡ true
   right_of r there right = rw there at right
 
   members-seen : (r : ResourceData) → IsFound nodes r → goes r ≡ true → members home (map g nodes) (g r) ≡ members home nodes r

@@ -9,7 +9,7 @@ use Rattle.m2m_names.proofs.NameLemmas.{graphic_is_utf8}
 use Rattle.m2m_value.specs.Node.{AreSorted, HaveTextKeys}
 use Rattle.m2m_value.specs.View.{member_of}
 use Rattle.m2m_value.proofs.Lookup.{compared, put_texts}
-use Rattle.policy_eval.specs.Rules.{elements_in}
+use Rattle.policy_eval.specs.Rules.{listed_in}
 use Rattle.retrieve_discover.specs.Contents.{with_last}
 
 again_at : (o : Ordering) (key : List ℕ) (u v : Data) (e : Entry) (es : List Entry) → compared key e.0 ≡ o → insert_entry compared (insert_entry compared es key u) key v ≡ insert_entry compared es key v
@@ -26,11 +26,11 @@ put-again [] key u v = ap (λ o. match_ordering o ((key, v) ∷ (key, u) ∷ [])
 put-again (e ∷ es) key u v = again_at _ key u v e es refl (put-again es key u v)
 
 -- a list of one more, put where the list was taken away, or where none was
-pub listed_last : (taken : Option Data) (key at name : List ℕ) (d v : Data) (objects : List Data) (es mid new : List Entry) → key ≡ name → at ≡ key → taken ≡ member_of at es → objects ≡ elements_in taken ++ d ∷ [] → v ≡ list (elements_of objects)
+pub listed_last : (taken : Option Data) (key at name : List ℕ) (d v : Data) (objects : List Data) (es mid new : List Entry) → key ≡ name → at ≡ key → taken ≡ member_of at es → objects ≡ listed_in taken ++ d ∷ [] → v ≡ list (elements_of objects)
     → OnSome taken (mid ≡ insert_entry compared es at null) → IfNone taken (mid ≡ es) → new ≡ insert_entry compared mid key v → new ≡ with_last name d es
 listed_last taken key at name d v objects es mid new named same found grown is some none put =
-    let value : v ≡ list (elements_of (elements_in (member_of name es) ++ d ∷ [])) =
-    is ∙ ap (λ (ds : List Data). list (elements_of ds)) (grown ∙ ap (λ (o : Option Data). elements_in o ++ d ∷ []) (found ∙ ap (λ k. member_of k es) (same ∙ named))) in
+    let value : v ≡ list (elements_of (listed_in (member_of name es) ++ d ∷ [])) =
+    is ∙ ap (λ (ds : List Data). list (elements_of ds)) (grown ∙ ap (λ (o : Option Data). listed_in o ++ d ∷ []) (found ∙ ap (λ k. member_of k es) (same ∙ named))) in
     put ∙ back taken some none ∙ ap (λ k. insert_entry compared es k v) named ∙ ap (insert_entry compared es name) value
   where
     back : (o : Option Data) → OnSome o (mid ≡ insert_entry compared es at null) → IfNone o (mid ≡ es) → insert_entry compared mid key v ≡ insert_entry compared es key v

@@ -5,7 +5,7 @@ use Rattle.std.specs.List.{AllByRecursion, filter, list_all}
 use Rattle.std.proofs.lemmas.Bool.{cases_Bool, and_parts, and_from, eq-eqb, ne_eqb, ltb-true, lt-ltb}
 use Rattle.std.proofs.lemmas.List.Folds.{list_all-append}
 use Rattle.resource_model.specs.Resource.{ResourceData, has_number}
-use Rattle.tree_model.specs.Tree.{at, are_below, fits, is_tree}
+use Rattle.tree_model.specs.Tree.{at, are_below, may_stand, is_tree}
 use Rattle.tree_model.proofs.GrowthLemmas.{growth, next_above_parent, next_fits}
 
 -- every number is above this one
@@ -38,7 +38,7 @@ in_order-push (s ∷ before) r order below above =
 
 -- a tree is such a list
 pub in_order-tree : (nodes : List ResourceData) → is_tree nodes ≡ true → in_order nodes ≡ true
-in_order-tree = growth fits (λ nodes. in_order nodes ≡ true) refl (λ before r grew next holds.
+in_order-tree = growth may_stand (λ nodes. in_order nodes ≡ true) refl (λ before r grew next holds.
     let fact = next_fits before r next in
     in_order-push before r holds fact.number (next_above_parent before r fact))
 

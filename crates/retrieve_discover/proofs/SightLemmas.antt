@@ -12,7 +12,7 @@ use Rattle.resource_model.specs.Resource.{ResourceData}
 use Rattle.tree_model.specs.Tree.{is_well_formed, line_of}
 use Rattle.tree_model.proofs.GrowthLemmas.{tree_from_well_formed}
 use Rattle.policy_eval.specs.Rights.{grants}
-use Rattle.policy_eval.specs.Seen.{discovery_bit, may, seen, seen_list}
+use Rattle.policy_eval.specs.Seen.{discovery_bit, has_bit, seen, seen_list}
 use Rattle.policy_eval.proofs.DueLemmas.{due-seen}
 use Rattle.policy_eval.proofs.SeenLemmas.{grants-seen, seen_shows}
 use Rattle.addressing.specs.Addresses.{joined}
@@ -50,7 +50,7 @@ module _ (home : HomeData) (nodes : List ResourceData) (o : List ℕ) where
   module _ (well : is_well_formed nodes ≡ true) where
     looks_found : (r : ResourceData) → IsFound nodes r → grants home nodes o discovery_bit r.number ≡ true → LooksAlike (seen_list home nodes o) nodes (seen home nodes o r) r
     looks_found r there right =
-        let may_find : may home nodes o discovery_bit r ≡ true = rw there at right in
+        let may_find : has_bit home nodes o discovery_bit r ≡ true = rw there at right in
         let shown = (seen_shows home nodes o r).found may_find in
         record {
           ct = shown.1;

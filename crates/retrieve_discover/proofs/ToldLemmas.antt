@@ -20,7 +20,7 @@ use Rattle.m2m_value.proofs.Lookup.{compared, member_of-put_other}
 use Rattle.resource_model.specs.Attributes.{Row, is_attr, value_of}
 use Rattle.resource_model.specs.Resource.{ResourceData}
 use Rattle.tree_model.specs.Shown.{members_of}
-use Rattle.policy_eval.specs.Rules.{elements_in}
+use Rattle.policy_eval.specs.Rules.{listed_in}
 use Rattle.retrieve_discover.specs.Contents.{with_forest, with_last}
 use Rattle.retrieve_discover.specs.Descendants.{Forest, bare, rooted}
 use Rattle.retrieve_discover.proofs.ForestLemmas.{AllIn}
@@ -96,7 +96,7 @@ kept_beside members key none bare es = refl
 kept_beside members key none (rooted r kids more) es =
     let inner : Data = object (pairs_of (with_forest members kids (members r))) in
     kept_beside members key none more (with_last (ty_member r.ty) inner es)
-    ∙ member_of-put_other (ty_member r.ty) key es (list (elements_of (elements_in (member_of (ty_member r.ty) es) ++ inner ∷ []))) (off_types key none r.ty)
+    ∙ member_of-put_other (ty_member r.ty) key es (list (elements_of (listed_in (member_of (ty_member r.ty) es) ++ inner ∷ []))) (off_types key none r.ty)
 
 among-append : (xs ys : List Data) → values_among (elements_of (xs ++ ys)) ≡ values_among (elements_of xs) ++ values_among (elements_of ys)
 among-append [] ys = refl
@@ -147,7 +147,7 @@ module _ (Q : Data → Type 0) where
       put_at _ key v e es (insert_entry compared es key v) refl own all
       (under_put es key v own (parted (told_by e) (values_under (pairs_of es)) all).1)
 
-  listed_there : (d : Data) → AllOf (values_in d) → AllOf (values_among (elements_of (elements_in (Some d))))
+  listed_there : (d : Data) → AllOf (values_in d) → AllOf (values_among (elements_of (listed_in (Some d))))
   listed_there null all = tt
   listed_there (boolean b) all = tt
   listed_there (number z) all = tt
@@ -155,7 +155,7 @@ module _ (Q : Data → Type 0) where
   listed_there (list es) all = subst AllOf (sym (among-elements es)) all
   listed_there (object ps) all = tt
 
-  listed_at : (key : List ℕ) (es : List Entry) → is_type_name key ≡ true → AllUnder es → AllOf (values_among (elements_of (elements_in (member_of key es))))
+  listed_at : (key : List ℕ) (es : List Entry) → is_type_name key ≡ true → AllUnder es → AllOf (values_among (elements_of (listed_in (member_of key es))))
   listed_at key [] name all = tt
   listed_at key (e ∷ es) name all =
       let parts = parted (told_by e) (values_under (pairs_of es)) all in
@@ -168,7 +168,7 @@ module _ (Q : Data → Type 0) where
 
   under_last : (key : List ℕ) (d : Data) (es : List Entry) → is_type_name key ≡ true → AllOf (values_in d) → AllUnder es → AllUnder (with_last key d es)
   under_last key d es name own all =
-      let earlier = elements_in (member_of key es) in
+      let earlier = listed_in (member_of key es) in
       let told : AllOf (values_among (elements_of (earlier ++ d ∷ []))) =
       subst AllOf (sym (among-append earlier (d ∷ [])))
       (both (values_among (elements_of earlier)) (values_in d ++ []) (listed_at key es name all) (both (values_in d) [] own tt)) in

@@ -11,7 +11,7 @@ use Rattle.m2m_value.specs.View.{member_of}
 use Rattle.resource_model.specs.Home.{HomeData}
 use Rattle.resource_model.specs.Resource.{ResourceData}
 use Rattle.policy_eval.specs.Rights.{grants}
-use Rattle.policy_eval.specs.Rules.{elements_in}
+use Rattle.policy_eval.specs.Rules.{listed_in}
 use Rattle.policy_eval.specs.Seen.{retrieve_bit}
 use Rattle.tree_model.specs.Shown.{members_of, shown_rows, shown_ty, under_type}
 use Rattle.tree_model.specs.Tree.{children_of}
@@ -77,7 +77,7 @@ shown_forest home nodes o n = cut_forest (grown (may_retrieve home nodes o) n no
 -- an object more at the end of the list that a member has
 abbrev pub with_last : List ℕ → Data → List Entry → List Entry
 with_last key d es =
-    with_member key (list (elements_of (elements_in (member_of key es) ++ d ∷ []))) es
+    with_member key (list (elements_of (listed_in (member_of key es) ++ d ∷ []))) es
 
 -- the members of an object and, under the name of its type, an object of each child that is shown,
 -- made in the same way (TS-0004, 8.4)

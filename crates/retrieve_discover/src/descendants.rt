@@ -4,7 +4,7 @@ ghost use Rattle.m2m_names.specs.Name.{is_originator};
 ghost use Rattle.m2m_names.specs.Types.{ty_member};
 ghost use Rattle.m2m_value.specs.Node.{HaveTextKeys};
 ghost use Rattle.m2m_value.specs.View.{as_list};
-ghost use Rattle.policy_eval.specs.Rules.{elements_in};
+ghost use Rattle.policy_eval.specs.Rules.{listed_in};
 ghost use Rattle.tree_model.specs.Tree.{at, is_tree};
 ghost use Rattle.retrieve_discover.specs.Contents as spec;
 ghost use Rattle.retrieve_discover.specs.Descendants.{cut_forest, forest_size, grown};
@@ -96,7 +96,7 @@ fn add_last(alloc: Global, members: &mut Members, ty: Ty, object: Val) -> Result
 
 // The elements of a list; of what is no list none.
 fn elements(alloc: Global, value: Option<Val>) -> Vec<Val>
-    ensures { result.items ≡ elements_in value }
+    ensures { result.items ≡ listed_in value }
 {
     match value {
         Some(value) => elements_of(alloc, value),
@@ -105,7 +105,7 @@ fn elements(alloc: Global, value: Option<Val>) -> Vec<Val>
 }
 
 fn elements_of(alloc: Global, value: Val) -> Vec<Val>
-    ensures { result.items ≡ elements_in (Some value) }
+    ensures { result.items ≡ listed_in (Some value) }
 {
     match value.into_node() {
         Node::List(items) => items.into_vec(),

@@ -8,7 +8,7 @@ use Rattle.std.specs.List.{list_any}
 use Rattle.std.specs.Option.{option_or}
 use Rattle.std.specs.Str.{bytes_eq}
 use Rattle.resource_model.specs.Resource.{ResourceData, has_number, ae_id, cse_id}
-use Rattle.tree_model.specs.Tree.{at, is_child, has_child, same_text, fits, is_tree}
+use Rattle.tree_model.specs.Tree.{at, is_child, has_child, same_text, may_stand, is_tree}
 use Rattle.tree_model.proofs.GrowthLemmas.{growth, next_fits}
 use Rattle.tree_model.proofs.TreeLemmas.{at-append}
 
@@ -36,9 +36,9 @@ last_or_before n before x r found = elim (cases_Bool (has_number n x)) [
     new (Some s) is value t = inr (is ∙ value)
 
 -- a relation that no later one has to an earlier one is held by none with another
-module _ (shares : ResourceData → ResourceData → Bool) (turned : (r s : ResourceData) → shares r s ≡ true → shares s r ≡ true) (free : (before : List ResourceData) (r : ResourceData) → fits before r ≡ true → list_any (λ s. shares s r) before ≡ false) where
+module _ (shares : ResourceData → ResourceData → Bool) (turned : (r s : ResourceData) → shares r s ≡ true → shares s r ≡ true) (free : (before : List ResourceData) (r : ResourceData) → may_stand before r ≡ true → list_any (λ s. shares s r) before ≡ false) where
   pub apart : (nodes : List ResourceData) → is_tree nodes ≡ true → (m n : ℕ) (r s : ResourceData) → at m nodes ≡ Some r → at n nodes ≡ Some s → shares r s ≡ true → m ≡ n
-  apart = growth fits (λ nodes. (m n : ℕ) (r s : ResourceData) → at m nodes ≡ Some r → at n nodes ≡ Some s → shares r s ≡ true → m ≡ n) (λ m n r s left. cc) (λ before x grew next holds m n r s left right share.
+  apart = growth may_stand (λ nodes. (m n : ℕ) (r s : ResourceData) → at m nodes ≡ Some r → at n nodes ≡ Some s → shares r s ≡ true → m ≡ n) (λ m n r s left. cc) (λ before x grew next holds m n r s left right share.
       elim (last_or_before m before x r left) [
         | inl first ↦ elim (last_or_before n before x s right) [
           | inl second ↦ sym first.1 ∙ second.1

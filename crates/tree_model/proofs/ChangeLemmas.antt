@@ -10,7 +10,7 @@ use Rattle.std.proofs.lemmas.List.Sums.{sum_by-append, sum_by-cons}
 use Rattle.std.specs.List.{filter, list_any, sum_by}
 use Rattle.std.specs.Option.{option_or}
 use Rattle.resource_model.specs.Resource.{ResourceData, has_number, ae_id, cse_id}
-use Rattle.tree_model.specs.Tree.{at, has, number_of, replaced, line_from, line_of, depth, stays, staying, without, is_spared, are_below, same_text, has_ae_id, has_cse_id, size_of, sizes_of, is_instance, instances_of, fits, is_tree}
+use Rattle.tree_model.specs.Tree.{at, has, resource_number, replaced, line_from, line_of, depth, stays, staying, without, is_spared, are_below, same_text, has_ae_id, has_cse_id, instance_size, sizes_of, is_instance, instances_of, may_stand, is_tree}
 use Rattle.tree_model.proofs.GrowthLemmas.{IsNext, growth, next_fits, below_lacks, line-append, spared_new, stays_spared, without-spared}
 use Rattle.tree_model.proofs.KeptLemmas.{map-replaced_same, is_tree-without, without-snoc}
 use Rattle.tree_model.proofs.TreeLemmas.{at_number, has-append, staying_any}
@@ -74,8 +74,8 @@ picked_spared p picks nodes tree =
 
 -- ---- sizes
 
-pub sizes_of-append : (container : ℕ) (nodes : List ResourceData) (r : ResourceData) → sizes_of container (nodes ++ r ∷ []) ≡ sizes_of container nodes + sum_by size_of (instances_of container (r ∷ []))
-sizes_of-append container nodes r = ap (sum_by size_of) (picked-append (is_instance container) nodes r) ∙ sum_by-append size_of (instances_of container nodes) (instances_of container (r ∷ []))
+pub sizes_of-append : (container : ℕ) (nodes : List ResourceData) (r : ResourceData) → sizes_of container (nodes ++ r ∷ []) ≡ sizes_of container nodes + sum_by instance_size (instances_of container (r ∷ []))
+sizes_of-append container nodes r = ap (sum_by instance_size) (picked-append (is_instance container) nodes r) ∙ sum_by-append instance_size (instances_of container nodes) (instances_of container (r ∷ []))
 
 -- where what takes a place is picked as what had it, and has its size
 pub sum-replaced : (p : ResourceData → Bool) (size : ResourceData → ℕ) (r : ResourceData) (nodes : List ResourceData) → ((s : ResourceData) → at r.number nodes ≡ Some s → (p s ≡ p r) × (size s ≡ size r)) → sum_by size (filter p (replaced r nodes)) ≡ sum_by size (filter p nodes)
@@ -102,8 +102,8 @@ sum-replaced p size r (s ∷ nodes) same = elim (cases_Bool (has_number r.number
 ]
 
 -- the sizes of a container's instances after a removal are those of the instances that stay
-pub sizes_of-without : (container : ℕ) (picks : ResourceData → Bool) (nodes : List ResourceData) → is_tree nodes ≡ true → sizes_of container (without picks nodes) ≡ sum_by size_of (filter (λ r. is_spared picks nodes r.number) (instances_of container nodes))
-sizes_of-without container picks nodes tree = ap (sum_by size_of) (picked_spared (is_instance container) picks nodes tree)
+pub sizes_of-without : (container : ℕ) (picks : ResourceData → Bool) (nodes : List ResourceData) → is_tree nodes ≡ true → sizes_of container (without picks nodes) ≡ sum_by instance_size (filter (λ r. is_spared picks nodes r.number) (instances_of container nodes))
+sizes_of-without container picks nodes tree = ap (sum_by instance_size) (picked_spared (is_instance container) picks nodes tree)
 
 -- and so a removal makes no count and no sum greater
 pub count-without : (picks q : ResourceData → Bool) (stayed nodes : List ResourceData) → length (filter q (staying picks stayed nodes)) ≤ length (filter q nodes)
@@ -180,7 +180,7 @@ pub found-append : (p : ResourceData → Bool) (nodes : List ResourceData) (r : 
 found-append p nodes r = find-append p nodes (r ∷ [])
 
 -- where what takes a place passes as what had it
-pub found-replaced : (p : ResourceData → Bool) (r : ResourceData) (nodes : List ResourceData) → ((s : ResourceData) → at r.number nodes ≡ Some s → p s ≡ p r) → number_of (find p (replaced r nodes)) ≡ number_of (find p nodes)
+pub found-replaced : (p : ResourceData → Bool) (r : ResourceData) (nodes : List ResourceData) → ((s : ResourceData) → at r.number nodes ≡ Some s → p s ≡ p r) → resource_number (find p (replaced r nodes)) ≡ resource_number (find p nodes)
 found-replaced p r [] same = refl
 found-replaced p r (s ∷ nodes) same = elim (cases_Bool (has_number r.number s)) [
   | inl t ↦ elim (cases_Bool (p r)) [
@@ -256,7 +256,7 @@ module _ (r : ResourceData) where
 
 -- what isn't there has no line
 pub line_none : (n : ℕ) (nodes : List ResourceData) → is_tree nodes ≡ true → has n nodes ≡ false → line_of n nodes ≡ []
-line_none n nodes tree = growth fits (λ nodes. has n nodes ≡ false → line_of n nodes ≡ []) (λ _. refl) (λ before r grew next holds lacks.
+line_none n nodes tree = growth may_stand (λ nodes. has n nodes ≡ false → line_of n nodes ≡ []) (λ _. refl) (λ before r grew next holds lacks.
     let parts = or_parts (has n before) (has n (r ∷ [])) (sym (has-append n before (r ∷ [])) ∙ lacks) in
     let apart : has_number n r ≡ false = (or_parts (has_number n r) false parts.1).0 in
     line-append n before r ∙ rw apart (holds parts.0)) nodes tree
@@ -310,7 +310,7 @@ module _ (p : ResourceData → Bool) (before : List ResourceData) (r : ResourceD
 
 -- a removal leaves the whole line of what it spares, and none of what it takes
 pub line-without : (p : ResourceData → Bool) (nodes : List ResourceData) → is_tree nodes ≡ true → (n : ℕ) → line_of n (without p nodes) ≡ cond (is_spared p nodes n) (line_of n nodes) []
-line-without p = growth fits (λ nodes. (n : ℕ) → LeavesLine p nodes n) (λ n. refl) (λ before r tree next holds. leaves_more p before r tree (next_fits before r next) holds)
+line-without p = growth may_stand (λ nodes. (n : ℕ) → LeavesLine p nodes n) (λ n. refl) (λ before r tree next holds. leaves_more p before r tree (next_fits before r next) holds)
 
 pub depth-without : (p : ResourceData → Bool) (nodes : List ResourceData) → is_tree nodes ≡ true → (n : ℕ) → depth n (without p nodes) ≡ cond (is_spared p nodes n) (depth n nodes) 0
 depth-without p nodes tree n = ap length (line-without p nodes tree n) ∙ length_of (is_spared p nodes n) (line_of n nodes)

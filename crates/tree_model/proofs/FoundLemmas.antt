@@ -8,7 +8,7 @@ use Rattle.std.proofs.lemmas.Option.{slice_get-get_or}
 use Rattle.std.specs.List.{filter, slice_get, list_any}
 use Rattle.std.specs.Option.{option_map_or, option_or}
 use Rattle.resource_model.specs.Resource.{ResourceData}
-use Rattle.tree_model.specs.Tree.{number_of, last_number, same_text, are_below, fits, is_tree}
+use Rattle.tree_model.specs.Tree.{resource_number, last_number, same_text, are_below, may_stand, is_tree}
 use Rattle.tree_model.proofs.GrowthLemmas.{growth, next_fits}
 
 -- ---- the last of a filter
@@ -50,12 +50,12 @@ end-push [] r = refl
 end-push (s ∷ rs) r = sym (end-cons s (rs ++ r ∷ [])) ∙ ap (λ (o : Option ResourceData). option_or o (Some s)) (end-push rs r)
 
 -- the first from the end is the last
-pub last_from_the_end : (p : ResourceData → Bool) (nodes : List ResourceData) → number_of (find p (reverse nodes)) ≡ last_number (filter p nodes)
-last_from_the_end p nodes = ap number_of (last-found p nodes)
+pub last_from_the_end : (p : ResourceData → Bool) (nodes : List ResourceData) → resource_number (find p (reverse nodes)) ≡ last_number (filter p nodes)
+last_from_the_end p nodes = ap resource_number (last-found p nodes)
 
 -- ---- whether something is found
 
-pub any_found : (p : ResourceData → Bool) (nodes : List ResourceData) → list_any p nodes ≡ is_some (number_of (find p nodes))
+pub any_found : (p : ResourceData → Bool) (nodes : List ResourceData) → list_any p nodes ≡ is_some (resource_number (find p nodes))
 any_found p [] = refl
 any_found p (r ∷ nodes) = elim (cases_Bool (p r)) [
   | inl t ↦ rw t refl
@@ -87,7 +87,7 @@ abbrev last_below : ℕ → Option ResourceData → Bool
 last_below n o = option_map_or (λ (r : ResourceData). nat_lt r.number n) o true
 
 pub below_last : (n : ℕ) (nodes : List ResourceData) → is_tree nodes ≡ true → are_below n nodes ≡ option_map_or (λ (r : ResourceData). nat_lt r.number n) (slice_get nodes (length nodes - 1)) true
-below_last n = growth fits (λ nodes. are_below n nodes ≡ last_below n (end_of nodes)) refl (λ before r grew next holds.
+below_last n = growth may_stand (λ nodes. are_below n nodes ≡ last_below n (end_of nodes)) refl (λ before r grew next holds.
     let split : are_below n (before ++ r ∷ []) ≡ (are_below n before && (nat_lt r.number n && true)) = list_all-append _ before (r ∷ []) in
     let end : last_below n (end_of (before ++ r ∷ [])) ≡ nat_lt r.number n = ap (last_below n) (end-push before r) in
     split ∙ elim (cases_Bool (nat_lt r.number n)) [

@@ -11,7 +11,7 @@ use Rattle.std.specs.List.{AllByRecursion, list_any, filter}
 use Rattle.std.specs.Option.{option_or}
 use Rattle.m2m_names.specs.declared.types.Ty.TheVariants.{CseBase}
 use Rattle.resource_model.specs.Resource.{ResourceData, is_ty, has_number, ae_id, cse_id}
-use Rattle.tree_model.specs.Tree.{at, has, line_from, line_of, stays, without, is_spared, are_below, is_root, is_placed, has_child, has_ae_id, has_cse_id, fits, fits_in, grows, is_tree, is_well_formed, AreAscending}
+use Rattle.tree_model.specs.Tree.{at, has, line_from, line_of, stays, without, is_spared, are_below, is_root, is_placed, has_child, has_ae_id, has_cse_id, may_stand, fits_in, grows, is_tree, is_well_formed, AreAscending}
 use Rattle.tree_model.proofs.TreeLemmas.{at_has, at_none, at-append, has-append, staying-append}
 
 -- ---- growing
@@ -54,7 +54,7 @@ grows_weaker strong weak implies before (r ∷ nodes) grew =
 
 -- a well-formed list is a tree
 pub tree_from_well_formed : (nodes : List ResourceData) → is_well_formed nodes ≡ true → is_tree nodes ≡ true
-tree_from_well_formed nodes well = grows_weaker fits_in fits (λ before r h. (and_parts (fits before r) _ h).0) [] nodes well
+tree_from_well_formed nodes well = grows_weaker fits_in may_stand (λ before r h. (and_parts (may_stand before r) _ h).0) [] nodes well
 
 -- ---- what may come next
 
@@ -65,7 +65,7 @@ pub record IsNext (nodes : List ResourceData) (r : ResourceData) : Type 0 where
   pub ae : has_ae_id (ae_id r) nodes ≡ false
   pub cse : has_cse_id (cse_id r) nodes ≡ false
 
-pub next_fits : (nodes : List ResourceData) (r : ResourceData) → fits nodes r ≡ true → IsNext nodes r
+pub next_fits : (nodes : List ResourceData) (r : ResourceData) → may_stand nodes r ≡ true → IsNext nodes r
 next_fits nodes r h =
     let four = and_parts (are_below r.number nodes && is_placed nodes r && not (has_child r.parent r.name nodes) && not (has_ae_id (ae_id r) nodes)) _ h in
     let three = and_parts (are_below r.number nodes && is_placed nodes r && not (has_child r.parent r.name nodes)) _ four.0 in
@@ -73,7 +73,7 @@ next_fits nodes r h =
     let one = and_parts (are_below r.number nodes) _ two.0 in
     record { number = one.0; parent = one.1; name = not-true _ two.1; ae = not-true _ three.1; cse = not-true _ four.1 }
 
-pub fits_next : (nodes : List ResourceData) (r : ResourceData) → IsNext nodes r → fits nodes r ≡ true
+pub fits_next : (nodes : List ResourceData) (r : ResourceData) → IsNext nodes r → may_stand nodes r ≡ true
 fits_next nodes r h =
     and_from _ _ (and_from _ _ (and_from _ _ (and_from _ _ h.number h.parent) (not_from_false _ h.name)) (not_from_false _ h.ae)) (not_from_false _ h.cse)
 
@@ -107,7 +107,7 @@ next_above_parent nodes r h = elim (or_cases (has r.parent nodes) _ h.parent) [
 
 -- no resource has the number 0
 pub zero_lacks : (nodes : List ResourceData) → is_tree nodes ≡ true → has 0 nodes ≡ false
-zero_lacks = growth fits (λ nodes. has 0 nodes ≡ false) refl (λ before r grew next holds.
+zero_lacks = growth may_stand (λ nodes. has 0 nodes ≡ false) refl (λ before r grew next holds.
     let above : r.parent < r.number = next_above_parent before r (next_fits before r next) in
     has-append 0 before (r ∷ []) ∙ or_from _ _ holds (or_from _ _ (ne_eqb r.number 0 (λ e. omega arith)) refl))
 
@@ -134,7 +134,7 @@ unfolding IsStrictlySortedBy
 sorted_nil = tt
 
 pub ascending_from_tree : (nodes : List ResourceData) → is_tree nodes ≡ true → AreAscending nodes
-ascending_from_tree = growth fits AreAscending sorted_nil (λ before r grew next holds.
+ascending_from_tree = growth may_stand AreAscending sorted_nil (λ before r grew next holds.
     subst (IsStrictlySortedBy nat_cmp) (sym (map-append (λ (s : ResourceData). s.number) before (r ∷ []))) (sorted_push _ r.number holds (all_less r.number before (next_fits before r next).number)))
 
 -- ---- the line of a resource
@@ -179,7 +179,7 @@ stands_old before s r n next apart found stood =
     }
 
 pub stands : (nodes : List ResourceData) → is_tree nodes ≡ true → (n : ℕ) (r : ResourceData) → at n nodes ≡ Some r → StandsIn nodes n r
-stands = growth fits (λ nodes. (n : ℕ) (r : ResourceData) → at n nodes ≡ Some r → StandsIn nodes n r) (λ n r found. cc) (λ before s grew next holds n r found.
+stands = growth may_stand (λ nodes. (n : ℕ) (r : ResourceData) → at n nodes ≡ Some r → StandsIn nodes n r) (λ n r found. cc) (λ before s grew next holds n r found.
     elim (cases_Bool (has_number n s)) [
       | inl t ↦ stands_new before s r n (next_fits before s next) (eqb-true s.number n t) found
       | inr f ↦
@@ -265,7 +265,7 @@ spared_old p before r n below =
 
 -- what stays is exactly what has no pick in its line
 pub without-spared : (p : ResourceData → Bool) (nodes : List ResourceData) → is_tree nodes ≡ true → without p nodes ≡ filter (λ r. is_spared p nodes r.number) nodes
-without-spared p = growth fits (λ nodes. without p nodes ≡ filter (λ r. is_spared p nodes r.number) nodes) refl (λ before r grew next law.
+without-spared p = growth may_stand (λ nodes. without p nodes ≡ filter (λ r. is_spared p nodes r.number) nodes) refl (λ before r grew next law.
     let fact = next_fits before r next in
     let same : stays p (without p before) r ≡ is_spared p (before ++ r ∷ []) r.number =
     ap (λ b. not (p r) && b) (parent_stays p before r grew fact law) ∙ sym (spared_new p before r) in

@@ -13,7 +13,7 @@ use Rattle.m2m_names.specs.declared.types.Ty.TheVariants.{Ae, CseBase, RemoteCse
 use Rattle.m2m_value.specs.Data.{text}
 use Rattle.resource_model.specs.Attributes.{Row, text_at}
 use Rattle.resource_model.specs.Resource.{ResourceData, is_ty, has_number, ae_id, cse_id}
-use Rattle.tree_model.specs.Tree.{at, has, is_child, child_of, replaced, stays, without, is_spared, are_below, is_root, is_placed, has_child, same_text, has_ae_id, has_cse_id, fits, is_taken, fits_in, grows, is_tree, is_well_formed, standing}
+use Rattle.tree_model.specs.Tree.{at, has, is_child, child_of, replaced, stays, without, is_spared, are_below, is_root, is_placed, has_child, same_text, has_ae_id, has_cse_id, may_stand, is_taken, fits_in, grows, is_tree, is_well_formed, standing}
 use Rattle.tree_model.proofs.TreeLemmas.{list_any-same, list_all-same, has_at, at_has, at-map, has-map, staying-append, staying_all, staying_any}
 use Rattle.tree_model.proofs.GrowthLemmas.{IsNext, next_fits, fits_next, grown, growth, zero_lacks, root_parent, at-without, tree_from_well_formed}
 
@@ -64,7 +64,7 @@ module _ (g : ResourceData → ResourceData) (keeps : KeepsStanding g) where
       ∙ ap (λ b. b || is_root (map g nodes) (g r)) (has-map g keeps.number r.parent nodes)
       ∙ ap (λ b. has r.parent nodes || b) (is_root-map nodes r)
 
-  pub fits-map : (nodes : List ResourceData) (r : ResourceData) → fits (map g nodes) (g r) ≡ fits nodes r
+  pub fits-map : (nodes : List ResourceData) (r : ResourceData) → may_stand (map g nodes) (g r) ≡ may_stand nodes r
   fits-map nodes r =
       let below : are_below (g r).number (map g nodes) ≡ are_below r.number nodes = ap (λ (m : ℕ). are_below m (map g nodes)) (keeps.number r) ∙ below-map r.number nodes in
       let child : has_child (g r).parent (g r).name (map g nodes) ≡ has_child r.parent r.name nodes =
@@ -96,10 +96,10 @@ module _ (g : ResourceData → ResourceData) (keeps : KeepsStanding g) where
       ap (λ b. b && grows may (map g before ++ g r ∷ []) (map g nodes)) (same before r) ∙ ap (λ b. may before r && b) later
 
   pub is_tree-map : (nodes : List ResourceData) → is_tree (map g nodes) ≡ is_tree nodes
-  is_tree-map nodes = grows-map fits fits-map [] nodes
+  is_tree-map nodes = grows-map may_stand fits-map [] nodes
 
   pub is_well_formed-map : (nodes : List ResourceData) → is_well_formed (map g nodes) ≡ is_well_formed nodes
-  is_well_formed-map nodes = grows-map fits_in (λ b r. ap (λ x. x && is_taken (map g b) (g r)) (fits-map b r) ∙ ap (λ x. fits b r && x) (is_taken-map b r)) [] nodes
+  is_well_formed-map nodes = grows-map fits_in (λ b r. ap (λ x. x && is_taken (map g b) (g r)) (fits-map b r) ∙ ap (λ x. may_stand b r && x) (is_taken-map b r)) [] nodes
 
 -- ---- a replacement
 
@@ -179,7 +179,7 @@ is_well_formed-replaced r nodes stood =
 -- ---- an append
 
 pub is_tree-append : (nodes : List ResourceData) (r : ResourceData) → is_tree nodes ≡ true → IsNext nodes r → is_tree (nodes ++ r ∷ []) ≡ true
-is_tree-append nodes r tree next = grown fits nodes r tree (fits_next nodes r next)
+is_tree-append nodes r tree next = grown may_stand nodes r tree (fits_next nodes r next)
 
 pub is_well_formed-append : (nodes : List ResourceData) (r : ResourceData) → is_well_formed nodes ≡ true → IsNext nodes r → is_taken nodes r ≡ true → is_well_formed (nodes ++ r ∷ []) ≡ true
 is_well_formed-append nodes r well next taken = grown fits_in nodes r well (and_from _ _ (fits_next nodes r next) taken)
@@ -221,7 +221,7 @@ still_next p before r tree next stayed = record {
 }
 
 pub is_tree-without : (p : ResourceData → Bool) (nodes : List ResourceData) → is_tree nodes ≡ true → is_tree (without p nodes) ≡ true
-is_tree-without p = growth fits (λ nodes. is_tree (without p nodes) ≡ true) refl (λ before r tree next holds.
+is_tree-without p = growth may_stand (λ nodes. is_tree (without p nodes) ≡ true) refl (λ before r tree next holds.
     ap is_tree (without-snoc p before r) ∙ elim (cases_Bool (stays p (without p before) r)) [
       | inl t ↦ ap (λ b. is_tree (without p before ++ cond b (r ∷ []) [])) t ∙ is_tree-append (without p before) r holds (still_next p before r tree (next_fits before r next) t)
       | inr f ↦ ap (λ b. is_tree (without p before ++ cond b (r ∷ []) [])) f ∙ ap is_tree (append-nil (without p before)) ∙ holds
@@ -234,7 +234,7 @@ taken_still false o ty taken = refl
 pub is_well_formed-without : (p : ResourceData → Bool) (nodes : List ResourceData) → is_well_formed nodes ≡ true → is_well_formed (without p nodes) ≡ true
 is_well_formed-without p = growth fits_in (λ nodes. is_well_formed (without p nodes) ≡ true) refl (λ before r well next holds.
     let tree = tree_from_well_formed before well in
-    let parts = and_parts (fits before r) (is_taken before r) next in
+    let parts = and_parts (may_stand before r) (is_taken before r) next in
     let taken : is_taken (without p before) r ≡ true =
     ap (λ (o : Option ResourceData). option_map_or (λ s. does_take s.ty r.ty) o true) (at-without p r.parent before tree) ∙ taken_still (is_spared p before r.parent) (at r.parent before) r.ty parts.1 in
     ap is_well_formed (without-snoc p before r) ∙ elim (cases_Bool (stays p (without p before) r)) [

@@ -4,14 +4,14 @@ use Rattle.std.proofs.Common.{◌≡◌, List, [], ◌∷◌, ◌++◌, Bool, tr
 use Rattle.std.proofs.lemmas.Bool.{and_parts, and_from, or_cases, or_left, or_right, or_parts, not-true, not_from_false, eq-eqb}
 use Rattle.std.specs.List.{list_any}
 use Rattle.resource_model.specs.Resource.{ResourceData}
-use Rattle.tree_model.specs.Tree.{at, has, line_of, stays, staying, without, is_spared, due, due_under, fits, grows, is_tree}
+use Rattle.tree_model.specs.Tree.{at, has, line_of, stays, staying, without, is_spared, due, due_under, may_stand, grows, is_tree}
 use Rattle.tree_model.proofs.GrowthLemmas.{next_fits, root_parent, stands, at-without}
 
 -- where nothing is picked, all stays
-staying_all_of : (p : ResourceData → Bool) (before nodes : List ResourceData) → grows fits before nodes ≡ true → list_any p nodes ≡ false → staying p before nodes ≡ nodes
+staying_all_of : (p : ResourceData → Bool) (before nodes : List ResourceData) → grows may_stand before nodes ≡ true → list_any p nodes ≡ false → staying p before nodes ≡ nodes
 staying_all_of p before [] grew none = refl
 staying_all_of p before (r ∷ nodes) grew none =
-    let parts = and_parts (fits before r) _ grew in
+    let parts = and_parts (may_stand before r) _ grew in
     let free = or_parts (p r) (list_any p nodes) none in
     let parent : ((r.parent == 0) || has r.parent before) ≡ true = elim (or_cases (has r.parent before) _ (next_fits before r parts.0).parent) [
       | inl there ↦ or_right _ _ there

@@ -6,7 +6,7 @@ use Rattle.std.proofs.lemmas.List.Folds.{list_all-append}
 use Rattle.std.proofs.lemmas.Option.{same_Some}
 use Rattle.std.specs.List.{filter, list_all}
 use Rattle.resource_model.specs.Resource.{ResourceData, has_number}
-use Rattle.tree_model.specs.Tree.{at, has, number_of, number_at, is_under, children_of, are_below, fits, is_tree}
+use Rattle.tree_model.specs.Tree.{at, has, resource_number, number_at, is_under, children_of, are_below, may_stand, is_tree}
 use Rattle.tree_model.proofs.GrowthLemmas.{growth, next_fits}
 use Rattle.tree_model.proofs.TreeLemmas.{at_has}
 
@@ -32,7 +32,7 @@ ascend_push (s ∷ nodes) r order below =
     and_from _ _ (above_push s.number nodes r o.0 (ltb-true s.number r.number b.0)) (ascend_push nodes r o.1 b.1)
 
 pub tree_ascends : (nodes : List ResourceData) → is_tree nodes ≡ true → ascend nodes ≡ true
-tree_ascends = growth fits (λ nodes. ascend nodes ≡ true) refl (λ before r grew next holds. ascend_push before r holds (next_fits before r next).number)
+tree_ascends = growth may_stand (λ nodes. ascend nodes ≡ true) refl (λ before r grew next holds. ascend_push before r holds (next_fits before r next).number)
 
 pub above_filter : (p : ResourceData → Bool) (n : ℕ) (nodes : List ResourceData) → are_above n nodes ≡ true → are_above n (filter p nodes) ≡ true
 above_filter p n [] above = refl
@@ -100,7 +100,7 @@ at_filtered p (s ∷ nodes) k r order found =
         rw (eq-eqb s.number r.number (ap (λ (x : ResourceData). x.number) is)) found
     first s nodes (suc j) r above later found = behind s nodes r above (later j found)
 
-number_some : (o : Option ResourceData) (n : ℕ) → Some n ≡ number_of o → (r : ResourceData) × (o ≡ Some r) × (r.number ≡ n)
+number_some : (o : Option ResourceData) (n : ℕ) → Some n ≡ resource_number o → (r : ResourceData) × (o ≡ Some r) × (r.number ≡ n)
 number_some None n is = cc
 number_some (Some r) n is = (r, refl, sym (same_Some n r.number is))
 
@@ -110,7 +110,7 @@ placed_found p nodes k n tree is =
     let there = number_some (slice_get (filter p nodes) k) n is in
     ap (λ (m : ℕ). at m nodes) (sym there.2) ∙ at_filtered p nodes k there.0 (tree_ascends nodes tree) there.1 ∙ sym there.1
 
-pub none_placed : (o : Option ResourceData) → None ≡ number_of o → None ≡ o
+pub none_placed : (o : Option ResourceData) → None ≡ resource_number o → None ≡ o
 none_placed None is = refl
 none_placed (Some r) is = cc
 

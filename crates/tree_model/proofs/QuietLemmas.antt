@@ -12,7 +12,7 @@ use Rattle.m2m_names.specs.declared.attributes.Attr.TheVariants.{Mia}
 use Rattle.m2m_names.specs.declared.types.Ty.TheVariants.{CseBase, ContentInstance}
 use Rattle.resource_model.specs.Attributes.{count_at}
 use Rattle.resource_model.specs.Resource.{ResourceData, is_ty, has_number}
-use Rattle.tree_model.specs.Tree.{at, has, replaced, without, is_spared, age_end, lesser, due, due_under, is_due, live, is_quiet, are_quiet, fits, is_tree, standing}
+use Rattle.tree_model.specs.Tree.{at, has, replaced, without, is_spared, age_end, lesser, due, due_under, is_due, live, is_quiet, are_quiet, may_stand, is_tree, standing}
 use Rattle.tree_model.proofs.GrowthLemmas.{IsNext, next_fits, growth, below_has, below_lacks, next_above_parent, stands, at-without}
 use Rattle.tree_model.proofs.KeptLemmas.{is_tree-replaced, is_tree-without}
 use Rattle.tree_model.proofs.LiveLemmas.{due-without, without_none}
@@ -26,7 +26,7 @@ or_nothing (Some r) = refl
 
 -- what holds of each resource that a number finds holds of all
 pub all_by_number : (q : ResourceData → Bool) (nodes : List ResourceData) → is_tree nodes ≡ true → ((r : ResourceData) → at r.number nodes ≡ Some r → q r ≡ true) → list_all q nodes ≡ true
-all_by_number q = growth fits (λ nodes. ((r : ResourceData) → at r.number nodes ≡ Some r → q r ≡ true) → list_all q nodes ≡ true) (λ each. refl) (λ before r grew next holds each.
+all_by_number q = growth may_stand (λ nodes. ((r : ResourceData) → at r.number nodes ≡ Some r → q r ≡ true) → list_all q nodes ≡ true) (λ each. refl) (λ before r grew next holds each.
     let fact = next_fits before r next in
     let old : (s : ResourceData) → at s.number before ≡ Some s → q s ≡ true = λ s found. each s (at-append s.number before (r ∷ []) ∙ ap (λ (o : Option ResourceData). option_or o (at s.number (r ∷ []))) found) in
     let free : at r.number before ≡ None = at_none r.number before (below_lacks r.number before fact.number) in

@@ -55,23 +55,23 @@ abbrev pub instances_of : ℕ → List ResourceData → List ResourceData
 instances_of container nodes = kin_of ContentInstance container nodes
 
 -- the size of an instance in bytes, and of all the instances of a container
-abbrev pub size_of : ResourceData → ℕ
-size_of r = unwrap_or (count_at Cs r.attrs) 0
+abbrev pub instance_size : ResourceData → ℕ
+instance_size r = unwrap_or (count_at Cs r.attrs) 0
 
 abbrev pub sizes_of : ℕ → List ResourceData → ℕ
-sizes_of container nodes = sum_by size_of (instances_of container nodes)
+sizes_of container nodes = sum_by instance_size (instances_of container nodes)
 
 -- it is the child of this name
 abbrev pub is_child : ℕ → List ℕ → ResourceData → Bool
 is_child parent name r = is_under parent r && bytes_eq r.name name
 
 -- the number of a resource, where there is one
-abbrev pub number_of : Option ResourceData → Option ℕ
-number_of found = option_map (λ r. r.number) found
+abbrev pub resource_number : Option ResourceData → Option ℕ
+resource_number found = option_map (λ r. r.number) found
 
 -- the number of the resource at a place, from 0
 abbrev pub number_at : ℕ → List ResourceData → Option ℕ
-number_at k rs = number_of (slice_get rs k)
+number_at k rs = resource_number (slice_get rs k)
 
 -- the number of the last resource, and of the first
 abbrev pub last_number : List ResourceData → Option ℕ
@@ -99,7 +99,7 @@ is_ae aei r = same_text (ae_id r) (Some aei)
 
 -- the number of the application entity that has an AE-ID
 abbrev pub ae_of : List ℕ → List ResourceData → Option ℕ
-ae_of aei nodes = number_of (find (is_ae aei) nodes)
+ae_of aei nodes = resource_number (find (is_ae aei) nodes)
 
 -- it has this CSE-ID
 abbrev pub is_cse : List ℕ → ResourceData → Bool
@@ -107,7 +107,7 @@ is_cse csi r = same_text (cse_id r) (Some csi)
 
 -- the number of the remote CSE that has a CSE-ID
 abbrev pub cse_of : List ℕ → List ResourceData → Option ℕ
-cse_of csi nodes = number_of (find (is_cse csi) nodes)
+cse_of csi nodes = resource_number (find (is_cse csi) nodes)
 
 -- the polling channels of a resource, in order of creation (TS-0001, 9.6.21)
 abbrev pub is_channel : ℕ → ResourceData → Bool
@@ -122,7 +122,7 @@ has_channel parent nodes = list_any (is_channel parent) nodes
 
 -- the number of the first of them
 abbrev pub channel_of : ℕ → List ResourceData → Option ℕ
-channel_of parent nodes = number_of (find (is_channel parent) nodes)
+channel_of parent nodes = resource_number (find (is_channel parent) nodes)
 
 -- the number of the child of a name
 abbrev pub child_of : ℕ → List ℕ → List ResourceData → Option ℕ
@@ -247,8 +247,8 @@ has_cse_id csi nodes = list_any (λ s. same_text (cse_id s) csi) nodes
 
 -- what may come next: its number is new, its parent is there, and its name, AE-ID and CSE-ID are
 -- free
-abbrev pub fits : List ResourceData → ResourceData → Bool
-fits nodes r =
+abbrev pub may_stand : List ResourceData → ResourceData → Bool
+may_stand nodes r =
     are_below r.number nodes && is_placed nodes r
     && not (has_child r.parent r.name nodes) && not (has_ae_id (ae_id r) nodes)
     && not (has_cse_id (cse_id r) nodes)
@@ -258,7 +258,7 @@ abbrev pub is_taken : List ResourceData → ResourceData → Bool
 is_taken nodes r = option_map_or (λ p. does_take p.ty r.ty) (at r.parent nodes) true
 
 abbrev pub fits_in : List ResourceData → ResourceData → Bool
-fits_in nodes r = fits nodes r && is_taken nodes r
+fits_in nodes r = may_stand nodes r && is_taken nodes r
 
 -- each resource could come after those before it
 abbrev pub grows : (List ResourceData → ResourceData → Bool) → List ResourceData
@@ -269,7 +269,7 @@ grows may before (r ∷ nodes) = may before r && grows may (before ++ r ∷ []) 
 -- a CSEBase first, numbers ascend, each other resource has its parent before it, and names of
 -- siblings, AE-IDs and CSE-IDs differ: what every tree keeps
 abbrev pub is_tree : List ResourceData → Bool
-is_tree nodes = grows fits [] nodes
+is_tree nodes = grows may_stand [] nodes
 
 -- besides, each resource stands under a type that takes it
 abbrev pub is_well_formed : List ResourceData → Bool

@@ -6,7 +6,7 @@ ghost use Rattle.m2m_names.specs.declared.attributes.Attr.TheVariants.{St};
 ghost use Rattle.resource_model.specs.Attributes.{value_of};
 ghost use Rattle.resource_model.specs.Resource.{ResourceData, ae_id, cse_id};
 ghost use Rattle.tree_model.specs.Tree.{at, has, are_below, is_root, is_placed, has_child};
-ghost use Rattle.tree_model.specs.Tree.{has_ae_id, has_cse_id, has_channel, has_state, fits};
+ghost use Rattle.tree_model.specs.Tree.{has_ae_id, has_cse_id, has_channel, has_state, may_stand};
 ghost use Rattle.tree_model.specs.Tree.{standing};
 
 use crate::steps::child_named;
@@ -18,7 +18,7 @@ use resource_model::Resource;
 /// Whether the resource may be inserted: its number is greater than every other, its parent is
 /// there (or it is the CSEBase and the first), and its name, its AE-ID and its CSE-ID are free.
 pub fn may_insert<T: Tree>(tree: &T, resource: &Resource) -> bool
-    ensures { result ≡ fits (T.nodes tree.now) resource.now }
+    ensures { result ≡ may_stand (T.nodes tree.now) resource.now }
 {
     is_above(tree, resource.number()) && has_place(tree, resource) && is_free(tree, resource)
 }

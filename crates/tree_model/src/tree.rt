@@ -4,9 +4,10 @@ ghost use Rattle.std.specs.Prelude.{slice_get, IsTrue, OnOk, OnErr, IfErr, Some,
 ghost use Rattle.m2m_names.specs.Stamps.{last_moment};
 ghost use Rattle.resource_model.specs.Resource.{ResourceData, has_number};
 ghost use Rattle.tree_model.specs.Tree.{at, has, child_of, children_of, subs_of, number_at};
-ghost use Rattle.tree_model.specs.Tree.{instance_of, instances_of, sizes_of, ae_of, cse_of, channel_of};
+ghost use Rattle.tree_model.specs.Tree.{instance_of, instances_of, sizes_of, ae_of, cse_of};
+ghost use Rattle.tree_model.specs.Tree.{channel_of};
 ghost use Rattle.tree_model.specs.Tree.{are_quiet, live, replaced, restamped_at, has_state};
-ghost use Rattle.tree_model.specs.Tree.{without, fits, is_tree, standing};
+ghost use Rattle.tree_model.specs.Tree.{without, may_stand, is_tree, standing};
 
 use crate::steps::Steps;
 use resource_model::Resource;
@@ -88,7 +89,7 @@ pub trait Tree: Drop {
     /// Puts a resource last. Its number is greater than every other, its parent is there (or it is
     /// the CSEBase and the first), and its name, its AE-ID and its CSE-ID are free.
     fn insert(&mut self, resource: Resource) -> Result<(), (Resource, OutOfMemory)>
-        requires { IsTrue (fits (nodes self.old) resource) }
+        requires { IsTrue (may_stand (nodes self.old) resource) }
         ensures ok { OnOk result (nodes self.new ≡ nodes self.old ++ resource ∷ []) }
         ensures err { OnErr result (nodes self.new ≡ nodes self.old) }
         ensures back { IfErr result (λ e. e.0 ≡ resource) };

@@ -15,7 +15,7 @@ use Rattle.turn_desk.specs.Joins.{Runs-append}
 use Rattle.std.specs.declared.snapshot.Snapshot.{Snapshot}
 use Rattle.turn_desk.specs.declared.view.View.{View}
 use Rattle.turn_desk.specs.declared.view.Held.{Held}
-use Rattle.turn_desk.specs.Shared.{Begins, AreInLine, longer, times, total, Fits, IsHome, IsTaken, AreApart, AreOwned, Weighed, AddUp, Kept, Leaves, newcomer, spent, halved, sibling, joined, with_ticket, with_entry, Draws, TakesTurn, Looks, Passes, Tells, HasTurn, IsIdle, IsWaiting, IsServed, OwnsAll, AreJoined, SamePart, IsWhole, own_places, Grows}
+use Rattle.turn_desk.specs.Shared.{Begins, AreInLine, longer, times, total, Fits, IsAtHome, IsTaken, AreApart, AreOwned, Weighed, AddUp, Kept, Leaves, newcomer, spent, halved, sibling, joined_view, with_ticket, with_entry, Draws, TakesTurn, Looks, Passes, Tells, HasTurn, IsIdle, IsWaiting, IsServed, OwnsAll, AreJoined, SamePart, IsWhole, own_places, Grows}
 
 -- ---- sums
 
@@ -238,7 +238,7 @@ module _ {X E R : Type 0} where
 
   pub parts-join : (views : List (View X E R)) (id other : ℕ) (v w : View X E R)
       → get_elem? views id ≡ some v → other ≢ id → get_elem? views other ≡ some w
-      → AddUp views → AddUp (set (set views id (joined v w)) other spent)
+      → AddUp views → AddUp (set (set views id (joined_view v w)) other spent)
   parts-join views id other v w e ne f a =
       let n = weighed-at a.number views a.weights id v e a.weighed in
       let m = weighed-at a.number views a.weights other w f a.weighed in
@@ -254,8 +254,8 @@ module _ {X E R : Type 0} where
         number = a.number;
         positive = a.positive;
         all = omega (arith, t, u, l);
-        weighed = weighed-set a.number (set views id (joined v w)) once other 0 spent (zero-mul a.number)
-            (weighed-set a.number views a.weights id both (joined v w) q a.weighed);
+        weighed = weighed-set a.number (set views id (joined_view v w)) once other 0 spent (zero-mul a.number)
+            (weighed-set a.number views a.weights id both (joined_view v w) q a.weighed);
       }
 
 -- a product with a positive number that is nothing
@@ -625,9 +625,9 @@ module _ {X E R : Type 0} (step : ℕ → E → X → R → X → Type 0) (openi
       (λ y. lt_of_lt_of_le (f p y) (longer-left v.seen w.seen))
 
   pub joins : (id other : ℕ) (v w : View X E R) → v.share ≢ 0 → v.turn ≡ false → w.turn ≡ false
-      → Joins (Kept step opening) id v other w (joined v w) spent
+      → Joins (Kept step opening) id v other w (joined_view v w) spent
   joins id other v w part idle rests s k at ne ot =
-      let both : View X E R = joined v w in
+      let both : View X E R = joined_view v w in
       let views : List (View X E R) = set s.views id both in
       let from : get_elem? s.views other ≡ some w = sym (set_else s.views id other both ne) ∙ ot in
       let f = k.fit id v at in
@@ -841,13 +841,13 @@ module _ {X E R : Type 0} (step : ℕ → E → X → R → X → Type 0) (openi
 
 module _ {X E R : Type 0} where
   -- two seats in one have a part
-  pub joined-part : (v w : View X E R) → v.share ≢ 0 → 0 < w.whole → (joined v w).share ≢ 0
+  pub joined-part : (v w : View X E R) → v.share ≢ 0 → 0 < w.whole → (joined_view v w).share ≢ 0
   joined-part v w part whole z = part (none_of v.share w.whole (w.share * v.whole) whole z)
 
   pub idle-joined : (step : ℕ → E → X → R → X → Type 0) (a b me after : Me (Held X E R) (View X E R))
-      → IsIdle step a → IsIdle step b → me ≡ (joined a.0 b.0, a.1) → Tells step me after → IsIdle step after
+      → IsIdle step a → IsIdle step b → me ≡ (joined_view a.0 b.0, a.1) → Tells step me after → IsIdle step after
   idle-joined step a b me after p q e t =
-      let v : after ≡ (record (joined a.0 b.0) { left = []; right = [] }, a.1) =
+      let v : after ≡ (record (joined_view a.0 b.0) { left = []; right = [] }, a.1) =
       t.view ∙ ap (λ (m : Me (Held X E R) (View X E R)). (record m.0 { left = []; right = [] }, m.1)) e in
       let l = t.legal p.opening (ap (λ (m : Me (Held X E R) (View X E R)). m.0.opening) e ∙ p.opened) in
       subst (IsIdle step) (sym v) (record {

@@ -55,8 +55,8 @@ module _ {X E R : Type 0} where
     pub whole : 0 < v.whole
 
   -- the object is in the slot, and no seat has it
-  abbrev pub IsHome : List (mathlib.Core.Option.Option (Held X E R)) → X → Type 0
-  IsHome homes object = (held : Held X E R) × (get_elem? homes 0 ≡ some (some held))
+  abbrev pub IsAtHome : List (mathlib.Core.Option.Option (Held X E R)) → X → Type 0
+  IsAtHome homes object = (held : Held X E R) × (get_elem? homes 0 ≡ some (some held))
       × (held.object ≡ Some object)
 
   -- some seat takes a turn
@@ -99,7 +99,7 @@ module _ {X E R : Type 0} where
     pub served : length log ≤ next
     pub small : next < 2 ^ 64
     pub leaves : Leaves step opening log object
-    pub place : IsHome s.homes object ⊎ IsTaken s.views
+    pub place : IsAtHome s.homes object ⊎ IsTaken s.views
     pub fit : (id : ℕ) (v : View X E R) → get_elem? s.views id ≡ some v → Fits opening log next v
     pub apart : AreApart s.views
     pub owned : AreOwned (length log) s.views
@@ -144,8 +144,8 @@ module _ {X E R : Type 0} where
   sibling v = record v { own = []; whole = v.whole * 2 }
 
   -- both seats in one, which is yet to be told that one of them saw no less than the other
-  abbrev pub joined : View X E R → View X E R → View X E R
-  joined v w = record {
+  abbrev pub joined_view : View X E R → View X E R → View X E R
+  joined_view v w = record {
     opening = v.opening;
     seen = longer v.seen w.seen;
     own = v.own ++ w.own;

@@ -69,7 +69,7 @@ impl<O: Object> Split<Knows<O>> for Halve {
 struct Add;
 
 impl<O: Object> Join<Knows<O>> for Add {
-    ghost both = { spec.joined };
+    ghost both = { spec.joined_view };
 
     ghost spent = { spec.spent };
 }

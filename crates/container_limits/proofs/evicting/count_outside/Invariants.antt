@@ -1,6 +1,6 @@
 use Rattle.std.proofs.Common.{◌≡◌, ◌+◌, length, drop, option_to_list, unwrap_or}
 use Rattle.std.specs.List.{filter, sum_by}
-use Rattle.tree_model.specs.Tree.{instances_of, size_of}
+use Rattle.tree_model.specs.Tree.{instances_of, instance_size}
 use Rattle.container_limits.specs.Limits.{lasts, kept, longest_fit}
 use Rattle.container_limits.proofs.evicting.count_outside.Given as goal
 
@@ -8,6 +8,6 @@ use Rattle.container_limits.proofs.evicting.count_outside.Given as goal
 abbrev pub invariant-loop-k : goal.invariant-loop-k
 invariant-loop-k g l = record {
   count : l.left.count ≡ length (filter (lasts l.limits.mia l.moment) (drop l.k (instances_of l.container (g.T.Tree.nodes l.tree)))) + length (option_to_list l.fn.new_size);
-  sizes : l.left.sizes ≡ sum_by size_of (filter (lasts l.limits.mia l.moment) (drop l.k (instances_of l.container (g.T.Tree.nodes l.tree)))) + unwrap_or l.fn.new_size 0;
+  sizes : l.left.sizes ≡ sum_by instance_size (filter (lasts l.limits.mia l.moment) (drop l.k (instances_of l.container (g.T.Tree.nodes l.tree)))) + unwrap_or l.fn.new_size 0;
   stay : kept l.limits l.fn.new_size l.moment (instances_of l.container (g.T.Tree.nodes l.tree)) ≡ longest_fit l.limits l.fn.new_size (filter (lasts l.limits.mia l.moment) (drop l.k (instances_of l.container (g.T.Tree.nodes l.tree))));
 }

@@ -1,6 +1,6 @@
 use Rattle.std.proofs.Common.{◌≡◌, ◌≤◌, length, drop, option_map, ap, ◌∙◌, arith}
 use Rattle.std.specs.List.{filter, sum_by}
-use Rattle.tree_model.specs.Tree.{instances_of, size_of}
+use Rattle.tree_model.specs.Tree.{instances_of, instance_size}
 use Rattle.container_limits.specs.Limits.{is_due_by, lasts}
 use Rattle.container_limits.proofs.LimitLemmas.{counts_split, sizes_split, count_turn, size_turn, nothing_left}
 use Rattle.container_limits.proofs.instances.lasting_total.Goals as goal
@@ -16,7 +16,7 @@ loop-k-preserved g c =
     let rs = (instances_of c.args.container (g.T.Tree.nodes c.args.tree.now)) in
     record {
       count = count_turn (is_due_by c.args.mia c.args.moment) rs c.loop-k.k (length (filter (lasts c.args.mia c.args.moment) rs)) (option_map (λ r. r.now) c.instance_at.result) c.instance_at.ensures.value c.loop-k.total.count c.without-total.result.count c.loop-k.invariant.count c.without-total.ensures.count;
-      sizes = size_turn (is_due_by c.args.mia c.args.moment) rs c.loop-k.k (sum_by size_of (filter (lasts c.args.mia c.args.moment) rs)) (option_map (λ r. r.now) c.instance_at.result) c.instance_at.ensures.value c.loop-k.total.sizes c.without-total.result.sizes c.loop-k.invariant.sizes c.without-total.ensures.sizes;
+      sizes = size_turn (is_due_by c.args.mia c.args.moment) rs c.loop-k.k (sum_by instance_size (filter (lasts c.args.mia c.args.moment) rs)) (option_map (λ r. r.now) c.instance_at.result) c.instance_at.ensures.value c.loop-k.total.sizes c.without-total.result.sizes c.loop-k.invariant.sizes c.without-total.ensures.sizes;
     }
 
 pub returns-clause-few : goal.returns-clause-few
@@ -30,5 +30,5 @@ pub returns-clause-small : goal.returns-clause-small
 returns-clause-small g c =
     let rs = (instances_of c.args.container (g.T.Tree.nodes c.args.tree.now)) in
     let past : length rs ≤ c.loop-k.k = omega (arith, c.loop-k-test.false, c.instance_count-k-end.ensures) in
-    let none : sum_by size_of (filter (is_due_by c.args.mia c.args.moment) (drop c.loop-k.k rs)) ≡ 0 = ap (sum_by size_of) (nothing_left (is_due_by c.args.mia c.args.moment) rs c.loop-k.k past) in
+    let none : sum_by instance_size (filter (is_due_by c.args.mia c.args.moment) (drop c.loop-k.k rs)) ≡ 0 = ap (sum_by instance_size) (nothing_left (is_due_by c.args.mia c.args.moment) rs c.loop-k.k past) in
     omega (arith, none, c.loop-k.invariant.sizes, sizes_split c.args.mia c.args.moment rs, c.total-total.ensures.sizes, c.total-total.ensures.small)

@@ -1,6 +1,6 @@
 use Rattle.std.proofs.Common.{◌≡◌, ◌+◌, length, drop}
 use Rattle.std.specs.List.{filter, sum_by}
-use Rattle.tree_model.specs.Tree.{instances_of, size_of}
+use Rattle.tree_model.specs.Tree.{instances_of, instance_size}
 use Rattle.container_limits.specs.Limits.{is_due_by, lasts}
 use Rattle.container_limits.proofs.instances.lasting_total.Given as goal
 
@@ -8,5 +8,5 @@ use Rattle.container_limits.proofs.instances.lasting_total.Given as goal
 abbrev pub invariant-loop-k : goal.invariant-loop-k
 invariant-loop-k g l = record {
   count : l.total.count ≡ length (filter (is_due_by l.mia l.moment) (drop l.k (instances_of l.container (g.T.Tree.nodes l.tree)))) + length (filter (lasts l.mia l.moment) (instances_of l.container (g.T.Tree.nodes l.tree)));
-  sizes : l.total.sizes ≡ sum_by size_of (filter (is_due_by l.mia l.moment) (drop l.k (instances_of l.container (g.T.Tree.nodes l.tree)))) + sum_by size_of (filter (lasts l.mia l.moment) (instances_of l.container (g.T.Tree.nodes l.tree)));
+  sizes : l.total.sizes ≡ sum_by instance_size (filter (is_due_by l.mia l.moment) (drop l.k (instances_of l.container (g.T.Tree.nodes l.tree)))) + sum_by instance_size (filter (lasts l.mia l.moment) (instances_of l.container (g.T.Tree.nodes l.tree)));
 }

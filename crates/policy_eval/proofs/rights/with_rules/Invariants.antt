@@ -1,8 +1,8 @@
 use Rattle.std.proofs.Common.{◌≡◌, drop, map}
-use Rattle.policy_eval.specs.Rules.{rule_of}
+use Rattle.policy_eval.specs.Rules.{stated_rule}
 use Rattle.policy_eval.specs.Rights.{with_rules}
 use Rattle.policy_eval.proofs.rights.with_rules.Given as goal
 
 abbrev pub invariant-loop-rule : goal.invariant-loop-rule
 invariant-loop-rule l =
-    with_rules l.home l.o l.bits (map rule_of (drop l.rule-index l.rules)) ≡ with_rules l.home l.o l.fn.bits (map rule_of l.rules)
+    with_rules l.home l.o l.bits (map stated_rule (drop l.rule-index l.rules)) ≡ with_rules l.home l.o l.fn.bits (map stated_rule l.rules)
