@@ -48,7 +48,7 @@ none_within side held need needs short frame rest b =
 
 -- a frame that was found stands at the front
 pub frame_begins : (side : Side) (held body : List ℕ) (headers : List HeaderSpan) (spans : FrameSpans)
-    → IsFrameAt side held headers body spans → BeginsWith side held (frame_at held headers body spans) (drop spans.end held)
+    → IsFrameAt side held headers body spans → BeginsWithFrame side held (frame_at held headers body spans) (drop spans.end held)
 frame_begins side held body headers spans f = record {
   bytes = take spans.end held;
   is_frame = f.is_frame;

@@ -20,8 +20,8 @@ use Rattle.http_frames.specs.Chunks.{chunks_text, chunks_body, chunk_line_limit,
 use Rattle.http_frames.specs.ChunkLooks.{WaitsForChunk}
 use Rattle.http_frames.specs.Looks.{WaitsFor}
 use Rattle.http_frames.specs.Frame.{head_limit, lines_limit, body_limit, IsFrame}
-use Rattle.http_frames.specs.Stream.{BeginsWith, HasNoFrame}
-use Rattle.http_frames.specs.Text.{IsSound, phrase_of, IsLine}
+use Rattle.http_frames.specs.Stream.{BeginsWithFrame, HasNoFrame}
+use Rattle.http_frames.specs.Text.{IsSoundFrame, phrase_of, IsLine}
 use Rattle.http_frames.specs.Spans.{start_at, lines_at, framing_at, frame_at, IsFrameAt, IsGoodHead, AreBehind, HasNoHead, CanNotBegin}
 use Rattle.http_frames.specs.Waiting.{piece_limit, LackChunk, MayBecomeHead, IsUnsettled, EndsInRead, ReadsAsNeeded, StaysUnsettled, EndsBelow}
 use Rattle.http_frames.specs.Inbox.{Reads, GivesAsNeeded, most_held}
