@@ -49,7 +49,7 @@ has_filter op es = IsSome (request_made op es).fc
 -- where there are labels of a filter there is a filter
 labels_filter : (o : Option Data) → IsSome (option_and_then (λ d. member_of (conditions.name_of_condition OneLabel) (members_in d)) o) → IsSome (option_map (λ d. filter_in (members_in d)) o)
 labels_filter None some = some
-labels_filter (Some d) some = tt
+labels_filter (Some d) some = refl
 
 -- what is told of a request holds of what is read
 told : (fault : Option PrimFault) (made : RequestParts) → (fault ≡ None → IsSome made.fc) → IfOk (read_as fault made) (λ (r : RequestParts). IsSome r.fc)

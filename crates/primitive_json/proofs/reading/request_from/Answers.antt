@@ -11,5 +11,5 @@ returns-in_err-plain-clause-memory c = on_err c.from_residual.result _ (judged_t
 
 pub returns-in_err-request_with-clause-memory : goal.returns-in_err-request_with-clause-memory
 returns-in_err-request_with-clause-memory c =
-    on_err c.from_residual-2.result _
+    on_err c.from_residual-in_err-request_with.result _
     (labels_told (members_in c.args.value) _ _ c.in_ok-plain.ensures.value c.taken_values-kept.ensures c.in_err-request_with.ensures.memory)
