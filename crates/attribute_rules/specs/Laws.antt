@@ -39,7 +39,7 @@ has_columns row =
     then not (is_permitted row.rule.create || is_permitted row.rule.update)
     else is_permitted row.rule.create
 
--- what an update may not clear, a creation has to name
+-- what an update may name and not clear, a creation has to name
 abbrev pub has_needed : AttrRow → Bool
 has_needed row = not (is_mandatory row.rule.update) || is_mandatory row.rule.create
 

@@ -203,4 +203,4 @@ abbrev pub mandatory_attrs : Ty → List Attr
 mandatory_attrs ty =
     map (λ (row : AttrRow). row.attr)
     (filter (λ (row : AttrRow). is_mandatory row.rule.create && is_type_among ty row.types)
-        attr_rows)
+    attr_rows)

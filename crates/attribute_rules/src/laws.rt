@@ -21,8 +21,8 @@ ghost use Rattle.attribute_rules.specs.declared.table.Writing.{Writing};
 ghost use Rattle.attribute_rules.specs.declared.table.Writing.TheVariants.{Create, Update};
 
 /// Of the table, row by row: no type has an attribute twice; no request names what the CSE gives,
-/// and a creation may name all else; what an update may not clear, a creation has to name; what is
-/// announced is of types that can be.
+/// and a creation may name all else; what an update may name and not clear, a creation has to name;
+/// what is announced is of types that can be.
 pub fn the_table_is_whole()
     ensures once { IsTrue (stand_once attr_rows) }
     ensures columns { IsTrue (list_all has_columns attr_rows) }

@@ -113,7 +113,7 @@ is_of Use d = is_some (read_usage d)
 abbrev pub is_condition : Entry → Bool
 is_condition e =
     option_map_or (λ condition. is_of (row_of_condition condition).sort e.1)
-        (condition_named e.0) false
+    (condition_named e.0) false
 
 -- an object of conditions
 abbrev pub is_filter : Data → Bool

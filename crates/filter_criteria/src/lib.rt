@@ -1,5 +1,5 @@
-//! The filter criteria of a request (TS-0001, 8.1.2): their type, the table of their conditions, and
-//! filters read from JSON values and written as such.
+//! The filter criteria of a request (TS-0001, 8.1.2): their type, the table of their conditions,
+//! and filters read from JSON values and written as such.
 //!
 //! A `Filter` is a struct of public fields, `FilterParts`, that keeps a fact: callers build the
 //! parts, owe the fact to `of`, read the fields by `parts`, and take the whole apart by
@@ -8,10 +8,10 @@
 //! `is_moment`, counts by `is_count`.
 //!
 //! The conditions stand in one table, in byte order of their short names, in which a name is looked
-//! up. `is_filter` judges a value without memory; `plain_filter` reads what is no label from a value
-//! that is lent, and `labels_from` moves the labels out of one that is given away. Reading and
-//! writing are linear in the value. Of a value that is no filter, what isn't a condition of its sort
-//! is read as absent: callers judge first.
+//! up. `is_filter` judges a value without memory; `plain_filter` reads what is no label from a
+//! value that is lent, and `labels_from` moves the labels out of one that is given away. Reading
+//! and writing are linear in the value. Of a value that is no filter, what isn't a condition of its
+//! sort is read as absent: callers judge first.
 //!
 //! Here too stands what filters and the primitives around them share: members of objects by their
 //! names (`members_in`, `value_at`), objects of the members that are there (`push_member`,

@@ -1,6 +1,6 @@
 //! Reading a filter.
-ghost use Rattle.std.specs.Prelude.{◌≡◌, ◌++◌, ◌∷◌, [], IfOk, OnOk, IfSome, IsUtf8, is_some};
-ghost use Rattle.std.specs.Prelude.{option_map};
+ghost use Rattle.std.specs.Prelude.{◌≡◌, ◌++◌, ◌∷◌, [], IfOk, OnOk, OnErr, IfSome, IsSome, IsUtf8};
+ghost use Rattle.std.specs.Prelude.{is_some, option_map};
 ghost use Rattle.std.specs.List.{AllByRecursion, filter_map, list_all};
 ghost use Rattle.std.specs.Option.{option_copied};
 ghost use Rattle.m2m_value.specs.Shapes.{is_label};
@@ -224,6 +224,8 @@ fn labels_of(alloc: Global, value: Val) -> Result<Labels, OutOfMemory>
 pub fn labels_from(alloc: Global, value: Option<Val>) -> Result<Labels, OutOfMemory>
     ensures value { IfOk result (λ l. l ≡ spec.labels_of value) }
     ensures utf8 { IfOk result (AllByRecursion IsUtf8) }
+    // No memory is taken where there is none.
+    ensures memory { OnErr result (IsSome value) }
 {
     match value {
         Some(value) => labels_of(alloc, value),

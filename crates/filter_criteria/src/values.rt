@@ -1,7 +1,7 @@
 //! Members of objects by their names, objects of the members that are there, and the kinds of
 //! values that filters share with the primitives around them.
-ghost use Rattle.std.specs.Prelude.{◌≡◌, ◌++◌, ◌∷◌, [], IfOk, IfSome, OnOk, IsUtf8};
-ghost use Rattle.std.specs.Prelude.{option_and_then};
+ghost use Rattle.std.specs.Prelude.{◌≡◌, ◌++◌, ◌∷◌, [], IfOk, IfSome, IsSome, OnErr, OnOk};
+ghost use Rattle.std.specs.Prelude.{IsUtf8, option_and_then};
 ghost use Rattle.std.specs.Option.{option_copied};
 ghost use Rattle.m2m_value.specs.Data as plain;
 ghost use Rattle.m2m_value.specs.Data.{pairs_of};
@@ -72,15 +72,18 @@ pub fn moment_value(alloc: Global, at: u64) -> Result<Val, OutOfMemory>
     Ok(Val::of_text(Text::from_slice(alloc, &stamp)?))
 }
 
-/// Puts a member behind the others, where it has a value.
+/// Puts a member behind the others, where it has a value. Where memory runs out, the others stay.
 pub fn push_member(
     alloc: Global,
     entries: &mut Vec<(Text, Val)>,
     name: &str,
     value: Option<Val>,
 ) -> Result<(), OutOfMemory>
-    ensures { OnOk result (entries.new.items
+    ensures ok { OnOk result (entries.new.items
         ≡ entries.old.items ++ spec.present ((name.now, value) ∷ [])) }
+    ensures err { OnErr result (entries.new.items ≡ entries.old.items) }
+    // No memory is taken for a member that has no value.
+    ensures memory { OnErr result (IsSome value) }
 {
     if let Some(value) = value {
         entries.push((Text::from_slice(alloc, name.as_bytes())?, value))?;

@@ -1,11 +1,13 @@
 -- Where a number stands in a list whose numbers ascend.
-use Rattle.std.proofs.Common.{◌≡◌, ℕ, zero, suc, ◌+◌, ◌<◌, ◌≢◌, List, [], ◌∷◌, length, map, get_or, set, true, false, Option, Some, None, Result, Ok, Err, Less, Equal, Greater, inl, inr, refl, sym, ap, ◌∙◌, arith}
-use Rattle.std.proofs.lemmas.Bool.{eq-eqb, eqb-true, ne_eqb, cases_lt}
+use Rattle.std.specs.Prelude.{◌==◌, nat_lt}
+use Rattle.std.proofs.Common.{◌≡◌, ℕ, zero, suc, ◌+◌, ◌-◌, ◌<◌, ◌≢◌, ◌||◌, List, [], ◌∷◌, length, map, get_or, set, Bool, true, false, Option, Some, None, Result, Ok, Err, Less, Equal, Greater, inl, inr, refl, sym, ap, ◌∙◌, subst, arith}
+use Rattle.std.proofs.lemmas.Bool.{eq-eqb, eqb-true, ne_eqb, cases_lt, ltb-true}
 use Rattle.std.proofs.lemmas.Bool.Decides.{nat_tests}
 use Rattle.std.proofs.lemmas.Cmp.{nat_cmp_total}
 use Rattle.std.proofs.lemmas.List.Sorted.{searchable_from_sorted}
 use Rattle.std.proofs.lemmas.Map.Keys.{below_from_sorted}
 use Rattle.std.proofs.lemmas.Option.{slice_get-get_or, same_Some}
+use Rattle.std.specs.Bool.{OnTrue}
 use Rattle.std.specs.List.{slice_get}
 use Rattle.std.specs.List.Sorted.{IsNonDecreasingBy, IsBinarySearchResult, IsSearchInRange}
 use Rattle.std.specs.Option.{option_map_or}
@@ -88,3 +90,46 @@ near_found nodes i n (Some r) sorted got is =
     let number : (get_or nodes i r).number ≡ n = ap (λ (s : ResourceData). s.number) (sym here) ∙ eqb-true r.number n is in
     let found : at n nodes ≡ Some (get_or nodes i r) = found_at n nodes i r within (λ k low e. (let less : (get_or nodes k r).number < (get_or nodes i r).number = number_order nodes k i r sorted low within in omega arith)) number in
     ap (λ (s : ResourceData). Some s) here ∙ sym found
+
+-- ---- where no number stands
+
+behind : (nodes : List ResourceData) (i n : ℕ) (o : Option ResourceData) → o ≡ slice_get nodes i → option_map_or (λ (r : ResourceData). nat_lt r.number n) o false ≡ true → (i < length nodes) × ((d : ResourceData) → (get_or nodes i d).number < n)
+behind nodes i n None got less = cc
+behind nodes i n (Some r) got less =
+    let within : i < length nodes = inside nodes i r got in (
+      within,
+      λ d.
+          let here : r ≡ get_or nodes i d = same_Some r (get_or nodes i d) (got ∙ slice_get-get_or nodes i d within) in
+          subst (λ (s : ResourceData). s.number < n) here (ltb-true r.number n less),
+    )
+
+ahead : (nodes : List ResourceData) (i n : ℕ) (o : Option ResourceData) → o ≡ slice_get nodes i → option_map_or (λ (r : ResourceData). nat_lt n r.number) o true ≡ true → i < length nodes → (d : ResourceData) → n < (get_or nodes i d).number
+ahead nodes i n None got less within d = absurd (let there : None ≡ Some (get_or nodes i d) = got ∙ slice_get-get_or nodes i d within in cc)
+ahead nodes i n (Some r) got less within d =
+    let here : r ≡ get_or nodes i d = same_Some r (get_or nodes i d) (got ∙ slice_get-get_or nodes i d within) in
+    subst (λ (s : ResourceData). n < s.number) here (ltb-true n r.number less)
+
+-- a number that is above the last one before a place and below the next stands nowhere
+pub gap_none : (n : ℕ) (nodes : List ResourceData) (i : ℕ) → AreAscending nodes → ((i == 0) || option_map_or (λ (r : ResourceData). nat_lt r.number n) (slice_get nodes (i - 1)) false) ≡ true → option_map_or (λ (r : ResourceData). nat_lt n r.number) (slice_get nodes i) true ≡ true → at n nodes ≡ None
+gap_none n nodes i sorted last next =
+    none_at n nodes (λ k d within e. elim (cases_lt k i) [
+      | inl before ↦
+          let some : (i == 0) ≡ false = ne_eqb i 0 (λ none. omega arith) in
+          let low = behind nodes (i - 1) n (slice_get nodes (i - 1)) refl (rw some at last) in
+          let top : (get_or nodes (i - 1) d).number < n = low.1 d in
+          elim (cases_lt k (i - 1)) [
+            | inl less ↦ (let more : (get_or nodes k d).number < (get_or nodes (i - 1) d).number = number_order nodes k (i - 1) d sorted less low.0 in omega arith)
+            | inr reached ↦ (let is : k ≡ i - 1 = omega arith in let here : (get_or nodes (i - 1) d).number ≡ n = subst (λ (j : ℕ). (get_or nodes j d).number ≡ n) is e in omega arith)
+          ]
+      | inr after ↦
+          let first : n < (get_or nodes i d).number = ahead nodes i n (slice_get nodes i) refl next (omega arith) d in
+          elim (cases_lt i k) [
+            | inl less ↦ (let more : (get_or nodes i d).number < (get_or nodes k d).number = number_order nodes i k d sorted less within in omega arith)
+            | inr reached ↦ (let is : k ≡ i = omega arith in let here : (get_or nodes i d).number ≡ n = subst (λ (j : ℕ). (get_or nodes j d).number ≡ n) is e in omega arith)
+          ]
+    ])
+
+-- where both sides of a place tell so, none has the number
+pub gap_told : (b : Bool) (n : ℕ) (nodes : List ResourceData) (i : ℕ) → AreAscending nodes → ((i == 0) || option_map_or (λ (r : ResourceData). nat_lt r.number n) (slice_get nodes (i - 1)) false) ≡ true → b ≡ option_map_or (λ (r : ResourceData). nat_lt n r.number) (slice_get nodes i) true → OnTrue b (at n nodes ≡ None)
+gap_told true n nodes i sorted last next = gap_none n nodes i sorted last (sym next)
+gap_told false n nodes i sorted last next = tt

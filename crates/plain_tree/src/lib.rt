@@ -3,8 +3,8 @@
 //! and all definitions.
 //!
 //! `Nodes` is that list, with its order kept: a resource is found in it by halving, and a removal is
-//! one pass in place. `ListTree` keeps besides a moment before which nothing is due. Callers owe the
-//! conditions of `insert` and `replace`. Only an insert takes memory.
+//! one pass in place, which searches for no parent. `ListTree` keeps besides a moment before which
+//! nothing is due. Callers owe the conditions of `insert` and `replace`. Only an insert takes memory.
 #![tactic(auto)]
 
 mod finding;

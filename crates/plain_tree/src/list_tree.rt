@@ -5,12 +5,12 @@ use crate::finding::{
     ae_in, channel_in, child_in, count_in, cse_in, kid_in, kin_in, last_kin_in, sizes_in,
 };
 use crate::nodes::Nodes;
-use m2m_names::{Attr, Ty};
+use m2m_names::Ty;
 use resource_model::Resource;
 use std::alloc::{AllocError as OutOfMemory, Global};
 use std::marker::Model;
 use std::sync::ledger::Ledger;
-use tree_model::{Steps, Tree, earlier};
+use tree_model::{Steps, Tree, earlier, lowered_age};
 
 /// The plain tree: the list of its resources, and a moment before which none of them is due.
 #[derive(Drop)]
@@ -121,9 +121,11 @@ impl Tree for ListTree {
     }
 
     fn replace(&mut self, resource: Resource) {
-        // A container may make its instances due earlier, though none before its `mia`.
+        // A container that lowers their age may make its instances due earlier, though none before
+        // that age.
         let own = earlier(self.quiet, self.nodes.due(&resource));
-        self.quiet = earlier(own, resource.attrs().count(Attr::Mia));
+        let old = self.nodes.look_up(resource.number());
+        self.quiet = earlier(own, lowered_age(old, &resource));
         self.nodes.replace(resource)
     }
 

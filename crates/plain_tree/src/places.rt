@@ -1,7 +1,8 @@
 // Where the parents of resources stand.
 use std::alloc::{AllocError as OutOfMemory, Global};
 
-// Of a resource: the place of its parent, and the place that the last removal gave it.
+// Of a resource: the place of its parent, and the place that the last removal gave it, or where it
+// would stand if it hadn't gone.
 #[derive(Clone, Copy)]
 struct Place {
     parent: usize,
@@ -11,8 +12,8 @@ struct Place {
 // No resource stands there.
 const NOWHERE: usize = usize::MAX;
 
-/// The places of the parents of all resources, so that a pass over them searches for no parent that
-/// stays. They are hints: a wrong one costs a search, and changes no answer.
+/// The places of the parents of all resources, so that a pass over them searches for no parent,
+/// whether that stays or goes. They are hints: a wrong one costs a search, and changes no answer.
 #[derive(Drop)]
 pub(crate) struct Places {
     places: Vec<Place>,
@@ -40,7 +41,7 @@ impl Places {
         }
     }
 
-    /// The place that a removal gave that parent.
+    /// The place that a removal gave that parent, or where it would stand.
     pub(crate) fn moved_parent(&self, at: usize) -> usize {
         match self.places.get(self.parent(at)) {
             Some(parent) => parent.own,
@@ -50,18 +51,16 @@ impl Places {
 
     /// A removal moves the resource at a place to another, with its parent at this one.
     pub(crate) fn keep(&mut self, at: usize, to: usize, parent: usize) {
-        if let Some(place) = self.places.get_mut(at) {
-            place.own = to;
-        }
+        self.pass(at, to);
         if let Some(place) = self.places.get_mut(to) {
             place.parent = parent;
         }
     }
 
-    /// A removal takes the resource at a place.
-    pub(crate) fn take(&mut self, at: usize) {
+    /// A removal takes the resource at a place, or moves it: it stands, or would stand, at another.
+    pub(crate) fn pass(&mut self, at: usize, to: usize) {
         if let Some(place) = self.places.get_mut(at) {
-            place.own = NOWHERE;
+            place.own = to;
         }
     }
 

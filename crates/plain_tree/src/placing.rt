@@ -1,8 +1,10 @@
 // Where a number stands among resources whose numbers ascend.
-ghost use Rattle.std.specs.Prelude.{◌≡◌, false, None, option_map, MatchResult, slice_get};
+ghost use Rattle.std.specs.Prelude.{◌≡◌, ◌-◌, ◌==◌, ◌||◌, nat_lt, true, false, None, option_map};
+ghost use Rattle.std.specs.Prelude.{MatchResult, slice_get};
+ghost use Rattle.std.specs.Bool.{OnTrue};
 ghost use Rattle.std.specs.Option.{option_map_or};
 ghost use Rattle.std.specs.Ordering.{nat_cmp};
-ghost use Rattle.resource_model.specs.Resource.{has_number};
+ghost use Rattle.resource_model.specs.Resource.{ResourceData, has_number};
 ghost use Rattle.tree_model.specs.Tree as spec;
 ghost use Rattle.tree_model.specs.Tree.{at, AreAscending, StandsAt};
 
@@ -35,15 +37,55 @@ pub(crate) fn found(resources: &[Resource], number: u64) -> Option<&Resource>
     }
 }
 
-/// The same, where it is likely to stand at a place, which is looked at first.
+/// The same, where it is likely to stand at a place, or else would stand there: that is looked at
+/// first.
 pub(crate) fn found_near(resources: &[Resource], number: u64, near: usize) -> Option<&Resource>
     requires { AreAscending resources.now }
     ensures { option_map (λ r. r.now) result ≡ at number resources.now }
 {
     if is_number_at(resources, number, near) {
         at_place(resources, near)
+    } else if is_gap(resources, number, near) {
+        None
     } else {
         found(resources, number)
+    }
+}
+
+// Whether the numbers on both sides of a place tell that none is this one.
+fn is_gap(resources: &[Resource], number: u64, place: usize) -> bool
+    requires { AreAscending resources.now }
+    ensures { OnTrue result (at number resources.now ≡ None) }
+{
+    is_above_last(resources, number, place) && is_below_next(resources, number, place)
+}
+
+// Whether the last one before a place has a smaller number; at the first place there is none.
+fn is_above_last(resources: &[Resource], number: u64, place: usize) -> bool
+    ensures { result ≡ ((place == 0) || option_map_or (λ (r : ResourceData). nat_lt r.number number)
+        (slice_get resources.now (place - 1)) false) }
+{
+    place == 0 || is_smaller(at_place(resources, place - 1), number)
+}
+
+fn is_smaller(resource: Option<&Resource>, number: u64) -> bool
+    ensures { result ≡ option_map_or (λ (r : ResourceData). nat_lt r.number number)
+        (option_map (λ r. r.now) resource.entry) false }
+{
+    match resource {
+        Some(resource) => resource.number() < number,
+        None => false,
+    }
+}
+
+// Whether the one at a place has a greater number; behind the last place there is none.
+fn is_below_next(resources: &[Resource], number: u64, place: usize) -> bool
+    ensures { result ≡ option_map_or (λ (r : ResourceData). nat_lt number r.number)
+        (slice_get resources.now place) true }
+{
+    match at_place(resources, place) {
+        Some(resource) => number < resource.number(),
+        None => true,
     }
 }
 

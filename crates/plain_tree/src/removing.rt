@@ -47,7 +47,8 @@ fn is_there(parent: Option<&Resource>) -> bool
     }
 }
 
-// Whether the resource stays, where these before it did. Its parent is likely to stand near.
+// Whether the resource stays, where these before it did. Its parent is likely to stand near, or
+// would stand there if it hadn't gone.
 #[tactic(auto, using(tree_model::proofs::TreeLemmas::there))]
 fn does_stay(stayed: &[Resource], near: usize, resource: &Resource, removal: Removal) -> bool
     requires { AreAscending stayed.now }
@@ -71,7 +72,7 @@ pub(crate) fn sweep_out(resources: &mut Vec<Resource>, places: &mut Places, remo
             places.keep(at, stayed, parent);
             stayed += 1;
         } else {
-            places.take(at);
+            places.pass(at, stayed);
         }
     }
     resources.truncate(stayed);

@@ -147,7 +147,7 @@ kept_in op es = record {
   rqi = value_read op RequestId es;
   pc = value_read op Content es;
   lbl =
-      option_and_then (λ d. member_of (conditions.name_of_member OneLabel) (members_in d))
+      option_and_then (λ d. member_of (conditions.name_of_condition OneLabel) (members_in d))
       (value_read op FilterCriteria es);
 }
 

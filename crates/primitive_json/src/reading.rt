@@ -1,5 +1,6 @@
 //! Reading requests and replies.
-ghost use Rattle.std.specs.Prelude.{◌≡◌, ◌⊎◌, Some, None, IfOk, IfSome, MatchResult, unwrap_or};
+ghost use Rattle.std.specs.Prelude.{◌≡◌, ◌⊎◌, Some, None, IfOk, IfSome, IsSome, OnErr, MatchResult};
+ghost use Rattle.std.specs.Prelude.{unwrap_or};
 ghost use Rattle.std.specs.Option.{ForSome, option_copied};
 ghost use Rattle.m2m_names.specs.declared.operations.Op.TheVariants.{Create};
 ghost use Rattle.m2m_value.specs.View.{member_of};
@@ -54,7 +55,8 @@ fn address_form_in(op: Op, value: &Val) -> Option<i64>
 }
 
 fn plain_filter_in(alloc: Global, op: Op, value: &Val) -> Result<Option<Filter>, OutOfMemory>
-    ensures { IfOk result (λ f. f ≡ (spec.plain_in op (members_in value.now)).fc) }
+    ensures value { IfOk result (λ f. f ≡ (spec.plain_in op (members_in value.now)).fc) }
+    ensures memory { OnErr result (IsSome (spec.request_made op (members_in value.now)).fc) }
 {
     match value_read(op, Member::FilterCriteria, value) {
         Some(filter) => Ok(Some(plain_filter(alloc, filter)?)),
@@ -66,6 +68,7 @@ fn plain_filter_in(alloc: Global, op: Op, value: &Val) -> Result<Option<Filter>,
 fn plain_parts(alloc: Global, op: Op, value: &Val) -> Result<RequestParts, OutOfMemory>
     ensures value { IfOk result (λ r. r ≡ spec.plain_in op (members_in value.now)) }
     ensures sound { IfOk result (λ r. IfSome r.rqet IsSoundWhen) }
+    ensures memory { OnErr result (IsSome (spec.request_made op (members_in value.now)).fc) }
 {
     Ok(RequestParts {
         op,
@@ -89,6 +92,9 @@ fn judged_parts(alloc: Global, value: &Val) -> Result<RequestParts, PrimFault>
         (λ r. (spec.request_fault op es ≡ None) × (r ≡ spec.plain_in (unwrap_or op Create) es))
         (λ e. (e ≡ fault.OutOfMemory) ⊎ (spec.request_fault op es ≡ Some e)) }
     ensures sound { IfOk result (λ r. IfSome r.rqet IsSoundWhen) }
+    ensures memory { let es = members_in value.now in let op = spec.operation_in es in
+        OnErr result (spec.request_fault op es ≡ None
+        → IsSome (spec.request_made (unwrap_or op Create) es).fc) }
 {
     if let Some(fault) = request_fault(value) {
         return Err(fault.kept(alloc)?);
@@ -100,7 +106,8 @@ fn judged_parts(alloc: Global, value: &Val) -> Result<RequestParts, PrimFault>
 /// The request with these values.
 fn request_with(alloc: Global, plain: RequestParts, kept: Kept) -> Result<Request, OutOfMemory>
     requires { ForSome plain.rqet IsSoundWhen }
-    ensures { IfOk result (λ r. r ≡ spec.with_kept plain kept) }
+    ensures value { IfOk result (λ r. r ≡ spec.with_kept plain kept) }
+    ensures memory { OnErr result (IsSome kept.lbl) }
 {
     let labels = labels_from(alloc, kept.lbl)?;
     Ok(Request::of(RequestParts {
@@ -127,7 +134,9 @@ pub fn read_request(alloc: Global, value: &Val) -> Result<Request, PrimFault>
 /// The request that a value is, as `read_request` reads it: its texts, its content and the labels
 /// of its filter are moved, and nothing is copied.
 pub fn request_from(alloc: Global, value: Val) -> Result<Request, PrimFault>
-    ensures { spec.Answers result (spec.read_request value) }
+    ensures value { spec.Answers result (spec.read_request value) }
+    // A request without a filter takes no memory.
+    ensures memory { OnErr result (IfOk (spec.read_request value) (λ r. IsSome r.fc)) }
 {
     let plain = judged_parts(alloc, &value)?;
     let kept = taken_values(alloc, plain.op, value);

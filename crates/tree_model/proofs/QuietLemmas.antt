@@ -12,7 +12,7 @@ use Rattle.m2m_names.specs.declared.attributes.Attr.TheVariants.{Mia}
 use Rattle.m2m_names.specs.declared.types.Ty.TheVariants.{CseBase, ContentInstance}
 use Rattle.resource_model.specs.Attributes.{count_at}
 use Rattle.resource_model.specs.Resource.{ResourceData, is_ty, has_number}
-use Rattle.tree_model.specs.Tree.{at, has, replaced, without, is_spared, age_end, lesser, due, due_under, is_due, live, is_quiet, are_quiet, may_stand, is_tree, standing}
+use Rattle.tree_model.specs.Tree.{at, has, replaced, without, is_spared, age_of, age_end, lowered_age, lesser, due, due_under, is_due, live, is_quiet, are_quiet, may_stand, is_tree, standing}
 use Rattle.tree_model.proofs.GrowthLemmas.{IsNext, next_fits, growth, below_has, below_lacks, next_above_parent, stands, at-without}
 use Rattle.tree_model.proofs.KeptLemmas.{is_tree-replaced, is_tree-without}
 use Rattle.tree_model.proofs.LiveLemmas.{due-without, without_none}
@@ -132,26 +132,35 @@ due-replaced_other nodes r s apart = ap (λ (o : Option ResourceData). due_under
 pub due-replaced : (nodes : List ResourceData) (r s : ResourceData) → has r.number nodes ≡ true → s.parent ≡ r.number → due (replaced r nodes) s ≡ due_under (Some r) s
 due-replaced nodes r s there under = ap (λ (o : Option ResourceData). due_under o s) (ap (λ (n : ℕ). at n (replaced r nodes)) under ∙ at-replaced r nodes there)
 
--- an instance whose container allows another age is due when it expires, or at that age
-aged_from : (until : ℕ) (o : Option ResourceData) (r s : ResourceData) → from until (count_at Mia r.attrs) ≡ true → from until (due_under o s) ≡ true → from until (due_under (Some r) s) ≡ true
+-- an instance whose container allows another age is due when it expires, or at that age, which is no
+-- earlier where that isn't lower
+lowered_from : (until et ct : ℕ) (old age : Option ℕ) → from until (lowered_age old age) ≡ true → until ≤ lesser et (option_map (λ a. ct + a) old) → until ≤ lesser et (option_map (λ a. ct + a) age)
+lowered_from until et ct None None young end = end
+lowered_from until et ct None (Some age) young end = (let least : until ≤ age = leb-true until age young in omega arith)
+lowered_from until et ct (Some old) None young end = omega arith
+lowered_from until et ct (Some old) (Some age) young end = elim (cases_Bool (nat_le old age)) [
+  | inl t ↦ (let less : old ≤ age = leb-true old age t in omega arith)
+  | inr f ↦ (let least : until ≤ age = leb-true until age (rw f at young) in omega arith)
+]
+
+aged_from : (until : ℕ) (o : Option ResourceData) (r s : ResourceData) → from until (lowered_age (age_of o) (count_at Mia r.attrs)) ≡ true → from until (due_under o s) ≡ true → from until (due_under (Some r) s) ≡ true
 aged_from until o r s young old = elim (cases_Bool (is_ty s.ty CseBase)) [
   | inl t ↦ rw t refl
   | inr f ↦ elim (cases_Bool (is_ty s.ty ContentInstance)) [
     | inl u ↦
         let end : until ≤ lesser s.et (age_end o s) = leb-true until (lesser s.et (age_end o s)) (rw (f, u) at old) in
-        let et : until ≤ s.et = (let most : lesser s.et (age_end o s) ≤ s.et = lesser_least s.et (age_end o s) in omega arith) in
-        rw (f, u) (le-leb until _ (aged (count_at Mia r.attrs) et young))
+        rw (f, u) (le-leb until _ (lowered_from until s.et s.ct (age_of o) (count_at Mia r.attrs) young end))
     | inr v ↦ rw (f, v) (rw (f, v) at old)
   ]
 ]
-  where
-    aged : (age : Option ℕ) → until ≤ s.et → from until age ≡ true → until ≤ lesser s.et (option_map (λ a. s.ct + a) age)
-    aged None et young = et
-    aged (Some a) et young = (let least : until ≤ a = leb-true until a young in omega arith)
+
+-- the age that the new one allows, where instances are due earlier by it
+abbrev pub age_after : List ResourceData → ResourceData → Option ℕ
+age_after nodes r = lowered_age (age_of (at r.number nodes)) (count_at Mia r.attrs)
 
 -- the moment before which nothing is due once a resource has taken its place
 abbrev pub quiet_after : List ResourceData → ResourceData → ℕ → ℕ
-quiet_after nodes r until = lesser (lesser until (due nodes r)) (count_at Mia r.attrs)
+quiet_after nodes r until = lesser (lesser until (due nodes r)) (age_after nodes r)
 
 -- the resource whose place it takes
 record Stood (nodes : List ResourceData) (r : ResourceData) : Type 0 where
@@ -165,7 +174,7 @@ stood_by nodes r (Some s) tree is stood =
     let same : s.parent ≡ r.parent = ap (λ x. x.2) (same_Some (standing s) (standing r) stood) in
     record { there = at_has r.number nodes s is; parent = omega arith }
 
-replaced_each : (nodes : List ResourceData) (r s : ResourceData) (early : ℕ) → Stood nodes r → list_all (is_quiet nodes early) nodes ≡ true → from early (due nodes r) ≡ true → from early (count_at Mia r.attrs) ≡ true → at s.number (replaced r nodes) ≡ Some s → is_quiet (replaced r nodes) early s ≡ true
+replaced_each : (nodes : List ResourceData) (r s : ResourceData) (early : ℕ) → Stood nodes r → list_all (is_quiet nodes early) nodes ≡ true → from early (due nodes r) ≡ true → from early (age_after nodes r) ≡ true → at s.number (replaced r nodes) ≡ Some s → is_quiet (replaced r nodes) early s ≡ true
 replaced_each nodes r s early stood all own young found = elim (cases_eq s.number r.number) [
   | inl same ↦
       let is : r ≡ s = same_Some r s (sym (at-replaced r nodes stood.there) ∙ ap (λ (n : ℕ). at n (replaced r nodes)) (sym same) ∙ found) in
@@ -177,7 +186,8 @@ replaced_each nodes r s early stood all own young found = elim (cases_eq s.numbe
       elim (cases_eq s.parent r.number) [
         | inl under ↦
             let up : at s.parent (replaced r nodes) ≡ Some r = ap (λ (n : ℕ). at n (replaced r nodes)) under ∙ at-replaced r nodes stood.there in
-            ap (λ (o : Option ResourceData). from early (due_under o s)) up ∙ aged_from early (at s.parent nodes) r s young held
+            let aged : from early (lowered_age (age_of (at s.parent nodes)) (count_at Mia r.attrs)) ≡ true = ap (λ (n : ℕ). from early (lowered_age (age_of (at n nodes)) (count_at Mia r.attrs))) under ∙ young in
+            ap (λ (o : Option ResourceData). from early (due_under o s)) up ∙ aged_from early (at s.parent nodes) r s aged held
         | inr other ↦ ap (λ (o : Option ResourceData). from early (due_under o s)) (at-replaced_other s.parent r nodes other) ∙ held
       ]
 ]
@@ -186,12 +196,12 @@ pub quiet-replaced : (nodes : List ResourceData) (r : ResourceData) (until : ℕ
 quiet-replaced nodes r until tree stood quiet =
     let own = lesser until (due nodes r) in
     let first : own ≤ until = lesser_least until (due nodes r) in
-    let second : lesser own (count_at Mia r.attrs) ≤ own = lesser_least own (count_at Mia r.attrs) in
+    let second : lesser own (age_after nodes r) ≤ own = lesser_least own (age_after nodes r) in
     all_by_number (is_quiet (replaced r nodes) (quiet_after nodes r until)) (replaced r nodes) (is_tree-replaced r nodes stood ∙ tree) (λ s found.
     replaced_each nodes r s (quiet_after nodes r until) (stood_by nodes r (at r.number nodes) tree refl stood)
     (quiet_earlier nodes nodes (quiet_after nodes r until) until (omega (arith, first, second)) quiet)
     (earlier_from (quiet_after nodes r until) own (due nodes r) second (lesser_from until (due nodes r)))
-    (lesser_from own (count_at Mia r.attrs)) found)
+    (lesser_from own (age_after nodes r)) found)
 
 -- ---- a removal
 

@@ -184,10 +184,20 @@ is_spared picks nodes n = not (list_any picks (line_of n nodes))
 
 -- ---- which resources are live
 
+-- the greatest age that a container allows its instances, where there is one (TS-0001, 9.6.6)
+abbrev pub age_of : Option ResourceData → Option ℕ
+age_of container = option_map_or (λ c. count_at Mia c.attrs) container None
+
 -- when an instance of the container reaches the greatest age that this one allows
 abbrev pub age_end : Option ResourceData → ResourceData → Option ℕ
-age_end container r =
-    option_map (λ age. r.ct + age) (option_map_or (λ c. count_at Mia c.attrs) container None)
+age_end container r = option_map (λ age. r.ct + age) (age_of container)
+
+-- the age that is allowed in place of another, where instances are due earlier by it: a smaller
+-- one, or one where there was none
+abbrev pub lowered_age : Option ℕ → Option ℕ → Option ℕ
+lowered_age None age = age
+lowered_age (Some old) None = None
+lowered_age (Some old) (Some age) = if nat_le old age then None else Some age
 
 -- the lesser of a number and another, where there is one
 abbrev pub lesser : ℕ → Option ℕ → ℕ

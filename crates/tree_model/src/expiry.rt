@@ -1,5 +1,7 @@
 // When resources are due.
-ghost use Rattle.std.specs.Prelude.{◌≡◌, option_map};
+ghost use Rattle.std.specs.Prelude.{◌≡◌, ◌<◌, ◌^◌, IfSome, option_map};
+ghost use Rattle.m2m_names.specs.declared.attributes.Attr.TheVariants.{Mia};
+ghost use Rattle.resource_model.specs.Attributes.{count_at};
 ghost use Rattle.tree_model.specs.Tree as spec;
 
 use crate::tree::Tree;
@@ -45,11 +47,36 @@ fn due_of_instance(container: Option<&Resource>, resource: &Resource) -> u64
     earlier(resource.et(), age_end(container, resource))
 }
 
+fn age_of(container: Option<&Resource>) -> Option<u64>
+    ensures value { result ≡ spec.age_of (option_map (λ r. r.now) container.entry) }
+    ensures bound { IfSome result (λ age. age < 2 ^ 63) }
+{
+    container?.attrs().count(Attr::Mia)
+}
+
 fn age_end(container: Option<&Resource>, resource: &Resource) -> Option<u64>
     ensures { result ≡ spec.age_end (option_map (λ r. r.now) container.entry) resource.now }
 {
-    let age = container?.attrs().count(Attr::Mia)?;
+    let age = age_of(container)?;
     Some(resource.ct() + age)
+}
+
+fn lowered(old: Option<u64>, age: Option<u64>) -> Option<u64>
+    ensures { result ≡ spec.lowered_age old age }
+{
+    match (old, age) {
+        (Some(old), Some(age)) if old <= age => None,
+        _ => age,
+    }
+}
+
+/// The greatest age that a container allows its instances, in seconds, where they are due earlier
+/// by it than below the one whose place it takes.
+pub fn lowered_age(old: Option<&Resource>, container: &Resource) -> Option<u64>
+    ensures { result ≡ spec.lowered_age (spec.age_of (option_map (λ r. r.now) old.entry))
+        (count_at Mia container.now.attrs) }
+{
+    lowered(age_of(old), container.attrs().count(Attr::Mia))
 }
 
 /// The lesser of a moment and another, where there is one.

@@ -29,7 +29,7 @@ mod walk;
 pub use conditions::{
     has_ae, has_channel, has_child, has_cse, may_insert, may_replace, may_restamp, stands_in,
 };
-pub use expiry::{due, due_under, earlier, is_due};
+pub use expiry::{due, due_under, earlier, is_due, lowered_age};
 pub use laws::{
     a_line_goes_up_from_parent_to_parent, a_removal_takes_what_is_picked_and_what_stands_below,
     a_well_formed_tree_stays_one, all_is_live_while_it_is_quiet,

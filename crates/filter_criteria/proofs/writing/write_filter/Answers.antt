@@ -12,7 +12,7 @@ loop-condition-preserved c =
     let so_far = present (map (written_condition c.args.filter.now) (take c.loop-condition.condition-index all_conditions)) in
     let name = c.name.ensures in
     let value = c.in_ok-value.ensures in
-    c.in_ok-push_member.ensures
+    c.in_ok-push_member.ensures.ok
     ∙ ap (λ es. es ++ present ((c.name.result.now, c.in_ok-value.value) ∷ [])) c.loop-condition.invariant
     ∙ (λ i. so_far ++ present ((name i, value i) ∷ []))
     ∙ sym (present-more (written_condition c.args.filter.now) all_conditions c.loop-condition.condition-index _ c.loop-condition-test.true)

@@ -22,5 +22,5 @@ returns c =
     ∙ ap (λ (d : Option Data). if is_read (Some c.args.op) Content then d else None) (third (name_of_member Content) refl ∙ second (name_of_member Content) refl ∙ first (name_of_member Content) refl) in
     let fc = c.take_read-5.ensures.value
     ∙ fourth (name_of_member FilterCriteria) refl ∙ third (name_of_member FilterCriteria) refl ∙ second (name_of_member FilterCriteria) refl ∙ first (name_of_member FilterCriteria) refl in
-    let lbl = c.labels_into.ensures ∙ ap (option_and_then (λ d. member_of (conditions.name_of_member OneLabel) (members_in d))) fc in
+    let lbl = c.labels_into.ensures ∙ ap (option_and_then (λ d. member_of (conditions.name_of_condition OneLabel) (members_in d))) fc in
     (λ i. record { to = to i; fr = fr i; rqi = rqi i; pc = pc i; lbl = lbl i }) ∙ ap (kept_in c.args.op) c.members_into-members.ensures

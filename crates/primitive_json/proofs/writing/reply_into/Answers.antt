@@ -10,7 +10,7 @@ sorted_object-requires-clause-sorted c =
     let content : NamedValue = (pc_name, c.into_parts-rsc.result.pc) in
     let id : NamedValue = (rqi_name, c.map.result) in
     let status : NamedValue = (rsc_name, Some c.status_value.result) in
-    let is = three_present content id status _ _ _ _ c.in_ok-entries.ensures.items c.in_ok-push_member.ensures c.in_ok-push_member-2.ensures c.in_ok-push_member-3.ensures in
+    let is = three_present content id status _ _ _ _ c.in_ok-entries.ensures.items c.in_ok-push_member.ensures.ok c.in_ok-push_member-2.ensures.ok c.in_ok-push_member-3.ensures.ok in
     subst AreSorted (sym is) (present_sorted (content ∷ id ∷ status ∷ []) refl)
 
 pub sorted_object-requires-clause-texts : goal.sorted_object-requires-clause-texts
@@ -18,5 +18,5 @@ sorted_object-requires-clause-texts c =
     let content : NamedValue = (pc_name, c.into_parts-rsc.result.pc) in
     let id : NamedValue = (rqi_name, c.map.result) in
     let status : NamedValue = (rsc_name, Some c.status_value.result) in
-    let is = three_present content id status _ _ _ _ c.in_ok-entries.ensures.items c.in_ok-push_member.ensures c.in_ok-push_member-2.ensures c.in_ok-push_member-3.ensures in
+    let is = three_present content id status _ _ _ _ c.in_ok-entries.ensures.items c.in_ok-push_member.ensures.ok c.in_ok-push_member-2.ensures.ok c.in_ok-push_member-3.ensures.ok in
     subst HaveTextKeys (sym is) (present_texts (content ∷ id ∷ status ∷ []) refl)

@@ -13,7 +13,7 @@ loop-member-preserved c =
     let so_far = present (map (written_member c.parts-parts.result.now) (take c.loop-member.member-index all_members)) in
     let name = c.name.ensures in
     let value = c.in_ok-value.ensures in
-    c.in_ok-push_member.ensures
+    c.in_ok-push_member.ensures.ok
     ∙ ap (λ es. es ++ present ((c.name.result.now, c.in_ok-value.value) ∷ [])) c.loop-member.invariant
     ∙ (λ i. so_far ++ present ((name i, value i) ∷ []))
     ∙ sym (present-more (written_member c.parts-parts.result.now) all_members c.loop-member.member-index _ c.loop-member-test.true)
