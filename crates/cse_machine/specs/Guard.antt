@@ -176,11 +176,15 @@ abbrev pub gathered_one : Single → Data
 gathered_one single =
     object_of (reply_rows single.reply ++ (codes "to", Some (text single.request.to)) ∷ [])
 
+-- an object of one member
+abbrev pub object_with : List ℕ → Data → Data
+object_with name d = object (pairs_of ((name, d) ∷ []))
+
 -- the content of that reply: the operations one after another
 abbrev pub gathered : List Single → Data
 gathered singles =
-    object (pairs_of ((codes "m2m:agr", object (pairs_of (
-    (codes "m2m:rsp", list (elements_of (map gathered_one singles))) ∷ []))) ∷ []))
+    object_with (codes "m2m:agr")
+    (object_with (codes "m2m:rsp") (list (elements_of (map gathered_one singles))))
 
 -- A fan-out is done by a grant through the group of the number, and shows and changes what the
 -- operations on its members do, each of which is guarded by itself.

@@ -201,9 +201,23 @@ fn operate<T: Tree>(
     ensures { IfOk result (λ r. r ≡ reading_reply entity.now request.now target.now.number) }
 {
     if is_discovery(request) {
-        discover(alloc, &entity.tree, &entity.home, o, request, target.number())
+        discover(
+            alloc,
+            &entity.tree,
+            &entity.home,
+            o,
+            request,
+            target.number(),
+        )
     } else {
-        retrieve(alloc, &entity.tree, &entity.home, o, request, target.number())
+        retrieve(
+            alloc,
+            &entity.tree,
+            &entity.home,
+            o,
+            request,
+            target.number(),
+        )
     }
 }
 
