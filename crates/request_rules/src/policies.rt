@@ -111,7 +111,7 @@ fn policy_meant<'a, T: Tree>(
 }
 
 fn elements_of(value: &Val) -> &[Val]
-    ensures { result.now ≡ rules.elements_in (Some value.now) }
+    ensures { result.now ≡ rules.listed_in (Some value.now) }
 {
     match value.as_list() {
         Some(items) => items.entries(),
