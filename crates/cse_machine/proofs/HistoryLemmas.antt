@@ -28,7 +28,7 @@ pub one_more : (opening before after : EntityData) (history : History) (reading 
 one_more opening before after history reading event outcome run step =
     Runs-append Step history (entry_of reading event outcome ∷ []) opening before after run (after, step, refl)
 
-pub sound_step : (reading : ℕ) (event : Event) (before after : EntityData) (outcome : Outcome) → IsSound before → Step reading event before outcome after → IsSound after
+pub sound_step : (reading : ℕ) (event : Event) (before after : EntityData) (outcome : Outcome) → IsSoundEntity before → Step reading event before outcome after → IsSoundEntity after
 sound_step reading event before after outcome sound step = elim (changes reading event before after outcome step) [
   | inl same ↦ subst IsSoundEntity (sym same) sound
   | inr left ↦ subst IsSoundEntity (sym left) (sound_swept reading before sound)
@@ -43,14 +43,14 @@ sound_after (entry ∷ history) opening e sound run =
 pub same_reply : (reply other : ReplyParts) → Done reply ≡ Done other → reply ≡ other
 same_reply reply other same = cc
 
-pub step_guarded : (reading : ℕ) (request : RequestParts) (before after : EntityData) (reply : ReplyParts) → IsSound before → Step reading (Ask request) before (Done reply) after → IsGuarded (swept reading before) request reply after
+pub step_guarded : (reading : ℕ) (request : RequestParts) (before after : EntityData) (reply : ReplyParts) → IsSoundEntity before → Step reading (Ask request) before (Done reply) after → IsGuarded (swept reading before) request reply after
 step_guarded reading request before after reply sound step =
     subst (λ (r : ReplyParts). IsGuarded (swept reading before) request r after) (sym (same_reply reply _ step.0))
     (subst (λ (e : EntityData). IsGuarded (swept reading before) request (effect_of (swept reading before) request).reply e) (sym step.1)
     (guarded (swept reading before) request (sound_swept reading before sound)))
 
 -- an entry of a history is the step that it tells
-pub guarded_in_history : (earlier later : History) (opening e : EntityData) (reading : ℕ) (request : RequestParts) (reply : ReplyParts) → IsSound opening → HistoryLeaves opening (earlier ++ entry_of reading (Ask request) (Done reply) ∷ later) e
+pub guarded_in_history : (earlier later : History) (opening e : EntityData) (reading : ℕ) (request : RequestParts) (reply : ReplyParts) → IsSoundEntity opening → HistoryLeaves opening (earlier ++ entry_of reading (Ask request) (Done reply) ∷ later) e
     → (before : EntityData) × (after : EntityData) × HistoryLeaves opening earlier before × HistoryLeaves opening (earlier ++ entry_of reading (Ask request) (Done reply) ∷ []) after × IsGuarded (swept reading before) request reply after
 guarded_in_history [] later opening e reading request reply sound run =
     (opening, run.0, refl, (run.0, run.1, refl), step_guarded reading request opening run.0 reply sound run.1)

@@ -39,7 +39,7 @@ SightHasItsShape =
 abbrev pub EqualSightsHaveOneShape : Type 0
 EqualSightsHaveOneShape =
     (left right : EntityData) (o : List ℕ)
-    → IsSound left → IsSound right → sight o left ≡ sight o right
+    → IsSoundEntity left → IsSoundEntity right → sight o left ≡ sight o right
     → shape o left ≡ shape o right
 
 -- the requests of which the laws of equal sight speak so far: a Retrieve, and what isn't served,
@@ -57,7 +57,7 @@ IsRequestBy home o request =
 abbrev pub IsAnsweredBySight : Type 0
 IsAnsweredBySight =
     (e : EntityData) (o : List ℕ) (reading : ℕ) (request : RequestParts)
-    → IsSound e → IsRequestBy e.home o request
+    → IsSoundEntity e → IsRequestBy e.home o request
     → (given (swept reading (sight o e)) request).0 ≡ (given (swept reading e) request).0
 
 -- Two entities of which the originator sees the same give it the same reply.
@@ -65,7 +65,7 @@ abbrev pub EqualSightsAnswerAlike : Type 0
 EqualSightsAnswerAlike =
     (left right after other : EntityData) (o : List ℕ)
     (reading : ℕ) (request : RequestParts) (reply replied : ReplyParts)
-    → IsSound left → IsSound right → sight o left ≡ sight o right
+    → IsSoundEntity left → IsSoundEntity right → sight o left ≡ sight o right
     → IsRequestBy left.home o request
     → Step reading (Ask request) left (Done reply) after
     → Step reading (Ask request) right (Done replied) other

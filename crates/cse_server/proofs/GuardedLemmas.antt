@@ -28,7 +28,7 @@ less_one r earlier o before e = omega (arith, e)
 -- The first part of the history of a run, before the request, and the step of the request.
 guarded_in_run : (mine : History) (opening after : EntityData) (earlier later : List RequestParts) (request : RequestParts)
     (before behind : List Outcome) (reply : ReplyParts)
-    → IsSoundEntity opening → Leaves opening mine after → events_of mine ≡ map Ask (earlier ++ request ∷ later)
+    → IsSoundEntity opening → HistoryLeaves opening mine after → events_of mine ≡ map Ask (earlier ++ request ∷ later)
     → outcomes_of mine ≡ before ++ Done reply ∷ behind → length earlier ≡ length before
     → (history : History) × (found : EntityData) × (left : EntityData)
     × (reading : ℕ) × (then : List ℕ)

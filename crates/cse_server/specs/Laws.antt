@@ -42,7 +42,7 @@ ServesGuarded =
     (served : Serves (IsOwnRun Step) opening after old new ended)
     (earlier later : List RequestParts) (request : RequestParts)
     (before behind : List Outcome) (reply : ReplyParts)
-    → IsSound opening → requests_in served.heard ≡ earlier ++ request ∷ later
+    → IsSoundEntity opening → requests_in served.heard ≡ earlier ++ request ∷ later
     → served.asks.outcomes ≡ before ++ Done reply ∷ behind
     → length earlier ≡ length before
     → (history : History) × (found : EntityData) × (left : EntityData)
@@ -112,6 +112,6 @@ IsAnsweredInOneWay =
 abbrev pub EqualSightsAreServedAlike : Type 0
 EqualSightsAreServedAlike =
     (left right after other : EntityData) (o : List ℕ) (both : ServesBoth left right after other)
-    → IsSound left → IsSound right → sight o left ≡ sight o right
+    → IsSoundEntity left → IsSoundEntity right → sight o left ≡ sight o right
     → All (IsRequestBy left.home o) (requests_in both.first.heard)
     → AreServedAlike both × (sight o after ≡ sight o other)
