@@ -28,9 +28,13 @@ abbrev pub is_cse_id : List ℕ → Bool
 is_cse_id [] = false
 is_cse_id (b ∷ name) = (b == 47) && is_name name
 
+-- the most bytes that the text of an address or of a URL has
+abbrev pub point_limit : ℕ
+point_limit = 512
+
 -- the text of an address or of a URL: 1 to 512 printable ASCII characters without a space
 abbrev pub is_point : List ℕ → Bool
-is_point s = is_filled 512 s && list_all is_ascii_graphic s
+is_point s = is_filled point_limit s && list_all is_ascii_graphic s
 
 -- a list of exactly one text of an address or of a URL
 abbrev pub is_target : List Data → Bool

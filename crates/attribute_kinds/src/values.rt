@@ -11,6 +11,9 @@ ghost use Rattle.attribute_kinds.specs.Kinds as spec;
 use m2m_names::{Ty, are_graphic, is_filled};
 use m2m_value::Val;
 
+/// The most bytes that the text of an address or of a URL has.
+const POINT_LIMIT: usize = 512;
+
 /// The bytes of a text.
 pub fn text_in(value: &Val) -> Option<&[u8]>
     ensures { option_map (λ t. t.now) result ≡ views.as_text value.now }
@@ -124,7 +127,7 @@ pub fn is_cse_id(value: &Val) -> bool
 fn is_point_text(text: &[u8]) -> bool
     ensures { result ≡ spec.is_point text.now }
 {
-    is_filled(text, 512) && are_graphic(text)
+    is_filled(text, POINT_LIMIT) && are_graphic(text)
 }
 
 pub fn is_point(value: &Val) -> bool

@@ -1,26 +1,38 @@
 -- What the limits of a container leave of its instances (TS-0001, 9.6.6).
 use Rattle.std.specs.Prelude.{◌≡◌, ℕ, ◌+◌, ◌==◌, nat_le, List, [], ◌∷◌, ◌++◌, length, take, drop}
 use Rattle.std.specs.Prelude.{map, filter, find, sum_by, Bool, true, false, not, ◌&&◌, ◌||◌}
-use Rattle.std.specs.Prelude.{if◌then◌else◌, Option, option_map, option_to_list, unwrap_or}
+use Rattle.std.specs.Prelude.{if◌then◌else◌, Option, option_to_list, unwrap_or}
 use Rattle.std.specs.Bool.{OnTrue}
 use Rattle.std.specs.List.{list_any}
 use Rattle.std.specs.Option.{option_map_or}
-use Rattle.m2m_names.specs.declared.attributes.Attr.TheVariants.{Mia}
+use Rattle.m2m_names.specs.declared.attributes.Attr.TheVariants.{Mbs, Mia, Mni}
 use Rattle.resource_model.specs.Attributes.{count_at}
 use Rattle.resource_model.specs.Resource.{ResourceData}
-use Rattle.tree_model.specs.Tree.{has, instance_size, lesser}
+use Rattle.tree_model.specs.Tree.{has, instance_size, aged_at, lesser}
 use Rattle.container_limits.specs.declared.limits.Limits.{Limits}
 
 -- at most the limit, where there is one
 abbrev pub is_within : ℕ → Option ℕ → Bool
 is_within n limit = option_map_or (λ most. nat_le n most) limit true
 
+-- the limits that a container has
+abbrev pub limits_of : ResourceData → Limits
+limits_of c = record {
+  mni = count_at Mni c.attrs;
+  mbs = count_at Mbs c.attrs;
+  mia = count_at Mia c.attrs;
+}
+
+-- a count, and a sum of sizes, are within the limits
+abbrev pub are_within : Limits → ℕ → ℕ → Bool
+are_within limits count sizes = is_within count limits.mni && is_within sizes limits.mbs
+
 -- these instances, and one of this size that follows them, if any, are within the limits on their
 -- count and on the sum of their sizes
 abbrev pub do_fit : Limits → Option ℕ → List ResourceData → Bool
 do_fit limits new rs =
-    is_within (length rs + length (option_to_list new)) limits.mni
-    && is_within (sum_by instance_size rs + unwrap_or new 0) limits.mbs
+    are_within limits (length rs + length (option_to_list new))
+    (sum_by instance_size rs + unwrap_or new 0)
 
 -- all suffixes of a list, the longest first
 abbrev pub suffixes : List ResourceData → List (List ResourceData)
@@ -33,7 +45,7 @@ longest_fit limits new rs = unwrap_or (find (do_fit limits new) (suffixes rs)) [
 
 -- when an instance is due that may reach this age: when it expires, or at that age
 abbrev pub end_by : Option ℕ → ResourceData → ℕ
-end_by mia r = lesser r.et (option_map (λ age. r.ct + age) mia)
+end_by mia r = lesser r.et (aged_at mia r)
 
 abbrev pub is_due_by : Option ℕ → ℕ → ResourceData → Bool
 is_due_by mia moment r = nat_le (end_by mia r) moment

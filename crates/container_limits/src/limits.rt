@@ -1,5 +1,5 @@
 // The limits of a container.
-ghost use Rattle.std.specs.Prelude.{◌≡◌, ◌&&◌};
+ghost use Rattle.std.specs.Prelude.{◌≡◌};
 ghost use Rattle.m2m_names.specs.declared.attributes.Attr.TheVariants.{Mbs, Mia, Mni};
 ghost use Rattle.resource_model.specs.Attributes.{count_at};
 ghost use Rattle.container_limits.specs.Limits as spec;
@@ -52,8 +52,7 @@ pub(crate) struct Total {
 
 /// Whether a count and a sum of sizes are within the limits.
 pub(crate) fn is_total_within(total: Total, limits: Limits) -> bool
-    ensures { result
-        ≡ (spec.is_within total.count limits.mni && spec.is_within total.sizes limits.mbs) }
+    ensures { result ≡ spec.are_within limits total.count total.sizes }
 {
     is_within(total.count, limits.mni) && is_within(total.sizes, limits.mbs)
 }

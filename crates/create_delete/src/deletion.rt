@@ -11,8 +11,7 @@ ghost use Rattle.request_rules.specs.Order.{fault_at};
 ghost use Rattle.entity_model.specs.Places as places;
 ghost use Rattle.request_rules.specs.Requests.{is_for};
 
-use crate::replying::{refuse, reply_to};
-use entity_model::Entity;
+use entity_model::{Entity, refuse, reply_to};
 use m2m_names::{Op, Rsc};
 use primitive_json::{Reply, Request};
 use request_rules::{find, judge_target};

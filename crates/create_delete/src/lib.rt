@@ -9,7 +9,6 @@
 
 mod deletion;
 mod laws;
-mod replying;
 
 pub use deletion::delete;
 pub use laws::{

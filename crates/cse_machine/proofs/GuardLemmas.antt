@@ -19,7 +19,8 @@ use Rattle.retrieve_discover.specs.Replies.{discovered, retrieved}
 use Rattle.retrieve_discover.proofs.RightLemmas.{discovered_by_right, retrieved_by_right}
 use Rattle.cse_machine.specs.Answer.{addressed, reading_reply, effect_of}
 use Rattle.cse_machine.specs.Guard.{is_success, DoesShow, HasRight, IsNew, IsGone, IsChanged, IsGuardedAlone, fanned, IsGuardedAt, IsGuarded}
-use Rattle.cse_machine.specs.Rights.{claimed_originator, has_right, is_discovery, may_do}
+use Rattle.request_rules.specs.Rights.{is_discovery, may_do}
+use Rattle.cse_machine.specs.Rights.{claimed_originator, has_right}
 use Rattle.cse_machine.proofs.OwnLemmas.{apart_addresses}
 use Rattle.cse_machine.proofs.WayLemmas.{IsRead, Reading, refused_read, reading, found_read, shown_read, two_ways}
 

@@ -17,7 +17,8 @@ use Rattle.entity_model.specs.Entity.{EntityData}
 use Rattle.entity_model.specs.Places.{Effect, Place, refused, unless, unless_refused}
 use Rattle.retrieve_discover.specs.Replies.{discovered}
 use Rattle.cse_machine.specs.Answer.{reading_reply}
-use Rattle.cse_machine.specs.Rights.{claimed_originator, is_discovery}
+use Rattle.request_rules.specs.Rights.{is_discovery}
+use Rattle.cse_machine.specs.Rights.{claimed_originator}
 
 -- a place that holds is passed
 pub passes : (holds : Bool) (fault : Rsc) (places : List Place) (e : EntityData) (request : RequestParts) (effect : Effect) → holds ≡ true → unless_refused (unless holds fault ∷ places) e request effect ≡ unless_refused places e request effect

@@ -36,7 +36,8 @@ use Rattle.retrieve_discover.specs.Replies.{discovered, retrieved}
 use Rattle.retrieve_discover.proofs.AnswerLemmas.{retrieved-seen}
 use Rattle.retrieve_discover.proofs.SightLemmas.{discovered-seen}
 use Rattle.cse_machine.specs.Answer.{is_served, first_places, reading_reply, to_resource, at_spot, effect_of}
-use Rattle.cse_machine.specs.Rights.{claimed_originator, is_discovery}
+use Rattle.request_rules.specs.Rights.{is_discovery}
+use Rattle.cse_machine.specs.Rights.{claimed_originator}
 use Rattle.cse_machine.specs.Sight.{sight, shape, IsRequestBy, SightHasItsShape, EqualSightsHaveOneShape}
 
 -- ---- a reply, by the places that refuse a request

@@ -22,7 +22,8 @@ use Rattle.entity_model.specs.Places.{Effect, answering, refusal, refused}
 use Rattle.retrieve_discover.specs.Replies.{discovered, retrieved, retrieved_of}
 use Rattle.cse_machine.specs.Answer.{is_retrieve, is_served, has_originator, has_address, is_in_time, is_blocking, reading_reply, resource_at, addressed, to_resource, at_spot, effect_of}
 use Rattle.cse_machine.specs.Guard.{is_success, fan_group, fanned}
-use Rattle.cse_machine.specs.Rights.{claimed_originator, is_discovery}
+use Rattle.request_rules.specs.Rights.{is_discovery}
+use Rattle.cse_machine.specs.Rights.{claimed_originator}
 
 -- ---- a request
 

@@ -26,7 +26,8 @@ use Rattle.entity_model.specs.Places.{unless_refused}
 use Rattle.retrieve_discover.specs.Replies.{discovered, retrieved}
 use Rattle.cse_machine.specs.declared.event.Outcome.{Outcome}
 use Rattle.cse_machine.specs.declared.event.Outcome.TheVariants.{Done}
-use Rattle.cse_machine.specs.Rights.{claimed_originator, is_discovery}
+use Rattle.request_rules.specs.Rights.{is_discovery}
+use Rattle.cse_machine.specs.Rights.{claimed_originator}
 
 -- the reply where memory ran out
 abbrev pub starved : RequestParts → ReplyParts

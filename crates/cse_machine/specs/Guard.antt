@@ -39,7 +39,7 @@ use Rattle.cse_machine.specs.declared.event.Outcome.{Outcome}
 use Rattle.cse_machine.specs.declared.event.Outcome.TheVariants.{Done, Starved}
 use Rattle.cse_machine.specs.Answer.{addressed}
 use Rattle.cse_machine.specs.History.{History, HistoryLeaves}
-use Rattle.cse_machine.specs.Rights.{claimed_originator, is_granted, has_right}
+use Rattle.cse_machine.specs.Rights.{claimed_originator, has_privilege, has_right}
 use Rattle.cse_machine.specs.Step.{Step}
 
 -- ---- what is shown
@@ -99,7 +99,7 @@ filling_attrs = St ∷ []
 abbrev pub IsChangedByRight :
     EntityData → RequestParts → EntityData → ResourceData → ResourceData → Type 0
 IsChangedByRight before request after r s =
-    (IsTrue (is_granted before request (op_row Update).bit r.number) × IsUpdated r s)
+    (IsTrue (has_privilege Update before request r.number) × IsUpdated r s)
     ⊎ ((IsTrue (relinks before.home before.nodes (claimed_originator before.home request)
     r.number)
     × DiffersIn (link_attrs r.ty) r s)
@@ -109,9 +109,9 @@ IsChangedByRight before request after r s =
 -- the operation may push out instances of the container of the number: by CREATE it adds one, or by
 -- UPDATE it changes the container (TS-0001, 9.6.6)
 abbrev pub may_push_out : Op → EntityData → RequestParts → ℕ → Bool
-may_push_out Create e request n = is_granted e request (op_row Create).bit n
+may_push_out Create e request n = has_privilege Create e request n
 may_push_out Retrieve e request n = false
-may_push_out Update e request n = is_granted e request (op_row Update).bit n
+may_push_out Update e request n = has_privilege Update e request n
 may_push_out Delete e request n = false
 may_push_out Notify e request n = false
 
@@ -122,7 +122,7 @@ pub record IsRemovedByRight (before : EntityData) (request : RequestParts)
   pub target : ResourceData
   pub named : addressed before request.to ≡ Some target
   pub right : (IsTrue (list_any (has_number target.number) (line_of r.number before.nodes))
-      × IsTrue (is_granted before request (op_row Delete).bit target.number))
+      × IsTrue (has_privilege Delete before request target.number))
       ⊎ (IsTrue (is_instance target.number r)
       × IsTrue (may_push_out request.op before request target.number))
 
@@ -136,7 +136,7 @@ pub record IsGuardedAlone (before : EntityData) (request : RequestParts) (reply 
   pub others : OthersAreShownByRight before.home before.nodes
       (claimed_originator before.home request) reply
   pub created : (r : ResourceData) → IsNew before.nodes after.nodes r
-      → IsTrue (is_granted before request (op_row Create).bit r.parent)
+      → IsTrue (has_privilege Create before request r.parent)
   pub changed : (r s : ResourceData) → IsChanged before.nodes after.nodes r s
       → IsChangedByRight before request after r s
   pub removed : (r : ResourceData) → IsGone before.nodes after.nodes r

@@ -1,93 +1,23 @@
--- The right that a request needs (TS-0001, 9.6.2; TS-0004, 7.3.3.15).
-use Rattle.std.specs.Prelude.{ℕ, ◌+◌, ◌==◌, Bool, true, false, List, [], ◌∷◌, codes, bytes_eq}
-use Rattle.std.specs.Prelude.{Option, Some, None, option_and_then, unwrap_or, if◌then◌else◌}
-use Rattle.std.specs.Option.{option_map_or}
-use Rattle.m2m_names.specs.Attributes.{attr_short}
+-- Whom a request is judged as, and the right that it needs (TS-0001, 9.6.2).
+use Rattle.std.specs.Prelude.{ℕ, Bool, List, unwrap_or, codes}
 use Rattle.m2m_names.specs.Operations.{op_row}
-use Rattle.m2m_names.specs.Types.{ty_row}
-use Rattle.m2m_names.specs.declared.attributes.Attr.TheVariants.{Acpi}
 use Rattle.m2m_names.specs.declared.operations.Op.{Op}
-use Rattle.m2m_names.specs.declared.operations.Op.TheVariants.{Create, Retrieve, Update, Delete}
-use Rattle.m2m_names.specs.declared.operations.Op.TheVariants.{Notify}
-use Rattle.m2m_names.specs.declared.types.Ty.TheVariants.{Subscription}
-use Rattle.m2m_value.specs.Data.{Data, Entry}
-use Rattle.m2m_value.specs.View.{as_object}
-use Rattle.filter_criteria.specs.declared.filter.FilterUsage.{FilterUsage}
-use Rattle.filter_criteria.specs.declared.filter.FilterUsage.TheVariants.{Discovery, Conditional}
 use Rattle.primitive_json.specs.declared.request.RequestParts.{RequestParts}
 use Rattle.resource_model.specs.Home.{HomeData}
-use Rattle.policy_eval.specs.Rights.{discovery_bit, grants, relinks}
 use Rattle.addressing.specs.Short.{shortened}
 use Rattle.entity_model.specs.Entity.{EntityData}
+use Rattle.request_rules.specs.Rights.{is_granted, may_do}
 
 -- whom a request is judged as, in the short form (TS-0001, 7.2): without an originator as `C`, from
 -- an application entity that registers (TS-0001, 10.2.2.2)
 abbrev pub claimed_originator : HomeData → RequestParts → List ℕ
 claimed_originator home request = shortened home (unwrap_or request.fr (codes "C"))
 
--- the originator has these bits on the resource of the number
-abbrev pub is_granted : EntityData → RequestParts → ℕ → ℕ → Bool
-is_granted e request bits n =
-    grants e.home e.nodes (claimed_originator e.home request) bits n
+-- the originator of the request has the right to do this operation to the resource of the number
+abbrev pub has_privilege : Op → EntityData → RequestParts → ℕ → Bool
+has_privilege op e request n =
+    is_granted e (claimed_originator e.home request) (op_row op).bit n
 
--- ---- kinds of requests
-
--- it creates a subscription
-abbrev pub is_subscribing : RequestParts → Bool
-is_subscribing request = option_map_or (λ n. n == (ty_row Subscription).number) request.ty false
-
--- the filter is used to look for resources (TS-0001, 10.2.6)
-abbrev pub is_search : FilterUsage → Bool
-is_search Discovery = true
-is_search Conditional = false
-
-abbrev pub is_discovery : RequestParts → Bool
-is_discovery request =
-    option_map_or is_search (option_and_then (λ f. f.fu) request.fc) false
-
--- the only member of a list of members
-abbrev pub only_member : List Entry → Option Entry
-only_member [] = None
-only_member (e ∷ []) = Some e
-only_member (e ∷ f ∷ es) = None
-
-abbrev pub sole : Data → Option Entry
-sole d = option_and_then only_member (as_object d)
-
--- the object has the member `acpi`, and no other
-abbrev pub is_link : Data → Bool
-is_link d = option_map_or (λ e. bytes_eq e.0 (attr_short Acpi)) (sole d) false
-
--- it is of `acpi` alone: the content is one member that holds it, and nothing else
-abbrev pub is_relink : RequestParts → Bool
-is_relink request =
-    option_map_or (λ e. is_link e.1) (option_and_then sole request.pc) false
-
--- ---- rights
-
--- the bits that an operation needs on its target; a Create needs them on the parent, and of a
--- subscription RETRIEVE besides
-abbrev pub create_bits : RequestParts → ℕ
-create_bits request =
-    if is_subscribing request then (op_row Create).bit + (op_row Retrieve).bit
-    else (op_row Create).bit
-
-abbrev pub retrieve_bits : RequestParts → ℕ
-retrieve_bits request = if is_discovery request then discovery_bit else (op_row Retrieve).bit
-
--- a change of `acpi` alone is judged by who may change it, every other Update by UPDATE
-abbrev pub may_update : EntityData → RequestParts → ℕ → Bool
-may_update e request n =
-    if is_relink request then relinks e.home e.nodes (claimed_originator e.home request) n
-    else is_granted e request (op_row Update).bit n
-
--- the originator has the right that the operation needs on the resource of the number
-abbrev pub may_do : Op → EntityData → RequestParts → ℕ → Bool
-may_do Create e request n = is_granted e request (create_bits request) n
-may_do Retrieve e request n = is_granted e request (retrieve_bits request) n
-may_do Update e request n = may_update e request n
-may_do Delete e request n = is_granted e request (op_row Delete).bit n
-may_do Notify e request n = is_granted e request (op_row Notify).bit n
-
+-- the originator has the right that the request needs on the resource of the number
 abbrev pub has_right : EntityData → RequestParts → ℕ → Bool
-has_right e request n = may_do request.op e request n
+has_right e request n = may_do request.op e (claimed_originator e.home request) request n

@@ -1,12 +1,10 @@
 // What is told of a request before what its address names.
-ghost use Rattle.std.specs.Prelude.{◌≡◌, false, true};
-ghost use Rattle.std.specs.Option.{option_map_or};
+ghost use Rattle.std.specs.Prelude.{◌≡◌};
 ghost use Rattle.cse_machine.specs.Answer as spec;
-ghost use Rattle.cse_machine.specs.Rights as rights;
 
 use entity_model::Entity;
 use m2m_names::Op;
-use primitive_json::{FilterUsage, Request, When};
+use primitive_json::{Request, When};
 use tree_model::Tree;
 
 /// Whether the request is one of those that are served so far: a Retrieve.
@@ -42,25 +40,5 @@ pub(crate) fn is_blocking(request: &Request) -> bool
     match request.parts().rt {
         Some(rt) => rt == 3,
         None => true,
-    }
-}
-
-/// Whether it looks for resources.
-pub(crate) fn is_discovery(request: &Request) -> bool
-    ensures { result ≡ rights.is_discovery request.now }
-{
-    match &request.parts().fc {
-        Some(filter) => is_search(filter.parts().fu),
-        None => false,
-    }
-}
-
-fn is_search(usage: Option<FilterUsage>) -> bool
-    ensures { result ≡ option_map_or rights.is_search usage false }
-{
-    match usage {
-        Some(FilterUsage::Discovery) => true,
-        Some(FilterUsage::Conditional) => false,
-        None => false,
     }
 }

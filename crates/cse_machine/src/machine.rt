@@ -7,18 +7,19 @@ ghost use Rattle.addressing.specs.Addresses.{address_of};
 ghost use Rattle.addressing.specs.Laws.{named_by, named_here};
 ghost use Rattle.addressing.specs.Names.{IsLocal, segments_of, spot_of};
 ghost use Rattle.addressing.specs.Short.{short_of};
-ghost use Rattle.entity_model.specs.Places.{refusal, unless_refused};
+ghost use Rattle.entity_model.specs.Places.{unless_refused};
 ghost use Rattle.cse_machine.specs.Answer.{address_places, at_spot, effect_of, reading_reply};
 ghost use Rattle.cse_machine.specs.Answer.{time_places, to_resource};
 ghost use Rattle.cse_machine.specs.Rights as rights;
 ghost use Rattle.cse_machine.specs.Step.{Step};
 
 use crate::event::{Event, Outcome};
-use crate::judging::{is_blocking, is_discovery, is_in_time, is_served};
+use crate::judging::{is_blocking, is_in_time, is_served};
 use addressing::{Addr, AddrFault, Spot, parse, resolve, short_fr};
-use entity_model::{Entity, sweep};
+use entity_model::{Entity, refuse, sweep};
 use m2m_names::Rsc;
-use primitive_json::{Reply, ReplyParts, Request};
+use primitive_json::{Reply, Request};
+use request_rules::is_discovery;
 use retrieve_discover::{discover, retrieve};
 use std::alloc::{AllocError as OutOfMemory, Global};
 use std::marker::Brand;
@@ -219,15 +220,4 @@ fn operate<T: Tree>(
             target.number(),
         )
     }
-}
-
-fn refuse(alloc: Global, request: &Request, fault: Rsc) -> Result<Reply, OutOfMemory>
-    ensures { IfOk result (λ r. r ≡ refusal request.now fault) }
-{
-    let rqi = request.parts().rqi.copy(alloc)?;
-    Ok(Reply::of(ReplyParts {
-        rsc: fault,
-        rqi: Some(rqi),
-        pc: None,
-    }))
 }

@@ -5,22 +5,9 @@ use Rattle.std.proofs.lemmas.Bool.{cases_Bool, and_parts, and_from, or_cases, or
 use Rattle.resource_model.specs.Resource.{ResourceData}
 use Rattle.tree_model.specs.Tree.{has, stays, staying, without, depth, is_tree}
 use Rattle.tree_model.proofs.ChangeLemmas.{line_none}
-use Rattle.tree_model.proofs.TreeLemmas.{has-append}
+use Rattle.tree_model.proofs.TreeLemmas.{Covers, covers_grown, covers_both}
 
 -- ---- two removals in a row
-
--- the first list has each number of the second
-abbrev Covers : List ResourceData → List ResourceData → Type 0
-Covers wide narrow = (n : ℕ) → has n narrow ≡ true → has n wide ≡ true
-
-covers_grown : (wide narrow : List ResourceData) (r : ResourceData) → Covers wide narrow → Covers (wide ++ r ∷ []) narrow
-covers_grown wide narrow r covers n there = has-append n wide (r ∷ []) ∙ or_left _ _ (covers n there)
-
-covers_both : (wide narrow : List ResourceData) (r : ResourceData) → Covers wide narrow → Covers (wide ++ r ∷ []) (narrow ++ r ∷ [])
-covers_both wide narrow r covers n there = has-append n wide (r ∷ []) ∙ elim (or_cases _ _ (sym (has-append n narrow (r ∷ [])) ∙ there)) [
-  | inl old ↦ or_left _ _ (covers n old)
-  | inr new ↦ or_right _ _ new
-]
 
 -- one of the two picks it
 abbrev pub either : (ResourceData → Bool) → (ResourceData → Bool) → ResourceData → Bool

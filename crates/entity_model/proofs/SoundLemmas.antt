@@ -14,7 +14,8 @@ use Rattle.m2m_names.specs.declared.types.Ty.TheVariants.{AccessControlPolicy, A
 use Rattle.resource_model.specs.Attributes.{count_at}
 use Rattle.resource_model.specs.Home.{HomeData, IsHome, is_base_name, is_cse_type}
 use Rattle.resource_model.specs.Resource.{ResourceData, is_ty, cse_id}
-use Rattle.tree_model.specs.Tree.{at, has, are_below, stays, staying, without, is_spared, is_kin, is_instance, instance_size, due_under, is_due, lesser, age_end, live, is_root, is_taken, fits_in, is_well_formed, is_tree}
+use Rattle.tree_model.specs.Shown.{own_cse_id}
+use Rattle.tree_model.specs.Tree.{at, has, are_below, stays, staying, without, is_spared, is_kin, is_instance, instance_size, is_due_under, is_due, age_end, live, is_root, is_taken, fits_in, is_well_formed, is_tree}
 use Rattle.tree_model.proofs.ChangeLemmas.{count-without, sum-without, no_deeper}
 use Rattle.tree_model.proofs.QuietLemmas.{lesser_least}
 use Rattle.tree_model.proofs.TreeLemmas.{has_at, staying_all, staying_any, staying_unpicked}
@@ -26,7 +27,7 @@ use Rattle.attribute_rules.specs.Kinds.{are_kinds}
 use Rattle.container_limits.specs.Limits.{is_within}
 use Rattle.entity_model.specs.Entity.{EntityData, last_reading, cut, event_moment, swept}
 use Rattle.entity_model.specs.Opening.{opening_base, opening_policy, opening_nodes, opening}
-use Rattle.entity_model.specs.Sound.{has_known_ids, has_free_name, has_size, has_state_tag, is_shallow, is_within_limits, begins_with_base, own_cse_id, cse_ids, are_distinct, has_one_channel, spares_first, greatest_count, IsSoundEntity}
+use Rattle.entity_model.specs.Sound.{has_known_ids, has_free_name, has_size, has_state_tag, is_shallow, is_within_limits, begins_with_base, cse_ids, are_distinct, has_one_channel, spares_first, greatest_count, IsSoundEntity}
 use Rattle.entity_model.proofs.RemovalLemmas.{staying_length}
 
 -- ---- tests over a list
@@ -128,12 +129,8 @@ base_left : (p : ResourceData → Bool) (home : HomeData) (nodes : List Resource
 base_left p home [] well spared base = base
 base_left p home (r ∷ nodes) well spared base = rw (first_stays p r nodes well spared) base
 
--- a moment, where there is one, has come
-abbrev is_due_at : ℕ → Option ℕ → Bool
-is_due_at moment due = option_map_or (λ end. nat_le end moment) due false
-
 -- where its parent is gone, a resource isn't due earlier
-due_alone : (moment : ℕ) (o : Option ResourceData) (r : ResourceData) → is_due_at moment (due_under None r) ≡ true → is_due_at moment (due_under o r) ≡ true
+due_alone : (moment : ℕ) (o : Option ResourceData) (r : ResourceData) → is_due_under None moment r ≡ true → is_due_under o moment r ≡ true
 due_alone moment o r due = elim (cases_Bool (is_ty r.ty CseBase)) [
   | inl t ↦ rw t (rw t at due)
   | inr f ↦ elim (cases_Bool (is_ty r.ty ContentInstance)) [
@@ -142,14 +139,14 @@ due_alone moment o r due = elim (cases_Bool (is_ty r.ty CseBase)) [
   ]
 ]
 
-due_left_under : (spared : Bool) (moment : ℕ) (o : Option ResourceData) (r : ResourceData) → is_due_at moment (due_under (cond spared o None) r) ≡ true → is_due_at moment (due_under o r) ≡ true
+due_left_under : (spared : Bool) (moment : ℕ) (o : Option ResourceData) (r : ResourceData) → is_due_under (cond spared o None) moment r ≡ true → is_due_under o moment r ≡ true
 due_left_under true moment o r due = due
 due_left_under false moment o r due = due_alone moment o r due
 
 pub due_left : (p : ResourceData → Bool) (nodes : List ResourceData) (moment : ℕ) (r : ResourceData) → is_tree nodes ≡ true → is_due (without p nodes) moment r ≡ true → is_due nodes moment r ≡ true
 due_left p nodes moment r tree due =
     due_left_under (is_spared p nodes r.parent) moment (at r.parent nodes) r
-    (sym (ap (λ (o : Option ResourceData). is_due_at moment (due_under o r)) (at-without p r.parent nodes tree)) ∙ due)
+    (sym (ap (λ (o : Option ResourceData). is_due_under o moment r) (at-without p r.parent nodes tree)) ∙ due)
 
 -- where nothing was due, nothing is
 pub none_due_left : (p : ResourceData → Bool) (nodes : List ResourceData) (moment : ℕ) → is_tree nodes ≡ true → list_any (is_due nodes moment) nodes ≡ false → list_any (is_due (without p nodes) moment) (without p nodes) ≡ false

@@ -1,22 +1,23 @@
 -- Which entities are sound: what holds of an entity at every moment.
 use Rattle.std.specs.Prelude.{◌≡◌, ℕ, ◌-◌, ◌^◌, ◌≤◌, nat_le, nat_lt, Bool, true, false, not, ◌&&◌}
-use Rattle.std.specs.Prelude.{◌||◌, List, [], ◌∷◌, ◌++◌, length, codes, is_some}
+use Rattle.std.specs.Prelude.{◌||◌, List, [], ◌∷◌, ◌++◌, length, is_some}
 use Rattle.std.specs.Prelude.{option_and_then, IsTrue}
 use Rattle.std.specs.List.{filter_map, list_all, list_any}
 use Rattle.std.specs.Option.{option_map_or}
 use Rattle.std.specs.Str.{bytes_eq}
 use Rattle.m2m_names.specs.Name.{is_free_name}
-use Rattle.m2m_names.specs.declared.attributes.Attr.TheVariants.{Acpi, Macp, Mbs, Mni, St}
+use Rattle.m2m_names.specs.declared.attributes.Attr.TheVariants.{Acpi, Macp, St}
 use Rattle.m2m_names.specs.declared.types.Ty.TheVariants.{Container, ContentInstance, CseBase}
 use Rattle.m2m_value.specs.Data.{Data}
 use Rattle.m2m_value.specs.View.{as_text}
-use Rattle.resource_model.specs.Attributes.{count_at, value_of}
+use Rattle.resource_model.specs.Attributes.{value_of}
 use Rattle.resource_model.specs.Home.{HomeData, IsHome}
 use Rattle.resource_model.specs.Resource.{ResourceData, is_ty, cse_id}
+use Rattle.tree_model.specs.Shown.{own_cse_id}
 use Rattle.tree_model.specs.Tree.{channels_of, instances_of, instance_size, sizes_of, depth}
 use Rattle.tree_model.specs.Tree.{are_below, is_well_formed}
 use Rattle.attribute_rules.specs.Kinds.{are_kinds}
-use Rattle.container_limits.specs.Limits.{is_within}
+use Rattle.container_limits.specs.Limits.{are_within, limits_of}
 use Rattle.policy_eval.specs.Rules.{policy_number, ids_at}
 use Rattle.entity_model.specs.Entity.{EntityData, last_reading}
 use Rattle.entity_model.specs.Expiry.{is_some_due}
@@ -57,8 +58,7 @@ is_shallow nodes r = nat_le (depth r.number nodes) greatest_depth
 abbrev pub is_within_limits : List ResourceData → ResourceData → Bool
 is_within_limits nodes r =
     not (is_ty r.ty Container)
-    || (is_within (length (instances_of r.number nodes)) (count_at Mni r.attrs)
-    && is_within (sizes_of r.number nodes) (count_at Mbs r.attrs))
+    || are_within (limits_of r) (length (instances_of r.number nodes)) (sizes_of r.number nodes)
 
 -- a container counts its changes (TS-0001, 9.6.6)
 abbrev pub has_state_tag : ResourceData → Bool
@@ -74,10 +74,6 @@ begins_with_base home (r ∷ nodes) = is_ty r.ty CseBase && bytes_eq r.name home
 -- its name addresses nothing else (TS-0001, 9.6.1.3)
 abbrev pub has_free_name : ResourceData → Bool
 has_free_name r = is_free_name r.name
-
--- the own CSE-ID
-abbrev pub own_cse_id : HomeData → List ℕ
-own_cse_id home = codes "/" ++ home.csi
 
 -- the own CSE-ID and those of all remote CSEs
 abbrev pub cse_ids : HomeData → List ResourceData → List (List ℕ)

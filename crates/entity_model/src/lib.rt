@@ -17,6 +17,7 @@ mod entity;
 mod laws;
 mod moments;
 mod opening;
+mod replying;
 mod sweeping;
 
 pub use entity::Entity;
@@ -24,5 +25,6 @@ pub use laws::{
     a_sound_entity_has_one_base, an_entity_stays_sound, nothing_expires_while_no_time_passes,
 };
 pub use moments::event_moment;
+pub use replying::{refuse, reply_to};
 pub use std::alloc::AllocError as OutOfMemory;
 pub use sweeping::sweep;

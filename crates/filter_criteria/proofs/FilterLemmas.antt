@@ -4,7 +4,7 @@ use Rattle.std.specs.List.{list_all, filter_map}
 use Rattle.std.specs.Option.{option_map_or}
 use Rattle.m2m_names.specs.Name.{is_filled}
 use Rattle.m2m_value.specs.Data.{Data, number, text, object, Entry, pairs_of}
-use Rattle.m2m_value.specs.Shapes.{as_count, is_label}
+use Rattle.m2m_value.specs.Shapes.{as_count, is_label, label_limit}
 use Rattle.m2m_value.specs.View.{as_text, as_number, member_of}
 use Rattle.m2m_value.proofs.Levels.{entries-pairs_of}
 use Rattle.filter_criteria.specs.Bounds.{IsMoment}
@@ -26,8 +26,8 @@ usage_back : (usage : FilterUsage) → read_usage (number (usage_number usage)) 
 usage_back Discovery = refl
 usage_back Conditional = refl
 
-labels_kept : (ls : List (List ℕ)) → list_all (is_filled 256) ls ≡ true → AllBack label_of text ls
-labels_kept ls h = all_back label_of text (is_filled 256) (where_kept (is_filled 256)) ls h
+labels_kept : (ls : List (List ℕ)) → list_all (is_filled label_limit) ls ≡ true → AllBack label_of text ls
+labels_kept ls h = all_back label_of text (is_filled label_limit) (where_kept (is_filled label_limit)) ls h
 
 types_kept : (ns : List ℕ) → list_all (λ n. nat_le n 65_535) ns ≡ true → AllBack read_type_number count_data ns
 types_kept ns h = all_back read_type_number count_data (λ n. nat_le n 65_535) (where_kept (λ n. nat_le n 65_535)) ns h
@@ -72,7 +72,7 @@ module _ (f : FilterParts) where
       any None = tt
       any (Some u) = tt
 
-  labels_there : list_all (is_filled 256) f.lbl ≡ true → labels_in es ≡ f.lbl
+  labels_there : list_all (is_filled label_limit) f.lbl ≡ true → labels_in es ≡ f.lbl
   labels_there h = ap (λ d. option_map_or (all_of label_of) d []) (there f OneLabel) ∙ list_back label_of text f.lbl (labels_kept f.lbl h)
 
   types_there : list_all (λ n. nat_le n 65_535) f.ty ≡ true → types_in es ≡ f.ty
@@ -118,7 +118,7 @@ each_fits f kinds CreatedBefore = fits_moment f.crb kinds.crb
 each_fits f kinds ExpireAfter = fits_moment f.exa kinds.exa
 each_fits f kinds ExpireBefore = fits_moment f.exb kinds.exb
 each_fits f kinds Usage = fits_usage f.fu
-each_fits f kinds OneLabel = list_passes text (is_filled 256) is_label (λ s h. h) f.lbl kinds.lbl
+each_fits f kinds OneLabel = list_passes text (is_filled label_limit) is_label (λ s h. h) f.lbl kinds.lbl
 each_fits f kinds Limit = fits_count f.lim
 each_fits f kinds ModifiedSince = fits_moment f.ms kinds.ms
 each_fits f kinds StateTagBigger = fits_count f.stb
@@ -150,6 +150,6 @@ filter_of_kinds es = record {
   us = moment_kind UnmodifiedSince es;
   exb = moment_kind ExpireBefore es;
   exa = moment_kind ExpireAfter es;
-  lbl = all_of_kind label_of (is_filled 256) (λ d. where_passes (is_filled 256) (as_text d)) (member_of (name_of_condition OneLabel) es);
+  lbl = all_of_kind label_of (is_filled label_limit) (λ d. where_passes (is_filled label_limit) (as_text d)) (member_of (name_of_condition OneLabel) es);
   ty = all_of_kind read_type_number (λ n. nat_le n 65_535) (λ d. where_passes (λ n. nat_le n 65_535) (as_count d)) (member_of (name_of_condition OneType) es);
 }

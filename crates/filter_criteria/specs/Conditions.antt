@@ -7,7 +7,7 @@ use Rattle.std.specs.Str.{bytes_eq}
 use Rattle.m2m_names.specs.Name.{is_filled}
 use Rattle.m2m_names.specs.StampReading.{moment_at}
 use Rattle.m2m_value.specs.Data.{Data, null, boolean, number, text, list, object, Entry}
-use Rattle.m2m_value.specs.Shapes.{as_count, is_label}
+use Rattle.m2m_value.specs.Shapes.{as_count, is_label, label_limit}
 use Rattle.m2m_value.specs.View.{as_number, as_text, as_object, elements, member_of}
 use Rattle.filter_criteria.specs.Values.{where_it, read_type_number}
 use Rattle.filter_criteria.specs.declared.condition.Condition.{Condition}
@@ -36,7 +36,7 @@ read_moment d = option_and_then moment_at (as_text d)
 
 -- a label: a text of 1 to 256 bytes
 abbrev pub label_of : Data → Option (List ℕ)
-label_of d = where_it (is_filled 256) (as_text d)
+label_of d = where_it (is_filled label_limit) (as_text d)
 
 -- how a filter is used, by its number (TS-0004, 6.3.4.2.31)
 abbrev pub usage_numbered : ℤ → Option FilterUsage

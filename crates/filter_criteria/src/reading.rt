@@ -12,7 +12,7 @@ use crate::condition::{Condition, Sort};
 use crate::filter::{Filter, FilterParts, FilterUsage};
 use crate::values::{owned_text, read_type_number, value_at};
 use m2m_names::{is_filled, read_stamp};
-use m2m_value::{Labels, Node, Numbers, Text, Val};
+use m2m_value::{LABEL_LIMIT, Labels, Node, Numbers, Text, Val};
 use std::alloc::{AllocError as OutOfMemory, Global};
 use std::slice;
 
@@ -190,7 +190,7 @@ fn owned_label(value: Val) -> Option<Text>
     ensures utf8 { IfSome result IsUtf8 }
 {
     match owned_text(Some(value)) {
-        Some(text) if is_filled(text.entries(), 256) => Some(text),
+        Some(text) if is_filled(text.entries(), LABEL_LIMIT) => Some(text),
         _ => None,
     }
 }

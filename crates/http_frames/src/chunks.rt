@@ -2,6 +2,7 @@
 ghost use Rattle.std.specs.Prelude.{◌≡◌, ◌+◌, ◌-◌, ◌^◌, ◌<◌, ◌≤◌, ◌++◌, ℕ, IfOk, OnOk, OnErr};
 ghost use Rattle.std.specs.Prelude.{[], length, take, drop};
 ghost use Rattle.httparse.specs.Grammar.{HasNoChunkLine, MayBecomeChunkLine};
+ghost use Rattle.http_frames.specs.Chunks.{chunk_line_limit};
 ghost use Rattle.http_frames.specs.ChunkLooks.{IsEndLook, IsLineAt, IsChunkLook, GoesOnBy};
 ghost use Rattle.http_frames.specs.ChunkLooks.{AreChunksAt, IsStop};
 
@@ -65,7 +66,7 @@ fn look_for_end(text: &[u8], n: usize) -> EndLook
 /// The first bytes, of which a chunk line is no longer.
 #[tactic(auto, using(crate::proofs::ChunkLemmas::front_is))]
 fn front_of(text: &[u8]) -> &[u8]
-    ensures { result.now ≡ take 256 text.now }
+    ensures { result.now ≡ take chunk_line_limit text.now }
 {
     &text[..text.len().min(LINE_LIMIT)]
 }
@@ -102,8 +103,8 @@ fn look_at_line(text: &[u8], most: usize, start: usize, size: u64) -> ChunkLook
 /// What stands there where no whole chunk line does.
 #[tactic(auto, using(crate::proofs::ChunkLemmas::line_waits, crate::proofs::ChunkLemmas::line_too_long))]
 fn look_without_line(text: &[u8], most: usize) -> Stop
-    requires none { HasNoChunkLine (take 256 text.now) }
-    requires may { MayBecomeChunkLine (take 256 text.now) }
+    requires none { HasNoChunkLine (take chunk_line_limit text.now) }
+    requires may { MayBecomeChunkLine (take chunk_line_limit text.now) }
     ensures { IsStop most text.now result }
 {
     if text.len() < LINE_LIMIT {

@@ -10,6 +10,14 @@ use Rattle.m2m_names.specs.Types.{ty_row, all_types}
 abbrev pub is_filled : ℕ → List ℕ → Bool
 is_filled most text = nat_lt 0 (length text) && nat_le (length text) most
 
+-- the most bytes that a name of a resource has
+abbrev pub name_limit : ℕ
+name_limit = 64
+
+-- the most bytes that an originator has
+abbrev pub originator_limit : ℕ
+originator_limit = 256
+
 -- an unreserved character of a URI (RFC 3986, 2.3)
 abbrev pub is_unreserved : ℕ → Bool
 is_unreserved byte = is_ascii_alphanumeric byte || list_any (λ mark. mark == byte) (codes "-._~")
@@ -17,7 +25,7 @@ is_unreserved byte = is_ascii_alphanumeric byte || list_any (λ mark. mark == by
 -- a name of a resource: 1 to 64 unreserved characters (TS-0001, 9.6.1.3; the length is the
 -- profile's)
 abbrev pub is_name : List ℕ → Bool
-is_name text = is_filled 64 text && list_all is_unreserved text
+is_name text = is_filled name_limit text && list_all is_unreserved text
 
 -- the names of virtual resources (TS-0001, 9.6): the newest and the oldest instance, the fan-out
 -- point, the poll point
@@ -48,7 +56,7 @@ is_resource_id text = list_any (λ ty. is_numbered (ty_row ty).word text) all_ty
 
 -- an originator: 1 to 256 printable ASCII characters without a space (TS-0004, 6.3.3)
 abbrev pub is_originator : List ℕ → Bool
-is_originator text = is_filled 256 text && list_all is_ascii_graphic text
+is_originator text = is_filled originator_limit text && list_all is_ascii_graphic text
 
 -- an originator that doesn't begin with `/`
 abbrev pub is_local_originator : List ℕ → Bool

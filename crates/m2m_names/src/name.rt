@@ -8,6 +8,12 @@ ghost use Rattle.m2m_names.specs.Name.{virtual_names, address_marks};
 
 use crate::Ty;
 
+/// The most bytes that a name of a resource has.
+const NAME_LIMIT: usize = 64;
+
+/// The most bytes that an originator has.
+const ORIGINATOR_LIMIT: usize = 256;
+
 /// Whether the text has 1 to `most` bytes.
 pub fn is_filled(text: &[u8], most: usize) -> bool
     ensures { result ≡ spec.is_filled most text.now }
@@ -22,7 +28,7 @@ pub fn is_name(text: &[u8]) -> bool
     ensures value { result ≡ spec.is_name text.now }
     ensures utf8 { OnTrue result (IsUtf8 text.now) }
 {
-    is_filled(text, 64) && are_unreserved(text)
+    is_filled(text, NAME_LIMIT) && are_unreserved(text)
 }
 
 fn are_unreserved(text: &[u8]) -> bool
@@ -85,7 +91,7 @@ pub fn is_originator(text: &[u8]) -> bool
     ensures value { result ≡ spec.is_originator text.now }
     ensures utf8 { OnTrue result (IsUtf8 text.now) }
 {
-    is_filled(text, 256) && are_graphic(text)
+    is_filled(text, ORIGINATOR_LIMIT) && are_graphic(text)
 }
 
 /// Whether the text is an originator that doesn't begin with `/`.

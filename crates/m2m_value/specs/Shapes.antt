@@ -49,6 +49,10 @@ has_member key fits es = option_map_or fits (member_of key es) false
 abbrev pub may_have_member : List ℕ → (Data → Bool) → List Entry → Bool
 may_have_member key fits es = option_map_or fits (member_of key es) true
 
--- a text of 1 to 256 bytes (the length is the profile's)
+-- the most bytes that a label has (the profile's)
+abbrev pub label_limit : ℕ
+label_limit = 256
+
+-- a text of 1 to 256 bytes
 abbrev pub is_label : Data → Bool
-is_label d = is_text_of (is_filled 256) d
+is_label d = is_text_of (is_filled label_limit) d

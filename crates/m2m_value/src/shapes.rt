@@ -5,6 +5,9 @@ ghost use Rattle.m2m_value.specs.Shapes as spec;
 use crate::value::Val;
 use m2m_names::is_filled;
 
+/// The most bytes that a label has.
+pub const LABEL_LIMIT: usize = 256;
+
 /// The count of a whole number from 0 on.
 pub fn count_of(n: i64) -> Option<u64>
     ensures value { result ≡ spec.count_of n }
@@ -27,7 +30,7 @@ impl Val {
         ensures { result ≡ spec.is_label self.now }
     {
         match self.as_text() {
-            Some(text) => is_filled(text.entries(), 256),
+            Some(text) => is_filled(text.entries(), LABEL_LIMIT),
             None => false,
         }
     }

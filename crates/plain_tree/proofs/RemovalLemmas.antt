@@ -5,7 +5,7 @@ use Rattle.std.proofs.lemmas.Bool.{cases_Bool, or_cases, eqb-true, both_ways}
 use Rattle.std.specs.Option.{option_map_or, option_or}
 use Rattle.resource_model.specs.Resource.{ResourceData, has_number}
 use Rattle.plain_tree.specs.Removal.{picks_of}
-use Rattle.tree_model.specs.Tree.{at, has, stays, staying, without, is_spared, is_due, due_under, is_tree}
+use Rattle.tree_model.specs.Tree.{at, has, stays, staying, without, is_spared, is_due, is_due_under, is_tree}
 use Rattle.plain_tree.specs.declared.removing.Removal.{Removal}
 use Rattle.plain_tree.specs.declared.removing.Removal.TheVariants.{Of, Due}
 use Rattle.tree_model.proofs.GrowthLemmas.{zero_lacks, at-without}
@@ -47,7 +47,7 @@ picked_stays (Of n) all now stayed place r tree h = refl
 picked_stays (Due moment) all now stayed place r tree h = elim (cases_Bool ((r.parent == 0) || has r.parent (take stayed now))) [
   | inl may ↦
       let same : at r.parent (take stayed now) ≡ at r.parent all = parent_same (is_due all moment) all (take stayed now) (staying (is_due all moment) (take stayed now) (drop place now)) r tree h.pass may in
-      ap (λ (o : Option ResourceData). not (option_map_or (λ end. nat_le end moment) (due_under o r) false) && ((r.parent == 0) || has r.parent (take stayed now))) same
+      ap (λ (o : Option ResourceData). not (is_due_under o moment r) && ((r.parent == 0) || has r.parent (take stayed now))) same
   | inr gone ↦
       ap (λ b. not (is_due (take stayed now) moment r) && b) gone ∙ and_no (not (is_due (take stayed now) moment r))
       ∙ sym (ap (λ b. not (is_due all moment r) && b) gone ∙ and_no (not (is_due all moment r)))

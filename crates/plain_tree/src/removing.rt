@@ -20,8 +20,8 @@ pub(crate) enum Removal {
 }
 
 fn is_due_under(parent: Option<&Resource>, resource: &Resource, moment: u64) -> bool
-    ensures { result ≡ option_map_or (λ at. nat_le at moment) (spec.due_under (option_map
-        (λ r. r.now) parent.entry) resource.now) false }
+    ensures { result ≡ spec.is_due_under (option_map (λ r. r.now) parent.entry) moment
+        resource.now }
 {
     match due_under(parent, resource) {
         Some(at) => at <= moment,

@@ -25,9 +25,13 @@ use Rattle.primitive_json.specs.declared.request.When.TheVariants.{At, Millis}
 
 -- ---- texts
 
+-- the most bytes that the target of a request has
+abbrev pub target_limit : ℕ
+target_limit = 1024
+
 -- the target of a request: a text of 1 to 1,024 bytes
 abbrev pub is_address_text : Data → Bool
-is_address_text d = is_text_of (is_filled 1024) d
+is_address_text d = is_text_of (is_filled target_limit) d
 
 abbrev pub is_originator_text : Data → Bool
 is_originator_text d = is_text_of is_originator d
@@ -65,9 +69,13 @@ read_response_type d =
 
 -- ---- expiry
 
+-- the most digits of a count of milliseconds
+abbrev pub numeral_limit : ℕ
+numeral_limit = 18
+
 -- 1 to 18 decimal digits
 abbrev pub is_numeral : List ℕ → Bool
-is_numeral s = is_filled 18 s && list_all is_ascii_digit s
+is_numeral s = is_filled numeral_limit s && list_all is_ascii_digit s
 
 -- milliseconds by digits, else the moment of a timestamp
 abbrev pub expiry_spelled : List ℕ → Option When

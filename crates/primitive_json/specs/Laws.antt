@@ -9,7 +9,7 @@ use Rattle.m2m_value.specs.View.{as_object}
 use Rattle.filter_criteria.specs.Bounds.{IsMoment}
 use Rattle.filter_criteria.specs.Laws.{IsFilterOfKinds}
 use Rattle.primitive_json.specs.Bounds.{is_request_id}
-use Rattle.primitive_json.specs.Kinds.{result_contents, address_forms}
+use Rattle.primitive_json.specs.Kinds.{result_contents, address_forms, target_limit}
 use Rattle.primitive_json.specs.Members.{creates, retrieves, has_content}
 use Rattle.primitive_json.specs.Reading.{read_request, read_reply}
 use Rattle.primitive_json.specs.Writing.{written_request, written_reply}
@@ -26,7 +26,7 @@ IsWhenOfKind (Millis n) = ⊤
 -- each parameter is of its kind, and those are there that the operation needs, and no others that
 -- it doesn't read
 pub record IsOfKinds (r : RequestParts) : Type 0 where
-  pub to : IsTrue (is_filled 1024 r.to)
+  pub to : IsTrue (is_filled target_limit r.to)
   pub fr : IfSome r.fr (λ s. IsTrue (is_originator s))
   pub rqi : IsTrue (is_request_id r.rqi)
   pub ty : IfSome r.ty (λ n. IsTrue (nat_le n 65_535))

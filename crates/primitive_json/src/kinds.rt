@@ -12,12 +12,18 @@ use filter_criteria::value_at;
 use m2m_names::{Op, Rsc, is_filled, is_originator, read_stamp};
 use m2m_value::Val;
 
+/// The most bytes that the target of a request has.
+const TARGET_LIMIT: usize = 1_024;
+
+/// The most digits of a count of milliseconds.
+const NUMERAL_LIMIT: usize = 18;
+
 pub fn is_address_text(value: &Val) -> bool
     ensures { result ≡ spec.is_address_text value.now }
 {
     value
         .as_text()
-        .is_some_and(|text| is_filled(text.entries(), 1024))
+        .is_some_and(|text| is_filled(text.entries(), TARGET_LIMIT))
 }
 
 pub fn is_originator_text(value: &Val) -> bool
@@ -98,7 +104,7 @@ fn are_decimal(text: &[u8]) -> bool
 fn is_numeral(text: &[u8]) -> bool
     ensures { result ≡ spec.is_numeral text.now }
 {
-    is_filled(text, 18) && are_decimal(text)
+    is_filled(text, NUMERAL_LIMIT) && are_decimal(text)
 }
 
 fn expiry_spelled(text: &[u8]) -> Option<When>

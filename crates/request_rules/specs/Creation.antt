@@ -19,7 +19,7 @@ use Rattle.m2m_value.specs.Spelling.{capped, size_of}
 use Rattle.m2m_value.specs.View.{member_of}
 use Rattle.resource_model.specs.Attributes.{Row, count_at}
 use Rattle.resource_model.specs.Resource.{ResourceData, is_ty}
-use Rattle.tree_model.specs.Shown.{with_rows}
+use Rattle.tree_model.specs.Shown.{own_cse_id, with_rows}
 use Rattle.tree_model.specs.Tree.{depth, has_ae_id, has_channel, has_child, has_cse_id}
 use Rattle.attribute_rules.specs.Admission.{is_named}
 use Rattle.attribute_rules.specs.Contents.{named_text, wanted_in}
@@ -27,7 +27,7 @@ use Rattle.container_limits.specs.Limits.{is_within}
 use Rattle.entity_model.specs.Entity.{EntityData}
 use Rattle.request_rules.specs.Policies.{link_row}
 use Rattle.request_rules.specs.Requests.{named_expiry}
-use Rattle.entity_model.specs.Sound.{own_cse_id, largest_size, greatest_depth, greatest_count}
+use Rattle.entity_model.specs.Sound.{largest_size, greatest_depth, greatest_count}
 
 -- A creation: in which entity, by whom, of which type, under which parent, and the attributes that
 -- the content names. The number is the entity's next one.

@@ -27,5 +27,5 @@ pub use judging::{judge, judge_target};
 pub use limiting::size_named;
 pub use naming::{new_ae_id, new_name, new_owner};
 pub use policies::{listed, policy_ids};
-pub use rights::may_do;
+pub use rights::{is_discovery, may_do};
 pub use std::alloc::AllocError as OutOfMemory;

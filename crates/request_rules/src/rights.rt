@@ -54,7 +54,8 @@ fn is_search(usage: Option<FilterUsage>) -> bool
     }
 }
 
-fn is_discovery(request: &Request) -> bool
+/// Whether it looks for resources.
+pub fn is_discovery(request: &Request) -> bool
     ensures { result ≡ spec.is_discovery request.now }
 {
     match &request.parts().fc {

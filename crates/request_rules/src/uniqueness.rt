@@ -3,8 +3,8 @@ ghost use Rattle.std.specs.Prelude.{◌≡◌, true, not, IfOk, Some, option_map
 ghost use Rattle.std.specs.Option.{option_map_or};
 ghost use Rattle.m2m_names.specs.Name.{is_originator};
 ghost use Rattle.m2m_names.specs.declared.types.Ty.TheVariants.{Ae};
+ghost use Rattle.tree_model.specs.Shown.{own_cse_id};
 ghost use Rattle.tree_model.specs.Tree as trees;
-ghost use Rattle.entity_model.specs.Sound as sound;
 ghost use Rattle.request_rules.specs.Creation as spec;
 ghost use Rattle.request_rules.specs.Creation.{creation_of};
 
@@ -17,7 +17,7 @@ use tree_model::{Home, Resource, Tree, has_ae, has_channel, has_child, has_cse};
 
 // The own CSE-ID, with its slash.
 fn own_cse_id(alloc: Global, home: &Home) -> Result<Text, OutOfMemory>
-    ensures { IfOk result (λ t. t ≡ sound.own_cse_id home.now) }
+    ensures { IfOk result (λ t. t ≡ own_cse_id home.now) }
 {
     let mut bytes = Vec::new(alloc);
     bytes.push(b'/')?;

@@ -7,7 +7,6 @@ use Rattle.std.proofs.lemmas.List.Kept.{IsStrictlySortedBy-filter}
 use Rattle.std.proofs.lemmas.List.Sorted.{searchable_from_sorted}
 use Rattle.std.proofs.lemmas.Map.Keys.{Less-from_sorted, sorted_tail}
 use Rattle.std.proofs.lemmas.Map.Text.{is_eq-slice_cmp}
-use Rattle.std.proofs.lemmas.Option.{same_Some}
 use Rattle.std.proofs.lemmas.Slice.Eq.{bytes_eq-Decides}
 use Rattle.std.specs.Cmp.{IsTotalOrder}
 use Rattle.std.specs.Cmp.Lexicographic.{slice_cmp}
@@ -17,8 +16,8 @@ use Rattle.std.specs.Map.{keys_of}
 use Rattle.std.specs.Option.{option_or}
 use Rattle.std.specs.Result.{MatchResult}
 use Rattle.std.specs.Ordering.{nat_cmp, ordering_index, ordering_reverse, is_lt}
-use Rattle.m2m_names.proofs.AttributeLemmas.{attr_again}
-use Rattle.m2m_names.specs.Attributes.{attr_short, attr_of_short}
+use Rattle.m2m_names.proofs.AttributeLemmas.{same_attr}
+use Rattle.m2m_names.specs.Attributes.{attr_short}
 use Rattle.m2m_names.specs.declared.attributes.Attr.{Attr}
 use Rattle.m2m_value.specs.Data.{Data}
 use Rattle.resource_model.specs.Attributes.{Row, attr_cmp, is_attr, AreInOrder, value_of, rows_before, rows_after, with_value, without_value, HoldsRow, LacksRow}
@@ -32,8 +31,8 @@ same_text : (x y : List ℕ) → slice_cmp nat_cmp x y ≡ Equal → x ≡ y
 same_text x y e = (bytes_eq-Decides x y).0 (sym (is_eq-slice_cmp x y) ∙ ap is_eq e)
 
 -- attributes that compare equal are one
-pub same_attr : (a b : Attr) → attr_cmp a b ≡ Equal → a ≡ b
-same_attr a b e = same_Some a b (sym (attr_again a) ∙ ap attr_of_short (same_text (attr_short a) (attr_short b) e) ∙ attr_again b)
+pub tied_attr : (a b : Attr) → attr_cmp a b ≡ Equal → a ≡ b
+tied_attr a b e = same_attr a b (same_text (attr_short a) (attr_short b) e)
 
 pub attr_itself : (a : Attr) → attr_cmp a a ≡ Equal
 attr_itself a = tied_itself attr_total a
@@ -94,7 +93,7 @@ is_equal Equal t = refl
 is_equal Greater t = cc
 
 pub is_attr-same : (a b : Attr) → is_attr a b ≡ true → a ≡ b
-is_attr-same a b t = same_attr a b (is_equal _ t)
+is_attr-same a b t = tied_attr a b (is_equal _ t)
 
 pub is_attr-itself : (a : Attr) → is_attr a a ≡ true
 is_attr-itself a = ap is_eq (attr_itself a)
@@ -115,7 +114,7 @@ lookup_present a (x ∷ rows) (suc i) d sorted within e =
 
 pub holds_row : (a : Attr) (rows : List Row) (i : ℕ) → AreInOrder rows → i < length rows → ((d : Row) → attr_cmp (get_or rows i d).0 a ≡ Equal) → HoldsRow a rows i
 holds_row a rows i sorted within equal =
-    let is : (d : Row) → (get_or rows i d).0 ≡ a = λ d. same_attr _ a (equal d) in
+    let is : (d : Row) → (get_or rows i d).0 ≡ a = λ d. tied_attr _ a (equal d) in
     let below : (k : ℕ) (d : Row) → k < i → attr_cmp (get_or rows k d).0 a ≡ Less = λ k d before. ap (attr_cmp (get_or rows k d).0) (sym (is d)) ∙ row_order rows k i d sorted before within in
     let above : (k : ℕ) (d : Row) → i < k → k < length rows → attr_cmp a (get_or rows k d).0 ≡ Less = λ k d after inside. ap (λ b. attr_cmp b (get_or rows k d).0) (sym (is d)) ∙ row_order rows i k d sorted after inside in
     record {
@@ -254,7 +253,7 @@ option_choice Greater v apart = refl
 apart_beside : (a b : Attr) (rows : List Row) → b ≢ a → option_or (value_of b (rows_before a rows)) (value_of b (rows_after a rows)) ≡ value_of b rows
 apart_beside a b rows apart =
     rw (value-filter b (λ c. is_lt (attr_cmp c a)) rows, value-filter b (λ c. is_lt (attr_cmp a c)) rows, attr_total.antisymm a b)
-    (option_choice (attr_cmp b a) (value_of b rows) (λ e. apart (same_attr b a e)))
+    (option_choice (attr_cmp b a) (value_of b rows) (λ e. apart (tied_attr b a e)))
 
 -- what every other attribute has
 pub value-with_value_other : (a b : Attr) (d : Data) (rows : List Row) → b ≢ a → value_of b (with_value a d rows) ≡ value_of b rows

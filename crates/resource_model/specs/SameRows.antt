@@ -5,16 +5,12 @@ use Rattle.std.specs.Cmp.Lexicographic.{pointwise, pointwise_decides}
 use Rattle.std.proofs.Common.{ap, ◌∙◌, subst}
 use Rattle.std.proofs.lemmas.Bool.{and_parts, and_from}
 use Rattle.std.proofs.lemmas.Slice.Eq.{bytes_eq-Decides}
-use Rattle.m2m_names.specs.Attributes.{attr_short, attr_of_short}
+use Rattle.m2m_names.specs.Attributes.{attr_short}
 use Rattle.m2m_names.specs.declared.attributes.Attr.{Attr}
-use Rattle.m2m_names.proofs.AttributeLemmas.{attr_again}
-use Rattle.m2m_names.proofs.LookupLemmas.{same_key}
+use Rattle.m2m_names.proofs.AttributeLemmas.{same_attr}
 use Rattle.m2m_value.specs.Data.{Data}
 use Rattle.m2m_value.specs.Same.{same, same-Decides}
 use Rattle.resource_model.specs.Attributes.{Row, same_row}
-
-same_attr : (a b : Attr) → attr_short a ≡ attr_short b → a ≡ b
-same_attr = same_key attr_short attr_of_short attr_again
 
 same_row-means : (x y : Row) → same_row x y ≡ true → x ≡ y
 same_row-means x y h =

@@ -8,7 +8,8 @@ ghost use Rattle.retrieve_discover.specs.Replies.{discovered};
 
 use crate::finding::{DISCOVERY_BIT, Wanted, find_below};
 use crate::paths::path_to;
-use crate::replies::{is_by_id, refuse, succeed};
+use crate::replies::{is_by_id, succeed};
+use entity_model::refuse;
 use m2m_names::Rsc;
 use m2m_value::{Items, Members, Text, Val};
 use policy_eval::granted;

@@ -2,39 +2,17 @@
 ghost use Rattle.std.specs.Prelude.{◌≡◌, IfOk};
 ghost use Rattle.retrieve_discover.specs.Replies as spec;
 
+use entity_model::reply_to;
 use m2m_names::Rsc;
 use m2m_value::Val;
-use primitive_json::{Reply, ReplyParts, Request};
+use primitive_json::{Reply, Request};
 use std::alloc::{AllocError as OutOfMemory, Global};
-
-/// A refusal, which has no content.
-pub(crate) fn refuse(alloc: Global, request: &Request, fault: Rsc) -> Result<Reply, OutOfMemory>
-    ensures { IfOk result (λ r. r ≡ spec.refusal request.now fault) }
-{
-    reply_to(alloc, request, fault, None)
-}
 
 /// The reply with this content.
 pub(crate) fn succeed(alloc: Global, request: &Request, content: Val) -> Result<Reply, OutOfMemory>
     ensures { IfOk result (λ r. r ≡ spec.success request.now content) }
 {
     reply_to(alloc, request, Rsc::Ok, Some(content))
-}
-
-fn reply_to(
-    alloc: Global,
-    request: &Request,
-    rsc: Rsc,
-    content: Option<Val>,
-) -> Result<Reply, OutOfMemory>
-    ensures { IfOk result (λ r. r ≡ spec.reply_to request.now rsc content) }
-{
-    let rqi = request.parts().rqi.copy(alloc)?;
-    Ok(Reply::of(ReplyParts {
-        rsc,
-        rqi: Some(rqi),
-        pc: content,
-    }))
 }
 
 /// Whether addresses are wanted as resource ids.

@@ -6,7 +6,8 @@ ghost use Rattle.retrieve_discover.specs.Replies.{retrieved, retrieved_of};
 
 use crate::conditions::meets_any;
 use crate::contents::content;
-use crate::replies::{refuse, succeed};
+use crate::replies::succeed;
+use entity_model::refuse;
 use m2m_names::{Op, Rsc};
 use policy_eval::granted;
 use primitive_json::{Reply, Request};

@@ -102,13 +102,13 @@ map-replaced g keeps r (s ∷ nodes) = elim (cases_Bool (has_number r.number s))
 -- ---- the pass of a removal
 
 -- two lists of which the first has each number of the second
-abbrev Covers : List ResourceData → List ResourceData → Type 0
+abbrev pub Covers : List ResourceData → List ResourceData → Type 0
 Covers wide narrow = (n : ℕ) → has n narrow ≡ true → has n wide ≡ true
 
-covers_grown : (wide narrow : List ResourceData) (r : ResourceData) → Covers wide narrow → Covers (wide ++ r ∷ []) narrow
+pub covers_grown : (wide narrow : List ResourceData) (r : ResourceData) → Covers wide narrow → Covers (wide ++ r ∷ []) narrow
 covers_grown wide narrow r covers n there = has-append n wide (r ∷ []) ∙ or_left _ _ (covers n there)
 
-covers_both : (wide narrow : List ResourceData) (r : ResourceData) → Covers wide narrow → Covers (wide ++ r ∷ []) (narrow ++ r ∷ [])
+pub covers_both : (wide narrow : List ResourceData) (r : ResourceData) → Covers wide narrow → Covers (wide ++ r ∷ []) (narrow ++ r ∷ [])
 covers_both wide narrow r covers n there = has-append n wide (r ∷ []) ∙ elim (or_cases _ _ (sym (has-append n narrow (r ∷ [])) ∙ there)) [
   | inl old ↦ or_left _ _ (covers n old)
   | inr new ↦ or_right _ _ new

@@ -44,10 +44,14 @@ common_rows nodes r =
     (Ct, shown_moment r.ct) ∷ (Lt, shown_moment r.lt) ∷ (Pi, text (parent_id nodes r))
     ∷ (Ri, text (id_of r)) ∷ (Rn, text r.name) ∷ (TyAttr, shown_ty r.ty) ∷ []
 
+-- the own CSE-ID (TS-0001, 7.2)
+abbrev pub own_cse_id : HomeData → List ℕ
+own_cse_id home = codes "/" ++ home.csi
+
 -- what the CSEBase shows besides
 abbrev pub base_rows : HomeData → List Row
 base_rows home =
-    (Csi, text (codes "/" ++ home.csi)) ∷ (Cst, number home.cst)
+    (Csi, text (own_cse_id home)) ∷ (Cst, number home.cst)
     ∷ (Srt, shown_types) ∷ []
 
 -- what every other resource shows besides

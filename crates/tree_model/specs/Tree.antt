@@ -184,13 +184,17 @@ is_spared picks nodes n = not (list_any picks (line_of n nodes))
 
 -- ---- which resources are live
 
+-- when a resource reaches an age, where there is one
+abbrev pub aged_at : Option ℕ → ResourceData → Option ℕ
+aged_at mia r = option_map (λ age. r.ct + age) mia
+
 -- the greatest age that a container allows its instances, where there is one (TS-0001, 9.6.6)
 abbrev pub age_of : Option ResourceData → Option ℕ
 age_of container = option_map_or (λ c. count_at Mia c.attrs) container None
 
 -- when an instance of the container reaches the greatest age that this one allows
 abbrev pub age_end : Option ResourceData → ResourceData → Option ℕ
-age_end container r = option_map (λ age. r.ct + age) (age_of container)
+age_end container r = aged_at (age_of container) r
 
 -- the age that is allowed in place of another, where instances are due earlier by it: a smaller
 -- one, or one where there was none
@@ -213,8 +217,12 @@ due_under parent r =
 abbrev pub due : List ResourceData → ResourceData → Option ℕ
 due nodes r = due_under (at r.parent nodes) r
 
+-- it is due by then
+abbrev pub is_due_under : Option ResourceData → ℕ → ResourceData → Bool
+is_due_under parent moment r = option_map_or (λ at. nat_le at moment) (due_under parent r) false
+
 abbrev pub is_due : List ResourceData → ℕ → ResourceData → Bool
-is_due nodes moment r = option_map_or (λ at. nat_le at moment) (due nodes r) false
+is_due nodes moment r = is_due_under (at r.parent nodes) moment r
 
 -- the resources that are live at a moment: neither they nor what they stand under is due
 abbrev pub live : ℕ → List ResourceData → List ResourceData

@@ -7,8 +7,8 @@ use m2m_value::Val;
 use primitive_json::{Reply, ReplyParts, Request};
 use std::alloc::{AllocError as OutOfMemory, Global};
 
-/// The reply to a request with this status and content.
-pub(crate) fn reply_to(
+/// The reply to a request with this status and content, under the request's identifier.
+pub fn reply_to(
     alloc: Global,
     request: &Request,
     rsc: Rsc,
@@ -25,7 +25,7 @@ pub(crate) fn reply_to(
 }
 
 /// The reply of a refusal, which has no content.
-pub(crate) fn refuse(alloc: Global, request: &Request, fault: Rsc) -> Result<Reply, OutOfMemory>
+pub fn refuse(alloc: Global, request: &Request, fault: Rsc) -> Result<Reply, OutOfMemory>
     ensures { IfOk result (λ r. r ≡ spec.refusal request.now fault) }
 {
     reply_to(alloc, request, fault, None)
