@@ -8,9 +8,9 @@ use Rattle.m2m_names.specs.declared.attributes.Attr.TheVariants.{Mia}
 use Rattle.m2m_names.specs.declared.types.Ty.TheVariants.{CseBase, ContentInstance}
 use Rattle.resource_model.specs.Attributes.{count_at}
 use Rattle.resource_model.specs.Resource.{ResourceData, is_ty}
-use Rattle.tree_model.specs.Tree.{at, age_end, lesser, is_instance, is_quiet, are_quiet, instances_of}
+use Rattle.tree_model.specs.Tree.{at, age_end, end_by, lesser, is_instance, is_quiet, are_quiet, instances_of}
 use Rattle.tree_model.proofs.QuietLemmas.{lesser_least}
-use Rattle.container_limits.specs.Limits.{end_by, is_due_by, is_age, has_mia, is_mia_of}
+use Rattle.container_limits.specs.Limits.{is_due_by, is_age, has_mia, is_mia_of}
 
 -- the end by the age that the container allows
 same_age : (mia : Option ℕ) (age : ℕ) → is_age mia age ≡ true → mia ≡ Some age

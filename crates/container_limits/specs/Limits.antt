@@ -8,7 +8,7 @@ use Rattle.std.specs.Option.{option_map_or}
 use Rattle.m2m_names.specs.declared.attributes.Attr.TheVariants.{Mbs, Mia, Mni}
 use Rattle.resource_model.specs.Attributes.{count_at}
 use Rattle.resource_model.specs.Resource.{ResourceData}
-use Rattle.tree_model.specs.Tree.{has, instance_size, aged_at, lesser}
+use Rattle.tree_model.specs.Tree.{has, instance_size, end_by}
 use Rattle.container_limits.specs.declared.limits.Limits.{Limits}
 
 -- at most the limit, where there is one
@@ -43,10 +43,7 @@ suffixes (r ∷ rs) = (r ∷ rs) ∷ suffixes rs
 abbrev pub longest_fit : Limits → Option ℕ → List ResourceData → List ResourceData
 longest_fit limits new rs = unwrap_or (find (do_fit limits new) (suffixes rs)) []
 
--- when an instance is due that may reach this age: when it expires, or at that age
-abbrev pub end_by : Option ℕ → ResourceData → ℕ
-end_by mia r = lesser r.et (aged_at mia r)
-
+-- it is due by then
 abbrev pub is_due_by : Option ℕ → ℕ → ResourceData → Bool
 is_due_by mia moment r = nat_le (end_by mia r) moment
 

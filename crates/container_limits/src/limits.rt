@@ -2,6 +2,7 @@
 ghost use Rattle.std.specs.Prelude.{◌≡◌};
 ghost use Rattle.m2m_names.specs.declared.attributes.Attr.TheVariants.{Mbs, Mia, Mni};
 ghost use Rattle.resource_model.specs.Attributes.{count_at};
+ghost use Rattle.tree_model.specs.Tree as trees;
 ghost use Rattle.container_limits.specs.Limits as spec;
 
 use m2m_names::Attr;
@@ -58,7 +59,7 @@ pub(crate) fn is_total_within(total: Total, limits: Limits) -> bool
 }
 
 fn end_by(resource: &Resource, mia: Option<u64>) -> u64
-    ensures { result ≡ spec.end_by mia resource.now }
+    ensures { result ≡ trees.end_by mia resource.now }
 {
     match mia {
         Some(age) => resource.et().min(resource.ct().saturating_add(age)),

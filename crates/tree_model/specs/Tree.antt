@@ -207,12 +207,16 @@ lowered_age (Some old) (Some age) = if nat_le old age then None else Some age
 abbrev pub lesser : ℕ → Option ℕ → ℕ
 lesser n other = option_map_or (λ m. min n m) other n
 
+-- when an instance is due that may reach this age: when it expires, or at that age
+abbrev pub end_by : Option ℕ → ResourceData → ℕ
+end_by mia r = lesser r.et (aged_at mia r)
+
 -- the moment at which a resource with this parent is due; the CSEBase has none (TS-0001,
 -- 9.6.1.3.2)
 abbrev pub due_under : Option ResourceData → ResourceData → Option ℕ
 due_under parent r =
     if is_ty r.ty CseBase then None
-    else (if is_ty r.ty ContentInstance then Some (lesser r.et (age_end parent r)) else Some r.et)
+    else (if is_ty r.ty ContentInstance then Some (end_by (age_of parent) r) else Some r.et)
 
 abbrev pub due : List ResourceData → ResourceData → Option ℕ
 due nodes r = due_under (at r.parent nodes) r

@@ -41,8 +41,8 @@ pub fn due_under(parent: Option<&Resource>, resource: &Resource) -> Option<u64>
 }
 
 fn due_of_instance(container: Option<&Resource>, resource: &Resource) -> u64
-    ensures { result ≡ spec.lesser resource.now.et (spec.age_end (option_map
-        (λ r. r.now) container.entry) resource.now) }
+    ensures { result ≡ spec.end_by (spec.age_of (option_map (λ r. r.now) container.entry))
+        resource.now }
 {
     earlier(resource.et(), age_end(container, resource))
 }
