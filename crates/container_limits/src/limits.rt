@@ -1,7 +1,5 @@
 // The limits of a container.
 ghost use Rattle.std.specs.Prelude.{◌≡◌};
-ghost use Rattle.m2m_names.specs.declared.attributes.Attr.TheVariants.{Mbs, Mia, Mni};
-ghost use Rattle.resource_model.specs.Attributes.{count_at};
 ghost use Rattle.tree_model.specs.Tree as trees;
 ghost use Rattle.container_limits.specs.Limits as spec;
 
@@ -22,9 +20,7 @@ pub struct Limits {
 impl Limits {
     /// The limits that a container has.
     pub fn of(container: &Resource) -> Limits
-        ensures mni { result.mni ≡ count_at Mni container.now.attrs }
-        ensures mbs { result.mbs ≡ count_at Mbs container.now.attrs }
-        ensures mia { result.mia ≡ count_at Mia container.now.attrs }
+        ensures { result ≡ spec.limits_of container.now }
     {
         let attrs = container.attrs();
         Limits {
