@@ -99,7 +99,7 @@ module _ (e : EntityData) (sound : IsSoundEntity e) (request : RequestParts) (r 
 
   right_is : (discovers : Bool) → request.op ≡ Retrieve → is_discovery request ≡ discovers → grants e.home e.nodes o (bit_of discovers) r.number ≡ true → has_right e request r.number ≡ true
   right_is discovers op is right =
-      ap (λ (p : Op). may_do p e request r.number) op
+      ap (λ (p : Op). may_do p e o request r.number) op
       ∙ ap (λ (d : Bool). grants e.home e.nodes o (bit_of d) r.number) is ∙ right
 
   -- what it shows, it shows by that right
