@@ -10,8 +10,8 @@ use Rattle.http_frames.specs.declared.frame.Start.TheVariants.{Ask, Answer}
 use Rattle.http_frames.specs.Chunks.{chunk_line_limit, IsChunked}
 use Rattle.http_frames.specs.Lines.{Line, is_same_name, values_named}
 
--- What the head says of the body: it has so many bytes, or it comes in chunks, or no message has such
--- a head.
+-- What the head says of the body: it has so many bytes, or it comes in chunks, or no message has
+-- such a head.
 pub data Framing : Type 0 where
   counted : ℕ → Framing
   chunked : Framing
@@ -60,7 +60,7 @@ CarriesBody limit (counted n) carried body = (carried ≡ body) × (length body 
 CarriesBody limit chunked carried body = IsChunked carried body × (length body ≤ limit)
 CarriesBody limit refused carried body = ⊥
 
--- so many bytes of the stream carry a body of so many at most: each byte in a chunk of its own, with
--- the longest line and its CR LF, and then the longest last line and CR LF
+-- so many bytes of the stream carry a body of so many at most: each byte in a chunk of its own,
+-- with the longest line and its CR LF, and then the longest last line and CR LF
 abbrev pub carried_limit : ℕ → ℕ
 carried_limit limit = limit * (chunk_line_limit + 3) + (chunk_line_limit + 2)

@@ -18,7 +18,8 @@ pub record HasEnd (text : List ℕ) (n : ℕ) : Type 0 where
   pub text_is : text ≡ take n text ++ (crlf_bytes ++ drop (n + 2) text)
   pub within : n + 2 ≤ length text
 
--- So many bytes and CR LF don't stand there before so many bytes are there, and until then they may.
+-- So many bytes and CR LF don't stand there before so many bytes are there, and until then they
+-- may.
 pub record WaitsForEnd (text : List ℕ) (n need : ℕ) : Type 0 where
   pub more_wanted : length text < need
   pub most : need ≤ n + 2

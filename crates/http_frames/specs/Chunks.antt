@@ -58,8 +58,8 @@ LacksEnd n part =
     (length part ≤ n)
     ⊎ ((data_of : List ℕ) × (length data_of ≡ n) × (part ≡ data_of ++ carriage_return ∷ []))
 
--- They are a chunk line that says that no more than so many bytes follow, and a front of what has to
--- follow.
+-- They are a chunk line that says that no more than so many bytes follow, and a front of what has
+-- to follow.
 pub record LacksPart (most : ℕ) (text : List ℕ) : Type 0 where
   pub line : ChunkLine
   pub announced : ℕ

@@ -1,8 +1,8 @@
 //! HTTP/1.x messages on a stream of bytes (RFC 9112): an `Inbox` cuts what a source gives into
 //! frames, however the bytes come, and `write_frame` writes one. A frame is a head of at most
-//! 16,384 bytes and 64 lines, and a body: as long as Content-Length says, in chunks, or empty. Callers
-//! see the frames of the stream one after another, and that its end comes, or that no frame can
-//! stand there. They decide when a connection closes, since the line `Connection` is left to
+//! 16,384 bytes and 64 lines, and a body: as long as Content-Length says, in chunks, or empty.
+//! Callers see the frames of the stream one after another, and that its end comes, or that no frame
+//! can stand there. They decide when a connection closes, since the line `Connection` is left to
 //! them, and look lines up by name with `Lines::find`.
 #![tactic(auto)]
 

@@ -12,7 +12,7 @@ use m2m_value::Text;
 use std::alloc::{AllocError, Global};
 
 /// The text that a span covers.
-fn text_of(alloc: Global, bytes: &[u8], span: Span) -> Result<Text, AllocError>
+fn span_text(alloc: Global, bytes: &[u8], span: Span) -> Result<Text, AllocError>
     requires { IsWithin (length bytes.now) span }
     ensures { IfOk result (λ text. text ≡ span_bytes bytes.now span) }
 {
@@ -29,8 +29,8 @@ fn start_of(alloc: Global, bytes: &[u8], start: StartSpans) -> Result<Start, All
             target,
             minor,
         } => Start::Ask {
-            method: text_of(alloc, bytes, method)?,
-            target: text_of(alloc, bytes, target)?,
+            method: span_text(alloc, bytes, method)?,
+            target: span_text(alloc, bytes, target)?,
             minor,
         },
         StartSpans::Answer { status, minor } => Start::Answer { status, minor },
@@ -43,8 +43,8 @@ fn lines_of(alloc: Global, bytes: &[u8], headers: &[HeaderSpan]) -> Result<Lines
 {
     let mut lines = Vec::with_capacity(alloc, headers.len())?;
     for header in headers {
-        let name = text_of(alloc, bytes, header.name)?;
-        lines.push((name, text_of(alloc, bytes, header.value)?))?;
+        let name = span_text(alloc, bytes, header.name)?;
+        lines.push((name, span_text(alloc, bytes, header.value)?))?;
     }
     Ok(Lines::of(lines))
 }

@@ -122,7 +122,7 @@ fn append_lines(out: &mut Vec<u8>, lines: &Lines) -> Result<(), AllocError>
 }
 
 /// The text of a frame.
-fn text_of(alloc: Global, frame: &Frame) -> Result<Vec<u8>, AllocError>
+fn frame_bytes(alloc: Global, frame: &Frame) -> Result<Vec<u8>, AllocError>
     ensures { IfOk result (λ text. text.items ≡ frame_text frame.now) }
 {
     let body = frame.body.entries();
@@ -154,7 +154,7 @@ pub fn write_frame<O: Sink>(alloc: Global, frame: &Frame, sink: &mut O) -> Resul
     // The side that is read, of a sink that is a source as well, stays as it is.
     ensures beside { O.kept_by_put sink.new ≡ O.kept_by_put sink.old }
 {
-    let text = text_of(alloc, frame)?;
+    let text = frame_bytes(alloc, frame)?;
     sink.put(&text)?;
     Ok(())
 }
