@@ -1,7 +1,7 @@
 //! The tests of trees of resources: of the libraries `tree_model`, `container_limits`,
 //! `policy_eval`, `addressing`, `retrieve_discover` and `entity_model`, over their public calls.
-//! Each has a small tree whose answers were worked out by hand. Without its tests this library is
-//! empty, and no crate stands on it.
+//! Their answers, most on one small tree, were worked out by hand. Without its tests this library
+//! is empty, and no crate stands on it.
 #![tactic(auto)]
 
 #[cfg(test)]
@@ -17,4 +17,4 @@ mod of_retrieve_discover;
 #[cfg(test)]
 mod of_tree_model;
 #[cfg(test)]
-mod texts;
+mod samples;

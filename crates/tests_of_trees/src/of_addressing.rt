@@ -1,106 +1,99 @@
-//! Addresses as they are written, and what they name.
+//! Addresses as they are written, what they name and how they print; the short form of an
+//! originator, and where a resource stands.
 ghost use Rattle.std.specs.Prelude.{◌≡◌, ◌<◌};
 
-use crate::texts::text;
+use crate::samples::{number, parts, sample, word};
 use addressing::*;
-use m2m_names::{Attr, Ty};
-use m2m_value::Val;
+use m2m_value::Text;
 use plain_tree::ListTree;
-use std::alloc::Global;
+use std::alloc::{AllocError, AllocGlobal, Global};
 use std::marker::Brand;
+use std::process::Abort;
 use std::sync::ledger::{Blank, Ledger};
 use std::test::Fail;
-use tree_model::{Attrs, Home, Moments, Resource, Steps, Tree, may_insert, stands_in};
+use tree_model::{Home, Steps, Tree, stands_in};
 
-// A resource of a number, type, name and parent.
-type Row = (u32, Ty, &'static str, u32);
+// Among them names of 64 and of 65 bytes, and addresses of 512 and of 513.
+const TOLD: &str = "\
+names cse-in => resource 1
+names - => resource 1
+names /id-in => resource 1
+names //sp.example/id-in => resource 1
+names cse-in/dev/c => resource 4
+names cse-in/- => nothing
+names //sp.example/id-in/cnt4 => resource 4
+names /id-in/CDev/c => resource 4
+names cse-in/CDev => nothing
+names cnt10 => resource 12
+names cin11 => nothing
+names cse-in/dev/short => nothing
+names cnt04 => nothing
+names ae4 => nothing
+names cnt4/la => resource 7
+names cnt4/ol => resource 6
+names cnt5/la => nothing
+names grp8/fopt => fan 8 2
+names cse-in/dev/g/fopt/la => fan 8 4
+names cnt4/fopt => nothing
+names pch9/pcu => poll 9
+names pch9/pcu/x => nothing
+names /id-mn => foreign
+names /id-in2/cse-in => foreign
+names //sp.example/la/a => foreign
+names //other/id-in/cse-in => other provider
+names //la/id-in => other provider
+names //other/id-in/a b => shapeless
+names //sp.example => shapeless
+names ///id-in => shapeless
+names /id-in/ => shapeless
+names  => shapeless
+names cse-in//dev => shapeless
+names a123456789-123456789-123456789-123456789-123456789-123456789-123 => nothing
+names a123456789-123456789-123456789-123456789-123456789-123456789-1234 => shapeless
+names grp8/fopt/a123456789-123456789-123456789-123456789-123456789-123456789-123/\
+b123456789-123456789-123456789-123456789-123456789-123456789-123/\
+c123456789-123456789-123456789-123456789-123456789-123456789-123/\
+d123456789-123456789-123456789-123456789-123456789-123456789-123/\
+e123456789-123456789-123456789-123456789-123456789-123456789-123/\
+f123456789-123456789-123456789-123456789-123456789-123456789-123/\
+g123456789-123456789-123456789-123456789-123456789-123456789-123/\
+h123456789-123456789-123456789-123456789-123456 => fan 8 2
+names grp8/fopt/a123456789-123456789-123456789-123456789-123456789-123456789-123/\
+b123456789-123456789-123456789-123456789-123456789-123456789-123/\
+c123456789-123456789-123456789-123456789-123456789-123456789-123/\
+d123456789-123456789-123456789-123456789-123456789-123456789-123/\
+e123456789-123456789-123456789-123456789-123456789-123456789-123/\
+f123456789-123456789-123456789-123456789-123456789-123456789-123/\
+g123456789-123456789-123456789-123456789-123456789-123456789-123/\
+h123456789-123456789-123456789-123456789-1234567 => too long
+short CDev => CDev
+short /id-in/CDev => CDev
+short //sp.example/id-in/CDev => CDev
+short /id-in//id-in/x => /id-in/x
+short /id-in => /id-in
+short /id-mn/CDev => /id-mn/CDev
+short //sp.example/id-mn => /id-mn
+short //sp.examples/id-in/x => //sp.examples/id-in/x
+short //other/id-in/x => //other/id-in/x
+short //sp.example => none
+short /id-in/ => none
+short //sp.example/id-in/ => none
+short  => none
+short a b => none
+prints cse-in/dev => cse-in/dev
+prints /id-mn/x => /id-mn/x
+prints //sp.example/id-in/-/la => -/la
+prints //sp.example/id-in => /id-in
+place 7 => cse-in/dev/c/new";
 
-const ROWS: [Row; 12] = [
-    (1, Ty::CseBase, "cse-in", 0),
-    (3, Ty::Ae, "dev", 1),
-    (4, Ty::Container, "c", 3),
-    (5, Ty::Container, "empty", 3),
-    (6, Ty::ContentInstance, "old", 4),
-    (7, Ty::ContentInstance, "new", 4),
-    (8, Ty::Group, "g", 3),
-    (9, Ty::PollingChannel, "p", 3),
-    (10, Ty::Container, "gone", 3),
-    (11, Ty::ContentInstance, "lost", 10),
-    (12, Ty::Ae, "odd", 1),
-    (13, Ty::Ae, "odder", 1),
-];
-
-// What an application entity is called: two by texts that look like ids, of which one is live.
-fn ae_id(number: u32) -> &'static str {
-    match number {
-        12 => "cnt10",
-        13 => "cnt4",
-        _ => "CDev",
-    }
-}
-
-fn resource(alloc: Global, row: Row) -> Result<Resource, OutOfMemory> {
-    let (number, ty, name, parent) = row;
-    let moments = Moments {
-        ct: 0,
-        lt: 0,
-        et: 0,
-    };
-    let name = text(alloc, name.as_bytes())?;
-    let owner = text(alloc, b"")?;
-    let attrs = Attrs::new(alloc);
-    let mut made = Resource::of(
-        number as u64,
-        ty,
-        name,
-        parent as u64,
-        owner,
-        moments,
-        attrs,
-    );
-    if made.is(Ty::Ae) {
-        let id = text(alloc, ae_id(number).as_bytes())?;
-        made.set(Attr::Aei, Val::of_text(id))?;
-    }
-    Ok(made)
-}
-
-fn tree(alloc: Global) -> Result<ListTree, OutOfMemory> {
-    let mut tree = ListTree::new(alloc);
-    for row in ROWS {
-        let resource = resource(alloc, row)?;
-        if may_insert(&tree, &resource) {
-            let _inserted = tree.insert(resource);
-        }
-    }
-    if stands_in(&tree, 10) {
-        tree.remove_subtree(10);
-    }
-    Ok(tree)
-}
-
-/// What comes of a text.
-#[derive(Clone, Copy, Debug, PartialEq, Eq)]
-enum Answer {
-    Names(Spot),
-    Nothing,
-    Foreign,
-    OtherProvider,
-    Fault(AddrFault),
-}
-
-fn of_addr<L: Ledger>(tree: &ListTree, addr: &Addr, steps: &mut Steps<L>) -> Answer {
+fn of_addr<L: Ledger>(tree: &ListTree, addr: &Addr, steps: &mut Steps<L>) -> Option<Spot> {
     match addr {
-        Addr::Local(_) => match resolve(tree, addr, steps) {
-            Some(spot) => Answer::Names(spot),
-            None => Answer::Nothing,
-        },
-        Addr::Foreign(_) => Answer::Foreign,
-        Addr::OtherProvider => Answer::OtherProvider,
+        Addr::Local(_) => resolve(tree, addr, steps),
+        _ => None,
     }
 }
 
-fn answer_by<L: Ledger>(tree: &ListTree, addr: &Addr, blank: Blank) -> Answer
+fn spot_by<L: Ledger>(tree: &ListTree, addr: &Addr, blank: Blank) -> Option<Spot>
     requires name { blank.name ≡ L.name }
     requires parts { blank.parts ≡ L.parts }
     requires some { 0 < blank.parts }
@@ -109,146 +102,109 @@ fn answer_by<L: Ledger>(tree: &ListTree, addr: &Addr, blank: Blank) -> Answer
     of_addr(tree, addr, &mut steps)
 }
 
-fn answer_to(alloc: Global, tree: &ListTree, home: &Home, text: &str) -> Answer {
+fn spot_of(tree: &ListTree, addr: &Addr) -> Option<Spot> {
+    spot_by::<Brand>(tree, addr, Blank::new(1))
+}
+
+fn spot_text(alloc: Global, spot: Option<Spot>) -> Result<String, AllocError> {
+    match spot {
+        Some(Spot::Resource(number)) => format!(in alloc; "resource {number}"),
+        Some(Spot::Fan { group, rest }) => format!(in alloc; "fan {group} {rest}"),
+        Some(Spot::Poll(number)) => format!(in alloc; "poll {number}"),
+        None => word(alloc, "nothing"),
+    }
+}
+
+fn addr_text(alloc: Global, tree: &ListTree, addr: &Addr) -> Result<String, AllocError> {
+    match addr {
+        Addr::Local(_) => spot_text(alloc, spot_of(tree, addr)),
+        Addr::Foreign(_) => word(alloc, "foreign"),
+        Addr::OtherProvider => word(alloc, "other provider"),
+    }
+}
+
+fn fault_text(alloc: Global, fault: AddrFault) -> Result<String, AllocError> {
+    match fault {
+        AddrFault::TooLong => word(alloc, "too long"),
+        AddrFault::Shape => word(alloc, "shapeless"),
+        AddrFault::OutOfMemory => Err(AllocError),
+    }
+}
+
+fn named(alloc: Global, tree: &ListTree, home: &Home, text: &str) -> Result<String, AllocError> {
     match parse(alloc, text.as_bytes(), home) {
-        Ok(addr) => answer_by::<Brand>(tree, &addr, Blank::new(1)),
-        Err(fault) => Answer::Fault(fault),
+        Ok(addr) => addr_text(alloc, tree, &addr),
+        Err(fault) => fault_text(alloc, fault),
     }
 }
 
-const LONGEST_NAME: &str = "a123456789-123456789-123456789-123456789-123456789-123456789-123";
-
-const LONGER_NAME: &str = "a123456789-123456789-123456789-123456789-123456789-123456789-1234";
-
-// Behind a fan-out point, seven names of 64 bytes and one of this end: 465 bytes, and those of it.
-macro_rules! long_address {
-    ($end:literal) => {
-        concat!(
-            "grp8/fopt/",
-            "a123456789-123456789-123456789-123456789-123456789-123456789-123/",
-            "b123456789-123456789-123456789-123456789-123456789-123456789-123/",
-            "c123456789-123456789-123456789-123456789-123456789-123456789-123/",
-            "d123456789-123456789-123456789-123456789-123456789-123456789-123/",
-            "e123456789-123456789-123456789-123456789-123456789-123456789-123/",
-            "f123456789-123456789-123456789-123456789-123456789-123456789-123/",
-            "g123456789-123456789-123456789-123456789-123456789-123456789-123/",
-            $end
-        )
-    };
+fn printed(alloc: Global, addr: &Addr, home: &Home) -> Result<Text, AllocError> {
+    match addr {
+        Addr::Local(_) => print(alloc, addr, home),
+        Addr::Foreign(_) => print(alloc, addr, home),
+        Addr::OtherProvider => Ok(Text::of(Vec::new(alloc))),
+    }
 }
 
-const LONGEST: &str = long_address!("h123456789-123456789-123456789-123456789-123456");
+fn text_in(alloc: Global, text: &Text) -> Result<String, AllocError> {
+    String::from_utf8_lossy(alloc, text.entries())
+}
 
-const TOO_LONG: &str = long_address!("h123456789-123456789-123456789-123456789-1234567");
+/// What is printed of the address that a text is.
+fn printed_again(alloc: Global, home: &Home, text: &str) -> Result<String, AllocError> {
+    match parse(alloc, text.as_bytes(), home) {
+        Ok(addr) => text_in(alloc, &printed(alloc, &addr, home)?),
+        Err(fault) => fault_text(alloc, fault),
+    }
+}
 
-const ANSWERS: [(&str, Answer); 37] = [
-    ("cse-in", Answer::Names(Spot::Resource(1))),
-    ("-", Answer::Names(Spot::Resource(1))),
-    ("/id-in", Answer::Names(Spot::Resource(1))),
-    ("//sp.example/id-in", Answer::Names(Spot::Resource(1))),
-    ("cse-in/dev/c", Answer::Names(Spot::Resource(4))),
-    ("cse-in/-", Answer::Nothing),
-    ("//sp.example/id-in/cnt4", Answer::Names(Spot::Resource(4))),
-    ("/id-in/CDev/c", Answer::Names(Spot::Resource(4))),
-    ("cse-in/CDev", Answer::Nothing),
-    ("cnt10", Answer::Names(Spot::Resource(12))),
-    ("cin11", Answer::Nothing),
-    ("cse-in/dev/gone", Answer::Nothing),
-    ("cnt04", Answer::Nothing),
-    ("ae4", Answer::Nothing),
-    ("cnt4/la", Answer::Names(Spot::Resource(7))),
-    ("cnt4/ol", Answer::Names(Spot::Resource(6))),
-    ("cnt5/la", Answer::Nothing),
-    ("grp8/fopt", Answer::Names(Spot::Fan { group: 8, rest: 2 })),
-    (
-        "cse-in/dev/g/fopt/la",
-        Answer::Names(Spot::Fan { group: 8, rest: 4 }),
-    ),
-    ("cnt4/fopt", Answer::Nothing),
-    ("pch9/pcu", Answer::Names(Spot::Poll(9))),
-    ("pch9/pcu/x", Answer::Nothing),
-    ("/id-mn", Answer::Foreign),
-    ("/id-in2/cse-in", Answer::Foreign),
-    ("//sp.example/la/a", Answer::Foreign),
-    ("//other/id-in/cse-in", Answer::OtherProvider),
-    ("//la/id-in", Answer::OtherProvider),
-    ("//other/id-in/a b", Answer::Fault(AddrFault::Shape)),
-    ("//sp.example", Answer::Fault(AddrFault::Shape)),
-    ("///id-in", Answer::Fault(AddrFault::Shape)),
-    ("/id-in/", Answer::Fault(AddrFault::Shape)),
-    ("", Answer::Fault(AddrFault::Shape)),
-    ("cse-in//dev", Answer::Fault(AddrFault::Shape)),
-    (LONGEST_NAME, Answer::Nothing),
-    (LONGER_NAME, Answer::Fault(AddrFault::Shape)),
-    (LONGEST, Answer::Names(Spot::Fan { group: 8, rest: 2 })),
-    (TOO_LONG, Answer::Fault(AddrFault::TooLong)),
-];
+/// The short form of an originator.
+fn short<'a>(text: &'a str, home: &Home) -> &'a str {
+    match short_fr(text.as_bytes(), home) {
+        Some(short) => std::str::from_utf8(short).unwrap_or("no text"),
+        None => "none",
+    }
+}
 
-#[test]
-fn addresses_name_what_stands(rt: HostRuntime) -> Result<(), Fail> {
-    let alloc = rt.alloc();
+/// The structured address of a resource.
+fn place(alloc: Global, tree: &ListTree, number: u64) -> Result<String, AllocError> {
+    if stands_in(tree, number) {
+        text_in(alloc, &structured(alloc, tree, number)?)
+    } else {
+        word(alloc, "nothing")
+    }
+}
+
+fn told(alloc: Global, tree: &ListTree, asked: &str, text: &str) -> Result<String, AllocError> {
     let home = Home::with_defaults(alloc)?;
-    let tree = tree(alloc)?;
-    for (text, want) in ANSWERS {
-        assert_eq!(rt; answer_to(alloc, &tree, &home, text), want, "{text}");
+    match asked {
+        "names" => named(alloc, tree, &home, text),
+        "prints" => printed_again(alloc, &home, text),
+        "short" => word(alloc, short(text, &home)),
+        _ => place(alloc, tree, number(text)),
     }
+}
+
+/// The sample after an expiry.
+fn expired(alloc: Global) -> Result<ListTree, AllocError> {
+    let mut tree = sample(alloc)?;
+    tree.expire(300);
+    Ok(tree)
+}
+
+fn check(rt: &(impl Abort + AllocGlobal), tree: &ListTree, line: &str) -> Result<(), Fail> {
+    let (question, want) = parts(rt, line);
+    let (asked, text) = question.split_once(' ').ok_or("no word")?;
+    let told = told(rt.alloc(), tree, asked, text)?;
+    assert!(rt; told.as_str() == want, "{line}: {told}");
     Ok(())
 }
 
 #[test]
-fn addresses_print(rt: HostRuntime) -> Result<(), Fail> {
-    let alloc = rt.alloc();
-    let home = Home::with_defaults(alloc)?;
-    for (text, want) in [
-        ("cse-in/dev", "cse-in/dev"),
-        ("/id-mn/x", "/id-mn/x"),
-        ("//sp.example/id-in/-/la", "-/la"),
-        ("//sp.example/id-in", "/id-in"),
-    ] {
-        assert_eq!(rt;
-            printed_again(alloc, text, &home)?.as_slice(),
-            want.as_bytes()
-        );
-    }
-    let tree = tree(alloc)?;
-    assert!(rt; stands_in(&tree, 7));
-    assert_eq!(rt;
-        structured(alloc, &tree, 7)?.entries(),
-        b"cse-in/dev/c/new".as_slice()
-    );
-    Ok(())
-}
-
-fn printed_again(alloc: Global, text: &str, home: &Home) -> Result<Vec<u8>, OutOfMemory> {
-    match parse(alloc, text.as_bytes(), home) {
-        Ok(Addr::Local(segments)) => { Ok(print(alloc, &Addr::Local(segments), home)?.into_vec()) }
-        Ok(Addr::Foreign(text)) => Ok(print(alloc, &Addr::Foreign(text), home)?.into_vec()),
-        Ok(Addr::OtherProvider) => Ok(Vec::new(alloc)),
-        Err(_) => Ok(Vec::new(alloc)),
-    }
-}
-
-#[test]
-fn originators_are_made_short(rt: HostRuntime) -> Result<(), Fail> {
-    let home = Home::with_defaults(rt.alloc())?;
-    for (text, short) in [
-        ("CDev", Some("CDev")),
-        ("/id-in/CDev", Some("CDev")),
-        ("//sp.example/id-in/CDev", Some("CDev")),
-        ("/id-in//id-in/x", Some("/id-in/x")),
-        ("/id-in", Some("/id-in")),
-        ("/id-mn/CDev", Some("/id-mn/CDev")),
-        ("//sp.example/id-mn", Some("/id-mn")),
-        ("//sp.examples/id-in/x", Some("//sp.examples/id-in/x")),
-        ("//other/id-in/x", Some("//other/id-in/x")),
-        ("//sp.example", None),
-        ("/id-in/", None),
-        ("//sp.example/id-in/", None),
-        ("", None),
-        ("a b", None),
-    ] {
-        let found = short_fr(text.as_bytes(), &home);
-        assert!(rt; found == short.map(|short| short.as_bytes()), "{text}");
+fn addresses_and_originators_are_told(rt: HostRuntime) -> Result<(), Fail> {
+    let tree = expired(rt.alloc())?;
+    for line in TOLD.lines() {
+        check(&rt, &tree, line)?;
     }
     Ok(())
 }

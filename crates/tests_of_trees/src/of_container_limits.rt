@@ -1,110 +1,76 @@
 //! What the limits of a container push out, and what is overdue.
-use crate::texts::text;
+use crate::samples::{listed, number, parts, sample};
 use container_limits::{Limits, evictions, overdue};
-use m2m_names::{Attr, Ty};
-use m2m_value::{Text, Val};
+use m2m_names::read_digits;
 use plain_tree::ListTree;
-use std::alloc::{AllocError as OutOfMemory, Global};
-use tree_model::{Attrs, Moments, Resource, Tree, may_insert};
+use std::alloc::{AllocError, AllocGlobal, Global};
+use std::process::Abort;
+use std::test::Fail;
 
-const LAST: u32 = 1_000_000;
+// The limits on count, bytes and age, the size of a new instance, the moment, and what goes; then
+// moments alone, and what is overdue.
+const TOLD: &str = "\
+- - - 1 150 => none
+3 - - - 150 => 16 17
+- 100 - - 150 => 16 17 18
+4 130 - - 150 => 16 17
+- - 30 - 150 => 16 17 18
+5 - - 1 150 => 16
+- 60 - 70 150 => 16 17 18 19 20
+0 - - - 150 => 16 17 18 19 20
+- - 0 - 150 => 16 17 18 19 20
+2 - - - 200 => 16 17 18
+4 - - - 200 => 18
+199 => none
+200 => 18
+210 => 18 22
+300 => 10 11 18 22";
 
-// A resource by its number, type, name, parent, size, and when it was created and expires.
-type Row = (u32, Ty, &'static [u8], u32, u32, u32, u32);
-
-fn resource(alloc: Global, row: Row) -> Result<Resource, OutOfMemory> {
-    let (number, ty, name, parent, size, created, expires) = row;
-    let moments = Moments {
-        ct: created as u64,
-        lt: created as u64,
-        et: expires as u64,
-    };
-    let mut attrs = Attrs::new(alloc);
-    attrs.set(Attr::Cs, Val::of_num(size as i64))?;
-    let owner = Text::of(Vec::new(alloc));
-    let name = text(alloc, name)?;
-    Ok(Resource::of(
-        number as u64,
-        ty,
-        name,
-        parent as u64,
-        owner,
-        moments,
-        attrs,
-    ))
+fn limit(word: &str) -> Option<u64> {
+    read_digits(word.as_bytes())
 }
 
-fn sample(alloc: Global) -> Result<ListTree, OutOfMemory> {
-    let mut tree = ListTree::new(alloc);
-    let rows: [Row; 8] = [
-        (1, Ty::CseBase, b"a", 0, 0, 0, LAST),
-        (2, Ty::Container, b"b", 1, 0, 0, LAST),
-        (3, Ty::ContentInstance, b"c", 2, 10, 100, LAST),
-        (4, Ty::ContentInstance, b"d", 2, 20, 110, LAST),
-        (5, Ty::ContentInstance, b"e", 2, 30, 120, 200),
-        (6, Ty::ContentInstance, b"f", 2, 40, 130, LAST),
-        (7, Ty::ContentInstance, b"g", 2, 50, 140, LAST),
-        (8, Ty::ContentInstance, b"h", 1, 60, 90, LAST),
-    ];
-    for row in rows {
-        let resource = resource(alloc, row)?;
-        if may_insert(&tree, &resource) {
-            let _put = tree.insert(resource);
+fn pushed_out(
+    alloc: Global,
+    tree: &ListTree,
+    limits: Limits,
+    new_size: Option<u64>,
+    moment: u64,
+) -> Result<String, AllocError> {
+    let numbers = evictions(alloc, tree, 15, limits, new_size, moment)?;
+    listed(alloc, numbers.entries())
+}
+
+fn overdue_at(alloc: Global, tree: &ListTree, moment: u64) -> Result<String, AllocError> {
+    let numbers = overdue(alloc, tree, moment)?;
+    listed(alloc, numbers.entries())
+}
+
+fn told(alloc: Global, tree: &ListTree, words: &[&str]) -> Result<String, AllocError> {
+    match words {
+        [mni, mbs, mia, new_size, moment] => {
+            let (mni, mbs, mia) = (limit(mni), limit(mbs), limit(mia));
+            let limits = Limits { mni, mbs, mia };
+            pushed_out(alloc, tree, limits, limit(new_size), number(moment))
         }
+        [moment] => overdue_at(alloc, tree, number(moment)),
+        _ => Err(AllocError),
     }
-    Ok(tree)
 }
 
-// The limits on count, bytes and age, the size of a new instance, the moment, and what goes.
-type Case = (
-    Option<u64>,
-    Option<u64>,
-    Option<u64>,
-    Option<u64>,
-    u64,
-    &'static [u64],
-);
-
-#[test]
-fn pushes_out_what_the_limits_say(rt: HostRuntime) -> Result<(), OutOfMemory> {
-    let alloc = rt.alloc();
-    let tree = sample(alloc)?;
-    let cases: [Case; 11] = [
-        (None, None, None, Some(1), 150, &[]),
-        (Some(3), None, None, None, 150, &[3, 4]),
-        (None, Some(100), None, None, 150, &[3, 4, 5]),
-        (Some(4), Some(130), None, None, 150, &[3, 4]),
-        (None, None, Some(30), None, 150, &[3, 4, 5]),
-        (Some(5), None, None, Some(1), 150, &[3]),
-        (None, Some(60), None, Some(70), 150, &[3, 4, 5, 6, 7]),
-        (Some(0), None, None, None, 150, &[3, 4, 5, 6, 7]),
-        (None, None, Some(0), None, 150, &[3, 4, 5, 6, 7]),
-        (Some(2), None, None, None, 200, &[3, 4, 5]),
-        (Some(4), None, None, None, 200, &[5]),
-    ];
-    for (mni, mbs, mia, new_size, moment, want) in cases {
-        let limits = Limits { mni, mbs, mia };
-        let gone = evictions(alloc, &tree, 2, limits, new_size, moment)?;
-        assert!(rt;
-            gone.entries() == want,
-            "{mni:?} {mbs:?} {mia:?} {new_size:?} {moment}"
-        );
-    }
+fn check(rt: &(impl Abort + AllocGlobal), tree: &ListTree, line: &str) -> Result<(), Fail> {
+    let (asked, want) = parts(rt, line);
+    let words: Vec<&str> = asked.split(' ').collect(rt.alloc())?;
+    let told = told(rt.alloc(), tree, words.as_slice())?;
+    assert!(rt; told.as_str().trim() == want, "{line}: {told}");
     Ok(())
 }
 
 #[test]
-fn tells_what_is_overdue(rt: HostRuntime) -> Result<(), OutOfMemory> {
-    let alloc = rt.alloc();
-    let tree = sample(alloc)?;
-    let cases: [(u64, &[u64]); 3] = [
-        (199, &[]),
-        (200, &[5]),
-        (LAST as u64, &[2, 3, 4, 5, 6, 7, 8]),
-    ];
-    for (moment, want) in cases {
-        let numbers = overdue(alloc, &tree, moment)?;
-        assert!(rt; numbers.entries() == want, "at {moment}");
+fn limits_push_out_and_moments_are_overdue(rt: HostRuntime) -> Result<(), Fail> {
+    let tree = sample(rt.alloc())?;
+    for line in TOLD.lines() {
+        check(&rt, &tree, line)?;
     }
     Ok(())
 }
