@@ -3,11 +3,18 @@ use Rattle.std.specs.Prelude.{◌≡◌, Some, IfSome}
 use Rattle.cases.specs.declared.case.Case.{Case}
 use Rattle.cases.specs.declared.came.Came.{Came}
 
--- all that the case says came, and nothing else; of what is left unread, where the case says it
-pub record Agrees (case : Case) (came : Came) : Type 0 where
-  pub status : case.status ≡ Some came.status
+-- just the texts came that the case says
+pub record TextsAgree (case : Case) (came : Came) : Type 0 where
   pub out : came.out.items ≡ case.streams.out.items
   pub err : came.err.items ≡ case.err.items
   pub asked : came.asked.items ≡ case.asked.items
+
+-- and just the numbers; of what is left unread, where the case says it
+pub record NumbersAgree (case : Case) (came : Came) : Type 0 where
+  pub status : case.status ≡ Some came.status
   pub served : case.served ≡ Some came.served
   pub left : IfSome case.left (λ left. came.left ≡ left)
+
+-- all that the case says came, and nothing else
+abbrev pub Agrees : Case → Came → Type 0
+Agrees case came = NumbersAgree case came × TextsAgree case came

@@ -77,7 +77,7 @@ fn conn_of(
     right: &Arc<AtomicU64>,
 ) -> Result<MemConn, AllocError> {
     let input = source_of(alloc, streams.input.clone()?, streams, 0)?;
-    let out = MemSink::new(Vec::new(alloc), streams.put_fails.clone()?);
+    let out = sink_of(alloc, &streams.put_fails)?;
     Ok(MemConn::new(input, out, streams.out.clone()?, Arc::try_clone(right)?))
 }
 
@@ -122,25 +122,44 @@ fn two_benches(alloc: Global, case: &Case) -> Result<Vec<Bench<MemClock, MemLink
     Ok(vec![in alloc; worker_bench(alloc, case)?, worker_bench(alloc, case)?]?)
 }
 
+/// The bench of the run: the clock of the case, and its link.
+fn first_bench(alloc: Global, case: &Case) -> Result<Bench<MemClock, MemLink>, AllocError> {
+    let clock = clock_of(alloc, case)?;
+    let link = link_of(alloc, case)?;
+    Ok(Bench { clock, link })
+}
+
+/// What the client sends and what it gets.
+fn client_of(alloc: Global, case: &Case, form: usize) -> Result<(Sends, Gets), AllocError> {
+    let puts = Arc::new(alloc, AtomicU64::new(0))?;
+    let waits = matches!(case.streams.cuts, Cuts::Turns);
+    let source = source_of(alloc, input_of(case, form)?, &case.streams, form)?;
+    let sink = sink_of(alloc, &case.streams.put_fails)?;
+    let sends = Sends::new(source, waits, Arc::try_clone(&puts)?);
+    Ok((sends, Gets::new(sink, puts)))
+}
+
+/// A sink to which nothing was written, with these faults.
+fn sink_of(alloc: Global, fails: &Vec<u64>) -> Result<MemSink, AllocError> {
+    Ok(MemSink::new(Vec::new(alloc), fails.clone()?))
+}
+
 fn stage_of(
     alloc: Global,
     case: &Case,
     form: usize,
     right: &Arc<AtomicU64>,
 ) -> Result<Stage, AllocError> {
-    let puts = Arc::new(alloc, AtomicU64::new(0))?;
-    let waits = matches!(case.streams.cuts, Cuts::Turns);
-    let source = source_of(alloc, input_of(case, form)?, &case.streams, form)?;
-    let sink = MemSink::new(Vec::new(alloc), case.streams.put_fails.clone()?);
+    let (input, out) = client_of(alloc, case, form)?;
+    let err = sink_of(alloc, &case.err_fails)?;
+    let door = door_of(alloc, case, right)?;
+    let first = first_bench(alloc, case)?;
     Ok(Stage {
-        input: Sends::new(source, waits, Arc::try_clone(&puts)?),
-        out: Gets::new(sink, puts),
-        err: MemSink::new(Vec::new(alloc), case.err_fails.clone()?),
-        door: door_of(alloc, case, right)?,
-        first: Bench {
-            clock: clock_of(alloc, case)?,
-            link: link_of(alloc, case)?,
-        },
+        input,
+        out,
+        err,
+        door,
+        first,
     })
 }
 
@@ -197,6 +216,30 @@ fn came_of(alloc: Global, played: &Played, right: &Arc<AtomicU64>) -> Result<Cam
     })
 }
 
+fn case_words(alloc: Global, case: &Case) -> Result<Vec<&str>, AllocError> {
+    match &case.setting.words {
+        Some(words) => words.iter().map(|word| word.as_str()).collect(alloc),
+        None => Ok(Vec::new(alloc)),
+    }
+}
+
+/// Plays a case in one of its forms.
+fn played_in_form<R>(
+    rt: &R,
+    alloc: Global,
+    case: &Case,
+    form: usize,
+    right: &Arc<AtomicU64>,
+) -> Result<Played, AllocError>
+where
+    R: Wait + Threads + time::Clock + Clone + Drop + Sync + Send,
+{
+    let words = case_words(alloc, case)?;
+    let stage = stage_of(alloc, case, form, right)?;
+    let benches = two_benches(alloc, case)?;
+    Ok(run_on(rt, alloc, &words, stage, benches))
+}
+
 /// Plays a case in one of its forms, and tells what differs, if anything.
 pub fn play<R>(
     rt: &R,
@@ -207,14 +250,8 @@ pub fn play<R>(
 where
     R: Wait + Threads + time::Clock + Clone + Drop + Sync + Send,
 {
-    let words = match &case.setting.words {
-        Some(words) => words.iter().map(|word| word.as_str()).collect(alloc)?,
-        None => Vec::new(alloc),
-    };
     let right = Arc::new(alloc, AtomicU64::new(0))?;
-    let stage = stage_of(alloc, case, form, &right)?;
-    let benches = two_benches(alloc, case)?;
-    let played = run_on(rt, alloc, &words, stage, benches);
+    let played = played_in_form(rt, alloc, case, form, &right)?;
     let came = came_of(alloc, &played, &right)?;
     difference(alloc, case, &came)
 }

@@ -54,20 +54,35 @@ pub fn read(alloc: Global, text: &str) -> Result<Vec<Case>, Fault> {
         cases: Vec::new(alloc),
         block: None,
     };
-    let mut number = 0usize;
-    for line in text.lines() {
-        number = number.saturating_add(1);
-        if let Err(wrong) = reader.take_line(number, line) {
-            return Err(wrong.at(number));
-        }
-    }
-    match reader.into_cases() {
-        Ok(cases) => Ok(cases),
-        Err(wrong) => Err(wrong.at(number)),
-    }
+    reader.take_lines(text)?;
+    Ok(reader.cases)
 }
 
 impl Reader {
+    fn take_lines(&mut self, text: &str) -> Result<(), Fault> {
+        let mut number = 0usize;
+        for line in text.lines() {
+            number = number.saturating_add(1);
+            if let Err(wrong) = self.take_line(number, line) {
+                return Err(wrong.at(number));
+            }
+        }
+        match self.end() {
+            Ok(()) => Ok(()),
+            Err(wrong) => Err(wrong.at(number)),
+        }
+    }
+
+    /// Ends the file.
+    fn end(&mut self) -> Result<(), Wrong> {
+        self.close_block()?;
+        self.end_case()?;
+        if self.cases.is_empty() {
+            return Err(Wrong::Why("no case stands above"));
+        }
+        Ok(())
+    }
+
     fn take_line(&mut self, number: usize, line: &str) -> Result<(), Wrong> {
         if let Some(text) = line.strip_prefix("|") {
             return self.take_text(text);
@@ -273,16 +288,7 @@ impl Reader {
         let Some(case) = self.cases.last_mut() else {
             return Ok(());
         };
-        if case.setting.words.is_none()
-            && let Some(words) = &self.setting.words
-        {
-            case.setting.words = Some(copy_words(self.alloc, words)?);
-        }
-        if case.setting.clock.is_none()
-            && let Some(clock) = &self.setting.clock
-        {
-            case.setting.clock = Some(clock.clone()?);
-        }
+        take_missing(self.alloc, &mut case.setting, &self.setting)?;
         if case.status.is_none() {
             case.status = Some(0);
         }
@@ -294,15 +300,21 @@ impl Reader {
         }
         Ok(())
     }
+}
 
-    fn into_cases(mut self) -> Result<Vec<Case>, Wrong> {
-        self.close_block()?;
-        self.end_case()?;
-        if self.cases.is_empty() {
-            return Err(Wrong::Why("no case stands above"));
-        }
-        Ok(self.cases)
+/// Takes what a setting lacks from that of the file.
+fn take_missing(alloc: Global, setting: &mut Setting, of_file: &Setting) -> Result<(), Wrong> {
+    if setting.words.is_none()
+        && let Some(words) = &of_file.words
+    {
+        setting.words = Some(copy_words(alloc, words)?);
     }
+    if setting.clock.is_none()
+        && let Some(clock) = &of_file.clock
+    {
+        setting.clock = Some(clock.clone()?);
+    }
+    Ok(())
 }
 
 fn new_block(alloc: Global, goal: Goal, name: String, times: usize) -> Block {
@@ -394,7 +406,7 @@ fn fails_of<'c>(case: &'c mut Case, object: &str) -> Option<&'c mut Vec<u64>> {
 }
 
 fn take_cuts(alloc: Global, case: &mut Case, rest: &str) -> Result<(), Wrong> {
-    let cuts = cuts_of(alloc, rest)?;
+    let cuts = read_cuts(alloc, rest)?;
     let is_of_conn = !case.conns.is_empty();
     if is_of_conn && matches!(cuts, Cuts::Each | Cuts::Turns) {
         return Err(Wrong::Why("a connection of the door is not cut so"));
@@ -407,7 +419,7 @@ fn take_cuts(alloc: Global, case: &mut Case, rest: &str) -> Result<(), Wrong> {
     Ok(())
 }
 
-fn cuts_of(alloc: Global, rest: &str) -> Result<Cuts, Wrong> {
+fn read_cuts(alloc: Global, rest: &str) -> Result<Cuts, Wrong> {
     if rest == "each" {
         return Ok(Cuts::Each);
     }

@@ -1,6 +1,6 @@
 //! Whether a run gave what its case says.
 ghost use Rattle.std.specs.Prelude.{◌≡◌, ◌↔◌, Some, IfOk, IsNone, IfSome};
-ghost use Rattle.cases.specs.Agreement.{Agrees};
+ghost use Rattle.cases.specs.Agreement.{Agrees, NumbersAgree, TextsAgree};
 
 use crate::came::Came;
 use crate::case::Case;
@@ -71,29 +71,41 @@ fn left_difference(
     }
 }
 
+/// The one that is there, if any.
+fn either(one: Option<String>, other: Option<String>) -> Option<String>
+    ensures { IsNone result ↔ (IsNone one × IsNone other) }
+{
+    match one {
+        Some(_) => one,
+        None => other,
+    }
+}
+
+/// What differs among the texts, if anything.
+fn texts_difference(alloc: Global, case: &Case, came: &Came) -> Result<Option<String>, AllocError>
+    ensures { IfOk result (λ d. IsNone d ↔ TextsAgree case.now came.now) }
+{
+    let out = text_difference(alloc, "out", &case.streams.out, &came.out)?;
+    let err = text_difference(alloc, "err", &case.err, &came.err)?;
+    let asked = text_difference(alloc, "what is asked", &case.asked, &came.asked)?;
+    Ok(either(either(out, err), asked))
+}
+
+/// What differs among the numbers, if anything.
+fn numbers_difference(alloc: Global, case: &Case, came: &Came) -> Result<Option<String>, AllocError>
+    ensures { IfOk result (λ d. IsNone d ↔ NumbersAgree case.now came.now) }
+{
+    let status = number_difference(alloc, "status", case.status, came.status)?;
+    let served = number_difference(alloc, "served", case.served, came.served)?;
+    let left = left_difference(alloc, case.left, came.left)?;
+    Ok(either(either(status, served), left))
+}
+
 /// What differs, if anything.
 pub fn difference(alloc: Global, case: &Case, came: &Came) -> Result<Option<String>, AllocError>
     ensures { IfOk result (λ d. IsNone d ↔ Agrees case.now came.now) }
 {
-    let status = number_difference(alloc, "status", case.status, came.status)?;
-    if status.is_some() {
-        return Ok(status);
-    }
-    let out = text_difference(alloc, "out", &case.streams.out, &came.out)?;
-    if out.is_some() {
-        return Ok(out);
-    }
-    let err = text_difference(alloc, "err", &case.err, &came.err)?;
-    if err.is_some() {
-        return Ok(err);
-    }
-    let asked = text_difference(alloc, "what is asked", &case.asked, &came.asked)?;
-    if asked.is_some() {
-        return Ok(asked);
-    }
-    let served = number_difference(alloc, "served", case.served, came.served)?;
-    if served.is_some() {
-        return Ok(served);
-    }
-    left_difference(alloc, case.left, came.left)
+    let number = numbers_difference(alloc, case, came)?;
+    let text = texts_difference(alloc, case, came)?;
+    Ok(either(number, text))
 }
