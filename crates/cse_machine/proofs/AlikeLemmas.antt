@@ -4,9 +4,8 @@ use Rattle.std.specs.List.{All}
 use Rattle.std.proofs.lemmas.List.Elements.{All-head, All-tail}
 use Rattle.turn_desk.specs.Entries.{readings_of, events_of, outcomes_of}
 use Rattle.resource_model.specs.Home.{HomeData}
-use Rattle.entity_model.specs.Entity.{EntityData, swept}
+use Rattle.entity_model.specs.Entity.{EntityData}
 use Rattle.entity_model.specs.Sound.{IsSoundEntity}
-use Rattle.entity_model.proofs.SoundLemmas.{sound_swept}
 use Rattle.cse_machine.specs.declared.event.Event.{Event}
 use Rattle.cse_machine.specs.declared.event.Event.TheVariants.{Ask}
 use Rattle.cse_machine.specs.declared.event.Outcome.{Outcome}
@@ -14,23 +13,20 @@ use Rattle.cse_machine.specs.declared.event.Outcome.TheVariants.{Done, Starved}
 use Rattle.cse_machine.specs.History.{History, HistoryLeaves, IsDone}
 use Rattle.cse_machine.specs.Sight.{sight, IsBy}
 use Rattle.cse_machine.specs.Step.{Step}
-use Rattle.cse_machine.proofs.HistoryLemmas.{none_some, same_first, same_rest}
-use Rattle.cse_machine.proofs.GuardLemmas.{unchanged}
-use Rattle.cse_machine.proofs.SightLemmas.{replies-alike, swept-alike}
+use Rattle.cse_machine.proofs.HistoryLemmas.{none_some, same_entity, same_first, same_rest, sound_step}
+use Rattle.cse_machine.proofs.SightLemmas.{left-alike, replies-alike}
 
 module _ (o : List ℕ) (one other : EntityData) (sound : IsSoundEntity one) (sounds : IsSoundEntity other) (same : sight o one ≡ sight o other) where
   -- a step of both
   step_alike : (reading : ℕ) (event : Event) (after left : EntityData) (outcome twin : Outcome) → IsBy one.home o event → Step reading event one outcome after → Step reading event other twin left → IsDone outcome → IsDone twin
       → (outcome ≡ twin) × (sight o after ≡ sight o left) × IsSoundEntity after × IsSoundEntity left × (one.home ≡ after.home)
-  step_alike reading (Ask request) after left (Done reply) (Done replied) by first second done dones =
-      let mine : after ≡ swept reading one = first.1 ∙ unchanged (swept reading one) request in
-      let theirs : left ≡ swept reading other = second.1 ∙ unchanged (swept reading other) request in (
-        first.0 ∙ ap Done (replies-alike one other o reading request sound sounds same by) ∙ sym second.0,
-        ap (sight o) mine ∙ swept-alike o one other sound.tree sounds.tree same reading ∙ sym (ap (sight o) theirs),
-        subst IsSoundEntity (sym mine) (sound_swept reading one sound),
-        subst IsSoundEntity (sym theirs) (sound_swept reading other sounds),
-        sym (ap (λ (e : EntityData). e.home) mine),
-      )
+  step_alike reading (Ask request) after left (Done reply) (Done replied) by first second done dones = (
+    first.0 ∙ ap Done (replies-alike one other o reading request sound sounds same by) ∙ sym second.0,
+    ap (sight o) first.1 ∙ left-alike one other o reading request sound sounds same by ∙ sym (ap (sight o) second.1),
+    sound_step reading (Ask request) one after (Done reply) sound first,
+    sound_step reading (Ask request) other left (Done replied) sounds second,
+    sym (same_entity reading (Ask request) (Done reply) one after first).home,
+  )
   step_alike reading (Ask request) after left (Done reply) (Starved none) by first second done dones = absurd dones
   step_alike reading (Ask request) after left (Starved none) twin by first second done dones = absurd done
 

@@ -1,11 +1,10 @@
 -- Nothing is shown or changed but by a grant.
-use Rattle.std.specs.Prelude.{Contains}
-use Rattle.std.proofs.Common.{◌≡◌, ℕ, List, [], Bool, true, false, cond, Option, Some, None, inl, inr, refl, sym, ap, subst, ◌∙◌, arith}
-use Rattle.std.proofs.lemmas.Bool.{true≢false}
+use Rattle.std.proofs.Common.{◌≡◌, ℕ, List, Bool, true, false, cond, Option, Some, None, inl, inr, refl, sym, ap, subst, ◌∙◌}
+use Rattle.std.proofs.lemmas.Bool.{false≢true, true≢false}
 use Rattle.std.proofs.lemmas.Option.{same_Some, none-some}
 use Rattle.m2m_names.specs.declared.codes.Rsc.{Rsc}
 use Rattle.m2m_names.specs.declared.operations.Op.{Op}
-use Rattle.m2m_names.specs.declared.operations.Op.TheVariants.{Retrieve}
+use Rattle.m2m_names.specs.declared.operations.Op.TheVariants.{Create, Retrieve, Update, Delete, Notify}
 use Rattle.primitive_json.specs.declared.reply.ReplyParts.{ReplyParts}
 use Rattle.primitive_json.specs.declared.request.RequestParts.{RequestParts}
 use Rattle.resource_model.specs.Resource.{ResourceData}
@@ -14,37 +13,16 @@ use Rattle.policy_eval.specs.Rights.{discovery_bit, grants, retrieve_bit}
 use Rattle.entity_model.specs.Entity.{EntityData}
 use Rattle.entity_model.specs.Places.{refusal, refused, Effect}
 use Rattle.entity_model.specs.Sound.{IsSoundEntity}
-use Rattle.retrieve_discover.specs.Guard.{OthersAreShownByRight}
+use Rattle.request_rules.specs.Rights.{is_discovery, may_do}
 use Rattle.retrieve_discover.specs.Replies.{discovered, retrieved}
 use Rattle.retrieve_discover.proofs.RightLemmas.{discovered_by_right, retrieved_by_right}
-use Rattle.cse_machine.specs.Answer.{addressed, reading_reply, effect_of}
+use Rattle.create_delete.specs.Changing.{delete_effect, performed_at}
+use Rattle.cse_machine.specs.Answer.{addressed, does_serve, operated_by, reading_reply, effect_of}
 use Rattle.cse_machine.specs.Guard.{is_success, DoesShow, HasRight, IsNew, IsGone, IsChanged, IsGuardedAlone, fanned, IsGuardedAt, IsGuarded}
-use Rattle.request_rules.specs.Rights.{is_discovery, may_do}
 use Rattle.cse_machine.specs.Rights.{claimed_originator, has_right}
+use Rattle.cse_machine.proofs.ChangingLemmas.{changing_at, IsToldByRight, tells_nothing, shows_none, IsKept, still_kept, delete_kept, delete_sound, delete_guarded, delete_served}
 use Rattle.cse_machine.proofs.OwnLemmas.{apart_addresses}
-use Rattle.cse_machine.proofs.WayLemmas.{IsRead, Reading, refused_read, reading, found_read, shown_read, two_ways}
-
-nothing_in : {A : Type 0} (x : A) → Contains [] x → ⊥
-nothing_in x there = omega (arith, there.1)
-
--- what it tells of other resources, it tells by right
-abbrev IsToldByRight : EntityData → RequestParts → ReplyParts → Type 0
-IsToldByRight e request reply = OthersAreShownByRight e.home e.nodes (claimed_originator e.home request) reply
-
--- a refusal shows nothing
-shows_none : (request : RequestParts) (fault : Rsc) → is_success fault ≡ false → DoesShow (refusal request fault) → ⊥
-shows_none request fault other shows = elim shows [
-  | inl content ↦ content refl
-  | inr fine ↦ true≢false (sym fine ∙ other)
-]
-
--- nothing is told of other resources
-tells_nothing : (e : EntityData) (request : RequestParts) (fault : Rsc) → IsToldByRight e request (refusal request fault)
-tells_nothing e request fault = record {
-  below = λ address told. absurd (nothing_in address told);
-  referred = λ address told. absurd (nothing_in address told);
-  found = λ address told. absurd (nothing_in address told);
-}
+use Rattle.cse_machine.proofs.WayLemmas.{IsOperated, Reading, refused_read, reading, found_read, shown_read, two_ways}
 
 -- ---- where nothing changes
 
@@ -115,6 +93,31 @@ module _ (e : EntityData) (sound : IsSoundEntity e) (request : RequestParts) (r 
 
 -- ---- a request
 
+-- what a served operation on what its address names gives
+module _ (e : EntityData) (request : RequestParts) (r : ResourceData) (there : at r.number e.nodes ≡ Some r) where
+  operated_guarded : (op : Op) → IsSoundEntity e → does_serve op ≡ true → request.op ≡ op → addressed e request.to ≡ Some r → IsGuardedIn e request (operated_by op e request r)
+  operated_guarded Create sound served op named = absurd (false≢true served)
+  operated_guarded Retrieve sound served op named = read_guarded e sound request r named op there
+  operated_guarded Update sound served op named = absurd (false≢true served)
+  operated_guarded Delete sound served op named =
+      subst (IsGuardedIn e request) (sym (changing_at Delete e request r there)) (delete_guarded e request r there sound named op)
+  operated_guarded Notify sound served op named = absurd (false≢true served)
+
+  operated_sound : (op : Op) → IsSoundEntity e → does_serve op ≡ true → IsSoundEntity (operated_by op e request r).after
+  operated_sound Create sound served = absurd (false≢true served)
+  operated_sound Retrieve sound served = sound
+  operated_sound Update sound served = absurd (false≢true served)
+  operated_sound Delete sound served =
+      subst (λ (effect : Effect). IsSoundEntity effect.after) (sym (changing_at Delete e request r there)) (delete_sound e request r there sound)
+  operated_sound Notify sound served = absurd (false≢true served)
+
+  operated_kept : (op : Op) → does_serve op ≡ true → IsKept e (operated_by op e request r)
+  operated_kept Create served = absurd (false≢true served)
+  operated_kept Retrieve served = still_kept e (reading_reply e request r.number)
+  operated_kept Update served = absurd (false≢true served)
+  operated_kept Delete served = subst (IsKept e) (sym (changing_at Delete e request r there)) (delete_kept e request r there)
+  operated_kept Notify served = absurd (false≢true served)
+
 -- the same where the address names the fan-out point of a group, or none
 abbrev IsGuardedBy : EntityData → RequestParts → Effect → Option ℕ → Type 0
 IsGuardedBy e request effect group = IsGuardedAt group e request effect.reply effect.after
@@ -123,23 +126,48 @@ refused_by : (e : EntityData) (request : RequestParts) (fault : Rsc) (group : Op
 refused_by e request fault None other = refused_guarded e request fault other
 refused_by e request fault (Some n) other = inl ((λ shows. shows_none request fault other shows), refl)
 
-read_by : (e : EntityData) (request : RequestParts) (effect : Effect) → IsSoundEntity e → IsRead e request effect → IsGuardedBy e request effect (fanned e request.to)
-read_by e request effect sound way =
+operated_by_right : (e : EntityData) (request : RequestParts) (effect : Effect) → IsSoundEntity e → IsOperated e request effect → IsGuardedBy e request effect (fanned e request.to)
+operated_by_right e request effect sound way =
     subst (IsGuardedBy e request effect) (sym way.alone)
     (subst (IsGuardedIn e request) (sym way.is)
-    (read_guarded e sound request way.target way.named way.retrieves way.there))
+    (operated_guarded e request way.target way.there request.op sound way.served refl way.named))
 
 pub guarded : (e : EntityData) (request : RequestParts) → IsSoundEntity e → IsGuarded e request (effect_of e request).reply (effect_of e request).after
 guarded e request sound = elim (two_ways e request) [
   | inl refusal ↦
       subst (λ (effect : Effect). IsGuardedBy e request effect (fanned e request.to)) (sym refusal.2)
       (refused_by e request refusal.0 (fanned e request.to) refusal.1)
-  | inr way ↦ read_by e request (effect_of e request) sound way
+  | inr way ↦ operated_by_right e request (effect_of e request) sound way
 ]
 
--- so far no request changes anything
-pub unchanged : (e : EntityData) (request : RequestParts) → (effect_of e request).after ≡ e
-unchanged e request = elim (two_ways e request) [
-  | inl refusal ↦ ap (λ (effect : Effect). effect.after) refusal.2
-  | inr way ↦ ap (λ (effect : Effect). effect.after) way.is
+pub sound_effect : (e : EntityData) (request : RequestParts) → IsSoundEntity e → IsSoundEntity (effect_of e request).after
+sound_effect e request sound = elim (two_ways e request) [
+  | inl fault ↦ subst (λ (effect : Effect). IsSoundEntity effect.after) (sym fault.2) sound
+  | inr way ↦
+      subst (λ (effect : Effect). IsSoundEntity effect.after) (sym way.is)
+      (operated_sound e request way.target way.there request.op sound way.served)
+]
+
+pub kept : (e : EntityData) (request : RequestParts) → IsKept e (effect_of e request)
+kept e request = elim (two_ways e request) [
+  | inl fault ↦ subst (IsKept e) (sym fault.2) (still_kept e (refusal request fault.0))
+  | inr way ↦ subst (IsKept e) (sym way.is) (operated_kept e request way.target way.there request.op way.served)
+]
+
+-- a Retrieve changes nothing
+pub retrieved_still : (e : EntityData) (request : RequestParts) → request.op ≡ Retrieve → (effect_of e request).after ≡ e
+retrieved_still e request op = elim (two_ways e request) [
+  | inl fault ↦ ap (λ (effect : Effect). effect.after) fault.2
+  | inr way ↦ ap (λ (effect : Effect). effect.after) (way.is ∙ ap (λ (p : Op). operated_by p e request way.target) op)
+]
+
+-- a Delete that is served is done
+pub deleted_target : (e : EntityData) (request : RequestParts) → request.op ≡ Delete → is_success (effect_of e request).reply.rsc ≡ true
+    → (target : ResourceData) × (addressed e request.to ≡ Some target) × (effect_of e request ≡ delete_effect e request target)
+deleted_target e request op served = elim (two_ways e request) [
+  | inl fault ↦ absurd (true≢false (sym served ∙ ap (λ (effect : Effect). is_success effect.reply.rsc) fault.2 ∙ fault.1))
+  | inr way ↦
+      let is : effect_of e request ≡ performed_at Delete e (claimed_originator e.home request) request way.target.number =
+      way.is ∙ ap (λ (p : Op). operated_by p e request way.target) op ∙ changing_at Delete e request way.target way.there in
+      (way.target, way.named, is ∙ delete_served e request way.target way.there (ap (λ (effect : Effect). is_success effect.reply.rsc) (sym is) ∙ served))
 ]

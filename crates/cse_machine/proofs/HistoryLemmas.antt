@@ -13,23 +13,46 @@ use Rattle.cse_machine.specs.declared.event.Event.{Event}
 use Rattle.cse_machine.specs.declared.event.Event.TheVariants.{Ask}
 use Rattle.cse_machine.specs.declared.event.Outcome.{Outcome}
 use Rattle.cse_machine.specs.declared.event.Outcome.TheVariants.{Done, Starved}
-use Rattle.cse_machine.specs.Guard.{IsGuarded}
+use Rattle.cse_machine.specs.Guard.{IsGuarded, IsSameEntity}
 use Rattle.cse_machine.specs.Answer.{effect_of}
 use Rattle.cse_machine.specs.History.{History, HistoryLeaves, IsDone}
 use Rattle.cse_machine.specs.Step.{Step}
-use Rattle.cse_machine.proofs.GuardLemmas.{guarded, unchanged}
+use Rattle.cse_machine.proofs.ChangingLemmas.{IsKept}
+use Rattle.cse_machine.proofs.GuardLemmas.{guarded, kept, sound_effect}
 
--- what a step leaves
-pub changes : (reading : ℕ) (event : Event) (before after : EntityData) (outcome : Outcome) → Step reading event before outcome after → (after ≡ before) ⊎ (after ≡ swept reading before)
-changes reading (Ask request) before after (Done reply) step = inr (step.1 ∙ unchanged (swept reading before) request)
-changes reading (Ask request) before after (Starved done) step = step.1
+-- where memory runs out, a step leaves the entity, or what isn't due of it
+pub starved_leaves : (reading : ℕ) (event : Event) (before after : EntityData) (done : ℕ) → Step reading event before (Starved done) after → (after ≡ before) ⊎ (after ≡ swept reading before)
+starved_leaves reading (Ask request) before after done step = step.1
+
+pub same_reply : (reply other : ReplyParts) → Done reply ≡ Done other → reply ≡ other
+same_reply reply other same = cc
+
+-- what holds of the entity that a request leaves
+pub done_keeps : (reading : ℕ) (request : RequestParts) (before after : EntityData) (reply : ReplyParts) → Step reading (Ask request) before (Done reply) after → IsKept (swept reading before) (record { reply = reply; after = after })
+done_keeps reading request before after reply step =
+    let e = swept reading before in
+    subst (λ (r : ReplyParts). IsKept e (record { reply = r; after = after })) (sym (same_reply reply _ step.0))
+    (subst (λ (left : EntityData). IsKept e (record { reply = (effect_of e request).reply; after = left })) (sym step.1)
+    (kept e request))
+
+-- an entity stays the same one
+pub same_entity : (reading : ℕ) (event : Event) (outcome : Outcome) (before after : EntityData) → Step reading event before outcome after → IsSameEntity reading before after
+same_entity reading (Ask request) (Done reply) before after step =
+    let left = done_keeps reading request before after reply step in
+    record { home = left.home; last = inl left.last; next = left.next }
+same_entity reading (Ask request) (Starved done) before after step = elim step.1 [
+  | inl same ↦ record { home = ap (λ (e : EntityData). e.home) same; last = inr same; next = omega (arith, ap (λ (e : EntityData). e.next) same) }
+  | inr left ↦ record { home = ap (λ (e : EntityData). e.home) left; last = inl (ap (λ (e : EntityData). e.last) left); next = omega (arith, ap (λ (e : EntityData). e.next) left) }
+]
 
 pub one_more : (opening before after : EntityData) (history : History) (reading : ℕ) (event : Event) (outcome : Outcome) → HistoryLeaves opening history before → Step reading event before outcome after → HistoryLeaves opening (history ++ entry_of reading event outcome ∷ []) after
 one_more opening before after history reading event outcome run step =
     Runs-append Step history (entry_of reading event outcome ∷ []) opening before after run (after, step, refl)
 
 pub sound_step : (reading : ℕ) (event : Event) (before after : EntityData) (outcome : Outcome) → IsSoundEntity before → Step reading event before outcome after → IsSoundEntity after
-sound_step reading event before after outcome sound step = elim (changes reading event before after outcome step) [
+sound_step reading (Ask request) before after (Done reply) sound step =
+    subst IsSoundEntity (sym step.1) (sound_effect (swept reading before) request (sound_swept reading before sound))
+sound_step reading (Ask request) before after (Starved done) sound step = elim step.1 [
   | inl same ↦ subst IsSoundEntity (sym same) sound
   | inr left ↦ subst IsSoundEntity (sym left) (sound_swept reading before sound)
 ]
@@ -40,9 +63,6 @@ sound_after (entry ∷ history) opening e sound run =
     sound_after history run.0 e (sound_step entry.reading entry.event opening run.0 entry.outcome sound run.1) run.2
 
 -- a step is guarded
-pub same_reply : (reply other : ReplyParts) → Done reply ≡ Done other → reply ≡ other
-same_reply reply other same = cc
-
 pub step_guarded : (reading : ℕ) (request : RequestParts) (before after : EntityData) (reply : ReplyParts) → IsSoundEntity before → Step reading (Ask request) before (Done reply) after → IsGuarded (swept reading before) request reply after
 step_guarded reading request before after reply sound step =
     subst (λ (r : ReplyParts). IsGuarded (swept reading before) request r after) (sym (same_reply reply _ step.0))

@@ -1,32 +1,19 @@
--- Places that hold and places that don't, and who asks.
+-- Who asks, and what is read.
 use Rattle.std.specs.Prelude.{codes, nat_lt, unwrap_or}
-use Rattle.std.proofs.Common.{◌≡◌, ℕ, List, ◌∷◌, length, Bool, true, false, ◌&&◌, Option, Some, None, Result, Ok, Err, IfOk, IfSome, Bor, inl, inr, refl, sym, ap, ◌∙◌}
-use Rattle.std.specs.Option.{option_and_then, option_map}
+use Rattle.std.proofs.Common.{◌≡◌, ℕ, List, length, true, false, ◌&&◌, Option, Some, None, Result, Ok, Err, IfOk, inl, inr, refl, sym, ap, ◌∙◌}
+use Rattle.std.specs.Option.{option_and_then}
 use Rattle.std.proofs.lemmas.Bool.{cases_Bool}
 use Rattle.std.proofs.lemmas.Option.{same_Some}
 use Rattle.m2m_names.specs.Name.{is_originator}
-use Rattle.m2m_names.specs.declared.codes.Rsc.{Rsc}
 use Rattle.primitive_json.specs.declared.reply.ReplyParts.{ReplyParts}
 use Rattle.primitive_json.specs.declared.request.RequestParts.{RequestParts}
 use Rattle.resource_model.specs.Home.{HomeData}
-use Rattle.resource_model.specs.Resource.{ResourceData}
-use Rattle.tree_model.specs.Tree.{at, has}
-use Rattle.tree_model.proofs.TreeLemmas.{at_has, at_number}
 use Rattle.addressing.specs.Short.{short_of, shortened}
 use Rattle.entity_model.specs.Entity.{EntityData}
-use Rattle.entity_model.specs.Places.{Effect, Place, refused, unless, unless_refused}
-use Rattle.retrieve_discover.specs.Replies.{discovered}
+use Rattle.retrieve_discover.specs.Replies.{discovered, retrieved}
 use Rattle.cse_machine.specs.Answer.{reading_reply}
 use Rattle.request_rules.specs.Rights.{is_discovery}
 use Rattle.cse_machine.specs.Rights.{claimed_originator}
-
--- a place that holds is passed
-pub passes : (holds : Bool) (fault : Rsc) (places : List Place) (e : EntityData) (request : RequestParts) (effect : Effect) → holds ≡ true → unless_refused (unless holds fault ∷ places) e request effect ≡ unless_refused places e request effect
-passes holds fault places e request effect t = rw t refl
-
--- one that doesn't refuses
-pub stops : (holds : Bool) (fault : Rsc) (places : List Place) (e : EntityData) (request : RequestParts) (effect : Effect) → holds ≡ false → unless_refused (unless holds fault ∷ places) e request effect ≡ refused e request fault
-stops holds fault places e request effect f = rw f refl
 
 -- what is replied is this too, where it is that
 pub replied : {E : Type 0} (result : Result ReplyParts E) (x y : ReplyParts) → y ≡ x → IfOk result (λ r. r ≡ x) → IfOk result (λ r. r ≡ y)
@@ -48,14 +35,14 @@ claimed_is home request o = by_fr request.fr
     by_fr None e = let none : None ≡ Some o = e in cc
     by_fr (Some text) e = short_is home text o e
 
--- ---- what is looked up, and read
-
-pub found_there : (n : ℕ) (nodes : List ResourceData) (r : Option (Bor ResourceData)) → option_map (λ x. x.now) r ≡ at n nodes → IfSome r (λ x. has x.now.number nodes ≡ true)
-found_there n nodes None found = tt
-found_there n nodes (Some x) found =
-    ap (λ (m : ℕ). has m nodes) (at_number n nodes x.now (sym found)) ∙ at_has n nodes x.now (sym found)
+-- ---- what is read
 
 pub reading_found : (e : EntityData) (request : RequestParts) (n : ℕ) (o : List ℕ) → claimed_originator e.home request ≡ o → is_discovery request ≡ true → reading_reply e request n ≡ discovered e.home e.nodes o request n
 reading_found e request n o by d =
     let first : reading_reply e request n ≡ discovered e.home e.nodes (claimed_originator e.home request) request n = rw d refl in
     first ∙ ap (λ (t : List ℕ). discovered e.home e.nodes t request n) by
+
+pub reading_shown : (e : EntityData) (request : RequestParts) (n : ℕ) (o : List ℕ) → claimed_originator e.home request ≡ o → is_discovery request ≡ false → reading_reply e request n ≡ retrieved e.home e.nodes o request n
+reading_shown e request n o by d =
+    let first : reading_reply e request n ≡ retrieved e.home e.nodes (claimed_originator e.home request) request n = rw d refl in
+    first ∙ ap (λ (t : List ℕ). retrieved e.home e.nodes t request n) by

@@ -1,20 +1,26 @@
--- An originator is answered the same on what it sees.
-use Rattle.std.proofs.Common.{◌≡◌, ℕ, List, Bool, true, false, cond, Option, Some, None, Result, Ok, Err, option_map, inl, inr, refl, sym, ap, ap₂, subst, ◌∙◌, arith}
+-- An originator is answered the same on what it sees, and sees the same of what is left.
+use Rattle.std.proofs.Common.{◌≡◌, ℕ, List, [], ◌∷◌, Bool, true, false, cond, Option, Some, None, Result, Ok, Err, option_map, inl, inr, refl, sym, ap, ap₂, subst, ◌∙◌, arith}
 use Rattle.std.specs.Option.{option_and_then, option_map_or}
-use Rattle.std.proofs.lemmas.Bool.{cases_Bool, eqb-true}
+use Rattle.std.specs.Prelude.{not}
+use Rattle.std.specs.List.{list_any}
+use Rattle.std.proofs.lemmas.Bool.{both_ways, cases_Bool, eqb-true, false≢true, not-true, or_cases}
+use Rattle.m2m_names.specs.Operations.{op_row}
 use Rattle.m2m_names.specs.Types.{ty_row}
 use Rattle.m2m_names.specs.declared.attributes.Attr.TheVariants.{Csi}
 use Rattle.m2m_names.specs.declared.codes.Rsc.{Rsc}
-use Rattle.m2m_names.specs.declared.codes.Rsc.TheVariants.{BadRequest}
+use Rattle.m2m_names.specs.declared.codes.Rsc.TheVariants.{BadRequest, NoPrivilege, NotAllowed}
+use Rattle.m2m_names.specs.declared.operations.Op.{Op}
+use Rattle.m2m_names.specs.declared.operations.Op.TheVariants.{Create, Retrieve, Update, Delete, Notify}
 use Rattle.m2m_names.specs.declared.types.Ty.{Ty}
 use Rattle.m2m_names.specs.declared.types.Ty.TheVariants.{Ae, RemoteCse}
 use Rattle.m2m_value.specs.View.{as_text}
-use Rattle.primitive_json.specs.declared.reply.ReplyParts.{ReplyParts}
 use Rattle.primitive_json.specs.declared.request.RequestParts.{RequestParts}
 use Rattle.resource_model.specs.Home.{HomeData}
-use Rattle.resource_model.specs.Resource.{ResourceData, cse_id, is_ty}
+use Rattle.resource_model.specs.Resource.{ResourceData, cse_id, has_number, is_ty}
 use Rattle.tree_model.specs.Tree.{at, is_due, is_well_formed, live}
+use Rattle.tree_model.proofs.GrowthLemmas.{tree_from_well_formed}
 use Rattle.tree_model.proofs.KeptLemmas.{KeepsStanding, is_well_formed-map, is_well_formed-without}
+use Rattle.tree_model.proofs.LiveLemmas.{without_none}
 use Rattle.addressing.specs.Addresses.{address_of}
 use Rattle.addressing.specs.Laws.{named_by, named_here}
 use Rattle.addressing.specs.declared.addr.Addr.{Addr}
@@ -26,79 +32,22 @@ use Rattle.addressing.proofs.SightLemmas.{spot_of-seen}
 use Rattle.policy_eval.specs.Alike.{is_attr_in, shape_attrs}
 use Rattle.policy_eval.specs.Seen.{seen, seen_list}
 use Rattle.policy_eval.proofs.DueLemmas.{is_due-seen}
-use Rattle.policy_eval.proofs.SeenLemmas.{ae_id-seen, at-seen, seen_alike}
+use Rattle.policy_eval.proofs.SeenLemmas.{ae_id-seen, at-seen, grants-seen, seen_alike}
 use Rattle.policy_eval.proofs.ShapeLemmas.{sight_shape}
 use Rattle.policy_eval.proofs.TwiceLemmas.{live-same, seen_list-twice}
 use Rattle.entity_model.specs.Entity.{EntityData, event_moment, swept}
-use Rattle.entity_model.specs.Places.{Effect, answering, first_fault, refusal, refused}
+use Rattle.entity_model.specs.Places.{Effect, first_fault, refused}
 use Rattle.entity_model.specs.Sound.{IsSoundEntity}
+use Rattle.request_rules.specs.Order.{fault_on}
+use Rattle.request_rules.specs.Requests.{is_for}
 use Rattle.retrieve_discover.specs.Replies.{discovered, retrieved}
 use Rattle.retrieve_discover.proofs.AnswerLemmas.{retrieved-seen}
 use Rattle.retrieve_discover.proofs.SightLemmas.{discovered-seen}
-use Rattle.cse_machine.specs.Answer.{is_served, first_places, reading_reply, to_resource, at_spot, effect_of}
+use Rattle.create_delete.specs.Changing.{delete_effect, performed}
+use Rattle.cse_machine.specs.Answer.{is_served, first_places, changing, operated_by, on_found, reading_reply, to_resource, at_spot, effect_of}
 use Rattle.request_rules.specs.Rights.{is_discovery}
 use Rattle.cse_machine.specs.Rights.{claimed_originator}
-use Rattle.cse_machine.specs.Sight.{sight, shape, IsRequestBy, SightHasItsShape, EqualSightsHaveOneShape}
-
--- ---- a reply, by the places that refuse a request
-
-unserved_reply : (e : EntityData) (request : RequestParts) → is_served request ≡ false → (effect_of e request).reply ≡ refusal request BadRequest
-unserved_reply e request f = rw f refl
-
--- where the same place refuses a request, or where what else comes of it is the same
-by_fault : (e other : EntityData) (request : RequestParts) (f : Option Rsc) (x y : Effect) → x.reply ≡ y.reply → (option_map_or (refused e request) f x).reply ≡ (option_map_or (refused other request) f y).reply
-by_fault e other request None x y same = same
-by_fault e other request (Some fault) x y same = refl
-
-module _ (e : EntityData) (o : List ℕ) (well : is_well_formed e.nodes ≡ true) where
-  abbrev seeing : EntityData
-  seeing = sight o e
-
-  abbrev see : ResourceData → ResourceData
-  see = seen e.home e.nodes o
-
-  named_seen : (a : Result Addr AddrFault) → named_here a (seen_list e.home e.nodes o) ≡ named_here a e.nodes
-  named_seen (Ok (Local segments)) = spot_of-seen e.home e.nodes o segments
-  named_seen (Ok (Foreign text)) = refl
-  named_seen (Ok OtherProvider) = refl
-  named_seen (Err fault) = refl
-
-  -- what is read is the same, where the originator asks
-  reading_seen : (request : RequestParts) (n : ℕ) → claimed_originator e.home request ≡ o → reading_reply seeing request n ≡ reading_reply e request n
-  reading_seen request n by =
-      let claimed = claimed_originator e.home request in
-      let found : discovered e.home (seen_list e.home e.nodes o) claimed request n ≡ discovered e.home e.nodes claimed request n =
-      ap (λ (t : List ℕ). discovered e.home (seen_list e.home e.nodes o) t request n) by ∙ discovered-seen e.home e.nodes o well request n ∙ ap (λ (t : List ℕ). discovered e.home e.nodes t request n) (sym by) in
-      let shown : retrieved e.home (seen_list e.home e.nodes o) claimed request n ≡ retrieved e.home e.nodes claimed request n =
-      ap (λ (t : List ℕ). retrieved e.home (seen_list e.home e.nodes o) t request n) by ∙ retrieved-seen e.home e.nodes o well request n ∙ ap (λ (t : List ℕ). retrieved e.home e.nodes t request n) (sym by) in
-      ap₂ (λ x y. cond (is_discovery request) x y) found shown
-
-  resource_seen : (request : RequestParts) (r : Option ResourceData) → claimed_originator e.home request ≡ o → (to_resource seeing request (option_map see r)).reply ≡ (to_resource e request r).reply
-  resource_seen request None by = refl
-  resource_seen request (Some r) by = reading_seen request r.number by
-
-  spot_seen : (request : RequestParts) (spot : Option Spot) → claimed_originator e.home request ≡ o → (at_spot seeing request spot).reply ≡ (at_spot e request spot).reply
-  spot_seen request None by = refl
-  spot_seen request (Some (Resource n)) by =
-      ap (λ (r : Option ResourceData). (to_resource seeing request r).reply) (at-seen e.home e.nodes o n) ∙ resource_seen request (at n e.nodes) by
-  spot_seen request (Some (Fan group rest)) by = refl
-  spot_seen request (Some (Poll channel)) by = refl
-
-  reply_by : (request : RequestParts) → claimed_originator e.home request ≡ o → (effect_of seeing request).reply ≡ (effect_of e request).reply
-  reply_by request by =
-      by_fault seeing e request (first_fault (first_places e request))
-      (at_spot seeing request (named_by e.home request.to (seen_list e.home e.nodes o))) (at_spot e request (named_by e.home request.to e.nodes))
-      (ap (λ (spot : Option Spot). (at_spot seeing request spot).reply) (named_seen (address_of e.home request.to)) ∙ spot_seen request (named_by e.home request.to e.nodes) by)
-
-  -- what an entity answers is a function of what the originator sees of it
-  pub reply_by_sight : (request : RequestParts) → IsRequestBy e.home o request → (effect_of seeing request).reply ≡ (effect_of e request).reply
-  reply_by_sight request by = elim by.1 [
-    | inl own ↦ reply_by request own
-    | inr other ↦ unserved_reply seeing request other ∙ sym (unserved_reply e request other)
-  ]
-
-well_live : (nodes : List ResourceData) (m : ℕ) → is_well_formed nodes ≡ true → is_well_formed (live m nodes) ≡ true
-well_live nodes m well = is_well_formed-without (is_due nodes m) nodes well
+use Rattle.cse_machine.specs.Sight.{sight, shape, does_cover, IsRequestBy, SightHasItsShape, EqualSightsHaveOneShape}
 
 -- ---- what is seen of a well-formed list is one
 
@@ -131,6 +80,134 @@ module _ (home : HomeData) (nodes : List ResourceData) (o : List ℕ) where
   well_seen : is_well_formed nodes ≡ true → is_well_formed (seen_list home nodes o) ≡ true
   well_seen well = is_well_formed-map (seen home nodes o) seen_stands nodes ∙ well
 
+-- ---- what is seen of what comes of a request
+
+-- two effects that the originator sees alike
+pub record AreSeenAlike (o : List ℕ) (x y : Effect) : Type 0 where
+  pub reply : x.reply ≡ y.reply
+  pub after : sight o x.after ≡ sight o y.after
+
+-- where the same place refuses a request, or what else comes of it is seen alike
+by_fault : (e other : EntityData) (o : List ℕ) (request : RequestParts) (f : Option Rsc) (x y : Effect) → sight o e ≡ sight o other → AreSeenAlike o x y → AreSeenAlike o (option_map_or (refused e request) f x) (option_map_or (refused other request) f y)
+by_fault e other o request None x y same alike = alike
+by_fault e other o request (Some fault) x y same alike = record { reply = refl; after = same }
+
+-- what isn't served is refused alike
+unserved_alike : (e other : EntityData) (o : List ℕ) (request : RequestParts) → sight o e ≡ sight o other → is_served request ≡ false → AreSeenAlike o (effect_of e request) (effect_of other request)
+unserved_alike e other o request same f =
+    let one : effect_of e request ≡ refused e request BadRequest = rw f refl in
+    let two : effect_of other request ≡ refused other request BadRequest = rw f refl in
+    subst (λ (x : Effect). AreSeenAlike o x (effect_of other request)) (sym one)
+    (subst (AreSeenAlike o (refused e request BadRequest)) (sym two) (record { reply = refl; after = same }))
+
+none_any : (nodes : List ResourceData) → list_any (λ (r : ResourceData). false) nodes ≡ false
+none_any [] = refl
+none_any (r ∷ nodes) = none_any nodes
+
+module _ (e : EntityData) (o : List ℕ) (well : is_well_formed e.nodes ≡ true) where
+  abbrev seeing : EntityData
+  seeing = sight o e
+
+  abbrev see : ResourceData → ResourceData
+  see = seen e.home e.nodes o
+
+  abbrev no_one : ResourceData → Bool
+  no_one = λ (r : ResourceData). false
+
+  -- of what it sees it sees all
+  seen_twice : seen_list e.home (seen_list e.home e.nodes o) o ≡ seen_list e.home e.nodes o
+  seen_twice =
+      let sees = seen_list e.home e.nodes o in
+      ap (λ (rs : List ResourceData). seen_list e.home rs o) (sym (without_none no_one sees (tree_from_well_formed sees (well_seen e.home e.nodes o well)) (none_any sees)))
+      ∙ seen_list-twice e.home e.nodes o well no_one no_one (λ r found. refl)
+      ∙ ap (λ (rs : List ResourceData). seen_list e.home rs o) (without_none no_one e.nodes (tree_from_well_formed e.nodes well) (none_any e.nodes))
+
+  sight_twice : sight o seeing ≡ sight o e
+  sight_twice = ap (λ (ns : List ResourceData). record e { nodes = ns }) seen_twice
+
+  named_seen : (a : Result Addr AddrFault) → named_here a (seen_list e.home e.nodes o) ≡ named_here a e.nodes
+  named_seen (Ok (Local segments)) = spot_of-seen e.home e.nodes o segments
+  named_seen (Ok (Foreign text)) = refl
+  named_seen (Ok OtherProvider) = refl
+  named_seen (Err fault) = refl
+
+  -- what is read is the same, where the originator asks
+  reading_seen : (request : RequestParts) (n : ℕ) → claimed_originator e.home request ≡ o → reading_reply seeing request n ≡ reading_reply e request n
+  reading_seen request n by =
+      let claimed = claimed_originator e.home request in
+      let found : discovered e.home (seen_list e.home e.nodes o) claimed request n ≡ discovered e.home e.nodes claimed request n =
+      ap (λ (t : List ℕ). discovered e.home (seen_list e.home e.nodes o) t request n) by ∙ discovered-seen e.home e.nodes o well request n ∙ ap (λ (t : List ℕ). discovered e.home e.nodes t request n) (sym by) in
+      let shown : retrieved e.home (seen_list e.home e.nodes o) claimed request n ≡ retrieved e.home e.nodes claimed request n =
+      ap (λ (t : List ℕ). retrieved e.home (seen_list e.home e.nodes o) t request n) by ∙ retrieved-seen e.home e.nodes o well request n ∙ ap (λ (t : List ℕ). retrieved e.home e.nodes t request n) (sym by) in
+      ap₂ (λ x y. cond (is_discovery request) x y) found shown
+
+  -- what refuses a Delete is the same, and so is what is left
+  delete_refused : (request : RequestParts) (r : ResourceData) → fault_on Delete seeing o request (see r) ≡ fault_on Delete e o request r
+  delete_refused request r =
+      ap (λ (b : Bool). cond b (cond (is_for Delete r.ty) None (Some NotAllowed)) (Some NoPrivilege)) (grants-seen e.home e.nodes o (op_row Delete).bit r.number)
+
+  delete_left : (request : RequestParts) (r : ResourceData) → AreSeenAlike o (delete_effect seeing request (see r)) (delete_effect e request r)
+  delete_left request r = record {
+    reply = refl;
+    after = ap (λ (ns : List ResourceData). record e { nodes = ns }) (seen_list-twice e.home e.nodes o well (has_number r.number) (has_number r.number) (λ s found. refl));
+  }
+
+  performed_seen : (request : RequestParts) (r : ResourceData) → AreSeenAlike o (performed Delete seeing o request (see r)) (performed Delete e o request r)
+  performed_seen request r =
+      subst (λ (f : Option Rsc). AreSeenAlike o (option_map_or (refused seeing request) f (delete_effect seeing request (see r))) (performed Delete e o request r)) (sym (delete_refused request r))
+      (by_fault seeing e o request (fault_on Delete e o request r) (delete_effect seeing request (see r)) (delete_effect e request r) sight_twice (delete_left request r))
+
+  delete_seen : (request : RequestParts) (r : ResourceData) → claimed_originator e.home request ≡ o → AreSeenAlike o (changing Delete seeing request (see r)) (changing Delete e request r)
+  unfolding changing
+  delete_seen request r by =
+      subst (λ (t : List ℕ). AreSeenAlike o (performed Delete seeing t request (see r)) (performed Delete e t request r)) (sym by) (performed_seen request r)
+
+  -- an operation that is covered gives what is seen alike
+  operated_seen : (op : Op) (request : RequestParts) (r : ResourceData) → does_cover op ≡ true → claimed_originator e.home request ≡ o → AreSeenAlike o (operated_by op seeing request (see r)) (operated_by op e request r)
+  operated_seen Create request r covered by = absurd (false≢true covered)
+  operated_seen Retrieve request r covered by = record { reply = reading_seen request r.number by; after = sight_twice }
+  operated_seen Update request r covered by = absurd (false≢true covered)
+  operated_seen Delete request r covered by = delete_seen request r by
+  operated_seen Notify request r covered by = absurd (false≢true covered)
+
+  found_seen : (op : Op) (request : RequestParts) (found : Option ResourceData) → does_cover op ≡ true → claimed_originator e.home request ≡ o → AreSeenAlike o (on_found op seeing request (option_map see found)) (on_found op e request found)
+  found_seen op request None covered by = record { reply = refl; after = sight_twice }
+  found_seen op request (Some r) covered by = operated_seen op request r covered by
+
+  spot_seen : (request : RequestParts) (spot : Option Spot) → does_cover request.op ≡ true → claimed_originator e.home request ≡ o → AreSeenAlike o (at_spot seeing request spot) (at_spot e request spot)
+  spot_seen request None covered by = record { reply = refl; after = sight_twice }
+  spot_seen request (Some (Resource n)) covered by =
+      subst (λ (r : Option ResourceData). AreSeenAlike o (to_resource seeing request r) (to_resource e request (at n e.nodes))) (sym (at-seen e.home e.nodes o n))
+      (found_seen request.op request (at n e.nodes) covered by)
+  spot_seen request (Some (Fan group rest)) covered by = record { reply = refl; after = sight_twice }
+  spot_seen request (Some (Poll channel)) covered by = record { reply = refl; after = sight_twice }
+
+  covered_seen : (request : RequestParts) → does_cover request.op ≡ true → claimed_originator e.home request ≡ o → AreSeenAlike o (effect_of seeing request) (effect_of e request)
+  covered_seen request covered by =
+      let spot = named_by e.home request.to e.nodes in
+      by_fault seeing e o request (first_fault (first_places e request))
+      (at_spot seeing request (named_by e.home request.to (seen_list e.home e.nodes o))) (at_spot e request spot)
+      sight_twice
+      (subst (λ (s : Option Spot). AreSeenAlike o (at_spot seeing request s) (at_spot e request spot)) (sym (named_seen (address_of e.home request.to)))
+      (spot_seen request spot covered by))
+
+  -- what comes of a request to what the originator sees of an entity is seen as what comes of it
+  -- there
+  pub effect_seen : (request : RequestParts) → IsRequestBy e.home o request → AreSeenAlike o (effect_of seeing request) (effect_of e request)
+  effect_seen request by = elim (cases_Bool (is_served request)) [
+    | inr f ↦ unserved_alike seeing e o request sight_twice f
+    | inl t ↦ elim (or_cases (does_cover request.op) (not (is_served request)) by.0) [
+      | inl covered ↦ elim by.1 [
+        | inl own ↦ covered_seen request covered own
+        | inr other ↦ absurd (both_ways _ other t)
+      ]
+      | inr other ↦ absurd (both_ways _ (not-true _ other) t)
+    ]
+  ]
+
+well_live : (nodes : List ResourceData) (m : ℕ) → is_well_formed nodes ≡ true → is_well_formed (live m nodes) ≡ true
+well_live nodes m well = is_well_formed-without (is_due nodes m) nodes well
+
 -- ---- what is left of two entities that are seen alike is seen alike
 
 module _ (o : List ℕ) (one other : EntityData) (well : is_well_formed one.nodes ≡ true) (wells : is_well_formed other.nodes ≡ true) (same : sight o one ≡ sight o other) where
@@ -161,18 +238,28 @@ module _ (o : List ℕ) (one other : EntityData) (well : is_well_formed one.node
       ∙ ap (λ (n : ℕ). entity_of other.home (seen_list other.home (live (event_moment other.last reading) other.nodes) o) n (event_moment one.last reading)) (ap (λ (e : EntityData). e.next) same)
       ∙ ap (λ (n : ℕ). entity_of other.home (seen_list other.home (live (event_moment other.last reading) other.nodes) o) other.next (event_moment n reading)) same_last
 
--- two entities of which the originator sees the same answer it alike
-alike : (one other : EntityData) (o : List ℕ) (request : RequestParts) → is_well_formed one.nodes ≡ true → is_well_formed other.nodes ≡ true → sight o one ≡ sight o other → IsRequestBy one.home o request → (effect_of one request).reply ≡ (effect_of other request).reply
+-- what comes of a request to two entities of which the originator sees the same, it sees alike
+alike : (one other : EntityData) (o : List ℕ) (request : RequestParts) → is_well_formed one.nodes ≡ true → is_well_formed other.nodes ≡ true → sight o one ≡ sight o other → IsRequestBy one.home o request → AreSeenAlike o (effect_of one request) (effect_of other request)
 alike one other o request well wells same by =
-    sym (reply_by_sight one o well request by)
-    ∙ ap (λ (e : EntityData). (effect_of e request).reply) same
-    ∙ reply_by_sight other o wells request (subst (λ (h : HomeData). IsRequestBy h o request) (ap (λ (e : EntityData). e.home) same) by)
+    let mine = effect_seen one o well request by in
+    let theirs = effect_seen other o wells request (subst (λ (h : HomeData). IsRequestBy h o request) (ap (λ (e : EntityData). e.home) same) by) in
+    record {
+      reply = sym mine.reply ∙ ap (λ (e : EntityData). (effect_of e request).reply) same ∙ theirs.reply;
+      after = sym mine.after ∙ ap (λ (e : EntityData). sight o (effect_of e request).after) same ∙ theirs.after;
+    }
 
-pub replies-alike : (one other : EntityData) (o : List ℕ) (reading : ℕ) (request : RequestParts) → IsSoundEntity one → IsSoundEntity other → sight o one ≡ sight o other → IsRequestBy one.home o request → (effect_of (swept reading one) request).reply ≡ (effect_of (swept reading other) request).reply
-replies-alike one other o reading request sound sounds same by =
-    alike (swept reading one) (swept reading other) o request
-    (well_live one.nodes (event_moment one.last reading) sound.tree) (well_live other.nodes (event_moment other.last reading) sounds.tree)
-    (swept-alike o one other sound.tree sounds.tree same reading) by
+module _ (one other : EntityData) (o : List ℕ) (reading : ℕ) (request : RequestParts) (sound : IsSoundEntity one) (sounds : IsSoundEntity other) (same : sight o one ≡ sight o other) (by : IsRequestBy one.home o request) where
+  swept_alike : AreSeenAlike o (effect_of (swept reading one) request) (effect_of (swept reading other) request)
+  swept_alike =
+      alike (swept reading one) (swept reading other) o request
+      (well_live one.nodes (event_moment one.last reading) sound.tree) (well_live other.nodes (event_moment other.last reading) sounds.tree)
+      (swept-alike o one other sound.tree sounds.tree same reading) by
+
+  pub replies-alike : (effect_of (swept reading one) request).reply ≡ (effect_of (swept reading other) request).reply
+  replies-alike = swept_alike.reply
+
+  pub left-alike : sight o (effect_of (swept reading one) request).after ≡ sight o (effect_of (swept reading other) request).after
+  left-alike = swept_alike.after
 
 -- on what it sees of an entity it is answered as by the entity
 pub reply-seen : (e : EntityData) (o : List ℕ) (reading : ℕ) (request : RequestParts) → IsSoundEntity e → IsRequestBy e.home o request → (effect_of (swept reading (sight o e)) request).reply ≡ (effect_of (swept reading e) request).reply
@@ -180,9 +267,9 @@ reply-seen e o reading request sound by =
     let m = event_moment e.last reading in
     let left : seen_list e.home (live m (seen_list e.home e.nodes o)) o ≡ seen_list e.home (live m e.nodes) o =
     seen_list-twice e.home e.nodes o sound.tree (is_due e.nodes m) (is_due (seen_list e.home e.nodes o) m) (is_due-seen e.home e.nodes o sound.tree m) in
-    alike (swept reading (sight o e)) (swept reading e) o request
+    (alike (swept reading (sight o e)) (swept reading e) o request
     (well_live (seen_list e.home e.nodes o) m (well_seen e.home e.nodes o sound.tree)) (well_live e.nodes m sound.tree)
-    (ap (λ (ns : List ResourceData). record (swept reading e) { nodes = ns }) left) by
+    (ap (λ (ns : List ResourceData). record (swept reading e) { nodes = ns }) left) by).reply
 
 -- ---- the shape
 

@@ -1,12 +1,9 @@
--- What comes of a request: a refusal, or what reading a resource gives.
-use Rattle.std.specs.Prelude.{not}
-use Rattle.std.proofs.Common.{◌≡◌, ◌⊎◌, ℕ, List, Bool, true, false, Option, Some, None, inl, inr, refl, sym, ap, subst, ◌∙◌}
+-- What comes of a request: a refusal, or what its operation on a resource gives.
+use Rattle.std.proofs.Common.{◌≡◌, ◌⊎◌, ℕ, List, true, false, Option, Some, None, inl, inr, refl, sym, ap, subst, ◌∙◌}
 use Rattle.std.specs.Option.{option_and_then, option_map_or}
-use Rattle.std.proofs.lemmas.Bool.{cases_Bool, false≢true}
+use Rattle.std.proofs.lemmas.Bool.{cases_Bool}
 use Rattle.m2m_names.specs.declared.codes.Rsc.{Rsc}
 use Rattle.m2m_names.specs.declared.codes.Rsc.TheVariants.{BadRequest, NonBlocking, NotFound, NoPrivilege, RequestTimeout}
-use Rattle.m2m_names.specs.declared.operations.Op.{Op}
-use Rattle.m2m_names.specs.declared.operations.Op.TheVariants.{Create, Retrieve, Update, Delete, Notify}
 use Rattle.primitive_json.specs.declared.reply.ReplyParts.{ReplyParts}
 use Rattle.primitive_json.specs.declared.request.RequestParts.{RequestParts}
 use Rattle.resource_model.specs.Resource.{ResourceData}
@@ -18,9 +15,9 @@ use Rattle.addressing.specs.declared.spot.Spot.TheVariants.{Resource, Fan, Poll}
 use Rattle.policy_eval.specs.Rights.{grants}
 use Rattle.policy_eval.specs.Seen.{discovery_bit, retrieve_bit}
 use Rattle.entity_model.specs.Entity.{EntityData}
-use Rattle.entity_model.specs.Places.{Effect, answering, refusal, refused}
+use Rattle.entity_model.specs.Places.{Effect, refusal, refused}
 use Rattle.retrieve_discover.specs.Replies.{discovered, retrieved, retrieved_of}
-use Rattle.cse_machine.specs.Answer.{is_retrieve, is_served, has_originator, has_address, is_in_time, is_blocking, reading_reply, resource_at, addressed, to_resource, at_spot, effect_of}
+use Rattle.cse_machine.specs.Answer.{does_serve, is_served, has_originator, has_address, is_in_time, is_blocking, operated_by, reading_reply, resource_at, addressed, to_resource, at_spot, effect_of}
 use Rattle.cse_machine.specs.Guard.{is_success, fan_group, fanned}
 use Rattle.request_rules.specs.Rights.{is_discovery}
 use Rattle.cse_machine.specs.Rights.{claimed_originator}
@@ -31,42 +28,35 @@ use Rattle.cse_machine.specs.Rights.{claimed_originator}
 abbrev pub IsRefused : EntityData → RequestParts → Effect → Type 0
 IsRefused e request effect = (fault : Rsc) × (is_success fault ≡ false) × (effect ≡ refused e request fault)
 
--- it gives what reading the resource that its address names gives
-pub record IsRead (e : EntityData) (request : RequestParts) (effect : Effect) : Type 0 where
+-- it gives what its operation on the resource that its address names gives
+pub record IsOperated (e : EntityData) (request : RequestParts) (effect : Effect) : Type 0 where
   pub target : ResourceData
   pub there : at target.number e.nodes ≡ Some target
   pub named : addressed e request.to ≡ Some target
   pub alone : fanned e request.to ≡ None
-  pub retrieves : request.op ≡ Retrieve
-  pub is : effect ≡ answering e (reading_reply e request target.number)
-
-only_retrieve : (op : Op) → is_retrieve op ≡ true → op ≡ Retrieve
-only_retrieve Create t = absurd (false≢true t)
-only_retrieve Retrieve t = refl
-only_retrieve Update t = absurd (false≢true t)
-only_retrieve Delete t = absurd (false≢true t)
-only_retrieve Notify t = absurd (false≢true t)
+  pub served : does_serve request.op ≡ true
+  pub is : effect ≡ operated_by request.op e request target
 
 module _ (e : EntityData) (request : RequestParts) where
   abbrev Ways : Effect → Type 0
-  Ways effect = IsRefused e request effect ⊎ IsRead e request effect
+  Ways effect = IsRefused e request effect ⊎ IsOperated e request effect
 
-  on_resource : (n : ℕ) (o : Option ResourceData) → request.op ≡ Retrieve → named_by e.home request.to e.nodes ≡ Some (Resource n) → at n e.nodes ≡ o → Ways (to_resource e request o)
-  on_resource n None op is found = inl (NotFound, refl, refl)
-  on_resource n (Some r) op is found = inr (record {
+  on_resource : (n : ℕ) (o : Option ResourceData) → does_serve request.op ≡ true → named_by e.home request.to e.nodes ≡ Some (Resource n) → at n e.nodes ≡ o → Ways (to_resource e request o)
+  on_resource n None served is found = inl (NotFound, refl, refl)
+  on_resource n (Some r) served is found = inr (record {
     target = r;
     there = ap (λ (m : ℕ). at m e.nodes) (at_number n e.nodes r found) ∙ found;
     named = ap (option_and_then (resource_at e.nodes)) is ∙ found;
     alone = ap (option_and_then fan_group) is;
-    retrieves = op;
+    served = served;
     is = refl;
   })
 
-  on_spot : (spot : Option Spot) → request.op ≡ Retrieve → named_by e.home request.to e.nodes ≡ spot → Ways (at_spot e request spot)
-  on_spot None op is = inl (NotFound, refl, refl)
-  on_spot (Some (Resource n)) op is = on_resource n (at n e.nodes) op is refl
-  on_spot (Some (Fan group rest)) op is = inl (BadRequest, refl, refl)
-  on_spot (Some (Poll channel)) op is = inl (BadRequest, refl, refl)
+  on_spot : (spot : Option Spot) → does_serve request.op ≡ true → named_by e.home request.to e.nodes ≡ spot → Ways (at_spot e request spot)
+  on_spot None served is = inl (NotFound, refl, refl)
+  on_spot (Some (Resource n)) served is = on_resource n (at n e.nodes) served is refl
+  on_spot (Some (Fan group rest)) served is = inl (BadRequest, refl, refl)
+  on_spot (Some (Poll channel)) served is = inl (BadRequest, refl, refl)
 
   abbrev spot_is : Option Spot
   spot_is = named_by e.home request.to e.nodes
@@ -84,7 +74,7 @@ module _ (e : EntityData) (request : RequestParts) where
             | inr f ↦ inl (NonBlocking, refl, rw (s, o, a, t, f) refl)
             | inl b ↦
                 let passed : effect_of e request ≡ at_spot e request spot_is = rw (s, o, a, t, b) refl in
-                subst Ways (sym passed) (on_spot spot_is (only_retrieve request.op s) refl)
+                subst Ways (sym passed) (on_spot spot_is s refl)
           ]
         ]
       ]

@@ -24,6 +24,7 @@ use Rattle.entity_model.specs.Entity.{EntityData}
 use Rattle.entity_model.specs.Places.{refusal, Effect, answering, refused, Place, unless}
 use Rattle.entity_model.specs.Places.{unless_refused}
 use Rattle.retrieve_discover.specs.Replies.{discovered, retrieved}
+use Rattle.create_delete.specs.Changing.{performed}
 use Rattle.cse_machine.specs.declared.event.Outcome.{Outcome}
 use Rattle.cse_machine.specs.declared.event.Outcome.TheVariants.{Done}
 use Rattle.request_rules.specs.Rights.{is_discovery}
@@ -35,17 +36,16 @@ starved request = refusal request Internal
 
 -- ---- which requests are served
 
--- a Retrieve
-abbrev pub is_retrieve : Op → Bool
-is_retrieve Retrieve = true
-is_retrieve Create = false
-is_retrieve Update = false
-is_retrieve Delete = false
-is_retrieve Notify = false
+-- the operations that are served so far, on resources of every type
+abbrev pub does_serve : Op → Bool
+does_serve Create = false
+does_serve Retrieve = true
+does_serve Update = false
+does_serve Delete = true
+does_serve Notify = false
 
--- the requests that are served so far
 abbrev pub is_served : RequestParts → Bool
-is_served request = is_retrieve request.op
+is_served request = does_serve request.op
 
 -- ---- where a request is refused whatever its address names
 
@@ -95,9 +95,19 @@ reading_reply e request n =
     then discovered e.home e.nodes (claimed_originator e.home request) request n
     else retrieved e.home e.nodes (claimed_originator e.home request) request n
 
--- what an operation on a resource gives
-abbrev pub operated : EntityData → RequestParts → ResourceData → Effect
-operated e request target = answering e (reading_reply e request target.number)
+-- what an operation that may change something gives, for its originator: a refusal by the first
+-- place that doesn't hold, or what is done
+unfoldable pub changing : Op → EntityData → RequestParts → ResourceData → Effect
+changing op e request target = performed op e (claimed_originator e.home request) request target
+
+-- what an operation on a resource gives: a Retrieve reads it, and every other may change something
+-- (TS-0001, 10.2)
+abbrev pub operated_by : Op → EntityData → RequestParts → ResourceData → Effect
+operated_by Create e request target = changing Create e request target
+operated_by Retrieve e request target = answering e (reading_reply e request target.number)
+operated_by Update e request target = changing Update e request target
+operated_by Delete e request target = changing Delete e request target
+operated_by Notify e request target = changing Notify e request target
 
 -- ---- one request
 
@@ -111,10 +121,14 @@ resource_at nodes (Poll channel) = None
 abbrev pub addressed : EntityData → List ℕ → Option ResourceData
 addressed e to = option_and_then (resource_at e.nodes) (named_by e.home to e.nodes)
 
+-- what an operation gives on the resource that was found, if one was
+abbrev pub on_found : Op → EntityData → RequestParts → Option ResourceData → Effect
+on_found op e request None = refused e request NotFound
+on_found op e request (Some target) = operated_by op e request target
+
 -- what a request to a resource gives
 abbrev pub to_resource : EntityData → RequestParts → Option ResourceData → Effect
-to_resource e request None = refused e request NotFound
-to_resource e request (Some target) = operated e request target
+to_resource e request found = on_found request.op e request found
 
 -- what a request gives at what its address names. That this is nothing comes before any right; so
 -- does a foreign address, as no request goes on to another CSE yet. Fan-out points and poll points
@@ -125,11 +139,14 @@ at_spot e request (Some (Resource n)) = to_resource e request (at n e.nodes)
 at_spot e request (Some (Fan group rest)) = refused e request BadRequest
 at_spot e request (Some (Poll channel)) = refused e request BadRequest
 
+-- what comes of a request at what its address names, unless one of these places refuses it
+abbrev pub judged_at : List Place → EntityData → RequestParts → Option Spot → Effect
+judged_at places e request spot = unless_refused places e request (at_spot e request spot)
+
 -- what comes of a request to an entity from which what is due is gone
 abbrev pub effect_of : EntityData → RequestParts → Effect
 effect_of e request =
-    unless_refused (first_places e request) e request
-    (at_spot e request (named_by e.home request.to e.nodes))
+    judged_at (first_places e request) e request (named_by e.home request.to e.nodes)
 
 -- the outcome, and the entity after it
 abbrev pub given : EntityData → RequestParts → Outcome × EntityData

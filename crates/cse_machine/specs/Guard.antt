@@ -1,5 +1,5 @@
 -- What a request may show, and what it may change.
-use Rattle.std.specs.Prelude.{◌≡◌, ◌≢◌, ◌⊎◌, ℕ, Bool, false, List, [], ◌∷◌, ◌++◌, Option, Some}
+use Rattle.std.specs.Prelude.{◌≡◌, ◌≢◌, ◌⊎◌, ℕ, ◌≤◌, Bool, true, false, List, [], ◌∷◌, ◌++◌, Option, Some}
 use Rattle.std.specs.Prelude.{None, option_and_then, IsTrue, codes, map}
 use Rattle.std.specs.Prelude.{if◌then◌else◌}
 use Rattle.std.specs.Int.{is_in_range}
@@ -11,7 +11,7 @@ use Rattle.m2m_names.specs.declared.types.Ty.TheVariants.{Container}
 use Rattle.m2m_names.specs.Operations.{op_row}
 use Rattle.m2m_names.specs.StatusCodes.{rsc_row}
 use Rattle.m2m_names.specs.declared.codes.Rsc.{Rsc}
-use Rattle.m2m_names.specs.declared.codes.Rsc.TheVariants.{Ok as Fine}
+use Rattle.m2m_names.specs.declared.codes.Rsc.TheVariants.{Deleted, Ok as Fine}
 use Rattle.m2m_names.specs.declared.operations.Op.{Op}
 use Rattle.m2m_names.specs.declared.operations.Op.TheVariants.{Create, Retrieve, Update, Delete}
 use Rattle.m2m_names.specs.declared.operations.Op.TheVariants.{Notify}
@@ -29,10 +29,11 @@ use Rattle.policy_eval.specs.Rights.{relinks, fan_grants}
 use Rattle.addressing.specs.Laws.{named_by}
 use Rattle.addressing.specs.declared.spot.Spot.{Spot}
 use Rattle.addressing.specs.declared.spot.Spot.TheVariants.{Resource, Fan, Poll}
-use Rattle.entity_model.specs.Entity.{EntityData, swept}
+use Rattle.entity_model.specs.Entity.{EntityData, event_moment, swept}
 use Rattle.entity_model.specs.Places.{reply_to}
 use Rattle.entity_model.specs.Sound.{IsSoundEntity}
 use Rattle.retrieve_discover.specs.Guard.{OthersAreShownByRight}
+use Rattle.create_delete.specs.Changing.{delete_effect}
 use Rattle.cse_machine.specs.declared.event.Event.{Event}
 use Rattle.cse_machine.specs.declared.event.Event.TheVariants.{Ask}
 use Rattle.cse_machine.specs.declared.event.Outcome.{Outcome}
@@ -251,6 +252,29 @@ RetrievesChangeNoResource =
     (reading : ℕ) (request : RequestParts) (before after : EntityData) (reply : ReplyParts)
     → request.op ≡ Retrieve → Step reading (Ask request) before (Done reply) after
     → after.nodes ≡ (swept reading before).nodes
+
+-- A Delete that is served takes the resource that its address names and all that stands below it,
+-- and changes nothing else (TS-0001, 10.2.5).
+abbrev pub DeletesTakeTheirTarget : Type 0
+DeletesTakeTheirTarget =
+    (reading : ℕ) (request : RequestParts) (before after : EntityData) (reply : ReplyParts)
+    → request.op ≡ Delete → Step reading (Ask request) before (Done reply) after
+    → is_success reply.rsc ≡ true
+    → (target : ResourceData) × (addressed (swept reading before) request.to ≡ Some target)
+    × (reply ≡ reply_to request Deleted None)
+    × (after ≡ (delete_effect (swept reading before) request target).after)
+
+-- Whatever happens, an entity keeps its home; its moment is that of the event, or stays where memory
+-- ran out before the expiry; and its next number doesn't fall.
+pub record IsSameEntity (reading : ℕ) (before after : EntityData) : Type 0 where
+  pub home : after.home ≡ before.home
+  pub last : (after.last ≡ event_moment before.last reading) ⊎ (after ≡ before)
+  pub next : before.next ≤ after.next
+
+abbrev pub StepsKeepTheEntity : Type 0
+StepsKeepTheEntity =
+    (reading : ℕ) (event : Event) (outcome : Outcome) (before after : EntityData)
+    → Step reading event before outcome after → IsSameEntity reading before after
 
 -- Where memory runs out, nothing changes but that what is due may be gone.
 abbrev pub WantOfMemoryChangesNothing : Type 0

@@ -1,6 +1,9 @@
 -- What an originator sees of an entity, and that it is answered by no more than that.
-use Rattle.std.specs.Prelude.{◌≡◌, ◌⊎◌, ℕ, List, Bool, false, ◌||◌, not, IsTrue}
+use Rattle.std.specs.Prelude.{◌≡◌, ◌⊎◌, ℕ, List, Bool, true, false, ◌||◌, not, IsTrue}
 use Rattle.std.specs.List.{All}
+use Rattle.m2m_names.specs.declared.operations.Op.{Op}
+use Rattle.m2m_names.specs.declared.operations.Op.TheVariants.{Create, Retrieve, Update, Delete}
+use Rattle.m2m_names.specs.declared.operations.Op.TheVariants.{Notify}
 use Rattle.turn_desk.specs.Entries.{readings_of, events_of, outcomes_of}
 use Rattle.primitive_json.specs.declared.reply.ReplyParts.{ReplyParts}
 use Rattle.primitive_json.specs.declared.request.RequestParts.{RequestParts}
@@ -12,7 +15,7 @@ use Rattle.entity_model.specs.Sound.{IsSoundEntity}
 use Rattle.cse_machine.specs.declared.event.Event.{Event}
 use Rattle.cse_machine.specs.declared.event.Event.TheVariants.{Ask}
 use Rattle.cse_machine.specs.declared.event.Outcome.TheVariants.{Done}
-use Rattle.cse_machine.specs.Answer.{is_retrieve, is_served, given}
+use Rattle.cse_machine.specs.Answer.{is_served, given}
 use Rattle.cse_machine.specs.History.{History, HistoryLeaves, IsDone}
 use Rattle.cse_machine.specs.Rights.{claimed_originator}
 use Rattle.cse_machine.specs.Step.{Step}
@@ -42,10 +45,18 @@ EqualSightsHaveOneShape =
     → IsSoundEntity left → IsSoundEntity right → sight o left ≡ sight o right
     → shape o left ≡ shape o right
 
--- the requests of which the laws of equal sight speak so far: a Retrieve, and what isn't served,
--- which every entity refuses alike
+-- the operations of which the laws of equal sight speak so far
+abbrev pub does_cover : Op → Bool
+does_cover Create = false
+does_cover Retrieve = true
+does_cover Update = false
+does_cover Delete = true
+does_cover Notify = false
+
+-- the requests of which they speak: by one of these, or one that isn't served, which every entity
+-- refuses alike
 abbrev pub is_covered : RequestParts → Bool
-is_covered request = is_retrieve request.op || not (is_served request)
+is_covered request = does_cover request.op || not (is_served request)
 
 -- the request is one of them, and judged as this originator's, or anyone's where it isn't served
 abbrev pub IsRequestBy : HomeData → List ℕ → RequestParts → Type 0

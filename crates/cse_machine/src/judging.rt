@@ -7,11 +7,11 @@ use m2m_names::Op;
 use primitive_json::{Request, When};
 use tree_model::Tree;
 
-/// Whether the request is one of those that are served so far: a Retrieve.
+/// Whether the request is one of those that are served so far: a Retrieve or a Delete.
 pub(crate) fn is_served(request: &Request) -> bool
     ensures { result ≡ spec.is_served request.now }
 {
-    matches!(request.parts().op, Op::Retrieve)
+    matches!(request.parts().op, Op::Retrieve | Op::Delete)
 }
 
 /// Whether it hasn't expired at the moment of the event.

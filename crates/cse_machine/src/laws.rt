@@ -2,6 +2,7 @@
 ghost use Rattle.cse_machine.specs.Guard.{StepsAreGuarded, HistoriesAreGuarded};
 ghost use Rattle.cse_machine.specs.Guard.{RefusalsChangeNothing, RetrievesChangeNoResource};
 ghost use Rattle.cse_machine.specs.Guard.{WantOfMemoryChangesNothing};
+ghost use Rattle.cse_machine.specs.Guard.{StepsKeepTheEntity, DeletesTakeTheirTarget};
 ghost use Rattle.cse_machine.specs.History.{BeginsLegal, StaysLegal, StaysSound, GoesOneWay};
 ghost use Rattle.cse_machine.specs.Sight.{IsAnsweredBySight, EqualSightsAnswerAlike};
 ghost use Rattle.cse_machine.specs.Sight.{EqualSightsHaveOneShape, EqualSightsStayAlike};
@@ -48,6 +49,13 @@ pub fn what_is_refused_or_read_changes_nothing()
     ensures refused { RefusalsChangeNothing }
     ensures retrieved { RetrievesChangeNoResource }
     ensures starved { WantOfMemoryChangesNothing }
+{}
+
+/// A step keeps the home and the moment of the event, and the next number doesn't fall; a Delete that
+/// is served takes its target and what stands below that, and changes nothing else.
+pub fn a_step_changes_what_is_asked_alone()
+    ensures entity { StepsKeepTheEntity }
+    ensures deleted { DeletesTakeTheirTarget }
 {}
 
 /// An entity that opens leaves the empty history, and each step of the entity that a history leaves

@@ -4,8 +4,8 @@
 //! entity is then the one after it. Both are exactly the relation `Step` of `specs/Step`: one
 //! function of the entity without what is due and of the request, and want of memory as the one
 //! free answer. Every request may be asked. Those that aren't served yet (`is_served` of
-//! `specs/Answer`) are answered as malformed: so far all but a Retrieve, and that of a virtual
-//! resource, a fan-out point or a poll point.
+//! `specs/Answer`) are answered as malformed: so far all but a Retrieve and a Delete, and those of a
+//! fan-out point or a poll point.
 //!
 //! Laws over every history stand on functions without a body. What is shown or changed is so by a
 //! grant to the originator; and an originator is answered by no more than it sees, in the requests
@@ -20,8 +20,8 @@ mod machine;
 pub use event::{Event, Outcome};
 pub use laws::{
     a_history_goes_one_way, a_sight_has_the_shape_of_its_entity,
-    an_originator_is_answered_by_what_it_sees, equal_sights_are_answered_alike,
-    nothing_is_shown_or_changed_without_a_grant, steps_make_a_legal_history,
-    what_is_refused_or_read_changes_nothing,
+    a_step_changes_what_is_asked_alone, an_originator_is_answered_by_what_it_sees,
+    equal_sights_are_answered_alike, nothing_is_shown_or_changed_without_a_grant,
+    steps_make_a_legal_history, what_is_refused_or_read_changes_nothing,
 };
 pub use machine::step;

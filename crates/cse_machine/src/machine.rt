@@ -1,30 +1,32 @@
 //! One event after another.
-ghost use Rattle.std.specs.Prelude.{◌≡◌, ◌<◌, IfOk, IfSome, IsTrue, Ok, option_map};
+ghost use Rattle.std.specs.Prelude.{◌≡◌, ◌<◌, IfOk, IfSome, IsTrue, Ok, OnErr, OnOk, option_map};
 ghost use Rattle.std.specs.Prelude.{option_and_then};
 ghost use Rattle.m2m_names.specs.Name.{is_originator};
+ghost use Rattle.m2m_names.specs.declared.operations.Op.TheVariants.{Retrieve};
 ghost use Rattle.tree_model.specs.Tree.{at, has};
-ghost use Rattle.addressing.specs.Addresses.{address_of};
+ghost use Rattle.addressing.specs.Addresses.{GivesAddress, address_of};
 ghost use Rattle.addressing.specs.Laws.{named_by, named_here};
 ghost use Rattle.addressing.specs.Names.{IsLocal, segments_of, spot_of};
 ghost use Rattle.addressing.specs.Short.{short_of};
-ghost use Rattle.entity_model.specs.Places.{unless_refused};
-ghost use Rattle.cse_machine.specs.Answer.{address_places, at_spot, effect_of, reading_reply};
-ghost use Rattle.cse_machine.specs.Answer.{time_places, to_resource};
-ghost use Rattle.cse_machine.specs.Rights as rights;
+ghost use Rattle.cse_machine.specs.Answer.{address_places, at_spot, effect_of, judged_at};
+ghost use Rattle.cse_machine.specs.Answer.{on_found, reading_reply, time_places, to_resource};
+ghost use Rattle.cse_machine.specs.Answer as spec;
+ghost use Rattle.cse_machine.specs.Rights.{claimed_originator};
 ghost use Rattle.cse_machine.specs.Step.{Step};
 
 use crate::event::{Event, Outcome};
 use crate::judging::{is_blocking, is_in_time, is_served};
 use addressing::{Addr, AddrFault, Spot, parse, resolve, short_fr};
+use create_delete::delete;
 use entity_model::{Entity, refuse, sweep};
-use m2m_names::Rsc;
+use m2m_names::{Op, Rsc};
 use primitive_json::{Reply, Request};
-use request_rules::is_discovery;
+use request_rules::{find, is_discovery};
 use retrieve_discover::{discover, retrieve};
 use std::alloc::{AllocError as OutOfMemory, Global};
 use std::marker::Brand;
 use std::sync::ledger::{Blank, Ledger};
-use tree_model::{Home, Resource, Steps, Tree};
+use tree_model::{Steps, Tree};
 
 /// Takes one event at a reading of the clock, in seconds since 1970: what is due by then is
 /// removed, and the request is answered on what is left. Where memory runs out, nothing has changed
@@ -49,50 +51,63 @@ fn ask<T: Tree>(alloc: Global, entity: &mut Entity<T>, reading: u64, request: &R
     }
 }
 
-// What the request gives on the entity as it stands. So far none changes it.
+// What the request gives on the entity as it stands.
 fn answer<T: Tree>(
     alloc: Global,
-    entity: &Entity<T>,
+    entity: &mut Entity<T>,
     request: &Request,
 ) -> Result<Reply, OutOfMemory>
-    ensures reply { IfOk result (λ r. r ≡ (effect_of entity.now request.now).reply) }
-    ensures after { (effect_of entity.now request.now).after ≡ entity.now }
+    ensures reply { IfOk result (λ r. r ≡ (effect_of entity.old request.now).reply) }
+    ensures after { OnOk result (entity.new ≡ (effect_of entity.old request.now).after) }
+    ensures err { OnErr result (entity.new ≡ entity.old) }
 {
     if !is_served(request) {
         return refuse(alloc, request, Rsc::BadRequest);
     }
-    match originator(&entity.home, request) {
+    match originator(entity, request) {
         Some(o) => answer_to(alloc, entity, request, o),
         None => refuse(alloc, request, Rsc::BadRequest),
     }
 }
 
 // Whom the request is judged as, in the short form.
-fn originator<'a>(home: &Home, request: &'a Request) -> Option<&'a [u8]>
+fn originator<'a, T: Tree>(entity: &Entity<T>, request: &'a Request) -> Option<&'a [u8]>
     ensures value { option_map (λ o. o.now) result
-        ≡ option_and_then (short_of home.now) request.now.fr }
+        ≡ option_and_then (short_of entity.now.home) request.now.fr }
     ensures originator { IfSome result (λ o. IsTrue (is_originator o.now)) }
 {
     match &request.parts().fr {
-        Some(fr) => short_fr(fr.entries(), home),
+        Some(fr) => short_fr(fr.entries(), &entity.home),
         None => None,
     }
+}
+
+// The address that it is sent to.
+fn address<T: Tree>(alloc: Global, entity: &Entity<T>, request: &Request) -> Result<Addr, AddrFault>
+    ensures { GivesAddress result (address_of entity.now.home request.now.to) }
+{
+    parse(alloc, request.parts().to.entries(), &entity.home)
 }
 
 // What the request of this originator gives, by its address.
 fn answer_to<T: Tree>(
     alloc: Global,
-    entity: &Entity<T>,
+    entity: &mut Entity<T>,
     request: &Request,
     o: &[u8],
 ) -> Result<Reply, OutOfMemory>
+    requires served { IsTrue (spec.is_served request.now) }
     requires originator { IsTrue (is_originator o.now) }
-    requires claimed { rights.claimed_originator entity.now.home request.now ≡ o.now }
-    ensures { IfOk result (λ r. r ≡ (unless_refused (address_places entity.now request.now)
-        entity.now request.now (at_spot entity.now request.now
-        (named_by entity.now.home request.now.to entity.now.nodes))).reply) }
+    requires claimed { claimed_originator entity.old.home request.now ≡ o.now }
+    ensures reply { IfOk result (λ r. r ≡ (judged_at (address_places entity.old request.now)
+        entity.old request.now
+        (named_by entity.old.home request.now.to entity.old.nodes)).reply) }
+    ensures after { OnOk result (entity.new ≡ (judged_at (address_places entity.old request.now)
+        entity.old request.now
+        (named_by entity.old.home request.now.to entity.old.nodes)).after) }
+    ensures err { OnErr result (entity.new ≡ entity.old) }
 {
-    match parse(alloc, request.parts().to.entries(), &entity.home) {
+    match address(alloc, entity, request) {
         Ok(addr) => answer_at(alloc, entity, request, o, &addr),
         Err(AddrFault::OutOfMemory) => Err(OutOfMemory),
         Err(_) => refuse(alloc, request, Rsc::BadRequest),
@@ -102,16 +117,19 @@ fn answer_to<T: Tree>(
 // What it gives at an address.
 fn answer_at<T: Tree>(
     alloc: Global,
-    entity: &Entity<T>,
+    entity: &mut Entity<T>,
     request: &Request,
     o: &[u8],
     addr: &Addr,
 ) -> Result<Reply, OutOfMemory>
+    requires served { IsTrue (spec.is_served request.now) }
     requires originator { IsTrue (is_originator o.now) }
-    requires claimed { rights.claimed_originator entity.now.home request.now ≡ o.now }
-    ensures { IfOk result (λ r. r ≡ (unless_refused (time_places entity.now request.now)
-        entity.now request.now (at_spot entity.now request.now
-        (named_here (Ok addr.now) entity.now.nodes))).reply) }
+    requires claimed { claimed_originator entity.old.home request.now ≡ o.now }
+    ensures reply { IfOk result (λ r. r ≡ (judged_at (time_places entity.old request.now)
+        entity.old request.now (named_here (Ok addr.now) entity.old.nodes)).reply) }
+    ensures after { OnOk result (entity.new ≡ (judged_at (time_places entity.old request.now)
+        entity.old request.now (named_here (Ok addr.now) entity.old.nodes)).after) }
+    ensures err { OnErr result (entity.new ≡ entity.old) }
 {
     if !is_in_time(entity, request) {
         return refuse(alloc, request, Rsc::RequestTimeout);
@@ -119,15 +137,39 @@ fn answer_at<T: Tree>(
     if !is_blocking(request) {
         return refuse(alloc, request, Rsc::NonBlocking);
     }
-    reach(alloc, entity, request, o, named(&entity.tree, addr))
+    let spot = named(entity, addr);
+    reach(alloc, entity, request, o, spot)
+}
+
+// What it gives at what its address names.
+fn reach<T: Tree>(
+    alloc: Global,
+    entity: &mut Entity<T>,
+    request: &Request,
+    o: &[u8],
+    spot: Option<Spot>,
+) -> Result<Reply, OutOfMemory>
+    requires served { IsTrue (spec.is_served request.now) }
+    requires originator { IsTrue (is_originator o.now) }
+    requires claimed { claimed_originator entity.old.home request.now ≡ o.now }
+    ensures reply { IfOk result (λ r. r ≡ (at_spot entity.old request.now spot).reply) }
+    ensures after { OnOk result (entity.new ≡ (at_spot entity.old request.now spot).after) }
+    ensures err { OnErr result (entity.new ≡ entity.old) }
+{
+    match spot {
+        None => refuse(alloc, request, Rsc::NotFound),
+        Some(Spot::Resource(number)) => operate(alloc, entity, request, o, number),
+        Some(Spot::Fan { .. }) => refuse(alloc, request, Rsc::BadRequest),
+        Some(Spot::Poll(_)) => refuse(alloc, request, Rsc::BadRequest),
+    }
 }
 
 // What an address names here. Steps aren't counted.
-fn named<T: Tree>(tree: &T, addr: &Addr) -> Option<Spot>
-    ensures { result ≡ named_here (Ok addr.now) (T.nodes tree.now) }
+fn named<T: Tree>(entity: &Entity<T>, addr: &Addr) -> Option<Spot>
+    ensures { result ≡ named_here (Ok addr.now) entity.now.nodes }
 {
     match addr {
-        Addr::Local(_) => resolved::<T, Brand>(tree, addr, Blank::new(1)),
+        Addr::Local(_) => resolved::<T, Brand>(&entity.tree, addr, Blank::new(1)),
         _ => None,
     }
 }
@@ -143,27 +185,34 @@ fn resolved<T: Tree, L: Ledger>(tree: &T, addr: &Addr, blank: Blank) -> Option<S
     resolve(tree, addr, &mut steps)
 }
 
-// What it gives at what its address names.
-fn reach<T: Tree>(
+// What it gives on the resource of a number.
+fn operate<T: Tree>(
     alloc: Global,
-    entity: &Entity<T>,
+    entity: &mut Entity<T>,
     request: &Request,
     o: &[u8],
-    spot: Option<Spot>,
+    number: u64,
 ) -> Result<Reply, OutOfMemory>
+    requires served { IsTrue (spec.is_served request.now) }
     requires originator { IsTrue (is_originator o.now) }
-    requires claimed { rights.claimed_originator entity.now.home request.now ≡ o.now }
-    ensures { IfOk result (λ r. r ≡ (at_spot entity.now request.now spot).reply) }
+    requires claimed { claimed_originator entity.old.home request.now ≡ o.now }
+    ensures reply { IfOk result (λ r. r
+        ≡ (to_resource entity.old request.now (at number entity.old.nodes)).reply) }
+    ensures after { OnOk result (entity.new
+        ≡ (to_resource entity.old request.now (at number entity.old.nodes)).after) }
+    ensures err { OnErr result (entity.new ≡ entity.old) }
 {
-    match spot {
-        None => refuse(alloc, request, Rsc::NotFound),
-        Some(Spot::Resource(number)) => reach_resource(alloc, entity, request, o, number),
-        Some(Spot::Fan { .. }) => refuse(alloc, request, Rsc::BadRequest),
-        Some(Spot::Poll(_)) => refuse(alloc, request, Rsc::BadRequest),
+    match request.parts().op {
+        Op::Retrieve => read(alloc, entity, request, o, number),
+        Op::Delete => delete(alloc, entity, o, request, number),
+        Op::Create => unreachable!(),
+        Op::Update => unreachable!(),
+        Op::Notify => unreachable!(),
     }
 }
 
-fn reach_resource<T: Tree>(
+// What reading it gives.
+fn read<T: Tree>(
     alloc: Global,
     entity: &Entity<T>,
     request: &Request,
@@ -171,53 +220,33 @@ fn reach_resource<T: Tree>(
     number: u64,
 ) -> Result<Reply, OutOfMemory>
     requires originator { IsTrue (is_originator o.now) }
-    requires claimed { rights.claimed_originator entity.now.home request.now ≡ o.now }
+    requires claimed { claimed_originator entity.now.home request.now ≡ o.now }
     ensures { IfOk result (λ r. r
-        ≡ (to_resource entity.now request.now (at number entity.now.nodes)).reply) }
+        ≡ (on_found Retrieve entity.now request.now (at number entity.now.nodes)).reply) }
 {
     match find(entity, number) {
-        Some(target) => operate(alloc, entity, request, o, target),
+        Some(target) => read_resource(alloc, entity, request, o, target.number()),
         None => refuse(alloc, request, Rsc::NotFound),
     }
 }
 
-fn find<T: Tree>(entity: &Entity<T>, number: u64) -> Option<&Resource>
-    ensures value { option_map (λ r. r.now) result ≡ at number entity.now.nodes }
-    ensures there { IfSome result (λ r. IsTrue (has r.now.number entity.now.nodes)) }
-{
-    entity.tree.get(number)
-}
-
-// What it gives on a resource that is there: so far it reads.
-fn operate<T: Tree>(
+fn read_resource<T: Tree>(
     alloc: Global,
     entity: &Entity<T>,
     request: &Request,
     o: &[u8],
-    target: &Resource,
+    number: u64,
 ) -> Result<Reply, OutOfMemory>
     requires originator { IsTrue (is_originator o.now) }
-    requires claimed { rights.claimed_originator entity.now.home request.now ≡ o.now }
-    requires resource { IsTrue (has target.now.number entity.now.nodes) }
-    ensures { IfOk result (λ r. r ≡ reading_reply entity.now request.now target.now.number) }
+    requires claimed { claimed_originator entity.now.home request.now ≡ o.now }
+    requires resource { IsTrue (has number entity.now.nodes) }
+    ensures { IfOk result (λ r. r ≡ reading_reply entity.now request.now number) }
 {
+    let tree = &entity.tree;
+    let home = &entity.home;
     if is_discovery(request) {
-        discover(
-            alloc,
-            &entity.tree,
-            &entity.home,
-            o,
-            request,
-            target.number(),
-        )
+        discover(alloc, tree, home, o, request, number)
     } else {
-        retrieve(
-            alloc,
-            &entity.tree,
-            &entity.home,
-            o,
-            request,
-            target.number(),
-        )
+        retrieve(alloc, tree, home, o, request, number)
     }
 }

@@ -1,4 +1,4 @@
-use Rattle.std.proofs.Common.{sym, ap, ◌∙◌}
+use Rattle.std.proofs.Common.{ap, ◌∙◌}
 use Rattle.entity_model.specs.Entity.{EntityData}
 use Rattle.cse_machine.specs.Answer.{effect_of}
 use Rattle.cse_machine.specs.declared.event.Outcome.TheVariants.{Done}
@@ -10,5 +10,5 @@ returns-in-Ok g c =
     let request = c.args.request.now in
     let left = c.in_default.ensures.ok in (
       ap Done (c.in-Ok.ensures.reply ∙ ap (λ (e : EntityData). (effect_of e request).reply) left),
-      sym c.in-Ok.ensures.after ∙ ap (λ (e : EntityData). (effect_of e request).after) left,
+      c.in-Ok.ensures.after ∙ ap (λ (e : EntityData). (effect_of e request).after) left,
     )

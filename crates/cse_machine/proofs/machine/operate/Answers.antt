@@ -1,19 +1,24 @@
-use Rattle.std.proofs.Common.{ℕ, sym, ap, ◌∙◌}
-use Rattle.entity_model.specs.Entity.{EntityData}
-use Rattle.retrieve_discover.specs.Replies.{discovered}
-use Rattle.cse_machine.specs.Answer.{reading_reply}
-use Rattle.cse_machine.proofs.PlaceLemmas.{reading_found, replied}
+use Rattle.std.proofs.Common.{◌≡◌, IfOk, OnOk, sym, ap, subst, ◌∙◌}
+use Rattle.primitive_json.specs.declared.request.RequestParts.{RequestParts}
+use Rattle.entity_model.specs.Places.{Effect}
+use Rattle.cse_machine.proofs.ChangingLemmas.{delete_to}
 use Rattle.cse_machine.proofs.machine.operate.Goals as goal
 
--- what looks for resources is answered by discovery
-pub returns-then-is_discovery : goal.returns-then-is_discovery
-returns-then-is_discovery g c =
+-- a Delete gives what it is to give
+pub returns-in-Delete-clause-reply : goal.returns-in-Delete-clause-reply
+returns-in-Delete-clause-reply g c =
     let e = c.args.entity.now in
     let request = c.args.request.now in
-    let n = c.args.target.now.number in
-    let o = c.args.o.now in
-    replied c.discover.result (discovered c.entity.inside.home (g.T.Tree.nodes c.entity.inside.tree) o request c.number.result) (reading_reply e request n)
-    (reading_found e request n o c.requires.claimed (sym c.is_discovery.ensures ∙ c.if-is_discovery.true)
-    ∙ ap (λ (x : EntityData). discovered x.home x.nodes o request n) (sym c.entity.view_is)
-    ∙ ap (λ (k : ℕ). discovered c.entity.inside.home (g.T.Tree.nodes c.entity.inside.tree) o request k) (sym c.number.ensures.value))
-    c.discover.ensures
+    let is =
+    delete_to e request c.args.o.now c.args.number c.requires.claimed
+    (ap (λ (r : RequestParts). r.op) (sym c.parts.ensures.same) ∙ c.in-Delete.is) in
+    subst (λ (x : Effect). IfOk c.delete.result (λ r. r ≡ x.reply)) (sym is) c.delete.ensures.reply
+
+pub returns-in-Delete-clause-after : goal.returns-in-Delete-clause-after
+returns-in-Delete-clause-after g c =
+    let e = c.args.entity.now in
+    let request = c.args.request.now in
+    let is =
+    delete_to e request c.args.o.now c.args.number c.requires.claimed
+    (ap (λ (r : RequestParts). r.op) (sym c.parts.ensures.same) ∙ c.in-Delete.is) in
+    subst (λ (x : Effect). OnOk c.delete.result (c.delete.new.entity ≡ x.after)) (sym is) c.delete.ensures.after
