@@ -1,2 +1,17 @@
+pub mod CreatableLemmas
+pub mod CreatedLemmas
 pub mod DeletionLemmas
+pub mod GrownLemmas
+pub mod InstanceLemmas
+pub mod JoiningLemmas
+pub mod KeptLemmas
+pub mod NewcomerLemmas
 pub mod PerformedLemmas
+pub mod PrunedLemmas
+pub mod PushingLemmas
+pub mod ReplacedLemmas
+pub mod ReplacementLemmas
+pub mod RowLemmas
+pub mod TellingLemmas
+pub mod UpdatableLemmas
+pub mod UpdatedLemmas

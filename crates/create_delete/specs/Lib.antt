@@ -1,1 +1,4 @@
 pub mod Changing
+pub mod Joining
+pub mod Newcomer
+pub mod Updating

@@ -1,13 +1,15 @@
 //! The tests of trees of resources: of the libraries `tree_model`, `container_limits`,
-//! `policy_eval`, `addressing`, `retrieve_discover` and `entity_model`, over their public calls.
-//! Each has a small tree whose answers were worked out by hand. Without its tests this library is
-//! empty, and no crate stands on it.
+//! `policy_eval`, `addressing`, `retrieve_discover`, `entity_model` and `create_delete`, over their
+//! public calls. Each has a small tree whose answers were worked out by hand. Without its tests this
+//! library is empty, and no crate stands on it.
 #![tactic(auto)]
 
 #[cfg(test)]
 mod of_addressing;
 #[cfg(test)]
 mod of_container_limits;
+#[cfg(test)]
+mod of_create_delete;
 #[cfg(test)]
 mod of_entity_model;
 #[cfg(test)]

@@ -1,0 +1,44 @@
+-- Removals of several numbers, one after another.
+use Rattle.std.specs.Prelude.{◌==◌, nat_eq}
+use Rattle.std.proofs.Common.{◌≡◌, ℕ, List, [], ◌∷◌, Bool, true, false, ◌||◌, inl, inr, refl, sym, ap, ◌∙◌}
+use Rattle.std.proofs.lemmas.Bool.{cases_Bool, or_from, or_parts}
+use Rattle.std.specs.List.{list_any}
+use Rattle.resource_model.specs.Resource.{ResourceData, has_number}
+use Rattle.tree_model.specs.Tree.{has, without, is_tree}
+use Rattle.tree_model.proofs.KeptLemmas.{is_tree-without}
+use Rattle.tree_model.proofs.LiveLemmas.{without_none}
+use Rattle.tree_model.proofs.TreeLemmas.{staying-same, list_any-same}
+use Rattle.entity_model.proofs.RemovalLemmas.{either, without_twice}
+use Rattle.create_delete.specs.Changing.{is_numbered_in, without_all}
+
+or_none : (b : Bool) → b ≡ (b || false)
+or_none true = refl
+or_none false = refl
+
+or_more : (a b : Bool) → ((a || false) || b) ≡ (a || b)
+or_more true b = refl
+or_more false b = refl
+
+-- those of the rest after that of the first
+pub one_more : (n : ℕ) (rest : List ℕ) (nodes : List ResourceData) → without_all rest (without_all (n ∷ []) nodes) ≡ without_all (n ∷ rest) nodes
+one_more n rest nodes =
+    without_twice (is_numbered_in (n ∷ [])) (is_numbered_in rest) nodes
+    ∙ staying-same (either (is_numbered_in (n ∷ [])) (is_numbered_in rest)) (is_numbered_in (n ∷ rest)) (λ r. or_more (nat_eq r.number n) (is_numbered_in rest r)) [] nodes
+
+pub one_removed : (n : ℕ) (nodes : List ResourceData) → without (has_number n) nodes ≡ without_all (n ∷ []) nodes
+one_removed n nodes = staying-same (has_number n) (is_numbered_in (n ∷ [])) (λ r. or_none (nat_eq r.number n)) [] nodes
+
+pub none_removed : (n : ℕ) (nodes : List ResourceData) → is_tree nodes ≡ true → has n nodes ≡ false → nodes ≡ without_all (n ∷ []) nodes
+none_removed n nodes tree lacks =
+    sym (without_none (is_numbered_in (n ∷ [])) nodes tree (list_any-same (is_numbered_in (n ∷ [])) (has_number n) (λ r. sym (or_none (nat_eq r.number n))) nodes ∙ lacks))
+
+-- of no numbers nothing is removed
+pub nothing_removed : (nodes : List ResourceData) → is_tree nodes ≡ true → without_all [] nodes ≡ nodes
+nothing_removed nodes tree = without_none (is_numbered_in []) nodes tree (none nodes)
+  where
+    none : (rs : List ResourceData) → list_any (is_numbered_in []) rs ≡ false
+    none [] = refl
+    none (r ∷ rs) = none rs
+
+pub one_less_is_tree : (n : ℕ) (nodes : List ResourceData) → is_tree nodes ≡ true → is_tree (without_all (n ∷ []) nodes) ≡ true
+one_less_is_tree n nodes tree = is_tree-without (is_numbered_in (n ∷ [])) nodes tree

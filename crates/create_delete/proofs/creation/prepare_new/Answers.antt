@@ -1,0 +1,24 @@
+use Rattle.std.proofs.Common.{◌≡◌, Option, ap, sym, ◌∙◌, subst}
+use Rattle.m2m_names.specs.declared.codes.Rsc.TheVariants.{Created}
+use Rattle.resource_model.specs.Resource.{ResourceData}
+use Rattle.entity_model.specs.Places.{reply_to}
+use Rattle.request_rules.specs.Creation.{Creation, creation_of, new_resource}
+use Rattle.create_delete.specs.Joining.{after_joining, filling_of, MayJoin}
+use Rattle.create_delete.specs.declared.joining.Filling.{Filling}
+use Rattle.create_delete.proofs.CreatedLemmas.{joining_effect, may_join}
+use Rattle.create_delete.proofs.creation.prepare_new.Goals as goal
+
+-- it may join as it is defined
+pub returns-clause-may : goal.returns-clause-may
+returns-clause-may g c =
+    let made : Creation = creation_of c.args.entity.now c.args.o.now c.args.ty c.args.parent.now c.args.members.now in
+    let joins : MayJoin made.e (new_resource made) (filling_of made) = may_join made c.tell_soundness.ensures c.requires.originator c.entries.ensures.sorted c.requires.allowed in
+    subst (λ (r : ResourceData). MayJoin made.e r c.in_ok-filling.filling) (sym c.in_ok-resource.ensures)
+    (subst (λ (f : Option Filling). MayJoin made.e (new_resource made) f) (sym (c.in_ok-filling.ensures c.args.o.now)) joins)
+
+pub returns-clause-after : goal.returns-clause-after
+returns-clause-after g c =
+    let made : Creation = creation_of c.args.entity.now c.args.o.now c.args.ty c.args.parent.now c.args.members.now in
+    ap (λ (r : ResourceData). after_joining made.e r c.in_ok-filling.filling) c.in_ok-resource.ensures
+    ∙ ap (after_joining made.e (new_resource made)) (c.in_ok-filling.ensures c.args.o.now)
+    ∙ joining_effect c.args.request.now made
