@@ -23,7 +23,7 @@ use Rattle.primitive_json.specs.declared.request.RequestParts.{RequestParts}
 use Rattle.resource_model.specs.Attributes.{Row, count_at, is_attr, text_at, value_of, with_value}
 use Rattle.resource_model.specs.Resource.{ResourceData, is_ty, ae_id, cse_id}
 use Rattle.resource_model.proofs.AttributeLemmas.{value-with_value_same, value-with_value_other}
-use Rattle.tree_model.specs.Shown.{with_rows}
+use Rattle.tree_model.specs.Shown.{with_rows, own_cse_id}
 use Rattle.tree_model.specs.Tree.{at, age_end, depth, due_under, fits_in, may_stand, has, has_ae_id, has_child, has_channel, has_cse_id, instances_of, is_due, is_placed, lesser, same_text, instance_size}
 use Rattle.tree_model.proofs.ShownLemmas.{with_rows-append}
 use Rattle.tree_model.proofs.TreeLemmas.{at_has, at_number}
@@ -31,14 +31,14 @@ use Rattle.attribute_rules.specs.Admission.{are_admitted, attributes_in}
 use Rattle.attribute_rules.specs.Contents.{named_text, value_created, wanted_in, wanted_of}
 use Rattle.attribute_rules.specs.declared.table.Writing.TheVariants.{Create as Creating}
 use Rattle.attribute_rules.proofs.ValueLemmas.{value_wanted}
-use Rattle.container_limits.specs.Limits.{evicted, is_within}
+use Rattle.container_limits.specs.Limits.{evicted, is_within, limits_of}
 use Rattle.policy_eval.specs.Rules.{listed_in, ids_at}
 use Rattle.entity_model.specs.Entity.{EntityData, last_reading}
-use Rattle.entity_model.specs.Sound.{is_known_id, own_cse_id, largest_size, greatest_count, greatest_depth, IsSoundEntity}
+use Rattle.entity_model.specs.Sound.{is_known_id, largest_size, greatest_count, greatest_depth, IsSoundEntity}
 use Rattle.request_rules.specs.Creation.{Creation, creator_rows, given_rows, has_room, is_below, is_free_cse_id, is_single, is_small, is_unique, new_ae_id, new_name, new_resource, new_rows, new_size, next_state, takes_instance}
 use Rattle.request_rules.specs.Policies.{link_row}
 use Rattle.request_rules.specs.Requests.{named_expiry}
-use Rattle.create_delete.specs.Changing.{create_effect, limits_of, nodes_created}
+use Rattle.create_delete.specs.Changing.{create_effect, nodes_created}
 use Rattle.create_delete.specs.Joining.{after_joining, filling_of, IsAllowed, MayJoin}
 use Rattle.create_delete.specs.Newcomer.{IsFilling, IsNewcomer}
 use Rattle.create_delete.proofs.NewcomerLemmas.{lacks_creator, lacks_given, lacks_link, link_known, new_kinds, new_name_is_free, state_small, wanted_none}

@@ -25,8 +25,9 @@ use Rattle.container_limits.specs.Limits.{is_within}
 use Rattle.policy_eval.specs.Rules.{policy_number, ids_at}
 use Rattle.entity_model.specs.Entity.{EntityData}
 use Rattle.create_delete.specs.Newcomer.{IsNewcomer}
-use Rattle.entity_model.specs.Sound.{is_known_id, has_known_ids, has_free_name, has_size, has_state_tag, is_shallow, is_within_limits, begins_with_base, own_cse_id, cse_ids, are_distinct, has_one_channel, IsSoundEntity}
+use Rattle.entity_model.specs.Sound.{is_known_id, has_known_ids, has_free_name, has_size, has_state_tag, is_shallow, is_within_limits, begins_with_base, cse_ids, are_distinct, has_one_channel, IsSoundEntity}
 use Rattle.entity_model.proofs.SoundLemmas.{all_weaker, IsFramed, framed_from, sound_framed}
+use Rattle.tree_model.specs.Shown.{own_cse_id}
 
 -- ---- tests over a list
 

@@ -24,13 +24,13 @@ use Rattle.tree_model.proofs.TreeLemmas.{at-append, at-replaced, at_has, at_numb
 use Rattle.attribute_rules.specs.Kinds.{is_attr_kind, have_kinds, are_kinds}
 use Rattle.attribute_rules.proofs.KindLemmas.{kinds-with_value}
 use Rattle.policy_eval.specs.Rules.{listed_in, ids_at}
-use Rattle.container_limits.specs.Limits.{do_fit, evicted, is_due_by, is_within, lasts}
+use Rattle.container_limits.specs.Limits.{do_fit, evicted, is_due_by, is_within, lasts, limits_of}
 use Rattle.container_limits.proofs.LimitLemmas.{fits_totals}
 use Rattle.tree_model.proofs.OrderLemmas.{ascend_filter, tree_ascends}
 use Rattle.entity_model.specs.Entity.{EntityData}
 use Rattle.entity_model.specs.Sound.{is_known_id, has_known_ids, has_state_tag, IsSoundEntity}
 use Rattle.entity_model.proofs.SoundLemmas.{IsFramed, framed_from}
-use Rattle.create_delete.specs.Changing.{is_numbered_in, limits_of, without_all}
+use Rattle.create_delete.specs.Changing.{is_numbered_in, without_all}
 use Rattle.request_rules.specs.Creation.{is_below, takes_instance}
 use Rattle.create_delete.specs.Newcomer.{IsFilling, IsReplacement}
 use Rattle.create_delete.proofs.GrownLemmas.{grown_by, framed_grown, is_within_but, quiet_grown, within_but_grown, none_all}

@@ -9,10 +9,10 @@ use Rattle.resource_model.specs.Resource.{ResourceData, is_ty}
 use Rattle.tree_model.specs.Tree.{at, may_stand, has_state, instances_of, is_tree, is_taken, restamped_at, instance_size}
 use Rattle.tree_model.proofs.QuietLemmas.{found_passes}
 use Rattle.tree_model.proofs.StampLemmas.{tree_restamped}
-use Rattle.container_limits.specs.Limits.{evicted}
+use Rattle.container_limits.specs.Limits.{evicted, limits_of}
 use Rattle.entity_model.specs.Entity.{EntityData}
 use Rattle.entity_model.specs.Sound.{has_state_tag, IsSoundEntity}
-use Rattle.create_delete.specs.Changing.{limits_of, without_all}
+use Rattle.create_delete.specs.Changing.{without_all}
 use Rattle.create_delete.specs.Joining.{filled, MayFill}
 use Rattle.create_delete.specs.Newcomer.{IsFilling, IsNewcomer}
 use Rattle.create_delete.specs.declared.joining.Filling.{Filling}

@@ -20,14 +20,14 @@ use Rattle.tree_model.proofs.GrowthLemmas.{growth, next_fits, at-without, below_
 use Rattle.tree_model.proofs.KeptLemmas.{is_tree-without}
 use Rattle.tree_model.proofs.QuietLemmas.{all_by_number, found_passes}
 use Rattle.tree_model.proofs.TreeLemmas.{at_number, has-append, staying_all, staying_unpicked}
-use Rattle.container_limits.specs.Limits.{do_fit, evicted, is_due_by, is_within, kept, lasts, longest_fit}
+use Rattle.container_limits.specs.Limits.{do_fit, evicted, is_due_by, is_within, kept, lasts, longest_fit, limits_of}
 use Rattle.container_limits.specs.declared.limits.Limits.{Limits}
 use Rattle.container_limits.proofs.LimitLemmas.{longest_fits, longest_is_suffix}
 use Rattle.tree_model.proofs.OrderLemmas.{ascend, tree_ascends}
 use Rattle.entity_model.specs.Entity.{EntityData}
 use Rattle.entity_model.specs.Sound.{is_within_limits, begins_with_base, spares_first, IsSoundEntity}
 use Rattle.entity_model.proofs.SoundLemmas.{all_left, all_weaker, due_left, limits_left, within_too, IsFramed, framed_left, sound_framed}
-use Rattle.create_delete.specs.Changing.{is_numbered_in, limits_of}
+use Rattle.create_delete.specs.Changing.{is_numbered_in}
 use Rattle.create_delete.proofs.GrownLemmas.{is_within_but, within_by, all_none, none_all}
 use Rattle.create_delete.proofs.KeptLemmas.{all_filtered, all_unfiltered, all_by_two, is_not_kept, left_are_kept, left_count, left_sum, are_above, lacks_lower}
 use Rattle.create_delete.proofs.ReplacedLemmas.{is_quiet_but}

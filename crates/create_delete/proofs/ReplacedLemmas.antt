@@ -18,10 +18,11 @@ use Rattle.tree_model.proofs.QuietLemmas.{all_by_number, found_passes, due-repla
 use Rattle.tree_model.proofs.TreeLemmas.{at_has, at_number, at-replaced, at-replaced_other}
 use Rattle.attribute_rules.specs.Kinds.{are_kinds}
 use Rattle.entity_model.specs.Entity.{EntityData}
-use Rattle.entity_model.specs.Sound.{has_known_ids, has_free_name, has_size, has_state_tag, is_shallow, is_within_limits, begins_with_base, own_cse_id, cse_ids, are_distinct, has_one_channel}
+use Rattle.entity_model.specs.Sound.{has_known_ids, has_free_name, has_size, has_state_tag, is_shallow, is_within_limits, begins_with_base, cse_ids, are_distinct, has_one_channel}
 use Rattle.entity_model.proofs.SoundLemmas.{all_weaker, IsFramed}
 use Rattle.create_delete.specs.Newcomer.{IsReplacement}
 use Rattle.create_delete.proofs.GrownLemmas.{is_within_but, within_by, all_none, none_all}
+use Rattle.tree_model.specs.Shown.{own_cse_id}
 
 -- ---- over a list
 

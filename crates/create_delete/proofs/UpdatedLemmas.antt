@@ -14,13 +14,13 @@ use Rattle.tree_model.specs.Tree.{at, replaced, is_instance, is_under, instances
 use Rattle.tree_model.proofs.GrowthLemmas.{growth, next_fits, next_above_parent, tree_from_well_formed}
 use Rattle.tree_model.proofs.QuietLemmas.{all_by_number, found_passes}
 use Rattle.tree_model.proofs.TreeLemmas.{at-append, at-replaced}
-use Rattle.container_limits.specs.Limits.{do_fit, evicted}
+use Rattle.container_limits.specs.Limits.{do_fit, evicted, limits_of}
 use Rattle.container_limits.proofs.LimitLemmas.{fits_totals}
 use Rattle.tree_model.proofs.OrderLemmas.{ascend_filter, tree_ascends}
 use Rattle.entity_model.specs.Entity.{EntityData}
 use Rattle.entity_model.specs.Sound.{IsSoundEntity}
 use Rattle.entity_model.proofs.SoundLemmas.{all_weaker, framed_from}
-use Rattle.create_delete.specs.Changing.{is_numbered_in, limits_of, pushed_by, pushed_out, without_all}
+use Rattle.create_delete.specs.Changing.{is_numbered_in, pushed_by, pushed_out, without_all}
 use Rattle.create_delete.specs.Newcomer.{IsReplacement}
 use Rattle.create_delete.proofs.GrownLemmas.{IsOlder, all_grown, all_turned, is_within_but, nothing_within, within_by}
 use Rattle.create_delete.proofs.InstanceLemmas.{instance_type, takes_is_container}

@@ -7,12 +7,12 @@ use Rattle.resource_model.specs.Resource.{ResourceData, is_ty}
 use Rattle.tree_model.specs.Tree.{at, instances_of, restamped_at, instance_size}
 use Rattle.attribute_rules.specs.Admission.{are_admitted}
 use Rattle.attribute_rules.specs.declared.table.Writing.TheVariants.{Create}
-use Rattle.container_limits.specs.Limits.{evicted}
+use Rattle.container_limits.specs.Limits.{evicted, limits_of}
 use Rattle.entity_model.specs.Entity.{EntityData}
 use Rattle.request_rules.specs.Creation.{Creation, has_room, is_unique, new_size, next_state}
 use Rattle.request_rules.specs.Order.{expires_later}
 use Rattle.request_rules.specs.Policies.{links_live}
-use Rattle.create_delete.specs.Changing.{limits_of, pushed_out, without_all}
+use Rattle.create_delete.specs.Changing.{pushed_out, without_all}
 use Rattle.create_delete.specs.Newcomer.{IsFilling, IsNewcomer}
 use Rattle.create_delete.specs.declared.joining.Filling.{Filling}
 

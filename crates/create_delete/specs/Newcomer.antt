@@ -10,7 +10,8 @@ use Rattle.attribute_rules.specs.Kinds.{are_kinds}
 use Rattle.request_rules.specs.Creation.{takes_instance}
 use Rattle.entity_model.specs.Entity.{EntityData}
 use Rattle.entity_model.specs.Sound.{greatest_count, greatest_depth, has_free_name, has_known_ids}
-use Rattle.entity_model.specs.Sound.{has_size, has_state_tag, own_cse_id}
+use Rattle.entity_model.specs.Sound.{has_size, has_state_tag}
+use Rattle.tree_model.specs.Shown.{own_cse_id}
 
 -- It has the next number, which isn't the last one. Its parent is there and takes it, its name, its
 -- AE-ID and its CSE-ID are free, its name addresses nothing else, and its policies are known. No

@@ -14,9 +14,8 @@ ghost use Rattle.create_delete.specs.Joining.{after_joining, filling_of, IsAllow
 use crate::building::{new_resource, next_state, tell_soundness};
 use crate::joining::{Filling, put};
 use crate::pushing::pushed_out;
-use crate::replying::{refuse, reply_to};
 use crate::telling::created_content;
-use entity_model::Entity;
+use entity_model::{Entity, refuse, reply_to};
 use m2m_names::{Op, Rsc, Ty};
 use m2m_value::{Members, Val};
 use primitive_json::{Reply, Request};

@@ -3,10 +3,10 @@ ghost use Rattle.std.specs.Prelude.{◌≡◌, ℕ, ◌+◌, [], ◌∷◌, ◌+
 ghost use Rattle.m2m_names.specs.declared.types.Ty.TheVariants.{ContentInstance};
 ghost use Rattle.resource_model.specs.Resource.{ResourceData, is_ty};
 ghost use Rattle.tree_model.specs.Tree.{may_stand, instances_of, replaced, restamped_at, instance_size};
-ghost use Rattle.container_limits.specs.Limits.{evicted};
+ghost use Rattle.container_limits.specs.Limits.{evicted, limits_of};
 ghost use Rattle.entity_model.specs.Entity.{EntityData};
 ghost use Rattle.entity_model.specs.Sound.{IsSoundEntity};
-ghost use Rattle.create_delete.specs.Changing.{limits_of, pushed_by, without_all};
+ghost use Rattle.create_delete.specs.Changing.{pushed_by, without_all};
 ghost use Rattle.create_delete.specs.Newcomer.{IsFilling, IsNewcomer, IsReplacement};
 
 use std::alloc::AllocError as OutOfMemory;

@@ -12,12 +12,6 @@ use m2m_value::Numbers;
 use std::alloc::{AllocError as OutOfMemory, Global};
 use tree_model::{Resource, Tree, stands_in};
 
-fn limits_of(container: &Resource) -> Limits
-    ensures { result ≡ spec.limits_of container.now }
-{
-    Limits::of(container)
-}
-
 /// The numbers of the instances that a container pushes out as it is, before one of this size, if
 /// any, oldest first.
 pub(crate) fn pushed_out<T: Tree>(
@@ -32,7 +26,7 @@ pub(crate) fn pushed_out<T: Tree>(
         alloc,
         &entity.tree,
         container.number(),
-        limits_of(container),
+        Limits::of(container),
         size,
         entity.last,
     )
