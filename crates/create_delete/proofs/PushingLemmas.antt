@@ -1,6 +1,6 @@
 -- Removals of several numbers, one after another.
 use Rattle.std.specs.Prelude.{◌==◌, nat_eq}
-use Rattle.std.proofs.Common.{◌≡◌, ℕ, List, [], ◌∷◌, Bool, true, false, ◌||◌, inl, inr, refl, sym, ap, ◌∙◌}
+use Rattle.std.proofs.Common.{◌≡◌, ℕ, suc, ◌+◌, ◌<◌, List, [], ◌∷◌, length, drop, get_or, add-one, drop-cons, Bool, true, false, ◌||◌, inl, inr, refl, sym, ap, ◌∙◌}
 use Rattle.std.proofs.lemmas.Bool.{cases_Bool, or_from, or_parts}
 use Rattle.std.specs.List.{list_any}
 use Rattle.resource_model.specs.Resource.{ResourceData, has_number}
@@ -39,6 +39,16 @@ nothing_removed nodes tree = without_none (is_numbered_in []) nodes tree (none n
     none : (rs : List ResourceData) → list_any (is_numbered_in []) rs ≡ false
     none [] = refl
     none (r ∷ rs) = none rs
+
+-- after one more of them
+pub next_removed : (numbers : List ℕ) (i n : ℕ) (before after first : List ResourceData) → i < length numbers → n ≡ get_or numbers i n → after ≡ without_all (n ∷ []) before → without_all (drop i numbers) before ≡ without_all numbers first → without_all (drop (i + 1) numbers) after ≡ without_all numbers first
+next_removed numbers i n before after first within is removed held =
+    ap (λ (k : ℕ). without_all (drop k numbers) after) (add-one i)
+    ∙ ap (without_all (drop (suc i) numbers)) removed
+    ∙ one_more n (drop (suc i) numbers) before
+    ∙ ap (λ (m : ℕ). without_all (m ∷ drop (suc i) numbers) before) is
+    ∙ ap (λ (ns : List ℕ). without_all ns before) (sym (drop-cons numbers i n within))
+    ∙ held
 
 pub one_less_is_tree : (n : ℕ) (nodes : List ResourceData) → is_tree nodes ≡ true → is_tree (without_all (n ∷ []) nodes) ≡ true
 one_less_is_tree n nodes tree = is_tree-without (is_numbered_in (n ∷ [])) nodes tree
