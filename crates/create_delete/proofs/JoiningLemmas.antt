@@ -44,3 +44,10 @@ filling_sound e r f sound may =
     subst IsSoundEntity
     (ap (λ (gone : List ℕ). after gone r.parent) (sym may.gone) ∙ ap (after f.gone) (sym may.container))
     (sound_filled e r may.parent f.state sound may.joins)
+
+-- what the steps leave is sound
+pub filling_after : (e : EntityData) (r : ResourceData) (f : Filling) (gone : List ℕ) (grown stamped left : List ResourceData) → IsSoundEntity e → MayFill e r f → grown ≡ e.nodes ++ r ∷ [] → stamped ≡ restamped_at f.container e.last f.state grown → gone ≡ f.gone → left ≡ without_all gone stamped → IsSoundEntity (record { home = e.home; nodes = left; next = e.next + 1; last = e.last })
+filling_after e r f gone grown stamped left sound may first second which third =
+    subst (λ (nodes : List ResourceData). IsSoundEntity (record { home = e.home; nodes = nodes; next = e.next + 1; last = e.last }))
+    (sym (third ∙ ap (λ (ns : List ℕ). without_all ns stamped) which ∙ ap (without_all f.gone) (second ∙ ap (restamped_at f.container e.last f.state) first)))
+    (filling_sound e r f sound may)

@@ -1,6 +1,7 @@
 -- Removals of several numbers, one after another.
 use Rattle.std.specs.Prelude.{◌==◌, nat_eq}
-use Rattle.std.proofs.Common.{◌≡◌, ℕ, suc, ◌+◌, ◌<◌, List, [], ◌∷◌, length, drop, get_or, add-one, drop-cons, Bool, true, false, ◌||◌, inl, inr, refl, sym, ap, ◌∙◌}
+use Rattle.std.proofs.Common.{◌≡◌, ℕ, suc, ◌+◌, ◌<◌, ◌≤◌, List, [], ◌∷◌, length, drop, get_or, add-one, drop-cons, Bool, true, false, ◌||◌, inl, inr, refl, sym, ap, ◌∙◌}
+use Rattle.std.proofs.Math.ListN.{drop_of_length-le}
 use Rattle.std.proofs.lemmas.Bool.{cases_Bool, or_from, or_parts}
 use Rattle.std.specs.List.{list_any}
 use Rattle.resource_model.specs.Resource.{ResourceData, has_number}
@@ -49,6 +50,11 @@ next_removed numbers i n before after first within is removed held =
     ∙ ap (λ (m : ℕ). without_all (m ∷ drop (suc i) numbers) before) is
     ∙ ap (λ (ns : List ℕ). without_all ns before) (sym (drop-cons numbers i n within))
     ∙ held
+
+-- after the last of them
+pub all_removed : (numbers : List ℕ) (i : ℕ) (after first : List ResourceData) → is_tree after ≡ true → length numbers ≤ i → without_all (drop i numbers) after ≡ without_all numbers first → after ≡ without_all numbers first
+all_removed numbers i after first tree past held =
+    sym (nothing_removed after tree) ∙ ap (λ (ns : List ℕ). without_all ns after) (sym (drop_of_length-le numbers past)) ∙ held
 
 pub one_less_is_tree : (n : ℕ) (nodes : List ResourceData) → is_tree nodes ≡ true → is_tree (without_all (n ∷ []) nodes) ≡ true
 one_less_is_tree n nodes tree = is_tree-without (is_numbered_in (n ∷ [])) nodes tree

@@ -110,7 +110,7 @@ joined_is_text (s ∷ t ∷ names) all =
     IsUtf8-append s (47 ∷ joined (t ∷ names)) (free_is_text s parts.0)
     (IsUtf8-append (47 ∷ []) (joined (t ∷ names)) slash_utf8 (joined_is_text (t ∷ names) parts.1))
 
-pub path_is_text : (e : EntityData) (n : ℕ) (parent name path : List ℕ) → IsSoundEntity e → IsUtf8 name → parent ≡ structured_of n e.nodes → path ≡ (parent ++ 47 ∷ []) ++ name → IsUtf8 path
-path_is_text e n parent name path sound own above is =
-    let text : IsUtf8 parent = subst IsUtf8 (sym above) (joined_is_text (names_to n e.nodes) (free_up e n sound)) in
-    subst IsUtf8 (sym is) (IsUtf8-append (parent ++ 47 ∷ []) name (IsUtf8-append parent (47 ∷ []) text slash_utf8) own)
+pub path_is_text : (e : EntityData) (r : ResourceData) (parent name path : List ℕ) → IsSoundEntity e → has r.parent e.nodes ≡ true → IsUtf8 name → name ≡ r.name → parent ≡ structured_of r.parent e.nodes → path ≡ (parent ++ 47 ∷ []) ++ r.name → IsUtf8 path
+path_is_text e r parent name path sound there own named above is =
+    let text : IsUtf8 parent = subst IsUtf8 (sym above) (joined_is_text (names_to r.parent e.nodes) (free_up e r.parent sound)) in
+    subst IsUtf8 (sym is) (IsUtf8-append (parent ++ 47 ∷ []) r.name (IsUtf8-append parent (47 ∷ []) text slash_utf8) (subst IsUtf8 named own))

@@ -2,6 +2,7 @@
 ghost use Rattle.std.specs.Prelude.{◌≡◌, ◌++◌, [], ◌∷◌, codes, pos, IfOk, IsTrue, IsUtf8, filter, unwrap_or};
 ghost use Rattle.m2m_names.specs.Types.{ty_member};
 ghost use Rattle.m2m_value.specs.Data as json;
+ghost use Rattle.tree_model.specs.Shown.{wrapped};
 ghost use Rattle.tree_model.specs.Tree.{has};
 ghost use Rattle.addressing.specs.Names.{structured_of};
 ghost use Rattle.create_delete.specs.Changing as spec;
@@ -161,6 +162,20 @@ fn told_attrs(alloc: Global, members: &Members, attrs: Attrs) -> Result<Attrs, O
     Ok(Attrs::of(told_rows(alloc, members, attrs)?))
 }
 
+// What the named attributes are after the update.
+fn told_content<T: Tree>(
+    alloc: Global,
+    entity: &Entity<T>,
+    members: &Members,
+    resource: &Resource,
+) -> Result<Val, OutOfMemory>
+    ensures { IfOk result (λ v. v
+        ≡ wrapped resource.now.ty (spec.told_rows entity.now members.now resource.now)) }
+{
+    let all = shown(alloc, &entity.tree, &entity.home, resource)?;
+    content(alloc, resource.ty(), told_attrs(alloc, members, all)?)
+}
+
 /// The content of the reply to an Update that named these attributes and left a resource so.
 pub(crate) fn updated_content<T: Tree>(
     alloc: Global,
@@ -175,6 +190,5 @@ pub(crate) fn updated_content<T: Tree>(
     if request.parts().rcn.unwrap_or(ATTRIBUTES) == 0 {
         return Ok(None);
     }
-    let all = shown(alloc, &entity.tree, &entity.home, resource)?;
-    Ok(Some(content(alloc, resource.ty(), told_attrs(alloc, members, all)?)?))
+    Ok(Some(told_content(alloc, entity, members, resource)?))
 }
