@@ -62,8 +62,8 @@ room_for c room =
 takes_it : (c : Creation) → is_small c ≡ true → is_ty c.ty ContentInstance ≡ true → takes_instance c.parent (new_size c) ≡ true
 takes_it c small instance = rw instance at small
 
-record IsTaking (container : ResourceData) (size : ℕ) : Type 0 where
-  size : size ≤ largest_size
+record IsTaking (container : ResourceData) (bytes : ℕ) : Type 0 where
+  size : bytes ≤ largest_size
   age : is_below 0 (count_at Mia container.attrs) ≡ true
 
 taking : (container : ResourceData) (size : ℕ) → takes_instance container size ≡ true → IsTaking container size

@@ -2,7 +2,7 @@
 use Rattle.std.specs.Prelude.{◌==◌, nat_eq, nat_le, nat_lt}
 use Rattle.std.proofs.Common.{◌≡◌, ℕ, ◌+◌, ◌-◌, ◌^◌, ◌<◌, ◌≤◌, List, [], ◌∷◌, ◌++◌, length, length-append, map, Bool, true, false, not, ◌&&◌, Option, Some, None, is_some, option_and_then, unwrap_or, IfSome, if◌then◌else◌, pos, codes, inl, inr, refl, sym, ap, ◌∙◌, arith}
 use Rattle.std.specs.Prelude.{◌%◌, ◌||◌, bytes_eq}
-use Rattle.std.proofs.lemmas.Bool.{cases_Bool, and_parts, and_from, or_left, both_ways, not_from_false, lt-ltb, le-leb, eqb-true}
+use Rattle.std.proofs.lemmas.Bool.{cases_Bool, and_parts, and_from, both_ways, not_from_false, lt-ltb, le-leb, leb-true, eqb-true}
 use Rattle.std.proofs.lemmas.List.{nil_from_length}
 use Rattle.std.proofs.lemmas.List.Folds.{list_all-append}
 use Rattle.std.proofs.lemmas.Bool.Decides.{nat_tests}
@@ -131,11 +131,11 @@ id_known e p sound policy =
 -- the ids of those that addresses lead to are known
 policies_known : (e : EntityData) (ds : List Data) → IsSoundEntity e → list_all (is_known_id e.next) (policy_ids e ds) ≡ true
 policies_known e [] sound = refl
-policies_known e (d ∷ ds) sound = by_meant (policy_meant e d) refl
+policies_known e (d ∷ ds) sound = by_meant (policy_meant e d) refl (policies_known e ds sound)
   where
-    by_meant : (o : Option ResourceData) → policy_meant e d ≡ o → list_all (is_known_id e.next) (map (λ (p : ResourceData). text (id_of p)) (cons_option o (filter_map (policy_meant e) ds))) ≡ true
-    by_meant None is = policies_known e ds sound
-    by_meant (Some p) is = and_from _ _ (id_known e p sound (meant_found e d p is)) (policies_known e ds sound)
+    by_meant : (o : Option ResourceData) → policy_meant e d ≡ o → list_all (is_known_id e.next) (policy_ids e ds) ≡ true → list_all (is_known_id e.next) (map (λ (p : ResourceData). text (id_of p)) (cons_option o (filter_map (policy_meant e) ds))) ≡ true
+    by_meant None is rest = rest
+    by_meant (Some p) is rest = and_from _ _ (id_known e p sound (meant_found e d p is)) rest
 
 -- and they are texts
 policies_texts : (e : EntityData) (ds : List Data) → list_all (λ d. is_some (as_text d)) (policy_ids e ds) ≡ true
@@ -227,7 +227,7 @@ ae_id_originator c originator small = elim (cases_Bool (is_ae_id c.o)) [
 -- ---- names
 
 digit_is_unreserved : (d : ℕ) → d < 10 → is_unreserved (48 + d) ≡ true
-digit_is_unreserved d digit = or_left _ _ (grind (arith, nat_tests))
+digit_is_unreserved d digit = grind (arith, nat_tests)
 
 digits_are_unreserved : (n : ℕ) → n < 2 ^ 63 → list_all is_unreserved (decimal n) ≡ true
 digits_are_unreserved n small =
@@ -238,36 +238,37 @@ digits_are_unreserved n small =
 
 -- the short word of a type, `_` and digits make a name that addresses nothing else
 record IsWord (word : List ℕ) : Type 0 where
-  short : length word ≤ 4
+  short : nat_le (length word) 4 ≡ true
   plain : list_all is_unreserved word ≡ true
   apart : (ds : List ℕ) → (is_one_of virtual_names (word ++ codes "_" ++ ds) || is_one_of address_marks (word ++ codes "_" ++ ds)) ≡ false
 
 word_of : (ty : Ty) → IsWord (ty_row ty).word
-word_of AccessControlPolicy = record { short = omega arith; plain = refl; apart = λ ds. refl }
-word_of Ae = record { short = omega arith; plain = refl; apart = λ ds. refl }
-word_of Container = record { short = omega arith; plain = refl; apart = λ ds. refl }
-word_of ContentInstance = record { short = omega arith; plain = refl; apart = λ ds. refl }
-word_of CseBase = record { short = omega arith; plain = refl; apart = λ ds. refl }
-word_of Group = record { short = omega arith; plain = refl; apart = λ ds. refl }
-word_of PollingChannel = record { short = omega arith; plain = refl; apart = λ ds. refl }
-word_of RemoteCse = record { short = omega arith; plain = refl; apart = λ ds. refl }
-word_of Subscription = record { short = omega arith; plain = refl; apart = λ ds. refl }
-word_of AccessControlPolicyAnnc = record { short = omega arith; plain = refl; apart = λ ds. refl }
-word_of AeAnnc = record { short = omega arith; plain = refl; apart = λ ds. refl }
-word_of ContainerAnnc = record { short = omega arith; plain = refl; apart = λ ds. refl }
-word_of ContentInstanceAnnc = record { short = omega arith; plain = refl; apart = λ ds. refl }
-word_of GroupAnnc = record { short = omega arith; plain = refl; apart = λ ds. refl }
+word_of AccessControlPolicy = record { short = refl; plain = refl; apart = λ ds. refl }
+word_of Ae = record { short = refl; plain = refl; apart = λ ds. refl }
+word_of Container = record { short = refl; plain = refl; apart = λ ds. refl }
+word_of ContentInstance = record { short = refl; plain = refl; apart = λ ds. refl }
+word_of CseBase = record { short = refl; plain = refl; apart = λ ds. refl }
+word_of Group = record { short = refl; plain = refl; apart = λ ds. refl }
+word_of PollingChannel = record { short = refl; plain = refl; apart = λ ds. refl }
+word_of RemoteCse = record { short = refl; plain = refl; apart = λ ds. refl }
+word_of Subscription = record { short = refl; plain = refl; apart = λ ds. refl }
+word_of AccessControlPolicyAnnc = record { short = refl; plain = refl; apart = λ ds. refl }
+word_of AeAnnc = record { short = refl; plain = refl; apart = λ ds. refl }
+word_of ContainerAnnc = record { short = refl; plain = refl; apart = λ ds. refl }
+word_of ContentInstanceAnnc = record { short = refl; plain = refl; apart = λ ds. refl }
+word_of GroupAnnc = record { short = refl; plain = refl; apart = λ ds. refl }
 
 numbered_is_free : (word : List ℕ) (n : ℕ) → IsWord word → n < 2 ^ 63 → is_free_name (word ++ codes "_" ++ decimal n) ≡ true
 numbered_is_free word n is small =
     let text : List ℕ = word ++ codes "_" ++ decimal n in
     let most : length (decimal n) ≤ 19 = length-decimal-le 19 n (omega arith) (omega (arith, small)) (omega (arith, small)) in
-    let few : length word ≤ 4 = is.short in
-    let all : length text ≡ length word + (1 + length (decimal n)) = length-append word (codes "_" ++ decimal n) in
+    let few : length word ≤ 4 = leb-true (length word) 4 is.short in
+    let front : length (word ++ codes "_") ≡ length word + 1 = length-append word (codes "_") in
+    let all : length text ≡ length (word ++ codes "_") + length (decimal n) = length-append (word ++ codes "_") (decimal n) in
     and_from _ _
     (and_from _ _
-    (and_from _ _ (lt-ltb 0 (length text) (omega (arith, all))) (le-leb (length text) 64 (omega (arith, all, few, most))))
-    (list_all-append is_unreserved word (codes "_" ++ decimal n) ∙ and_from _ _ is.plain (and_from _ _ refl (digits_are_unreserved n small))))
+    (and_from _ _ (lt-ltb 0 (length text) (omega (arith, all, front))) (le-leb (length text) 64 (omega (arith, all, front, few, most))))
+    (list_all-append is_unreserved (word ++ codes "_") (decimal n) ∙ and_from _ _ (list_all-append is_unreserved word (codes "_") ∙ and_from _ _ is.plain refl) (digits_are_unreserved n small)))
     (not_from_false _ (is.apart (decimal n)))
 
 -- the name that is given, and the one that is made
@@ -283,24 +284,24 @@ count_kind : (n : ℕ) → n < 2 ^ 63 → nat_lt n (2 ^ 63) ≡ true
 count_kind n small = lt-ltb n (2 ^ 63) small
 
 given_kind : (ty : Ty) (c : Creation) → is_originator c.o ≡ true → c.e.next < 2 ^ 63 → (is_ty ty ContentInstance ≡ true → new_size c < 2 ^ 63) → next_state c.parent < 2 ^ 63 → list_all (is_attr_kind ty) (given_rows ty c) ≡ true
-given_kind Ae c originator number size state = and_from _ _ (ae_id_originator c originator number) refl
-given_kind Container c originator number size state = refl
-given_kind ContentInstance c originator number size state = and_from _ _ (count_kind (new_size c) (size refl)) (and_from _ _ (count_kind (next_state c.parent) state) refl)
-given_kind _ c originator number size state = refl
+given_kind Ae c originator few size state = and_from _ _ (ae_id_originator c originator few) refl
+given_kind Container c originator few size state = refl
+given_kind ContentInstance c originator few size state = and_from _ _ (count_kind (new_size c) (size refl)) (and_from _ _ (count_kind (next_state c.parent) state) refl)
+given_kind _ c originator few size state = refl
 
 pub state_small : (r : ResourceData) → next_state r < 2 ^ 63
 state_small r = grind arith
 
 -- all that a new resource keeps is of its kinds
 pub new_kinds : (c : Creation) → is_originator c.o ≡ true → c.e.next < 2 ^ 63 → (is_ty c.ty ContentInstance ≡ true → new_size c < 2 ^ 63) → are_admitted Creating c.ty c.named ≡ true → have_kinds c.ty (new_rows c) ≡ true
-new_kinds c originator number size admitted =
+new_kinds c originator few size admitted =
     kinds-with_rows c.ty (rows_besides c) (wanted_in c.named).attrs
     (list_all-append (is_attr_kind c.ty) ((given_rows c.ty c ++ creator_rows c.o c.named) ++ link_row c.e c.named Acpi) (link_row c.e c.named Macp)
     ∙ and_from _ _
     (list_all-append (is_attr_kind c.ty) (given_rows c.ty c ++ creator_rows c.o c.named) (link_row c.e c.named Acpi)
     ∙ and_from _ _
     (list_all-append (is_attr_kind c.ty) (given_rows c.ty c) (creator_rows c.o c.named)
-    ∙ and_from _ _ (given_kind c.ty c originator number size (state_small c.parent)) (creator_kind c.o c.named c.ty originator (members_keep_creator Creating c.ty c.named admitted)))
+    ∙ and_from _ _ (given_kind c.ty c originator few size (state_small c.parent)) (creator_kind c.o c.named c.ty originator (members_keep_creator Creating c.ty c.named admitted)))
     (link_kind c.e c.named Acpi c.ty (members_keep_policies Creating c.ty c.named admitted)))
     (link_kind c.e c.named Macp c.ty (members_keep_fan_policies Creating c.ty c.named admitted)))
     (created_members c.ty c.named admitted)

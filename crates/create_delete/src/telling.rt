@@ -20,7 +20,7 @@ use tree_model::{Attrs, Resource, Tree, attributes, content, members_of, shown};
 const ATTRIBUTES: i64 = 1;
 
 // The structured address that a resource has when it comes last.
-#[tactic(auto, using(crate::proofs::TellingLemmas::path_of_last, crate::proofs::TellingLemmas::path_is_text))]
+#[tactic(auto, using(crate::proofs::TellingLemmas::path_of_last))]
 fn path_to_last<T: Tree>(
     alloc: Global,
     entity: &Entity<T>,

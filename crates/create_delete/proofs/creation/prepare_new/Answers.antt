@@ -1,12 +1,20 @@
-use Rattle.std.proofs.Common.{◌≡◌, Option, ap, sym, ◌∙◌, subst}
+use Rattle.std.proofs.Common.{◌≡◌, true, Option, ap, sym, ◌∙◌, subst}
 use Rattle.m2m_names.specs.declared.codes.Rsc.TheVariants.{Created}
 use Rattle.resource_model.specs.Resource.{ResourceData}
+use Rattle.tree_model.specs.Tree.{has}
+use Rattle.tree_model.proofs.TreeLemmas.{at_has}
 use Rattle.entity_model.specs.Places.{reply_to}
 use Rattle.request_rules.specs.Creation.{Creation, creation_of, new_resource}
 use Rattle.create_delete.specs.Joining.{after_joining, filling_of, MayJoin}
 use Rattle.create_delete.specs.declared.joining.Filling.{Filling}
 use Rattle.create_delete.proofs.CreatedLemmas.{joining_effect, may_join}
 use Rattle.create_delete.proofs.creation.prepare_new.Goals as goal
+
+-- its parent is there
+pub created_content-requires : goal.created_content-requires
+created_content-requires g c =
+    subst (λ (r : ResourceData). has r.parent c.args.entity.now.nodes ≡ true) (sym c.in_ok-resource.ensures)
+    (at_has c.args.parent.now.number c.args.entity.now.nodes c.args.parent.now c.requires.allowed.parent)
 
 -- it may join as it is defined
 pub returns-clause-may : goal.returns-clause-may
