@@ -20,7 +20,7 @@ created_content-requires g c =
 pub returns-clause-may : goal.returns-clause-may
 returns-clause-may g c =
     let made : Creation = creation_of c.args.entity.now c.args.o.now c.args.ty c.args.parent.now c.args.members.now in
-    let joins : MayJoin made.e (new_resource made) (filling_of made) = may_join made c.tell_soundness.ensures c.requires.originator c.entries.ensures.sorted c.requires.allowed in
+    let joins : MayJoin made.e (new_resource made) (filling_of made) = may_join made c.tell_soundness.ensures c.requires.originator c.entries-entries.ensures.sorted c.requires.allowed in
     subst (λ (r : ResourceData). MayJoin made.e r c.in_ok-filling.filling) (sym c.in_ok-resource.ensures)
     (subst (λ (f : Option Filling). MayJoin made.e (new_resource made) f) (sym (c.in_ok-filling.ensures c.args.o.now)) joins)
 
