@@ -216,7 +216,7 @@ module _ (e : EntityData) (r c : ResourceData) (st : ℕ) (sound : IsSoundEntity
       let mia : count_at Mia stamped.attrs ≡ count_at Mia c.attrs = ap (λ l. l.mia) (limits_restamped e.last st c) in
       not_from_false _ (ap (λ (o : Option ℕ). is_due_by o e.last r) mia ∙ sym (instance_due n e.last e.nodes c r filling.container is_new) ∙ later)
 
-  pruning : IsPruning n after stamped (Some (instance_size r)) (instances_of n e.nodes) (r ∷ [])
+  pub pruning : IsPruning n after stamped (Some (instance_size r)) (instances_of n e.nodes) (r ∷ [])
   pruning = record {
     sound = but;
     found = ap (λ (m : ℕ). at m after.nodes) (sym named) ∙ at-replaced stamped grown (still_there grown stamped stood);

@@ -1,4 +1,5 @@
 pub mod Changing
+pub mod Guard
 pub mod Joining
 pub mod Newcomer
 pub mod Updating
