@@ -95,7 +95,7 @@ instance_type GroupAnnc is = absurd (both_ways _ refl is)
 other_value : (a : Attr) (lt st : ℕ) (c : ResourceData) → is_attr a St ≡ false → is_attr a a ≡ true → value_of a (restamped lt st c).attrs ≡ value_of a c.attrs
 other_value a lt st c apart itself = value-with_value_other St a (number (pos st)) c.attrs (λ e. both_ways _ apart (ap (is_attr a) (sym e) ∙ itself))
 
-limits_restamped : (lt st : ℕ) (c : ResourceData) → limits_of (restamped lt st c) ≡ limits_of c
+pub limits_restamped : (lt st : ℕ) (c : ResourceData) → limits_of (restamped lt st c) ≡ limits_of c
 limits_restamped lt st c = rw (other_value Mni lt st c refl refl, other_value Mbs lt st c refl refl, other_value Mia lt st c refl refl) refl
 
 ids_restamped : (next lt st : ℕ) (c : ResourceData) → has_known_ids next (restamped lt st c) ≡ has_known_ids next c

@@ -17,11 +17,11 @@ use Rattle.tree_model.proofs.OrderLemmas.{are_above, ascend, above_filter, above
 use Rattle.tree_model.proofs.QuietLemmas.{all_by_number, found_passes}
 use Rattle.tree_model.proofs.TreeLemmas.{at_number, has_from_at, has-append}
 use Rattle.addressing.proofs.NameLemmas.{line_of_none}
-use Rattle.container_limits.specs.Limits.{do_fit, evicted, is_within, kept, lasts, longest_fit, numbers_of}
+use Rattle.container_limits.specs.Limits.{are_within, do_fit, evicted, kept, lasts, limits_of, longest_fit, numbers_of}
 use Rattle.container_limits.proofs.LimitLemmas.{fit_here, fits_totals}
 use Rattle.entity_model.specs.Entity.{EntityData}
 use Rattle.entity_model.specs.Sound.{is_within_limits, IsSoundEntity}
-use Rattle.create_delete.specs.Changing.{is_numbered_in, limits_of, pushed_out, without_all}
+use Rattle.create_delete.specs.Changing.{is_numbered_in, pushed_out, without_all}
 use Rattle.create_delete.proofs.GrownLemmas.{none_all, nothing_picked}
 use Rattle.create_delete.proofs.InstanceLemmas.{instance_type}
 use Rattle.create_delete.proofs.KeptLemmas.{all_by_two, all_filtered, filter_among, filter_where, is_not_kept}
@@ -232,7 +232,7 @@ module _ (e : EntityData) (c : ResourceData) (sound : IsSoundEntity e) (found : 
 
   within : do_fit (limits_of c) None own ≡ true
   within =
-      let both : (is_within (length own) (count_at Mni c.attrs) && is_within (sum_by instance_size own) (count_at Mbs c.attrs)) ≡ true = rw container at found_passes (is_within_limits e.nodes) c.number e.nodes c sound.limits found in
+      let both : are_within (limits_of c) (length own) (sum_by instance_size own) ≡ true = rw container at found_passes (is_within_limits e.nodes) c.number e.nodes c sound.limits found in
       sym (fits_totals (limits_of c) None own (length own) (sum_by instance_size own) (omega arith) (omega arith)) ∙ both
 
   -- none of its instances is due

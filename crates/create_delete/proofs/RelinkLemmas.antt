@@ -26,11 +26,12 @@ use Rattle.attribute_rules.specs.declared.table.Writing.TheVariants.{Update as U
 use Rattle.attribute_rules.proofs.ContentsLemmas.{same_text}
 use Rattle.attribute_rules.proofs.ValueLemmas.{value_edited}
 use Rattle.policy_eval.specs.Alike.{is_attr_in}
+use Rattle.container_limits.specs.Limits.{limits_of}
 use Rattle.entity_model.specs.Entity.{EntityData}
 use Rattle.request_rules.specs.Policies.{link_row, listed}
 use Rattle.request_rules.specs.Requests.{content_for}
 use Rattle.request_rules.specs.Rights.{is_link, is_relink, only_member, sole}
-use Rattle.create_delete.specs.Changing.{limits_of, state_row, updated_resource}
+use Rattle.create_delete.specs.Changing.{state_row, updated_resource}
 use Rattle.create_delete.specs.Guard.{DiffersIn, HasSoundContent, IsUpdated, link_attrs}
 use Rattle.create_delete.proofs.NewcomerLemmas.{lacks_link}
 use Rattle.create_delete.proofs.RowLemmas.{lacks_attr, value_unset}
