@@ -12,10 +12,10 @@ use Rattle.m2m_names.specs.declared.types.Ty.TheVariants.{Container, ContentInst
 use Rattle.resource_model.specs.Attributes.{count_at}
 use Rattle.resource_model.specs.Resource.{ResourceData, is_ty, has_number}
 use Rattle.tree_model.specs.Tree.{at, has, line_of, without, is_spared, is_under, is_instance, instances_of, instance_size, is_due, is_taken, is_tree}
-use Rattle.tree_model.proofs.GrowthLemmas.{StandsIn, stands, at-without, without-spared, tree_from_well_formed}
+use Rattle.tree_model.proofs.GrowthLemmas.{StandsIn, stands, at-without, has-without, without-spared, tree_from_well_formed}
 use Rattle.tree_model.proofs.OrderLemmas.{are_above, ascend, above_filter, above_lacks, tree_ascends}
 use Rattle.tree_model.proofs.QuietLemmas.{all_by_number, found_passes}
-use Rattle.tree_model.proofs.TreeLemmas.{at_number, has_from_at, has-append}
+use Rattle.tree_model.proofs.TreeLemmas.{at_has, at_number, has_from_at, has-append}
 use Rattle.addressing.proofs.NameLemmas.{line_of_none}
 use Rattle.container_limits.specs.Limits.{are_within, do_fit, evicted, kept, lasts, limits_of, longest_fit, numbers_of}
 use Rattle.container_limits.proofs.LimitLemmas.{fit_here, fits_totals}
@@ -105,7 +105,7 @@ left_filter p nodes tree leaves =
     without-spared p nodes tree
     ∙ filter_found (λ s. is_spared p nodes s.number) (λ s. not (p s)) nodes tree (λ s found. spared_is p nodes tree leaves s found)
 
-filter_swap : (p q : ResourceData → Bool) (rs : List ResourceData) → filter p (filter q rs) ≡ filter q (filter p rs)
+pub filter_swap : (p q : ResourceData → Bool) (rs : List ResourceData) → filter p (filter q rs) ≡ filter q (filter p rs)
 filter_swap p q [] = refl
 filter_swap p q (r ∷ rs) = elim (cases_Bool (p r)) [
   | inl t ↦ elim (cases_Bool (q r)) [
@@ -206,6 +206,15 @@ module _ (n : ℕ) (e : EntityData) (c : ResourceData) (size : Option ℕ) (rs n
   pub left_at : (s : ResourceData) → at s.number e.nodes ≡ Some s → at s.number (without_all out e.nodes) ≡ cond (not (is_numbered_in out s)) (Some s) None
   left_at s found = at_left (is_numbered_in out) e.nodes tree leaves s found
 
+  pub has_left : (s : ResourceData) → at s.number e.nodes ≡ Some s → has s.number (without_all out e.nodes) ≡ not (is_numbered_in out s)
+  has_left s found =
+      has-without (is_numbered_in out) s.number e.nodes tree
+      ∙ ap (λ (b : Bool). b && is_spared (is_numbered_in out) e.nodes s.number) (at_has s.number e.nodes s found)
+      ∙ spared_is (is_numbered_in out) e.nodes tree leaves s found
+
+  pub all_but_out : without_all out e.nodes ≡ filter (λ s. not (is_numbered_in out s)) e.nodes
+  all_but_out = left_filter (is_numbered_in out) e.nodes tree leaves
+
   -- nothing but instances is gone
   pub is_left : IsLeft n e.nodes (without_all out e.nodes)
   is_left = record {
@@ -220,7 +229,7 @@ module _ (n : ℕ) (e : EntityData) (c : ResourceData) (size : Option ℕ) (rs n
   -- what stays are the newest that fit, and the new ones that aren't pushed out
   pub instances_left : instances_of n (without_all out e.nodes) ≡ stay ++ filter (λ s. not (is_numbered_in out s)) news
   instances_left =
-      ap (filter (is_instance n)) (left_filter (is_numbered_in out) e.nodes tree leaves)
+      ap (filter (is_instance n)) all_but_out
       ∙ filter_swap (is_instance n) (λ s. not (is_numbered_in out s)) e.nodes
       ∙ split n e c size rs news pruning
 

@@ -1,3 +1,4 @@
+pub mod ChangesLemmas
 pub mod CreatableLemmas
 pub mod CreatedLemmas
 pub mod DeletionLemmas

@@ -132,25 +132,25 @@ module _ (e : EntityData) (sound : IsSoundEntity e) (r c : ResourceData) (st : �
   nodes_filled = without_all out (restamped_at r.parent e.last st all)
 
   -- as it is said of the container that is stamped anew
-  same : without_all (evicted (limits_of stamped) (Some (instance_size r)) e.last before) turned ≡ nodes_filled
-  same =
+  pub same_filled : without_all (evicted (limits_of stamped) (Some (instance_size r)) e.last before) turned ≡ nodes_filled
+  same_filled =
       ap (λ l. without_all (evicted l (Some (instance_size r)) e.last before) turned) (limits_restamped e.last st c)
       ∙ sym (ap (without_all out) (restamped_is all r.parent e.last st c (grown_tree e r c st sound filling) (there e r c st sound filling)))
 
   named : c.number ≡ r.parent
   named = at_number r.parent e.nodes c filling.container
 
-  container_there : at c.number e.nodes ≡ Some c
+  pub container_there : at c.number e.nodes ≡ Some c
   container_there = ap (λ (m : ℕ). at m e.nodes) named ∙ filling.container
 
-  stamped_there : at stamped.number turned ≡ Some stamped
+  pub stamped_there : at stamped.number turned ≡ Some stamped
   stamped_there = at-replaced stamped all (at_has stamped.number all c (older_there e sound r filling.new c.number c container_there))
 
   apart : r.number ≢ c.number
   apart is = (let both : None ≡ Some c = sym (lacks e sound r filling.new) ∙ ap (λ (m : ℕ). at m e.nodes) is ∙ container_there in cc)
 
   filled_left : IsLeft r.parent turned nodes_filled
-  filled_left = subst (IsLeft r.parent turned) same
+  filled_left = subst (IsLeft r.parent turned) same_filled
       (is_left r.parent (replaced_by (grown_by e r) stamped) stamped (Some (instance_size r)) before (r ∷ []) (pruning e r c st sound filling))
 
   -- ---- the new one stays
@@ -158,7 +158,7 @@ module _ (e : EntityData) (sound : IsSoundEntity e) (r c : ResourceData) (st : �
   not_before : has r.number before ≡ false
   not_before = ap (λ (m : ℕ). has m before) filling.new.number ∙ below_lacks e.next before (all_filtered (λ s. nat_lt s.number e.next) (is_instance r.parent) e.nodes sound.numbers)
 
-  not_out : is_numbered_in (evicted (limits_of stamped) (Some (instance_size r)) e.last before) r ≡ false
+  pub not_out : is_numbered_in (evicted (limits_of stamped) (Some (instance_size r)) e.last before) r ≡ false
   not_out = is_not_kept (kept (limits_of stamped) (Some (instance_size r)) e.last before) before r.number ∙ and_left (has r.number before) _ not_before
 
   new_turned : at r.number turned ≡ Some r
@@ -166,14 +166,14 @@ module _ (e : EntityData) (sound : IsSoundEntity e) (r c : ResourceData) (st : �
 
   new_left : at r.number nodes_filled ≡ Some r
   new_left =
-      ap (at r.number) (sym same)
+      ap (at r.number) (sym same_filled)
       ∙ left_at r.parent (replaced_by (grown_by e r) stamped) stamped (Some (instance_size r)) before (r ∷ []) (pruning e r c st sound filling) r new_turned
       ∙ ap (λ (b : Bool). cond (not b) (Some r) None) not_out
 
   -- a container has the newest that fit beside the new one, and that
   pub instances_filled : instances_of r.parent nodes_filled ≡ kept (limits_of c) (Some (instance_size r)) e.last before ++ r ∷ []
   instances_filled =
-      ap (instances_of r.parent) (sym same)
+      ap (instances_of r.parent) (sym same_filled)
       ∙ instances_left r.parent (replaced_by (grown_by e r) stamped) stamped (Some (instance_size r)) before (r ∷ []) (pruning e r c st sound filling)
       ∙ ap (λ (b : Bool). kept (limits_of stamped) (Some (instance_size r)) e.last before ++ cond (not b) (r ∷ []) []) not_out
       ∙ ap (λ l. kept l (Some (instance_size r)) e.last before ++ r ∷ []) (limits_restamped e.last st c)

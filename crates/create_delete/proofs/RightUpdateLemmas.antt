@@ -45,7 +45,7 @@ module _ (e : EntityData) (sound : IsSoundEntity e) (now : ResourceData) (new : 
   abbrev turned : List ResourceData
   turned = replaced now e.nodes
 
-  turned_tree : is_tree turned ≡ true
+  pub turned_tree : is_tree turned ≡ true
   turned_tree = is_tree-replaced now e.nodes new.stood ∙ tree_from_well_formed e.nodes sound.tree
 
   pub now_there : at now.number turned ≡ Some now

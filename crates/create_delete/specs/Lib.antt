@@ -1,3 +1,4 @@
+pub mod Changes
 pub mod Changing
 pub mod Guard
 pub mod Joining

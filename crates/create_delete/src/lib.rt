@@ -10,6 +10,7 @@
 #![tactic(auto)]
 
 mod building;
+mod changes;
 mod creation;
 mod deletion;
 mod editing;
@@ -21,6 +22,7 @@ mod pushing;
 mod telling;
 mod updating;
 
+pub use changes::the_changes_are_those_that_are_prepared;
 pub use creation::create;
 pub use deletion::delete;
 pub use growth::{
