@@ -21,3 +21,4 @@ pub mod RowLemmas
 pub mod TellingLemmas
 pub mod UpdatableLemmas
 pub mod UpdatedLemmas
+pub mod UpdatedRowLemmas

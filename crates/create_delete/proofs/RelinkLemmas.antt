@@ -18,8 +18,6 @@ use Rattle.primitive_json.specs.declared.request.RequestParts.{RequestParts}
 use Rattle.resource_model.specs.Attributes.{Row, is_attr, value_of}
 use Rattle.resource_model.specs.Resource.{ResourceData, is_ty}
 use Rattle.resource_model.proofs.AttributeLemmas.{is_attr-same, is_attr-itself, value-with_value_other, value-without_value_other}
-use Rattle.tree_model.specs.Shown.{with_rows}
-use Rattle.tree_model.proofs.ShownLemmas.{with_rows-append}
 use Rattle.attribute_rules.specs.Admission.{are_admitted, attributes_in, is_alone, is_fit, is_named, only_value}
 use Rattle.attribute_rules.specs.Contents.{does_clear, edit_in, edited}
 use Rattle.attribute_rules.specs.declared.table.Writing.TheVariants.{Update as Updating}
@@ -31,10 +29,11 @@ use Rattle.entity_model.specs.Entity.{EntityData}
 use Rattle.request_rules.specs.Policies.{link_row, listed}
 use Rattle.request_rules.specs.Requests.{content_for}
 use Rattle.request_rules.specs.Rights.{is_link, is_relink, only_member, sole}
-use Rattle.create_delete.specs.Changing.{state_row, updated_resource}
+use Rattle.create_delete.specs.Changing.{updated_resource}
 use Rattle.create_delete.specs.Guard.{DiffersIn, HasSoundContent, IsUpdated, link_attrs}
 use Rattle.create_delete.proofs.NewcomerLemmas.{lacks_link}
-use Rattle.create_delete.proofs.RowLemmas.{lacks_attr, value_unset}
+use Rattle.create_delete.proofs.RowLemmas.{lacks_attr}
+use Rattle.create_delete.proofs.UpdatedRowLemmas.{as_edited, lacks_state}
 use Rattle.std.specs.Cmp.Lexicographic.{slice_cmp}
 use Rattle.std.specs.List.Sorted.{IsStrictlySortedBy}
 use Rattle.std.specs.Map.{keys_of}
@@ -142,35 +141,6 @@ names_no_link request ty es admitted whole other = false_from_ne_true _ (λ name
     let alone : is_alone es ≡ true = rw named at complete in
     both_ways _ other (relinks_alone request ty es whole alone named))
 
--- ---- what is put in
-
-module _ (e : EntityData) (es : List Entry) (r : ResourceData) where
-  abbrev now : ResourceData
-  now = updated_resource e es r
-
-  abbrev state : List Row
-  state = state_row r
-
-  abbrev edited_rows : List Row
-  edited_rows = edited (edit_in es) r.attrs
-
-  rows_are : now.attrs ≡ with_rows (link_row e es Macp) (with_rows (link_row e es Acpi) (with_rows state edited_rows))
-  rows_are = with_rows-append (state ++ link_row e es Acpi) (link_row e es Macp) edited_rows ∙ ap (with_rows (link_row e es Macp)) (with_rows-append state (link_row e es Acpi) edited_rows)
-
-  lacks_state : (a : Attr) → (is_ty r.ty Container ≡ true → is_attr St a ≡ false) → lacks_attr a state ≡ true
-  lacks_state a other = elim (cases_Bool (is_ty r.ty Container)) [
-    | inl t ↦ rw t (and_from _ _ (not_from_false _ (other t)) refl)
-    | inr f ↦ rw f refl
-  ]
-
-  -- none of what is put in is of the attribute
-  as_edited : (a : Attr) → lacks_attr a (link_row e es Acpi) ≡ true → lacks_attr a (link_row e es Macp) ≡ true → lacks_attr a state ≡ true → value_of a now.attrs ≡ value_of a edited_rows
-  as_edited a acpi macp st =
-      ap (value_of a) rows_are
-      ∙ value_unset a (link_row e es Macp) (with_rows (link_row e es Acpi) (with_rows state edited_rows)) macp
-      ∙ value_unset a (link_row e es Acpi) (with_rows state edited_rows) acpi
-      ∙ value_unset a state edited_rows st
-
 -- ---- an Update of `acpi` alone
 
 link_edited : (a : Attr) (d : Data) (rows : List Row) → a ≢ Acpi → value_of a (edited (edit_in ((attr_short Acpi, d) ∷ [])) rows) ≡ value_of a rows
@@ -207,7 +177,7 @@ link_value e d r a none =
     let es : List Entry = (attr_short Acpi, d) ∷ [] in
     let apart = apart_of r.ty a none in
     as_edited e es r a (lacks_link a Acpi e es (apart_to a Acpi apart.acpi)) refl
-    (lacks_state e es r a (λ is. apart_to a St (apart.st is)))
+    (lacks_state r a (λ is. apart_to a St (apart.st is)))
     ∙ link_edited a d r.attrs (apart_from a Acpi apart.acpi)
 
 -- changes nothing else
@@ -231,7 +201,7 @@ pub links_stay : (e : EntityData) (es : List Entry) (r : ResourceData) → AreSo
 links_stay e es r sorted none = record {
   rest = refl;
   links =
-      as_edited e es r Acpi unlinked (lacks_link Acpi Macp e es refl) (lacks_state e es r Acpi (λ is. refl))
+      as_edited e es r Acpi unlinked (lacks_link Acpi Macp e es refl) (lacks_state r Acpi (λ is. refl))
       ∙ value_edited Acpi es r.attrs sorted refl
       ∙ ap (λ (o : Option Data). option_map_or (λ d. if does_clear Acpi d then None else Some d) o (value_of Acpi r.attrs)) unnamed;
 }
