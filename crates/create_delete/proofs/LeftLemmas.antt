@@ -105,16 +105,29 @@ left_filter p nodes tree leaves =
     without-spared p nodes tree
     ∙ filter_found (λ s. is_spared p nodes s.number) (λ s. not (p s)) nodes tree (λ s found. spared_is p nodes tree leaves s found)
 
+filter_hit : (p : ResourceData → Bool) (r : ResourceData) (rs : List ResourceData) → p r ≡ true → filter p (r ∷ rs) ≡ r ∷ filter p rs
+filter_hit p r rs t = rw t refl
+
+filter_miss : (p : ResourceData → Bool) (r : ResourceData) (rs : List ResourceData) → p r ≡ false → filter p (r ∷ rs) ≡ filter p rs
+filter_miss p r rs f = rw f refl
+
 pub filter_swap : (p q : ResourceData → Bool) (rs : List ResourceData) → filter p (filter q rs) ≡ filter q (filter p rs)
 filter_swap p q [] = refl
 filter_swap p q (r ∷ rs) = elim (cases_Bool (p r)) [
   | inl t ↦ elim (cases_Bool (q r)) [
-    | inl u ↦ rw (t, u) (rw (t, u) (ap (λ (ss : List ResourceData). r ∷ ss) (filter_swap p q rs)))
-    | inr v ↦ rw (t, v) (rw v (filter_swap p q rs))
+    | inl u ↦
+        ap (filter p) (filter_hit q r rs u) ∙ filter_hit p r (filter q rs) t
+        ∙ ap (λ (ss : List ResourceData). r ∷ ss) (filter_swap p q rs)
+        ∙ sym (filter_hit q r (filter p rs) u) ∙ sym (ap (filter q) (filter_hit p r rs t))
+    | inr v ↦
+        ap (filter p) (filter_miss q r rs v) ∙ filter_swap p q rs
+        ∙ sym (filter_miss q r (filter p rs) v) ∙ sym (ap (filter q) (filter_hit p r rs t))
   ]
   | inr f ↦ elim (cases_Bool (q r)) [
-    | inl u ↦ rw (f, u) (rw f (filter_swap p q rs))
-    | inr v ↦ rw (f, v) (filter_swap p q rs)
+    | inl u ↦
+        ap (filter p) (filter_hit q r rs u) ∙ filter_miss p r (filter q rs) f
+        ∙ filter_swap p q rs ∙ sym (ap (filter q) (filter_miss p r rs f))
+    | inr v ↦ ap (filter p) (filter_miss q r rs v) ∙ filter_swap p q rs ∙ sym (ap (filter q) (filter_miss p r rs f))
   ]
 ]
 
@@ -241,7 +254,8 @@ module _ (e : EntityData) (c : ResourceData) (sound : IsSoundEntity e) (found : 
 
   within : do_fit (limits_of c) None own ≡ true
   within =
-      let both : are_within (limits_of c) (length own) (sum_by instance_size own) ≡ true = rw container at found_passes (is_within_limits e.nodes) c.number e.nodes c sound.limits found in
+      let held : is_within_limits e.nodes c ≡ true = found_passes (is_within_limits e.nodes) c.number e.nodes c sound.limits found in
+      let both : are_within (limits_of c) (length own) (sum_by instance_size own) ≡ true = rw container at held in
       sym (fits_totals (limits_of c) None own (length own) (sum_by instance_size own) (omega arith) (omega arith)) ∙ both
 
   -- none of its instances is due
