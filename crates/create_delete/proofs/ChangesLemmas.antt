@@ -19,7 +19,7 @@ use Rattle.entity_model.specs.Entity.{EntityData}
 use Rattle.entity_model.specs.Sound.{IsSoundEntity}
 use Rattle.create_delete.specs.Changes.{changes_by, created, deleted, named_attrs, only_in, update_made, updated, ChangeData}
 use Rattle.create_delete.specs.Changing.{is_numbered_in, nodes_updated, pushed_by, pushed_out, without_all}
-use Rattle.create_delete.specs.Joining.{after_joining, gone_by, joined, MayJoin}
+use Rattle.create_delete.specs.Joining.{after_joining, gone_by, with_newcomer, MayJoin}
 use Rattle.create_delete.specs.Newcomer.{IsFilling, IsNewcomer, IsReplacement}
 use Rattle.create_delete.specs.declared.joining.Filling.{Filling}
 use Rattle.create_delete.proofs.GrownLemmas.{grown_by, nothing_picked}
@@ -107,7 +107,7 @@ only_last e r sound new =
     ∙ ap (λ (rs : List ResourceData). rs ++ filter (λ s. not (has s.number e.nodes)) (r ∷ [])) (nothing_apart e.nodes)
     ∙ ap (λ (b : Bool). cond (not b) (r ∷ []) []) (has_from_at r.number e.nodes (lacks e sound r new))
 
-join_changes : (e : EntityData) (r : ResourceData) (request : RequestParts) (n : ℕ) → IsSoundEntity e → IsNewcomer e r → changes_by Create request n e (joined e r) ≡ created r ∷ []
+join_changes : (e : EntityData) (r : ResourceData) (request : RequestParts) (n : ℕ) → IsSoundEntity e → IsNewcomer e r → changes_by Create request n e (with_newcomer e r) ≡ created r ∷ []
 join_changes e r request n sound new =
     let tree = tree_from_well_formed e.nodes sound.tree in
     let gone : only_in e.nodes (e.nodes ++ r ∷ []) ≡ filter (λ s. false) e.nodes =

@@ -39,13 +39,9 @@ or_nothing true = refl
 or_nothing false = refl
 
 -- of a line only the lowest is picked, if any
-picked_line : (p : ResourceData → Bool) (nodes : List ResourceData) → is_tree nodes ≡ true → AreLeaves p nodes → (k n : ℕ) (r : ResourceData) → n < k → at n nodes ≡ Some r → list_any p (line_of n nodes) ≡ p r
-picked_line p nodes tree leaves zero n r below found = absurd (omega (arith, below))
-picked_line p nodes tree leaves (suc k) n r below found = by_parent (at r.parent nodes) refl
+picked_alone : (p : ResourceData → Bool) (nodes : List ResourceData) → is_tree nodes ≡ true → AreLeaves p nodes → (n : ℕ) (r : ResourceData) → at n nodes ≡ Some r → StandsIn nodes n r → ((up : ResourceData) → at r.parent nodes ≡ Some up → list_any p (line_of r.parent nodes) ≡ p up) → list_any p (line_of n nodes) ≡ p r
+picked_alone p nodes tree leaves n r found placed above = by_parent (at r.parent nodes) refl
   where
-    placed : StandsIn nodes n r
-    placed = stands nodes tree n r found
-
     own : at r.number nodes ≡ Some r
     own = ap (λ (m : ℕ). at m nodes) (at_number n nodes r found) ∙ found
 
@@ -54,9 +50,14 @@ picked_line p nodes tree leaves (suc k) n r below found = by_parent (at r.parent
 
     by_parent : (o : Option ResourceData) → at r.parent nodes ≡ o → list_any p (line_of n nodes) ≡ p r
     by_parent None is = alone (ap (list_any p) (line_of_none nodes tree r.parent (has_from_at r.parent nodes is)))
-    by_parent (Some up) is =
-        let above : r.parent < n = placed.above in
-        alone (picked_line p nodes tree leaves k r.parent up (omega (arith, below, above)) is ∙ leaves r up own is)
+    by_parent (Some up) is = alone (above up is ∙ leaves r up own is)
+
+picked_line : (p : ResourceData → Bool) (nodes : List ResourceData) → is_tree nodes ≡ true → AreLeaves p nodes → (k n : ℕ) (r : ResourceData) → n < k → at n nodes ≡ Some r → list_any p (line_of n nodes) ≡ p r
+picked_line p nodes tree leaves zero n r below found = absurd (omega (arith, below))
+picked_line p nodes tree leaves (suc k) n r below found =
+    let placed : StandsIn nodes n r = stands nodes tree n r found in
+    let lower : r.parent < n = placed.above in
+    picked_alone p nodes tree leaves n r found placed (λ up is. picked_line p nodes tree leaves k r.parent up (omega (arith, below, lower)) is)
 
 spared_is : (p : ResourceData → Bool) (nodes : List ResourceData) → is_tree nodes ≡ true → AreLeaves p nodes → (r : ResourceData) → at r.number nodes ≡ Some r → is_spared p nodes r.number ≡ not (p r)
 spared_is p nodes tree leaves r found = ap not (picked_line p nodes tree leaves (suc r.number) r.number r (omega arith) found)

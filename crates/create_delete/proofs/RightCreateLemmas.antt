@@ -38,7 +38,7 @@ use Rattle.request_rules.specs.Rights.{create_bits, is_granted, is_subscribing, 
 use Rattle.request_rules.proofs.OrderLemmas.{all_hold, found_at, nothing_on}
 use Rattle.create_delete.specs.Changing.{create_effect, is_numbered_in, performed_at, without_all}
 use Rattle.create_delete.specs.Guard.{ChangesByRight, DiffersIn, filling_attrs, HasSoundContent, IsChanged, IsChangedByRight, IsGone, IsNew, IsRemovedByRight}
-use Rattle.create_delete.specs.Joining.{after_joining, filled, filling_of, IsAllowed, joined, MayFill, MayJoin}
+use Rattle.create_delete.specs.Joining.{after_joining, filled, filling_of, IsAllowed, with_newcomer, MayFill, MayJoin}
 use Rattle.create_delete.specs.Newcomer.{IsFilling, IsNewcomer}
 use Rattle.create_delete.specs.declared.joining.Filling.{Filling}
 use Rattle.create_delete.proofs.CreatableLemmas.{allowed, creates_content, names_attributes, names_type}
@@ -99,7 +99,7 @@ module _ (e : EntityData) (sound : IsSoundEntity e) (r : ResourceData) (new : Is
       alone s.number s (sym split ∙ found)
 
   -- what isn't an instance changes nothing else
-  pub joined_by_right : (o : List ℕ) → is_granted e o (op_row Create).bit r.parent ≡ true → ChangesByRight Create e o r.parent (joined e r)
+  pub joined_by_right : (o : List ℕ) → is_granted e o (op_row Create).bit r.parent ≡ true → ChangesByRight Create e o r.parent (with_newcomer e r)
   joined_by_right o right = record {
     created = λ s fresh. (ap (λ (x : ResourceData). x.parent) (sym (only_new s fresh.0 fresh.1)), right);
     changed = λ a b change.
@@ -267,18 +267,18 @@ pub record IsCreate (e : EntityData) (o : List ℕ) (request : RequestParts) (n 
 
 module _ (e : EntityData) (o : List ℕ) (request : RequestParts) (n : ℕ) (content : HasSoundContent request) (none : fault_at Create e o request n ≡ None) where
   create_of : (t : ResourceData) → at n e.nodes ≡ Some t → fault_on Create e o request t ≡ None → (ty : Ty) → child_ty request ≡ Some ty → (es : List Entry) → content_for request ty ≡ Some es → IsCreate e o request n
-  create_of t there fault ty child es whole =
-      let number : t.number ≡ n = at_number n e.nodes t there in
+  create_of t stands fault ty child es whole =
+      let number : t.number ≡ n = at_number n e.nodes t stands in
       record {
         made = creation_of e o ty t es;
         entity = refl;
         originator = refl;
         parent = number;
         sorted = names_in_order request ty es content whole;
-        may = by_content request.pc refl (ap (λ (m : ℕ). at m e.nodes) number ∙ there);
+        may = by_content request.pc refl (ap (λ (m : ℕ). at m e.nodes) number ∙ stands);
         right = creates_by e o request t.number (and_parts (may_do Create e o request t.number) _ (all_hold (places Create e o request t) fault)).0;
         after =
-            ap (λ (x : Effect). x.after) (done_at Create e o request n t there none)
+            ap (λ (x : Effect). x.after) (done_at Create e o request n t stands none)
             ∙ ap (λ (x : Option Ty). (option_map_or (λ (y : Ty). create_effect request (creation_by e o request t y)) x (refused e request BadChild)).after) child
             ∙ ap (λ (x : Option (List Entry)). (create_effect request (creation_of e o ty t (unwrap_or x []))).after) whole;
       }
@@ -288,12 +288,12 @@ module _ (e : EntityData) (o : List ℕ) (request : RequestParts) (n : ℕ) (con
       by_content (Some d) is own = allowed e o request t ty d es fault own child is whole
 
   by_names : (t : ResourceData) → at n e.nodes ≡ Some t → fault_on Create e o request t ≡ None → (ty : Ty) → child_ty request ≡ Some ty → (x : Option (List Entry)) → content_for request ty ≡ x → IsCreate e o request n
-  by_names t there fault ty child None is = absurd (names_attributes e o request t ty fault child is)
-  by_names t there fault ty child (Some es) is = create_of t there fault ty child es is
+  by_names t stands fault ty child None is = absurd (names_attributes e o request t ty fault child is)
+  by_names t stands fault ty child (Some es) is = create_of t stands fault ty child es is
 
   by_type : (t : ResourceData) → at n e.nodes ≡ Some t → fault_on Create e o request t ≡ None → (x : Option Ty) → child_ty request ≡ x → IsCreate e o request n
-  by_type t there fault None is = absurd (names_type e o request t fault is)
-  by_type t there fault (Some ty) is = by_names t there fault ty is (content_for request ty) refl
+  by_type t stands fault None is = absurd (names_type e o request t fault is)
+  by_type t stands fault (Some ty) is = by_names t stands fault ty is (content_for request ty) refl
 
   pub is_create : IsCreate e o request n
   is_create =

@@ -111,3 +111,10 @@ module _ (e : EntityData) (c : ResourceData) (sound : IsSoundEntity e) (new : Is
             let keep : List ResourceData → EntityData = λ nodes. record { home = e.home; nodes = nodes; next = e.next; last = e.last } in
             subst IsSoundEntity (sym (ap entity same ∙ ap keep all)) (plain_sound f)
       ]
+
+-- what the steps leave is sound
+pub updated_after : (e : EntityData) (c : ResourceData) (gone : List ℕ) (turned left : List ResourceData) → IsSoundEntity e → IsReplacement e c → turned ≡ replaced c e.nodes → gone ≡ pushed_by e c → left ≡ without_all gone turned → IsSoundEntity (record { home = e.home; nodes = left; next = e.next; last = e.last })
+updated_after e c gone turned left sound new first which second =
+    subst (λ (nodes : List ResourceData). IsSoundEntity (record { home = e.home; nodes = nodes; next = e.next; last = e.last }))
+    (sym (second ∙ ap (λ (numbers : List ℕ). without_all numbers turned) which ∙ ap (without_all (pushed_by e c)) first))
+    (sound_updated e c sound new)
