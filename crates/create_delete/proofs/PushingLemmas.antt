@@ -42,13 +42,12 @@ nothing_removed nodes tree = without_none (is_numbered_in []) nodes tree (none n
     none (r ∷ rs) = none rs
 
 -- after one more of them
-pub next_removed : (numbers : List ℕ) (i n : ℕ) (before after first : List ResourceData) → i < length numbers → n ≡ get_or numbers i n → after ≡ without_all (n ∷ []) before → without_all (drop i numbers) before ≡ without_all numbers first → without_all (drop (i + 1) numbers) after ≡ without_all numbers first
-next_removed numbers i n before after first within is removed held =
+pub next_removed : (numbers : List ℕ) (i : ℕ) (before after first : List ResourceData) → i < length numbers → after ≡ without_all (get_or numbers i 0 ∷ []) before → without_all (drop i numbers) before ≡ without_all numbers first → without_all (drop (i + 1) numbers) after ≡ without_all numbers first
+next_removed numbers i before after first within removed held =
     ap (λ (k : ℕ). without_all (drop k numbers) after) (add-one i)
     ∙ ap (without_all (drop (suc i) numbers)) removed
-    ∙ one_more n (drop (suc i) numbers) before
-    ∙ ap (λ (m : ℕ). without_all (m ∷ drop (suc i) numbers) before) is
-    ∙ ap (λ (ns : List ℕ). without_all ns before) (sym (drop-cons numbers i n within))
+    ∙ one_more (get_or numbers i 0) (drop (suc i) numbers) before
+    ∙ ap (λ (ns : List ℕ). without_all ns before) (sym (drop-cons numbers i 0 within))
     ∙ held
 
 -- after the last of them

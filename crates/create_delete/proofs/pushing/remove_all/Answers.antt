@@ -4,7 +4,7 @@ use Rattle.create_delete.proofs.pushing.remove_all.Goals as goal
 
 pub loop-number-preserved : goal.loop-number-preserved
 loop-number-preserved g c =
-    (next_removed c.args.numbers.now c.loop-number.number-index _ (g.T.Tree.nodes c.loop-number.tree) (g.T.Tree.nodes c.remove.new.tree) (g.T.Tree.nodes c.args.tree.now) c.loop-number-test.true c.remove-arg-1.is c.remove.ensures.value c.loop-number.invariant.0, c.remove.ensures.tree)
+    (next_removed c.args.numbers.now c.loop-number.number-index (g.T.Tree.nodes c.loop-number.tree) (g.T.Tree.nodes c.remove.new.tree) (g.T.Tree.nodes c.args.tree.now) c.loop-number-test.true c.remove.ensures.value c.loop-number.invariant.0, c.remove.ensures.tree)
 
 pub returns : goal.returns
 returns g c =
