@@ -1,5 +1,5 @@
--- The changes that an operation makes, one after another: what subscriptions and announced resources
--- are told of (TS-0001, 9.6.8 and 9.6.26).
+-- The changes that an operation makes, one after another: what subscriptions and announced
+-- resources are told of (TS-0001, 9.6.8 and 9.6.26).
 use Rattle.std.specs.Prelude.{ℕ, not, List, [], ◌∷◌, ◌++◌, map, filter, Option, Some, None}
 use Rattle.std.specs.List.{filter_map}
 use Rattle.std.specs.Option.{option_map_or}

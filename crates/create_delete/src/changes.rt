@@ -8,15 +8,16 @@ ghost use Rattle.tree_model.specs.Tree.{at, line_of};
 ghost use Rattle.entity_model.specs.Entity.{EntityData};
 ghost use Rattle.entity_model.specs.Sound.{IsSoundEntity};
 ghost use Rattle.create_delete.specs.Changes.{changes_by, created, updated, deleted, named_attrs};
-ghost use Rattle.create_delete.specs.Changing.{delete_effect, is_numbered_in, nodes_updated, pushed_by};
+ghost use Rattle.create_delete.specs.Changing.{delete_effect, is_numbered_in, nodes_updated};
+ghost use Rattle.create_delete.specs.Changing.{pushed_by};
 ghost use Rattle.create_delete.specs.Joining.{after_joining, gone_by, MayJoin};
 ghost use Rattle.create_delete.specs.Newcomer.{IsReplacement};
 ghost use Rattle.create_delete.specs.declared.joining.Filling.{Filling};
 
 /// The changes by which a sound entity comes to be what an operation leaves are just what the
-/// operation prepares. A creation: the new resource, and what is pushed out. An update: the resource
-/// as it was and is, with the attributes that the request named, and what is pushed out. A deletion:
-/// the target, and what stands below it.
+/// operation prepares. A creation: the new resource, and what is pushed out. An update: the
+/// resource as it was and is, with the attributes that the request named, and what is pushed out.
+/// A deletion: the target, and what stands below it.
 pub fn the_changes_are_those_that_are_prepared()
     ensures creates { (e : EntityData) (r : ResourceData) (f : Option Filling)
         (request : RequestParts) (n : ℕ) → IsSoundEntity e → MayJoin e r f

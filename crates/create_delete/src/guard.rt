@@ -15,9 +15,9 @@ ghost use Rattle.create_delete.specs.Newcomer.{IsFilling, IsReplacement};
 
 /// Of a sound entity an operation on a resource changes nothing but by a grant to the originator,
 /// judged on the entity before. A resource is new only under the target, with CREATE. It differs
-/// only with UPDATE, and then not in its `acpi`; or in that alone with the right to change it; or in
-/// its state tag alone where a new instance stands in it, but for the moment of its last change. It
-/// is gone only at or below a target with DELETE, or as an instance of a target to which the
+/// only with UPDATE, and then not in its `acpi`; or in that alone with the right to change it; or
+/// in its state tag alone where a new instance stands in it, but for the moment of its last change.
+/// It is gone only at or below a target with DELETE, or as an instance of a target to which the
 /// operation adds with CREATE, or which it changes with UPDATE.
 pub fn nothing_is_changed_without_a_grant()
     ensures { (op : Op) (e : EntityData) (o : List ℕ) (request : RequestParts) (n : ℕ)

@@ -30,7 +30,8 @@ pub use growth::{
     an_entity_stays_sound_where_a_resource_joins, an_entity_stays_sound_where_an_instance_joins,
 };
 pub use guard::{
-    a_container_keeps_the_newest_that_fit, an_entity_stays_sound, nothing_is_changed_without_a_grant,
+    a_container_keeps_the_newest_that_fit, an_entity_stays_sound,
+    nothing_is_changed_without_a_grant,
 };
 pub use laws::{
     a_deletion_takes_what_stands_at_or_below_its_target, a_refusal_changes_nothing,
