@@ -114,7 +114,7 @@ cses_grown home nodes r free apart distinct =
 
 -- ---- what stands under a resource
 
-nothing_picked : (p : ResourceData → Bool) (nodes : List ResourceData) → list_all (λ s. not (p s)) nodes ≡ true → filter p nodes ≡ []
+pub nothing_picked : (p : ResourceData → Bool) (nodes : List ResourceData) → list_all (λ s. not (p s)) nodes ≡ true → filter p nodes ≡ []
 nothing_picked p [] none = refl
 nothing_picked p (s ∷ nodes) none =
     let parts = and_parts (not (p s)) _ none in

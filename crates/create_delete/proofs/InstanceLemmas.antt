@@ -95,7 +95,7 @@ instance_type GroupAnnc is = absurd (both_ways _ refl is)
 other_value : (a : Attr) (lt st : ℕ) (c : ResourceData) → is_attr a St ≡ false → is_attr a a ≡ true → value_of a (restamped lt st c).attrs ≡ value_of a c.attrs
 other_value a lt st c apart itself = value-with_value_other St a (number (pos st)) c.attrs (λ e. both_ways _ apart (ap (is_attr a) (sym e) ∙ itself))
 
-limits_restamped : (lt st : ℕ) (c : ResourceData) → limits_of (restamped lt st c) ≡ limits_of c
+pub limits_restamped : (lt st : ℕ) (c : ResourceData) → limits_of (restamped lt st c) ≡ limits_of c
 limits_restamped lt st c = rw (other_value Mni lt st c refl refl, other_value Mbs lt st c refl refl, other_value Mia lt st c refl refl) refl
 
 ids_restamped : (next lt st : ℕ) (c : ResourceData) → has_known_ids next (restamped lt st c) ≡ has_known_ids next c
@@ -216,7 +216,7 @@ module _ (e : EntityData) (r c : ResourceData) (st : ℕ) (sound : IsSoundEntity
       let mia : count_at Mia stamped.attrs ≡ count_at Mia c.attrs = ap (λ l. l.mia) (limits_restamped e.last st c) in
       not_from_false _ (ap (λ (o : Option ℕ). is_due_by o e.last r) mia ∙ sym (instance_due n e.last e.nodes c r filling.container is_new) ∙ later)
 
-  pruning : IsPruning n after stamped (Some (instance_size r)) (instances_of n e.nodes) (r ∷ [])
+  pub pruning : IsPruning n after stamped (Some (instance_size r)) (instances_of n e.nodes) (r ∷ [])
   pruning = record {
     sound = but;
     found = ap (λ (m : ℕ). at m after.nodes) (sym named) ∙ at-replaced stamped grown (still_there grown stamped stood);

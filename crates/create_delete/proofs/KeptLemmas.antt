@@ -9,7 +9,8 @@ use Rattle.resource_model.specs.Resource.{ResourceData, has_number}
 use Rattle.tree_model.specs.Tree.{has, stays, staying}
 use Rattle.tree_model.proofs.GrowthLemmas.{has-filter}
 use Rattle.container_limits.specs.Limits.{numbers_of}
-use Rattle.tree_model.proofs.OrderLemmas.{ascend}
+use Rattle.container_limits.proofs.LimitLemmas.{not_not}
+use Rattle.tree_model.proofs.OrderLemmas.{are_above, ascend, above_lacks}
 
 -- ---- filters
 
@@ -39,14 +40,14 @@ all_by_two p q t by (r ∷ rs) one two =
     and_from _ _ (by r a.0 b.0) (all_by_two p q t by rs a.1 b.1)
 
 -- two filters that are the same where a test holds of all
-filter_where : (a p q : ResourceData → Bool) → ((s : ResourceData) → a s ≡ true → p s ≡ q s) → (rs : List ResourceData) → list_all a rs ≡ true → filter p rs ≡ filter q rs
+pub filter_where : (a p q : ResourceData → Bool) → ((s : ResourceData) → a s ≡ true → p s ≡ q s) → (rs : List ResourceData) → list_all a rs ≡ true → filter p rs ≡ filter q rs
 filter_where a p q same [] all = refl
 filter_where a p q same (r ∷ rs) all =
     let parts = and_parts (a r) (list_all a rs) all in
     rw (same r parts.0, filter_where a p q same rs parts.1) refl
 
 -- two filters that are the same on what the list has
-filter_among : (p q : ResourceData → Bool) (rs : List ResourceData) → ((s : ResourceData) → has s.number rs ≡ true → p s ≡ q s) → filter p rs ≡ filter q rs
+pub filter_among : (p q : ResourceData → Bool) (rs : List ResourceData) → ((s : ResourceData) → has s.number rs ≡ true → p s ≡ q s) → filter p rs ≡ filter q rs
 filter_among p q [] same = refl
 filter_among p q (r ∷ rs) same =
     let first : p r ≡ q r = same r (rw (eq-eqb r.number r.number refl) refl) in
@@ -54,16 +55,6 @@ filter_among p q (r ∷ rs) same =
     rw (first, rest) refl
 
 -- ---- the list that is kept
-
--- they have greater numbers
-abbrev pub are_above : ℕ → List ResourceData → Bool
-are_above n rs = list_all (λ (s : ResourceData). nat_lt n s.number) rs
-
-pub lacks_lower : (n : ℕ) (rs : List ResourceData) → are_above n rs ≡ true → has n rs ≡ false
-lacks_lower n [] above = refl
-lacks_lower n (r ∷ rs) above =
-    let parts = and_parts (nat_lt n r.number) (are_above n rs) above in
-    or_from _ _ (ne_eqb r.number n (λ e. let less : n < r.number = ltb-true n r.number parts.0 in omega arith)) (lacks_lower n rs parts.1)
 
 abbrev rest_of : List ResourceData → List ResourceData
 rest_of [] = []
@@ -82,7 +73,7 @@ abbrev KeepsOwn : (ResourceData → Bool) → List ResourceData → Type 0
 KeepsOwn p rs = (front kept : List ResourceData) → front ++ kept ≡ filter p rs → filter (λ s. has s.number kept) rs ≡ kept
 
 kept_later : (p : ResourceData → Bool) (front kept : List ResourceData) (r : ResourceData) (rs : List ResourceData) → are_above r.number rs ≡ true → KeepsOwn p rs → front ++ kept ≡ filter p rs → filter (λ s. has s.number kept) (r ∷ rs) ≡ kept
-kept_later p front kept r rs above own is = rw (lacks_lower r.number kept (kept_above p r.number front kept rs above is)) (own front kept is)
+kept_later p front kept r rs above own is = rw (above_lacks r.number kept (kept_above p r.number front kept rs above is)) (own front kept is)
 
 kept_first : (p : ResourceData → Bool) (front kept : List ResourceData) (r : ResourceData) (rs : List ResourceData) → are_above r.number rs ≡ true → KeepsOwn p rs → front ++ kept ≡ r ∷ filter p rs → filter (λ s. has s.number kept) (r ∷ rs) ≡ kept
 kept_first p (f ∷ front) kept r rs above own is = kept_later p front kept r rs above own (ap rest_of is)
@@ -126,10 +117,6 @@ not_kept kept rs = numbers_of (filter (λ s. not (has s.number kept)) rs)
 
 pub is_not_kept : (kept rs : List ResourceData) (n : ℕ) → list_any (nat_eq n) (not_kept kept rs) ≡ (has n rs && not (has n kept))
 is_not_kept kept rs n = among_numbers n (filter (λ s. not (has s.number kept)) rs) ∙ has-filter (λ m. not (has m kept)) n rs
-
-not_not : (b : Bool) → not (not b) ≡ b
-not_not true = refl
-not_not false = refl
 
 -- where those that aren't kept go, those that are kept are left
 pub left_are_kept : (p : ResourceData → Bool) (front kept rs : List ResourceData) → ascend rs ≡ true → front ++ kept ≡ filter p rs → filter (λ s. not (list_any (nat_eq s.number) (not_kept kept rs))) rs ≡ kept

@@ -1,3 +1,4 @@
+pub mod ChangesLemmas
 pub mod CreatableLemmas
 pub mod CreatedLemmas
 pub mod DeletionLemmas
@@ -5,13 +6,19 @@ pub mod GrownLemmas
 pub mod InstanceLemmas
 pub mod JoiningLemmas
 pub mod KeptLemmas
+pub mod LeftLemmas
 pub mod NewcomerLemmas
 pub mod PerformedLemmas
 pub mod PrunedLemmas
 pub mod PushingLemmas
+pub mod RelinkLemmas
 pub mod ReplacedLemmas
 pub mod ReplacementLemmas
+pub mod RightCreateLemmas
+pub mod RightLemmas
+pub mod RightUpdateLemmas
 pub mod RowLemmas
 pub mod TellingLemmas
 pub mod UpdatableLemmas
 pub mod UpdatedLemmas
+pub mod UpdatedRowLemmas

@@ -23,13 +23,13 @@ use Rattle.tree_model.proofs.TreeLemmas.{at_number, has-append, staying_all, sta
 use Rattle.container_limits.specs.Limits.{do_fit, evicted, is_due_by, is_within, kept, lasts, longest_fit, limits_of}
 use Rattle.container_limits.specs.declared.limits.Limits.{Limits}
 use Rattle.container_limits.proofs.LimitLemmas.{longest_fits, longest_is_suffix}
-use Rattle.tree_model.proofs.OrderLemmas.{ascend, tree_ascends}
+use Rattle.tree_model.proofs.OrderLemmas.{are_above, ascend, above_lacks, tree_ascends}
 use Rattle.entity_model.specs.Entity.{EntityData}
 use Rattle.entity_model.specs.Sound.{is_within_limits, begins_with_base, spares_first, IsSoundEntity}
 use Rattle.entity_model.proofs.SoundLemmas.{all_left, all_weaker, due_left, limits_left, within_too, IsFramed, framed_left, sound_framed}
 use Rattle.create_delete.specs.Changing.{is_numbered_in}
 use Rattle.create_delete.proofs.GrownLemmas.{is_within_but, within_by, all_none, none_all}
-use Rattle.create_delete.proofs.KeptLemmas.{all_filtered, all_unfiltered, all_by_two, is_not_kept, left_are_kept, left_count, left_sum, are_above, lacks_lower}
+use Rattle.create_delete.proofs.KeptLemmas.{all_filtered, all_unfiltered, all_by_two, is_not_kept, left_are_kept, left_count, left_sum}
 use Rattle.create_delete.proofs.ReplacedLemmas.{is_quiet_but}
 
 -- ---- sound but for the instances of one resource
@@ -97,7 +97,7 @@ no_first n home (r ∷ nodes) picks base order only =
     let is_base : is_ty r.ty CseBase ≡ true = (and_parts (is_ty r.ty CseBase) _ base).0 in
     let plain : is_instance n r ≡ false = false_from_ne_true _ (λ t. both_ways _ (other_type n r t) is_base) in
     let above : are_above r.number nodes ≡ true = (and_parts (are_above r.number nodes) (ascend nodes) order).0 in
-    let none : has r.number (instances_of n (r ∷ nodes)) ≡ false = rw plain (lacks_lower r.number (instances_of n nodes) (all_filtered _ (is_instance n) nodes above)) in
+    let none : has r.number (instances_of n (r ∷ nodes)) ≡ false = rw plain (above_lacks r.number (instances_of n nodes) (all_filtered _ (is_instance n) nodes above)) in
     not_from_false _ (false_from_ne_true _ (λ t. both_ways _ none (only r t)))
 
 -- a resource that a removal leaves stood there
@@ -125,7 +125,7 @@ pub record IsPruning (n : ℕ) (e : EntityData) (c : ResourceData) (size : Optio
   pub fits : do_fit (limits_of c) size [] ≡ true
 
 module _ (n : ℕ) (e : EntityData) (c : ResourceData) (size : Option ℕ) (rs news : List ResourceData) (pruning : IsPruning n e c size rs news) where
-  abbrev stay : List ResourceData
+  abbrev pub stay : List ResourceData
   stay = kept (limits_of c) size e.last rs
 
   abbrev pub goes : ResourceData → Bool
@@ -152,7 +152,7 @@ module _ (n : ℕ) (e : EntityData) (c : ResourceData) (size : Option ℕ) (rs n
   after : IsSoundBut n (left_by goes e)
   after = but_left goes n e pruning.sound spared
 
-  split : filter (λ s. not (goes s)) (instances_of n e.nodes) ≡ stay ++ filter (λ s. not (goes s)) news
+  pub split : filter (λ s. not (goes s)) (instances_of n e.nodes) ≡ stay ++ filter (λ s. not (goes s)) news
   split = ap (filter (λ s. not (goes s))) pruning.instances ∙ filter-append (λ s. not (goes s)) rs news ∙ ap (λ (ss : List ResourceData). ss ++ filter (λ s. not (goes s)) news) keeps
 
   count : length (instances_of n left) ≤ length stay + length (option_to_list size)

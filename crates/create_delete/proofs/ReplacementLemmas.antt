@@ -23,7 +23,6 @@ use Rattle.resource_model.proofs.AttributeLemmas.{value-with_value_same}
 use Rattle.tree_model.specs.Shown.{with_rows}
 use Rattle.tree_model.specs.Tree.{at, due_under, is_due, standing}
 use Rattle.tree_model.proofs.QuietLemmas.{found_passes}
-use Rattle.tree_model.proofs.ShownLemmas.{with_rows-append}
 use Rattle.attribute_rules.specs.Contents.{does_clear, edit_in, edited}
 use Rattle.attribute_rules.specs.Kinds.{is_attr_kind, are_kinds}
 use Rattle.attribute_rules.specs.Laws.{may_name}
@@ -42,7 +41,8 @@ use Rattle.create_delete.specs.Newcomer.{IsReplacement}
 use Rattle.create_delete.specs.Updating.{IsUpdatable}
 use Rattle.create_delete.proofs.GrownLemmas.{none_all}
 use Rattle.create_delete.proofs.NewcomerLemmas.{kinds-with_rows, lacks_link, link_kind, link_known, state_small}
-use Rattle.create_delete.proofs.RowLemmas.{lacks_attr, value_unset}
+use Rattle.create_delete.proofs.RowLemmas.{value_unset}
+use Rattle.create_delete.proofs.UpdatedRowLemmas.{as_edited, lacks_state, rows_are}
 
 -- what is known stays so where nothing else is named
 still_known : (next : ℕ) (o : Option Data) (clears : Data → Bool) (old : Option Data) → (length (listed_in o) == 0) ≡ true → list_all (is_known_id next) (listed_in old) ≡ true → list_all (is_known_id next) (listed_in (option_map_or (λ d. if clears d then None else Some d) o old)) ≡ true
@@ -62,22 +62,9 @@ module _ (e : EntityData) (es : List Entry) (r : ResourceData) (sound : IsSoundE
   abbrev kept : List Row
   kept = edited (edit_in es) r.attrs
 
-  rows_are : now.attrs ≡ with_rows (link_row e es Macp) (with_rows (link_row e es Acpi) (with_rows state kept))
-  rows_are = with_rows-append (state ++ link_row e es Acpi) (link_row e es Macp) kept ∙ ap (with_rows (link_row e es Macp)) (with_rows-append state (link_row e es Acpi) kept)
-
-  lacks_state : (a : Attr) → is_attr St a ≡ false → lacks_attr a state ≡ true
-  lacks_state a other = elim (cases_Bool (is_ty r.ty Container)) [
-    | inl t ↦ rw t (and_from _ _ (not_from_false _ other) refl)
-    | inr f ↦ rw f refl
-  ]
-
   -- an attribute that isn't put in
-  as_edited : (a : Attr) → is_attr Acpi a ≡ false → is_attr Macp a ≡ false → is_attr St a ≡ false → value_of a now.attrs ≡ value_of a kept
-  as_edited a acpi macp st =
-      ap (value_of a) rows_are
-      ∙ value_unset a (link_row e es Macp) (with_rows (link_row e es Acpi) (with_rows state kept)) (lacks_link a Macp e es macp)
-      ∙ value_unset a (link_row e es Acpi) (with_rows state kept) (lacks_link a Acpi e es acpi)
-      ∙ value_unset a state kept (lacks_state a st)
+  edited_at : (a : Attr) → is_attr Acpi a ≡ false → is_attr Macp a ≡ false → is_attr St a ≡ false → value_of a now.attrs ≡ value_of a kept
+  edited_at a acpi macp st = as_edited e es r a (lacks_link a Acpi e es acpi) (lacks_link a Macp e es macp) (lacks_state r a (λ is. st))
 
   -- ---- types
 
@@ -90,7 +77,7 @@ module _ (e : EntityData) (es : List Entry) (r : ResourceData) (sound : IsSoundE
   ae_same = elim (cases_Bool (is_ty r.ty Ae)) [
     | inl is ↦
         let fixed : may_name r.ty Aei ≡ false = ap (λ (t : Ty). may_name t Aei) (same_type r.ty Ae (eqb-true _ _ is)) in
-        rw is (ap (option_and_then as_text) (as_edited Aei refl refl refl ∙ members_leave r.ty es Aei r.attrs may.admitted fixed))
+        rw is (ap (option_and_then as_text) (edited_at Aei refl refl refl ∙ members_leave r.ty es Aei r.attrs may.admitted fixed))
     | inr other ↦ rw other refl
   ]
 
@@ -98,7 +85,7 @@ module _ (e : EntityData) (es : List Entry) (r : ResourceData) (sound : IsSoundE
   cse_same = elim (cases_Bool (is_ty r.ty RemoteCse)) [
     | inl is ↦
         let fixed : may_name r.ty Csi ≡ false = ap (λ (t : Ty). may_name t Csi) (same_type r.ty RemoteCse (eqb-true _ _ is)) in
-        rw is (ap (option_and_then as_text) (as_edited Csi refl refl refl ∙ members_leave r.ty es Csi r.attrs may.admitted fixed))
+        rw is (ap (option_and_then as_text) (edited_at Csi refl refl refl ∙ members_leave r.ty es Csi r.attrs may.admitted fixed))
     | inr other ↦ rw other refl
   ]
 
@@ -123,15 +110,15 @@ module _ (e : EntityData) (es : List Entry) (r : ResourceData) (sound : IsSoundE
 
   acpi_known : list_all (is_known_id e.next) (ids_at Acpi now) ≡ true
   acpi_known =
-      ap (λ (o : Option Data). list_all (is_known_id e.next) (listed_in o)) (ap (value_of Acpi) rows_are ∙ value_unset Acpi (link_row e es Macp) (with_rows (link_row e es Acpi) (with_rows state kept)) (lacks_link Acpi Macp e es refl))
+      ap (λ (o : Option Data). list_all (is_known_id e.next) (listed_in o)) (ap (value_of Acpi) (rows_are e es r) ∙ value_unset Acpi (link_row e es Macp) (with_rows (link_row e es Acpi) (with_rows state kept)) (lacks_link Acpi Macp e es refl))
       ∙ link_known e es Acpi (with_rows state kept) sound
-      (λ t. ap (λ (o : Option Data). list_all (is_known_id e.next) (listed_in o)) (value_unset Acpi state kept (lacks_state Acpi refl)) ∙ edit_known Acpi refl each_known.0 t)
+      (λ t. ap (λ (o : Option Data). list_all (is_known_id e.next) (listed_in o)) (value_unset Acpi state kept (lacks_state r Acpi (λ is. refl))) ∙ edit_known Acpi refl each_known.0 t)
 
   macp_known : list_all (is_known_id e.next) (ids_at Macp now) ≡ true
   macp_known =
-      ap (λ (o : Option Data). list_all (is_known_id e.next) (listed_in o)) (ap (value_of Macp) rows_are)
+      ap (λ (o : Option Data). list_all (is_known_id e.next) (listed_in o)) (ap (value_of Macp) (rows_are e es r))
       ∙ link_known e es Macp (with_rows (link_row e es Acpi) (with_rows state kept)) sound
-      (λ t. ap (λ (o : Option Data). list_all (is_known_id e.next) (listed_in o)) (value_unset Macp (link_row e es Acpi) (with_rows state kept) (lacks_link Macp Acpi e es refl) ∙ value_unset Macp state kept (lacks_state Macp refl)) ∙ edit_known Macp refl each_known.1 t)
+      (λ t. ap (λ (o : Option Data). list_all (is_known_id e.next) (listed_in o)) (value_unset Macp (link_row e es Acpi) (with_rows state kept) (lacks_link Macp Acpi e es refl) ∙ value_unset Macp state kept (lacks_state r Macp (λ is. refl))) ∙ edit_known Macp refl each_known.1 t)
 
   -- ---- kinds
 
@@ -158,7 +145,7 @@ module _ (e : EntityData) (es : List Entry) (r : ResourceData) (sound : IsSoundE
     | inl is ↦
         let put : value_of St (with_rows state kept) ≡ Some (number (pos (next_state r))) = rw is (value-with_value_same St (number (pos (next_state r))) kept) in
         let value : value_of St now.attrs ≡ Some (number (pos (next_state r))) =
-        ap (value_of St) rows_are
+        ap (value_of St) (rows_are e es r)
         ∙ value_unset St (link_row e es Macp) (with_rows (link_row e es Acpi) (with_rows state kept)) (lacks_link St Macp e es refl)
         ∙ value_unset St (link_row e es Acpi) (with_rows state kept) (lacks_link St Acpi e es refl) ∙ put in
         or_right _ _ (ap is_some value)

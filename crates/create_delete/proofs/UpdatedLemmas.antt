@@ -38,7 +38,7 @@ or_nothing (Some r) = refl
 at_older : (n : ℕ) (nodes : List ResourceData) (r : ResourceData) → n < r.number → at n (nodes ++ r ∷ []) ≡ at n nodes
 at_older n nodes r before = at-append n nodes (r ∷ []) ∙ rw (ne_eqb r.number n (λ e. omega arith)) (or_nothing (at n nodes))
 
-all_taken : (nodes : List ResourceData) → is_well_formed nodes ≡ true → list_all (is_taken nodes) nodes ≡ true
+pub all_taken : (nodes : List ResourceData) → is_well_formed nodes ≡ true → list_all (is_taken nodes) nodes ≡ true
 all_taken = growth fits_in (λ nodes. list_all (is_taken nodes) nodes ≡ true) refl (λ before r grew next holds.
     let tree : is_tree before ≡ true = tree_from_well_formed before grew in
     let parts = and_parts (may_stand before r) (is_taken before r) next in
@@ -70,7 +70,7 @@ module _ (e : EntityData) (c : ResourceData) (sound : IsSoundEntity e) (new : Is
   }
 
   -- a container keeps what fits
-  pruning : IsPruning n (replaced_by e c) c None (instances_of n e.nodes) []
+  pub pruning : IsPruning n (replaced_by e c) c None (instances_of n e.nodes) []
   pruning = record {
     sound = but;
     found = there;
@@ -111,3 +111,10 @@ module _ (e : EntityData) (c : ResourceData) (sound : IsSoundEntity e) (new : Is
             let keep : List ResourceData → EntityData = λ nodes. record { home = e.home; nodes = nodes; next = e.next; last = e.last } in
             subst IsSoundEntity (sym (ap entity same ∙ ap keep all)) (plain_sound f)
       ]
+
+-- what the steps leave is sound
+pub updated_after : (e : EntityData) (c : ResourceData) (gone : List ℕ) (turned left : List ResourceData) → IsSoundEntity e → IsReplacement e c → turned ≡ replaced c e.nodes → gone ≡ pushed_by e c → left ≡ without_all gone turned → IsSoundEntity (record { home = e.home; nodes = left; next = e.next; last = e.last })
+updated_after e c gone turned left sound new first which second =
+    subst (λ (nodes : List ResourceData). IsSoundEntity (record { home = e.home; nodes = nodes; next = e.next; last = e.last }))
+    (sym (second ∙ ap (λ (numbers : List ℕ). without_all numbers turned) which ∙ ap (without_all (pushed_by e c)) first))
+    (sound_updated e c sound new)

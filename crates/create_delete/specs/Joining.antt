@@ -1,5 +1,5 @@
 -- What a creation does to an entity, and when it may.
-use Rattle.std.specs.Prelude.{◌≡◌, ◌+◌, [], ◌∷◌, ◌++◌, true, false, Option, Some, None}
+use Rattle.std.specs.Prelude.{◌≡◌, ℕ, ◌+◌, List, [], ◌∷◌, ◌++◌, true, false, Option, Some, None}
 use Rattle.std.specs.Prelude.{if◌then◌else◌, IsTrue}
 use Rattle.m2m_names.specs.Types.{does_take}
 use Rattle.m2m_names.specs.declared.types.Ty.TheVariants.{ContentInstance}
@@ -50,6 +50,11 @@ with_newcomer e r = record e { nodes = e.nodes ++ r ∷ []; next = e.next + 1 }
 abbrev pub MayJoin : EntityData → ResourceData → Option Filling → Type 0
 MayJoin e r None = IsNewcomer e r × (is_ty r.ty ContentInstance ≡ false)
 MayJoin e r (Some f) = MayFill e r f
+
+-- the numbers of what is pushed out
+abbrev pub gone_by : Option Filling → List ℕ
+gone_by None = []
+gone_by (Some f) = f.gone
 
 abbrev pub after_joining : EntityData → ResourceData → Option Filling → EntityData
 after_joining e r None = with_newcomer e r

@@ -11,8 +11,8 @@ use Rattle.request_rules.specs.Order.{expires_later}
 use Rattle.request_rules.specs.Policies.{links_live}
 use Rattle.request_rules.specs.Requests.{is_for}
 
--- What holds of an update, which names these attributes, that no place refuses: the resource is there
--- and of a type that is updated, and what is named is admitted.
+-- What holds of an update, which names these attributes, that no place refuses: the resource is
+-- there and of a type that is updated, and what is named is admitted.
 pub record IsUpdatable (e : EntityData) (es : List Entry) (r : ResourceData) : Type 0 where
   pub stands : at r.number e.nodes ≡ Some r
   pub kind : IsTrue (is_for Update r.ty)

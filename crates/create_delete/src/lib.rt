@@ -10,21 +10,28 @@
 #![tactic(auto)]
 
 mod building;
+mod changes;
 mod creation;
 mod deletion;
 mod editing;
 mod growth;
+mod guard;
 mod joining;
 mod laws;
 mod pushing;
 mod telling;
 mod updating;
 
+pub use changes::the_changes_are_those_that_are_prepared;
 pub use creation::create;
 pub use deletion::delete;
 pub use growth::{
     an_entity_stays_sound_where_a_resource_is_updated,
     an_entity_stays_sound_where_a_resource_joins, an_entity_stays_sound_where_an_instance_joins,
+};
+pub use guard::{
+    a_container_keeps_the_newest_that_fit, an_entity_stays_sound,
+    nothing_is_changed_without_a_grant,
 };
 pub use laws::{
     a_deletion_takes_what_stands_at_or_below_its_target, a_refusal_changes_nothing,

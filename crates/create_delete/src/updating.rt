@@ -26,7 +26,7 @@ use tree_model::{Resource, Tree};
 
 // What an update does, for which all memory is taken.
 #[derive(Drop)]
-struct Changes {
+struct Prepared {
     resource: Resource,
     gone: Numbers,
     reply: Reply,
@@ -52,8 +52,8 @@ pub fn update<T: Tree>(
     if let Some(fault) = judge(alloc, Op::Update, entity, o, request, target)? {
         return refuse(alloc, request, fault);
     }
-    let changes = prepare(alloc, entity, o, request, target)?;
-    Ok(apply(entity, changes))
+    let prepared = prepare(alloc, entity, o, request, target)?;
+    Ok(apply(entity, prepared))
 }
 
 // The resource, what it pushes out, and the reply.
@@ -63,7 +63,7 @@ fn prepare<T: Tree>(
     o: &[u8],
     request: &Request,
     target: u64,
-) -> Result<Changes, OutOfMemory>
+) -> Result<Prepared, OutOfMemory>
     requires { fault_at Update entity.now o.now request.now target ≡ None }
     ensures may { IfOk result (λ c. IsReplacement entity.now c.resource) }
     ensures gone { IfOk result (λ c. c.gone ≡ spec.pushed_by entity.now c.resource) }
@@ -85,7 +85,7 @@ fn prepare_for<T: Tree>(
     o: &[u8],
     request: &Request,
     resource: &Resource,
-) -> Result<Changes, OutOfMemory>
+) -> Result<Prepared, OutOfMemory>
     requires stands { at resource.now.number entity.now.nodes ≡ Some resource.now }
     requires allowed { fault_on Update entity.now o.now request.now resource.now ≡ None }
     ensures may { IfOk result (λ c. IsReplacement entity.now c.resource) }
@@ -110,7 +110,7 @@ fn prepare_with<T: Tree>(
     request: &Request,
     resource: &Resource,
     content: &Val,
-) -> Result<Changes, OutOfMemory>
+) -> Result<Prepared, OutOfMemory>
     requires stands { at resource.now.number entity.now.nodes ≡ Some resource.now }
     requires content { request.now.pc ≡ Some content.now }
     requires allowed { fault_on Update entity.now o.now request.now resource.now ≡ None }
@@ -136,7 +136,7 @@ fn prepare_by<T: Tree>(
     resource: &Resource,
     content: &Val,
     members: &Members,
-) -> Result<Changes, OutOfMemory>
+) -> Result<Prepared, OutOfMemory>
     requires admitted { IsTrue (is_admitted writing.Update resource.now.ty content.now) }
     requires named { attributes_in resource.now.ty content.now ≡ Some members.now }
     requires allowed { IsUpdatable entity.now members.now resource.now }
@@ -155,7 +155,7 @@ fn prepare_by<T: Tree>(
     let gone = pushed_by(alloc, entity, &updated)?;
     let told = updated_content(alloc, entity, request, members, &updated)?;
     let reply = reply_to(alloc, request, Rsc::Updated, told)?;
-    Ok(Changes {
+    Ok(Prepared {
         resource: updated,
         gone,
         reply,
@@ -163,14 +163,14 @@ fn prepare_by<T: Tree>(
 }
 
 // Nothing here can fail.
-fn apply<T: Tree>(entity: &mut Entity<T>, changes: Changes) -> Reply
-    requires may { IsReplacement entity.old changes.resource }
-    requires gone { changes.gone ≡ spec.pushed_by entity.old changes.resource }
-    ensures reply { result ≡ changes.reply }
+fn apply<T: Tree>(entity: &mut Entity<T>, prepared: Prepared) -> Reply
+    requires may { IsReplacement entity.old prepared.resource }
+    requires gone { prepared.gone ≡ spec.pushed_by entity.old prepared.resource }
+    ensures reply { result ≡ prepared.reply }
     ensures after { entity.new
-        ≡ record entity.old { nodes = spec.nodes_updated entity.old changes.resource } }
+        ≡ record entity.old { nodes = spec.nodes_updated entity.old prepared.resource } }
 {
-    entity.tree.replace(changes.resource);
-    remove_all(&mut entity.tree, changes.gone.entries());
-    changes.reply
+    entity.tree.replace(prepared.resource);
+    remove_all(&mut entity.tree, prepared.gone.entries());
+    prepared.reply
 }
