@@ -1,9 +1,8 @@
 -- The changes that come of an operation are those that it prepares.
 use Rattle.std.specs.Prelude.{nat_eq}
-use Rattle.std.proofs.Common.{◌≡◌, ℕ, ◌+◌, List, [], ◌∷◌, ◌++◌, map, Bool, true, false, not, ◌&&◌, ◌||◌, cond, Option, Some, None, inl, inr, refl, sym, ap, ◌∙◌, subst}
+use Rattle.std.proofs.Common.{◌≡◌, ℕ, ◌+◌, List, [], ◌∷◌, ◌++◌, map, Bool, true, false, not, ◌&&◌, cond, Option, Some, None, inl, inr, refl, sym, ap, ◌∙◌, subst}
 use Rattle.std.proofs.lemmas.Bool.{cases_Bool, cases_eq, and_parts, both_ways}
 use Rattle.std.proofs.lemmas.List.Elements.{filter-append}
-use Rattle.std.proofs.lemmas.Option.{same_Some}
 use Rattle.std.specs.List.{filter, list_all, list_any}
 use Rattle.m2m_names.specs.declared.operations.Op.TheVariants.{Create, Update, Delete}
 use Rattle.m2m_names.specs.declared.types.Ty.TheVariants.{Container, ContentInstance}
@@ -17,7 +16,7 @@ use Rattle.container_limits.specs.Limits.{evicted, limits_of}
 use Rattle.container_limits.proofs.LimitLemmas.{not_not}
 use Rattle.entity_model.specs.Entity.{EntityData}
 use Rattle.entity_model.specs.Sound.{IsSoundEntity}
-use Rattle.create_delete.specs.Changes.{changes_by, created, deleted, named_attrs, only_in, update_made, updated, ChangeData}
+use Rattle.create_delete.specs.Changes.{changes_by, created, deleted, named_attrs, only_in, update_made, updated}
 use Rattle.create_delete.specs.Changing.{is_numbered_in, nodes_updated, pushed_by, pushed_out, without_all}
 use Rattle.create_delete.specs.Joining.{after_joining, gone_by, with_newcomer, MayJoin}
 use Rattle.create_delete.specs.Newcomer.{IsFilling, IsNewcomer, IsReplacement}

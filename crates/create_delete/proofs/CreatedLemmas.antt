@@ -1,15 +1,14 @@
 -- What a creation that no place refuses makes may join a sound entity.
-use Rattle.std.specs.Prelude.{◌==◌, nat_le, nat_lt}
-use Rattle.std.proofs.Common.{◌≡◌, ℕ, ◌+◌, ◌-◌, ◌^◌, ◌<◌, ◌≤◌, List, [], ◌∷◌, ◌++◌, length, Bool, true, false, not, ◌&&◌, ◌||◌, Option, Some, None, is_some, option_map, option_and_then, unwrap_or, if◌then◌else◌, bytes_eq, pos, inl, inr, refl, sym, ap, ◌∙◌, subst, arith}
-use Rattle.std.proofs.lemmas.Bool.{cases_Bool, and_parts, and_from, or_left, or_right, both_ways, not-true, not_from_false, ltb-true, leb-true, lt-leb, le-leb, eqb-true}
+use Rattle.std.specs.Prelude.{nat_le, nat_lt}
+use Rattle.std.proofs.Common.{◌≡◌, ℕ, ◌+◌, ◌-◌, ◌^◌, ◌<◌, ◌≤◌, List, [], ◌∷◌, ◌++◌, length, true, false, not, ◌&&◌, ◌||◌, Option, Some, None, is_some, option_map, option_and_then, unwrap_or, if◌then◌else◌, bytes_eq, pos, inl, inr, refl, sym, ap, ◌∙◌, arith}
+use Rattle.std.proofs.lemmas.Bool.{cases_Bool, and_parts, and_from, or_left, or_right, not-true, not_from_false, ltb-true, leb-true, lt-leb, le-leb, eqb-true}
 use Rattle.std.proofs.lemmas.List.Folds.{list_all-append}
-use Rattle.std.specs.List.{list_all, list_any}
+use Rattle.std.specs.List.{list_all}
 use Rattle.std.specs.Option.{option_map_or}
 use Rattle.m2m_names.specs.Attributes.{attr_short}
 use Rattle.m2m_names.specs.Name.{is_originator}
-use Rattle.m2m_names.specs.StampReading.{moment_at}
 use Rattle.m2m_names.specs.Stamps.{last_moment}
-use Rattle.m2m_names.specs.Types.{does_take, ty_row}
+use Rattle.m2m_names.specs.Types.{does_take}
 use Rattle.m2m_names.specs.declared.attributes.Attr.{Attr}
 use Rattle.m2m_names.specs.declared.attributes.Attr.TheVariants.{Acpi, Aei, Cr, Cs, Csi, Macp, Mbs, Mia, Mni, St}
 use Rattle.m2m_names.specs.declared.types.Ty.{Ty}
@@ -20,29 +19,28 @@ use Rattle.m2m_value.specs.Node.{AreSorted}
 use Rattle.m2m_value.specs.Shapes.{as_count}
 use Rattle.m2m_value.specs.View.{as_text, member_of}
 use Rattle.primitive_json.specs.declared.request.RequestParts.{RequestParts}
-use Rattle.resource_model.specs.Attributes.{Row, count_at, is_attr, text_at, value_of, with_value}
+use Rattle.resource_model.specs.Attributes.{Row, count_at, is_attr, value_of, with_value}
 use Rattle.resource_model.specs.Resource.{ResourceData, is_ty, ae_id, cse_id}
-use Rattle.resource_model.proofs.AttributeLemmas.{value-with_value_same, value-with_value_other}
+use Rattle.resource_model.proofs.AttributeLemmas.{value-with_value_same}
 use Rattle.tree_model.specs.Shown.{with_rows, own_cse_id}
-use Rattle.tree_model.specs.Tree.{at, age_end, depth, due_under, fits_in, may_stand, has, has_ae_id, has_child, has_channel, has_cse_id, instances_of, is_due, is_placed, lesser, same_text, instance_size}
+use Rattle.tree_model.specs.Tree.{at, age_end, depth, due_under, may_stand, has_ae_id, has_child, has_channel, has_cse_id, instances_of, is_due, is_placed, lesser, same_text, instance_size}
 use Rattle.tree_model.proofs.ShownLemmas.{with_rows-append}
-use Rattle.tree_model.proofs.TreeLemmas.{at_has, at_number}
-use Rattle.attribute_rules.specs.Admission.{are_admitted, attributes_in}
-use Rattle.attribute_rules.specs.Contents.{named_text, value_created, wanted_in, wanted_of}
-use Rattle.attribute_rules.specs.declared.table.Writing.TheVariants.{Create as Creating}
+use Rattle.tree_model.proofs.TreeLemmas.{at_has}
+use Rattle.attribute_rules.specs.Admission.{attributes_in}
+use Rattle.attribute_rules.specs.Contents.{named_text, wanted_in, wanted_of}
 use Rattle.attribute_rules.proofs.ValueLemmas.{value_wanted}
 use Rattle.container_limits.specs.Limits.{evicted, is_within, limits_of}
 use Rattle.policy_eval.specs.Rules.{listed_in, ids_at}
 use Rattle.entity_model.specs.Entity.{EntityData, last_reading}
 use Rattle.entity_model.specs.Sound.{is_known_id, largest_size, greatest_count, greatest_depth, IsSoundEntity}
-use Rattle.request_rules.specs.Creation.{Creation, creator_rows, given_rows, has_room, is_below, is_free_cse_id, is_single, is_small, is_unique, new_ae_id, new_name, new_resource, new_rows, new_size, next_state, takes_instance}
+use Rattle.request_rules.specs.Creation.{Creation, creator_rows, given_rows, has_room, is_below, is_free_cse_id, is_single, is_small, new_ae_id, new_name, new_resource, new_rows, new_size, next_state, takes_instance}
 use Rattle.request_rules.specs.Policies.{link_row}
 use Rattle.request_rules.specs.Requests.{named_expiry}
-use Rattle.create_delete.specs.Changing.{create_effect, nodes_created}
+use Rattle.create_delete.specs.Changing.{create_effect}
 use Rattle.create_delete.specs.Joining.{after_joining, filling_of, IsAllowed, MayJoin}
 use Rattle.create_delete.specs.Newcomer.{IsFilling, IsNewcomer}
 use Rattle.create_delete.proofs.NewcomerLemmas.{lacks_creator, lacks_given, lacks_link, link_known, new_kinds, new_name_is_free, state_small, wanted_none}
-use Rattle.create_delete.proofs.RowLemmas.{value_put, value_unset}
+use Rattle.create_delete.proofs.RowLemmas.{value_unset}
 
 -- ---- what the limits say
 

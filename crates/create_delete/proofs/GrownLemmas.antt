@@ -1,20 +1,20 @@
 -- Soundness where a resource comes last.
 use Rattle.std.specs.Prelude.{nat_le, nat_lt, sum_by}
 use Rattle.std.proofs.Common.{◌≡◌, ℕ, ◌+◌, ◌-◌, ◌^◌, ◌<◌, List, [], ◌∷◌, ◌++◌, length, length-append, Bool, true, false, not, ◌&&◌, ◌||◌, Option, Some, None, option_and_then, inl, inr, refl, sym, ap, ◌∙◌, arith, bytes_eq}
-use Rattle.std.proofs.lemmas.Bool.{cases_Bool, and_parts, and_from, and_left, and_right, or_from, or_left, or_right, or_parts, cases_eq, not-true, not_from_false, ltb-true, lt-ltb, le-leb, lt-leb, eqb-true, eq-eqb, ne_eqb, both_ways}
+use Rattle.std.proofs.lemmas.Bool.{cases_Bool, and_parts, and_from, and_left, and_right, or_from, or_left, or_right, or_parts, cases_eq, not-true, not_from_false, ltb-true, lt-ltb, le-leb, eqb-true, eq-eqb, ne_eqb, both_ways}
 use Rattle.std.proofs.lemmas.List.{append-nil}
 use Rattle.std.proofs.lemmas.List.Elements.{filter_map-append}
 use Rattle.std.proofs.lemmas.List.Folds.{list_all-append, list_any-append}
 use Rattle.std.specs.List.{list_any, list_all, filter, filter_map, cons_option}
 use Rattle.std.specs.Option.{option_map_or}
 use Rattle.m2m_names.specs.declared.attributes.Attr.TheVariants.{Acpi, Macp, Mbs, Mni}
-use Rattle.m2m_names.specs.declared.types.Ty.TheVariants.{Container, ContentInstance, CseBase, PollingChannel}
+use Rattle.m2m_names.specs.declared.types.Ty.TheVariants.{Container, ContentInstance, PollingChannel}
 use Rattle.m2m_value.specs.Data.{Data}
 use Rattle.m2m_value.specs.View.{as_text}
 use Rattle.resource_model.specs.Attributes.{count_at}
 use Rattle.resource_model.specs.Home.{HomeData}
 use Rattle.resource_model.specs.Resource.{ResourceData, is_ty, has_number, cse_id}
-use Rattle.tree_model.specs.Tree.{at, has, is_under, is_kin, channels_of, instances_of, instance_size, depth, due, due_under, is_due, are_below, same_text, has_cse_id, may_stand, is_taken, has_channel, is_well_formed, is_tree}
+use Rattle.tree_model.specs.Tree.{at, is_under, is_kin, channels_of, instances_of, instance_size, depth, is_due, are_below, same_text, has_cse_id, may_stand, is_tree}
 use Rattle.tree_model.proofs.TreeLemmas.{at_has}
 use Rattle.tree_model.proofs.GrowthLemmas.{IsNext, next_fits, tree_from_well_formed, below_has, next_above_parent, stands}
 use Rattle.tree_model.proofs.KeptLemmas.{is_well_formed-append}

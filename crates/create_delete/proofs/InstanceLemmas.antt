@@ -1,9 +1,8 @@
 -- Soundness where an instance joins a container, which is stamped anew and pushes out what doesn't fit.
-use Rattle.std.specs.Prelude.{nat_le, nat_lt, sum_by}
-use Rattle.std.proofs.Common.{◌≡◌, ◌≢◌, ℕ, ◌+◌, ◌-◌, ◌*◌, ◌^◌, ◌<◌, ◌≤◌, List, [], ◌∷◌, ◌++◌, length, Bool, true, false, cond, not, ◌&&◌, ◌||◌, Option, Some, None, is_some, option_map, pos, inl, inr, refl, sym, ap, ◌∙◌, subst, arith}
-use Rattle.std.proofs.lemmas.Bool.{cases_Bool, and_parts, and_from, or_right, or_parts, both_ways, lt-ltb, lt-leb, leb-false, ltb-true, le-leb, leb-true, eqb-true, eq-eqb, ne_eqb, not_from_false}
-use Rattle.std.proofs.lemmas.List.{append-nil}
-use Rattle.std.specs.List.{list_all, list_any, filter}
+use Rattle.std.specs.Prelude.{nat_le, sum_by}
+use Rattle.std.proofs.Common.{◌≡◌, ℕ, ◌+◌, ◌^◌, ◌<◌, ◌≤◌, List, [], ◌∷◌, ◌++◌, Bool, true, false, not, ◌&&◌, Option, Some, None, is_some, option_map, pos, refl, sym, ap, ◌∙◌, subst, arith}
+use Rattle.std.proofs.lemmas.Bool.{and_parts, and_from, or_right, both_ways, lt-ltb, leb-false, ltb-true, le-leb, eq-eqb, not_from_false}
+use Rattle.std.specs.List.{list_all}
 use Rattle.std.specs.Option.{option_map_or}
 use Rattle.m2m_names.specs.Types.{does_take}
 use Rattle.m2m_names.specs.declared.attributes.Attr.{Attr}
@@ -11,17 +10,16 @@ use Rattle.m2m_names.specs.declared.attributes.Attr.TheVariants.{Acpi, Macp, Mbs
 use Rattle.m2m_names.specs.declared.types.Ty.{Ty}
 use Rattle.m2m_names.specs.declared.types.Ty.TheVariants.{AccessControlPolicy, Ae, Container, ContentInstance, CseBase, Group, PollingChannel, RemoteCse, Subscription, AccessControlPolicyAnnc, AeAnnc, ContainerAnnc, ContentInstanceAnnc, GroupAnnc}
 use Rattle.m2m_value.specs.Data.{Data, number}
-use Rattle.m2m_value.specs.Shapes.{as_count}
-use Rattle.resource_model.specs.Attributes.{is_attr, value_of, with_value, count_at}
-use Rattle.resource_model.specs.Resource.{ResourceData, is_ty, has_number}
+use Rattle.resource_model.specs.Attributes.{is_attr, value_of, count_at}
+use Rattle.resource_model.specs.Resource.{ResourceData, is_ty}
 use Rattle.resource_model.proofs.AttributeLemmas.{value-with_value_same, value-with_value_other}
-use Rattle.tree_model.specs.Tree.{at, has, replaced, restamped, restamped_at, is_instance, instances_of, instance_size, due_under, is_due, is_taken, may_stand, is_tree, standing}
+use Rattle.tree_model.specs.Tree.{at, restamped, restamped_at, is_instance, instances_of, instance_size, due_under, is_due, is_taken, may_stand, is_tree, standing}
 use Rattle.tree_model.proofs.ChangeLemmas.{picked-append}
-use Rattle.tree_model.proofs.GrowthLemmas.{tree_from_well_formed, next_fits, next_above_parent, below_lacks}
+use Rattle.tree_model.proofs.GrowthLemmas.{tree_from_well_formed}
 use Rattle.tree_model.proofs.QuietLemmas.{found_passes}
 use Rattle.tree_model.proofs.StampLemmas.{standing-restamped, restamped_is}
-use Rattle.tree_model.proofs.TreeLemmas.{at-append, at-replaced, at_has, at_number}
-use Rattle.attribute_rules.specs.Kinds.{is_attr_kind, have_kinds, are_kinds}
+use Rattle.tree_model.proofs.TreeLemmas.{at-append, at-replaced, at_number}
+use Rattle.attribute_rules.specs.Kinds.{is_attr_kind, are_kinds}
 use Rattle.attribute_rules.proofs.KindLemmas.{kinds-with_value}
 use Rattle.policy_eval.specs.Rules.{listed_in, ids_at}
 use Rattle.container_limits.specs.Limits.{do_fit, evicted, is_due_by, is_within, lasts, limits_of}
@@ -30,11 +28,10 @@ use Rattle.tree_model.proofs.OrderLemmas.{ascend_filter, tree_ascends}
 use Rattle.entity_model.specs.Entity.{EntityData}
 use Rattle.entity_model.specs.Sound.{is_known_id, has_known_ids, has_state_tag, IsSoundEntity}
 use Rattle.entity_model.proofs.SoundLemmas.{IsFramed, framed_from}
-use Rattle.create_delete.specs.Changing.{is_numbered_in, without_all}
-use Rattle.request_rules.specs.Creation.{is_below, takes_instance}
+use Rattle.create_delete.specs.Changing.{without_all}
+use Rattle.request_rules.specs.Creation.{is_below}
 use Rattle.create_delete.specs.Newcomer.{IsFilling, IsReplacement}
 use Rattle.create_delete.proofs.GrownLemmas.{grown_by, framed_grown, is_within_but, quiet_grown, within_but_grown, none_all}
-use Rattle.create_delete.proofs.KeptLemmas.{all_filtered}
 use Rattle.create_delete.proofs.PrunedLemmas.{IsPruning, IsSoundBut, instance_due, sound_pruned}
 use Rattle.create_delete.proofs.ReplacedLemmas.{framed_replaced, instances_replaced, quiet_but_replaced, replaced_by, still_there, within_but_replaced}
 

@@ -1,20 +1,19 @@
 -- A resource that may join an entity: what the tree asks of it, and that the entity stays sound.
-use Rattle.std.proofs.Common.{◌≡◌, ℕ, ◌+◌, ◌^◌, ◌<◌, List, [], ◌∷◌, ◌++◌, Bool, true, false, not, ◌||◌, Option, Some, None, is_some, refl, sym, ap, ◌∙◌, subst}
-use Rattle.std.proofs.lemmas.Bool.{and_parts, not_from_false}
+use Rattle.std.proofs.Common.{◌≡◌, ℕ, ◌+◌, List, [], ◌∷◌, ◌++◌, true, false, Option, Some, is_some, sym, ap, ◌∙◌, subst}
+use Rattle.std.proofs.lemmas.Bool.{and_parts}
 use Rattle.std.specs.Option.{option_map_or}
 use Rattle.m2m_names.specs.declared.attributes.Attr.TheVariants.{St}
 use Rattle.m2m_names.specs.declared.types.Ty.TheVariants.{Container}
 use Rattle.resource_model.specs.Attributes.{value_of}
 use Rattle.resource_model.specs.Resource.{ResourceData, is_ty}
-use Rattle.tree_model.specs.Tree.{at, may_stand, has_state, instances_of, is_tree, is_taken, restamped_at, instance_size}
+use Rattle.tree_model.specs.Tree.{at, may_stand, has_state, is_tree, is_taken, restamped_at}
 use Rattle.tree_model.proofs.QuietLemmas.{found_passes}
 use Rattle.tree_model.proofs.StampLemmas.{tree_restamped}
-use Rattle.container_limits.specs.Limits.{evicted, limits_of}
 use Rattle.entity_model.specs.Entity.{EntityData}
 use Rattle.entity_model.specs.Sound.{has_state_tag, IsSoundEntity}
 use Rattle.create_delete.specs.Changing.{without_all}
 use Rattle.create_delete.specs.Joining.{filled, MayFill}
-use Rattle.create_delete.specs.Newcomer.{IsFilling, IsNewcomer}
+use Rattle.create_delete.specs.Newcomer.{IsNewcomer}
 use Rattle.create_delete.specs.declared.joining.Filling.{Filling}
 use Rattle.create_delete.proofs.InstanceLemmas.{grown_tree, is_container, sound_filled, there}
 

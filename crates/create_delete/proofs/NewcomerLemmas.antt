@@ -1,6 +1,6 @@
 -- What a new resource keeps: policies that are known, and attributes of their kinds.
-use Rattle.std.specs.Prelude.{◌==◌, nat_eq, nat_le, nat_lt}
-use Rattle.std.proofs.Common.{◌≡◌, ℕ, ◌+◌, ◌-◌, ◌^◌, ◌<◌, ◌≤◌, List, [], ◌∷◌, ◌++◌, length, length-append, map, Bool, true, false, not, ◌&&◌, Option, Some, None, is_some, option_and_then, unwrap_or, IfSome, if◌then◌else◌, pos, codes, inl, inr, refl, sym, ap, ◌∙◌, arith}
+use Rattle.std.specs.Prelude.{◌==◌, nat_le, nat_lt}
+use Rattle.std.proofs.Common.{◌≡◌, ℕ, ◌+◌, ◌-◌, ◌^◌, ◌<◌, ◌≤◌, List, [], ◌∷◌, ◌++◌, length, length-append, map, Bool, true, false, Option, Some, None, is_some, option_and_then, unwrap_or, IfSome, if◌then◌else◌, codes, inl, inr, refl, sym, ap, ◌∙◌, arith}
 use Rattle.std.specs.Prelude.{◌%◌, ◌||◌, bytes_eq}
 use Rattle.std.proofs.lemmas.Bool.{cases_Bool, and_parts, and_from, both_ways, not_from_false, lt-ltb, le-leb, leb-true, eqb-true}
 use Rattle.std.proofs.lemmas.List.{nil_from_length}
@@ -13,13 +13,13 @@ use Rattle.std.specs.Fmt.{decimal}
 use Rattle.std.specs.List.{list_all, filter_map, cons_option}
 use Rattle.std.specs.Option.{option_map_or}
 use Rattle.m2m_names.specs.Attributes.{attr_short}
-use Rattle.m2m_names.specs.Name.{is_filled, is_free_name, is_name, is_one_of, is_originator, is_unreserved, address_marks, virtual_names}
+use Rattle.m2m_names.specs.Name.{is_free_name, is_one_of, is_originator, is_unreserved, address_marks, virtual_names}
 use Rattle.m2m_names.specs.Types.{ty_row}
 use Rattle.m2m_names.specs.declared.attributes.Attr.{Attr}
 use Rattle.m2m_names.specs.declared.attributes.Attr.TheVariants.{Acpi, Aei, Cr, Cs, Macp, Rn, St}
 use Rattle.m2m_names.specs.declared.types.Ty.{Ty}
 use Rattle.m2m_names.specs.declared.types.Ty.TheVariants.{AccessControlPolicy, Ae, Container, ContentInstance, CseBase, Group, PollingChannel, RemoteCse, Subscription, AccessControlPolicyAnnc, AeAnnc, ContainerAnnc, ContentInstanceAnnc, GroupAnnc}
-use Rattle.m2m_value.specs.Data.{Data, Entry, text, number, list, elements_of}
+use Rattle.m2m_value.specs.Data.{Data, Entry, text, list, elements_of}
 use Rattle.m2m_value.specs.Node.{AreSorted}
 use Rattle.m2m_value.specs.View.{as_text, member_of}
 use Rattle.m2m_value.proofs.Levels.{elements-elements_of}
@@ -29,20 +29,18 @@ use Rattle.resource_model.proofs.AttributeLemmas.{value-with_value_same}
 use Rattle.tree_model.specs.Shown.{with_rows}
 use Rattle.tree_model.specs.Tree.{at, has}
 use Rattle.tree_model.proofs.GrowthLemmas.{below_has}
-use Rattle.tree_model.proofs.ShownLemmas.{with_rows-append}
 use Rattle.tree_model.proofs.TreeLemmas.{at_has, at_number}
 use Rattle.attribute_kinds.specs.Kinds.{has_kind}
 use Rattle.attribute_kinds.specs.declared.kinds.Kind.{Kind}
 use Rattle.attribute_kinds.specs.declared.kinds.Kind.TheVariants.{Originator, Policies}
 use Rattle.attribute_rules.specs.Admission.{are_admitted, is_named}
-use Rattle.attribute_rules.specs.Contents.{is_apart, is_no_policy, named_text, value_created, wanted_in}
+use Rattle.attribute_rules.specs.Contents.{is_apart, is_no_policy, named_text, wanted_in}
 use Rattle.attribute_rules.specs.Kinds.{is_attr_kind, have_kinds, kind_of}
-use Rattle.attribute_rules.specs.declared.table.Writing.{Writing}
 use Rattle.attribute_rules.specs.declared.table.Writing.TheVariants.{Create as Creating}
 use Rattle.attribute_rules.proofs.AdmittedLemmas.{free_name, members_keep_policies, members_keep_fan_policies, members_keep_creator}
 use Rattle.attribute_rules.proofs.KindLemmas.{created_members, kinds-with_value}
 use Rattle.attribute_rules.proofs.ValueLemmas.{value_wanted}
-use Rattle.policy_eval.specs.Rules.{listed_in, policy_at, policy_number}
+use Rattle.policy_eval.specs.Rules.{listed_in, policy_at}
 use Rattle.policy_eval.proofs.NameLemmas.{policy_number-id_of}
 use Rattle.addressing.specs.Addresses.{address_of}
 use Rattle.addressing.specs.declared.spot.Spot.{Spot}
@@ -51,7 +49,7 @@ use Rattle.entity_model.specs.Entity.{EntityData}
 use Rattle.entity_model.specs.Sound.{is_known_id, IsSoundEntity}
 use Rattle.request_rules.specs.Creation.{Creation, ae_stem, creator_rows, given_rows, id_for, is_ae_id, new_ae_id, new_name, new_rows, own_name, new_size, next_state, rows_besides}
 use Rattle.request_rules.specs.Policies.{link_row, listed, place_of, policy_addressed, policy_ids, policy_meant, policy_on}
-use Rattle.create_delete.proofs.RowLemmas.{lacks_attr, value_unset}
+use Rattle.create_delete.proofs.RowLemmas.{lacks_attr}
 
 -- ---- which attributes are put in
 

@@ -1,27 +1,25 @@
 -- Soundness where a container has pushed out what doesn't fit.
-use Rattle.std.specs.Prelude.{◌==◌, nat_eq, nat_le, sum_by}
-use Rattle.std.proofs.Common.{◌≡◌, ℕ, ◌+◌, ◌≤◌, List, [], ◌∷◌, ◌++◌, length, Bool, true, false, cond, not, ◌&&◌, ◌||◌, Option, Some, None, option_map, option_to_list, unwrap_or, inl, inr, refl, sym, ap, ◌∙◌, subst, arith, length-append}
-use Rattle.std.proofs.lemmas.Bool.{cases_Bool, and_parts, and_from, or_cases, or_from, or_left, or_right, not-true, not_from_false, eqb-true, ne_eqb, both_ways, false_from_ne_true}
+use Rattle.std.specs.Prelude.{◌==◌, nat_le, sum_by}
+use Rattle.std.proofs.Common.{◌≡◌, ℕ, ◌+◌, ◌≤◌, List, [], ◌∷◌, ◌++◌, length, Bool, true, false, cond, not, ◌||◌, Option, Some, None, option_to_list, unwrap_or, inl, inr, refl, sym, ap, ◌∙◌, subst, arith, length-append}
+use Rattle.std.proofs.lemmas.Bool.{cases_Bool, and_parts, and_from, or_cases, or_left, or_right, not-true, not_from_false, eqb-true, ne_eqb, both_ways, false_from_ne_true}
 use Rattle.std.proofs.lemmas.List.Elements.{filter-append}
 use Rattle.std.proofs.lemmas.List.Filters.{length-filter_both, sum_by-filter_both}
 use Rattle.std.proofs.lemmas.List.Folds.{list_all-append}
 use Rattle.std.proofs.lemmas.List.Sums.{sum_by-append}
 use Rattle.std.proofs.lemmas.Option.{same_Some}
-use Rattle.std.specs.List.{filter, list_any, list_all}
+use Rattle.std.specs.List.{filter, list_all}
 use Rattle.std.specs.Option.{option_map_or}
 use Rattle.m2m_names.specs.Types.{ty_row}
 use Rattle.m2m_names.specs.declared.attributes.Attr.TheVariants.{Mbs, Mia, Mni}
-use Rattle.m2m_names.specs.declared.types.Ty.TheVariants.{Container, ContentInstance, CseBase}
+use Rattle.m2m_names.specs.declared.types.Ty.TheVariants.{ContentInstance, CseBase}
 use Rattle.resource_model.specs.Attributes.{count_at}
 use Rattle.resource_model.specs.Home.{HomeData}
 use Rattle.resource_model.specs.Resource.{ResourceData, is_ty, has_number}
-use Rattle.tree_model.specs.Tree.{at, has, without, is_spared, is_instance, instances_of, instance_size, age_end, lesser, due_under, is_due, may_stand, is_tree}
-use Rattle.tree_model.proofs.GrowthLemmas.{growth, next_fits, at-without, below_lacks, tree_from_well_formed}
-use Rattle.tree_model.proofs.KeptLemmas.{is_tree-without}
+use Rattle.tree_model.specs.Tree.{at, has, without, is_spared, is_instance, instances_of, instance_size, due_under, is_due, is_tree}
+use Rattle.tree_model.proofs.GrowthLemmas.{at-without, tree_from_well_formed}
 use Rattle.tree_model.proofs.QuietLemmas.{all_by_number, found_passes}
 use Rattle.tree_model.proofs.TreeLemmas.{at_number, has-append, staying_all, staying_unpicked}
-use Rattle.container_limits.specs.Limits.{do_fit, evicted, is_due_by, is_within, kept, lasts, longest_fit, limits_of}
-use Rattle.container_limits.specs.declared.limits.Limits.{Limits}
+use Rattle.container_limits.specs.Limits.{do_fit, evicted, is_due_by, is_within, kept, lasts, limits_of}
 use Rattle.container_limits.proofs.LimitLemmas.{longest_fits, longest_is_suffix}
 use Rattle.tree_model.proofs.OrderLemmas.{are_above, ascend, above_lacks, tree_ascends}
 use Rattle.entity_model.specs.Entity.{EntityData}

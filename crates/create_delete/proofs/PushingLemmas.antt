@@ -1,8 +1,7 @@
 -- Removals of several numbers, one after another.
-use Rattle.std.specs.Prelude.{◌==◌, nat_eq}
-use Rattle.std.proofs.Common.{◌≡◌, ℕ, suc, ◌+◌, ◌<◌, ◌≤◌, List, [], ◌∷◌, length, drop, get_or, add-one, drop-cons, Bool, true, false, ◌||◌, inl, inr, refl, sym, ap, ◌∙◌}
+use Rattle.std.specs.Prelude.{nat_eq}
+use Rattle.std.proofs.Common.{◌≡◌, ℕ, suc, ◌+◌, ◌<◌, ◌≤◌, List, [], ◌∷◌, length, drop, get_or, add-one, drop-cons, Bool, true, false, ◌||◌, refl, sym, ap, ◌∙◌}
 use Rattle.std.proofs.Math.ListN.{drop_of_length-le}
-use Rattle.std.proofs.lemmas.Bool.{cases_Bool, or_from, or_parts}
 use Rattle.std.specs.List.{list_any}
 use Rattle.resource_model.specs.Resource.{ResourceData, has_number}
 use Rattle.tree_model.specs.Tree.{has, without, is_tree}

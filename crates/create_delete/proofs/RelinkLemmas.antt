@@ -1,7 +1,6 @@
 -- What an Update leaves of the attributes, by whether it is of `acpi` alone.
-use Rattle.std.specs.Prelude.{◌==◌, pos}
-use Rattle.std.proofs.Common.{◌≡◌, ◌≢◌, ℕ, List, [], ◌∷◌, ◌++◌, length, Bool, true, false, not, ◌&&◌, ◌||◌, Option, Some, None, is_some, IfSome, option_and_then, if◌then◌else◌, bytes_eq, inl, inr, refl, sym, ap, ◌∙◌, subst}
-use Rattle.std.proofs.lemmas.Bool.{cases_Bool, and_parts, and_from, or_parts, both_ways, not-true, not_from_false, false_from_ne_true}
+use Rattle.std.proofs.Common.{◌≡◌, ◌≢◌, ℕ, List, [], ◌∷◌, Bool, true, false, not, ◌||◌, Option, Some, None, is_some, IfSome, option_and_then, if◌then◌else◌, bytes_eq, inl, inr, refl, sym, ap, ◌∙◌, subst}
+use Rattle.std.proofs.lemmas.Bool.{cases_Bool, and_parts, or_parts, both_ways, false_from_ne_true}
 use Rattle.std.proofs.lemmas.Option.{same_Some}
 use Rattle.std.specs.Option.{option_map_or}
 use Rattle.m2m_names.specs.Attributes.{attr_short}
@@ -18,7 +17,7 @@ use Rattle.primitive_json.specs.declared.request.RequestParts.{RequestParts}
 use Rattle.resource_model.specs.Attributes.{Row, is_attr, value_of}
 use Rattle.resource_model.specs.Resource.{ResourceData, is_ty}
 use Rattle.resource_model.proofs.AttributeLemmas.{is_attr-same, is_attr-itself, value-with_value_other, value-without_value_other}
-use Rattle.attribute_rules.specs.Admission.{are_admitted, attributes_in, is_alone, is_fit, is_named, only_value}
+use Rattle.attribute_rules.specs.Admission.{are_admitted, attributes_in, is_alone, is_named, only_value}
 use Rattle.attribute_rules.specs.Contents.{does_clear, edit_in, edited}
 use Rattle.attribute_rules.specs.declared.table.Writing.TheVariants.{Update as Updating}
 use Rattle.attribute_rules.proofs.ContentsLemmas.{same_text}
@@ -26,7 +25,7 @@ use Rattle.attribute_rules.proofs.ValueLemmas.{value_edited}
 use Rattle.policy_eval.specs.Alike.{is_attr_in}
 use Rattle.container_limits.specs.Limits.{limits_of}
 use Rattle.entity_model.specs.Entity.{EntityData}
-use Rattle.request_rules.specs.Policies.{link_row, listed}
+use Rattle.request_rules.specs.Policies.{link_row}
 use Rattle.request_rules.specs.Requests.{content_for}
 use Rattle.request_rules.specs.Rights.{is_link, is_relink, only_member, sole}
 use Rattle.create_delete.specs.Changing.{updated_resource}

@@ -1,7 +1,7 @@
 -- What of soundness stays where a resource takes the place of the one of its number.
 use Rattle.std.specs.Prelude.{◌==◌, nat_le, nat_lt}
-use Rattle.std.proofs.Common.{◌≡◌, ◌≢◌, ℕ, ◌<◌, List, [], ◌∷◌, length, map, Bool, true, false, not, ◌&&◌, ◌||◌, Option, Some, None, option_map, inl, inr, refl, sym, ap, ◌∙◌, subst, arith, bytes_eq}
-use Rattle.std.proofs.lemmas.Bool.{cases_Bool, cases_eq, and_parts, and_from, and_right, or_from, or_left, or_right, not_from_false, lt-leb, lt-ltb, eq-eqb, ne_eqb, eqb-true, both_ways}
+use Rattle.std.proofs.Common.{◌≡◌, ℕ, ◌<◌, List, [], ◌∷◌, length, map, Bool, true, false, not, ◌&&◌, ◌||◌, Option, Some, None, option_map, inl, inr, refl, sym, ap, ◌∙◌, subst, arith, bytes_eq}
+use Rattle.std.proofs.lemmas.Bool.{cases_Bool, cases_eq, and_parts, and_from, and_right, or_left, or_right, not_from_false, lt-leb, lt-ltb, eq-eqb}
 use Rattle.std.proofs.lemmas.List.{length-map}
 use Rattle.std.proofs.lemmas.Option.{same_Some}
 use Rattle.std.specs.List.{list_any, list_all, filter, filter_map, cons_option}
@@ -10,18 +10,18 @@ use Rattle.m2m_names.specs.Name.{is_free_name}
 use Rattle.m2m_names.specs.declared.types.Ty.TheVariants.{ContentInstance, CseBase, PollingChannel}
 use Rattle.resource_model.specs.Home.{HomeData}
 use Rattle.resource_model.specs.Resource.{ResourceData, is_ty, has_number, cse_id}
-use Rattle.tree_model.specs.Tree.{at, has, replaced, is_under, is_kin, is_instance, channels_of, depth, due, due_under, is_due, are_below, is_well_formed, is_tree, standing}
+use Rattle.tree_model.specs.Tree.{at, has, replaced, is_under, is_kin, is_instance, channels_of, depth, due_under, is_due, is_tree, standing}
 use Rattle.tree_model.proofs.ChangeLemmas.{picked-replaced, unpicked-replaced, depth-replaced}
-use Rattle.tree_model.proofs.GrowthLemmas.{below_has, tree_from_well_formed}
+use Rattle.tree_model.proofs.GrowthLemmas.{below_has}
 use Rattle.tree_model.proofs.KeptLemmas.{map-replaced_same, is_tree-replaced, is_well_formed-replaced}
 use Rattle.tree_model.proofs.QuietLemmas.{all_by_number, found_passes, due-replaced_other}
 use Rattle.tree_model.proofs.TreeLemmas.{at_has, at_number, at-replaced, at-replaced_other}
 use Rattle.attribute_rules.specs.Kinds.{are_kinds}
 use Rattle.entity_model.specs.Entity.{EntityData}
-use Rattle.entity_model.specs.Sound.{has_known_ids, has_free_name, has_size, has_state_tag, is_shallow, is_within_limits, begins_with_base, cse_ids, are_distinct, has_one_channel}
+use Rattle.entity_model.specs.Sound.{has_known_ids, has_free_name, has_size, has_state_tag, is_shallow, begins_with_base, are_distinct, has_one_channel}
 use Rattle.entity_model.proofs.SoundLemmas.{all_weaker, IsFramed}
 use Rattle.create_delete.specs.Newcomer.{IsReplacement}
-use Rattle.create_delete.proofs.GrownLemmas.{is_within_but, within_by, all_none, none_all}
+use Rattle.create_delete.proofs.GrownLemmas.{is_within_but, within_by, none_all}
 use Rattle.tree_model.specs.Shown.{own_cse_id}
 
 -- ---- over a list

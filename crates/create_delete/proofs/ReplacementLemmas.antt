@@ -1,10 +1,10 @@
 -- What an update that no place refuses leaves may take the place of what it updates.
-use Rattle.std.specs.Prelude.{◌==◌, nat_le, nat_lt}
-use Rattle.std.proofs.Common.{◌≡◌, ℕ, ◌-◌, ◌^◌, ◌<◌, ◌≤◌, List, [], ◌∷◌, ◌++◌, length, Bool, true, false, not, ◌&&◌, ◌||◌, Option, Some, None, is_some, option_map, option_and_then, unwrap_or, if◌then◌else◌, pos, inl, inr, refl, sym, ap, ◌∙◌, subst, arith}
+use Rattle.std.specs.Prelude.{◌==◌, nat_lt}
+use Rattle.std.proofs.Common.{◌≡◌, ℕ, ◌^◌, ◌<◌, ◌≤◌, List, ◌++◌, length, Bool, true, false, not, ◌||◌, Option, Some, None, is_some, option_map, option_and_then, unwrap_or, if◌then◌else◌, pos, inl, inr, refl, sym, ap, ◌∙◌, arith}
 use Rattle.std.proofs.lemmas.Bool.{cases_Bool, and_parts, and_from, or_left, or_right, or_parts, not-true, not_from_false, ltb-true, lt-ltb, leb-false, eqb-true}
 use Rattle.std.proofs.lemmas.List.{nil_from_length}
 use Rattle.std.proofs.lemmas.List.Folds.{list_all-append}
-use Rattle.std.specs.List.{list_all, list_any}
+use Rattle.std.specs.List.{list_all}
 use Rattle.std.specs.Option.{option_map_or}
 use Rattle.m2m_names.specs.Attributes.{attr_short}
 use Rattle.m2m_names.specs.StampReading.{moment_at}
@@ -21,7 +21,7 @@ use Rattle.resource_model.specs.Attributes.{Row, is_attr, value_of}
 use Rattle.resource_model.specs.Resource.{ResourceData, is_ty, ae_id, cse_id}
 use Rattle.resource_model.proofs.AttributeLemmas.{value-with_value_same}
 use Rattle.tree_model.specs.Shown.{with_rows}
-use Rattle.tree_model.specs.Tree.{at, due_under, is_due, standing}
+use Rattle.tree_model.specs.Tree.{at, is_due, standing}
 use Rattle.tree_model.proofs.QuietLemmas.{found_passes}
 use Rattle.attribute_rules.specs.Contents.{does_clear, edit_in, edited}
 use Rattle.attribute_rules.specs.Kinds.{is_attr_kind, are_kinds}
@@ -34,7 +34,6 @@ use Rattle.policy_eval.specs.Rules.{listed_in, ids_at}
 use Rattle.entity_model.specs.Entity.{EntityData, last_reading}
 use Rattle.entity_model.specs.Sound.{is_known_id, has_known_ids, IsSoundEntity}
 use Rattle.request_rules.specs.Creation.{next_state}
-use Rattle.request_rules.specs.Order.{expires_later}
 use Rattle.request_rules.specs.Policies.{link_row, listed}
 use Rattle.create_delete.specs.Changing.{expiry_after, state_row, updated_resource}
 use Rattle.create_delete.specs.Newcomer.{IsReplacement}

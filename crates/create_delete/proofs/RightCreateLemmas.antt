@@ -1,10 +1,9 @@
 -- What a Create changes, it changes by right.
-use Rattle.std.specs.Prelude.{◌==◌, nat_eq, nat_lt, bit_and}
-use Rattle.std.proofs.Common.{◌≡◌, ◌≢◌, ℕ, ◌+◌, List, [], ◌∷◌, ◌++◌, Bool, true, false, cond, not, ◌&&◌, ◌||◌, Option, Some, None, option_and_then, unwrap_or, pos, inl, inr, refl, sym, ap, ◌∙◌, subst}
-use Rattle.std.proofs.lemmas.Bool.{cases_Bool, cases_eq, and_parts, and_from, and_left, both_ways, eqb-true, eq-eqb, not_from_false}
+use Rattle.std.specs.Prelude.{nat_lt, bit_and}
+use Rattle.std.proofs.Common.{◌≡◌, ◌≢◌, ℕ, ◌+◌, List, [], ◌∷◌, ◌++◌, Bool, true, false, cond, not, Option, Some, None, unwrap_or, pos, inl, inr, refl, sym, ap, ◌∙◌, subst}
+use Rattle.std.proofs.lemmas.Bool.{cases_Bool, cases_eq, and_parts, and_from, and_left, both_ways, eqb-true, eq-eqb}
 use Rattle.std.proofs.lemmas.Nat.{and_assoc}
 use Rattle.std.proofs.lemmas.Option.{same_Some}
-use Rattle.std.specs.List.{list_any}
 use Rattle.std.specs.Option.{option_map_or, option_or}
 use Rattle.m2m_names.specs.Operations.{op_row}
 use Rattle.m2m_names.specs.Name.{is_originator}
@@ -17,16 +16,15 @@ use Rattle.m2m_names.specs.declared.types.Ty.TheVariants.{Container, ContentInst
 use Rattle.m2m_value.specs.Data.{Data, Entry, number}
 use Rattle.m2m_value.specs.Node.{AreSorted}
 use Rattle.primitive_json.specs.declared.request.RequestParts.{RequestParts}
-use Rattle.resource_model.specs.Attributes.{is_attr, value_of}
 use Rattle.resource_model.specs.Resource.{ResourceData, is_ty, has_number}
-use Rattle.resource_model.proofs.AttributeLemmas.{is_attr-itself, value-with_value_other}
+use Rattle.resource_model.proofs.AttributeLemmas.{value-with_value_other}
 use Rattle.tree_model.specs.Tree.{at, has, instances_of, instance_size, is_instance, is_under, replaced, restamped, restamped_at}
 use Rattle.tree_model.proofs.GrowthLemmas.{below_lacks}
 use Rattle.tree_model.proofs.StampLemmas.{restamped_is}
-use Rattle.tree_model.proofs.TreeLemmas.{at_has, at_none, at_number, at-append, at-replaced, at-replaced_other, has-append}
+use Rattle.tree_model.proofs.TreeLemmas.{at_has, at_none, at_number, at-append, at-replaced, at-replaced_other}
 use Rattle.container_limits.specs.Limits.{evicted, kept, limits_of}
 use Rattle.policy_eval.specs.Alike.{is_attr_in}
-use Rattle.policy_eval.specs.Rights.{bits_by, grants, has_bits}
+use Rattle.policy_eval.specs.Rights.{bits_by, has_bits}
 use Rattle.policy_eval.specs.Rules.{rules_of}
 use Rattle.entity_model.specs.Entity.{EntityData}
 use Rattle.entity_model.specs.Places.{Effect, refused}
@@ -37,8 +35,8 @@ use Rattle.request_rules.specs.Requests.{child_ty, content_for}
 use Rattle.request_rules.specs.Rights.{create_bits, is_granted, is_subscribing, may_do}
 use Rattle.request_rules.proofs.OrderLemmas.{all_hold, found_at, nothing_on}
 use Rattle.create_delete.specs.Changing.{create_effect, is_numbered_in, performed_at, without_all}
-use Rattle.create_delete.specs.Guard.{ChangesByRight, DiffersIn, filling_attrs, HasSoundContent, IsChanged, IsChangedByRight, IsGone, IsNew, IsRemovedByRight}
-use Rattle.create_delete.specs.Joining.{after_joining, filled, filling_of, IsAllowed, with_newcomer, MayFill, MayJoin}
+use Rattle.create_delete.specs.Guard.{ChangesByRight, DiffersIn, filling_attrs, HasSoundContent, IsChanged, IsChangedByRight, IsGone, IsNew}
+use Rattle.create_delete.specs.Joining.{after_joining, filling_of, IsAllowed, with_newcomer, MayJoin}
 use Rattle.create_delete.specs.Newcomer.{IsFilling, IsNewcomer}
 use Rattle.create_delete.specs.declared.joining.Filling.{Filling}
 use Rattle.create_delete.proofs.CreatableLemmas.{allowed, creates_content, names_attributes, names_type}
@@ -50,7 +48,7 @@ use Rattle.create_delete.proofs.KeptLemmas.{all_filtered, is_not_kept}
 use Rattle.create_delete.proofs.LeftLemmas.{instances_left, is_left, left_at, IsLeft}
 use Rattle.create_delete.proofs.PerformedLemmas.{done_at}
 use Rattle.create_delete.proofs.RelinkLemmas.{names_in_order}
-use Rattle.create_delete.proofs.ReplacedLemmas.{replaced_by, still_there}
+use Rattle.create_delete.proofs.ReplacedLemmas.{replaced_by}
 
 -- ---- the right
 

@@ -1,5 +1,5 @@
 -- What an operation changes, it changes by right, and an entity stays sound.
-use Rattle.std.proofs.Common.{◌≡◌, ℕ, List, [], ◌∷◌, ◌++◌, Bool, true, Option, Some, None, inl, inr, refl, sym, ap, ◌∙◌, subst, append-nil}
+use Rattle.std.proofs.Common.{◌≡◌, ℕ, List, [], true, Option, Some, None, inl, refl, sym, ap, ◌∙◌, subst, append-nil}
 use Rattle.std.proofs.lemmas.Option.{same_Some}
 use Rattle.m2m_names.specs.Name.{is_originator}
 use Rattle.m2m_names.specs.declared.codes.Rsc.{Rsc}

@@ -1,5 +1,5 @@
 -- The contents of replies, as they are written.
-use Rattle.std.proofs.Common.{◌≡◌, ℕ, List, [], ◌∷◌, ◌++◌, map, reverse, codes, Bool, true, ◌&&◌, Some, IsUtf8, inl, inr, refl, sym, ap, ◌∙◌, subst}
+use Rattle.std.proofs.Common.{◌≡◌, ℕ, List, [], ◌∷◌, ◌++◌, map, reverse, codes, Bool, true, IsUtf8, inl, inr, refl, sym, ap, ◌∙◌, subst}
 use Rattle.std.specs.List.{list_all}
 use Rattle.std.specs.List.Sorted.{IsStrictlySortedBy}
 use Rattle.std.proofs.lemmas.Bool.{cases_Bool, and_parts, and_from, eq-eqb}
@@ -14,7 +14,7 @@ use Rattle.m2m_names.proofs.NameLemmas.{unreserved_is_utf8}
 use Rattle.m2m_value.specs.Data.{Data, Entry}
 use Rattle.m2m_value.specs.Node.{AreSorted}
 use Rattle.resource_model.specs.Resource.{ResourceData, has_number}
-use Rattle.tree_model.specs.Tree.{at, has, line_from, line_of}
+use Rattle.tree_model.specs.Tree.{has, line_from, line_of}
 use Rattle.tree_model.proofs.GrowthLemmas.{line-append, stands, tree_from_well_formed}
 use Rattle.tree_model.proofs.ShownLemmas.{one_sorted, slash_utf8}
 use Rattle.tree_model.proofs.TreeLemmas.{has_at}

@@ -1,5 +1,5 @@
 -- Soundness where a resource is updated.
-use Rattle.std.proofs.Common.{◌≡◌, ℕ, ◌<◌, ◌≤◌, List, [], ◌∷◌, ◌++◌, length, Bool, true, false, not, ◌&&◌, ◌||◌, Option, Some, None, inl, inr, refl, sym, ap, ◌∙◌, subst, arith}
+use Rattle.std.proofs.Common.{◌≡◌, ℕ, ◌<◌, List, [], ◌∷◌, ◌++◌, true, false, not, ◌||◌, Option, Some, None, inl, inr, refl, sym, ap, ◌∙◌, subst, arith}
 use Rattle.std.proofs.lemmas.Bool.{cases_Bool, and_parts, and_from, or_left, or_right, both_ways, not_from_false, eqb-true, ne_eqb, false_from_ne_true}
 use Rattle.std.proofs.lemmas.List.{append-nil}
 use Rattle.std.proofs.lemmas.Option.{same_Some}
@@ -9,24 +9,24 @@ use Rattle.m2m_names.specs.Types.{does_take}
 use Rattle.m2m_names.specs.declared.attributes.Attr.TheVariants.{Mbs, Mni}
 use Rattle.m2m_names.specs.declared.types.Ty.TheVariants.{Container, ContentInstance}
 use Rattle.resource_model.specs.Attributes.{count_at}
-use Rattle.resource_model.specs.Resource.{ResourceData, is_ty, has_number}
+use Rattle.resource_model.specs.Resource.{ResourceData, is_ty}
 use Rattle.tree_model.specs.Tree.{at, replaced, is_instance, is_under, instances_of, is_due, is_taken, may_stand, fits_in, is_tree, is_well_formed}
 use Rattle.tree_model.proofs.GrowthLemmas.{growth, next_fits, next_above_parent, tree_from_well_formed}
 use Rattle.tree_model.proofs.QuietLemmas.{all_by_number, found_passes}
 use Rattle.tree_model.proofs.TreeLemmas.{at-append, at-replaced}
-use Rattle.container_limits.specs.Limits.{do_fit, evicted, limits_of}
+use Rattle.container_limits.specs.Limits.{limits_of}
 use Rattle.container_limits.proofs.LimitLemmas.{fits_totals}
 use Rattle.tree_model.proofs.OrderLemmas.{ascend_filter, tree_ascends}
 use Rattle.entity_model.specs.Entity.{EntityData}
 use Rattle.entity_model.specs.Sound.{IsSoundEntity}
 use Rattle.entity_model.proofs.SoundLemmas.{all_weaker, framed_from}
-use Rattle.create_delete.specs.Changing.{is_numbered_in, pushed_by, pushed_out, without_all}
+use Rattle.create_delete.specs.Changing.{pushed_by, pushed_out, without_all}
 use Rattle.create_delete.specs.Newcomer.{IsReplacement}
-use Rattle.create_delete.proofs.GrownLemmas.{IsOlder, all_grown, all_turned, is_within_but, nothing_within, within_by}
+use Rattle.create_delete.proofs.GrownLemmas.{all_grown, all_turned, is_within_but, nothing_within, within_by}
 use Rattle.create_delete.proofs.InstanceLemmas.{instance_type, takes_is_container}
 use Rattle.create_delete.proofs.PrunedLemmas.{IsPruning, IsSoundBut, restored, sound_pruned}
 use Rattle.create_delete.proofs.PushingLemmas.{nothing_removed}
-use Rattle.create_delete.proofs.ReplacedLemmas.{framed_replaced, instances_replaced, is_quiet_but, quiet_but_replaced, replaced_by, still_there, within_but_replaced}
+use Rattle.create_delete.proofs.ReplacedLemmas.{framed_replaced, instances_replaced, quiet_but_replaced, replaced_by, still_there, within_but_replaced}
 
 -- ---- each resource stands under a type that takes it
 

@@ -25,7 +25,8 @@ CAdmin 2 "op":4 => 2002
 CAdmin 2 "op":4 => 4004"#;
 
 /// What is created and updated is told, and what a limit pushes out is gone.
-const REPLIES: &str = r#"CAdmin 1 "op":1,"ty":2,"pc":{"m2m:ae":{"api":"N.x","rr":true,"rn":"a"}} => 2001 {"m2m:ae":{"aei":"CAdmin","api":"N.x","ct":"20231114T221320","et":"99991231T235959","lt":"20231114T221320","pi":"cb1","ri":"ae3","rn":"a","rr":true,"ty":2}}
+const REPLIES: &str =
+    r#"CAdmin 1 "op":1,"ty":2,"pc":{"m2m:ae":{"api":"N.x","rr":true,"rn":"a"}} => 2001 {"m2m:ae":{"aei":"CAdmin","api":"N.x","ct":"20231114T221320","et":"99991231T235959","lt":"20231114T221320","pi":"cb1","ri":"ae3","rn":"a","rr":true,"ty":2}}
 CAdmin 3 "op":1,"ty":3,"rcn":3,"pc":{"m2m:cnt":{"acpi":["cse-in/acpAdmin"],"cr":null,"mni":2}} => 2001 {"m2m:rce":{"m2m:cnt":{"acpi":["acp2"],"cbs":0,"cni":0,"cr":"CAdmin","ct":"20231114T221320","et":"99991231T235959","lt":"20231114T221320","mni":2,"pi":"ae3","ri":"cnt4","rn":"cnt_4","st":0,"ty":3},"uri":"cse-in/a/cnt_4"}}
 CAdmin 4 "op":1,"ty":4,"rcn":2,"pc":{"m2m:cin":{"con":"abc"}} => 2001 {"m2m:uri":"cse-in/a/cnt_4/cin_5"}
 CAdmin 4 "op":1,"ty":4,"pc":{"m2m:cin":{"con":{"x":1}}} => 2001 {"m2m:cin":{"con":{"x":1},"cs":7,"ct":"20231114T221320","et":"99991231T235959","lt":"20231114T221320","pi":"cnt4","ri":"cin6","rn":"cin_6","st":2,"ty":4}}
@@ -41,7 +42,8 @@ Cae8 8 "op":1,"ty":15,"rcn":2,"pc":{"m2m:pch":{}} => 2001 {"m2m:uri":"cse-in/ae_
 
 /// A creation is refused by the first place that holds; where one is refused, the next place would
 /// refuse it too.
-const CREATIONS: &str = r#"CAdmin 1 "op":1,"ty":2,"rcn":0,"pc":{"m2m:ae":{"api":"N.x","rr":true,"rn":"a"}} => 2001
+const CREATIONS: &str =
+    r#"CAdmin 1 "op":1,"ty":2,"rcn":0,"pc":{"m2m:ae":{"api":"N.x","rr":true,"rn":"a"}} => 2001
 CAdmin 3 "op":1,"ty":3,"rcn":0,"pc":{"m2m:cnt":{"rn":"c","mni":0}} => 2001
 CAdmin 4 "op":1,"ty":3,"rcn":0,"pc":{"m2m:cnt":{"rn":"d","mbs":2}} => 2001
 CAdmin 3 "op":1,"ty":15,"rcn":0,"pc":{"m2m:pch":{"rn":"p"}} => 2001

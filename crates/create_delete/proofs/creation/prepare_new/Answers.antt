@@ -1,9 +1,7 @@
 use Rattle.std.proofs.Common.{◌≡◌, true, Option, ap, sym, ◌∙◌, subst}
-use Rattle.m2m_names.specs.declared.codes.Rsc.TheVariants.{Created}
 use Rattle.resource_model.specs.Resource.{ResourceData}
 use Rattle.tree_model.specs.Tree.{has}
 use Rattle.tree_model.proofs.TreeLemmas.{at_has}
-use Rattle.entity_model.specs.Places.{reply_to}
 use Rattle.request_rules.specs.Creation.{Creation, creation_of, new_resource}
 use Rattle.create_delete.specs.Joining.{after_joining, filling_of, MayJoin}
 use Rattle.create_delete.specs.declared.joining.Filling.{Filling}

@@ -1,4 +1,4 @@
-use Rattle.std.proofs.Common.{◌≡◌, ◌+◌, List, sym, ap, subst}
+use Rattle.std.proofs.Common.{◌+◌, List, sym, subst}
 use Rattle.resource_model.specs.Resource.{ResourceData}
 use Rattle.entity_model.specs.Entity.{EntityData}
 use Rattle.entity_model.specs.Sound.{IsSoundEntity}

@@ -1,4 +1,4 @@
-use Rattle.std.proofs.Common.{rules, ◌≡◌, ◌<◌, ◌≤◌, ◌∷◌, [], length, drop, get_or, arith}
+use Rattle.std.proofs.Common.{rules, ◌≤◌, length, arith}
 use Rattle.create_delete.proofs.PushingLemmas.{all_removed, next_removed}
 use Rattle.create_delete.proofs.pushing.remove_all.Goals as goal
 

@@ -1,4 +1,4 @@
-use Rattle.std.proofs.Common.{rules, ◌≡◌, ◌++◌, [], ◌∷◌, ap, ◌∙◌}
+use Rattle.std.proofs.Common.{rules, ap, ◌∙◌}
 use Rattle.entity_model.specs.Entity.{EntityData}
 use Rattle.addressing.specs.Names.{structured_of}
 use Rattle.create_delete.proofs.TellingLemmas.{path_is_text}
