@@ -16,8 +16,8 @@ use Rattle.create_delete.specs.Changing.{pushed_out, without_all}
 use Rattle.create_delete.specs.Newcomer.{IsFilling, IsNewcomer}
 use Rattle.create_delete.specs.declared.joining.Filling.{Filling}
 
--- What holds of a creation that no place refuses: its parent is there and takes it, what it names is
--- admitted, nothing that it alone may be stands there, and no limit is passed.
+-- What holds of a creation that no place refuses: its parent is there and takes it, what it names
+-- is admitted, nothing that it alone may be stands there, and no limit is passed.
 pub record IsAllowed (c : Creation) : Type 0 where
   pub parent : at c.parent.number c.e.nodes ≡ Some c.parent
   pub takes : IsTrue (does_take c.parent.ty c.ty)
@@ -33,7 +33,9 @@ pub record MayFill (e : EntityData) (r : ResourceData) (f : Filling) : Type 0 wh
   pub parent : ResourceData
   pub joins : IsFilling e r parent f.state
   pub container : f.container ≡ r.parent
-  pub gone : f.gone ≡ evicted (limits_of parent) (Some (instance_size r)) e.last (instances_of r.parent e.nodes)
+  pub gone : f.gone
+      ≡ evicted (limits_of parent) (Some (instance_size r)) e.last
+      (instances_of r.parent e.nodes)
 
 -- the entity with the instance
 abbrev pub filled : EntityData → ResourceData → Filling → EntityData

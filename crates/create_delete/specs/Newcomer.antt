@@ -1,6 +1,7 @@
 -- What a resource has to be to come last in a sound entity, or to take the place of one (TS-0001,
 -- 9.6).
-use Rattle.std.specs.Prelude.{◌≡◌, ℕ, ◌-◌, ◌^◌, ◌<◌, bytes_eq, true, false, length, option_map, Some}
+use Rattle.std.specs.Prelude.{◌≡◌, ℕ, ◌-◌, ◌^◌, ◌<◌, bytes_eq, true, false, length, option_map}
+use Rattle.std.specs.Prelude.{Some}
 use Rattle.std.specs.Prelude.{IsTrue}
 use Rattle.std.specs.Option.{option_map_or}
 use Rattle.m2m_names.specs.declared.types.Ty.TheVariants.{ContentInstance, PollingChannel}
@@ -15,8 +16,8 @@ use Rattle.tree_model.specs.Shown.{own_cse_id}
 
 -- It has the next number, which isn't the last one. Its parent is there and takes it, its name, its
 -- AE-ID and its CSE-ID are free, its name addresses nothing else, and its policies are known. No
--- limit is passed, its attributes are those of its type, a container has its state tag, and it isn't
--- due yet. What its parent holds besides is said apart.
+-- limit is passed, its attributes are those of its type, a container has its state tag, and it
+-- isn't due yet. What its parent holds besides is said apart.
 pub record IsNewcomer (e : EntityData) (r : ResourceData) : Type 0 where
   pub number : r.number ≡ e.next
   pub few : e.next < 2 ^ 63 - 1
@@ -32,8 +33,8 @@ pub record IsNewcomer (e : EntityData) (r : ResourceData) : Type 0 where
   pub size : IsTrue (has_size r)
   pub due : is_due e.nodes e.last r ≡ false
 
--- What an instance has to be besides: its parent is this container, which takes one of its size; and
--- this is a state tag, which the container has then (TS-0001, 9.6.6).
+-- What an instance has to be besides: its parent is this container, which takes one of its size;
+-- and this is a state tag, which the container has then (TS-0001, 9.6.6).
 pub record IsFilling (e : EntityData) (r c : ResourceData) (st : ℕ) : Type 0 where
   pub new : IsNewcomer e r
   pub instance : IsTrue (is_ty r.ty ContentInstance)

@@ -2,7 +2,8 @@
 ghost use Rattle.std.specs.Prelude.{◌≡◌, ℕ, ◌+◌, [], ◌∷◌, ◌++◌, false, Some, IsTrue, OnOk, OnErr};
 ghost use Rattle.m2m_names.specs.declared.types.Ty.TheVariants.{ContentInstance};
 ghost use Rattle.resource_model.specs.Resource.{ResourceData, is_ty};
-ghost use Rattle.tree_model.specs.Tree.{may_stand, instances_of, replaced, restamped_at, instance_size};
+ghost use Rattle.tree_model.specs.Tree.{instance_size, instances_of, may_stand, replaced};
+ghost use Rattle.tree_model.specs.Tree.{restamped_at};
 ghost use Rattle.container_limits.specs.Limits.{evicted, limits_of};
 ghost use Rattle.entity_model.specs.Entity.{EntityData};
 ghost use Rattle.entity_model.specs.Sound.{IsSoundEntity};
@@ -27,7 +28,8 @@ pub fn an_entity_stays_sound_where_an_instance_joins()
         → IsSoundEntity (record e {
           nodes =
               without_all
-              (evicted (limits_of c) (Some (instance_size r)) e.last (instances_of r.parent e.nodes))
+              (evicted (limits_of c) (Some (instance_size r)) e.last
+              (instances_of r.parent e.nodes))
               (restamped_at r.parent e.last st (e.nodes ++ r ∷ []));
           next = e.next + 1;
         }) }

@@ -1,5 +1,6 @@
 //! The contents of replies (TS-0001, 8.1.2; TS-0004, 7.5.2).
-ghost use Rattle.std.specs.Prelude.{◌≡◌, ◌++◌, [], ◌∷◌, codes, pos, IfOk, IsTrue, IsUtf8, filter, unwrap_or};
+ghost use Rattle.std.specs.Prelude.{◌≡◌, ◌++◌, [], ◌∷◌, codes, pos, IfOk, IsTrue, IsUtf8, filter};
+ghost use Rattle.std.specs.Prelude.{unwrap_or};
 ghost use Rattle.m2m_names.specs.Types.{ty_member};
 ghost use Rattle.m2m_value.specs.Data as json;
 ghost use Rattle.tree_model.specs.Shown.{wrapped};

@@ -13,8 +13,8 @@ use std::process::Abort;
 use std::test::Fail;
 use tree_model::Home;
 
-// Each line is a request to one entity: the originator, the number of the target, the members of the
-// request, and what its reply tells: the status and the content.
+// Each line is a request to one entity: the originator, the number of the target, the members of
+// the request, and what its reply tells: the status and the content.
 
 /// A deletion is judged by the right, and then by the type.
 const DELETIONS: &str = r#"C1 1 "op":4 => 4103
