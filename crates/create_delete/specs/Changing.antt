@@ -11,8 +11,7 @@ use Rattle.m2m_names.specs.StampReading.{moment_at}
 use Rattle.m2m_names.specs.Stamps.{last_moment}
 use Rattle.m2m_names.specs.Types.{ty_member}
 use Rattle.m2m_names.specs.declared.attributes.Attr.{Attr}
-use Rattle.m2m_names.specs.declared.attributes.Attr.TheVariants.{Acpi, Et, Lt, Macp, Mbs, Mia, Mni}
-use Rattle.m2m_names.specs.declared.attributes.Attr.TheVariants.{St}
+use Rattle.m2m_names.specs.declared.attributes.Attr.TheVariants.{Acpi, Et, Lt, Macp, St}
 use Rattle.m2m_names.specs.declared.codes.Rsc.TheVariants.{BadChild, Created, Deleted, NotAllowed}
 use Rattle.m2m_names.specs.declared.codes.Rsc.TheVariants.{NotFound, Updated}
 use Rattle.m2m_names.specs.declared.operations.Op.{Op}
@@ -22,13 +21,12 @@ use Rattle.m2m_names.specs.declared.types.Ty.TheVariants.{Container, ContentInst
 use Rattle.m2m_value.specs.Data.{Data, Entry, number, object, pairs_of, text}
 use Rattle.m2m_value.specs.View.{as_text, member_of}
 use Rattle.primitive_json.specs.declared.request.RequestParts.{RequestParts}
-use Rattle.resource_model.specs.Attributes.{Row, count_at, is_attr}
+use Rattle.resource_model.specs.Attributes.{Row, is_attr}
 use Rattle.resource_model.specs.Resource.{ResourceData, has_number, is_ty}
 use Rattle.addressing.specs.Names.{structured_of}
 use Rattle.attribute_rules.specs.Admission.{is_named}
 use Rattle.attribute_rules.specs.Contents.{edit_in, edited}
-use Rattle.container_limits.specs.Limits.{evicted}
-use Rattle.container_limits.specs.declared.limits.Limits.{Limits}
+use Rattle.container_limits.specs.Limits.{evicted, limits_of}
 use Rattle.tree_model.specs.Shown.{attributes_of, members_of, shown_rows, with_rows, wrapped}
 use Rattle.tree_model.specs.Tree.{at, instances_of, replaced, restamped_at, without}
 use Rattle.request_rules.specs.Creation.{Creation, new_resource, new_size, next_state}
@@ -47,14 +45,6 @@ is_numbered_in numbers r = list_any (nat_eq r.number) numbers
 -- what stays where the resources of these numbers are removed, with all that stands below them
 abbrev pub without_all : List ℕ → List ResourceData → List ResourceData
 without_all numbers nodes = without (is_numbered_in numbers) nodes
-
--- the limits of a container
-abbrev pub limits_of : ResourceData → Limits
-limits_of r = record {
-  mni = count_at Mni r.attrs;
-  mbs = count_at Mbs r.attrs;
-  mia = count_at Mia r.attrs;
-}
 
 -- the numbers of the instances that a container pushes out as it is, before one of this size, if
 -- any, oldest first (TS-0001, 9.6.6)

@@ -1,1 +1,6 @@
+pub mod Changes
 pub mod Changing
+pub mod Guard
+pub mod Joining
+pub mod Newcomer
+pub mod Updating

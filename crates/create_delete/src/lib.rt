@@ -1,18 +1,41 @@
-//! The requests that change an entity (TS-0001, 10.2); so far Delete.
+//! The requests that change an entity: Create, Update and Delete (TS-0001, 10.2).
 //!
 //! What comes of one is a function of the entity, the originator and the request (`performed_at` of
 //! `specs/Changing`): a refusal by the first place that doesn't hold, in the one order of the crate
 //! request_rules, and else a reply and the entity after it. A call judges, which changes nothing;
-//! it prepares, which takes all memory; and it applies, which can't fail. Where memory runs out
-//! nothing has changed.
+//! it prepares, which takes all memory; and it applies, which can't fail but where a resource is
+//! put last, which comes first. Where memory runs out nothing has changed.
+//!
+//! An originator is passed in its short form. A content for a group isn't admitted yet.
 #![tactic(auto)]
 
+mod building;
+mod changes;
+mod creation;
 mod deletion;
+mod editing;
+mod growth;
+mod guard;
+mod joining;
 mod laws;
+mod pushing;
+mod telling;
+mod updating;
 
+pub use changes::the_changes_are_those_that_are_prepared;
+pub use creation::create;
 pub use deletion::delete;
+pub use growth::{
+    an_entity_stays_sound_where_a_resource_is_updated,
+    an_entity_stays_sound_where_a_resource_joins, an_entity_stays_sound_where_an_instance_joins,
+};
+pub use guard::{
+    a_container_keeps_the_newest_that_fit, an_entity_stays_sound,
+    nothing_is_changed_without_a_grant,
+};
 pub use laws::{
     a_deletion_takes_what_stands_at_or_below_its_target, a_refusal_changes_nothing,
     nothing_is_done_without_the_right,
 };
 pub use std::alloc::AllocError as OutOfMemory;
+pub use updating::update;

@@ -1,6 +1,6 @@
 //! The tests of trees of resources: of the libraries `tree_model`, `container_limits`,
-//! `policy_eval`, `addressing`, `retrieve_discover` and `entity_model`, over their public calls.
-//! Their answers, most on one small tree, were worked out by hand. Without its tests this library
+//! `policy_eval`, `addressing`, `retrieve_discover`, `entity_model` and `create_delete`, over their
+//! public calls. Their answers, most on one small tree, were worked out by hand. Without its tests this library
 //! is empty, and no crate stands on it.
 #![tactic(auto)]
 
@@ -8,6 +8,8 @@
 mod of_addressing;
 #[cfg(test)]
 mod of_container_limits;
+#[cfg(test)]
+mod of_create_delete;
 #[cfg(test)]
 mod of_entity_model;
 #[cfg(test)]

@@ -1,0 +1,182 @@
+-- The changes that come of an operation are those that it prepares.
+use Rattle.std.specs.Prelude.{nat_eq}
+use Rattle.std.proofs.Common.{◌≡◌, ℕ, ◌+◌, List, [], ◌∷◌, ◌++◌, map, Bool, true, false, not, ◌&&◌, cond, Option, Some, None, inl, inr, refl, sym, ap, ◌∙◌, subst}
+use Rattle.std.proofs.lemmas.Bool.{cases_Bool, cases_eq, and_parts, both_ways}
+use Rattle.std.proofs.lemmas.List.Elements.{filter-append}
+use Rattle.std.specs.List.{filter, list_all, list_any}
+use Rattle.m2m_names.specs.declared.operations.Op.TheVariants.{Create, Update, Delete}
+use Rattle.m2m_names.specs.declared.types.Ty.TheVariants.{Container, ContentInstance}
+use Rattle.primitive_json.specs.declared.request.RequestParts.{RequestParts}
+use Rattle.resource_model.specs.Resource.{ResourceData, has_number, is_ty}
+use Rattle.tree_model.specs.Tree.{at, has, instances_of, instance_size, is_spared, is_tree, is_under, line_of, replaced, restamped, restamped_at, without}
+use Rattle.tree_model.proofs.ChangeLemmas.{unpicked-replaced}
+use Rattle.tree_model.proofs.GrowthLemmas.{has-without, tree_from_well_formed}
+use Rattle.tree_model.proofs.TreeLemmas.{at_has, at_number, at-replaced_other, has_from_at}
+use Rattle.container_limits.specs.Limits.{evicted, limits_of}
+use Rattle.container_limits.proofs.LimitLemmas.{not_not}
+use Rattle.entity_model.specs.Entity.{EntityData}
+use Rattle.entity_model.specs.Sound.{IsSoundEntity}
+use Rattle.create_delete.specs.Changes.{changes_by, created, deleted, named_attrs, only_in, update_made, updated}
+use Rattle.create_delete.specs.Changing.{is_numbered_in, nodes_updated, pushed_by, pushed_out, without_all}
+use Rattle.create_delete.specs.Joining.{after_joining, gone_by, with_newcomer, MayJoin}
+use Rattle.create_delete.specs.Newcomer.{IsFilling, IsNewcomer, IsReplacement}
+use Rattle.create_delete.specs.declared.joining.Filling.{Filling}
+use Rattle.create_delete.proofs.GrownLemmas.{grown_by, nothing_picked}
+use Rattle.create_delete.proofs.InstanceLemmas.{limits_restamped, pruning as filling_pruning}
+use Rattle.create_delete.proofs.KeptLemmas.{filter_among}
+use Rattle.create_delete.proofs.LeftLemmas.{all_but_out, filter_found, filter_swap, has_left}
+use Rattle.create_delete.proofs.PushingLemmas.{nothing_removed}
+use Rattle.create_delete.proofs.ReplacedLemmas.{replaced_by}
+use Rattle.create_delete.proofs.RightCreateLemmas.{container_there, lacks, nodes_filled, not_out, older_there, same_filled, stamped_there}
+use Rattle.create_delete.proofs.RightUpdateLemmas.{now_there, turned_tree, updated_in, updated_left}
+use Rattle.create_delete.proofs.UpdatedLemmas.{pruning}
+
+-- ---- what is gone
+
+-- a number is picked whatever has it
+numbered_alike : (out : List ℕ) (x r : ResourceData) → x.number ≡ r.number → is_numbered_in out x ≡ is_numbered_in out r
+numbered_alike out x r same = ap (λ (m : ℕ). list_any (nat_eq m) out) same
+
+gone_are : (picks : ResourceData → Bool) (nodes left : List ResourceData) → is_tree nodes ≡ true → ((r : ResourceData) → at r.number nodes ≡ Some r → has r.number left ≡ not (picks r)) → only_in nodes left ≡ filter picks nodes
+gone_are picks nodes left tree each = filter_found (λ r. not (has r.number left)) picks nodes tree (λ r found. ap not (each r found) ∙ not_not (picks r))
+
+none_false : (nodes : List ResourceData) → list_all (λ (s : ResourceData). not false) nodes ≡ true
+none_false [] = refl
+none_false (s ∷ nodes) = none_false nodes
+
+nothing_apart : (nodes : List ResourceData) → only_in nodes nodes ≡ []
+nothing_apart nodes = filter_among (λ s. not (has s.number nodes)) (λ s. false) nodes (λ s there. ap not there) ∙ nothing_picked (λ s. false) nodes (none_false nodes)
+
+-- ---- a Delete
+
+pub delete_changes : (e : EntityData) (request : RequestParts) (n : ℕ) → IsSoundEntity e → changes_by Delete request n e (record { home = e.home; nodes = without (has_number n) e.nodes; next = e.next; last = e.last }) ≡ map deleted (filter (λ r. list_any (has_number n) (line_of r.number e.nodes)) e.nodes)
+delete_changes e request n sound =
+    let tree = tree_from_well_formed e.nodes sound.tree in
+    ap (map deleted) (gone_are (λ r. list_any (has_number n) (line_of r.number e.nodes)) e.nodes (without (has_number n) e.nodes) tree (λ r found.
+    has-without (has_number n) r.number e.nodes tree
+    ∙ ap (λ (b : Bool). b && is_spared (has_number n) e.nodes r.number) (at_has r.number e.nodes r found)))
+
+-- ---- an Update
+
+module _ (e : EntityData) (sound : IsSoundEntity e) (c : ResourceData) (new : IsReplacement e c) where
+  abbrev turned : List ResourceData
+  turned = replaced c e.nodes
+
+  turned_left : (s : ResourceData) → at s.number turned ≡ Some s → has s.number (nodes_updated e c) ≡ not (is_numbered_in (pushed_by e c) s)
+  turned_left s found = elim (cases_Bool (is_ty c.ty Container)) [
+    | inl t ↦
+        let pushes : pushed_out e c None ≡ pushed_by e c = rw t refl in
+        subst (λ (gone : List ℕ). has s.number (without_all gone turned) ≡ not (is_numbered_in gone s)) pushes
+        (has_left c.number (replaced_by e c) c None (instances_of c.number e.nodes) [] (pruning e c sound new) s found)
+    | inr f ↦
+        let none : pushed_by e c ≡ [] = rw f refl in
+        subst (λ (gone : List ℕ). has s.number (without_all gone turned) ≡ not (is_numbered_in gone s)) (sym none)
+        (ap (has s.number) (nothing_removed turned (turned_tree e sound c new)) ∙ at_has s.number turned s found)
+  ]
+
+  each_left : (r : ResourceData) → at r.number e.nodes ≡ Some r → has r.number (nodes_updated e c) ≡ not (is_numbered_in (pushed_by e c) r)
+  each_left r found = elim (cases_eq r.number c.number) [
+    | inl same ↦
+        ap (λ (m : ℕ). has m (nodes_updated e c)) same ∙ turned_left c (now_there e sound c new)
+        ∙ ap not (numbered_alike (pushed_by e c) c r (sym same))
+    | inr apart ↦ turned_left r (at-replaced_other r.number c e.nodes apart ∙ found)
+  ]
+
+  -- it isn't pushed out itself
+  c_left : at c.number (nodes_updated e c) ≡ Some c
+  c_left = by_left (at c.number (nodes_updated e c)) refl
+    where
+      by_left : (x : Option ResourceData) → at c.number (nodes_updated e c) ≡ x → x ≡ Some c
+      by_left None is = absurd (both_ways _ new.plain (and_parts (is_under c.number c) (is_ty c.ty ContentInstance) ((updated_left e sound c new).gone c (now_there e sound c new) is)).1)
+      by_left (Some s) is = sym ((updated_left e sound c new).stood c.number s is) ∙ now_there e sound c new
+
+  pub update_changes : (request : RequestParts) (old : ResourceData) → at c.number e.nodes ≡ Some old → changes_by Update request c.number e (updated_in e c) ≡ updated old c (named_attrs request old) ∷ map deleted (filter (is_numbered_in (pushed_by e c)) e.nodes)
+  update_changes request old found =
+      ap (λ (x : Option ResourceData). update_made request x (at c.number (nodes_updated e c)) ++ map deleted (only_in e.nodes (nodes_updated e c))) found
+      ∙ ap (λ (x : Option ResourceData). update_made request (Some old) x ++ map deleted (only_in e.nodes (nodes_updated e c))) c_left
+      ∙ ap (λ (rs : List ResourceData). updated old c (named_attrs request old) ∷ map deleted rs)
+      (gone_are (is_numbered_in (pushed_by e c)) e.nodes (nodes_updated e c) (tree_from_well_formed e.nodes sound.tree) each_left)
+
+-- ---- a Create
+
+-- what comes last is what is new
+only_last : (e : EntityData) (r : ResourceData) → IsSoundEntity e → IsNewcomer e r → only_in (e.nodes ++ r ∷ []) e.nodes ≡ r ∷ []
+only_last e r sound new =
+    filter-append (λ s. not (has s.number e.nodes)) e.nodes (r ∷ [])
+    ∙ ap (λ (rs : List ResourceData). rs ++ filter (λ s. not (has s.number e.nodes)) (r ∷ [])) (nothing_apart e.nodes)
+    ∙ ap (λ (b : Bool). cond (not b) (r ∷ []) []) (has_from_at r.number e.nodes (lacks e sound r new))
+
+join_changes : (e : EntityData) (r : ResourceData) (request : RequestParts) (n : ℕ) → IsSoundEntity e → IsNewcomer e r → changes_by Create request n e (with_newcomer e r) ≡ created r ∷ []
+join_changes e r request n sound new =
+    let tree = tree_from_well_formed e.nodes sound.tree in
+    let gone : only_in e.nodes (e.nodes ++ r ∷ []) ≡ filter (λ s. false) e.nodes =
+    gone_are (λ s. false) e.nodes (e.nodes ++ r ∷ []) tree (λ s found. at_has s.number (e.nodes ++ r ∷ []) s (older_there e sound r new s.number s found)) in
+    ap (λ (rs : List ResourceData). map created rs ++ map deleted (only_in e.nodes (e.nodes ++ r ∷ []))) (only_last e r sound new)
+    ∙ ap (λ (rs : List ResourceData). created r ∷ map deleted rs) (gone ∙ nothing_picked (λ s. false) e.nodes (none_false e.nodes))
+
+module _ (e : EntityData) (sound : IsSoundEntity e) (r c : ResourceData) (st : ℕ) (filling : IsFilling e r c st) where
+  abbrev all : List ResourceData
+  all = e.nodes ++ r ∷ []
+
+  abbrev stamped : ResourceData
+  stamped = restamped e.last st c
+
+  abbrev with_stamped : List ResourceData
+  with_stamped = replaced stamped all
+
+  abbrev before : List ResourceData
+  before = instances_of r.parent e.nodes
+
+  abbrev out_stamped : List ℕ
+  out_stamped = evicted (limits_of stamped) (Some (instance_size r)) e.last before
+
+  abbrev out : List ℕ
+  out = evicted (limits_of c) (Some (instance_size r)) e.last before
+
+  abbrev left : List ResourceData
+  left = nodes_filled e sound r c st filling
+
+  outs : out_stamped ≡ out
+  outs = ap (λ l. evicted l (Some (instance_size r)) e.last before) (limits_restamped e.last st c)
+
+  stamped_has : (s : ResourceData) → at s.number with_stamped ≡ Some s → has s.number left ≡ not (is_numbered_in out s)
+  stamped_has s found =
+      ap (has s.number) (sym (same_filled e sound r c st filling))
+      ∙ has_left r.parent (replaced_by (grown_by e r) stamped) stamped (Some (instance_size r)) before (r ∷ []) (filling_pruning e r c st sound filling) s found
+      ∙ ap (λ (gone : List ℕ). not (is_numbered_in gone s)) outs
+
+  each_has : (s : ResourceData) → at s.number e.nodes ≡ Some s → has s.number left ≡ not (is_numbered_in out s)
+  each_has s found = elim (cases_eq s.number c.number) [
+    | inl is ↦
+        ap (λ (m : ℕ). has m left) is ∙ stamped_has stamped (stamped_there e sound r c st filling)
+        ∙ ap not (numbered_alike out stamped s (sym is))
+    | inr other ↦ stamped_has s (at-replaced_other s.number stamped all other ∙ older_there e sound r filling.new s.number s found)
+  ]
+
+  -- only the new one is new
+  stays_known : filter (λ s. not (has s.number e.nodes)) with_stamped ≡ filter (λ s. not (has s.number e.nodes)) all
+  stays_known = unpicked-replaced (λ s. not (has s.number e.nodes)) stamped all
+      (λ s found. ap (λ (m : ℕ). not (has m e.nodes)) (at_number stamped.number all s found))
+      (ap not (at_has c.number e.nodes c (container_there e sound r c st filling)))
+
+  fresh : only_in left e.nodes ≡ r ∷ []
+  fresh =
+      ap (λ (rs : List ResourceData). only_in rs e.nodes) (sym (same_filled e sound r c st filling) ∙ all_but_out r.parent (replaced_by (grown_by e r) stamped) stamped (Some (instance_size r)) before (r ∷ []) (filling_pruning e r c st sound filling))
+      ∙ filter_swap (λ s. not (has s.number e.nodes)) (λ s. not (is_numbered_in out_stamped s)) with_stamped
+      ∙ ap (filter (λ s. not (is_numbered_in out_stamped s))) (stays_known ∙ only_last e r sound filling.new)
+      ∙ ap (λ (b : Bool). cond (not b) (r ∷ []) []) (not_out e sound r c st filling)
+
+  fill_changes : (request : RequestParts) (n : ℕ) → changes_by Create request n e (record { home = e.home; nodes = left; next = e.next + 1; last = e.last }) ≡ created r ∷ map deleted (filter (is_numbered_in out) e.nodes)
+  fill_changes request n =
+      ap (λ (rs : List ResourceData). map created rs ++ map deleted (only_in e.nodes left)) fresh
+      ∙ ap (λ (rs : List ResourceData). created r ∷ map deleted rs) (gone_are (is_numbered_in out) e.nodes left (tree_from_well_formed e.nodes sound.tree) each_has)
+
+pub join_makes_changes : (e : EntityData) (r : ResourceData) (f : Option Filling) (request : RequestParts) (n : ℕ) → IsSoundEntity e → MayJoin e r f → changes_by Create request n e (after_joining e r f) ≡ created r ∷ map deleted (filter (is_numbered_in (gone_by f)) e.nodes)
+join_makes_changes e r None request n sound may =
+    join_changes e r request n sound may.0
+    ∙ ap (λ (rs : List ResourceData). created r ∷ map deleted rs) (sym (nothing_picked (is_numbered_in []) e.nodes (none_false e.nodes)))
+join_makes_changes e r (Some f) request n sound may =
+    let after : List ℕ → ℕ → EntityData = λ gone m. record { home = e.home; nodes = without_all gone (restamped_at m e.last f.state (e.nodes ++ r ∷ [])); next = e.next + 1; last = e.last } in
+    let Makes : List ℕ → ℕ → Type 0 = λ gone m. changes_by Create request n e (after gone m) ≡ created r ∷ map deleted (filter (is_numbered_in gone) e.nodes) in
+    subst (λ (m : ℕ). Makes f.gone m) (sym may.container)
+    (subst (λ (gone : List ℕ). Makes gone r.parent) (sym may.gone) (fill_changes e sound r may.parent f.state may.joins request n))

@@ -1,0 +1,318 @@
+-- What a creation that no place refuses makes may join a sound entity.
+use Rattle.std.specs.Prelude.{nat_le, nat_lt}
+use Rattle.std.proofs.Common.{◌≡◌, ℕ, ◌+◌, ◌-◌, ◌^◌, ◌<◌, ◌≤◌, List, [], ◌∷◌, ◌++◌, length, true, false, not, ◌&&◌, ◌||◌, Option, Some, None, is_some, option_map, option_and_then, unwrap_or, if◌then◌else◌, bytes_eq, pos, inl, inr, refl, sym, ap, ◌∙◌, arith}
+use Rattle.std.proofs.lemmas.Bool.{cases_Bool, and_parts, and_from, or_left, or_right, not-true, not_from_false, ltb-true, leb-true, lt-leb, le-leb, eqb-true}
+use Rattle.std.proofs.lemmas.List.Folds.{list_all-append}
+use Rattle.std.specs.List.{list_all}
+use Rattle.std.specs.Option.{option_map_or}
+use Rattle.m2m_names.specs.Attributes.{attr_short}
+use Rattle.m2m_names.specs.Name.{is_originator}
+use Rattle.m2m_names.specs.Stamps.{last_moment}
+use Rattle.m2m_names.specs.Types.{does_take}
+use Rattle.m2m_names.specs.declared.attributes.Attr.{Attr}
+use Rattle.m2m_names.specs.declared.attributes.Attr.TheVariants.{Acpi, Aei, Cr, Cs, Csi, Macp, Mbs, Mia, Mni, St}
+use Rattle.m2m_names.specs.declared.types.Ty.{Ty}
+use Rattle.m2m_names.specs.declared.types.Ty.TheVariants.{Ae, Container, ContentInstance, CseBase, PollingChannel, RemoteCse}
+use Rattle.m2m_names.proofs.TypeLemmas.{same_type}
+use Rattle.m2m_value.specs.Data.{Data, Entry, number, text}
+use Rattle.m2m_value.specs.Node.{AreSorted}
+use Rattle.m2m_value.specs.Shapes.{as_count}
+use Rattle.m2m_value.specs.View.{as_text, member_of}
+use Rattle.primitive_json.specs.declared.request.RequestParts.{RequestParts}
+use Rattle.resource_model.specs.Attributes.{Row, count_at, is_attr, value_of, with_value}
+use Rattle.resource_model.specs.Resource.{ResourceData, is_ty, ae_id, cse_id}
+use Rattle.resource_model.proofs.AttributeLemmas.{value-with_value_same}
+use Rattle.tree_model.specs.Shown.{with_rows, own_cse_id}
+use Rattle.tree_model.specs.Tree.{at, age_end, depth, due_under, may_stand, has_ae_id, has_child, has_channel, has_cse_id, instances_of, is_due, is_placed, lesser, same_text, instance_size}
+use Rattle.tree_model.proofs.ShownLemmas.{with_rows-append}
+use Rattle.tree_model.proofs.TreeLemmas.{at_has}
+use Rattle.attribute_rules.specs.Admission.{attributes_in}
+use Rattle.attribute_rules.specs.Contents.{named_text, wanted_in, wanted_of}
+use Rattle.attribute_rules.proofs.ValueLemmas.{value_wanted}
+use Rattle.container_limits.specs.Limits.{evicted, is_within, limits_of}
+use Rattle.policy_eval.specs.Rules.{listed_in, ids_at}
+use Rattle.entity_model.specs.Entity.{EntityData, last_reading}
+use Rattle.entity_model.specs.Sound.{is_known_id, largest_size, greatest_count, greatest_depth, IsSoundEntity}
+use Rattle.request_rules.specs.Creation.{Creation, creator_rows, given_rows, has_room, is_below, is_free_cse_id, is_single, is_small, new_ae_id, new_name, new_resource, new_rows, new_size, next_state, takes_instance}
+use Rattle.request_rules.specs.Policies.{link_row}
+use Rattle.request_rules.specs.Requests.{named_expiry}
+use Rattle.create_delete.specs.Changing.{create_effect}
+use Rattle.create_delete.specs.Joining.{after_joining, filling_of, IsAllowed, MayJoin}
+use Rattle.create_delete.specs.Newcomer.{IsFilling, IsNewcomer}
+use Rattle.create_delete.proofs.NewcomerLemmas.{lacks_creator, lacks_given, lacks_link, link_known, new_kinds, new_name_is_free, state_small, wanted_none}
+use Rattle.create_delete.proofs.RowLemmas.{value_unset}
+
+-- ---- what the limits say
+
+record HasRoom (c : Creation) : Type 0 where
+  count : length c.e.nodes < greatest_count
+  few : c.e.next < 2 ^ 63 - 1
+  depth : depth c.parent.number c.e.nodes < greatest_depth
+  small : is_small c ≡ true
+
+room_for : (c : Creation) → has_room c ≡ true → HasRoom c
+room_for c room =
+    let a = and_parts ((nat_lt (length c.e.nodes) greatest_count && nat_lt c.e.next (2 ^ 63 - 1)) && nat_lt (depth c.parent.number c.e.nodes) greatest_depth) (is_small c) room in
+    let b = and_parts (nat_lt (length c.e.nodes) greatest_count && nat_lt c.e.next (2 ^ 63 - 1)) (nat_lt (depth c.parent.number c.e.nodes) greatest_depth) a.0 in
+    let d = and_parts (nat_lt (length c.e.nodes) greatest_count) (nat_lt c.e.next (2 ^ 63 - 1)) b.0 in
+    record { count = ltb-true _ _ d.0; few = ltb-true _ _ d.1; depth = ltb-true _ _ b.1; small = a.1 }
+
+takes_it : (c : Creation) → is_small c ≡ true → is_ty c.ty ContentInstance ≡ true → takes_instance c.parent (new_size c) ≡ true
+takes_it c small instance = rw instance at small
+
+record IsTaking (container : ResourceData) (bytes : ℕ) : Type 0 where
+  size : bytes ≤ largest_size
+  age : is_below 0 (count_at Mia container.attrs) ≡ true
+
+taking : (container : ResourceData) (size : ℕ) → takes_instance container size ≡ true → IsTaking container size
+taking container size takes =
+    let a = and_parts ((nat_le size largest_size && is_within size (count_at Mbs container.attrs)) && is_below 0 (count_at Mni container.attrs)) (is_below 0 (count_at Mia container.attrs)) takes in
+    let b = and_parts (nat_le size largest_size && is_within size (count_at Mbs container.attrs)) (is_below 0 (count_at Mni container.attrs)) a.0 in
+    let d = and_parts (nat_le size largest_size) (is_within size (count_at Mbs container.attrs)) b.0 in
+    record { size = leb-true size largest_size d.0; age = a.1 }
+
+-- ---- what nothing has isn't anyone's
+
+no_ae_id : (nodes : List ResourceData) → has_ae_id None nodes ≡ false
+no_ae_id [] = refl
+no_ae_id (s ∷ nodes) = ap (λ b. b || has_ae_id None nodes) (first (ae_id s)) ∙ no_ae_id nodes
+  where
+    first : (o : Option (List ℕ)) → same_text o None ≡ false
+    first None = refl
+    first (Some a) = refl
+
+no_cse_id : (nodes : List ResourceData) → has_cse_id None nodes ≡ false
+no_cse_id [] = refl
+no_cse_id (s ∷ nodes) = ap (λ b. b || has_cse_id None nodes) (first (cse_id s)) ∙ no_cse_id nodes
+  where
+    first : (o : Option (List ℕ)) → same_text o None ≡ false
+    first None = refl
+    first (Some a) = refl
+
+-- ---- a new resource
+
+module _ (c : Creation) (sound : IsSoundEntity c.e) (originator : is_originator c.o ≡ true) (sorted : AreSorted c.named) (may : IsAllowed c) where
+  abbrev r : ResourceData
+  r = new_resource c
+
+  abbrev given : List Row
+  given = given_rows c.ty c
+
+  abbrev creator : List Row
+  creator = creator_rows c.o c.named
+
+  abbrev wanted : List Row
+  wanted = (wanted_in c.named).attrs
+
+  abbrev base : List Row
+  base = with_rows creator (with_rows given wanted)
+
+  room : HasRoom c
+  room = room_for c may.room
+
+  rows_are : new_rows c ≡ with_rows (link_row c.e c.named Macp) (with_rows (link_row c.e c.named Acpi) base)
+  rows_are =
+      with_rows-append ((given ++ creator) ++ link_row c.e c.named Acpi) (link_row c.e c.named Macp) wanted
+      ∙ ap (with_rows (link_row c.e c.named Macp)) (with_rows-append (given ++ creator) (link_row c.e c.named Acpi) wanted
+      ∙ ap (with_rows (link_row c.e c.named Acpi)) (with_rows-append given creator wanted))
+
+  -- an attribute that neither the links nor the creator are
+  before_links : (a : Attr) → is_attr Acpi a ≡ false → is_attr Macp a ≡ false → is_attr Cr a ≡ false → value_of a (new_rows c) ≡ value_of a (with_rows given wanted)
+  before_links a acpi macp cr =
+      ap (value_of a) rows_are
+      ∙ value_unset a (link_row c.e c.named Macp) (with_rows (link_row c.e c.named Acpi) base) (lacks_link a Macp c.e c.named macp)
+      ∙ value_unset a (link_row c.e c.named Acpi) base (lacks_link a Acpi c.e c.named acpi)
+      ∙ value_unset a creator (with_rows given wanted) (lacks_creator a c.o c.named cr)
+
+  -- ---- identifiers
+
+  unique : (not (has_child c.parent.number (new_name c) c.e.nodes) ≡ true) × (is_single c.ty c ≡ true)
+  unique = and_parts (not (has_child c.parent.number (new_name c) c.e.nodes)) (is_single c.ty c) may.unique
+
+  ae_is : is_ty c.ty Ae ≡ true → ae_id r ≡ Some (new_ae_id c)
+  ae_is is =
+      let ty : c.ty ≡ Ae = same_type c.ty Ae (eqb-true _ _ is) in
+      let put : value_of Aei (with_rows given wanted) ≡ Some (text (new_ae_id c)) = ap (λ (t : Ty). value_of Aei (with_rows (given_rows t c) wanted)) ty ∙ value-with_value_same Aei (text (new_ae_id c)) wanted in
+      rw is (ap (option_and_then as_text) (before_links Aei refl refl refl ∙ put))
+
+  free_ae : not (has_ae_id (ae_id r) c.e.nodes) ≡ true
+  free_ae = elim (cases_Bool (is_ty c.ty Ae)) [
+    | inl is ↦ ap (λ (o : Option (List ℕ)). not (has_ae_id o c.e.nodes)) (ae_is is) ∙ sym (ap (λ (t : Ty). is_single t c) (same_type c.ty Ae (eqb-true _ _ is))) ∙ unique.1
+    | inr other ↦ (let none : ae_id r ≡ None = rw other refl in not_from_false _ (ap (λ (o : Option (List ℕ)). has_ae_id o c.e.nodes) none ∙ no_ae_id c.e.nodes))
+  ]
+
+  whole : (o : Option Data) → option_and_then (λ d. if false then None else Some d) o ≡ o
+  whole None = refl
+  whole (Some d) = refl
+
+  cse_is : is_ty c.ty RemoteCse ≡ true → cse_id r ≡ named_text Csi c.named
+  cse_is is =
+      let ty : c.ty ≡ RemoteCse = same_type c.ty RemoteCse (eqb-true _ _ is) in
+      let kept : value_of Csi (with_rows given wanted) ≡ value_of Csi wanted = ap (λ (t : Ty). value_of Csi (with_rows (given_rows t c) wanted)) ty in
+      let named : value_of Csi wanted ≡ member_of (attr_short Csi) c.named = value_wanted Csi c.named sorted ∙ whole (member_of (attr_short Csi) c.named) in
+      rw is (ap (option_and_then as_text) (before_links Csi refl refl refl ∙ kept ∙ named))
+
+  -- what a remote CSE names is free, and not the own
+  free_csi : (o : Option (List ℕ)) → option_map_or (is_free_cse_id c.e) o true ≡ true → (not (has_cse_id o c.e.nodes) ≡ true) × (option_map_or (bytes_eq (own_cse_id c.e.home)) o false ≡ false)
+  free_csi None t = (not_from_false _ (no_cse_id c.e.nodes), refl)
+  free_csi (Some csi) t = (let parts = and_parts (not (has_cse_id (Some csi) c.e.nodes)) (not (bytes_eq (own_cse_id c.e.home) csi)) t in (parts.0, not-true _ parts.1))
+
+  cse_free : (not (has_cse_id (cse_id r) c.e.nodes) ≡ true) × (option_map_or (bytes_eq (own_cse_id c.e.home)) (cse_id r) false ≡ false)
+  cse_free = elim (cases_Bool (is_ty c.ty RemoteCse)) [
+    | inl is ↦
+        let single : option_map_or (is_free_cse_id c.e) (named_text Csi c.named) true ≡ true = sym (ap (λ (t : Ty). is_single t c) (same_type c.ty RemoteCse (eqb-true _ _ is))) ∙ unique.1 in
+        let free = free_csi (named_text Csi c.named) single in
+        (ap (λ (o : Option (List ℕ)). not (has_cse_id o c.e.nodes)) (cse_is is) ∙ free.0, ap (λ (o : Option (List ℕ)). option_map_or (bytes_eq (own_cse_id c.e.home)) o false) (cse_is is) ∙ free.1)
+    | inr other ↦
+        let none : cse_id r ≡ None = rw other refl in
+        (not_from_false _ (ap (λ (o : Option (List ℕ)). has_cse_id o c.e.nodes) none ∙ no_cse_id c.e.nodes), ap (λ (o : Option (List ℕ)). option_map_or (bytes_eq (own_cse_id c.e.home)) o false) none)
+  ]
+
+  one_channel : is_ty r.ty PollingChannel ≡ true → has_channel r.parent c.e.nodes ≡ false
+  one_channel is = not-true _ (sym (ap (λ (t : Ty). is_single t c) (same_type c.ty PollingChannel (eqb-true _ _ is))) ∙ unique.1)
+
+  -- ---- its place
+
+  placed : is_placed c.e.nodes r ≡ true
+  placed = or_left _ _ (at_has c.parent.number c.e.nodes c.parent may.parent)
+
+  fitting : may_stand c.e.nodes r ≡ true
+  fitting = and_from _ _ (and_from _ _ (and_from _ _ (and_from _ _ sound.numbers placed) unique.0) free_ae) cse_free.0
+
+  taken : option_map_or (λ (p : ResourceData). does_take p.ty r.ty) (at r.parent c.e.nodes) true ≡ true
+  taken = ap (λ (o : Option ResourceData). option_map_or (λ (p : ResourceData). does_take p.ty r.ty) o true) may.parent ∙ may.takes
+
+  -- ---- what it keeps
+
+  -- a policy link before it is put in
+  link_before : (a : Attr) → is_attr Cr a ≡ false → is_attr Aei a ≡ false → is_attr St a ≡ false → is_attr Cs a ≡ false → value_of a base ≡ value_of a wanted
+  link_before a cr aei st cs = value_unset a creator (with_rows given wanted) (lacks_creator a c.o c.named cr) ∙ value_unset a given wanted (lacks_given a c.ty c aei st cs)
+
+  acpi_known : list_all (is_known_id c.e.next) (ids_at Acpi r) ≡ true
+  acpi_known =
+      ap (λ (o : Option Data). list_all (is_known_id c.e.next) (listed_in o)) (ap (value_of Acpi) rows_are ∙ value_unset Acpi (link_row c.e c.named Macp) (with_rows (link_row c.e c.named Acpi) base) (lacks_link Acpi Macp c.e c.named refl))
+      ∙ link_known c.e c.named Acpi base sound (λ t. ap (list_all (is_known_id c.e.next)) (ap listed_in (link_before Acpi refl refl refl refl) ∙ wanted_none Acpi c.named sorted t))
+
+  macp_known : list_all (is_known_id c.e.next) (ids_at Macp r) ≡ true
+  macp_known =
+      ap (λ (o : Option Data). list_all (is_known_id c.e.next) (listed_in o)) (ap (value_of Macp) rows_are)
+      ∙ link_known c.e c.named Macp (with_rows (link_row c.e c.named Acpi) base) sound
+      (λ t. ap (list_all (is_known_id c.e.next)) (ap listed_in (value_unset Macp (link_row c.e c.named Acpi) base (lacks_link Macp Acpi c.e c.named refl) ∙ link_before Macp refl refl refl refl) ∙ wanted_none Macp c.named sorted t))
+
+  small_size : is_ty c.ty ContentInstance ≡ true → new_size c ≤ largest_size
+  small_size is = (taking c.parent (new_size c) (takes_it c room.small is)).size
+
+  size_is : is_ty c.ty ContentInstance ≡ true → instance_size r ≡ new_size c
+  size_is is =
+      let ty : c.ty ≡ ContentInstance = same_type c.ty ContentInstance (eqb-true _ _ is) in
+      let put : value_of Cs (with_rows given wanted) ≡ Some (number (pos (new_size c))) =
+      ap (λ (t : Ty). value_of Cs (with_rows (given_rows t c) wanted)) ty
+      ∙ value_unset Cs ((St, number (pos (next_state c.parent))) ∷ []) (with_value Cs (number (pos (new_size c))) wanted) refl
+      ∙ value-with_value_same Cs (number (pos (new_size c))) wanted in
+      ap (λ (o : Option Data). unwrap_or (option_and_then as_count o) 0) (before_links Cs refl refl refl ∙ put)
+
+  -- ---- when it is due
+
+  expires : c.e.last < r.et
+  expires = by_named (named_expiry c.named) may.later
+    where
+      by_named : (o : Option ℕ) → option_map_or (nat_lt c.e.last) o true ≡ true → c.e.last < unwrap_or o last_moment
+      by_named None t = (let most : c.e.last ≤ last_reading = sound.last in omega arith)
+      by_named (Some m) t = ltb-true c.e.last m t
+
+  ages : is_ty c.ty ContentInstance ≡ true → nat_le (lesser r.et (age_end (Some c.parent) r)) c.e.last ≡ false
+  ages is = by_age (count_at Mia c.parent.attrs) (taking c.parent (new_size c) (takes_it c room.small is)).age
+    where
+      by_age : (o : Option ℕ) → is_below 0 o ≡ true → nat_le (lesser r.et (option_map (λ age. c.e.last + age) o)) c.e.last ≡ false
+      by_age None t = lt-leb r.et c.e.last expires
+      by_age (Some age) t = (let some : 0 < age = ltb-true 0 age t in let later : c.e.last < r.et = expires in lt-leb (lesser r.et (Some (c.e.last + age))) c.e.last (omega arith))
+
+  not_due : is_due c.e.nodes c.e.last r ≡ false
+  not_due = ap (λ (o : Option ResourceData). option_map_or (λ at. nat_le at c.e.last) (due_under o r) false) may.parent ∙ by_type
+    where
+      by_type : option_map_or (λ at. nat_le at c.e.last) (due_under (Some c.parent) r) false ≡ false
+      by_type = elim (cases_Bool (is_ty c.ty CseBase)) [
+        | inl t ↦ rw t refl
+        | inr f ↦ elim (cases_Bool (is_ty c.ty ContentInstance)) [
+          | inl u ↦ rw (f, u) (ages u)
+          | inr v ↦ rw (f, v) (lt-leb r.et c.e.last expires)
+        ]
+      ]
+
+  -- ---- whole
+
+  tagged : (not (is_ty c.ty Container) || is_some (value_of St (new_rows c))) ≡ true
+  tagged = elim (cases_Bool (is_ty c.ty Container)) [
+    | inl is ↦
+        let ty : c.ty ≡ Container = same_type c.ty Container (eqb-true _ _ is) in
+        let put : value_of St (with_rows given wanted) ≡ Some (number (pos 0)) = ap (λ (t : Ty). value_of St (with_rows (given_rows t c) wanted)) ty ∙ value-with_value_same St (number (pos 0)) wanted in
+        or_right _ _ (ap is_some (before_links St refl refl refl ∙ put))
+    | inr other ↦ or_left _ _ (not_from_false _ other)
+  ]
+
+  sized : (not (is_ty c.ty ContentInstance) || nat_le (instance_size r) largest_size) ≡ true
+  sized = elim (cases_Bool (is_ty c.ty ContentInstance)) [
+    | inl is ↦ or_right _ _ (ap (λ (n : ℕ). nat_le n largest_size) (size_is is) ∙ le-leb (new_size c) largest_size (small_size is))
+    | inr other ↦ or_left _ _ (not_from_false _ other)
+  ]
+
+  pub newcomer : IsNewcomer c.e r
+  newcomer =
+      let few : c.e.next < 2 ^ 63 - 1 = room.few in
+      record {
+        number = refl;
+        few = few;
+        fits = and_from _ _ fitting taken;
+        name = new_name_is_free c (omega arith) may.admitted;
+        ids = list_all-append (is_known_id c.e.next) (ids_at Acpi r) (ids_at Macp r) ∙ and_from _ _ acpi_known macp_known;
+        depth = room.depth;
+        count = room.count;
+        kinds = new_kinds c originator (omega arith) (λ is. let small : new_size c ≤ 1048576 = small_size is in omega arith) may.admitted;
+        tag = tagged;
+        apart = cse_free.1;
+        channel = one_channel;
+        size = sized;
+        due = not_due;
+      }
+
+  pub filling : is_ty c.ty ContentInstance ≡ true → IsFilling c.e r c.parent (next_state c.parent)
+  filling is = record {
+    new = newcomer;
+    instance = is;
+    container = may.parent;
+    takes = ap (takes_instance c.parent) (size_is is) ∙ takes_it c room.small is;
+    small = state_small c.parent;
+  }
+
+  -- it may join, with what it does besides
+  pub may_join : MayJoin c.e r (filling_of c)
+  may_join = elim (cases_Bool (is_ty c.ty ContentInstance)) [
+    | inl is ↦ rw is (record {
+      parent = c.parent;
+      joins = filling is;
+      container = refl;
+      gone = ap (λ (n : ℕ). evicted (limits_of c.parent) (Some n) c.e.last (instances_of c.parent.number c.e.nodes)) (sym (size_is is));
+    })
+    | inr other ↦ rw other (newcomer, other)
+  ]
+
+-- what it does is what is defined
+pub joining_effect : (request : RequestParts) (c : Creation) → after_joining c.e (new_resource c) (filling_of c) ≡ (create_effect request c).after
+joining_effect request c = elim (cases_Bool (is_ty c.ty ContentInstance)) [
+  | inl is ↦ rw is refl
+  | inr other ↦ rw other refl
+]
+
+-- ---- what building it takes
+
+pub few_numbers : (c : Creation) → IsAllowed c → c.e.next < 2 ^ 63
+few_numbers c may = (let few : c.e.next < 2 ^ 63 - 1 = (room_for c may.room).few in omega arith)
+
+pub small_contents : (c : Creation) → IsAllowed c → is_ty c.ty ContentInstance ≡ true → new_size c < 2 ^ 63
+small_contents c may is = (let small : new_size c ≤ 1048576 = (taking c.parent (new_size c) (takes_it c (room_for c may.room).small is)).size in omega arith)
+
+pub wanted_is : (ty : Ty) (content : Data) (es : List Entry) → attributes_in ty content ≡ Some es → wanted_of ty content ≡ wanted_in es
+wanted_is ty content es named = ap (λ (o : Option (List Entry)). wanted_in (unwrap_or o [])) named
+
+pub last_is_moment : (e : EntityData) → IsSoundEntity e → e.last ≤ last_moment
+last_is_moment e sound = (let most : e.last ≤ last_reading = sound.last in omega arith)

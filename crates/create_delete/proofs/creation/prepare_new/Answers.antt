@@ -1,0 +1,30 @@
+use Rattle.std.proofs.Common.{◌≡◌, true, Option, ap, sym, ◌∙◌, subst}
+use Rattle.resource_model.specs.Resource.{ResourceData}
+use Rattle.tree_model.specs.Tree.{has}
+use Rattle.tree_model.proofs.TreeLemmas.{at_has}
+use Rattle.request_rules.specs.Creation.{Creation, creation_of, new_resource}
+use Rattle.create_delete.specs.Joining.{after_joining, filling_of, MayJoin}
+use Rattle.create_delete.specs.declared.joining.Filling.{Filling}
+use Rattle.create_delete.proofs.CreatedLemmas.{joining_effect, may_join}
+use Rattle.create_delete.proofs.creation.prepare_new.Goals as goal
+
+-- its parent is there
+pub created_content-requires : goal.created_content-requires
+created_content-requires g c =
+    subst (λ (r : ResourceData). has r.parent c.args.entity.now.nodes ≡ true) (sym c.in_ok-resource.ensures)
+    (at_has c.args.parent.now.number c.args.entity.now.nodes c.args.parent.now c.requires.allowed.parent)
+
+-- it may join as it is defined
+pub returns-clause-may : goal.returns-clause-may
+returns-clause-may g c =
+    let made : Creation = creation_of c.args.entity.now c.args.o.now c.args.ty c.args.parent.now c.args.members.now in
+    let joins : MayJoin made.e (new_resource made) (filling_of made) = may_join made c.tell_soundness.ensures c.requires.originator c.entries-entries.ensures.sorted c.requires.allowed in
+    subst (λ (r : ResourceData). MayJoin made.e r c.in_ok-filling.filling) (sym c.in_ok-resource.ensures)
+    (subst (λ (f : Option Filling). MayJoin made.e (new_resource made) f) (sym (c.in_ok-filling.ensures c.args.o.now)) joins)
+
+pub returns-clause-after : goal.returns-clause-after
+returns-clause-after g c =
+    let made : Creation = creation_of c.args.entity.now c.args.o.now c.args.ty c.args.parent.now c.args.members.now in
+    ap (λ (r : ResourceData). after_joining made.e r c.in_ok-filling.filling) c.in_ok-resource.ensures
+    ∙ ap (after_joining made.e (new_resource made)) (c.in_ok-filling.ensures c.args.o.now)
+    ∙ joining_effect c.args.request.now made

@@ -1,0 +1,15 @@
+use Rattle.std.proofs.Common.{sym, ap, subst}
+use Rattle.resource_model.specs.Resource.{ResourceData}
+use Rattle.create_delete.specs.Changing.{nodes_updated}
+use Rattle.create_delete.specs.Newcomer.{IsReplacement}
+use Rattle.create_delete.proofs.ReplacementLemmas.{replacement}
+use Rattle.create_delete.proofs.updating.prepare_by.Goals as goal
+
+pub returns-clause-may : goal.returns-clause-may
+returns-clause-may g c =
+    subst (λ (r : ResourceData). IsReplacement c.args.entity.now r) (sym c.in_ok-updated.ensures)
+    (replacement c.args.entity.now c.args.members.now c.args.resource.now c.tell_soundness.ensures c.entries-entries.ensures.sorted c.requires.allowed)
+
+pub returns-clause-after : goal.returns-clause-after
+returns-clause-after g c =
+    ap (λ (r : ResourceData). record c.args.entity.now { nodes = nodes_updated c.args.entity.now r }) c.in_ok-updated.ensures

@@ -1,0 +1,102 @@
+-- What an operation may change, and by what right (TS-0001, 9.6.2).
+use Rattle.std.specs.Prelude.{◌≡◌, ◌≢◌, ◌⊎◌, ℕ, Bool, false, List, [], ◌∷◌, Some, None}
+use Rattle.std.specs.Prelude.{IfSome, IsTrue, if◌then◌else◌}
+use Rattle.std.specs.List.{list_any}
+use Rattle.m2m_names.specs.Operations.{op_row}
+use Rattle.m2m_names.specs.declared.attributes.Attr.{Attr}
+use Rattle.m2m_names.specs.declared.attributes.Attr.TheVariants.{Acpi, St}
+use Rattle.m2m_names.specs.declared.operations.Op.{Op}
+use Rattle.m2m_names.specs.declared.operations.Op.TheVariants.{Create, Retrieve, Update, Delete}
+use Rattle.m2m_names.specs.declared.operations.Op.TheVariants.{Notify}
+use Rattle.m2m_names.specs.declared.types.Ty.{Ty}
+use Rattle.m2m_names.specs.declared.types.Ty.TheVariants.{Container}
+use Rattle.m2m_value.specs.Sound.{IsSound}
+use Rattle.primitive_json.specs.declared.request.RequestParts.{RequestParts}
+use Rattle.resource_model.specs.Attributes.{value_of}
+use Rattle.resource_model.specs.Resource.{ResourceData, has_number, is_ty}
+use Rattle.tree_model.specs.Tree.{at, is_instance, line_of}
+use Rattle.policy_eval.specs.Alike.{is_attr_in}
+use Rattle.policy_eval.specs.Rights.{relinks}
+use Rattle.entity_model.specs.Entity.{EntityData}
+use Rattle.request_rules.specs.Rights.{is_granted}
+
+-- ---- what is changed
+
+-- a resource that is only in the list after, that is only in the one before, and that differs
+abbrev pub IsNew : List ResourceData → List ResourceData → ResourceData → Type 0
+IsNew before after r = (at r.number before ≡ None) × (at r.number after ≡ Some r)
+
+abbrev pub IsGone : List ResourceData → List ResourceData → ResourceData → Type 0
+IsGone before after r = (at r.number before ≡ Some r) × (at r.number after ≡ None)
+
+pub record IsChanged (before after : List ResourceData) (r s : ResourceData) : Type 0 where
+  pub same : s.number ≡ r.number
+  pub was : at r.number before ≡ Some r
+  pub is : at s.number after ≡ Some s
+  pub differs : s ≢ r
+
+-- The resource differs in nothing but its attributes, its expiry and its last change, and the
+-- policies that it names stay (TS-0001, 10.2.4).
+pub record IsUpdated (r s : ResourceData) : Type 0 where
+  pub rest : s ≡ record r { lt = s.lt; et = s.et; attrs = s.attrs }
+  pub links : value_of Acpi s.attrs ≡ value_of Acpi r.attrs
+
+-- The resource differs in nothing but these attributes and its last change.
+pub record DiffersIn (attrs : List Attr) (r s : ResourceData) : Type 0 where
+  pub rest : s ≡ record r { lt = s.lt; attrs = s.attrs }
+  pub others : (a : Attr) → is_attr_in attrs a ≡ false → value_of a s.attrs ≡ value_of a r.attrs
+
+-- what an Update of `acpi` alone changes: `acpi`, and the state tag that a container has (TS-0001,
+-- 9.6.1.3.2)
+abbrev pub link_attrs : Ty → List Attr
+link_attrs ty = if is_ty ty Container then Acpi ∷ St ∷ [] else Acpi ∷ []
+
+-- what a new instance changes of its container: the state tag (TS-0001, 9.6.6)
+abbrev pub filling_attrs : List Attr
+filling_attrs = St ∷ []
+
+-- ---- by what right
+
+-- A resource that stays was changed by UPDATE, in all but whom it is judged by; or the originator
+-- may change its `acpi`, and that changed; or a new instance stands in it.
+abbrev pub IsChangedByRight :
+    EntityData → List ℕ → EntityData → ResourceData → ResourceData → Type 0
+IsChangedByRight before o after r s =
+    (IsTrue (is_granted before o (op_row Update).bit r.number) × IsUpdated r s)
+    ⊎ ((IsTrue (relinks before.home before.nodes o r.number) × DiffersIn (link_attrs r.ty) r s)
+    ⊎ ((i : ResourceData) × IsNew before.nodes after.nodes i × IsTrue (is_instance r.number i)
+    × DiffersIn filling_attrs r s))
+
+-- the operation may push out instances of the container of the number: by CREATE it adds one, or by
+-- UPDATE it changes the container (TS-0001, 9.6.6)
+abbrev pub may_push_out : Op → EntityData → List ℕ → ℕ → Bool
+may_push_out Create e o n = is_granted e o (op_row Create).bit n
+may_push_out Retrieve e o n = false
+may_push_out Update e o n = is_granted e o (op_row Update).bit n
+may_push_out Delete e o n = false
+may_push_out Notify e o n = false
+
+-- The resource is at or below the target, which the originator may delete, or it is an instance of
+-- the target that the operation may push out.
+abbrev pub IsRemovedByRight : Op → EntityData → List ℕ → ℕ → ResourceData → Type 0
+IsRemovedByRight op before o n r =
+    (IsTrue (list_any (has_number n) (line_of r.number before.nodes))
+    × IsTrue (is_granted before o (op_row Delete).bit n))
+    ⊎ (IsTrue (is_instance n r) × IsTrue (may_push_out op before o n))
+
+-- An operation on the resource of a number changes nothing but by a grant to the originator, in the
+-- entity before it: it creates under a target with CREATE, and changes and removes by right.
+pub record ChangesByRight (op : Op) (before : EntityData) (o : List ℕ) (n : ℕ)
+    (after : EntityData) : Type 0 where
+  pub created : (r : ResourceData) → IsNew before.nodes after.nodes r
+      → (r.parent ≡ n) × IsTrue (is_granted before o (op_row Create).bit n)
+  pub changed : (r s : ResourceData) → IsChanged before.nodes after.nodes r s
+      → IsChangedByRight before o after r s
+  pub removed : (r : ResourceData) → IsGone before.nodes after.nodes r
+      → IsRemovedByRight op before o n r
+
+-- ---- requests
+
+-- the content is a value: its objects have each key once, in order (RFC 8259, section 4)
+abbrev pub HasSoundContent : RequestParts → Type 0
+HasSoundContent request = IfSome request.pc IsSound

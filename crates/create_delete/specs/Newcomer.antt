@@ -1,0 +1,54 @@
+-- What a resource has to be to come last in a sound entity, or to take the place of one (TS-0001,
+-- 9.6).
+use Rattle.std.specs.Prelude.{◌≡◌, ℕ, ◌-◌, ◌^◌, ◌<◌, bytes_eq, true, false, length, option_map}
+use Rattle.std.specs.Prelude.{Some}
+use Rattle.std.specs.Prelude.{IsTrue}
+use Rattle.std.specs.Option.{option_map_or}
+use Rattle.m2m_names.specs.declared.types.Ty.TheVariants.{ContentInstance, PollingChannel}
+use Rattle.resource_model.specs.Resource.{ResourceData, is_ty, cse_id}
+use Rattle.tree_model.specs.Tree.{at, depth, fits_in, has_channel, is_due, instance_size, standing}
+use Rattle.attribute_rules.specs.Kinds.{are_kinds}
+use Rattle.request_rules.specs.Creation.{takes_instance}
+use Rattle.entity_model.specs.Entity.{EntityData}
+use Rattle.entity_model.specs.Sound.{greatest_count, greatest_depth, has_free_name, has_known_ids}
+use Rattle.entity_model.specs.Sound.{has_size, has_state_tag}
+use Rattle.tree_model.specs.Shown.{own_cse_id}
+
+-- It has the next number, which isn't the last one. Its parent is there and takes it, its name, its
+-- AE-ID and its CSE-ID are free, its name addresses nothing else, and its policies are known. No
+-- limit is passed, its attributes are those of its type, a container has its state tag, and it
+-- isn't due yet. What its parent holds besides is said apart.
+pub record IsNewcomer (e : EntityData) (r : ResourceData) : Type 0 where
+  pub number : r.number ≡ e.next
+  pub few : e.next < 2 ^ 63 - 1
+  pub fits : IsTrue (fits_in e.nodes r)
+  pub name : IsTrue (has_free_name r)
+  pub ids : IsTrue (has_known_ids e.next r)
+  pub depth : depth r.parent e.nodes < greatest_depth
+  pub count : length e.nodes < greatest_count
+  pub kinds : IsTrue (are_kinds r)
+  pub tag : IsTrue (has_state_tag r)
+  pub apart : option_map_or (bytes_eq (own_cse_id e.home)) (cse_id r) false ≡ false
+  pub channel : is_ty r.ty PollingChannel ≡ true → has_channel r.parent e.nodes ≡ false
+  pub size : IsTrue (has_size r)
+  pub due : is_due e.nodes e.last r ≡ false
+
+-- What an instance has to be besides: its parent is this container, which takes one of its size;
+-- and this is a state tag, which the container has then (TS-0001, 9.6.6).
+pub record IsFilling (e : EntityData) (r c : ResourceData) (st : ℕ) : Type 0 where
+  pub new : IsNewcomer e r
+  pub instance : IsTrue (is_ty r.ty ContentInstance)
+  pub container : at r.parent e.nodes ≡ Some c
+  pub takes : IsTrue (takes_instance c (instance_size r))
+  pub small : st < 2 ^ 63
+
+-- What may take the place of the resource of its number: that one stands as this does, its policies
+-- are known, its attributes are those of its type, a container has its state tag, and it expires
+-- later. No instance is changed (TS-0001, 10.2.4).
+pub record IsReplacement (e : EntityData) (c : ResourceData) : Type 0 where
+  pub stood : option_map standing (at c.number e.nodes) ≡ Some (standing c)
+  pub ids : IsTrue (has_known_ids e.next c)
+  pub kinds : IsTrue (are_kinds c)
+  pub tag : IsTrue (has_state_tag c)
+  pub plain : is_ty c.ty ContentInstance ≡ false
+  pub later : e.last < c.et

@@ -1,0 +1,181 @@
+//! The resource that a Create makes.
+ghost use Rattle.std.specs.Prelude.{◌≡◌, ◌<◌, ◌^◌, true, IfOk, IsTrue, IsUtf8, OnOk, Some};
+ghost use Rattle.std.specs.Prelude.{pos, unwrap_or};
+ghost use Rattle.m2m_names.specs.Name.{is_originator};
+ghost use Rattle.m2m_names.specs.Stamps.{last_moment};
+ghost use Rattle.m2m_value.specs.Data as json;
+ghost use Rattle.m2m_names.specs.declared.types.Ty.TheVariants.{ContentInstance};
+ghost use Rattle.resource_model.specs.Attributes.{with_value};
+ghost use Rattle.resource_model.specs.Resource.{is_ty};
+ghost use Rattle.attribute_rules.specs.Admission.{attributes_in, is_admitted};
+ghost use Rattle.attribute_rules.specs.declared.table.Writing.TheVariants.{Create};
+ghost use Rattle.tree_model.specs.Shown.{with_rows};
+ghost use Rattle.entity_model.specs.Sound.{IsSoundEntity};
+ghost use Rattle.request_rules.specs.Creation as spec;
+ghost use Rattle.request_rules.specs.Creation.{creation_of};
+ghost use Rattle.request_rules.specs.Policies as policies;
+ghost use Rattle.create_delete.specs.Joining.{IsAllowed};
+
+use attribute_rules::take_wanted;
+use entity_model::Entity;
+use m2m_names::{Attr, LAST_MOMENT, Ty};
+use m2m_value::{Items, Members, Text, Val};
+use request_rules::{listed, new_ae_id, new_name, new_owner, policy_ids, size_named};
+use std::alloc::{AllocError as OutOfMemory, Global};
+use tree_model::{Attrs, Moments, Resource, Tree};
+
+/// That an entity is sound, which is told by its last moment.
+pub(crate) fn tell_soundness<T: Tree>(entity: &Entity<T>)
+    ensures { IsSoundEntity entity.now }
+{
+    let _last = entity.last;
+}
+
+/// The state tag of a resource after one more change.
+pub(crate) fn next_state(resource: &Resource) -> u64
+    ensures value { result ≡ spec.next_state resource.now }
+    ensures bound { result < 2 ^ 63 }
+{
+    let state = resource.attrs().count(Attr::St).unwrap_or(0);
+    (state + 1).min(9_223_372_036_854_775_807)
+}
+
+pub(crate) fn set_count(attrs: &mut Attrs, attr: Attr, n: u64) -> Result<(), OutOfMemory>
+    requires { n < 2 ^ 63 }
+    ensures { OnOk result (attrs.new ≡ with_value attr (json.number (pos n)) attrs.old) }
+{
+    attrs.set(attr, Val::of_num(n as i64))
+}
+
+fn set_text(attrs: &mut Attrs, attr: Attr, text: Text) -> Result<(), OutOfMemory>
+    requires { IsUtf8 text }
+    ensures { OnOk result (attrs.new ≡ with_value attr (json.text text) attrs.old) }
+{
+    attrs.set(attr, Val::of_text(text))
+}
+
+// What the CSE gives a resource of the type besides.
+fn give<T: Tree>(
+    alloc: Global,
+    entity: &Entity<T>,
+    o: &[u8],
+    ty: Ty,
+    parent: &Resource,
+    members: &Members,
+    attrs: &mut Attrs,
+) -> Result<(), OutOfMemory>
+    requires originator { IsTrue (is_originator o.now) }
+    requires size { is_ty ty ContentInstance ≡ true → spec.size_named members.now < 2 ^ 63 }
+    ensures { OnOk result (attrs.new ≡ with_rows (spec.given_rows ty
+        (creation_of entity.now o.now ty parent.now members.now)) attrs.old) }
+{
+    match ty {
+        Ty::Ae => set_text(attrs, Attr::Aei, new_ae_id(alloc, o, entity.next)?),
+        Ty::Container => set_count(attrs, Attr::St, 0),
+        Ty::ContentInstance => {
+            set_count(attrs, Attr::Cs, size_named(members))?;
+            set_count(attrs, Attr::St, next_state(parent))
+        }
+        _ => Ok(()),
+    }
+}
+
+fn originator_text(alloc: Global, o: &[u8]) -> Result<Text, OutOfMemory>
+    requires { IsTrue (is_originator o.now) }
+    ensures value { IfOk result (λ t. t ≡ o.now) }
+    ensures utf8 { IfOk result (λ t. IsUtf8 t) }
+{
+    Text::from_slice(alloc, o)
+}
+
+// The originator, where `cr` asks for it.
+fn sign(alloc: Global, o: &[u8], members: &Members, attrs: &mut Attrs) -> Result<(), OutOfMemory>
+    requires { IsTrue (is_originator o.now) }
+    ensures { OnOk result (attrs.new ≡ with_rows
+        (spec.creator_rows o.now members.now) attrs.old) }
+{
+    if members.get(Attr::Cr.short().as_bytes()).is_none() {
+        return Ok(());
+    }
+    set_text(attrs, Attr::Cr, originator_text(alloc, o)?)
+}
+
+// The policies that an attribute names, by their resource ids.
+pub(crate) fn link<T: Tree>(
+    alloc: Global,
+    entity: &Entity<T>,
+    members: &Members,
+    attr: Attr,
+    attrs: &mut Attrs,
+) -> Result<(), OutOfMemory>
+    ensures { OnOk result (attrs.new ≡ with_rows
+        (policies.link_row entity.now members.now attr) attrs.old) }
+{
+    let values = listed(attr, members);
+    if values.is_empty() {
+        return Ok(());
+    }
+    let ids = policy_ids(alloc, entity, values)?;
+    attrs.set(attr, Val::of_list(Items::of(ids)))
+}
+
+// All that it keeps beside what the content gives it.
+fn fill<T: Tree>(
+    alloc: Global,
+    entity: &Entity<T>,
+    o: &[u8],
+    ty: Ty,
+    parent: &Resource,
+    members: &Members,
+    attrs: &mut Attrs,
+) -> Result<(), OutOfMemory>
+    requires originator { IsTrue (is_originator o.now) }
+    requires size { is_ty ty ContentInstance ≡ true → spec.size_named members.now < 2 ^ 63 }
+    ensures { OnOk result (attrs.new ≡ with_rows (spec.rows_besides
+        (creation_of entity.now o.now ty parent.now members.now)) attrs.old) }
+{
+    give(alloc, entity, o, ty, parent, members, attrs)?;
+    sign(alloc, o, members, attrs)?;
+    link(alloc, entity, members, Attr::Acpi, attrs)?;
+    link(alloc, entity, members, Attr::Macp, attrs)?;
+    Ok(())
+}
+
+fn moments_at(moment: u64, et: Option<u64>) -> Moments
+    ensures { result ≡ record { ct = moment; lt = moment; et = unwrap_or et last_moment } }
+{
+    Moments {
+        ct: moment,
+        lt: moment,
+        et: et.unwrap_or(LAST_MOMENT),
+    }
+}
+
+/// The resource that a creation makes which no place refuses, whose content names these attributes.
+#[tactic(auto, using(crate::proofs::CreatedLemmas::few_numbers, crate::proofs::CreatedLemmas::small_contents, crate::proofs::CreatedLemmas::wanted_is, crate::proofs::CreatedLemmas::last_is_moment))]
+pub(crate) fn new_resource<T: Tree>(
+    alloc: Global,
+    entity: &Entity<T>,
+    o: &[u8],
+    ty: Ty,
+    parent: &Resource,
+    content: &Val,
+    members: &Members,
+) -> Result<Resource, OutOfMemory>
+    requires originator { IsTrue (is_originator o.now) }
+    requires admitted { IsTrue (is_admitted Create ty content.now) }
+    requires named { attributes_in ty content.now ≡ Some members.now }
+    requires allowed { IsAllowed (creation_of entity.now o.now ty parent.now members.now) }
+    ensures { IfOk result (λ r.
+        r ≡ spec.new_resource (creation_of entity.now o.now ty parent.now members.now)) }
+{
+    let wanted = take_wanted(alloc, ty, content.copy(alloc)?)?;
+    let moments = moments_at(entity.last, wanted.et);
+    let name = new_name(alloc, ty, entity.next, wanted.name)?;
+    let owner = new_owner(alloc, o, ty, entity.next)?;
+    let mut attrs = wanted.attrs;
+    fill(alloc, entity, o, ty, parent, members, &mut attrs)?;
+    let number = entity.next;
+    let parent = parent.number();
+    Ok(Resource::of(number, ty, name, parent, owner, moments, attrs))
+}

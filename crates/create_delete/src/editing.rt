@@ -1,0 +1,134 @@
+//! The resource that an Update leaves.
+ghost use Rattle.std.specs.Prelude.{◌≡◌, ◌≤◌, IfOk, IsTrue, OnOk, Some};
+ghost use Rattle.m2m_names.specs.Stamps.{last_moment};
+ghost use Rattle.m2m_names.specs.declared.attributes.Attr.TheVariants.{Et};
+ghost use Rattle.resource_model.specs.Attributes as rows;
+ghost use Rattle.attribute_rules.specs.Admission.{attributes_in, is_admitted};
+ghost use Rattle.attribute_rules.specs.Contents as contents;
+ghost use Rattle.attribute_rules.specs.declared.table.Writing.TheVariants.{Update};
+ghost use Rattle.tree_model.specs.Shown.{with_rows};
+ghost use Rattle.create_delete.specs.Changing as spec;
+
+use crate::building::{link, next_state, set_count};
+use attribute_rules::{Edit, take_edit};
+use entity_model::Entity;
+use m2m_names::{Attr, LAST_MOMENT, Ty};
+use m2m_value::{Members, Val};
+use request_rules::named_expiry;
+use resource_model::AttrSet;
+use std::alloc::{AllocError as OutOfMemory, Global};
+use tree_model::{Attrs, Moments, Resource, Tree};
+
+fn is_expiry(attr: Attr) -> bool
+    ensures { result ≡ rows.is_attr attr Et }
+{
+    attr.order(Attr::Et).is_eq()
+}
+
+fn set_all(sets: Attrs, attrs: &mut Attrs) -> Result<(), OutOfMemory>
+    ensures { OnOk result (attrs.new ≡ contents.set_all sets attrs.old) }
+{
+    for (attr, value) in sets.into_vec() {
+        if !is_expiry(attr) {
+            attrs.set(attr, value)?;
+        }
+    }
+    Ok(())
+}
+
+fn clear_all(clears: AttrSet, attrs: &mut Attrs)
+    ensures { attrs.new ≡ contents.clear_all clears attrs.old }
+{
+    for attr in clears.into_vec() {
+        attrs.clear(attr);
+    }
+}
+
+// Does to attributes what an update says; the moment of expiry is kept beside them.
+fn edit(edit: Edit, attrs: &mut Attrs) -> Result<(), OutOfMemory>
+    ensures { OnOk result (attrs.new ≡ contents.edited edit attrs.old) }
+{
+    set_all(edit.sets, attrs)?;
+    clear_all(edit.clears, attrs);
+    Ok(())
+}
+
+// A container counts its changes.
+fn count_change(resource: &Resource, attrs: &mut Attrs) -> Result<(), OutOfMemory>
+    ensures { OnOk result (attrs.new ≡ with_rows (spec.state_row resource.now) attrs.old) }
+{
+    if resource.is(Ty::Container) {
+        set_count(attrs, Attr::St, next_state(resource))
+    } else {
+        Ok(())
+    }
+}
+
+// The attributes after an update whose content is admitted and names these.
+#[tactic(auto, using(crate::proofs::RowLemmas::edited_in_turn))]
+fn updated_attrs<T: Tree>(
+    alloc: Global,
+    entity: &Entity<T>,
+    resource: &Resource,
+    content: &Val,
+    members: &Members,
+) -> Result<Attrs, OutOfMemory>
+    requires admitted { IsTrue (is_admitted Update resource.now.ty content.now) }
+    requires named { attributes_in resource.now.ty content.now ≡ Some members.now }
+    ensures { IfOk result (λ a.
+        a ≡ (spec.updated_resource entity.now members.now resource.now).attrs) }
+{
+    let mut attrs = resource.attrs().copy(alloc)?;
+    edit(
+        take_edit(alloc, resource.ty(), content.copy(alloc)?)?,
+        &mut attrs,
+    )?;
+    count_change(resource, &mut attrs)?;
+    link(alloc, entity, members, Attr::Acpi, &mut attrs)?;
+    link(alloc, entity, members, Attr::Macp, &mut attrs)?;
+    Ok(attrs)
+}
+
+// The moment of expiry after an update that names these attributes.
+fn expiry_after(members: &Members, et: u64) -> u64
+    requires { et ≤ last_moment }
+    ensures value { result ≡ spec.expiry_after members.now et }
+    ensures bound { result ≤ last_moment }
+{
+    match members.get(Attr::Et.short().as_bytes()) {
+        Some(_) => named_expiry(members).unwrap_or(LAST_MOMENT),
+        None => et,
+    }
+}
+
+/// The resource after an update whose content is admitted and names these attributes.
+#[tactic(auto, using(crate::proofs::CreatedLemmas::last_is_moment))]
+pub(crate) fn updated_resource<T: Tree>(
+    alloc: Global,
+    entity: &Entity<T>,
+    resource: &Resource,
+    content: &Val,
+    members: &Members,
+) -> Result<Resource, OutOfMemory>
+    requires admitted { IsTrue (is_admitted Update resource.now.ty content.now) }
+    requires named { attributes_in resource.now.ty content.now ≡ Some members.now }
+    ensures { IfOk result (λ r. r ≡ spec.updated_resource entity.now members.now resource.now) }
+{
+    let name = resource.name().copy(alloc)?;
+    let owner = resource.owner().copy(alloc)?;
+    let attrs = updated_attrs(alloc, entity, resource, content, members)?;
+    let moments = Moments {
+        ct: resource.ct(),
+        lt: entity.last,
+        et: expiry_after(members, resource.et()),
+    };
+    Ok(Resource::of(
+        resource.number(),
+        resource.ty(),
+        name,
+        resource.parent(),
+        owner,
+        moments,
+        attrs,
+    ))
+}
