@@ -1,5 +1,5 @@
 -- What an Update leaves of the attributes, by whether it is of `acpi` alone.
-use Rattle.std.proofs.Common.{◌≡◌, ◌≢◌, ℕ, List, [], ◌∷◌, Bool, true, false, not, ◌||◌, Option, Some, None, is_some, IfSome, option_and_then, if◌then◌else◌, bytes_eq, inl, inr, refl, sym, ap, ◌∙◌, subst}
+use Rattle.std.proofs.Common.{◌≡◌, ◌≢◌, ℕ, List, [], ◌∷◌, Bool, true, false, not, ◌||◌, Option, Some, None, is_some, option_and_then, if◌then◌else◌, bytes_eq, inl, inr, refl, sym, ap, ◌∙◌, subst}
 use Rattle.std.proofs.lemmas.Bool.{cases_Bool, and_parts, or_parts, both_ways, false_from_ne_true}
 use Rattle.std.proofs.lemmas.Option.{same_Some}
 use Rattle.std.specs.Option.{option_map_or}
@@ -9,10 +9,9 @@ use Rattle.m2m_names.specs.declared.attributes.Attr.{Attr}
 use Rattle.m2m_names.specs.declared.attributes.Attr.TheVariants.{Acpi, Macp, Mbs, Mia, Mni, St}
 use Rattle.m2m_names.specs.declared.types.Ty.{Ty}
 use Rattle.m2m_names.specs.declared.types.Ty.TheVariants.{Container}
-use Rattle.m2m_value.specs.Data.{Data, null, boolean, number, text, list, object, Pairs, no_pairs, pair, Entry}
+use Rattle.m2m_value.specs.Data.{Data, Entry}
 use Rattle.m2m_value.specs.Node.{AreSorted}
-use Rattle.m2m_value.specs.Sound.{IsSound, pair_keys}
-use Rattle.m2m_value.specs.View.{as_object, entries, member_of}
+use Rattle.m2m_value.specs.View.{as_object, member_of}
 use Rattle.primitive_json.specs.declared.request.RequestParts.{RequestParts}
 use Rattle.resource_model.specs.Attributes.{Row, is_attr, value_of}
 use Rattle.resource_model.specs.Resource.{ResourceData, is_ty}
@@ -29,49 +28,10 @@ use Rattle.request_rules.specs.Policies.{link_row}
 use Rattle.request_rules.specs.Requests.{content_for}
 use Rattle.request_rules.specs.Rights.{is_link, is_relink, only_member, sole}
 use Rattle.create_delete.specs.Changing.{updated_resource}
-use Rattle.create_delete.specs.Guard.{DiffersIn, HasSoundContent, IsUpdated, link_attrs}
+use Rattle.create_delete.specs.Guard.{DiffersIn, IsUpdated, link_attrs}
 use Rattle.create_delete.proofs.NewcomerLemmas.{lacks_link}
 use Rattle.create_delete.proofs.RowLemmas.{lacks_attr}
 use Rattle.create_delete.proofs.UpdatedRowLemmas.{as_edited, lacks_state}
-use Rattle.std.specs.Cmp.Lexicographic.{slice_cmp}
-use Rattle.std.specs.List.Sorted.{IsStrictlySortedBy}
-use Rattle.std.specs.Map.{keys_of}
-use Rattle.std.specs.Ordering.{nat_cmp}
-
--- ---- what a content names stands in order
-
-keys_are : (ps : Pairs) → pair_keys ps ≡ keys_of (entries ps)
-keys_are no_pairs = refl
-keys_are (pair k d ps) = ap (λ (ks : List (List ℕ)). k ∷ ks) (keys_are ps)
-
-sorted_object : (d : Data) (es : List Entry) → IsSound d → as_object d ≡ Some es → AreSorted es
-sorted_object null es sound is = cc
-sorted_object (boolean b) es sound is = cc
-sorted_object (number z) es sound is = cc
-sorted_object (text s) es sound is = cc
-sorted_object (list ds) es sound is = cc
-sorted_object (object ps) es sound is =
-    subst AreSorted (same_Some (entries ps) es is) (subst (IsStrictlySortedBy (slice_cmp nat_cmp)) (keys_are ps) sound.0)
-
-sorted_only : (name : List ℕ) (content : Data) (es : List Entry) → IsSound content → option_and_then as_object (option_and_then (only_value name) (as_object content)) ≡ Some es → AreSorted es
-sorted_only name null es sound is = cc
-sorted_only name (boolean b) es sound is = cc
-sorted_only name (number z) es sound is = cc
-sorted_only name (text s) es sound is = cc
-sorted_only name (list ds) es sound is = cc
-sorted_only name (object no_pairs) es sound is = cc
-sorted_only name (object (pair k d no_pairs)) es sound is = elim (cases_Bool (bytes_eq k name)) [
-  | inl t ↦ sorted_object d es sound.2.0 (rw t at is)
-  | inr f ↦ (let none : None ≡ Some es = rw f at is in cc)
-]
-sorted_only name (object (pair k d (pair l f ps))) es sound is = cc
-
-pub names_in_order : (request : RequestParts) (ty : Ty) (es : List Entry) → HasSoundContent request → content_for request ty ≡ Some es → AreSorted es
-names_in_order request ty es sound whole = by_content request.pc sound whole
-  where
-    by_content : (pc : Option Data) → IfSome pc IsSound → option_and_then (attributes_in ty) pc ≡ Some es → AreSorted es
-    by_content None sound is = cc
-    by_content (Some content) sound is = sorted_only (ty_member ty) content es sound is
 
 -- ---- `acpi` alone
 

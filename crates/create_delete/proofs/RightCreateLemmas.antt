@@ -35,7 +35,7 @@ use Rattle.request_rules.specs.Requests.{child_ty, content_for}
 use Rattle.request_rules.specs.Rights.{create_bits, is_granted, is_subscribing, may_do}
 use Rattle.request_rules.proofs.OrderLemmas.{all_hold, found_at, nothing_on}
 use Rattle.create_delete.specs.Changing.{create_effect, is_numbered_in, performed_at, without_all}
-use Rattle.create_delete.specs.Guard.{ChangesByRight, DiffersIn, filling_attrs, HasSoundContent, IsChanged, IsChangedByRight, IsGone, IsNew}
+use Rattle.create_delete.specs.Guard.{ChangesByRight, DiffersIn, filling_attrs, NamesInOrder, IsChanged, IsChangedByRight, IsGone, IsNew}
 use Rattle.create_delete.specs.Joining.{after_joining, filling_of, IsAllowed, with_newcomer, MayJoin}
 use Rattle.create_delete.specs.Newcomer.{IsFilling, IsNewcomer}
 use Rattle.create_delete.specs.declared.joining.Filling.{Filling}
@@ -47,7 +47,6 @@ use Rattle.create_delete.proofs.JoiningLemmas.{filling_sound}
 use Rattle.create_delete.proofs.KeptLemmas.{all_filtered, is_not_kept}
 use Rattle.create_delete.proofs.LeftLemmas.{instances_left, is_left, left_at, IsLeft}
 use Rattle.create_delete.proofs.PerformedLemmas.{done_at}
-use Rattle.create_delete.proofs.RelinkLemmas.{names_in_order}
 use Rattle.create_delete.proofs.ReplacedLemmas.{replaced_by}
 
 -- ---- the right
@@ -263,7 +262,7 @@ pub record IsCreate (e : EntityData) (o : List ℕ) (request : RequestParts) (n 
   pub right : is_granted made.e made.o (op_row Create).bit made.parent.number ≡ true
   pub after : (performed_at Create e o request n).after ≡ (create_effect request made).after
 
-module _ (e : EntityData) (o : List ℕ) (request : RequestParts) (n : ℕ) (content : HasSoundContent request) (none : fault_at Create e o request n ≡ None) where
+module _ (e : EntityData) (o : List ℕ) (request : RequestParts) (n : ℕ) (content : NamesInOrder request) (none : fault_at Create e o request n ≡ None) where
   create_of : (t : ResourceData) → at n e.nodes ≡ Some t → fault_on Create e o request t ≡ None → (ty : Ty) → child_ty request ≡ Some ty → (es : List Entry) → content_for request ty ≡ Some es → IsCreate e o request n
   create_of t stands fault ty child es whole =
       let number : t.number ≡ n = at_number n e.nodes t stands in
@@ -272,7 +271,7 @@ module _ (e : EntityData) (o : List ℕ) (request : RequestParts) (n : ℕ) (con
         entity = refl;
         originator = refl;
         parent = number;
-        sorted = names_in_order request ty es content whole;
+        sorted = content ty es whole;
         may = by_content request.pc refl (ap (λ (m : ℕ). at m e.nodes) number ∙ stands);
         right = creates_by e o request t.number (and_parts (may_do Create e o request t.number) _ (all_hold (places Create e o request t) fault)).0;
         after =
@@ -299,7 +298,7 @@ module _ (e : EntityData) (o : List ℕ) (request : RequestParts) (n : ℕ) (con
       by_type found.0 found.1 (nothing_on Create e o request n found.0 found.1 none) (child_ty request) refl
 
 -- its resource joins
-module _ (e : EntityData) (o : List ℕ) (request : RequestParts) (n : ℕ) (sound : IsSoundEntity e) (originator : is_originator o ≡ true) (content : HasSoundContent request) (none : fault_at Create e o request n ≡ None) where
+module _ (e : EntityData) (o : List ℕ) (request : RequestParts) (n : ℕ) (sound : IsSoundEntity e) (originator : is_originator o ≡ true) (content : NamesInOrder request) (none : fault_at Create e o request n ≡ None) where
   create : IsCreate e o request n
   create = is_create e o request n content none
 

@@ -17,7 +17,7 @@ use Rattle.entity_model.proofs.SoundLemmas.{sound_removed}
 use Rattle.request_rules.specs.Order.{fault_at}
 use Rattle.request_rules.proofs.OrderLemmas.{found_at}
 use Rattle.create_delete.specs.Changing.{nodes_updated, performed_at, pushed_by, pushed_out, without_all}
-use Rattle.create_delete.specs.Guard.{ChangesByRight, HasSoundContent}
+use Rattle.create_delete.specs.Guard.{ChangesByRight, NamesInOrder}
 use Rattle.create_delete.specs.Newcomer.{IsReplacement}
 use Rattle.create_delete.proofs.DeletionLemmas.{deletable, deletable_spared, deletion_keeps, deletion_takes, delete_done}
 use Rattle.create_delete.proofs.LeftLemmas.{instances_left}
@@ -66,7 +66,7 @@ delete_sound e o request n sound none =
 
 -- ---- each operation
 
-module _ (e : EntityData) (o : List ℕ) (request : RequestParts) (n : ℕ) (sound : IsSoundEntity e) (originator : is_originator o ≡ true) (content : HasSoundContent request) where
+module _ (e : EntityData) (o : List ℕ) (request : RequestParts) (n : ℕ) (sound : IsSoundEntity e) (originator : is_originator o ≡ true) (content : NamesInOrder request) where
   done_by_right : (op : Op) → fault_at op e o request n ≡ None → ChangesByRight op e o n (performed_at op e o request n).after
   done_by_right Create none = create_by_right e o request n sound originator content none
   done_by_right Retrieve none = subst (ChangesByRight Retrieve e o n) (sym (retrieve_same e o request n none)) (unchanged Retrieve e o n)
@@ -89,10 +89,10 @@ module _ (e : EntityData) (o : List ℕ) (request : RequestParts) (n : ℕ) (sou
   sound_by_fault op None none = done_sound op none
   sound_by_fault op (Some f) is = subst IsSoundEntity (sym (refused_after op e o request n f is)) sound
 
-pub changes_by_right : (op : Op) (e : EntityData) (o : List ℕ) (request : RequestParts) (n : ℕ) → IsSoundEntity e → is_originator o ≡ true → HasSoundContent request → ChangesByRight op e o n (performed_at op e o request n).after
+pub changes_by_right : (op : Op) (e : EntityData) (o : List ℕ) (request : RequestParts) (n : ℕ) → IsSoundEntity e → is_originator o ≡ true → NamesInOrder request → ChangesByRight op e o n (performed_at op e o request n).after
 changes_by_right op e o request n sound originator content = by_fault e o request n sound originator content op (fault_at op e o request n) refl
 
-pub stays_sound : (op : Op) (e : EntityData) (o : List ℕ) (request : RequestParts) (n : ℕ) → IsSoundEntity e → is_originator o ≡ true → HasSoundContent request → IsSoundEntity (performed_at op e o request n).after
+pub stays_sound : (op : Op) (e : EntityData) (o : List ℕ) (request : RequestParts) (n : ℕ) → IsSoundEntity e → is_originator o ≡ true → NamesInOrder request → IsSoundEntity (performed_at op e o request n).after
 stays_sound op e o request n sound originator content = sound_by_fault e o request n sound originator content op (fault_at op e o request n) refl
 
 -- ---- a container after an update

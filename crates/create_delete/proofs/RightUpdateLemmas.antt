@@ -23,13 +23,13 @@ use Rattle.request_rules.specs.Requests.{content_for, named_by}
 use Rattle.request_rules.specs.Rights.{is_granted, is_relink, may_do, may_update}
 use Rattle.request_rules.proofs.OrderLemmas.{all_hold, found_at, nothing_on}
 use Rattle.create_delete.specs.Changing.{nodes_updated, performed_at, pushed_by, pushed_out, update_effect, updated_resource, without_all}
-use Rattle.create_delete.specs.Guard.{ChangesByRight, DiffersIn, HasSoundContent, IsChanged, IsChangedByRight, IsGone, IsNew, IsRemovedByRight, link_attrs}
+use Rattle.create_delete.specs.Guard.{ChangesByRight, DiffersIn, NamesInOrder, IsChanged, IsChangedByRight, IsGone, IsNew, IsRemovedByRight, link_attrs}
 use Rattle.create_delete.specs.Newcomer.{IsReplacement}
 use Rattle.create_delete.specs.Updating.{IsUpdatable}
 use Rattle.create_delete.proofs.LeftLemmas.{all_left, is_left, pushes_nothing, IsLeft}
 use Rattle.create_delete.proofs.PerformedLemmas.{done_at}
 use Rattle.create_delete.proofs.PushingLemmas.{nothing_removed}
-use Rattle.create_delete.proofs.RelinkLemmas.{limits_kept, links_stay, names_in_order, names_link, names_no_link, relinked}
+use Rattle.create_delete.proofs.RelinkLemmas.{limits_kept, links_stay, names_link, names_no_link, relinked}
 use Rattle.create_delete.proofs.ReplacedLemmas.{replaced_by, still_there}
 use Rattle.create_delete.proofs.ReplacementLemmas.{replacement}
 use Rattle.create_delete.proofs.UpdatableLemmas.{updatable, updates_attributes, updates_content}
@@ -173,7 +173,7 @@ pub record IsUpdate (e : EntityData) (o : List ℕ) (request : RequestParts) (n 
   pub right : may_update e o request target.number ≡ true
   pub after : (performed_at Update e o request n).after ≡ updated_in e (updated_resource e es target)
 
-module _ (e : EntityData) (o : List ℕ) (request : RequestParts) (n : ℕ) (content : HasSoundContent request) (none : fault_at Update e o request n ≡ None) where
+module _ (e : EntityData) (o : List ℕ) (request : RequestParts) (n : ℕ) (content : NamesInOrder request) (none : fault_at Update e o request n ≡ None) where
   update_of : (t : ResourceData) → at n e.nodes ≡ Some t → fault_on Update e o request t ≡ None → (es : List Entry) → content_for request t.ty ≡ Some es → IsUpdate e o request n
   update_of t there fault es whole =
       let number : t.number ≡ n = at_number n e.nodes t there in
@@ -182,7 +182,7 @@ module _ (e : EntityData) (o : List ℕ) (request : RequestParts) (n : ℕ) (con
         target = t;
         number = number;
         es = es;
-        sorted = names_in_order request t.ty es content whole;
+        sorted = content t.ty es whole;
         may = by_content request.pc refl (ap (λ (m : ℕ). at m e.nodes) number ∙ there);
         whole = whole;
         right = (and_parts (may_do Update e o request t.number) _ (all_hold (places Update e o request t) fault)).0;
@@ -204,14 +204,14 @@ module _ (e : EntityData) (o : List ℕ) (request : RequestParts) (n : ℕ) (con
       let found = found_at Update e o request n none in
       by_names found.0 found.1 (nothing_on Update e o request n found.0 found.1 none) (content_for request found.0.ty) refl
 
-pub update_by_right : (e : EntityData) (o : List ℕ) (request : RequestParts) (n : ℕ) → IsSoundEntity e → HasSoundContent request → fault_at Update e o request n ≡ None → ChangesByRight Update e o n (performed_at Update e o request n).after
+pub update_by_right : (e : EntityData) (o : List ℕ) (request : RequestParts) (n : ℕ) → IsSoundEntity e → NamesInOrder request → fault_at Update e o request n ≡ None → ChangesByRight Update e o n (performed_at Update e o request n).after
 update_by_right e o request n sound content none =
     let u = is_update e o request n content none in
     subst (ChangesByRight Update e o n) (sym u.after)
     (subst (λ (m : ℕ). ChangesByRight Update e o m (updated_in e (updated_resource e u.es u.target))) u.number
     (updated_by_right e sound o request u.target u.es u.sorted u.may u.whole u.right))
 
-pub update_sound : (e : EntityData) (o : List ℕ) (request : RequestParts) (n : ℕ) → IsSoundEntity e → HasSoundContent request → fault_at Update e o request n ≡ None → IsSoundEntity (performed_at Update e o request n).after
+pub update_sound : (e : EntityData) (o : List ℕ) (request : RequestParts) (n : ℕ) → IsSoundEntity e → NamesInOrder request → fault_at Update e o request n ≡ None → IsSoundEntity (performed_at Update e o request n).after
 update_sound e o request n sound content none =
     let u = is_update e o request n content none in
     subst IsSoundEntity (sym u.after) (updated_sound e sound o request u.target u.es u.sorted u.may u.whole u.right)

@@ -1,6 +1,6 @@
 -- What an operation may change, and by what right (TS-0001, 9.6.2).
 use Rattle.std.specs.Prelude.{◌≡◌, ◌≢◌, ◌⊎◌, ℕ, Bool, false, List, [], ◌∷◌, Some, None}
-use Rattle.std.specs.Prelude.{IfSome, IsTrue, if◌then◌else◌}
+use Rattle.std.specs.Prelude.{IsTrue, if◌then◌else◌}
 use Rattle.std.specs.List.{list_any}
 use Rattle.m2m_names.specs.Operations.{op_row}
 use Rattle.m2m_names.specs.declared.attributes.Attr.{Attr}
@@ -10,7 +10,8 @@ use Rattle.m2m_names.specs.declared.operations.Op.TheVariants.{Create, Retrieve,
 use Rattle.m2m_names.specs.declared.operations.Op.TheVariants.{Notify}
 use Rattle.m2m_names.specs.declared.types.Ty.{Ty}
 use Rattle.m2m_names.specs.declared.types.Ty.TheVariants.{Container}
-use Rattle.m2m_value.specs.Sound.{IsSound}
+use Rattle.m2m_value.specs.Data.{Entry}
+use Rattle.m2m_value.specs.Node.{AreSorted}
 use Rattle.primitive_json.specs.declared.request.RequestParts.{RequestParts}
 use Rattle.resource_model.specs.Attributes.{value_of}
 use Rattle.resource_model.specs.Resource.{ResourceData, has_number, is_ty}
@@ -18,6 +19,7 @@ use Rattle.tree_model.specs.Tree.{at, is_instance, line_of}
 use Rattle.policy_eval.specs.Alike.{is_attr_in}
 use Rattle.policy_eval.specs.Rights.{relinks}
 use Rattle.entity_model.specs.Entity.{EntityData}
+use Rattle.request_rules.specs.Requests.{content_for}
 use Rattle.request_rules.specs.Rights.{is_granted}
 
 -- ---- what is changed
@@ -97,6 +99,8 @@ pub record ChangesByRight (op : Op) (before : EntityData) (o : List ℕ) (n : �
 
 -- ---- requests
 
--- the content is a value: its objects have each key once, in order (RFC 8259, section 4)
-abbrev pub HasSoundContent : RequestParts → Type 0
-HasSoundContent request = IfSome request.pc IsSound
+-- the attributes that its content names stand in the order of their names, each once (RFC 8259,
+-- section 4)
+abbrev pub NamesInOrder : RequestParts → Type 0
+NamesInOrder request =
+    (ty : Ty) (es : List Entry) → content_for request ty ≡ Some es → AreSorted es

@@ -10,7 +10,7 @@ ghost use Rattle.container_limits.specs.Limits.{evicted, kept, limits_of};
 ghost use Rattle.entity_model.specs.Entity.{EntityData};
 ghost use Rattle.entity_model.specs.Sound.{IsSoundEntity};
 ghost use Rattle.create_delete.specs.Changing.{nodes_updated, performed_at, without_all};
-ghost use Rattle.create_delete.specs.Guard.{ChangesByRight, HasSoundContent};
+ghost use Rattle.create_delete.specs.Guard.{ChangesByRight, NamesInOrder};
 ghost use Rattle.create_delete.specs.Newcomer.{IsFilling, IsReplacement};
 
 /// Of a sound entity an operation on a resource changes nothing but by a grant to the originator,
@@ -21,14 +21,14 @@ ghost use Rattle.create_delete.specs.Newcomer.{IsFilling, IsReplacement};
 /// operation adds with CREATE, or which it changes with UPDATE.
 pub fn nothing_is_changed_without_a_grant()
     ensures { (op : Op) (e : EntityData) (o : List ℕ) (request : RequestParts) (n : ℕ)
-        → IsSoundEntity e → IsTrue (is_originator o) → HasSoundContent request
+        → IsSoundEntity e → IsTrue (is_originator o) → NamesInOrder request
         → ChangesByRight op e o n (performed_at op e o request n).after }
 {}
 
 /// A sound entity stays sound under each operation.
 pub fn an_entity_stays_sound()
     ensures { (op : Op) (e : EntityData) (o : List ℕ) (request : RequestParts) (n : ℕ)
-        → IsSoundEntity e → IsTrue (is_originator o) → HasSoundContent request
+        → IsSoundEntity e → IsTrue (is_originator o) → NamesInOrder request
         → IsSoundEntity (performed_at op e o request n).after }
 {}
 
