@@ -1,28 +1,47 @@
 -- What comes of a request that may change an entity.
-use Rattle.std.specs.Prelude.{Contains}
+use Rattle.std.specs.Prelude.{Contains, ℤ, pos, ◌++◌, map, codes, unwrap_or}
 use Rattle.std.proofs.Common.{◌≡◌, ℕ, ◌≤◌, List, [], ◌∷◌, Bool, true, false, not, Option, Some, None, inl, inr, refl, sym, ap, subst, ◌∙◌, arith}
 use Rattle.std.proofs.lemmas.Bool.{and_parts, cases_Bool, not-true, true≢false}
 use Rattle.std.proofs.lemmas.Option.{same_Some, none-some}
 use Rattle.std.specs.List.{list_all}
 use Rattle.std.specs.Option.{option_map_or}
+use Rattle.std.specs.Ordering.{int_eq}
+use Rattle.std.proofs.lemmas.List.{append-nil}
+use Rattle.m2m_names.specs.Name.{is_originator}
+use Rattle.m2m_names.specs.Operations.{op_row}
+use Rattle.m2m_names.specs.Types.{ty_member}
+use Rattle.m2m_names.specs.declared.types.Ty.{Ty}
 use Rattle.m2m_names.specs.declared.codes.Rsc.{Rsc}
-use Rattle.m2m_names.specs.declared.codes.Rsc.TheVariants.{Deleted, NoPrivilege, NotFound}
+use Rattle.m2m_names.specs.declared.codes.Rsc.TheVariants.{BadChild, Created, Deleted, NoPrivilege, NotFound, Updated}
 use Rattle.m2m_names.specs.declared.operations.Op.{Op}
-use Rattle.m2m_names.specs.declared.operations.Op.TheVariants.{Delete}
+use Rattle.m2m_names.specs.declared.operations.Op.TheVariants.{Create, Update, Delete}
+use Rattle.m2m_value.specs.Data.{Data, object, text, pairs_of, Entry}
+use Rattle.m2m_value.specs.View.{entries, member_of}
+use Rattle.m2m_value.proofs.Levels.{entries-pairs_of}
 use Rattle.primitive_json.specs.declared.reply.ReplyParts.{ReplyParts}
 use Rattle.primitive_json.specs.declared.request.RequestParts.{RequestParts}
-use Rattle.resource_model.specs.Resource.{ResourceData, has_number}
+use Rattle.resource_model.specs.Resource.{ResourceData}
+use Rattle.resource_model.specs.Attributes.{Row}
+use Rattle.tree_model.specs.Shown.{members_of, shown_rows, wrapped}
 use Rattle.tree_model.specs.Tree.{at}
+use Rattle.addressing.specs.Names.{structured_of}
 use Rattle.entity_model.specs.Entity.{EntityData}
 use Rattle.entity_model.specs.Places.{Effect, Place, first_fault, refusal, refused, answering, reply_to}
 use Rattle.entity_model.specs.Sound.{IsSoundEntity}
-use Rattle.entity_model.proofs.SoundLemmas.{sound_removed}
 use Rattle.request_rules.specs.Order.{fault_at, fault_on, places}
-use Rattle.request_rules.specs.Rights.{is_subscribing, may_do}
+use Rattle.request_rules.specs.Creation.{new_resource}
+use Rattle.request_rules.specs.Order.{creation_by}
+use Rattle.request_rules.specs.Requests.{child_ty, named_by}
+use Rattle.request_rules.specs.Rights.{is_granted, is_subscribing, may_do}
 use Rattle.retrieve_discover.specs.Guard.{OthersAreShownByRight}
-use Rattle.create_delete.specs.Changing.{delete_effect, performed, performed_at}
-use Rattle.create_delete.proofs.DeletionLemmas.{is_deletable, deletable, deletable_spared, delete_done, deletion_keeps, deletion_takes}
-use Rattle.create_delete.proofs.PerformedLemmas.{no_right, refused_at}
+use Rattle.retrieve_discover.specs.Told.{addresses_in, ids_below, listed_parts, references_in, shown_id, shown_reference, values_under}
+use Rattle.retrieve_discover.proofs.RightLemmas.{addresses_under, ids_under, references_under}
+use Rattle.retrieve_discover.proofs.ToldLemmas.{none_referred, none_under}
+use Rattle.create_delete.specs.Changing.{create_effect, created_content, delete_effect, done_by, performed, performed_at, told_rows, update_effect, updated_content, updated_resource}
+use Rattle.create_delete.specs.Guard.{IsRemovedByRight, NamesInOrder}
+use Rattle.create_delete.proofs.RightLemmas.{changes_by_right}
+use Rattle.create_delete.proofs.DeletionLemmas.{is_deletable, deletable, delete_done}
+use Rattle.create_delete.proofs.PerformedLemmas.{done_at, no_right, refused_at}
 use Rattle.cse_machine.specs.Answer.{addressed, changing, on_found, to_resource}
 use Rattle.cse_machine.specs.Guard.{is_success, DoesShow, HasRight, IsGuardedAlone}
 use Rattle.cse_machine.specs.Rights.{claimed_originator}
@@ -35,18 +54,40 @@ unfolding changing
 changing_at op e request t there =
     sym (ap (λ (x : Option ResourceData). option_map_or (performed op e (claimed_originator e.home request) request) x (refused e request NotFound)) there)
 
--- a Delete of what was found, if it was
-pub delete_found : (e : EntityData) (request : RequestParts) (found : Option ResourceData) → on_found Delete e request found ≡ option_map_or (performed Delete e (claimed_originator e.home request) request) found (refused e request NotFound)
+-- of what was found, if it was
+abbrev performed_of : Op → EntityData → RequestParts → List ℕ → Option ResourceData → Effect
+performed_of op e request o found = option_map_or (performed op e o request) found (refused e request NotFound)
+
+create_found : (e : EntityData) (request : RequestParts) (found : Option ResourceData) → on_found Create e request found ≡ performed_of Create e request (claimed_originator e.home request) found
+unfolding changing
+create_found e request None = refl
+create_found e request (Some t) = refl
+
+update_found : (e : EntityData) (request : RequestParts) (found : Option ResourceData) → on_found Update e request found ≡ performed_of Update e request (claimed_originator e.home request) found
+unfolding changing
+update_found e request None = refl
+update_found e request (Some t) = refl
+
+delete_found : (e : EntityData) (request : RequestParts) (found : Option ResourceData) → on_found Delete e request found ≡ performed_of Delete e request (claimed_originator e.home request) found
 unfolding changing
 delete_found e request None = refl
 delete_found e request (Some t) = refl
 
--- a Delete of what is at a number, for its originator
+-- of what is at a number, for its originator
+changes_to : (op : Op) (e : EntityData) (request : RequestParts) (o : List ℕ) (n : ℕ) → ((found : Option ResourceData) → on_found op e request found ≡ performed_of op e request (claimed_originator e.home request) found) → claimed_originator e.home request ≡ o → request.op ≡ op → to_resource e request (at n e.nodes) ≡ performed_at op e o request n
+changes_to op e request o n found by is =
+    ap (λ (p : Op). on_found p e request (at n e.nodes)) is
+    ∙ found (at n e.nodes)
+    ∙ ap (λ (t : List ℕ). performed_of op e request t (at n e.nodes)) by
+
+pub create_to : (e : EntityData) (request : RequestParts) (o : List ℕ) (n : ℕ) → claimed_originator e.home request ≡ o → request.op ≡ Create → to_resource e request (at n e.nodes) ≡ performed_at Create e o request n
+create_to e request o n = changes_to Create e request o n (create_found e request)
+
+pub update_to : (e : EntityData) (request : RequestParts) (o : List ℕ) (n : ℕ) → claimed_originator e.home request ≡ o → request.op ≡ Update → to_resource e request (at n e.nodes) ≡ performed_at Update e o request n
+update_to e request o n = changes_to Update e request o n (update_found e request)
+
 pub delete_to : (e : EntityData) (request : RequestParts) (o : List ℕ) (n : ℕ) → claimed_originator e.home request ≡ o → request.op ≡ Delete → to_resource e request (at n e.nodes) ≡ performed_at Delete e o request n
-delete_to e request o n by op =
-    ap (λ (p : Op). on_found p e request (at n e.nodes)) op
-    ∙ delete_found e request (at n e.nodes)
-    ∙ ap (λ (t : List ℕ). option_map_or (performed Delete e t request) (at n e.nodes) (refused e request NotFound)) by
+delete_to e request o n = changes_to Delete e request o n (delete_found e request)
 
 -- ---- a refusal
 
@@ -57,13 +98,20 @@ nothing_in x there = omega (arith, there.1)
 abbrev pub IsToldByRight : EntityData → RequestParts → ReplyParts → Type 0
 IsToldByRight e request reply = OthersAreShownByRight e.home e.nodes (claimed_originator e.home request) reply
 
+-- a content tells nothing of them
+abbrev TellsNone : Option Data → Type 0
+TellsNone content = (option_map_or ids_below content [] ≡ []) × (option_map_or references_in content [] ≡ []) × (option_map_or addresses_in content [] ≡ [])
+
+tells_none : (e : EntityData) (request : RequestParts) (rsc : Rsc) (content : Option Data) → TellsNone content → IsToldByRight e request (reply_to request rsc content)
+tells_none e request rsc content none = record {
+  below = λ address told. absurd (nothing_in address (subst (λ (addresses : List (List ℕ)). Contains addresses address) none.0 told));
+  referred = λ address told. absurd (nothing_in address (subst (λ (addresses : List (List ℕ)). Contains addresses address) none.1 told));
+  found = λ address told. absurd (nothing_in address (subst (λ (addresses : List (List ℕ)). Contains addresses address) none.2 told));
+}
+
 -- a reply without content tells nothing of them
 pub tells_nothing : (e : EntityData) (request : RequestParts) (rsc : Rsc) → IsToldByRight e request (reply_to request rsc None)
-tells_nothing e request rsc = record {
-  below = λ address told. absurd (nothing_in address told);
-  referred = λ address told. absurd (nothing_in address told);
-  found = λ address told. absurd (nothing_in address told);
-}
+tells_nothing e request rsc = tells_none e request rsc None (refl, refl, refl)
 
 -- a refusal shows nothing
 pub shows_none : (request : RequestParts) (fault : Rsc) → is_success fault ≡ false → DoesShow (refusal request fault) → ⊥
@@ -110,13 +158,115 @@ pub still_kept : (e : EntityData) (reply : ReplyParts) → IsKept e (answering e
 still_kept e reply = record { home = refl; last = refl; next = omega arith; unserved = λ none. refl }
 
 -- what shows something, is done by right
-pub changes_by_right : (op : Op) (e : EntityData) (request : RequestParts) (t : ResourceData) → at t.number e.nodes ≡ Some t → addressed e request.to ≡ Some t → request.op ≡ op → DoesShow (performed_at op e (claimed_originator e.home request) request t.number).reply → HasRight e request
-changes_by_right op e request t there named is shows =
+pub shows_by_right : (op : Op) (e : EntityData) (request : RequestParts) (t : ResourceData) → at t.number e.nodes ≡ Some t → addressed e request.to ≡ Some t → request.op ≡ op → DoesShow (performed_at op e (claimed_originator e.home request) request t.number).reply → HasRight e request
+shows_by_right op e request t there named is shows =
     let o = claimed_originator e.home request in
     elim (cases_Bool (may_do op e o request t.number)) [
       | inl right ↦ record { target = t; named = named; right = ap (λ (p : Op). may_do p e o request t.number) is ∙ right }
       | inr none ↦ absurd (shows_none request NoPrivilege refl (subst DoesShow (ap (λ (x : Effect). x.reply) (no_right op e o request t.number t there none)) shows))
     ]
+
+-- ---- a Create and an Update
+
+-- what the reply to one tells of other resources
+
+wrapped_tells : (ty : Ty) (rows : List Row) → TellsNone (Some (wrapped ty rows))
+wrapped_tells ty rows = (
+  ids_under ty (members_of rows) ∙ ap (map shown_id) (none_under rows),
+  references_under ty (members_of rows) ∙ ap (λ (d : Option Data). map shown_reference (listed_parts d)) (none_referred rows),
+  addresses_under ty (members_of rows),
+)
+
+address_tells : (address : List ℕ) → TellsNone (Some (object (pairs_of ((codes "m2m:uri", text address) ∷ []))))
+address_tells address = (refl, refl, refl)
+
+framed_tells : (ty : Ty) (rows : List Row) (address : List ℕ) → TellsNone (Some (object (pairs_of ((codes "m2m:rce", object (pairs_of ((ty_member ty, object (pairs_of (members_of rows))) ∷ (codes "uri", text address) ∷ []))) ∷ []))))
+framed_tells ty rows address =
+    let members = pairs_of (members_of rows) in (
+      ap (map shown_id) (append-nil (values_under members) ∙ none_under rows),
+      ap (map shown_reference) (append-nil (listed_parts (member_of (codes "ch") (entries members))))
+      ∙ ap (λ (es : List Entry). map shown_reference (listed_parts (member_of (codes "ch") es))) (entries-pairs_of (members_of rows))
+      ∙ ap (λ (d : Option Data). map shown_reference (listed_parts d)) (none_referred rows),
+      refl,
+    )
+
+created_tells : (rcn : ℤ) (e : EntityData) (r : ResourceData) → TellsNone (created_content rcn e r)
+created_tells rcn e r = elim (cases_Bool (int_eq rcn (pos 0))) [
+  | inl a ↦ rw a (refl, refl, refl)
+  | inr a ↦ elim (cases_Bool (int_eq rcn (pos 1))) [
+    | inl b ↦ rw (a, b) (wrapped_tells r.ty (shown_rows e.home e.nodes r))
+    | inr b ↦ elim (cases_Bool (int_eq rcn (pos 2))) [
+      | inl c ↦ rw (a, b, c) (address_tells (structured_of r.number (e.nodes ++ r ∷ [])))
+      | inr c ↦ rw (a, b, c) (framed_tells r.ty (shown_rows e.home e.nodes r) (structured_of r.number (e.nodes ++ r ∷ [])))
+    ]
+  ]
+]
+
+updated_tells : (rcn : ℤ) (e : EntityData) (es : List Entry) (r : ResourceData) → TellsNone (updated_content rcn e es r)
+updated_tells rcn e es r = elim (cases_Bool (int_eq rcn (pos 0))) [
+  | inl a ↦ rw a (refl, refl, refl)
+  | inr a ↦ rw a (wrapped_tells r.ty (told_rows e es r))
+]
+
+module _ (e : EntityData) (request : RequestParts) (t : ResourceData) (there : at t.number e.nodes ≡ Some t) where
+  abbrev who : List ℕ
+  who = claimed_originator e.home request
+
+  -- what holds of a refusal, and of what is done, holds of what comes of an operation
+  comes : (op : Op) (P : Effect → Type 0) → ((f : Rsc) → is_success f ≡ false → P (refused e request f)) → P (done_by op e who request t) → P (performed_at op e who request t.number)
+  comes op P refuses does = by_place (fault_at op e who request t.number) refl
+    where
+      by_place : (fault : Option Rsc) → fault_at op e who request t.number ≡ fault → P (performed_at op e who request t.number)
+      by_place (Some f) is = subst P (sym (refused_at op e who request t.number f is)) (refuses f (fault_refuses op e who request t.number t f there is))
+      by_place None is = subst P (sym (done_at op e who request t.number t there is)) does
+
+  created_kept : (ty : Option Ty) → IsKept e (option_map_or (λ (y : Ty). create_effect request (creation_by e who request t y)) ty (refused e request BadChild))
+  created_kept None = still_kept e (refusal request BadChild)
+  created_kept (Some ty) = record { home = refl; last = refl; next = omega arith; unserved = λ none. absurd (true≢false none) }
+
+  created_told : (ty : Option Ty) → IsToldByRight e request (option_map_or (λ (y : Ty). create_effect request (creation_by e who request t y)) ty (refused e request BadChild)).reply
+  created_told None = tells_nothing e request BadChild
+  created_told (Some ty) =
+      let made = creation_by e who request t ty in
+      tells_none e request Created (created_content (unwrap_or request.rcn (pos 1)) e (new_resource made)) (created_tells (unwrap_or request.rcn (pos 1)) e (new_resource made))
+
+  pub create_kept : IsKept e (performed_at Create e who request t.number)
+  create_kept = comes Create (IsKept e) (λ f other. still_kept e (refusal request f)) (created_kept (child_ty request))
+
+  pub create_told : IsToldByRight e request (performed_at Create e who request t.number).reply
+  create_told = comes Create (λ x. IsToldByRight e request x.reply) (λ f other. tells_nothing e request f) (created_told (child_ty request))
+
+  updated_kept : (es : List Entry) → IsKept e (update_effect e request es t)
+  updated_kept es = record { home = refl; last = refl; next = omega arith; unserved = λ none. absurd (true≢false none) }
+
+  updated_told : (es : List Entry) → IsToldByRight e request (update_effect e request es t).reply
+  updated_told es =
+      let now = updated_resource e es t in
+      tells_none e request Updated (updated_content (unwrap_or request.rcn (pos 1)) e es now) (updated_tells (unwrap_or request.rcn (pos 1)) e es now)
+
+  pub update_kept : IsKept e (performed_at Update e who request t.number)
+  update_kept = comes Update (IsKept e) (λ f other. still_kept e (refusal request f)) (updated_kept (named_by Update request t))
+
+  pub update_told : IsToldByRight e request (performed_at Update e who request t.number).reply
+  update_told = comes Update (λ x. IsToldByRight e request x.reply) (λ f other. tells_nothing e request f) (updated_told (named_by Update request t))
+
+  -- what an operation changes, it changes by right
+  pub change_guarded : (op : Op) → IsSoundEntity e → is_originator who ≡ true → NamesInOrder request → addressed e request.to ≡ Some t → request.op ≡ op → IsToldByRight e request (performed_at op e who request t.number).reply → IsGuardedAlone e request (performed_at op e who request t.number).reply (performed_at op e who request t.number).after
+  change_guarded op sound originator names named is told =
+      let by = changes_by_right op e who request t.number sound originator names in
+      record {
+        shown = shows_by_right op e request t there named is;
+        others = told;
+        created = λ r new.
+            let made = by.created r new in
+            subst (λ (n : ℕ). is_granted e who (op_row Create).bit n ≡ true) (sym made.0) made.1;
+        changed = by.changed;
+        removed = λ r gone. record {
+          target = t;
+          named = named;
+          right = subst (λ (p : Op). IsRemovedByRight p e who t.number r) (sym is) (by.removed r gone);
+        };
+      }
 
 -- ---- a Delete
 
@@ -160,22 +310,5 @@ module _ (e : EntityData) (request : RequestParts) (t : ResourceData) (there : a
   told_of effect (was_refused f other is) = subst (λ (x : Effect). IsToldByRight e request x.reply) (sym is) (tells_nothing e request f)
   told_of effect (was_done may is) = subst (λ (x : Effect). IsToldByRight e request x.reply) (sym is) (tells_nothing e request Deleted)
 
-  sound_of : IsSoundEntity e → (effect : Effect) → Deleting e request t effect → IsSoundEntity effect.after
-  sound_of sound effect (was_refused f other is) = subst (λ (x : Effect). IsSoundEntity x.after) (sym is) sound
-  sound_of sound effect (was_done may is) =
-      subst (λ (x : Effect). IsSoundEntity x.after) (sym is)
-      (sound_removed (has_number t.number) e sound (deletable_spared t.number e sound may))
-
-  pub delete_sound : IsSoundEntity e → IsSoundEntity deleted.after
-  delete_sound sound = sound_of sound deleted deleting
-
-  pub delete_guarded : IsSoundEntity e → addressed e request.to ≡ Some t → request.op ≡ Delete → IsGuardedAlone e request deleted.reply deleted.after
-  delete_guarded sound named op = record {
-    shown = changes_by_right Delete e request t there named op;
-    others = told_of deleted deleting;
-    created = λ r new. absurd (none-some r (sym new.0 ∙ deletion_keeps e o request t.number r sound new.1));
-    changed = λ r s change. absurd (change.differs (same_Some s r (sym (deletion_keeps e o request t.number s sound change.is) ∙ ap (λ (n : ℕ). at n e.nodes) change.same ∙ change.was)));
-    removed = λ r gone.
-        let took = deletion_takes e o request t.number r sound gone.0 gone.1 in
-        record { target = t; named = named; right = inl took };
-  }
+  pub delete_told : IsToldByRight e request deleted.reply
+  delete_told = told_of deleted deleting

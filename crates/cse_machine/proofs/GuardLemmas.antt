@@ -2,6 +2,7 @@
 use Rattle.std.proofs.Common.{◌≡◌, ℕ, List, Bool, true, false, cond, Option, Some, None, inl, inr, refl, sym, ap, subst, ◌∙◌}
 use Rattle.std.proofs.lemmas.Bool.{false≢true, true≢false}
 use Rattle.std.proofs.lemmas.Option.{same_Some, none-some}
+use Rattle.m2m_names.specs.Name.{is_originator}
 use Rattle.m2m_names.specs.declared.codes.Rsc.{Rsc}
 use Rattle.m2m_names.specs.declared.operations.Op.{Op}
 use Rattle.m2m_names.specs.declared.operations.Op.TheVariants.{Create, Retrieve, Update, Delete, Notify}
@@ -17,10 +18,12 @@ use Rattle.request_rules.specs.Rights.{is_discovery, may_do}
 use Rattle.retrieve_discover.specs.Replies.{discovered, retrieved}
 use Rattle.retrieve_discover.proofs.RightLemmas.{discovered_by_right, retrieved_by_right}
 use Rattle.create_delete.specs.Changing.{delete_effect, performed_at}
-use Rattle.cse_machine.specs.Answer.{addressed, does_serve, operated_by, reading_reply, effect_of}
+use Rattle.create_delete.specs.Guard.{NamesInOrder}
+use Rattle.create_delete.proofs.RightLemmas.{stays_sound}
+use Rattle.cse_machine.specs.Answer.{addressed, changing, does_serve, operated_by, reading_reply, effect_of}
 use Rattle.cse_machine.specs.Guard.{is_success, DoesShow, HasRight, IsNew, IsGone, IsChanged, IsGuardedAlone, fanned, IsGuardedAt, IsGuarded}
 use Rattle.cse_machine.specs.Rights.{claimed_originator, has_right}
-use Rattle.cse_machine.proofs.ChangingLemmas.{changing_at, IsToldByRight, tells_nothing, shows_none, IsKept, still_kept, delete_kept, delete_sound, delete_guarded, delete_served}
+use Rattle.cse_machine.proofs.ChangingLemmas.{changing_at, IsToldByRight, tells_nothing, shows_none, IsKept, still_kept, change_guarded, create_kept, create_told, delete_kept, delete_served, delete_told, update_kept, update_told}
 use Rattle.cse_machine.proofs.OwnLemmas.{apart_addresses}
 use Rattle.cse_machine.proofs.WayLemmas.{IsOperated, Reading, refused_read, reading, found_read, shown_read, two_ways}
 
@@ -95,27 +98,35 @@ module _ (e : EntityData) (sound : IsSoundEntity e) (request : RequestParts) (r 
 
 -- what a served operation on what its address names gives
 module _ (e : EntityData) (request : RequestParts) (r : ResourceData) (there : at r.number e.nodes ≡ Some r) where
-  operated_guarded : (op : Op) → IsSoundEntity e → does_serve op ≡ true → request.op ≡ op → addressed e request.to ≡ Some r → IsGuardedIn e request (operated_by op e request r)
-  operated_guarded Create sound served op named = absurd (false≢true served)
-  operated_guarded Retrieve sound served op named = read_guarded e sound request r named op there
-  operated_guarded Update sound served op named = absurd (false≢true served)
-  operated_guarded Delete sound served op named =
-      subst (IsGuardedIn e request) (sym (changing_at Delete e request r there)) (delete_guarded e request r there sound named op)
-  operated_guarded Notify sound served op named = absurd (false≢true served)
+  -- what comes of a change, as what is done on the resource of the number
+  as_changed : (op : Op) (P : Effect → Type 0) → P (performed_at op e (claimed_originator e.home request) request r.number) → P (changing op e request r)
+  as_changed op P holds = subst P (sym (changing_at op e request r there)) holds
 
-  operated_sound : (op : Op) → IsSoundEntity e → does_serve op ≡ true → IsSoundEntity (operated_by op e request r).after
-  operated_sound Create sound served = absurd (false≢true served)
-  operated_sound Retrieve sound served = sound
-  operated_sound Update sound served = absurd (false≢true served)
-  operated_sound Delete sound served =
-      subst (λ (effect : Effect). IsSoundEntity effect.after) (sym (changing_at Delete e request r there)) (delete_sound e request r there sound)
-  operated_sound Notify sound served = absurd (false≢true served)
+  operated_guarded : (op : Op) → IsSoundEntity e → is_originator (claimed_originator e.home request) ≡ true → NamesInOrder request → does_serve op request ≡ true → request.op ≡ op → addressed e request.to ≡ Some r → IsGuardedIn e request (operated_by op e request r)
+  operated_guarded Create sound originator names served op named =
+      as_changed Create (IsGuardedIn e request) (change_guarded e request r there Create sound originator names named op (create_told e request r there))
+  operated_guarded Retrieve sound originator names served op named = read_guarded e sound request r named op there
+  operated_guarded Update sound originator names served op named =
+      as_changed Update (IsGuardedIn e request) (change_guarded e request r there Update sound originator names named op (update_told e request r there))
+  operated_guarded Delete sound originator names served op named =
+      as_changed Delete (IsGuardedIn e request) (change_guarded e request r there Delete sound originator names named op (delete_told e request r there))
+  operated_guarded Notify sound originator names served op named = absurd (false≢true served)
 
-  operated_kept : (op : Op) → does_serve op ≡ true → IsKept e (operated_by op e request r)
-  operated_kept Create served = absurd (false≢true served)
+  operated_sound : (op : Op) → IsSoundEntity e → is_originator (claimed_originator e.home request) ≡ true → NamesInOrder request → does_serve op request ≡ true → IsSoundEntity (operated_by op e request r).after
+  operated_sound Create sound originator names served =
+      as_changed Create (λ x. IsSoundEntity x.after) (stays_sound Create e (claimed_originator e.home request) request r.number sound originator names)
+  operated_sound Retrieve sound originator names served = sound
+  operated_sound Update sound originator names served =
+      as_changed Update (λ x. IsSoundEntity x.after) (stays_sound Update e (claimed_originator e.home request) request r.number sound originator names)
+  operated_sound Delete sound originator names served =
+      as_changed Delete (λ x. IsSoundEntity x.after) (stays_sound Delete e (claimed_originator e.home request) request r.number sound originator names)
+  operated_sound Notify sound originator names served = absurd (false≢true served)
+
+  operated_kept : (op : Op) → does_serve op request ≡ true → IsKept e (operated_by op e request r)
+  operated_kept Create served = as_changed Create (IsKept e) (create_kept e request r there)
   operated_kept Retrieve served = still_kept e (reading_reply e request r.number)
-  operated_kept Update served = absurd (false≢true served)
-  operated_kept Delete served = subst (IsKept e) (sym (changing_at Delete e request r there)) (delete_kept e request r there)
+  operated_kept Update served = as_changed Update (IsKept e) (update_kept e request r there)
+  operated_kept Delete served = as_changed Delete (IsKept e) (delete_kept e request r there)
   operated_kept Notify served = absurd (false≢true served)
 
 -- the same where the address names the fan-out point of a group, or none
@@ -126,26 +137,26 @@ refused_by : (e : EntityData) (request : RequestParts) (fault : Rsc) (group : Op
 refused_by e request fault None other = refused_guarded e request fault other
 refused_by e request fault (Some n) other = inl ((λ shows. shows_none request fault other shows), refl)
 
-operated_by_right : (e : EntityData) (request : RequestParts) (effect : Effect) → IsSoundEntity e → IsOperated e request effect → IsGuardedBy e request effect (fanned e request.to)
-operated_by_right e request effect sound way =
+operated_by_right : (e : EntityData) (request : RequestParts) (effect : Effect) → IsSoundEntity e → NamesInOrder request → IsOperated e request effect → IsGuardedBy e request effect (fanned e request.to)
+operated_by_right e request effect sound names way =
     subst (IsGuardedBy e request effect) (sym way.alone)
     (subst (IsGuardedIn e request) (sym way.is)
-    (operated_guarded e request way.target way.there request.op sound way.served refl way.named))
+    (operated_guarded e request way.target way.there request.op sound way.originator names way.served refl way.named))
 
-pub guarded : (e : EntityData) (request : RequestParts) → IsSoundEntity e → IsGuarded e request (effect_of e request).reply (effect_of e request).after
-guarded e request sound = elim (two_ways e request) [
+pub guarded : (e : EntityData) (request : RequestParts) → IsSoundEntity e → NamesInOrder request → IsGuarded e request (effect_of e request).reply (effect_of e request).after
+guarded e request sound names = elim (two_ways e request) [
   | inl refusal ↦
       subst (λ (effect : Effect). IsGuardedBy e request effect (fanned e request.to)) (sym refusal.2)
       (refused_by e request refusal.0 (fanned e request.to) refusal.1)
-  | inr way ↦ operated_by_right e request (effect_of e request) sound way
+  | inr way ↦ operated_by_right e request (effect_of e request) sound names way
 ]
 
-pub sound_effect : (e : EntityData) (request : RequestParts) → IsSoundEntity e → IsSoundEntity (effect_of e request).after
-sound_effect e request sound = elim (two_ways e request) [
+pub sound_effect : (e : EntityData) (request : RequestParts) → IsSoundEntity e → NamesInOrder request → IsSoundEntity (effect_of e request).after
+sound_effect e request sound names = elim (two_ways e request) [
   | inl fault ↦ subst (λ (effect : Effect). IsSoundEntity effect.after) (sym fault.2) sound
   | inr way ↦
       subst (λ (effect : Effect). IsSoundEntity effect.after) (sym way.is)
-      (operated_sound e request way.target way.there request.op sound way.served)
+      (operated_sound e request way.target way.there request.op sound way.originator names way.served)
 ]
 
 pub kept : (e : EntityData) (request : RequestParts) → IsKept e (effect_of e request)

@@ -51,7 +51,7 @@ one_more opening before after history reading event outcome run step =
 
 pub sound_step : (reading : ℕ) (event : Event) (before after : EntityData) (outcome : Outcome) → IsSoundEntity before → Step reading event before outcome after → IsSoundEntity after
 sound_step reading (Ask request) before after (Done reply) sound step =
-    subst IsSoundEntity (sym step.1) (sound_effect (swept reading before) request (sound_swept reading before sound))
+    subst IsSoundEntity (sym step.1) (sound_effect (swept reading before) request (sound_swept reading before sound) step.2)
 sound_step reading (Ask request) before after (Starved done) sound step = elim step.1 [
   | inl same ↦ subst IsSoundEntity (sym same) sound
   | inr left ↦ subst IsSoundEntity (sym left) (sound_swept reading before sound)
@@ -67,7 +67,7 @@ pub step_guarded : (reading : ℕ) (request : RequestParts) (before after : Enti
 step_guarded reading request before after reply sound step =
     subst (λ (r : ReplyParts). IsGuarded (swept reading before) request r after) (sym (same_reply reply _ step.0))
     (subst (λ (e : EntityData). IsGuarded (swept reading before) request (effect_of (swept reading before) request).reply e) (sym step.1)
-    (guarded (swept reading before) request (sound_swept reading before sound)))
+    (guarded (swept reading before) request (sound_swept reading before sound) step.2))
 
 -- an entry of a history is the step that it tells
 pub guarded_in_history : (earlier later : History) (opening e : EntityData) (reading : ℕ) (request : RequestParts) (reply : ReplyParts) → IsSoundEntity opening → HistoryLeaves opening (earlier ++ entry_of reading (Ask request) (Done reply) ∷ later) e

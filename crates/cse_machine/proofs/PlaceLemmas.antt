@@ -1,17 +1,18 @@
 -- Who asks, and what is read.
 use Rattle.std.specs.Prelude.{codes, nat_lt, unwrap_or}
-use Rattle.std.proofs.Common.{◌≡◌, ℕ, List, length, true, false, ◌&&◌, Option, Some, None, Result, Ok, Err, IfOk, inl, inr, refl, sym, ap, ◌∙◌}
+use Rattle.std.proofs.Common.{◌≡◌, ℕ, List, length, true, false, ◌&&◌, Option, Some, None, is_some, Result, Ok, Err, IfOk, inl, inr, refl, sym, ap, ◌∙◌}
 use Rattle.std.specs.Option.{option_and_then}
-use Rattle.std.proofs.lemmas.Bool.{cases_Bool}
+use Rattle.std.proofs.lemmas.Bool.{cases_Bool, false≢true}
 use Rattle.std.proofs.lemmas.Option.{same_Some}
 use Rattle.m2m_names.specs.Name.{is_originator}
 use Rattle.primitive_json.specs.declared.reply.ReplyParts.{ReplyParts}
 use Rattle.primitive_json.specs.declared.request.RequestParts.{RequestParts}
 use Rattle.resource_model.specs.Home.{HomeData}
 use Rattle.addressing.specs.Short.{short_of, shortened}
+use Rattle.addressing.proofs.ShortLemmas.{short_is_originator}
 use Rattle.entity_model.specs.Entity.{EntityData}
 use Rattle.retrieve_discover.specs.Replies.{discovered, retrieved}
-use Rattle.cse_machine.specs.Answer.{reading_reply}
+use Rattle.cse_machine.specs.Answer.{has_originator, reading_reply}
 use Rattle.request_rules.specs.Rights.{is_discovery}
 use Rattle.cse_machine.specs.Rights.{claimed_originator}
 
@@ -34,6 +35,18 @@ claimed_is home request o = by_fr request.fr
     by_fr : (fr : Option (List ℕ)) → option_and_then (short_of home) fr ≡ Some o → shortened home (unwrap_or fr (codes "C")) ≡ o
     by_fr None e = let none : None ≡ Some o = e in cc
     by_fr (Some text) e = short_is home text o e
+
+-- who asks so, is an originator
+pub claimed_valid : (home : HomeData) (request : RequestParts) → has_originator home request ≡ true → is_originator (claimed_originator home request) ≡ true
+claimed_valid home request = by_fr request.fr
+  where
+    by_short : (text : List ℕ) (t : Option (List ℕ)) → short_of home text ≡ t → is_some t ≡ true → is_originator (shortened home text) ≡ true
+    by_short text None is some = absurd (false≢true some)
+    by_short text (Some t) is some = ap is_originator (short_is home text t is) ∙ short_is_originator home text t is
+
+    by_fr : (fr : Option (List ℕ)) → is_some (option_and_then (short_of home) fr) ≡ true → is_originator (shortened home (unwrap_or fr (codes "C"))) ≡ true
+    by_fr None some = absurd (false≢true some)
+    by_fr (Some text) some = by_short text (short_of home text) refl some
 
 -- ---- what is read
 

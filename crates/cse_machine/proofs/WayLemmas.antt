@@ -4,6 +4,7 @@ use Rattle.std.specs.Option.{option_and_then, option_map_or}
 use Rattle.std.proofs.lemmas.Bool.{cases_Bool}
 use Rattle.m2m_names.specs.declared.codes.Rsc.{Rsc}
 use Rattle.m2m_names.specs.declared.codes.Rsc.TheVariants.{BadRequest, NonBlocking, NotFound, NoPrivilege, RequestTimeout}
+use Rattle.m2m_names.specs.Name.{is_originator}
 use Rattle.primitive_json.specs.declared.reply.ReplyParts.{ReplyParts}
 use Rattle.primitive_json.specs.declared.request.RequestParts.{RequestParts}
 use Rattle.resource_model.specs.Resource.{ResourceData}
@@ -21,6 +22,7 @@ use Rattle.cse_machine.specs.Answer.{does_serve, is_served, has_originator, has_
 use Rattle.cse_machine.specs.Guard.{is_success, fan_group, fanned}
 use Rattle.request_rules.specs.Rights.{is_discovery}
 use Rattle.cse_machine.specs.Rights.{claimed_originator}
+use Rattle.cse_machine.proofs.PlaceLemmas.{claimed_valid}
 
 -- ---- a request
 
@@ -34,29 +36,31 @@ pub record IsOperated (e : EntityData) (request : RequestParts) (effect : Effect
   pub there : at target.number e.nodes ≡ Some target
   pub named : addressed e request.to ≡ Some target
   pub alone : fanned e request.to ≡ None
-  pub served : does_serve request.op ≡ true
+  pub served : does_serve request.op request ≡ true
+  pub originator : is_originator (claimed_originator e.home request) ≡ true
   pub is : effect ≡ operated_by request.op e request target
 
 module _ (e : EntityData) (request : RequestParts) where
   abbrev Ways : Effect → Type 0
   Ways effect = IsRefused e request effect ⊎ IsOperated e request effect
 
-  on_resource : (n : ℕ) (o : Option ResourceData) → does_serve request.op ≡ true → named_by e.home request.to e.nodes ≡ Some (Resource n) → at n e.nodes ≡ o → Ways (to_resource e request o)
-  on_resource n None served is found = inl (NotFound, refl, refl)
-  on_resource n (Some r) served is found = inr (record {
+  on_resource : (n : ℕ) (o : Option ResourceData) → does_serve request.op request ≡ true → has_originator e.home request ≡ true → named_by e.home request.to e.nodes ≡ Some (Resource n) → at n e.nodes ≡ o → Ways (to_resource e request o)
+  on_resource n None served by is found = inl (NotFound, refl, refl)
+  on_resource n (Some r) served by is found = inr (record {
     target = r;
     there = ap (λ (m : ℕ). at m e.nodes) (at_number n e.nodes r found) ∙ found;
     named = ap (option_and_then (resource_at e.nodes)) is ∙ found;
     alone = ap (option_and_then fan_group) is;
     served = served;
+    originator = claimed_valid e.home request by;
     is = refl;
   })
 
-  on_spot : (spot : Option Spot) → does_serve request.op ≡ true → named_by e.home request.to e.nodes ≡ spot → Ways (at_spot e request spot)
-  on_spot None served is = inl (NotFound, refl, refl)
-  on_spot (Some (Resource n)) served is = on_resource n (at n e.nodes) served is refl
-  on_spot (Some (Fan group rest)) served is = inl (BadRequest, refl, refl)
-  on_spot (Some (Poll channel)) served is = inl (BadRequest, refl, refl)
+  on_spot : (spot : Option Spot) → does_serve request.op request ≡ true → has_originator e.home request ≡ true → named_by e.home request.to e.nodes ≡ spot → Ways (at_spot e request spot)
+  on_spot None served by is = inl (NotFound, refl, refl)
+  on_spot (Some (Resource n)) served by is = on_resource n (at n e.nodes) served by is refl
+  on_spot (Some (Fan group rest)) served by is = inl (BadRequest, refl, refl)
+  on_spot (Some (Poll channel)) served by is = inl (BadRequest, refl, refl)
 
   abbrev spot_is : Option Spot
   spot_is = named_by e.home request.to e.nodes
@@ -74,7 +78,7 @@ module _ (e : EntityData) (request : RequestParts) where
             | inr f ↦ inl (NonBlocking, refl, rw (s, o, a, t, f) refl)
             | inl b ↦
                 let passed : effect_of e request ≡ at_spot e request spot_is = rw (s, o, a, t, b) refl in
-                subst Ways (sym passed) (on_spot spot_is s refl)
+                subst Ways (sym passed) (on_spot spot_is s o refl)
           ]
         ]
       ]

@@ -1,13 +1,24 @@
 -- What a CSE answers a request (TS-0001, 10.2; TS-0004, 7.2 and 7.3.3).
-use Rattle.std.specs.Prelude.{◌≡◌, ℕ, pos, nat_lt, Bool, true, false, not, List, [], ◌∷◌, Option}
-use Rattle.std.specs.Prelude.{Some, None, is_ok, is_some, option_and_then, if◌then◌else◌}
+use Rattle.std.specs.Prelude.{◌≡◌, ℕ, pos, nat_lt, Bool, true, false, not, ◌&&◌, ◌||◌, List, [], ◌∷◌}
+use Rattle.std.specs.Prelude.{Option, Some, None, is_ok, is_some, option_and_then, if◌then◌else◌}
 use Rattle.std.specs.Option.{option_map_or}
 use Rattle.std.specs.Ordering.{int_eq}
+use Rattle.m2m_names.specs.Attributes.{attr_short}
+use Rattle.m2m_names.specs.declared.attributes.Attr.TheVariants.{Aa, At as AnnounceTo}
 use Rattle.m2m_names.specs.declared.codes.Rsc.TheVariants.{BadRequest, Internal, NonBlocking}
 use Rattle.m2m_names.specs.declared.codes.Rsc.TheVariants.{NotFound, RequestTimeout}
 use Rattle.m2m_names.specs.declared.operations.Op.{Op}
 use Rattle.m2m_names.specs.declared.operations.Op.TheVariants.{Create, Retrieve, Update, Delete}
 use Rattle.m2m_names.specs.declared.operations.Op.TheVariants.{Notify}
+use Rattle.m2m_names.specs.declared.types.Ty.{Ty}
+use Rattle.m2m_names.specs.declared.types.Ty.TheVariants.{AccessControlPolicy, Ae, Container}
+use Rattle.m2m_names.specs.declared.types.Ty.TheVariants.{ContentInstance, CseBase, Group}
+use Rattle.m2m_names.specs.declared.types.Ty.TheVariants.{PollingChannel, RemoteCse, Subscription}
+use Rattle.m2m_names.specs.declared.types.Ty.TheVariants.{AccessControlPolicyAnnc, AeAnnc}
+use Rattle.m2m_names.specs.declared.types.Ty.TheVariants.{ContainerAnnc, ContentInstanceAnnc}
+use Rattle.m2m_names.specs.declared.types.Ty.TheVariants.{GroupAnnc}
+use Rattle.m2m_value.specs.Data.{Data, Entry}
+use Rattle.m2m_value.specs.View.{as_object, member_of}
 use Rattle.primitive_json.specs.declared.reply.ReplyParts.{ReplyParts}
 use Rattle.primitive_json.specs.declared.request.RequestParts.{RequestParts}
 use Rattle.primitive_json.specs.declared.request.When.{When}
@@ -25,9 +36,11 @@ use Rattle.entity_model.specs.Places.{refusal, Effect, answering, refused, Place
 use Rattle.entity_model.specs.Places.{unless_refused}
 use Rattle.retrieve_discover.specs.Replies.{discovered, retrieved}
 use Rattle.create_delete.specs.Changing.{performed}
+use Rattle.create_delete.specs.Guard.{NamesInOrder}
 use Rattle.cse_machine.specs.declared.event.Outcome.{Outcome}
 use Rattle.cse_machine.specs.declared.event.Outcome.TheVariants.{Done}
-use Rattle.request_rules.specs.Rights.{is_discovery}
+use Rattle.request_rules.specs.Requests.{child_ty}
+use Rattle.request_rules.specs.Rights.{is_discovery, sole}
 use Rattle.cse_machine.specs.Rights.{claimed_originator}
 
 -- the reply where memory ran out
@@ -36,16 +49,51 @@ starved request = refusal request Internal
 
 -- ---- which requests are served
 
--- the operations that are served so far, on resources of every type
-abbrev pub does_serve : Op → Bool
-does_serve Create = false
-does_serve Retrieve = true
-does_serve Update = false
-does_serve Delete = true
-does_serve Notify = false
+-- the types of which a resource may be created so far, one line each; that nothing takes a CSEBase
+-- is judged later
+abbrev pub is_creatable : Ty → Bool
+is_creatable AccessControlPolicy = true
+is_creatable Ae = true
+is_creatable Container = true
+is_creatable ContentInstance = true
+is_creatable CseBase = true
+is_creatable Group = false
+is_creatable PollingChannel = false
+is_creatable RemoteCse = false
+is_creatable Subscription = false
+is_creatable AccessControlPolicyAnnc = false
+is_creatable AeAnnc = false
+is_creatable ContainerAnnc = false
+is_creatable ContentInstanceAnnc = false
+is_creatable GroupAnnc = false
+
+-- a type that isn't known is judged later
+abbrev pub has_creatable_type : RequestParts → Bool
+has_creatable_type request = option_map_or is_creatable (child_ty request) true
+
+-- the members of what the only member of a content has: the attributes that it names
+abbrev pub inner_members : Data → Option (List Entry)
+inner_members content = option_and_then (λ e. as_object e.1) (sole content)
+
+-- it names what announces a resource, or what of it is announced: copies aren't made yet (TS-0001,
+-- 9.6.26)
+abbrev pub names_copy : List Entry → Bool
+names_copy es = is_some (member_of (attr_short AnnounceTo) es) || is_some (member_of (attr_short Aa) es)
+
+abbrev pub asks_for_copies : RequestParts → Bool
+asks_for_copies request =
+    option_map_or names_copy (option_and_then inner_members request.pc) false
+
+-- which requests of an operation are served so far
+abbrev pub does_serve : Op → RequestParts → Bool
+does_serve Create request = has_creatable_type request && not (asks_for_copies request)
+does_serve Retrieve request = true
+does_serve Update request = not (asks_for_copies request)
+does_serve Delete request = true
+does_serve Notify request = false
 
 abbrev pub is_served : RequestParts → Bool
-is_served request = does_serve request.op
+is_served request = does_serve request.op request
 
 -- ---- where a request is refused whatever its address names
 
@@ -152,7 +200,8 @@ effect_of e request =
 abbrev pub given : EntityData → RequestParts → Outcome × EntityData
 given e request = (Done (effect_of e request).reply, (effect_of e request).after)
 
--- these are what it gives
+-- these are what it gives, and what its content names stands in order, as in each request that is
+-- heard
 abbrev pub ComesOf : EntityData → RequestParts → Outcome → EntityData → Type 0
 ComesOf e request outcome after =
-    (outcome ≡ (given e request).0) × (after ≡ (given e request).1)
+    (outcome ≡ (given e request).0) × (after ≡ (given e request).1) × NamesInOrder request

@@ -1,31 +1,21 @@
 -- What a request may show, and what it may change.
 use Rattle.std.specs.Prelude.{◌≡◌, ◌≢◌, ◌⊎◌, ℕ, ◌≤◌, Bool, true, false, List, [], ◌∷◌, ◌++◌, Option, Some}
 use Rattle.std.specs.Prelude.{None, option_and_then, IsTrue, codes, map}
-use Rattle.std.specs.Prelude.{if◌then◌else◌}
 use Rattle.std.specs.Int.{is_in_range}
-use Rattle.std.specs.List.{All, list_any}
-use Rattle.m2m_names.specs.declared.attributes.Attr.{Attr}
-use Rattle.m2m_names.specs.declared.attributes.Attr.TheVariants.{Acpi, St}
-use Rattle.m2m_names.specs.declared.types.Ty.{Ty}
-use Rattle.m2m_names.specs.declared.types.Ty.TheVariants.{Container}
+use Rattle.std.specs.List.{All}
 use Rattle.m2m_names.specs.Operations.{op_row}
 use Rattle.m2m_names.specs.StatusCodes.{rsc_row}
 use Rattle.m2m_names.specs.declared.codes.Rsc.{Rsc}
 use Rattle.m2m_names.specs.declared.codes.Rsc.TheVariants.{Deleted, Ok as Fine}
-use Rattle.m2m_names.specs.declared.operations.Op.{Op}
-use Rattle.m2m_names.specs.declared.operations.Op.TheVariants.{Create, Retrieve, Update, Delete}
-use Rattle.m2m_names.specs.declared.operations.Op.TheVariants.{Notify}
+use Rattle.m2m_names.specs.declared.operations.Op.TheVariants.{Create, Retrieve, Delete}
 use Rattle.m2m_value.specs.Data.{Data, text, list, object, elements_of, pairs_of}
 use Rattle.filter_criteria.specs.Values.{object_of}
 use Rattle.primitive_json.specs.Writing.{reply_rows}
 use Rattle.primitive_json.specs.declared.reply.ReplyParts.{ReplyParts}
 use Rattle.primitive_json.specs.declared.request.RequestParts.{RequestParts}
-use Rattle.resource_model.specs.Attributes.{value_of}
-use Rattle.resource_model.specs.Resource.{ResourceData, has_number, is_ty}
+use Rattle.resource_model.specs.Resource.{ResourceData}
 use Rattle.turn_desk.specs.Entries.{entry_of}
-use Rattle.tree_model.specs.Tree.{at, is_instance, line_of}
-use Rattle.policy_eval.specs.Alike.{is_attr_in}
-use Rattle.policy_eval.specs.Rights.{relinks, fan_grants}
+use Rattle.policy_eval.specs.Rights.{fan_grants}
 use Rattle.addressing.specs.Laws.{named_by}
 use Rattle.addressing.specs.declared.spot.Spot.{Spot}
 use Rattle.addressing.specs.declared.spot.Spot.TheVariants.{Resource, Fan, Poll}
@@ -34,6 +24,8 @@ use Rattle.entity_model.specs.Places.{reply_to}
 use Rattle.entity_model.specs.Sound.{IsSoundEntity}
 use Rattle.retrieve_discover.specs.Guard.{OthersAreShownByRight}
 use Rattle.create_delete.specs.Changing.{delete_effect}
+use Rattle.create_delete.specs.Guard.{IsChangedByRight, IsRemovedByRight}
+pub use Rattle.create_delete.specs.Guard.{IsChanged, IsGone, IsNew}
 use Rattle.cse_machine.specs.declared.event.Event.{Event}
 use Rattle.cse_machine.specs.declared.event.Event.TheVariants.{Ask}
 use Rattle.cse_machine.specs.declared.event.Outcome.{Outcome}
@@ -60,72 +52,15 @@ pub record HasRight (e : EntityData) (request : RequestParts) : Type 0 where
   pub named : addressed e request.to ≡ Some target
   pub right : IsTrue (has_right e request target.number)
 
--- ---- what is changed
+-- ---- what is removed
 
--- a resource that is only in the list after, that is only in the one before, and that differs
-abbrev pub IsNew : List ResourceData → List ResourceData → ResourceData → Type 0
-IsNew before after r = (at r.number before ≡ None) × (at r.number after ≡ Some r)
-
-abbrev pub IsGone : List ResourceData → List ResourceData → ResourceData → Type 0
-IsGone before after r = (at r.number before ≡ Some r) × (at r.number after ≡ None)
-
-pub record IsChanged (before after : List ResourceData) (r s : ResourceData) : Type 0 where
-  pub same : s.number ≡ r.number
-  pub was : at r.number before ≡ Some r
-  pub is : at s.number after ≡ Some s
-  pub differs : s ≢ r
-
--- The resource differs in nothing but its attributes, its expiry and its last change, and the
--- policies that it names stay (TS-0001, 10.2.4).
-pub record IsUpdated (r s : ResourceData) : Type 0 where
-  pub rest : s ≡ record r { lt = s.lt; et = s.et; attrs = s.attrs }
-  pub links : value_of Acpi s.attrs ≡ value_of Acpi r.attrs
-
--- The resource differs in nothing but these attributes and its last change.
-pub record DiffersIn (attrs : List Attr) (r s : ResourceData) : Type 0 where
-  pub rest : s ≡ record r { lt = s.lt; attrs = s.attrs }
-  pub others : (a : Attr) → is_attr_in attrs a ≡ false → value_of a s.attrs ≡ value_of a r.attrs
-
--- what an Update of `acpi` alone changes: `acpi`, and the state tag that a container has (TS-0001,
--- 9.6.1.3.2)
-abbrev pub link_attrs : Ty → List Attr
-link_attrs ty = if is_ty ty Container then Acpi ∷ St ∷ [] else Acpi ∷ []
-
--- what a new instance changes of its container: the state tag (TS-0001, 9.6.6)
-abbrev pub filling_attrs : List Attr
-filling_attrs = St ∷ []
-
--- A resource that stays was changed by UPDATE, in all but whom it is judged by; or the originator
--- may change its `acpi`, and that changed; or a new instance stands in it.
-abbrev pub IsChangedByRight :
-    EntityData → RequestParts → EntityData → ResourceData → ResourceData → Type 0
-IsChangedByRight before request after r s =
-    (IsTrue (has_privilege Update before request r.number) × IsUpdated r s)
-    ⊎ ((IsTrue (relinks before.home before.nodes (claimed_originator before.home request)
-    r.number)
-    × DiffersIn (link_attrs r.ty) r s)
-    ⊎ ((i : ResourceData) × IsNew before.nodes after.nodes i × IsTrue (is_instance r.number i)
-    × DiffersIn filling_attrs r s))
-
--- the operation may push out instances of the container of the number: by CREATE it adds one, or by
--- UPDATE it changes the container (TS-0001, 9.6.6)
-abbrev pub may_push_out : Op → EntityData → RequestParts → ℕ → Bool
-may_push_out Create e request n = has_privilege Create e request n
-may_push_out Retrieve e request n = false
-may_push_out Update e request n = has_privilege Update e request n
-may_push_out Delete e request n = false
-may_push_out Notify e request n = false
-
--- the resource is at or below the target, which the originator may delete, or it is an instance of
--- the target that the operation may push out
-pub record IsRemovedByRight (before : EntityData) (request : RequestParts)
+-- the resource is gone by right from what the request addresses
+pub record IsRemovedAsAddressed (before : EntityData) (request : RequestParts)
     (r : ResourceData) : Type 0 where
   pub target : ResourceData
   pub named : addressed before request.to ≡ Some target
-  pub right : (IsTrue (list_any (has_number target.number) (line_of r.number before.nodes))
-      × IsTrue (has_privilege Delete before request target.number))
-      ⊎ (IsTrue (is_instance target.number r)
-      × IsTrue (may_push_out request.op before request target.number))
+  pub right : IsRemovedByRight request.op before (claimed_originator before.home request)
+      target.number r
 
 -- ---- what is guarded
 
@@ -139,9 +74,9 @@ pub record IsGuardedAlone (before : EntityData) (request : RequestParts) (reply 
   pub created : (r : ResourceData) → IsNew before.nodes after.nodes r
       → IsTrue (has_privilege Create before request r.parent)
   pub changed : (r s : ResourceData) → IsChanged before.nodes after.nodes r s
-      → IsChangedByRight before request after r s
+      → IsChangedByRight before (claimed_originator before.home request) after r s
   pub removed : (r : ResourceData) → IsGone before.nodes after.nodes r
-      → IsRemovedByRight before request r
+      → IsRemovedAsAddressed before request r
 
 -- ---- a fan-out
 

@@ -1,17 +1,108 @@
 // What is told of a request before what its address names.
-ghost use Rattle.std.specs.Prelude.{◌≡◌};
+ghost use Rattle.std.specs.Prelude.{◌≡◌, false, IfSome, List, Some, option_map};
+ghost use Rattle.std.specs.Option.{option_map_or};
+ghost use Rattle.m2m_names.specs.declared.types.Ty.{Ty};
+ghost use Rattle.m2m_value.specs.Data.{Entry};
+ghost use Rattle.m2m_value.specs.Node.{AreSorted};
+ghost use Rattle.attribute_rules.specs.Admission.{attributes_in};
+ghost use Rattle.create_delete.specs.Guard.{NamesInOrder};
 ghost use Rattle.cse_machine.specs.Answer as spec;
 
 use entity_model::Entity;
-use m2m_names::Op;
+use m2m_names::{Attr, Op, Ty};
+use m2m_value::{Members, Val};
 use primitive_json::{Request, When};
+use request_rules::child_ty;
 use tree_model::Tree;
 
-/// Whether the request is one of those that are served so far: a Retrieve or a Delete.
+fn is_creatable(ty: Ty) -> bool
+    ensures { result ≡ spec.is_creatable ty }
+{
+    match ty {
+        Ty::AccessControlPolicy | Ty::Ae | Ty::Container | Ty::ContentInstance | Ty::CseBase => true,
+        Ty::Group | Ty::PollingChannel | Ty::RemoteCse | Ty::Subscription => false,
+        Ty::AccessControlPolicyAnnc | Ty::AeAnnc | Ty::ContainerAnnc => false,
+        Ty::ContentInstanceAnnc | Ty::GroupAnnc => false,
+    }
+}
+
+fn has_creatable_type(request: &Request) -> bool
+    ensures { result ≡ spec.has_creatable_type request.now }
+{
+    match child_ty(request) {
+        Some(ty) => is_creatable(ty),
+        None => true,
+    }
+}
+
+// The members of what the only member of a content has. That they stand in order is told by their
+// list.
+fn inner_members(content: &Val) -> Option<&Members>
+    ensures members { option_map (λ m. m.now) result ≡ spec.inner_members content.now }
+    ensures sorted { IfSome result (λ m. AreSorted m.now) }
+{
+    match content.as_obj()?.entries() {
+        [entry] => {
+            let members = entry.1.as_obj()?;
+            let _entries = members.entries();
+            Some(members)
+        }
+        _ => None,
+    }
+}
+
+fn names_copy(members: &Members) -> bool
+    ensures { result ≡ spec.names_copy members.now }
+{
+    members.get(Attr::At.short().as_bytes()).is_some()
+        || members.get(Attr::Aa.short().as_bytes()).is_some()
+}
+
+fn holds_copies(content: &Val) -> bool
+    ensures { result ≡ option_map_or spec.names_copy (spec.inner_members content.now) false }
+{
+    match inner_members(content) {
+        Some(members) => names_copy(members),
+        None => false,
+    }
+}
+
+fn asks_for_copies(request: &Request) -> bool
+    ensures { result ≡ spec.asks_for_copies request.now }
+{
+    match &request.parts().pc {
+        Some(content) => holds_copies(content),
+        None => false,
+    }
+}
+
+/// Whether the request is one of those that are served so far: all but a Notify, the creation of
+/// what is told of changes, polls, fans out or comes from another CSE, and what asks for copies.
 pub(crate) fn is_served(request: &Request) -> bool
     ensures { result ≡ spec.is_served request.now }
 {
-    matches!(request.parts().op, Op::Retrieve | Op::Delete)
+    match request.parts().op {
+        Op::Create => has_creatable_type(request) && !asks_for_copies(request),
+        Op::Update => !asks_for_copies(request),
+        Op::Retrieve | Op::Delete => true,
+        Op::Notify => false,
+    }
+}
+
+// That what a content names stands in order.
+fn tell_content(content: &Val)
+    ensures { (ty : Ty) (es : List Entry) → attributes_in ty content.now ≡ Some es → AreSorted es }
+{
+    let _members = inner_members(content);
+}
+
+/// That what the content of a request names stands in order, as its types keep it.
+pub(crate) fn tell_order(request: &Request)
+    ensures { NamesInOrder request.now }
+{
+    if let Some(content) = &request.parts().pc {
+        tell_content(content);
+    }
 }
 
 /// Whether it hasn't expired at the moment of the event.

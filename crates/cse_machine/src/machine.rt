@@ -15,9 +15,9 @@ ghost use Rattle.cse_machine.specs.Rights.{claimed_originator};
 ghost use Rattle.cse_machine.specs.Step.{Step};
 
 use crate::event::{Event, Outcome};
-use crate::judging::{is_blocking, is_in_time, is_served};
+use crate::judging::{is_blocking, is_in_time, is_served, tell_order};
 use addressing::{Addr, AddrFault, Spot, parse, resolve, short_fr};
-use create_delete::delete;
+use create_delete::{create, delete, update};
 use entity_model::{Entity, refuse, sweep};
 use m2m_names::{Op, Rsc};
 use primitive_json::{Reply, Request};
@@ -42,6 +42,7 @@ pub fn step<T: Tree>(alloc: Global, entity: &mut Entity<T>, reading: u64, event:
 fn ask<T: Tree>(alloc: Global, entity: &mut Entity<T>, reading: u64, request: &Request) -> Outcome
     ensures { Step reading (Event.Ask request.now) entity.old result entity.new }
 {
+    tell_order(request);
     if let Err(_) = sweep(alloc, entity, reading) {
         return Outcome::Starved { done: 0 };
     }
@@ -203,10 +204,10 @@ fn operate<T: Tree>(
     ensures err { OnErr result (entity.new ≡ entity.old) }
 {
     match request.parts().op {
+        Op::Create => create(alloc, entity, o, request, number),
         Op::Retrieve => read(alloc, entity, request, o, number),
+        Op::Update => update(alloc, entity, o, request, number),
         Op::Delete => delete(alloc, entity, o, request, number),
-        Op::Create => unreachable!(),
-        Op::Update => unreachable!(),
         Op::Notify => unreachable!(),
     }
 }

@@ -11,4 +11,5 @@ returns-in-Ok g c =
     let left = c.in_default.ensures.ok in (
       ap Done (c.in-Ok.ensures.reply ∙ ap (λ (e : EntityData). (effect_of e request).reply) left),
       c.in-Ok.ensures.after ∙ ap (λ (e : EntityData). (effect_of e request).after) left,
+      c.tell_order.ensures,
     )
