@@ -8,17 +8,21 @@
 //! connection closes behind a reply.
 #![tactic(auto)]
 
+mod digits;
 mod fault;
 mod headers;
 mod laws;
+mod media_type;
+mod method;
 mod reply;
 mod request;
+mod target;
 mod writing;
 
 pub use fault::BindFault;
 pub use headers::echo_id;
 pub use laws::{
-    a_frame_binds_to_one_request, a_frame_binds_to_plain_requests, a_reply_is_read_back,
+    a_frame_binds_to_one_request, a_frame_binds_to_requests_of_their_kinds, a_reply_is_read_back,
     the_echo_is_the_request_id,
 };
 pub use reply::of_reply;
