@@ -1,8 +1,6 @@
 //! What a line Content-Type says.
-ghost use Rattle.std.specs.Prelude.{◌≡◌, ◌<◌, ◌^◌, IfSome, IsTrue, Some, fold};
-ghost use Rattle.std.specs.Char.{is_ascii_digit};
-ghost use Rattle.std.specs.List.{list_all, slice_split};
-ghost use Rattle.std.specs.Str.Parse.{digits_value};
+ghost use Rattle.std.specs.Prelude.{◌≡◌, ◌≤◌, ◌==◌, Some, None, fold, length};
+ghost use Rattle.std.specs.List.{prefix_len, slice_split};
 ghost use Rattle.http_frames.specs.Lines.{is_same_name};
 ghost use Rattle.http_binding.specs.MediaTypes as spec;
 
@@ -14,11 +12,18 @@ use m2m_names::is_filled;
 /// The number of the type that is to be created, where it is said.
 type TypeNumber = Option<u32>;
 
+/// How many spaces stand at the front.
+fn spaces_before(text: &[u8]) -> usize
+    ensures value { result ≡ prefix_len spec.is_space text.now }
+    ensures within { result ≤ length text.now }
+{
+    text.iter().take_while(|byte| **byte == b' ').count()
+}
+
 fn behind_spaces(text: &[u8]) -> &[u8]
     ensures { result.now ≡ spec.behind_spaces text.now }
 {
-    let spaces = text.iter().take_while(|byte| **byte == b' ').count();
-    &text[spaces..]
+    &text[spaces_before(text)..]
 }
 
 fn before_spaces(text: &[u8]) -> &[u8]

@@ -19,12 +19,16 @@ impl Method {
     fn named(name: &[u8]) -> Result<Method, BindFault>
         ensures { ReadsAs (λ method. method) result (method_named name.now) }
     {
-        match name {
-            b"GET" => Ok(Method::Get),
-            b"POST" => Ok(Method::Post),
-            b"PUT" => Ok(Method::Put),
-            b"DELETE" => Ok(Method::Delete),
-            _ => Err(BindFault::Method),
+        if name == b"GET".as_slice() {
+            Ok(Method::Get)
+        } else if name == b"POST".as_slice() {
+            Ok(Method::Post)
+        } else if name == b"PUT".as_slice() {
+            Ok(Method::Put)
+        } else if name == b"DELETE".as_slice() {
+            Ok(Method::Delete)
+        } else {
+            Err(BindFault::Method)
         }
     }
 

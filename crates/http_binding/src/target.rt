@@ -1,5 +1,5 @@
 //! The target of a request: its path and its query, and the address that a path is.
-ghost use Rattle.std.specs.Prelude.{◌≡◌, ◌≤◌, ◌++◌, IfOk, IsUtf8, drop, length, option_map};
+ghost use Rattle.std.specs.Prelude.{◌≡◌, ◌≤◌, ◌∷◌, IfOk, IsUtf8, drop, length, option_map};
 ghost use Rattle.std.specs.List.{list_all};
 ghost use Rattle.std.specs.Option.{option_copied};
 ghost use Rattle.std.specs.Str.{is_utf8};
@@ -88,7 +88,10 @@ pub(crate) fn behind(mark: u8, text: &[u8]) -> Option<&[u8]>
 fn is_text(bytes: &[u8]) -> bool
     ensures { result ≡ is_utf8 bytes.now }
 {
-    std::str::from_utf8(bytes).is_ok()
+    match std::str::from_utf8(bytes) {
+        Ok(_) => true,
+        Err(_) => false,
+    }
 }
 
 /// The path of a text, which is `/` where the text has none.
