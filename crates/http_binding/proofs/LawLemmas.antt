@@ -214,7 +214,10 @@ a_content body content h =
     let value = reads (value_in (reading body)) object_only content (chosen (is_some_text body) _ content _ h) in
     an_object value.first content value.rest
 
-no_content : (content : Option Data) → Ok {E = BindFault} None ≡ Ok content → IfSome content (λ d. is_some (as_object d) ≡ true) × (is_some content ≡ false)
+abbrev nothing_read : Result (Option Data) BindFault
+nothing_read = Ok None
+
+no_content : (content : Option Data) → nothing_read ≡ Ok content → IfSome content (λ d. is_some (as_object d) ≡ true) × (is_some content ≡ false)
 no_content content h = subst (λ (o : Option Data). IfSome o (λ d. is_some (as_object d) ≡ true) × (is_some o ≡ false)) (ap (λ r. result_unwrap_or r None) h) (tt, refl)
 
 contents : (op : Op) (body : List ℕ) (content : Option Data) → content_of op body ≡ Ok content → IsContentOf op content

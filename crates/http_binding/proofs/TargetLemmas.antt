@@ -81,9 +81,9 @@ written_all path text at whole all =
 pub told_text : (bytes : List ℕ) → IsUtf8 bytes → true ≡ is_utf8 bytes
 told_text bytes h = sym (is_utf8-from_IsUtf8 bytes h)
 
-by_test : (bytes : List ℕ) (b : Bool) → is_utf8 bytes ≡ b → (IsUtf8 bytes → ⊥) → false ≡ is_utf8 bytes
-by_test bytes true is no = absurd (no (IsUtf8-from_is_utf8 bytes is))
-by_test bytes false is no = sym is
+no_text_by : (bytes : List ℕ) (b : Bool) → is_utf8 bytes ≡ b → ¬ (IsUtf8 bytes) → false ≡ is_utf8 bytes
+no_text_by bytes true is wrong = absurd (wrong (IsUtf8-from_is_utf8 bytes is))
+no_text_by bytes false is wrong = sym is
 
-pub told_no_text : (bytes : List ℕ) → (IsUtf8 bytes → ⊥) → false ≡ is_utf8 bytes
-told_no_text bytes no = by_test bytes (is_utf8 bytes) refl no
+pub told_no_text : (bytes : List ℕ) → ¬ (IsUtf8 bytes) → false ≡ is_utf8 bytes
+told_no_text bytes wrong = no_text_by bytes (is_utf8 bytes) refl wrong
