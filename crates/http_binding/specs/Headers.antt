@@ -1,5 +1,5 @@
 -- The header fields of the binding, and what they may say (TS-0009, 6.4; RFC 9110, section 5).
-use Rattle.std.specs.Prelude.{ℕ, Bool, true, false, not, ◌||◌, nat_lt, List, length, codes, bytes_eq}
+use Rattle.std.specs.Prelude.{ℕ, Bool, not, ◌||◌, nat_lt, List, length, codes, bytes_eq}
 use Rattle.std.specs.Prelude.{is_some}
 use Rattle.m2m_names.specs.Name.{is_originator}
 use Rattle.primitive_json.specs.Bounds.{is_request_id}

@@ -1,5 +1,4 @@
-use Rattle.std.proofs.Common.{◌<◌, ◌^◌, sym, ◌∙◌, subst, arith}
-use Rattle.std.specs.Str.Parse.{digits_value}
+use Rattle.std.proofs.Common.{sym, ◌∙◌, arith}
 use Rattle.http_binding.proofs.TypeLemmas.{are_short}
 use Rattle.http_binding.proofs.media_type.type_digits_said.Goals as goal
 
