@@ -1,7 +1,7 @@
 -- What is known of a frame that binds.
-use Rattle.std.proofs.Common.{◌≡◌, ◌<◌, ◌^◌, ℕ, Bool, true, false, not, ◌||◌, List, [], ◌∷◌, length, Option, Some, None, is_some, Result, Ok, Err, IfSome, refl, sym, ap, subst, ◌∙◌, arith}
+use Rattle.std.proofs.Common.{◌≡◌, ◌<◌, ◌^◌, ℕ, Bool, true, false, not, ◌&&◌, ◌||◌, List, [], ◌∷◌, length, Option, Some, None, is_some, Result, Ok, Err, IfSome, refl, sym, ap, subst, ◌∙◌, arith}
 use Rattle.std.specs.Bool.{if◌then◌else◌}
-use Rattle.std.specs.Prelude.{option_and_then, option_map, nat_le}
+use Rattle.std.specs.Prelude.{ℤ, option_and_then, option_map, nat_le}
 use Rattle.std.specs.Option.{option_map_or}
 use Rattle.std.specs.Str.{IsUtf8}
 use Rattle.std.specs.Str.Parse.{digits_value}
@@ -20,9 +20,9 @@ use Rattle.m2m_value.specs.Reading.{reading}
 use Rattle.m2m_value.specs.View.{as_object}
 use Rattle.filter_criteria.specs.Bounds.{IsMoment}
 use Rattle.primitive_json.specs.Bounds.{is_request_id, request_id_limit}
-use Rattle.primitive_json.specs.Kinds.{is_numeral, expiry_spelled, target_limit}
+use Rattle.primitive_json.specs.Kinds.{is_numeral, expiry_spelled, target_limit, result_contents, address_forms}
 use Rattle.primitive_json.specs.Laws.{IsWhenOfKind, IsShortWhen, IsOfKinds, HasShortExpiry}
-use Rattle.primitive_json.specs.Members.{creates, has_content}
+use Rattle.primitive_json.specs.Members.{creates, retrieves, has_content}
 use Rattle.primitive_json.specs.Requests.{IsSoundWhen}
 use Rattle.primitive_json.proofs.Numerals.{numeral_bound}
 use Rattle.primitive_json.specs.declared.request.RequestParts.{RequestParts}
@@ -41,20 +41,16 @@ use Rattle.http_binding.specs.declared.method.Method.TheVariants.{Get, Post, Put
 use Rattle.http_binding.specs.Headers.{field_name, admits, is_some_text}
 use Rattle.http_binding.specs.MediaTypes.{TypeNumber, type_said, type_number, is_short_number}
 use Rattle.http_binding.specs.Targets.{PathAndQuery, TargetValues, target_parts, values_of, is_target}
-use Rattle.http_binding.specs.Binding.{and_then, method_of, said_by_target, target_of, lone_value, header_value, HeaderValues, header_values, required, unless_empty, Caller, caller_of, operation_of, query_of, value_in, object_only, content_in, content_of, created_type, request_of, Binds, echo_of}
+use Rattle.http_binding.proofs.QueryLemmas.{Reads, reads, IsSaid, said_on, nothing_is_said, filter_sound, filter_kinds, IsSaidFilter}
+use Rattle.http_binding.specs.Queries.{pairs_of, nothing_said, is_result, among}
+use Rattle.http_binding.specs.declared.query.Query.{Query}
+use Rattle.filter_criteria.specs.Filters.{IsSoundFilter}
+use Rattle.filter_criteria.specs.Laws.{IsFilterOfKinds}
+use Rattle.filter_criteria.specs.declared.filter.FilterParts.{FilterParts}
+use Rattle.http_binding.specs.Binding.{and_then, method_of, said_by_target, target_of, lone_value, header_value, HeaderValues, header_values, required, unless_empty, Caller, caller_of, operation_of, query_of, kept_result, value_in, object_only, content_in, content_of, created_type, request_of, Binds, echo_of}
 
 pub binds_to_one : (frame : Frame) (request other : RequestParts) → Binds frame request → Binds frame other → request ≡ other
 binds_to_one frame request other h g = ap (λ r. result_unwrap_or r request) (sym h ∙ g)
-
--- what a chain that gives a value has read first, and what it has gone on to
-record Reads {T U : Type 0} (part : Result T BindFault) (next : T → Result U BindFault) (value : U) : Type 0 where
-  first : T
-  read : part ≡ Ok first
-  rest : next first ≡ Ok value
-
-reads : {T U : Type 0} (part : Result T BindFault) (next : T → Result U BindFault) (value : U) → and_then part next ≡ Ok value → Reads part next value
-reads (Ok first) next value h = record { first = first; read = refl; rest = h }
-reads (Err fault) next value h = absurd (false≢true (ap is_ok h))
 
 -- a choice that gives a value has passed its test
 passed : {T : Type 0} (test : Bool) (value read : T) (fault : BindFault) → (if test then Ok value else Err fault) ≡ Ok read → (test ≡ true) × (value ≡ read)
@@ -238,6 +234,29 @@ type_there Put type = refl
 type_there Delete type = refl
 type_there Post type = type_by_post type
 
+-- ---- the query
+
+queries : (op : Op) (query : List ℕ) (q : Query) → query_of op query ≡ Ok q → IsSaid op q
+queries op query q h = said_on op (pairs_of query) nothing_said q (nothing_is_said op) h
+
+result_kind : (op : Op) (number : Option ℤ) → IfSome number (λ z. is_result op z ≡ true) → IfSome (kept_result op number) (λ z. among (result_contents op) z ≡ true)
+result_kind Create number h = h
+result_kind Retrieve number h = h
+result_kind Update number h = h
+result_kind Removal number h = h
+result_kind Notify number h = tt
+
+conditions_kind : (op : Op) (fc : Option FilterParts) → IfSome fc (λ f. (retrieves op ≡ true) × IsSaidFilter f) → IfSome fc (λ f. (retrieves op ≡ true) × IsFilterOfKinds f)
+conditions_kind op None h = tt
+conditions_kind op (Some f) h = (h.0, filter_kinds f h.1)
+
+conditions_sound : (op : Op) (fc : Option FilterParts) → IfSome fc (λ f. (retrieves op ≡ true) × IsSaidFilter f) → IfSome fc IsSoundFilter
+conditions_sound op None h = tt
+conditions_sound op (Some f) h = filter_sound f h.1
+
+pub query_sound : (op : Op) (query : List ℕ) (q : Query) → query_of op query ≡ Ok q → (f : FilterParts) → q.fc ≡ Some f → IsSoundFilter f
+query_sound op query q h f is = subst (λ (o : Option FilterParts). IfSome o IsSoundFilter) is (conditions_sound op q.fc (queries op query q h).fc)
+
 -- ---- the request
 
 -- what a frame that binds has said, part by part
@@ -245,11 +264,13 @@ record Said (frame : Frame) (request : RequestParts) : Type 0 where
   method : Method
   target : TargetValues
   caller : Caller
+  query : Query
   content : Option Data
   target_is : is_target target ≡ true
   caller_is : IsCaller method frame.lines caller
+  query_is : IsSaid (operation_of method caller.type) query
   content_is : IsContentOf (operation_of method caller.type) content
-  request_is : request_of (operation_of method caller.type) target.to caller content ≡ request
+  request_is : request_of (operation_of method caller.type) target.to caller query content ≡ request
 
 says : (frame : Frame) (request : RequestParts) → Binds frame request → Said frame request
 says frame request h =
@@ -257,17 +278,19 @@ says frame request h =
     let target = reads (target_of frame.start) _ request method.rest in
     let caller = reads (caller_of method.first frame.lines) _ request target.rest in
     let op = operation_of method.first caller.first.type in
-    let query = reads (query_of target.first.query) _ request caller.rest in
+    let query = reads (query_of op target.first.query) _ request caller.rest in
     let content = reads (content_of op frame.body) _ request query.rest in
     record {
       method = method.first;
       target = target.first;
       caller = caller.first;
+      query = query.first;
       content = content.first;
       target_is = targets frame.start target.first target.read;
       caller_is = is_caller method.first frame.lines caller.first caller.read;
+      query_is = queries op target.first.query query.first query.read;
       content_is = contents op frame.body content.first content.read;
-      request_is = ap (λ r. result_unwrap_or r (request_of op target.first.to caller.first content.first)) content.rest;
+      request_is = ap (λ r. result_unwrap_or r (request_of op target.first.to caller.first query.first content.first)) content.rest;
     }
 
 timely_kind : (expiry : Option When) → IfSome expiry IsTimely → IfSome expiry IsWhenOfKind
@@ -284,7 +307,7 @@ IsKind request = IsOfKinds request × HasShortExpiry request
 pub binds_to_kinds : (frame : Frame) (request : RequestParts) → Binds frame request → IsOfKinds request × HasShortExpiry request
 binds_to_kinds frame request h =
     let s = says frame request h in
-    let kinds : IsOfKinds (request_of (operation_of s.method s.caller.type) s.target.to s.caller s.content) = record {
+    let kinds : IsOfKinds (request_of (operation_of s.method s.caller.type) s.target.to s.caller s.query s.content) = record {
       to = (and_parts (is_filled target_limit s.target.to) _ s.target_is).0;
       fr = s.caller_is.originator;
       rqi = s.caller_is.id;
@@ -293,9 +316,9 @@ binds_to_kinds frame request h =
       pc = s.content_is.0;
       pc_there = s.content_is.1;
       rqet = timely_kind s.caller.expiry s.caller_is.expiry;
-      rcn = tt;
-      fc = tt;
-      drt = tt;
+      rcn = result_kind (operation_of s.method s.caller.type) s.query.rcn s.query_is.rcn;
+      fc = conditions_kind (operation_of s.method s.caller.type) s.query.fc s.query_is.fc;
+      drt = s.query_is.drt;
     } in
     subst IsKind s.request_is (kinds, timely_short s.caller.expiry s.caller_is.expiry)
 

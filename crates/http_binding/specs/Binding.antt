@@ -1,5 +1,5 @@
 -- The request that a frame binds to, or the first fault of the frame (TS-0009, 6.2 to 6.5).
-use Rattle.std.specs.Prelude.{◌≡◌, ℕ, ◌⊎◌, List, [], ◌∷◌, bytes_eq, codes, is_some, Option, Some}
+use Rattle.std.specs.Prelude.{◌≡◌, ℕ, ℤ, ◌⊎◌, List, [], ◌∷◌, bytes_eq, codes, is_some, Option, Some}
 use Rattle.std.specs.Prelude.{None, Result, Ok, Err, if◌then◌else◌, option_and_then}
 use Rattle.std.specs.Option.{option_map_or}
 use Rattle.std.specs.Result.{result_unwrap_or}
@@ -12,7 +12,7 @@ use Rattle.m2m_value.specs.View.{as_object}
 use Rattle.m2m_value.specs.declared.fault.ValFault.{ValFault}
 use Rattle.m2m_value.specs.declared.fault.ValFault.TheVariants.{NotJson}
 use Rattle.primitive_json.specs.Kinds.{expiry_spelled}
-use Rattle.primitive_json.specs.Members.{creates, has_content}
+use Rattle.primitive_json.specs.Members.{creates, has_content, has_result}
 use Rattle.primitive_json.specs.declared.request.RequestParts.{RequestParts}
 use Rattle.primitive_json.specs.declared.request.When.{When}
 use Rattle.http_frames.specs.declared.frame.Start.{Start}
@@ -26,8 +26,10 @@ use Rattle.http_binding.specs.declared.headers.Field.TheVariants.{Origin, Id, Ex
 use Rattle.http_binding.specs.declared.headers.Field.TheVariants.{ContentEncoding}
 use Rattle.http_binding.specs.declared.method.Method.{Method}
 use Rattle.http_binding.specs.declared.method.Method.TheVariants as by
+use Rattle.http_binding.specs.declared.query.Query.{Query}
 use Rattle.http_binding.specs.Headers.{field_name, admits, is_some_text}
 use Rattle.http_binding.specs.MediaTypes.{type_number}
+use Rattle.http_binding.specs.Queries.{Pair, pairs_of, nothing_said, with_pair}
 use Rattle.http_binding.specs.Targets.{PathAndQuery, TargetValues, target_parts, values_of}
 use Rattle.http_binding.specs.Targets.{is_target}
 
@@ -131,9 +133,14 @@ operation_of by.Delete type = Delete
 
 -- ---- the query and the body
 
--- no query is served so far: its fault names all of it
-abbrev pub query_of : List ℕ → Result (Unit {0}) BindFault
-query_of query = if is_some_text query then Err (bind.Query query) else Ok tt
+-- what the pairs say behind what was said, one after another, or the fault of the first that is bad
+abbrev pub said_by : Op → List Pair → Query → Result Query BindFault
+said_by op [] q = Ok q
+said_by op (pair ∷ pairs) q = and_then (with_pair op pair q) (said_by op pairs)
+
+-- what a query says on an operation
+abbrev pub query_of : Op → List ℕ → Result Query BindFault
+query_of op query = said_by op (pairs_of query) nothing_said
 
 -- the value that was read of a body
 abbrev pub value_in : Result Data ValFault → Result Data BindFault
@@ -159,9 +166,13 @@ content_of op body = if has_content op then content_in body else Ok None
 abbrev pub created_type : Op → Option ℕ → Option ℕ
 created_type op type = if creates op then type else None
 
+-- the content of the result, on an operation that has any; else it is unread
+abbrev pub kept_result : Op → Option ℤ → Option ℤ
+kept_result op number = if has_result op then number else None
+
 -- the request of these parts
-abbrev pub request_of : Op → List ℕ → Caller → Option Data → RequestParts
-request_of op to caller content = record {
+abbrev pub request_of : Op → List ℕ → Caller → Query → Option Data → RequestParts
+request_of op to caller query content = record {
   op = op;
   to = to;
   fr = caller.originator;
@@ -169,10 +180,10 @@ request_of op to caller content = record {
   ty = created_type op caller.type;
   pc = content;
   rqet = caller.expiry;
-  rt = None;
-  rcn = None;
-  fc = None;
-  drt = None;
+  rt = query.rt;
+  rcn = kept_result op query.rcn;
+  fc = query.fc;
+  drt = query.drt;
 }
 
 -- the request that a frame binds to, or its first fault (TS-0009, 6)
@@ -181,9 +192,9 @@ binding frame =
     and_then (method_of frame.start) λ method.
     and_then (target_of frame.start) λ target.
     and_then (caller_of method frame.lines) λ caller.
-    and_then (query_of target.query) λ query.
+    and_then (query_of (operation_of method caller.type) target.query) λ query.
     and_then (content_of (operation_of method caller.type) frame.body) λ content.
-    Ok (request_of (operation_of method caller.type) target.to caller content)
+    Ok (request_of (operation_of method caller.type) target.to caller query content)
 
 -- The frame binds to this request, and so to no other.
 abbrev pub Binds : Frame → RequestParts → Type 0

@@ -2,6 +2,7 @@ pub mod Faults
 pub mod MediaTypes
 pub mod Headers
 pub mod Targets
+pub mod Queries
 pub mod Binding
 pub mod Seen
 pub mod Replying

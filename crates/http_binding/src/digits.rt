@@ -20,7 +20,7 @@ pub(crate) fn are_digits(text: &[u8]) -> bool
 }
 
 /// Whether the text is 1 to 18 digits.
-fn is_numeral(text: &[u8]) -> bool
+pub(crate) fn is_numeral(text: &[u8]) -> bool
     ensures { result ≡ kinds.is_numeral text.now }
 {
     is_filled(text, NUMERAL_LIMIT) && are_digits(text)

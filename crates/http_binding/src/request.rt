@@ -1,6 +1,7 @@
 //! The request that a frame binds to.
 ghost use Rattle.std.specs.Prelude.{◌≡◌, IfOk, IfSome, IsUtf8};
-ghost use Rattle.std.specs.Option.{option_copied};
+ghost use Rattle.std.specs.Option.{ForSome, option_copied};
+ghost use Rattle.filter_criteria.specs.Filters.{IsSoundFilter};
 ghost use Rattle.m2m_value.specs.Reading.{reading};
 ghost use Rattle.primitive_json.specs.Requests.{IsSoundWhen};
 ghost use Rattle.http_binding.specs.Binding as spec;
@@ -9,8 +10,10 @@ ghost use Rattle.http_binding.specs.Seen.{seen_caller};
 
 use crate::headers::{Caller, caller_of};
 use crate::method::Method;
+use crate::query::{Query, query_of};
 use crate::target::target_of;
 use crate::{BindFault, OutOfMemory};
+use filter_criteria::{Filter, FilterParts};
 use http_frames::Frame;
 use m2m_names::Op;
 use m2m_value::{Text, Val, ValFault, read};
@@ -27,17 +30,6 @@ fn copy_of(alloc: Global, text: Option<&[u8]>) -> Result<Option<Text>, OutOfMemo
     match text {
         Some(text) => Ok(Some(Text::from_slice(alloc, text)?)),
         None => Ok(None),
-    }
-}
-
-/// Whether there is no query.
-fn query_of(alloc: Global, query: &[u8]) -> Result<(), BindFault>
-    ensures { ReadsAs (λ unit. unit) result (spec.query_of query.now) }
-{
-    if query.is_empty() {
-        Ok(())
-    } else {
-        Err(BindFault::Query(Text::from_slice(alloc, query)?))
     }
 }
 
@@ -93,20 +85,43 @@ fn created_type(op: Op, ty: Option<u32>) -> Option<u32>
     }
 }
 
+/// The content of the result, on an operation that has any.
+fn kept_result(op: Op, number: Option<i64>) -> Option<i64>
+    ensures { result ≡ spec.kept_result op number }
+{
+    match op {
+        Op::Create | Op::Retrieve | Op::Update | Op::Delete => number,
+        Op::Notify => None,
+    }
+}
+
+/// The filter of conditions, where there are any.
+fn filter_of(conditions: Option<FilterParts>) -> Option<Filter>
+    requires { ForSome conditions IsSoundFilter }
+    ensures { result ≡ conditions }
+{
+    match conditions {
+        Some(parts) => Some(Filter::of(parts)),
+        None => None,
+    }
+}
+
 /// The request of these parts.
 fn request_of(
     alloc: Global,
     op: Op,
     to: Text,
     caller: Caller<'_>,
+    query: Query,
     content: Option<Val>,
 ) -> Result<Request, OutOfMemory>
     requires to { IsUtf8 to }
     requires originator { IfSome (option_copied caller.originator) IsUtf8 }
     requires id { IsUtf8 caller.id.now }
     requires expiry { IfSome caller.expiry IsSoundWhen }
+    requires filter { ForSome query.fc IsSoundFilter }
     ensures { IfOk result (λ request. request
-        ≡ spec.request_of op to (seen_caller caller.entry) content) }
+        ≡ spec.request_of op to (seen_caller caller.entry) query content) }
 {
     Ok(Request::of(RequestParts {
         op,
@@ -116,26 +131,25 @@ fn request_of(
         ty: created_type(op, caller.ty),
         pc: content,
         rqet: caller.expiry,
-        rt: None,
-        rcn: None,
-        fc: None,
-        drt: None,
+        rt: query.rt,
+        rcn: kept_result(op, query.rcn),
+        fc: filter_of(query.fc),
+        drt: query.drt,
     }))
 }
 
 /// The request that a frame binds to (TS-0009, 6.2 to 6.5), or why it binds to none: the first of
 /// its faults, in the order of method, target, header fields as they stand in the table, the
-/// identifier where it is missing, the query, and the body. The texts that the request keeps are
-/// copied, the body is read into its content, and nothing else of the frame is kept. So far no query
-/// is served.
+/// identifier where it is missing, the pairs of the query, and the body. The texts that the request
+/// keeps are copied, the body is read into its content, and nothing else of the frame is kept.
 pub fn to_request(alloc: Global, frame: &Frame) -> Result<Request, BindFault>
     ensures { ReadsAs (λ request. request) result (binding frame.now) }
 {
     let method = Method::of(&frame.start)?;
     let target = target_of(alloc, &frame.start)?;
     let caller = caller_of(alloc, method, &frame.lines)?;
-    query_of(alloc, target.query)?;
     let op = method.operation(caller.ty);
+    let query = query_of(alloc, op, target.query)?;
     let content = content_of(alloc, op, frame.body.entries())?;
-    Ok(request_of(alloc, op, target.to, caller, content)?)
+    Ok(request_of(alloc, op, target.to, caller, query, content)?)
 }

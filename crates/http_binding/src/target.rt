@@ -85,7 +85,7 @@ pub(crate) fn behind(mark: u8, text: &[u8]) -> Option<&[u8]>
     }
 }
 
-fn is_text(bytes: &[u8]) -> bool
+pub(crate) fn is_text(bytes: &[u8]) -> bool
     ensures { result ≡ is_utf8 bytes.now }
 {
     match std::str::from_utf8(bytes) {
