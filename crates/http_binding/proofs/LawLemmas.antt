@@ -1,5 +1,5 @@
 -- What is known of a frame that binds.
-use Rattle.std.proofs.Common.{◌≡◌, ◌<◌, ◌^◌, ℕ, Bool, true, false, not, ◌&&◌, ◌||◌, List, [], ◌∷◌, length, Option, Some, None, is_some, Result, Ok, Err, IfSome, refl, sym, ap, subst, ◌∙◌, arith}
+use Rattle.std.proofs.Common.{◌≡◌, ◌<◌, ◌^◌, ℕ, Bool, true, false, not, ◌||◌, List, [], ◌∷◌, length, Option, Some, None, is_some, Result, Ok, Err, IfSome, refl, sym, ap, subst, ◌∙◌, arith}
 use Rattle.std.specs.Bool.{if◌then◌else◌}
 use Rattle.std.specs.Prelude.{ℤ, option_and_then, option_map, nat_le}
 use Rattle.std.specs.Option.{option_map_or}
@@ -20,7 +20,7 @@ use Rattle.m2m_value.specs.Reading.{reading}
 use Rattle.m2m_value.specs.View.{as_object}
 use Rattle.filter_criteria.specs.Bounds.{IsMoment}
 use Rattle.primitive_json.specs.Bounds.{is_request_id, request_id_limit}
-use Rattle.primitive_json.specs.Kinds.{is_numeral, expiry_spelled, target_limit, result_contents, address_forms}
+use Rattle.primitive_json.specs.Kinds.{is_numeral, expiry_spelled, target_limit, result_contents}
 use Rattle.primitive_json.specs.Laws.{IsWhenOfKind, IsShortWhen, IsOfKinds, HasShortExpiry}
 use Rattle.primitive_json.specs.Members.{creates, retrieves, has_content}
 use Rattle.primitive_json.specs.Requests.{IsSoundWhen}
@@ -41,13 +41,13 @@ use Rattle.http_binding.specs.declared.method.Method.TheVariants.{Get, Post, Put
 use Rattle.http_binding.specs.Headers.{field_name, admits, is_some_text}
 use Rattle.http_binding.specs.MediaTypes.{TypeNumber, type_said, type_number, is_short_number}
 use Rattle.http_binding.specs.Targets.{PathAndQuery, TargetValues, target_parts, values_of, is_target}
-use Rattle.http_binding.proofs.QueryLemmas.{Reads, reads, IsSaid, said_on, nothing_is_said, filter_sound, filter_kinds, IsSaidFilter}
+use Rattle.http_binding.proofs.QueryLemmas.{reads, IsSaid, said_on, nothing_is_said, filter_sound, filter_kinds, IsSaidFilter}
 use Rattle.http_binding.specs.Queries.{pairs_of, nothing_said, is_result, among}
 use Rattle.http_binding.specs.declared.query.Query.{Query}
 use Rattle.filter_criteria.specs.Filters.{IsSoundFilter}
 use Rattle.filter_criteria.specs.Laws.{IsFilterOfKinds}
 use Rattle.filter_criteria.specs.declared.filter.FilterParts.{FilterParts}
-use Rattle.http_binding.specs.Binding.{and_then, method_of, said_by_target, target_of, lone_value, header_value, HeaderValues, header_values, required, unless_empty, Caller, caller_of, operation_of, query_of, kept_result, value_in, object_only, content_in, content_of, created_type, request_of, Binds, echo_of}
+use Rattle.http_binding.specs.Binding.{method_of, said_by_target, target_of, lone_value, header_value, HeaderValues, header_values, required, unless_empty, Caller, caller_of, operation_of, query_of, kept_result, value_in, object_only, content_in, content_of, created_type, request_of, Binds, echo_of}
 
 pub binds_to_one : (frame : Frame) (request other : RequestParts) → Binds frame request → Binds frame other → request ≡ other
 binds_to_one frame request other h g = ap (λ r. result_unwrap_or r request) (sym h ∙ g)

@@ -1,7 +1,7 @@
 -- What the pairs of a query say is of its kinds.
-use Rattle.std.proofs.Common.{◌≡◌, ◌⊎◌, inl, inr, ℕ, ◌+◌, ◌*◌, ◌^◌, ◌<◌, ◌≤◌, Bool, true, false, not, ◌&&◌, ◌||◌, List, [], ◌∷◌, ◌++◌, map, length, drop, get_or, Option, Some, None, is_some, Result, Ok, Err, IfSome, refl, sym, ap, subst, ◌∙◌, arith}
+use Rattle.std.proofs.Common.{◌≡◌, ◌⊎◌, inl, inr, ℕ, ◌+◌, ◌^◌, ◌<◌, ◌≤◌, Bool, true, false, List, [], ◌∷◌, ◌++◌, length, drop, get_or, Option, Some, None, Result, Ok, Err, IfSome, refl, sym, ap, subst, ◌∙◌, arith}
 use Rattle.std.specs.Bool.{if◌then◌else◌}
-use Rattle.std.specs.Prelude.{ℤ, pos, option_map, option_and_then, unwrap_or, nat_le}
+use Rattle.std.specs.Prelude.{ℤ, option_map, option_and_then, unwrap_or, nat_le}
 use Rattle.std.specs.List.{list_all, filter_map, cons_option, AllByRecursion}
 use Rattle.std.specs.Option.{option_map_or}
 use Rattle.std.specs.Result.{result_unwrap_or, is_ok}
@@ -26,8 +26,8 @@ use Rattle.filter_criteria.specs.declared.condition.Sort.{Sort}
 use Rattle.filter_criteria.specs.declared.condition.Sort.TheVariants.{Moment, Count, Labels, Types, Use}
 use Rattle.filter_criteria.specs.declared.filter.FilterParts.{FilterParts}
 use Rattle.filter_criteria.specs.declared.filter.FilterUsage.{FilterUsage}
-use Rattle.primitive_json.specs.Kinds.{is_numeral, result_contents, address_forms}
-use Rattle.primitive_json.specs.Members.{retrieves, has_result}
+use Rattle.primitive_json.specs.Kinds.{is_numeral, address_forms}
+use Rattle.primitive_json.specs.Members.{retrieves}
 use Rattle.primitive_json.proofs.Numerals.{numeral_bound}
 use Rattle.http_binding.specs.declared.fault.BindFault.{BindFault}
 use Rattle.http_binding.specs.declared.fault.BindFault.TheVariants as bind

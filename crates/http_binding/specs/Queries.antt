@@ -20,12 +20,12 @@ use Rattle.filter_criteria.specs.declared.condition.Condition.TheVariants.{Creat
 use Rattle.filter_criteria.specs.declared.condition.Condition.TheVariants.{CreatedBefore}
 use Rattle.filter_criteria.specs.declared.condition.Condition.TheVariants.{ExpireAfter}
 use Rattle.filter_criteria.specs.declared.condition.Condition.TheVariants.{ExpireBefore}
-use Rattle.filter_criteria.specs.declared.condition.Condition.TheVariants.{Usage, OneLabel, Limit}
+use Rattle.filter_criteria.specs.declared.condition.Condition.TheVariants.{Limit}
 use Rattle.filter_criteria.specs.declared.condition.Condition.TheVariants.{ModifiedSince}
 use Rattle.filter_criteria.specs.declared.condition.Condition.TheVariants.{StateTagBigger}
 use Rattle.filter_criteria.specs.declared.condition.Condition.TheVariants.{StateTagSmaller}
 use Rattle.filter_criteria.specs.declared.condition.Condition.TheVariants.{SizeAbove, SizeBelow}
-use Rattle.filter_criteria.specs.declared.condition.Condition.TheVariants.{OneType, UnmodifiedSince}
+use Rattle.filter_criteria.specs.declared.condition.Condition.TheVariants.{UnmodifiedSince}
 use Rattle.filter_criteria.specs.declared.condition.Sort.{Sort}
 use Rattle.filter_criteria.specs.declared.condition.Sort.TheVariants.{Moment, Count, Labels, Types}
 use Rattle.filter_criteria.specs.declared.condition.Sort.TheVariants.{Use}
