@@ -30,8 +30,8 @@ use Rattle.http_frames.specs.Frame.{body_limit}
 use Rattle.http_frames.specs.Stream.{BeginsWithFrame}
 use Rattle.http_frames.specs.Text.{phrase_of, start_text, line_text, frame_text, IsLine, IsSoundFrame}
 use Rattle.http_frames.proofs.TextLemmas.{written_is_read}
-use Rattle.http_binding.specs.declared.headers.Field.TheVariants.{Id, ContentType}
-use Rattle.http_binding.specs.Headers.{field_name, code_field, length_field, connection_field}
+use Rattle.http_binding.specs.declared.headers.Field.TheVariants.{Id}
+use Rattle.http_binding.specs.Headers.{field_name, type_field, code_field, length_field, connection_field}
 use Rattle.http_binding.specs.Replying.{body_of, id_lines, type_lines, close_lines, reply_lines, reply_frame, reply_text}
 use Rattle.http_binding.specs.Laws.{IsWithinLimits}
 
@@ -119,7 +119,7 @@ unfolding is_token_byte
 short_type None = All-nil IsShortLine
 short_type (Some content) =
     let value = codes "application/json" in
-    All-cons IsShortLine (field_name ContentType, value) [] (short_line (field_name ContentType) value refl (omega arith) (AllPass-from_list_all is_graphic value refl) (omega arith)) (All-nil IsShortLine)
+    All-cons IsShortLine (type_field, value) [] (short_line (type_field) value refl (omega arith) (AllPass-from_list_all is_graphic value refl) (omega arith)) (All-nil IsShortLine)
 
 short_close : (close : Bool) → All IsShortLine (close_lines close)
 unfolding is_token_byte

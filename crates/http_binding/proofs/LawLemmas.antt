@@ -1,62 +1,79 @@
 -- What is known of a frame that binds.
-use Rattle.std.proofs.Common.{◌≡◌, ◌⊎◌, ℕ, Bool, true, false, not, ◌&&◌, ◌||◌, nat_eq, List, [], ◌∷◌, drop, bytes_eq, length, codes, Option, Some, None, is_some, Result, Ok, Err, IfSome, inl, inr, refl, sym, ap, subst, ◌∙◌}
+use Rattle.std.proofs.Common.{◌≡◌, ◌<◌, ◌^◌, ℕ, Bool, true, false, not, ◌||◌, List, [], ◌∷◌, length, Option, Some, None, is_some, Result, Ok, Err, IfSome, refl, sym, ap, subst, ◌∙◌, arith}
 use Rattle.std.specs.Bool.{if◌then◌else◌}
-use Rattle.std.specs.List.{starts_with}
+use Rattle.std.specs.Prelude.{ℤ, option_and_then, option_map, nat_le}
+use Rattle.std.specs.Option.{option_map_or}
 use Rattle.std.specs.Str.{IsUtf8}
+use Rattle.std.specs.Str.Parse.{digits_value}
 use Rattle.std.specs.Result.{result_unwrap_or, is_ok}
 use Rattle.std.proofs.lemmas.Bool.{and_parts, false≢true}
 use Rattle.std.specs.Int.{is_in_range}
-use Rattle.m2m_names.specs.Name.{is_name, is_filled, is_originator}
-use Rattle.m2m_names.proofs.NameLemmas.{unreserved_is_utf8, graphic_is_utf8}
-use Rattle.m2m_names.specs.declared.operations.Op.{Op}
-use Rattle.m2m_names.specs.declared.operations.Op.TheVariants.{Retrieve, Delete}
-use Rattle.primitive_json.specs.Bounds.{is_request_id}
+use Rattle.m2m_names.specs.Name.{is_filled, is_originator, originator_limit}
+use Rattle.m2m_names.specs.StampReading.{moment_at}
+use Rattle.m2m_names.proofs.NameLemmas.{graphic_is_utf8}
 use Rattle.m2m_names.proofs.NameLemmas.{graphic_is_utf8 as id_is_utf8}
+use Rattle.m2m_names.proofs.StampReadingLemmas.{read_last}
+use Rattle.m2m_names.specs.declared.operations.Op.{Op}
+use Rattle.m2m_names.specs.declared.operations.Op.TheVariants.{Create, Retrieve, Update, Notify, Delete as Removal}
+use Rattle.m2m_value.specs.Data.{Data}
+use Rattle.m2m_value.specs.Reading.{reading}
+use Rattle.m2m_value.specs.View.{as_object}
+use Rattle.filter_criteria.specs.Bounds.{IsMoment}
+use Rattle.primitive_json.specs.Bounds.{is_request_id, request_id_limit}
+use Rattle.primitive_json.specs.Kinds.{is_numeral, expiry_spelled, target_limit, result_contents}
+use Rattle.primitive_json.specs.Laws.{IsWhenOfKind, IsShortWhen, IsOfKinds, HasShortExpiry}
+use Rattle.primitive_json.specs.Members.{creates, retrieves, has_content}
+use Rattle.primitive_json.specs.Requests.{IsSoundWhen}
+use Rattle.primitive_json.proofs.Numerals.{numeral_bound}
 use Rattle.primitive_json.specs.declared.request.RequestParts.{RequestParts}
+use Rattle.primitive_json.specs.declared.request.When.{When}
+use Rattle.primitive_json.specs.declared.request.When.TheVariants.{At, Millis}
+use Rattle.http_frames.specs.declared.frame.Frame.{Frame}
 use Rattle.http_frames.specs.declared.frame.Start.{Start}
 use Rattle.http_frames.specs.declared.frame.Start.TheVariants.{Ask, Answer}
-use Rattle.http_frames.specs.declared.frame.Frame.{Frame}
 use Rattle.http_frames.specs.Lines.{Line, values_named}
 use Rattle.http_binding.specs.declared.fault.BindFault.{BindFault}
-use Rattle.http_binding.specs.declared.fault.BindFault.TheVariants.{Method}
+use Rattle.http_binding.specs.declared.fault.BindFault.TheVariants as bind
 use Rattle.http_binding.specs.declared.headers.Field.{Field}
-use Rattle.http_binding.specs.declared.headers.Field.TheVariants.{Origin, Id}
+use Rattle.http_binding.specs.declared.headers.Field.TheVariants.{Origin, Id, Expiry, ContentType, ContentEncoding}
+use Rattle.http_binding.specs.declared.method.Method.{Method}
+use Rattle.http_binding.specs.declared.method.Method.TheVariants.{Get, Post, Put, Delete}
 use Rattle.http_binding.specs.Headers.{field_name, admits, is_some_text}
-use Rattle.http_binding.specs.Binding.{and_then, operation_of, target_name, lone_value, header_value, other_headers, HeaderValues, header_values, required, unless_empty, Caller, caller_of, plain_request, Binds, echo_of}
-use Rattle.http_binding.specs.Laws.{IsPlain}
+use Rattle.http_binding.specs.MediaTypes.{TypeNumber, type_said, type_number, is_short_number}
+use Rattle.http_binding.specs.Targets.{PathAndQuery, TargetValues, target_parts, values_of, is_target}
+use Rattle.http_binding.proofs.QueryLemmas.{reads, IsSaid, said_on, nothing_is_said, filter_sound, filter_kinds, IsSaidFilter}
+use Rattle.http_binding.specs.Queries.{pairs_of, nothing_said, is_result, among}
+use Rattle.http_binding.specs.declared.query.Query.{Query}
+use Rattle.filter_criteria.specs.Filters.{IsSoundFilter}
+use Rattle.filter_criteria.specs.Laws.{IsFilterOfKinds}
+use Rattle.filter_criteria.specs.declared.filter.FilterParts.{FilterParts}
+use Rattle.http_binding.specs.Binding.{method_of, said_by_target, target_of, lone_value, header_value, HeaderValues, header_values, required, unless_empty, Caller, caller_of, operation_of, query_of, kept_result, value_in, object_only, content_in, content_of, created_type, request_of, Binds, echo_of}
 
 pub binds_to_one : (frame : Frame) (request other : RequestParts) → Binds frame request → Binds frame other → request ≡ other
 binds_to_one frame request other h g = ap (λ r. result_unwrap_or r request) (sym h ∙ g)
-
--- what a chain that gives a value has read first, and what it has gone on to
-record Reads {T U : Type 0} (part : Result T BindFault) (next : T → Result U BindFault) (value : U) : Type 0 where
-  first : T
-  read : part ≡ Ok first
-  rest : next first ≡ Ok value
-
-reads : {T U : Type 0} (part : Result T BindFault) (next : T → Result U BindFault) (value : U) → and_then part next ≡ Ok value → Reads part next value
-reads (Ok first) next value h = record { first = first; read = refl; rest = h }
-reads (Err fault) next value h = absurd (false≢true (ap is_ok h))
 
 -- a choice that gives a value has passed its test
 passed : {T : Type 0} (test : Bool) (value read : T) (fault : BindFault) → (if test then Ok value else Err fault) ≡ Ok read → (test ≡ true) × (value ≡ read)
 passed true value read fault h = (refl, ap (λ r. result_unwrap_or r value) h)
 passed false value read fault h = absurd (false≢true (ap is_ok h))
 
-asks_by : (get delete : Bool) (op : Op) → (if get then Ok Retrieve else (if delete then Ok Delete else Err Method)) ≡ Ok op
-    → (op ≡ Retrieve) ⊎ (op ≡ Delete)
-asks_by true delete op h = inl (sym (ap (λ r. result_unwrap_or r Retrieve) h))
-asks_by false delete op h = inr (sym (passed delete Delete op Method h).1)
+chosen : {T : Type 0} (test : Bool) (first : Result T BindFault) (read : T) (fault : BindFault) → (if test then first else Err fault) ≡ Ok read → first ≡ Ok read
+chosen true first read fault h = h
+chosen false first read fault h = absurd (false≢true (ap is_ok h))
 
-asks : (start : Start) (op : Op) → operation_of start ≡ Ok op → (op ≡ Retrieve) ⊎ (op ≡ Delete)
-asks (Ask method target minor) op h = asks_by (bytes_eq method (codes "GET")) (bytes_eq method (codes "DELETE")) op h
-asks (Answer status minor) op h = absurd (false≢true (ap is_ok h))
+-- ---- the target
 
-named : (start : Start) (to : List ℕ) → target_name start ≡ Ok to → is_name to ≡ true
-named (Ask method target minor) to h =
-    let p = passed (starts_with nat_eq target (codes "/") && is_name (drop 1 target)) (drop 1 target) to _ h in
-    subst (λ t. is_name t ≡ true) p.1 (and_parts (starts_with nat_eq target (codes "/")) _ p.0).1
-named (Answer status minor) to h = absurd (false≢true (ap is_ok h))
+said_target : (parts : Option PathAndQuery) (target : TargetValues) → option_map_or said_by_target parts (Err bind.Target) ≡ Ok target → is_target target ≡ true
+said_target None target h = absurd (false≢true (ap is_ok h))
+said_target (Some parts) target h =
+    let p = passed (is_target (values_of parts)) (values_of parts) target _ h in
+    subst (λ t. is_target t ≡ true) p.1 p.0
+
+targets : (start : Start) (target : TargetValues) → target_of start ≡ Ok target → is_target target ≡ true
+targets (Ask name text minor) target h = said_target (target_parts text) target h
+targets (Answer status minor) target h = absurd (false≢true (ap is_ok h))
+
+-- ---- the fields
 
 -- the only value of a field is one that it admits
 admitted : (field : Field) (values : List (List ℕ)) (value : List ℕ) → lone_value field values ≡ Ok (Some value) → admits field value ≡ true
@@ -93,90 +110,242 @@ admitted_any : (field : Field) (lines : List Line) (value : Option (List ℕ)) �
 admitted_any field lines None h = tt
 admitted_any field lines (Some v) h = admitted field (values_named (field_name field) lines) v h
 
+-- a time of expiry is of its kind, and its milliseconds have at most 18 digits
+abbrev IsTimely : When → Type 0
+IsTimely when = IsWhenOfKind when × IsShortWhen when
+
+stamp_timely : (at : Option ℕ) → IfSome at IsMoment → IfSome (option_map At at) IsTimely
+stamp_timely None h = tt
+stamp_timely (Some at) h = (h, tt)
+
+timely_by : (text : List ℕ) (numeral : Bool) → is_numeral text ≡ numeral → IfSome (if numeral then Some (Millis (digits_value 10 text)) else option_map At (moment_at text)) IsTimely
+timely_by text true is = (tt, numeral_bound text is)
+timely_by text false is = stamp_timely (moment_at text) (read_last text (moment_at text) refl)
+
+timely : (value : Option (List ℕ)) → IfSome (option_and_then expiry_spelled value) IsTimely
+timely None = tt
+timely (Some text) = timely_by text (is_numeral text) refl
+
+-- the number of the type that a Create creates is short
+abbrev IsShort : Option ℕ → Type 0
+IsShort number = IfSome number (λ n. nat_le n 65_535 ≡ true)
+
+short_said : (said : Option TypeNumber) → option_map_or is_short_number said false ≡ true → IsShort (option_and_then (λ number. number) said)
+short_said None h = tt
+short_said (Some None) h = tt
+short_said (Some (Some n)) h = h
+
+short_value : (value : Option (List ℕ)) → IfSome value (λ v. admits (ContentType Post) v ≡ true) → IsShort (option_and_then type_number value)
+short_value None h = tt
+short_value (Some v) h = short_said (type_said v) h
+
+created_by_post : (type : Option ℕ) → IsShort type → IsShort (created_type (operation_of Post type) type)
+created_by_post None h = tt
+created_by_post (Some n) h = h
+
+created_short : (method : Method) (lines : List Line) (value : Option (List ℕ)) → header_value (ContentType method) lines ≡ Ok value
+    → IsShort (created_type (operation_of method (option_and_then type_number value)) (option_and_then type_number value))
+created_short Get lines value h = tt
+created_short Put lines value h = tt
+created_short Delete lines value h = tt
+created_short Post lines value h =
+    created_by_post (option_and_then type_number value) (short_value value (admitted_any (ContentType Post) lines value h))
+
 -- what is known of the caller that lines name
-pub record IsCaller (lines : List Line) (caller : Caller) : Type 0 where
+pub record IsCaller (method : Method) (lines : List Line) (caller : Caller) : Type 0 where
   pub originator : IfSome caller.originator (λ o. is_originator o ≡ true)
   pub id : is_request_id caller.id ≡ true
   pub id_is : header_value Id lines ≡ Ok (Some caller.id)
+  pub expiry : IfSome caller.expiry IsTimely
+  pub type : IsShort (created_type (operation_of method caller.type) caller.type)
 
-pub is_caller : (lines : List Line) (caller : Caller) → caller_of lines ≡ Ok caller → IsCaller lines caller
-is_caller lines caller h =
-    let values = reads (header_values lines) _ caller h in
+pub is_caller : (method : Method) (lines : List Line) (caller : Caller) → caller_of method lines ≡ Ok caller → IsCaller method lines caller
+is_caller method lines caller h =
+    let values = reads (header_values method lines) _ caller h in
     let id = reads (required Id values.first.id) _ caller values.rest in
-    let made : Caller = record { originator = unless_empty values.first.origin; id = id.first } in
+    let made : Caller = record {
+      originator = unless_empty values.first.origin;
+      id = id.first;
+      expiry = option_and_then expiry_spelled values.first.expiry;
+      type = option_and_then type_number values.first.type;
+    } in
     let is : made ≡ caller = ap (λ r. result_unwrap_or r made) id.rest in
     let origin_read = reads (header_value Origin lines) _ values.first values.read in
     let id_read = reads (header_value Id lines) _ values.first origin_read.rest in
-    let others = reads (other_headers lines) _ values.first id_read.rest in
-    let found : HeaderValues = record { origin = origin_read.first; id = id_read.first } in
-    let found_is : found ≡ values.first = ap (λ r. result_unwrap_or r found) others.rest in
+    let expiry_read = reads (header_value Expiry lines) _ values.first id_read.rest in
+    let type_read = reads (header_value (ContentType method) lines) _ values.first expiry_read.rest in
+    let coding_read = reads (header_value ContentEncoding lines) _ values.first type_read.rest in
+    let found : HeaderValues = record {
+      origin = origin_read.first;
+      id = id_read.first;
+      expiry = expiry_read.first;
+      type = type_read.first;
+    } in
+    let found_is : found ≡ values.first = ap (λ r. result_unwrap_or r found) coding_read.rest in
     let id_is : header_value Id lines ≡ Ok (Some id.first) =
     id_read.read ∙ ap Ok (ap (λ v. v.id) found_is ∙ there Id values.first.id id.first id.read) in
     let origin_is : header_value Origin lines ≡ Ok values.first.origin = origin_read.read ∙ ap Ok (ap (λ v. v.origin) found_is) in
-    subst (IsCaller lines) is (record {
+    let type_is : header_value (ContentType method) lines ≡ Ok values.first.type = type_read.read ∙ ap Ok (ap (λ v. v.type) found_is) in
+    subst (IsCaller method lines) is (record {
       originator = named_by values.first.origin (admitted_any Origin lines values.first.origin origin_is);
       id = admitted Id (values_named (field_name Id) lines) id.first id_is;
       id_is = id_is;
+      expiry = timely values.first.expiry;
+      type = created_short method lines values.first.type type_is;
     })
 
--- what a frame that binds has said
+-- ---- the content
+
+-- the content is there where the operation has one, and is an object
+abbrev IsContentOf : Op → Option Data → Type 0
+IsContentOf op content = IfSome content (λ d. is_some (as_object d) ≡ true) × (is_some content ≡ has_content op)
+
+an_object : (value : Data) (content : Option Data) → object_only value ≡ Ok content → IfSome content (λ d. is_some (as_object d) ≡ true) × (is_some content ≡ true)
+an_object value content h =
+    let p = passed (is_some (as_object value)) (Some value) content _ h in
+    subst (λ (o : Option Data). IfSome o (λ d. is_some (as_object d) ≡ true) × (is_some o ≡ true)) p.1 (p.0, refl)
+
+a_content : (body : List ℕ) (content : Option Data) → content_in body ≡ Ok content → IfSome content (λ d. is_some (as_object d) ≡ true) × (is_some content ≡ true)
+a_content body content h =
+    let value = reads (value_in (reading body)) object_only content (chosen (is_some_text body) _ content _ h) in
+    an_object value.first content value.rest
+
+abbrev nothing_read : Result (Option Data) BindFault
+nothing_read = Ok None
+
+no_content : (content : Option Data) → nothing_read ≡ Ok content → IfSome content (λ d. is_some (as_object d) ≡ true) × (is_some content ≡ false)
+no_content content h = subst (λ (o : Option Data). IfSome o (λ d. is_some (as_object d) ≡ true) × (is_some o ≡ false)) (ap (λ r. result_unwrap_or r None) h) (tt, refl)
+
+contents : (op : Op) (body : List ℕ) (content : Option Data) → content_of op body ≡ Ok content → IsContentOf op content
+contents Create body content h = a_content body content h
+contents Update body content h = a_content body content h
+contents Notify body content h = a_content body content h
+contents Retrieve body content h = no_content content h
+contents Removal body content h = no_content content h
+
+-- a type is there on a Create alone
+type_by_post : (type : Option ℕ) → is_some (created_type (operation_of Post type) type) ≡ creates (operation_of Post type)
+type_by_post None = refl
+type_by_post (Some n) = refl
+
+type_there : (method : Method) (type : Option ℕ) → is_some (created_type (operation_of method type) type) ≡ creates (operation_of method type)
+type_there Get type = refl
+type_there Put type = refl
+type_there Delete type = refl
+type_there Post type = type_by_post type
+
+-- ---- the query
+
+queries : (op : Op) (query : List ℕ) (q : Query) → query_of op query ≡ Ok q → IsSaid op q
+queries op query q h = said_on op (pairs_of query) nothing_said q (nothing_is_said op) h
+
+result_kind : (op : Op) (number : Option ℤ) → IfSome number (λ z. is_result op z ≡ true) → IfSome (kept_result op number) (λ z. among (result_contents op) z ≡ true)
+result_kind Create number h = h
+result_kind Retrieve number h = h
+result_kind Update number h = h
+result_kind Removal number h = h
+result_kind Notify number h = tt
+
+conditions_kind : (op : Op) (fc : Option FilterParts) → IfSome fc (λ f. (retrieves op ≡ true) × IsSaidFilter f) → IfSome fc (λ f. (retrieves op ≡ true) × IsFilterOfKinds f)
+conditions_kind op None h = tt
+conditions_kind op (Some f) h = (h.0, filter_kinds f h.1)
+
+conditions_sound : (op : Op) (fc : Option FilterParts) → IfSome fc (λ f. (retrieves op ≡ true) × IsSaidFilter f) → IfSome fc IsSoundFilter
+conditions_sound op None h = tt
+conditions_sound op (Some f) h = filter_sound f h.1
+
+pub query_sound : (op : Op) (query : List ℕ) (q : Query) → query_of op query ≡ Ok q → (f : FilterParts) → q.fc ≡ Some f → IsSoundFilter f
+query_sound op query q h f is = subst (λ (o : Option FilterParts). IfSome o IsSoundFilter) is (conditions_sound op q.fc (queries op query q h).fc)
+
+-- ---- the request
+
+-- what a frame that binds has said, part by part
 record Said (frame : Frame) (request : RequestParts) : Type 0 where
-  op : Op
-  to : List ℕ
+  method : Method
+  target : TargetValues
   caller : Caller
-  op_is : (op ≡ Retrieve) ⊎ (op ≡ Delete)
-  to_is : target_name frame.start ≡ Ok to
-  caller_is : IsCaller frame.lines caller
-  request_is : plain_request op to caller ≡ request
+  query : Query
+  content : Option Data
+  target_is : is_target target ≡ true
+  caller_is : IsCaller method frame.lines caller
+  query_is : IsSaid (operation_of method caller.type) query
+  content_is : IsContentOf (operation_of method caller.type) content
+  request_is : request_of (operation_of method caller.type) target.to caller query content ≡ request
 
 says : (frame : Frame) (request : RequestParts) → Binds frame request → Said frame request
 says frame request h =
-    let op = reads (operation_of frame.start) _ request h in
-    let to = reads (target_name frame.start) _ request op.rest in
-    let caller = reads (caller_of frame.lines) _ request to.rest in
+    let method = reads (method_of frame.start) _ request h in
+    let target = reads (target_of frame.start) _ request method.rest in
+    let caller = reads (caller_of method.first frame.lines) _ request target.rest in
+    let op = operation_of method.first caller.first.type in
+    let query = reads (query_of op target.first.query) _ request caller.rest in
+    let content = reads (content_of op frame.body) _ request query.rest in
     record {
-      op = op.first;
-      to = to.first;
+      method = method.first;
+      target = target.first;
       caller = caller.first;
-      op_is = asks frame.start op.first op.read;
-      to_is = to.read;
-      caller_is = is_caller frame.lines caller.first caller.read;
-      request_is = ap (λ r. result_unwrap_or r (plain_request op.first to.first caller.first)) caller.rest;
+      query = query.first;
+      content = content.first;
+      target_is = targets frame.start target.first target.read;
+      caller_is = is_caller method.first frame.lines caller.first caller.read;
+      query_is = queries op target.first.query query.first query.read;
+      content_is = contents op frame.body content.first content.read;
+      request_is = ap (λ r. result_unwrap_or r (request_of op target.first.to caller.first query.first content.first)) content.rest;
     }
 
-pub binds_to_plain : (frame : Frame) (request : RequestParts) → Binds frame request → IsPlain request
-binds_to_plain frame request h =
+timely_kind : (expiry : Option When) → IfSome expiry IsTimely → IfSome expiry IsWhenOfKind
+timely_kind None h = tt
+timely_kind (Some when) h = h.0
+
+timely_short : (expiry : Option When) → IfSome expiry IsTimely → IfSome expiry IsShortWhen
+timely_short None h = tt
+timely_short (Some when) h = h.1
+
+abbrev IsKind : RequestParts → Type 0
+IsKind request = IsOfKinds request × HasShortExpiry request
+
+pub binds_to_kinds : (frame : Frame) (request : RequestParts) → Binds frame request → IsOfKinds request × HasShortExpiry request
+binds_to_kinds frame request h =
     let s = says frame request h in
-    subst IsPlain s.request_is (record {
-      op = s.op_is;
-      to = named frame.start s.to s.to_is;
+    let kinds : IsOfKinds (request_of (operation_of s.method s.caller.type) s.target.to s.caller s.query s.content) = record {
+      to = (and_parts (is_filled target_limit s.target.to) _ s.target_is).0;
       fr = s.caller_is.originator;
       rqi = s.caller_is.id;
-      ty = refl;
-      pc = refl;
-      rqet = refl;
-      rt = refl;
-      rcn = refl;
-      fc = refl;
-      drt = refl;
-    })
+      ty = s.caller_is.type;
+      ty_there = type_there s.method s.caller.type;
+      pc = s.content_is.0;
+      pc_there = s.content_is.1;
+      rqet = timely_kind s.caller.expiry s.caller_is.expiry;
+      rcn = result_kind (operation_of s.method s.caller.type) s.query.rcn s.query_is.rcn;
+      fc = conditions_kind (operation_of s.method s.caller.type) s.query.fc s.query_is.fc;
+      drt = s.query_is.drt;
+    } in
+    subst IsKind s.request_is (kinds, timely_short s.caller.expiry s.caller_is.expiry)
 
 pub echo_is_id : (frame : Frame) (request : RequestParts) → Binds frame request → echo_of frame ≡ Some request.rqi
 echo_is_id frame request h =
     let s = says frame request h in
     ap (λ r. result_unwrap_or r None) s.caller_is.id_is ∙ ap (λ r. Some r.rqi) s.request_is
 
--- the texts of a request are UTF-8
-pub name_utf8 : (start : Start) (to : List ℕ) → target_name start ≡ Ok to → IsUtf8 to
-name_utf8 start to h = unreserved_is_utf8 to (and_parts (is_filled 64 to) _ (named start to h)).1
-
+-- what a caller has is what a request keeps
 text_utf8 : (text : Option (List ℕ)) → IfSome text (λ o. is_originator o ≡ true) → IfSome text IsUtf8
 text_utf8 None one = tt
-text_utf8 (Some o) one = graphic_is_utf8 o (and_parts (is_filled 256 o) _ one).1
+text_utf8 (Some o) one = graphic_is_utf8 o (and_parts (is_filled originator_limit o) _ one).1
 
-pub originator_utf8 : (lines : List Line) (caller : Caller) → caller_of lines ≡ Ok caller → IfSome caller.originator IsUtf8
-originator_utf8 lines caller h = text_utf8 caller.originator (is_caller lines caller h).originator
+pub originator_utf8 : (method : Method) (lines : List Line) (caller : Caller) → caller_of method lines ≡ Ok caller → IfSome caller.originator IsUtf8
+originator_utf8 method lines caller h = text_utf8 caller.originator (is_caller method lines caller h).originator
 
-pub id_utf8 : (lines : List Line) (caller : Caller) → caller_of lines ≡ Ok caller → IsUtf8 caller.id
-id_utf8 lines caller h =
-    id_is_utf8 caller.id (and_parts (is_in_range 1 128 (length caller.id)) _ (is_caller lines caller h).id).1
+pub id_utf8 : (method : Method) (lines : List Line) (caller : Caller) → caller_of method lines ≡ Ok caller → IsUtf8 caller.id
+id_utf8 method lines caller h =
+    id_is_utf8 caller.id (and_parts (is_in_range 1 request_id_limit (length caller.id)) _ (is_caller method lines caller h).id).1
+
+sound_when : (when : When) → IsTimely when → IsSoundWhen when
+sound_when (At at) h = h.0
+sound_when (Millis n) h = let short : n < 10 ^ 18 = h.1 in omega arith
+
+expiry_kept : (expiry : Option When) → IfSome expiry IsTimely → IfSome expiry IsSoundWhen
+expiry_kept None h = tt
+expiry_kept (Some when) h = sound_when when h
+
+pub expiry_sound : (method : Method) (lines : List Line) (caller : Caller) → caller_of method lines ≡ Ok caller → IfSome caller.expiry IsSoundWhen
+expiry_sound method lines caller h = expiry_kept caller.expiry (is_caller method lines caller h).expiry

@@ -1,23 +1,37 @@
--- The request that a frame binds to, or the first fault of the frame (TS-0009, 6.2 and 6.4).
-use Rattle.std.specs.Prelude.{◌≡◌, ℕ, nat_eq, ◌&&◌, ◌⊎◌, List, [], ◌∷◌, drop, bytes_eq, codes}
-use Rattle.std.specs.Prelude.{Option, Some, None, Result, Ok, Err, if◌then◌else◌}
-use Rattle.std.specs.List.{starts_with}
+-- The request that a frame binds to, or the first fault of the frame (TS-0009, 6.2 to 6.5).
+use Rattle.std.specs.Prelude.{◌≡◌, ℕ, ℤ, ◌⊎◌, List, [], ◌∷◌, bytes_eq, codes, is_some, Option, Some}
+use Rattle.std.specs.Prelude.{None, Result, Ok, Err, if◌then◌else◌, option_and_then}
+use Rattle.std.specs.Option.{option_map_or}
 use Rattle.std.specs.Result.{result_unwrap_or}
-use Rattle.m2m_names.specs.Name.{is_name}
 use Rattle.m2m_names.specs.declared.operations.Op.{Op}
-use Rattle.m2m_names.specs.declared.operations.Op.TheVariants.{Retrieve, Delete}
+use Rattle.m2m_names.specs.declared.operations.Op.TheVariants.{Create, Retrieve, Update, Delete}
+use Rattle.m2m_names.specs.declared.operations.Op.TheVariants.{Notify}
+use Rattle.m2m_value.specs.Data.{Data}
+use Rattle.m2m_value.specs.Reading.{reading}
+use Rattle.m2m_value.specs.View.{as_object}
+use Rattle.m2m_value.specs.declared.fault.ValFault.{ValFault}
+use Rattle.m2m_value.specs.declared.fault.ValFault.TheVariants.{NotJson}
+use Rattle.primitive_json.specs.Kinds.{expiry_spelled}
+use Rattle.primitive_json.specs.Members.{creates, has_content, has_result}
 use Rattle.primitive_json.specs.declared.request.RequestParts.{RequestParts}
+use Rattle.primitive_json.specs.declared.request.When.{When}
 use Rattle.http_frames.specs.declared.frame.Start.{Start}
 use Rattle.http_frames.specs.declared.frame.Start.TheVariants.{Ask, Answer}
 use Rattle.http_frames.specs.declared.frame.Frame.{Frame}
 use Rattle.http_frames.specs.Lines.{Line, values_named}
 use Rattle.http_binding.specs.declared.fault.BindFault.{BindFault}
-use Rattle.http_binding.specs.declared.fault.BindFault.TheVariants.{Method, Target, Header}
-use Rattle.http_binding.specs.declared.fault.BindFault.TheVariants.{Missing, OutOfMemory}
+use Rattle.http_binding.specs.declared.fault.BindFault.TheVariants as bind
 use Rattle.http_binding.specs.declared.headers.Field.{Field}
 use Rattle.http_binding.specs.declared.headers.Field.TheVariants.{Origin, Id, Expiry, ContentType}
 use Rattle.http_binding.specs.declared.headers.Field.TheVariants.{ContentEncoding}
+use Rattle.http_binding.specs.declared.method.Method.{Method}
+use Rattle.http_binding.specs.declared.method.Method.TheVariants as by
+use Rattle.http_binding.specs.declared.query.Query.{Query}
 use Rattle.http_binding.specs.Headers.{field_name, admits, is_some_text}
+use Rattle.http_binding.specs.MediaTypes.{type_number}
+use Rattle.http_binding.specs.Queries.{Pair, pairs_of, nothing_said, with_pair}
+use Rattle.http_binding.specs.Targets.{PathAndQuery, TargetValues, target_parts, values_of}
+use Rattle.http_binding.specs.Targets.{is_target}
 
 -- what is read next, of the value of a part; the fault of a part ends the reading
 abbrev pub and_then :
@@ -25,56 +39,63 @@ abbrev pub and_then :
 and_then (Ok value) next = next value
 and_then (Err fault) next = Err fault
 
--- the operation: GET is Retrieve and DELETE is Delete, and methods are compared exactly (TS-0009,
--- 6.2.1; RFC 9110, section 9.1)
-abbrev pub operation_of : Start → Result Op BindFault
-operation_of (Ask method target minor) =
-    if bytes_eq method (codes "GET") then Ok Retrieve
-    else (if bytes_eq method (codes "DELETE") then Ok Delete else Err Method)
-operation_of (Answer status minor) = Err Method
+-- ---- the start line
 
--- the name that stands alone behind `/` (TS-0009, 6.2.2; RFC 9112, section 3.2.1)
-abbrev pub target_name : Start → Result (List ℕ) BindFault
-target_name (Ask method target minor) =
-    if starts_with nat_eq target (codes "/") && is_name (drop 1 target)
-    then Ok (drop 1 target) else Err Target
-target_name (Answer status minor) = Err Target
+-- the methods that are served; they are compared exactly (TS-0009, 6.2.1; RFC 9110, section 9.1)
+abbrev pub method_named : List ℕ → Result Method BindFault
+method_named name =
+    if bytes_eq name (codes "GET") then Ok by.Get
+    else (if bytes_eq name (codes "POST") then Ok by.Post
+    else (if bytes_eq name (codes "PUT") then Ok by.Put
+    else (if bytes_eq name (codes "DELETE") then Ok by.Delete else Err bind.Method)))
+
+abbrev pub method_of : Start → Result Method BindFault
+method_of (Ask name target minor) = method_named name
+method_of (Answer status minor) = Err bind.Method
+
+-- what the path and the query of a target say
+abbrev pub said_by_target : PathAndQuery → Result TargetValues BindFault
+said_by_target parts =
+    if is_target (values_of parts) then Ok (values_of parts) else Err bind.Target
+
+abbrev pub target_of : Start → Result TargetValues BindFault
+target_of (Ask name target minor) =
+    option_map_or said_by_target (target_parts target) (Err bind.Target)
+target_of (Answer status minor) = Err bind.Target
+
+-- ---- the header lines
 
 -- of the values of a field: none, or the only one, which the field admits
 abbrev pub lone_value : Field → List (List ℕ) → Result (Option (List ℕ)) BindFault
 lone_value field [] = Ok None
 lone_value field (value ∷ []) =
-    if admits field value then Ok (Some value) else Err (Header (field_name field))
-lone_value field (value ∷ next ∷ values) = Err (Header (field_name field))
+    if admits field value then Ok (Some value) else Err (bind.Header (field_name field))
+lone_value field (value ∷ next ∷ values) = Err (bind.Header (field_name field))
 
 -- what the lines say of a field (TS-0009, 6.4; RFC 9110, section 5.3)
 abbrev pub header_value : Field → List Line → Result (Option (List ℕ)) BindFault
 header_value field lines = lone_value field (values_named (field_name field) lines)
 
--- the fields that are judged alone
-abbrev pub other_headers : List Line → Result (Unit {0}) BindFault
-other_headers lines =
-    and_then (header_value Expiry lines) λ expiry.
-    and_then (header_value ContentType lines) λ type.
-    and_then (header_value ContentEncoding lines) λ encoding.
-    Ok tt
-
--- what the lines say of the originator and of the request's identifier
+-- what the lines say of each field
 pub record HeaderValues : Type 0 where
   pub origin : Option (List ℕ)
   pub id : Option (List ℕ)
+  pub expiry : Option (List ℕ)
+  pub type : Option (List ℕ)
 
 -- the fields in the order in which their faults are told
-abbrev pub header_values : List Line → Result HeaderValues BindFault
-header_values lines =
+abbrev pub header_values : Method → List Line → Result HeaderValues BindFault
+header_values method lines =
     and_then (header_value Origin lines) λ origin.
     and_then (header_value Id lines) λ id.
-    and_then (other_headers lines) λ others.
-    Ok (record { origin = origin; id = id })
+    and_then (header_value Expiry lines) λ expiry.
+    and_then (header_value (ContentType method) lines) λ type.
+    and_then (header_value ContentEncoding lines) λ encoding.
+    Ok (record { origin = origin; id = id; expiry = expiry; type = type })
 
 -- the value of a field that has to be there (TS-0001, 8.1.2)
 abbrev pub required : Field → Option (List ℕ) → Result (List ℕ) BindFault
-required field None = Err (Missing (field_name field))
+required field None = Err (bind.Missing (field_name field))
 required field (Some value) = Ok value
 
 -- a value that is empty says nothing (TS-0009, 6.4)
@@ -82,41 +103,98 @@ abbrev pub unless_empty : Option (List ℕ) → Option (List ℕ)
 unless_empty None = None
 unless_empty (Some value) = if is_some_text value then Some value else None
 
--- who asks, where that is said, and the identifier of the request
+-- who asks, where that is said, the identifier of the request, when it expires, and the number of
+-- the type that is to be created
 pub record Caller : Type 0 where
   pub originator : Option (List ℕ)
   pub id : List ℕ
+  pub expiry : Option When
+  pub type : Option ℕ
 
 -- the caller that the lines name
-abbrev pub caller_of : List Line → Result Caller BindFault
-caller_of lines =
-    and_then (header_values lines) λ values.
+abbrev pub caller_of : Method → List Line → Result Caller BindFault
+caller_of method lines =
+    and_then (header_values method lines) λ values.
     and_then (required Id values.id) λ id.
-    Ok (record { originator = unless_empty values.origin; id = id })
+    Ok (record {
+      originator = unless_empty values.origin;
+      id = id;
+      expiry = option_and_then expiry_spelled values.expiry;
+      type = option_and_then type_number values.type;
+    })
 
--- a request without content or parameters
-abbrev pub plain_request : Op → List ℕ → Caller → RequestParts
-plain_request op to caller = record {
+-- the operation that a method asks for (TS-0009, 6.2.1): a POST with a type is a Create, and
+-- without one a Notify
+abbrev pub operation_of : Method → Option ℕ → Op
+operation_of by.Get type = Retrieve
+operation_of by.Post type = if is_some type then Create else Notify
+operation_of by.Put type = Update
+operation_of by.Delete type = Delete
+
+-- ---- the query and the body
+
+-- what the pairs say behind what was said, one after another, or the fault of the first that is bad
+abbrev pub said_by : Op → List Pair → Query → Result Query BindFault
+said_by op [] q = Ok q
+said_by op (pair ∷ pairs) q = and_then (with_pair op pair q) (said_by op pairs)
+
+-- what a query says on an operation
+abbrev pub query_of : Op → List ℕ → Result Query BindFault
+query_of op query = said_by op (pairs_of query) nothing_said
+
+-- the value that was read of a body
+abbrev pub value_in : Result Data ValFault → Result Data BindFault
+value_in (Ok value) = Ok value
+value_in (Err why) = Err (bind.Body why)
+
+-- the content of a request is an object (TS-0004, 8.2.2)
+abbrev pub object_only : Data → Result (Option Data) BindFault
+object_only value = if is_some (as_object value) then Ok (Some value) else Err (bind.Body NotJson)
+
+abbrev pub content_in : List ℕ → Result (Option Data) BindFault
+content_in body =
+    if is_some_text body then and_then (value_in (reading body)) object_only
+    else Err (bind.Missing (codes "pc"))
+
+-- the content that a body has, on an operation that has one; any other body is unread
+abbrev pub content_of : Op → List ℕ → Result (Option Data) BindFault
+content_of op body = if has_content op then content_in body else Ok None
+
+-- ---- the request
+
+-- the number of a type, on a Create; else it is unread
+abbrev pub created_type : Op → Option ℕ → Option ℕ
+created_type op type = if creates op then type else None
+
+-- the content of the result, on an operation that has any; else it is unread
+abbrev pub kept_result : Op → Option ℤ → Option ℤ
+kept_result op number = if has_result op then number else None
+
+-- the request of these parts
+abbrev pub request_of : Op → List ℕ → Caller → Query → Option Data → RequestParts
+request_of op to caller query content = record {
   op = op;
   to = to;
   fr = caller.originator;
   rqi = caller.id;
-  ty = None;
-  pc = None;
-  rqet = None;
-  rt = None;
-  rcn = None;
-  fc = None;
-  drt = None;
+  ty = created_type op caller.type;
+  pc = content;
+  rqet = caller.expiry;
+  rt = query.rt;
+  rcn = kept_result op query.rcn;
+  fc = query.fc;
+  drt = query.drt;
 }
 
 -- the request that a frame binds to, or its first fault (TS-0009, 6)
 abbrev pub binding : Frame → Result RequestParts BindFault
 binding frame =
-    and_then (operation_of frame.start) λ op.
-    and_then (target_name frame.start) λ to.
-    and_then (caller_of frame.lines) λ caller.
-    Ok (plain_request op to caller)
+    and_then (method_of frame.start) λ method.
+    and_then (target_of frame.start) λ target.
+    and_then (caller_of method frame.lines) λ caller.
+    and_then (query_of (operation_of method caller.type) target.query) λ query.
+    and_then (content_of (operation_of method caller.type) frame.body) λ content.
+    Ok (request_of (operation_of method caller.type) target.to caller query content)
 
 -- The frame binds to this request, and so to no other.
 abbrev pub Binds : Frame → RequestParts → Type 0
@@ -130,4 +208,4 @@ echo_of frame = result_unwrap_or (header_value Id frame.lines) None
 -- What is answered is what is told, seen so, unless memory ran out.
 abbrev pub ReadsAs : {T U : Type 0} → (T → U) → Result T BindFault → Result U BindFault → Type 0
 ReadsAs view (Ok value) told = told ≡ Ok (view value)
-ReadsAs view (Err fault) told = (fault ≡ OutOfMemory) ⊎ (told ≡ Err fault)
+ReadsAs view (Err fault) told = (fault ≡ bind.OutOfMemory) ⊎ (told ≡ Err fault)

@@ -1,8 +1,10 @@
--- The header fields of the binding, and what lines say under one name (TS-0009, 6.4; RFC 9110,
--- section 5).
-use Rattle.std.specs.Prelude.{ℕ, Bool, true, false, not, ◌||◌, nat_lt, List, length, codes}
+-- The header fields of the binding, and what they may say (TS-0009, 6.4; RFC 9110, section 5).
+use Rattle.std.specs.Prelude.{ℕ, Bool, not, ◌||◌, nat_lt, List, length, codes, bytes_eq}
+use Rattle.std.specs.Prelude.{is_some}
 use Rattle.m2m_names.specs.Name.{is_originator}
 use Rattle.primitive_json.specs.Bounds.{is_request_id}
+use Rattle.primitive_json.specs.Kinds.{expiry_spelled}
+use Rattle.http_binding.specs.MediaTypes.{admits_type}
 use Rattle.http_binding.specs.declared.headers.Field.{Field}
 use Rattle.http_binding.specs.declared.headers.Field.TheVariants.{Origin, Id, Expiry, ContentType}
 use Rattle.http_binding.specs.declared.headers.Field.TheVariants.{ContentEncoding}
@@ -13,12 +15,15 @@ abbrev pub field_name : Field → List ℕ
 field_name Origin = codes "X-M2M-Origin"
 field_name Id = codes "X-M2M-RI"
 field_name Expiry = codes "X-M2M-RET"
-field_name ContentType = codes "Content-Type"
+field_name (ContentType method) = codes "Content-Type"
 field_name ContentEncoding = codes "Content-Encoding"
 
--- the names of fields that are written in a reply alone
+-- the names of other fields that are written, or read in a reply
 abbrev pub code_field : List ℕ
 code_field = codes "X-M2M-RSC"
+
+abbrev pub type_field : List ℕ
+type_field = codes "Content-Type"
 
 abbrev pub length_field : List ℕ
 length_field = codes "Content-Length"
@@ -30,11 +35,11 @@ connection_field = codes "Connection"
 abbrev pub is_some_text : List ℕ → Bool
 is_some_text text = nat_lt 0 (length text)
 
--- the values that a field may have: an originator or nothing, a request identifier, any type of
--- content, and no time of expiry or coding, since none is served
+-- the values that a field may have: an originator or nothing, a request identifier, a timestamp or
+-- digits, a type of content as the method has it, and the coding `identity`
 abbrev pub admits : Field → List ℕ → Bool
 admits Origin value = not (is_some_text value) || is_originator value
 admits Id value = is_request_id value
-admits Expiry value = false
-admits ContentType value = true
-admits ContentEncoding value = false
+admits Expiry value = is_some (expiry_spelled value)
+admits (ContentType method) value = admits_type method value
+admits ContentEncoding value = bytes_eq value (codes "identity")

@@ -1,9 +1,7 @@
 -- Laws of the binding.
-use Rattle.std.specs.Prelude.{◌≡◌, ◌⊎◌, ◌≤◌, ℕ, Bool, List, ◌++◌, length, IsTrue, Some, None}
-use Rattle.std.specs.Prelude.{IfSome}
-use Rattle.m2m_names.specs.Name.{is_name, is_originator}
-use Rattle.m2m_names.specs.declared.operations.Op.TheVariants.{Retrieve, Delete}
+use Rattle.std.specs.Prelude.{◌≡◌, ◌≤◌, ℕ, Bool, List, ◌++◌, length, IsTrue, Some, IfSome}
 use Rattle.primitive_json.specs.Bounds.{is_request_id}
+use Rattle.primitive_json.specs.Laws.{IsOfKinds, HasShortExpiry}
 use Rattle.primitive_json.specs.declared.request.RequestParts.{RequestParts}
 use Rattle.primitive_json.specs.declared.reply.ReplyParts.{ReplyParts}
 use Rattle.http_frames.specs.declared.frame.Frame.{Frame}
@@ -20,25 +18,12 @@ BindsToOne =
     (frame : Frame) (request other : RequestParts) → Binds frame request → Binds frame other
     → request ≡ other
 
--- What a request says to which a frame binds: a Retrieve or a Delete of a name, by an originator
--- where one is named, and nothing else.
-pub record IsPlain (request : RequestParts) : Type 0 where
-  pub op : (request.op ≡ Retrieve) ⊎ (request.op ≡ Delete)
-  pub to : IsTrue (is_name request.to)
-  pub fr : IfSome request.fr (λ o. IsTrue (is_originator o))
-  pub rqi : IsTrue (is_request_id request.rqi)
-  pub ty : request.ty ≡ None
-  pub pc : request.pc ≡ None
-  pub rqet : request.rqet ≡ None
-  pub rt : request.rt ≡ None
-  pub rcn : request.rcn ≡ None
-  pub fc : request.fc ≡ None
-  pub drt : request.drt ≡ None
-
--- A frame binds to plain requests alone.
-abbrev pub BindsToPlain : Type 0
-BindsToPlain =
-    (frame : Frame) (request : RequestParts) → Binds frame request → IsPlain request
+-- A frame binds to requests alone whose parameters are of their kinds (TS-0004, 8.2.2), and whose
+-- milliseconds have at most 18 digits.
+abbrev pub BindsToKinds : Type 0
+BindsToKinds =
+    (frame : Frame) (request : RequestParts) → Binds frame request
+    → IsOfKinds request × HasShortExpiry request
 
 -- The reply to a frame that binds repeats the identifier of the request.
 abbrev pub EchoIsId : Type 0

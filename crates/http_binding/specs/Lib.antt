@@ -1,5 +1,9 @@
 pub mod Faults
+pub mod MediaTypes
 pub mod Headers
+pub mod Targets
+pub mod Queries
 pub mod Binding
+pub mod Seen
 pub mod Replying
 pub mod Laws

@@ -2,15 +2,19 @@
 ghost use Rattle.std.specs.Prelude.{◌≡◌, ◌⊎◌, IfOk, IfSome, IsUtf8};
 ghost use Rattle.std.specs.Option.{option_copied};
 ghost use Rattle.http_binding.specs.Headers as spec;
-ghost use Rattle.http_binding.specs.Binding.{header_value, header_values, other_headers};
+ghost use Rattle.http_binding.specs.Binding.{header_value, header_values};
+ghost use Rattle.http_binding.specs.Seen.{seen_values, seen_caller};
 ghost use Rattle.http_binding.specs.Binding.{required, unless_empty, caller_of, echo_of, ReadsAs};
 ghost use Rattle.http_binding.specs.declared.fault.BindFault.TheVariants as fault;
 
+use crate::digits::expiry_spelled;
+use crate::media_type::{admits_type, type_number};
+use crate::method::Method;
 use crate::{BindFault, OutOfMemory};
 use http_frames::{Found, Frame, Lines};
 use m2m_names::is_originator;
 use m2m_value::Text;
-use primitive_json::is_request_id;
+use primitive_json::{When, is_request_id};
 use std::alloc::Global;
 
 /// A field that is read.
@@ -19,7 +23,8 @@ pub(crate) enum Field {
     Origin,
     Id,
     Expiry,
-    ContentType,
+    /// The type of the content, which is judged by the method.
+    ContentType(Method),
     ContentEncoding,
 }
 
@@ -31,7 +36,7 @@ impl Field {
             Field::Origin => b"X-M2M-Origin",
             Field::Id => b"X-M2M-RI",
             Field::Expiry => b"X-M2M-RET",
-            Field::ContentType => b"Content-Type",
+            Field::ContentType(_) => b"Content-Type",
             Field::ContentEncoding => b"Content-Encoding",
         }
     }
@@ -42,8 +47,9 @@ impl Field {
         match self {
             Field::Origin => value.is_empty() || is_originator(value),
             Field::Id => is_request_id(value),
-            Field::ContentType => true,
-            Field::Expiry | Field::ContentEncoding => false,
+            Field::Expiry => expiry_spelled(value).is_some(),
+            Field::ContentType(method) => admits_type(method, value),
+            Field::ContentEncoding => value == b"identity".as_slice(),
         }
     }
 
@@ -95,40 +101,44 @@ impl Field {
     }
 }
 
-/// What lines say of the originator and of the request's identifier, where they do.
+/// What lines say of each field, where they do.
 #[derive(Clone, Copy)]
 struct HeaderValues<'a> {
     origin: Option<&'a [u8]>,
     id: Option<&'a [u8]>,
+    expiry: Option<&'a [u8]>,
+    ty: Option<&'a [u8]>,
 }
 
-/// Who asks, where that is said, and the identifier of the request.
+/// Who asks, where that is said, the identifier of the request, when it expires, and the number of
+/// the type that is to be created.
 #[derive(Clone, Copy)]
 pub(crate) struct Caller<'a> {
     pub(crate) originator: Option<&'a [u8]>,
     pub(crate) id: &'a [u8],
-}
-
-/// Judges the fields that are judged alone.
-fn other_headers(alloc: Global, lines: &Lines) -> Result<(), BindFault>
-    ensures { ReadsAs (λ unit. unit) result (other_headers lines.now) }
-{
-    Field::Expiry.value(alloc, lines)?;
-    Field::ContentType.value(alloc, lines)?;
-    Field::ContentEncoding.value(alloc, lines)?;
-    Ok(())
+    pub(crate) expiry: Option<When>,
+    pub(crate) ty: Option<u32>,
 }
 
 /// The fields in the order in which their faults are told.
-fn header_values(alloc: Global, lines: &Lines) -> Result<HeaderValues<'_>, BindFault>
-    ensures { ReadsAs
-        (λ values. record { origin = option_copied values.origin; id = option_copied values.id })
-        result (header_values lines.now) }
+fn header_values(
+    alloc: Global,
+    method: Method,
+    lines: &Lines,
+) -> Result<HeaderValues<'_>, BindFault>
+    ensures { ReadsAs seen_values result (header_values method lines.now) }
 {
     let origin = Field::Origin.value(alloc, lines)?;
     let id = Field::Id.value(alloc, lines)?;
-    other_headers(alloc, lines)?;
-    Ok(HeaderValues { origin, id })
+    let expiry = Field::Expiry.value(alloc, lines)?;
+    let ty = Field::ContentType(method).value(alloc, lines)?;
+    Field::ContentEncoding.value(alloc, lines)?;
+    Ok(HeaderValues {
+        origin,
+        id,
+        expiry,
+        ty,
+    })
 }
 
 /// The value, unless it is empty.
@@ -142,16 +152,20 @@ fn unless_empty(value: Option<&[u8]>) -> Option<&[u8]>
 }
 
 /// The caller that the lines name.
-pub(crate) fn caller_of(alloc: Global, lines: &Lines) -> Result<Caller<'_>, BindFault>
-    ensures { ReadsAs
-        (λ caller. record { originator = option_copied caller.originator; id = caller.id.now })
-        result (caller_of lines.now) }
+pub(crate) fn caller_of(
+    alloc: Global,
+    method: Method,
+    lines: &Lines,
+) -> Result<Caller<'_>, BindFault>
+    ensures { ReadsAs seen_caller result (caller_of method lines.now) }
 {
-    let values = header_values(alloc, lines)?;
+    let values = header_values(alloc, method, lines)?;
     let id = Field::Id.required(alloc, values.id)?;
     Ok(Caller {
         originator: unless_empty(values.origin),
         id,
+        expiry: values.expiry.and_then(|value| expiry_spelled(value)),
+        ty: values.ty.and_then(|value| type_number(value)),
     })
 }
 

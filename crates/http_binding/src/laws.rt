@@ -1,7 +1,7 @@
 //! Laws of the definitions.
 ghost use Rattle.http_binding.specs.Laws.{
   BindsToOne,
-  BindsToPlain,
+  BindsToKinds,
   EchoIsId,
   ReplyIsReadBack,
 };
@@ -11,10 +11,10 @@ pub fn a_frame_binds_to_one_request()
     ensures { BindsToOne }
 {}
 
-/// A frame binds to a Retrieve or a Delete of a name, by an originator where one is named, and to
-/// nothing else.
-pub fn a_frame_binds_to_plain_requests()
-    ensures { BindsToPlain }
+/// A frame binds to requests alone whose parameters are of their kinds, with those that the
+/// operation needs, and no others that it doesn't read.
+pub fn a_frame_binds_to_requests_of_their_kinds()
+    ensures { BindsToKinds }
 {}
 
 /// The identifier that is told of a frame that binds is the request's.

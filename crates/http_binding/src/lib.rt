@@ -1,24 +1,32 @@
 //! The HTTP binding of oneM2M (TS-0009), between frames and primitives: `to_request` gives the
 //! request that a frame binds to, or the first fault of the frame; `echo_id` the identifier that a
 //! reply to it repeats, also where it binds to none; `of_reply` the frame of a reply, and
-//! `write_reply` its bytes. So far a frame binds where it is a GET or a DELETE of `/` and one
-//! name, with an X-M2M-RI. Callers see the binding as a function of the frame (`binding`, the
-//! chain of the parts of a request in the order of their faults), and the bytes of a reply as those
-//! of its frame (`reply_text`). They answer a frame that binds to nothing themselves, and say whether the
+//! `write_reply` its bytes. Callers see the binding as a function of the frame (`binding`, the chain
+//! of the parts of a request in the order of their faults), and the bytes of a reply as those of its
+//! frame (`reply_text`). They answer a frame that binds to nothing themselves, and say whether the
 //! connection closes behind a reply.
+//!
+//! The parts of a request each have a module: the method, the target with the address that a path
+//! is, the header fields with the type of the content, the query with the conditions of a filter,
+//! and the body.
 #![tactic(auto)]
 
+mod digits;
 mod fault;
 mod headers;
 mod laws;
+mod media_type;
+mod method;
+mod query;
 mod reply;
 mod request;
+mod target;
 mod writing;
 
 pub use fault::BindFault;
 pub use headers::echo_id;
 pub use laws::{
-    a_frame_binds_to_one_request, a_frame_binds_to_plain_requests, a_reply_is_read_back,
+    a_frame_binds_to_one_request, a_frame_binds_to_requests_of_their_kinds, a_reply_is_read_back,
     the_echo_is_the_request_id,
 };
 pub use reply::of_reply;

@@ -1,42 +1,27 @@
 //! The request that a frame binds to.
 ghost use Rattle.std.specs.Prelude.{◌≡◌, IfOk, IfSome, IsUtf8};
-ghost use Rattle.std.specs.Option.{option_copied};
-ghost use Rattle.http_binding.specs.Binding.{operation_of, target_name, plain_request, binding};
-ghost use Rattle.http_binding.specs.Binding.{ReadsAs};
+ghost use Rattle.std.specs.Option.{ForSome, option_copied};
+ghost use Rattle.filter_criteria.specs.Filters.{IsSoundFilter};
+ghost use Rattle.m2m_value.specs.Reading.{reading};
+ghost use Rattle.primitive_json.specs.Requests.{IsSoundWhen};
+ghost use Rattle.http_binding.specs.Binding as spec;
+ghost use Rattle.http_binding.specs.Binding.{binding, ReadsAs};
+ghost use Rattle.http_binding.specs.Seen.{seen_caller};
 
 use crate::headers::{Caller, caller_of};
+use crate::method::Method;
+use crate::query::{Query, query_of};
+use crate::target::target_of;
 use crate::{BindFault, OutOfMemory};
-use http_frames::{Frame, Start};
-use m2m_names::{Op, is_name};
-use m2m_value::Text;
+use filter_criteria::{Filter, FilterParts};
+use http_frames::Frame;
+use m2m_names::Op;
+use m2m_value::{Text, Val, ValFault, read};
 use primitive_json::{Request, RequestParts};
 use std::alloc::Global;
 
-/// The operation that a frame asks for.
-fn operation(start: &Start) -> Result<Op, BindFault>
-    ensures { ReadsAs (λ op. op) result (operation_of start.now) }
-{
-    match start {
-        Start::Ask { method, .. } if method.entries() == b"GET".as_slice() => Ok(Op::Retrieve),
-        Start::Ask { method, .. } if method.entries() == b"DELETE".as_slice() => Ok(Op::Delete),
-        _ => Err(BindFault::Method),
-    }
-}
-
-/// The name that stands alone behind `/`.
-fn target_name(start: &Start) -> Result<&[u8], BindFault>
-    ensures { ReadsAs (λ name. name.now) result (target_name start.now) }
-{
-    let Start::Ask { target, .. } = start else {
-        return Err(BindFault::Target);
-    };
-    let target = target.entries();
-    if target.starts_with(b"/") && is_name(&target[1..]) {
-        Ok(&target[1..])
-    } else {
-        Err(BindFault::Target)
-    }
-}
+/// The name of the parameter that the body is.
+const CONTENT: &[u8] = b"pc";
 
 /// The text, where there is one, as one of its own.
 fn copy_of(alloc: Global, text: Option<&[u8]>) -> Result<Option<Text>, OutOfMemory>
@@ -48,42 +33,123 @@ fn copy_of(alloc: Global, text: Option<&[u8]>) -> Result<Option<Text>, OutOfMemo
     }
 }
 
-/// A request without content or parameters.
-fn plain_request(
+/// The value that a body is.
+fn value_in(alloc: Global, body: &[u8]) -> Result<Val, BindFault>
+    ensures { ReadsAs (λ value. value) result (spec.value_in (reading body.now)) }
+{
+    match read(alloc, body) {
+        Ok(value) => Ok(value),
+        Err(ValFault::OutOfMemory) => Err(BindFault::OutOfMemory),
+        Err(fault) => Err(BindFault::Body(fault)),
+    }
+}
+
+/// The value, which has to be an object.
+fn object_only(value: Val) -> Result<Option<Val>, BindFault>
+    ensures { ReadsAs (λ content. content) result (spec.object_only value) }
+{
+    if value.as_obj().is_some() {
+        Ok(Some(value))
+    } else {
+        Err(BindFault::Body(ValFault::NotJson))
+    }
+}
+
+/// The content that a body is.
+fn content_in(alloc: Global, body: &[u8]) -> Result<Option<Val>, BindFault>
+    ensures { ReadsAs (λ content. content) result (spec.content_in body.now) }
+{
+    if body.is_empty() {
+        return Err(BindFault::Missing(Text::from_slice(alloc, CONTENT)?));
+    }
+    object_only(value_in(alloc, body)?)
+}
+
+/// The content that a body has, on an operation that has one.
+fn content_of(alloc: Global, op: Op, body: &[u8]) -> Result<Option<Val>, BindFault>
+    ensures { ReadsAs (λ content. content) result (spec.content_of op body.now) }
+{
+    match op {
+        Op::Create | Op::Update | Op::Notify => content_in(alloc, body),
+        Op::Retrieve | Op::Delete => Ok(None),
+    }
+}
+
+/// The number of the type that is to be created, on a Create.
+fn created_type(op: Op, ty: Option<u32>) -> Option<u32>
+    ensures { result ≡ spec.created_type op ty }
+{
+    match op {
+        Op::Create => ty,
+        Op::Retrieve | Op::Update | Op::Delete | Op::Notify => None,
+    }
+}
+
+/// The content of the result, on an operation that has any.
+fn kept_result(op: Op, number: Option<i64>) -> Option<i64>
+    ensures { result ≡ spec.kept_result op number }
+{
+    match op {
+        Op::Create | Op::Retrieve | Op::Update | Op::Delete => number,
+        Op::Notify => None,
+    }
+}
+
+/// The filter of conditions, where there are any.
+fn filter_of(conditions: Option<FilterParts>) -> Option<Filter>
+    requires { ForSome conditions IsSoundFilter }
+    ensures { result ≡ conditions }
+{
+    match conditions {
+        Some(parts) => Some(Filter::of(parts)),
+        None => None,
+    }
+}
+
+/// The request of these parts.
+fn request_of(
     alloc: Global,
     op: Op,
-    to: &[u8],
+    to: Text,
     caller: Caller<'_>,
+    query: Query,
+    content: Option<Val>,
 ) -> Result<Request, OutOfMemory>
-    requires to { IsUtf8 to.now }
+    requires to { IsUtf8 to }
     requires originator { IfSome (option_copied caller.originator) IsUtf8 }
     requires id { IsUtf8 caller.id.now }
-    ensures { IfOk result (λ request. request ≡ plain_request op to.now
-        (record { originator = option_copied caller.entry.originator; id = caller.entry.id.now })) }
+    requires expiry { IfSome caller.expiry IsSoundWhen }
+    requires filter { ForSome query.fc IsSoundFilter }
+    ensures { IfOk result (λ request. request
+        ≡ spec.request_of op to (seen_caller caller.entry) query content) }
 {
     Ok(Request::of(RequestParts {
         op,
-        to: Text::from_slice(alloc, to)?,
+        to,
         fr: copy_of(alloc, caller.originator)?,
         rqi: Text::from_slice(alloc, caller.id)?,
-        ty: None,
-        pc: None,
-        rqet: None,
-        rt: None,
-        rcn: None,
-        fc: None,
-        drt: None,
+        ty: created_type(op, caller.ty),
+        pc: content,
+        rqet: caller.expiry,
+        rt: query.rt,
+        rcn: kept_result(op, query.rcn),
+        fc: filter_of(query.fc),
+        drt: query.drt,
     }))
 }
 
-/// The request that a frame binds to, or why it binds to none: the first fault of the frame. Served
-/// so far is GET or DELETE of `/` and one name, with one X-M2M-RI. The texts that the request keeps
-/// are copied, and nothing else of the frame.
+/// The request that a frame binds to (TS-0009, 6.2 to 6.5), or why it binds to none: the first of
+/// its faults, in the order of method, target, header fields as they stand in the table, the
+/// identifier where it is missing, the pairs of the query, and the body. The texts that the request
+/// keeps are copied, the body is read into its content, and nothing else of the frame is kept.
 pub fn to_request(alloc: Global, frame: &Frame) -> Result<Request, BindFault>
     ensures { ReadsAs (λ request. request) result (binding frame.now) }
 {
-    let op = operation(&frame.start)?;
-    let to = target_name(&frame.start)?;
-    let caller = caller_of(alloc, &frame.lines)?;
-    Ok(plain_request(alloc, op, to, caller)?)
+    let method = Method::of(&frame.start)?;
+    let target = target_of(alloc, &frame.start)?;
+    let caller = caller_of(alloc, method, &frame.lines)?;
+    let op = method.operation(caller.ty);
+    let query = query_of(alloc, op, target.query)?;
+    let content = content_of(alloc, op, frame.body.entries())?;
+    Ok(request_of(alloc, op, target.to, caller, query, content)?)
 }

@@ -1,0 +1,98 @@
+-- What a line Content-Type says (TS-0009, 6.4.3; RFC 9110, section 8.3).
+use Rattle.std.specs.Prelude.{ℕ, ◌-◌, ◌==◌, nat_le, Bool, true, false, ◌&&◌, List, [], ◌∷◌}
+use Rattle.std.specs.Prelude.{length, take, drop, fold, codes, bytes_eq, Option, Some, None}
+use Rattle.std.specs.Prelude.{is_some, option_and_then, if◌then◌else◌}
+use Rattle.std.specs.List.{list_all, list_any, prefix_len, suffix_len, slice_split}
+use Rattle.std.specs.Char.{is_ascii_digit}
+use Rattle.std.specs.Option.{option_map_or}
+use Rattle.std.specs.Str.Parse.{digits_value}
+use Rattle.http_uri.specs.ByteClasses.{split_once_front, split_once_back}
+use Rattle.m2m_names.specs.Name.{is_filled}
+use Rattle.http_frames.specs.Lines.{is_same_name}
+use Rattle.http_binding.specs.declared.method.Method.{Method}
+use Rattle.http_binding.specs.declared.method.Method.TheVariants.{Get, Post, Put, Delete}
+
+abbrev pub is_space : ℕ → Bool
+is_space b = b == 32
+
+-- a text without the spaces around it
+abbrev pub behind_spaces : List ℕ → List ℕ
+behind_spaces text = drop (prefix_len is_space text) text
+
+abbrev pub before_spaces : List ℕ → List ℕ
+before_spaces text = take (length text - suffix_len is_space text) text
+
+abbrev pub between_spaces : List ℕ → List ℕ
+between_spaces text = before_spaces (behind_spaces text)
+
+-- the byte between a type and its parameters
+abbrev pub semicolon : ℕ
+semicolon = 59
+
+-- what stands before the first semicolon
+abbrev pub front_of : List ℕ → List ℕ
+front_of value = between_spaces (split_once_front semicolon value)
+
+-- what stands between the semicolons behind it
+abbrev pub parameters_of : List ℕ → List (List ℕ)
+parameters_of value =
+    option_map_or (slice_split (λ b. b == semicolon)) (split_once_back semicolon value) []
+
+-- the types that a content may have; they are compared without regard to case
+abbrev pub media_types : List (List ℕ)
+media_types =
+    codes "application/json" ∷ codes "application/vnd.onem2m-res+json"
+    ∷ codes "application/vnd.onem2m-ntfy+json" ∷ []
+
+abbrev pub is_media_type : List ℕ → Bool
+is_media_type text = list_any (is_same_name text) media_types
+
+-- what a type of content says of the type that is to be created: its number, or nothing
+abbrev pub TypeNumber : Type 0
+TypeNumber = Option ℕ
+
+-- 1 to 5 digits
+abbrev pub is_type_digits : List ℕ → Bool
+is_type_digits text = is_filled 5 text && list_all is_ascii_digit text
+
+-- what is said with the value of one more `ty`, which has to be digits
+abbrev pub type_digits_said : List ℕ → Option TypeNumber
+type_digits_said digits =
+    if is_type_digits digits then Some (Some (digits_value 10 digits)) else None
+
+-- what is said with one more parameter, behind what was said before: a parameter has a name and a
+-- value, on the two sides of the first `=`; other names than `ty` are unread
+abbrev pub parameter_said : TypeNumber → List ℕ → List ℕ → Option TypeNumber
+parameter_said before name value =
+    if (length name == 0) then None
+    else (if bytes_eq name (codes "ty") then type_digits_said value else Some before)
+
+abbrev pub piece_said : TypeNumber → List ℕ → Option TypeNumber
+piece_said before piece =
+    option_map_or (parameter_said before (split_once_front 61 piece)) (split_once_back 61 piece) None
+
+abbrev pub next_said : Option TypeNumber → List ℕ → Option TypeNumber
+next_said before piece =
+    option_and_then (λ said. piece_said said (between_spaces piece)) before
+
+-- what the value of a line says of the type that is to be created, by its last `ty`; nothing where
+-- the value is no type of content with parameters
+abbrev pub type_said : List ℕ → Option TypeNumber
+type_said value =
+    if is_media_type (front_of value) then fold next_said (Some None) (parameters_of value) else None
+
+-- the number of that type
+abbrev pub type_number : List ℕ → TypeNumber
+type_number value = option_and_then (λ said. said) (type_said value)
+
+-- a number that a type may have
+abbrev pub is_short_number : TypeNumber → Bool
+is_short_number number = option_map_or (λ n. nat_le n 65_535) number true
+
+-- what the line may be: on PUT and on POST a type of content, on POST with the number of a type,
+-- if with any; on GET and DELETE anything, since they have no content
+abbrev pub admits_type : Method → List ℕ → Bool
+admits_type Get value = true
+admits_type Delete value = true
+admits_type Put value = is_some (type_said value)
+admits_type Post value = option_map_or is_short_number (type_said value) false

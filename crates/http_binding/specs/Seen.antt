@@ -1,0 +1,30 @@
+-- What contracts see of the parts of a request that are lent by a frame.
+use Rattle.std.specs.Option.{option_copied}
+use Rattle.http_binding.specs.declared.headers.HeaderValues as declared
+use Rattle.http_binding.specs.declared.headers.Caller as lent
+use Rattle.http_binding.specs.declared.target.PathAndQuery as split
+use Rattle.http_binding.specs.declared.target.Target as aimed
+use Rattle.http_binding.specs.Binding.{HeaderValues, Caller}
+use Rattle.http_binding.specs.Targets.{PathAndQuery, TargetValues}
+
+abbrev pub seen_values : declared.HeaderValues → HeaderValues
+seen_values values = record {
+  origin = option_copied values.origin;
+  id = option_copied values.id;
+  expiry = option_copied values.expiry;
+  type = option_copied values.ty;
+}
+
+abbrev pub seen_caller : lent.Caller → Caller
+seen_caller caller = record {
+  originator = option_copied caller.originator;
+  id = caller.id.now;
+  expiry = caller.expiry;
+  type = caller.ty;
+}
+
+abbrev pub seen_parts : split.PathAndQuery → PathAndQuery
+seen_parts parts = record { path = parts.path.now; query = option_copied parts.query }
+
+abbrev pub seen_target : aimed.Target → TargetValues
+seen_target target = record { to = target.to; query = target.query.now }

@@ -1,0 +1,104 @@
+-- The target of a request: its path and its query (RFC 9112, section 3.2), and the address that a
+-- path is (TS-0009, 6.2.2).
+use Rattle.std.specs.Prelude.{ℕ, ◌==◌, nat_eq, nat_lt, nat_le, Bool, true, false, ◌&&◌, ◌||◌, List, []}
+use Rattle.std.specs.Prelude.{◌∷◌, length, drop, codes, Option, Some, None, if◌then◌else◌, unwrap_or}
+use Rattle.std.specs.List.{list_all, starts_with}
+use Rattle.std.specs.Option.{option_map_or}
+use Rattle.std.specs.Str.{is_utf8}
+use Rattle.http_uri.specs.ByteClasses.{slash, percent_sign, question_mark, is_path_byte}
+use Rattle.http_uri.specs.ByteClasses.{is_query_byte, split_once_front, split_once_back}
+use Rattle.http_uri.specs.Grammar.{path_of, query_of, without_fragment}
+use Rattle.m2m_names.specs.Name.{is_filled}
+use Rattle.primitive_json.specs.Kinds.{target_limit}
+
+-- ---- the forms of a target
+
+-- the path of a target, and its query, where it has one
+pub record PathAndQuery : Type 0 where
+  pub path : List ℕ
+  pub query : Option (List ℕ)
+
+abbrev pub parts_of : List ℕ → PathAndQuery
+parts_of text = record { path = path_of text; query = query_of text }
+
+-- a path and perhaps a query, of the bytes that these may have
+abbrev pub is_path_and_query : List ℕ → Bool
+is_path_and_query text =
+    list_all is_path_byte (split_once_front question_mark text)
+    && option_map_or (list_all is_query_byte) (split_once_back question_mark text) true
+    && is_utf8 text
+
+-- the most bytes that a URI has
+abbrev pub uri_limit : ℕ
+uri_limit = 65534
+
+-- origin-form: `/`, a path and perhaps a query; a fragment is dropped (RFC 9112, section 3.2.1)
+abbrev pub is_origin_form : List ℕ → Bool
+is_origin_form target =
+    starts_with nat_eq target (codes "/") && nat_le (length target) uri_limit
+    && is_path_and_query (without_fragment target)
+
+-- the path and the query of a target
+abbrev pub target_parts : List ℕ → Option PathAndQuery
+target_parts target =
+    if is_origin_form target then Some (parts_of (without_fragment target)) else None
+
+-- ---- the address that a path is
+
+-- the three bytes are `%7E` or `%7e`
+abbrev pub is_coded_tilde : ℕ → ℕ → ℕ → Bool
+is_coded_tilde a b c = (a == percent_sign) && (b == 55) && ((c == 69) || (c == 101))
+
+-- and so are the first bytes
+abbrev pub begins_coded : List ℕ → Bool
+begins_coded [] = false
+begins_coded (a ∷ []) = false
+begins_coded (a ∷ b ∷ []) = false
+begins_coded (a ∷ b ∷ c ∷ path) = is_coded_tilde a b c
+
+-- the path with `~` for each `%7E` and `%7e` (RFC 3986, section 2.3); nothing else is decoded
+unfoldable pub with_tildes : List ℕ → List ℕ
+with_tildes [] = []
+with_tildes (a ∷ []) = a ∷ []
+with_tildes (a ∷ b ∷ []) = a ∷ b ∷ []
+with_tildes (a ∷ b ∷ c ∷ path) =
+    if is_coded_tilde a b c then 126 ∷ with_tildes path else a ∷ with_tildes (b ∷ c ∷ path)
+
+-- the text begins with a segment of at least one byte
+abbrev pub has_segment : List ℕ → Bool
+has_segment text = nat_lt 0 (length (split_once_front slash text))
+
+-- `/~/` and a CSE-ID, whose slash is left out
+abbrev pub is_of_sp : List ℕ → Bool
+is_of_sp path = starts_with nat_eq path (codes "/~/") && has_segment (drop 3 path)
+
+-- an M2M service provider and, behind a slash, a CSE-ID
+abbrev pub has_provider : List ℕ → Bool
+has_provider text =
+    has_segment text && option_map_or has_segment (split_once_back slash text) false
+
+-- `/_/` and these two
+abbrev pub is_of_world : List ℕ → Bool
+is_of_world path = starts_with nat_eq path (codes "/_/") && has_provider (drop 3 path)
+
+-- the address that a path is: `/c/x` of `/~/c/x`, `//s/c/x` of `/_/s/c/x`, and else what stands
+-- behind the slash (TS-0009, 6.2.2.2)
+abbrev pub address_of : List ℕ → List ℕ
+address_of path =
+    if is_of_sp path then drop 2 path
+    else (if is_of_world path then slash ∷ drop 2 path else drop 1 path)
+
+-- what a target says: the address, and the query, which is empty where there is none
+pub record TargetValues : Type 0 where
+  pub to : List ℕ
+  pub query : List ℕ
+
+abbrev pub values_of : PathAndQuery → TargetValues
+values_of parts = record {
+  to = address_of (with_tildes parts.path);
+  query = unwrap_or parts.query [];
+}
+
+-- the address is a text of 1 to 1,024 bytes (the length is the profile's)
+abbrev pub is_target : TargetValues → Bool
+is_target values = is_filled target_limit values.to && is_utf8 values.to

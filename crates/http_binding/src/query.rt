@@ -1,0 +1,563 @@
+//! The query of a request: its pairs, and what they say.
+ghost use Rattle.std.specs.Prelude.{◌≡◌, ◌++◌, ◌∷◌, [], IfOk, OnOk, option_map};
+ghost use Rattle.std.specs.List.{list_all, filter_map};
+ghost use Rattle.primitive_json.specs.Kinds as kinds;
+ghost use Rattle.http_binding.specs.Binding.{said_by, query_of, ReadsAs};
+ghost use Rattle.http_binding.specs.Queries as spec;
+
+use crate::digits::{digits_number, is_numeral};
+use crate::target::{before, behind, is_text};
+use crate::{BindFault, OutOfMemory};
+use filter_criteria::{Condition, FilterParts, FilterUsage, Sort};
+use form_urlencoded::{decode, raw_pairs};
+use m2m_names::{Op, is_filled, read_stamp};
+use m2m_value::{LABEL_LIMIT, Labels, Numbers, Text};
+use std::alloc::Global;
+
+/// A key and its value.
+type Pair = (Text, Text);
+
+/// What a key stands for.
+#[derive(Clone, Copy)]
+pub(crate) enum Key {
+    ResultContent,
+    ResponseType,
+    DesiredForm,
+    /// It is accepted and never read.
+    Unread,
+    OfFilter(Condition),
+}
+
+/// What a query says.
+#[derive(Drop)]
+pub(crate) struct Query {
+    /// The content of the result.
+    pub(crate) rcn: Option<i64>,
+    /// The response type.
+    pub(crate) rt: Option<i64>,
+    /// The conditions of a filter, where there is one.
+    pub(crate) fc: Option<FilterParts>,
+    /// The form of the addresses that a discovery gives.
+    pub(crate) drt: Option<i64>,
+}
+
+impl Key {
+    fn named(name: &[u8]) -> Option<Key>
+        ensures { result ≡ spec.key_named name.now }
+    {
+        if name == b"rcn".as_slice() {
+            Some(Key::ResultContent)
+        } else if name == b"rt".as_slice() {
+            Some(Key::ResponseType)
+        } else if name == b"drt".as_slice() {
+            Some(Key::DesiredForm)
+        } else if is_unread(name) {
+            Some(Key::Unread)
+        } else {
+            Some(Key::OfFilter(Condition::named(name)?))
+        }
+    }
+}
+
+/// Whether a key is accepted and never read.
+fn is_unread(name: &[u8]) -> bool
+    ensures { result ≡ spec.is_unread name.now }
+{
+    matches!(name, b"da" | b"rp")
+}
+
+/// The number that 1 to 18 digits write.
+fn number_spelled(text: &[u8]) -> Option<u64>
+    ensures { result ≡ spec.number_spelled text.now }
+{
+    if is_numeral(text) {
+        Some(digits_number(text))
+    } else {
+        None
+    }
+}
+
+fn whole_spelled(text: &[u8]) -> Option<i64>
+    ensures { result ≡ spec.whole_spelled text.now }
+{
+    if is_numeral(text) {
+        Some(digits_number(text) as i64)
+    } else {
+        None
+    }
+}
+
+fn is_among(numbers: &[i64], number: i64) -> bool
+    ensures { result ≡ spec.among numbers.now number }
+{
+    numbers.contains(&number)
+}
+
+/// What the result content of an operation may be.
+fn result_contents(op: Op) -> &'static [i64]
+    ensures { result.now ≡ kinds.result_contents op }
+{
+    match op {
+        Op::Create => &[0, 1, 2, 3],
+        Op::Retrieve => &[1, 4, 5, 6],
+        Op::Update => &[0, 1],
+        Op::Delete => &[0],
+        Op::Notify => &[],
+    }
+}
+
+/// Whether the content of the result may be so.
+fn is_result(op: Op, number: i64) -> bool
+    ensures { result ≡ spec.is_result op number }
+{
+    match op {
+        Op::Create | Op::Retrieve | Op::Update | Op::Delete => {
+            is_among(result_contents(op), number)
+        }
+        Op::Notify => true,
+    }
+}
+
+fn result_spelled(op: Op, text: &[u8]) -> Option<i64>
+    ensures { result ≡ spec.result_spelled op text.now }
+{
+    let number = whole_spelled(text)?;
+    if is_result(op, number) {
+        Some(number)
+    } else {
+        None
+    }
+}
+
+fn form_spelled(text: &[u8]) -> Option<i64>
+    ensures { result ≡ spec.form_spelled text.now }
+{
+    let number = whole_spelled(text)?;
+    if is_among(&[1, 2], number) {
+        Some(number)
+    } else {
+        None
+    }
+}
+
+fn usage_spelled(text: &[u8]) -> Option<FilterUsage>
+    ensures { result ≡ spec.usage_spelled text.now }
+{
+    match whole_spelled(text)? {
+        1 => Some(FilterUsage::Discovery),
+        2 => Some(FilterUsage::Conditional),
+        _ => None,
+    }
+}
+
+/// What stands between single spaces.
+fn words_of(alloc: Global, text: &[u8]) -> Result<Vec<Text>, OutOfMemory>
+    ensures { IfOk result (λ words. words.items ≡ spec.words_of text.now) }
+{
+    let mut words = Vec::new(alloc);
+    let mut rest = text;
+    while let Some(next) = behind(b' ', rest) {
+        words.push(Text::from_slice(alloc, before(b' ', rest))?)?;
+        rest = next;
+    }
+    words.push(Text::from_slice(alloc, rest)?)?;
+    Ok(words)
+}
+
+fn is_label(text: &[u8]) -> bool
+    ensures { result ≡ spec.is_label_text text.now }
+{
+    is_filled(text, LABEL_LIMIT) && is_text(text)
+}
+
+fn are_labels(words: &[Text]) -> bool
+    ensures { result ≡ list_all spec.is_label_text words.now }
+{
+    words.iter().all(|word| is_label(word.entries()))
+}
+
+/// The labels that the words of a text are, where each is one.
+fn labels_spelled(alloc: Global, text: &[u8]) -> Result<Option<Vec<Text>>, OutOfMemory>
+    ensures { IfOk result (λ labels. option_map (λ l. l.items) labels
+        ≡ spec.labels_spelled text.now) }
+{
+    let words = words_of(alloc, text)?;
+    if are_labels(&words) {
+        Ok(Some(words))
+    } else {
+        Ok(None)
+    }
+}
+
+/// The number of a type.
+fn type_spelled(text: &[u8]) -> Option<u64>
+    ensures { result ≡ spec.type_spelled text.now }
+{
+    let number = number_spelled(text)?;
+    if number <= 65_535 { Some(number) } else { None }
+}
+
+fn is_type(text: &[u8]) -> bool
+    ensures { result ≡ spec.is_type_text text.now }
+{
+    type_spelled(text).is_some()
+}
+
+fn are_types(words: &[Text]) -> bool
+    ensures { result ≡ list_all spec.is_type_text words.now }
+{
+    words.iter().all(|word| is_type(word.entries()))
+}
+
+/// Puts the number of a type that a word is behind the others.
+fn push_type(types: &mut Vec<u64>, word: &Text) -> Result<(), OutOfMemory>
+    ensures { OnOk result (types.new.items
+        ≡ types.old.items ++ filter_map spec.type_spelled (word.now ∷ [])) }
+{
+    if let Some(number) = type_spelled(word.entries()) {
+        types.push(number)?;
+    }
+    Ok(())
+}
+
+/// The numbers of types that words are.
+fn types_of(alloc: Global, words: &[Text]) -> Result<Vec<u64>, OutOfMemory>
+    ensures { IfOk result (λ types. types.items ≡ filter_map spec.type_spelled words.now) }
+{
+    let mut types = Vec::with_capacity(alloc, words.len())?;
+    for word in words {
+        push_type(&mut types, word)?;
+    }
+    Ok(types)
+}
+
+/// The numbers of types that the words of a text are, where each is one.
+fn types_spelled(alloc: Global, text: &[u8]) -> Result<Option<Vec<u64>>, OutOfMemory>
+    ensures { IfOk result (λ types. option_map (λ t. t.items) types ≡ spec.types_spelled text.now) }
+{
+    let words = words_of(alloc, text)?;
+    if are_types(&words) {
+        Ok(Some(types_of(alloc, &words)?))
+    } else {
+        Ok(None)
+    }
+}
+
+/// A place that is empty, with a value that is there.
+fn filled<T: Copy>(place: Option<T>, value: Option<T>) -> Option<Option<T>>
+    ensures { result ≡ spec.filled place value }
+{
+    match (place, value) {
+        (None, Some(value)) => Some(Some(value)),
+        _ => None,
+    }
+}
+
+/// The labels with these behind them.
+fn with_labels(labels: Labels, more: Vec<Text>) -> Result<Labels, OutOfMemory>
+    ensures { IfOk result (λ all. all ≡ labels ++ more.items) }
+{
+    let mut more = more;
+    let mut texts = labels.into_vec();
+    texts.append(&mut more)?;
+    Ok(Labels::of(texts))
+}
+
+/// The numbers of types with these behind them.
+fn with_types(types: Numbers, more: &[u64]) -> Result<Numbers, OutOfMemory>
+    ensures { IfOk result (λ all. all ≡ types ++ more.now) }
+{
+    let mut numbers = types.into_vec();
+    numbers.extend_from_slice(more)?;
+    Ok(Numbers::of(numbers))
+}
+
+/// The filter with one more condition on a moment.
+fn with_moment(parts: FilterParts, condition: Condition, at: Option<u64>) -> Option<FilterParts>
+    ensures { result ≡ spec.with_moment condition at parts }
+{
+    match condition {
+        Condition::CreatedAfter => Some(FilterParts {
+            cra: filled(parts.cra, at)?,
+            ..parts
+        }),
+        Condition::CreatedBefore => Some(FilterParts {
+            crb: filled(parts.crb, at)?,
+            ..parts
+        }),
+        Condition::ExpireAfter => Some(FilterParts {
+            exa: filled(parts.exa, at)?,
+            ..parts
+        }),
+        Condition::ExpireBefore => Some(FilterParts {
+            exb: filled(parts.exb, at)?,
+            ..parts
+        }),
+        Condition::ModifiedSince => Some(FilterParts {
+            ms: filled(parts.ms, at)?,
+            ..parts
+        }),
+        Condition::UnmodifiedSince => Some(FilterParts {
+            us: filled(parts.us, at)?,
+            ..parts
+        }),
+        _ => None,
+    }
+}
+
+/// The filter with one more condition on a number.
+fn with_number(parts: FilterParts, condition: Condition, n: Option<u64>) -> Option<FilterParts>
+    ensures { result ≡ spec.with_number condition n parts }
+{
+    match condition {
+        Condition::Limit => Some(FilterParts {
+            lim: filled(parts.lim, n)?,
+            ..parts
+        }),
+        Condition::StateTagBigger => Some(FilterParts {
+            stb: filled(parts.stb, n)?,
+            ..parts
+        }),
+        Condition::StateTagSmaller => Some(FilterParts {
+            sts: filled(parts.sts, n)?,
+            ..parts
+        }),
+        Condition::SizeAbove => Some(FilterParts {
+            sza: filled(parts.sza, n)?,
+            ..parts
+        }),
+        Condition::SizeBelow => Some(FilterParts {
+            szb: filled(parts.szb, n)?,
+            ..parts
+        }),
+        _ => None,
+    }
+}
+
+fn with_usage(parts: FilterParts, usage: Option<FilterUsage>) -> Option<FilterParts>
+    ensures { result ≡ spec.with_usage usage parts }
+{
+    Some(FilterParts {
+        fu: filled(parts.fu, usage)?,
+        ..parts
+    })
+}
+
+/// The filter with the labels of one more text.
+fn with_label_text(
+    alloc: Global,
+    parts: FilterParts,
+    text: &[u8],
+) -> Result<Option<FilterParts>, OutOfMemory>
+    ensures { IfOk result (λ said. said ≡ spec.with_labels (spec.labels_spelled text.now) parts) }
+{
+    match labels_spelled(alloc, text)? {
+        Some(labels) => Ok(Some(FilterParts {
+            lbl: with_labels(parts.lbl, labels)?,
+            ..parts
+        })),
+        None => Ok(None),
+    }
+}
+
+/// The filter with the numbers of types of one more text.
+fn with_type_text(
+    alloc: Global,
+    parts: FilterParts,
+    text: &[u8],
+) -> Result<Option<FilterParts>, OutOfMemory>
+    ensures { IfOk result (λ said. said ≡ spec.with_types (spec.types_spelled text.now) parts) }
+{
+    match types_spelled(alloc, text)? {
+        Some(types) => Ok(Some(FilterParts {
+            ty: with_types(parts.ty, &types)?,
+            ..parts
+        })),
+        None => Ok(None),
+    }
+}
+
+/// The filter with one more condition, where the text is that of its sort.
+fn with_condition(
+    alloc: Global,
+    parts: FilterParts,
+    condition: Condition,
+    text: &[u8],
+) -> Result<Option<FilterParts>, OutOfMemory>
+    ensures { IfOk result (λ said. said ≡ spec.with_condition condition text.now parts) }
+{
+    match condition.sort() {
+        Sort::Moment => Ok(with_moment(parts, condition, read_stamp(text))),
+        Sort::Count => Ok(with_number(parts, condition, number_spelled(text))),
+        Sort::Use => Ok(with_usage(parts, usage_spelled(text))),
+        Sort::Labels => with_label_text(alloc, parts, text),
+        Sort::Types => with_type_text(alloc, parts, text),
+    }
+}
+
+/// A filter without conditions.
+fn no_conditions(alloc: Global) -> FilterParts
+    ensures { result ≡ spec.no_conditions }
+{
+    FilterParts {
+        crb: None,
+        cra: None,
+        ms: None,
+        us: None,
+        sts: None,
+        stb: None,
+        exb: None,
+        exa: None,
+        lbl: Labels::of(Vec::new(alloc)),
+        ty: Numbers::of(Vec::new(alloc)),
+        sza: None,
+        szb: None,
+        fu: None,
+        lim: None,
+    }
+}
+
+/// The query with one more condition.
+fn with_filter(
+    alloc: Global,
+    query: Query,
+    condition: Condition,
+    text: &[u8],
+) -> Result<Option<Query>, OutOfMemory>
+    ensures { IfOk result (λ said. said ≡ spec.with_filter condition text.now query) }
+{
+    let Query { rcn, rt, fc, drt } = query;
+    let parts = match fc {
+        Some(parts) => parts,
+        None => no_conditions(alloc),
+    };
+    match with_condition(alloc, parts, condition, text)? {
+        Some(parts) => Ok(Some(Query {
+            rcn,
+            rt,
+            fc: Some(parts),
+            drt,
+        })),
+        None => Ok(None),
+    }
+}
+
+fn with_result(query: Query, number: Option<i64>) -> Option<Query>
+    ensures { result ≡ spec.with_result number query }
+{
+    Some(Query {
+        rcn: filled(query.rcn, number)?,
+        ..query
+    })
+}
+
+fn with_response(query: Query, number: Option<i64>) -> Option<Query>
+    ensures { result ≡ spec.with_response number query }
+{
+    Some(Query {
+        rt: filled(query.rt, number)?,
+        ..query
+    })
+}
+
+fn with_form(query: Query, number: Option<i64>) -> Option<Query>
+    ensures { result ≡ spec.with_form number query }
+{
+    Some(Query {
+        drt: filled(query.drt, number)?,
+        ..query
+    })
+}
+
+/// The query with what one more key says.
+fn with_key(
+    alloc: Global,
+    op: Op,
+    query: Query,
+    key: Key,
+    text: &[u8],
+) -> Result<Option<Query>, OutOfMemory>
+    ensures { IfOk result (λ said. said ≡ spec.with_key op key text.now query) }
+{
+    match key {
+        Key::ResultContent => Ok(with_result(query, result_spelled(op, text))),
+        Key::ResponseType => Ok(with_response(query, whole_spelled(text))),
+        Key::DesiredForm => Ok(with_form(query, form_spelled(text))),
+        Key::Unread => Ok(Some(query)),
+        Key::OfFilter(condition) if matches!(op, Op::Retrieve) => {
+            with_filter(alloc, query, condition, text)
+        }
+        Key::OfFilter(_) => Ok(None),
+    }
+}
+
+/// What a pair says, where it has a key that is served.
+fn said_more(alloc: Global, op: Op, query: Query, pair: &Pair) -> Result<Option<Query>, OutOfMemory>
+    ensures { IfOk result (λ said. said ≡ spec.said_more op pair.now query) }
+{
+    match Key::named(pair.0.entries()) {
+        Some(key) => with_key(alloc, op, query, key, pair.1.entries()),
+        None => Ok(None),
+    }
+}
+
+/// The query with what one more pair says.
+fn with_pair(alloc: Global, op: Op, query: Query, pair: &Pair) -> Result<Query, BindFault>
+    ensures { ReadsAs (λ said. said) result (spec.with_pair op pair.now query) }
+{
+    match said_more(alloc, op, query, pair)? {
+        Some(said) => Ok(said),
+        None => Err(BindFault::Query(Text::from_slice(alloc, pair.0.entries())?)),
+    }
+}
+
+/// What the pairs say behind what was said.
+fn said_by(alloc: Global, op: Op, pairs: &[Pair]) -> Result<Query, BindFault>
+    ensures { ReadsAs (λ said. said) result (said_by op pairs.now spec.nothing_said) }
+{
+    let mut query = Query {
+        rcn: None,
+        rt: None,
+        fc: None,
+        drt: None,
+    };
+    for pair in pairs {
+        query = with_pair(alloc, op, query, pair)?;
+    }
+    Ok(query)
+}
+
+/// The text that a key or a value stands for.
+fn decoded(alloc: Global, bytes: &[u8]) -> Result<Text, OutOfMemory>
+    ensures { IfOk result (λ text. text ≡ spec.decoded bytes.now) }
+{
+    let text = decode(alloc, bytes)?;
+    Text::from_slice(alloc, text.as_str().as_bytes())
+}
+
+fn decoded_pair(alloc: Global, key: &[u8], value: &[u8]) -> Result<Pair, OutOfMemory>
+    ensures { IfOk result (λ pair. pair ≡ spec.decoded_pair (key.now, value.now)) }
+{
+    let key = decoded(alloc, key)?;
+    Ok((key, decoded(alloc, value)?))
+}
+
+/// The pairs of a query.
+fn pairs_of(alloc: Global, query: &[u8]) -> Result<Vec<Pair>, OutOfMemory>
+    ensures { IfOk result (λ pairs. pairs.items ≡ spec.pairs_of query.now) }
+{
+    let mut pairs = Vec::new(alloc);
+    let mut left = raw_pairs(query);
+    while let Some(pair) = left.next() {
+        pairs.push(decoded_pair(alloc, pair.0, pair.1)?)?;
+    }
+    Ok(pairs)
+}
+
+/// What a query says on an operation.
+pub(crate) fn query_of(alloc: Global, op: Op, query: &[u8]) -> Result<Query, BindFault>
+    ensures { ReadsAs (λ said. said) result (query_of op query.now) }
+{
+    let pairs = pairs_of(alloc, query)?;
+    said_by(alloc, op, &pairs)
+}
