@@ -28,10 +28,12 @@ pub enum Command {
 fn command_named(word: &str) -> Option<Command>
     ensures { result ≡ spec.command_named word.now }
 {
-    match word {
-        "http" => Some(Command::Http),
-        "replay" => Some(Command::Replay),
-        _ => None,
+    if word == "http" {
+        Some(Command::Http)
+    } else if word == "replay" {
+        Some(Command::Replay)
+    } else {
+        None
     }
 }
 

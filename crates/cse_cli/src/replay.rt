@@ -23,6 +23,7 @@ pub(crate) fn replay_lines<S: Source, O: Sink, C: Clock, L: Link>(
         let new = outside (S.left input.new) (O.written out.new)
         (C.readings bench.new.clock) (L.exchanges bench.new.link) in
         RunsReplay old new result }
+    ensures command { result ≢ Status.Usage }
     ensures read_count { S.faults input.old ≤ S.faults input.new }
     ensures read_cause { result ≡ Status.ReadFault
         → Rose (S.faults input.old) (S.faults input.new) }

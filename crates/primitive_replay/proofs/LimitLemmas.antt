@@ -1,8 +1,8 @@
 -- Lines that are bad whatever stands on them.
-use Rattle.std.proofs.Common.{◌≡◌, ℕ, ◌<◌, Bool, true, false, ◌&&◌, List, length, Option, None, Some, refl, ap, ◌∙◌, arith}
-use Rattle.std.specs.Prelude.{nat_le, if◌then◌else◌}
+use Rattle.std.proofs.Common.{◌≡◌, ℕ, ◌<◌, Bool, true, false, ◌&&◌, List, length, None, refl, arith}
+use Rattle.std.specs.Prelude.{nat_le}
 use Rattle.std.proofs.lemmas.Bool.Decides.{nat_tests}
-use Rattle.primitive_replay.specs.Lines.{line_at, line_of, line_limit, lines_limit}
+use Rattle.primitive_replay.specs.Lines.{line_at, line_limit, lines_limit}
 
 and_no : (b : Bool) → (b && false) ≡ false
 and_no true = refl

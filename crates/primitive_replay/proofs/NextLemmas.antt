@@ -1,17 +1,15 @@
 -- What is told of the line at the front of a stream.
-use Rattle.std.proofs.Common.{◌≡◌, ◌≢◌, ℕ, ◌+◌, ◌<◌, ◌≤◌, List, [], ◌∷◌, length, take, drop, Option, None, Some, Result, Ok, Err, refl, sym, ap, ◌∙◌, subst}
-use Rattle.std.proofs.KnownBytes.{Keeps-trans, prepend_known-end}
+use Rattle.std.proofs.Common.{◌≢◌, ℕ, ◌<◌, List, [], length, take, Option, None, Ok, Err, refl}
+use Rattle.std.proofs.KnownBytes.{prepend_known-end}
 use Rattle.std.specs.Io.KnownBytes.{IsAtEnd, Keeps, prepend_known}
 use Rattle.std.specs.Str.Lines.{strip_carriage_return}
-use Rattle.primitive_replay.specs.Front.{end_of, HasNoEnd, IsFront, short_limit}
+use Rattle.primitive_replay.specs.Front.{end_of, HasNoEnd, IsFront}
 use Rattle.primitive_replay.specs.Lines.{GivesLine, line_at}
-use Rattle.primitive_replay.specs.Stream.{LeadsTo, NextIs}
+use Rattle.primitive_replay.specs.Stream.{NextIs}
 use Rattle.primitive_replay.specs.declared.fault.LineFault.{LineFault}
 use Rattle.primitive_replay.specs.declared.fault.LineFault.TheVariants.{Bad, ReadFault, OutOfMemory}
-use Rattle.primitive_replay.specs.declared.front.Front.{Front}
-use Rattle.primitive_replay.specs.declared.front.Front.TheVariants.{Whole, Last, TooLong, End}
-use Rattle.primitive_replay.specs.declared.line.Line.{Line}
-use Rattle.primitive_replay.proofs.StandLemmas.{whole_leads, whole_bad, last_leads, last_bad, long_bad}
+use Rattle.primitive_replay.specs.declared.front.Front.TheVariants.{TooLong, End}
+use Rattle.primitive_replay.proofs.StandLemmas.{whole_bad, last_bad, long_bad}
 
 -- a line that ends here was judged, and isn't taken
 pub ended_fault : (f : LineFault) (place : ℕ) (held : List ℕ) (stream left : Option (List ℕ)) → end_of held < length held

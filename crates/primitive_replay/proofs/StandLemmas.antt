@@ -1,10 +1,10 @@
 -- What stands at the front of a stream, by what is held of it.
-use Rattle.std.proofs.Common.{◌≡◌, ◌≢◌, ℕ, ◌+◌, ◌<◌, ◌≤◌, List, [], ◌∷◌, ◌++◌, length, take, drop, Option, None, Some, IfSome, refl, sym, ap, ◌∙◌, subst, arith, append_assoc, append-nil, take-append-drop}
+use Rattle.std.proofs.Common.{◌≡◌, ◌≢◌, ℕ, ◌+◌, ◌<◌, List, [], ◌∷◌, ◌++◌, length, take, drop, Option, None, Some, IfSome, sym, ap, ◌∙◌, subst, arith, append_assoc, append-nil, take-append-drop}
 use Rattle.std.proofs.lemmas.List.{drop_all}
 use Rattle.std.specs.Io.KnownBytes.{IsAtEnd, Keeps, prepend_known}
 use Rattle.std.specs.Str.Lines.{lines, strip_carriage_return}
 use Rattle.primitive_replay.specs.Front.{end_of, HasNoEnd, short_limit}
-use Rattle.primitive_replay.specs.Lines.{line_at, line_limit}
+use Rattle.primitive_replay.specs.Lines.{line_at}
 use Rattle.primitive_replay.specs.Stream.{BeginsWithLines, BeginsBadly, LeadsTo}
 use Rattle.primitive_replay.specs.declared.line.Line.{Line}
 use Rattle.primitive_replay.proofs.LineLemmas.{lines_first_of, lines_alone, first_is_long}

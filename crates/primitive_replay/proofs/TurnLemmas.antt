@@ -1,7 +1,7 @@
 -- One line taken, and what stands next.
-use Rattle.std.proofs.Common.{◌≡◌, ℕ, ◌+◌, ◌≤◌, List, [], ◌∷◌, ◌++◌, length, Option, Some, None, IfSome, MatchOption, Result, Ok, Err, refl, sym, ap, subst, ◌∙◌, arith, append-nil}
+use Rattle.std.proofs.Common.{◌≡◌, ℕ, ◌+◌, ◌≤◌, List, [], ◌∷◌, ◌++◌, length, Option, Some, None, IfSome, MatchOption, Err, refl, sym, ap, subst, arith, append-nil}
 use Rattle.std.proofs.KnownBytes.{Appends-nil}
-use Rattle.std.specs.Io.KnownBytes.{Appends, IsAtEnd, Keeps, prepend_known}
+use Rattle.std.specs.Io.KnownBytes.{IsAtEnd, Keeps, prepend_known}
 use Rattle.std.specs.Str.Lines.{lines}
 use Rattle.m2m_io.specs.Link.{Exchange}
 use Rattle.m2m_io.specs.Outside.{Outside, outside}
@@ -17,8 +17,8 @@ use Rattle.cse_server.proofs.RepliesLemmas.{gives-one}
 use Rattle.cse_server.proofs.PutLemmas.{prefix_none}
 use Rattle.cse_server.proofs.WayLemmas.{Tells-nil}
 use Rattle.primitive_replay.specs.Front.{HasNoEnd, held_limit}
-use Rattle.primitive_replay.specs.Script.{AsksLines, StopsRightly, Replays, ReplaysFrom, Writes, WritesMost, next_reading, reply_line, script}
-use Rattle.primitive_replay.specs.Stream.{BeginsBadly, BeginsWithLines, HoldsNoLine, LeadsTo, NextIs, HoldsLittle}
+use Rattle.primitive_replay.specs.Script.{AsksLines, StopsRightly, Replays, ReplaysFrom, Writes, WritesMost, reply_line, script}
+use Rattle.primitive_replay.specs.Stream.{BeginsBadly, BeginsWithLines, LeadsTo, NextIs, HoldsLittle}
 use Rattle.primitive_replay.specs.Way.{RepliesTo, GoesOn, WritesReply, TakesLine, fault_status}
 use Rattle.primitive_replay.specs.declared.fault.LineFault.{LineFault}
 use Rattle.primitive_replay.specs.declared.fault.LineFault.TheVariants.{Bad, ReadFault as Unread, OutOfMemory as Starved}

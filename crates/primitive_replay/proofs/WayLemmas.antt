@@ -1,6 +1,6 @@
 -- Lines on their way, joined with what comes next.
-use Rattle.std.proofs.Common.{◌≡◌, ℕ, ◌+◌, ◌≤◌, List, [], ◌∷◌, ◌++◌, length, map, Option, Some, None, IfSome, refl, sym, ap, subst, ◌∙◌, arith, append_assoc, append-nil, length-append}
-use Rattle.std.proofs.KnownBytes.{Appends-trans, Appends-nil}
+use Rattle.std.proofs.Common.{◌≡◌, ℕ, ◌+◌, List, [], ◌∷◌, ◌++◌, length, map, Option, Some, None, IfSome, refl, sym, ap, subst, ◌∙◌, arith, append_assoc, length-append}
+use Rattle.std.proofs.KnownBytes.{Appends-trans}
 use Rattle.std.proofs.lemmas.List.{map-append}
 use Rattle.std.proofs.lemmas.List.Elements.{filter_map-append}
 use Rattle.std.proofs.lemmas.Grind.{flat_map-append}
@@ -8,7 +8,6 @@ use Rattle.std.specs.Io.KnownBytes.{Appends}
 use Rattle.std.specs.Str.Lines.{lines}
 use Rattle.m2m_io.specs.Link.{Exchange}
 use Rattle.m2m_io.specs.Outside.{Outside}
-use Rattle.m2m_io.specs.Told.{AppendsPrefix, Tells}
 use Rattle.m2m_io.specs.declared.status.Status.{Status}
 use Rattle.m2m_io.specs.declared.status.Status.TheVariants.{Done, Usage, BadLine, ReadFault, WriteFault, Memory, BadStream}
 use Rattle.primitive_json.specs.declared.reply.ReplyParts.{ReplyParts}
@@ -17,13 +16,11 @@ use Rattle.turn_desk.specs.Entries.{readings_of, events_of, outcomes_of}
 use Rattle.turn_desk.specs.Joins.{Runs-append}
 use Rattle.entity_model.specs.Entity.{EntityData}
 use Rattle.cse_machine.specs.Step.{Step}
-use Rattle.cse_machine.specs.declared.event.Event.{Event}
 use Rattle.cse_machine.specs.declared.event.Event.TheVariants.{Ask as AskEvent}
 use Rattle.cse_machine.specs.declared.event.Outcome.{Outcome}
 use Rattle.cse_server.specs.Replies.{GivesReplies}
 use Rattle.cse_server.proofs.RepliesLemmas.{gives-append}
 use Rattle.cse_server.proofs.WayLemmas.{Tells-append}
-use Rattle.primitive_replay.specs.Lines.{line_at}
 use Rattle.primitive_replay.specs.Script.{request_on, requests_on, next_reading, reading_behind, readings_on, AsksLines, reply_line, script, WritesMost, Writes, StopsRightly, ReplaysFrom}
 use Rattle.primitive_replay.specs.Stream.{AreLines, BeginsWithLines, LeadsTo}
 use Rattle.primitive_replay.specs.Way.{GoesOn}

@@ -1,9 +1,9 @@
 -- What stands at the front of a stream of lines.
-use Rattle.std.specs.Prelude.{◌≡◌, ◌≢◌, ◌+◌, ◌<◌, ℕ, ◌==◌, Bool, false, List, [], length, drop}
+use Rattle.std.specs.Prelude.{◌≡◌, ◌≢◌, ◌+◌, ◌<◌, ℕ, ◌==◌, Bool, List, [], length}
 use Rattle.std.specs.Prelude.{Option, ⊤}
 use Rattle.std.specs.declared.result.Result.{Result}
 use Rattle.std.specs.declared.result.Result.TheVariants.{Ok, Err}
-use Rattle.std.specs.List.{list_any, position_or_len}
+use Rattle.std.specs.List.{position_or_len}
 use Rattle.std.specs.Io.KnownBytes.{IsAtEnd}
 use Rattle.primitive_replay.specs.Lines.{line_limit}
 use Rattle.primitive_replay.specs.declared.fault.LineFault.{LineFault}

@@ -1,7 +1,7 @@
 -- The lines of `replay`: what each of them is, and which are bad. The lines of a text are those
 -- that Rust's `lines` gives: LF ends a line, one CR before it isn't part of the line, and the last
 -- line may lack its end.
-use Rattle.std.specs.Prelude.{◌≡◌, ℕ, ◌+◌, ◌==◌, nat_le, Bool, ◌&&◌, List, [], ◌∷◌, length, Option}
+use Rattle.std.specs.Prelude.{◌≡◌, ℕ, ◌==◌, nat_le, ◌&&◌, List, [], ◌∷◌, length, Option}
 use Rattle.std.specs.Prelude.{Some, None, Result, Ok, Err, if◌then◌else◌, option_map}
 use Rattle.std.specs.Prelude.{option_and_then, ⊤}
 use Rattle.std.specs.Result.{result_ok}

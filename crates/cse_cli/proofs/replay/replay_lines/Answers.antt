@@ -20,3 +20,6 @@ returns-clause-runs g c = record {
       (whatever_readings (opening c.in-Ok.home 0) _ _ _ _ _ _ _ _ c.replay.ensures.replays);
   still = refl;
 }
+
+pub returns-clause-command : goal.returns-clause-command
+returns-clause-command g c = never_usage _ _ _ c.replay.result c.replay.ensures.replays

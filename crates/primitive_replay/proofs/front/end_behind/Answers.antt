@@ -1,4 +1,4 @@
-use Rattle.std.proofs.Common.{◌≡◌, ◌+◌, ◌-◌, take, drop, length, ap, arith, length-drop}
+use Rattle.std.proofs.Common.{◌≡◌, ◌-◌, take, drop, length, ap, arith, length-drop}
 use Rattle.std.proofs.lemmas.List.{take-append-drop, length-take-le, take_all}
 use Rattle.primitive_replay.specs.Front.{end_of}
 use Rattle.primitive_replay.proofs.LineLemmas.{end_missing}

@@ -1,4 +1,4 @@
-use Rattle.std.proofs.Common.{◌≡◌, ◌+◌, ◌∙◌, None, refl, sym, subst, arith}
+use Rattle.std.proofs.Common.{◌+◌, ◌∙◌, None, refl, sym, subst, arith}
 use Rattle.std.specs.Io.KnownBytes.{prepend_known}
 use Rattle.m2m_io.specs.Outside.{outside}
 use Rattle.m2m_io.specs.declared.status.Status.TheVariants.{ReadFault, WriteFault}
