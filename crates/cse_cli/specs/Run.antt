@@ -11,6 +11,7 @@ use Rattle.entity_model.specs.Entity.{EntityData}
 use Rattle.entity_model.specs.Opening.{opening}
 use Rattle.cse_machine.specs.Step.{Step}
 use Rattle.cse_server.specs.Connection.{Serves}
+use Rattle.primitive_replay.specs.Script.{Replays}
 use Rattle.cse_server.specs.declared.connection.Ended.{Ended}
 use Rattle.cse_server.specs.declared.connection.Ended.TheVariants.{Closed, NoFrame}
 use Rattle.cse_server.specs.declared.connection.Ended.TheVariants.{ReadFault as EndedReading}
@@ -47,3 +48,9 @@ pub record RunsHttp (old new : Outside) (status : Status) : Type 0 where
   pub clock : Tells (λ readings. readings ++ reading ∷ []) old.readings given
   pub run : ServesOpened reading (record old { readings = given }) new status
       ⊎ RanOut (record old { readings = given }) new status
+
+-- The command `replay`: the input is lines, which were replayed against an entity that opened at
+-- the reading 0. The clock gave nothing.
+pub record RunsReplay (old new : Outside) (status : Status) : Type 0 where
+  pub replays : Replays (opening default_home 0) old new status
+  pub still : new.readings ≡ old.readings

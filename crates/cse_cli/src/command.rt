@@ -1,13 +1,14 @@
 //! The command line.
-ghost use Rattle.std.specs.Prelude.{◌≡◌, ◌≢◌, ◌≤◌, ◌↔◌, vec_len, map, true, false};
+ghost use Rattle.std.specs.Prelude.{◌≡◌, ◌≢◌, ◌≤◌, ◌↔◌, Some, None, vec_len, map};
 ghost use Rattle.m2m_io.specs.Counts.{Rose};
 ghost use Rattle.m2m_io.specs.Outside.{outside};
 ghost use Rattle.m2m_io.specs.Status.{status_line};
 ghost use Rattle.m2m_io.specs.Told.{AppendsUnlessFault};
 ghost use Rattle.cse_cli.specs.Words as spec;
-ghost use Rattle.cse_cli.specs.Run.{RunsHttp};
+ghost use Rattle.cse_cli.specs.Run.{RunsHttp, RunsReplay};
 
 use crate::http::serve_streams;
+use crate::replay::replay_lines;
 use cse_server::Bench;
 use m2m_io::{Clock, Door, Link, Sink, Source, Status};
 use std::alloc::Global;
@@ -15,11 +16,35 @@ use std::sync::Wait;
 use std::thread::Threads;
 use std::time;
 
-/// Whether the words are the one command so far.
-fn is_http(words: &[&str]) -> bool
-    ensures { result ≡ spec.is_http (map (λ word. word.now) words.now) }
+/// What the program can do.
+#[derive(Clone, Copy, Debug, PartialEq, Eq)]
+pub enum Command {
+    /// Serves standard input and output as one connection.
+    Http,
+    /// Answers the lines of standard input.
+    Replay,
+}
+
+fn command_named(word: &str) -> Option<Command>
+    ensures { result ≡ spec.command_named word.now }
 {
-    matches!(words, [word] if *word == "http")
+    if word == "http" {
+        Some(Command::Http)
+    } else if word == "replay" {
+        Some(Command::Replay)
+    } else {
+        None
+    }
+}
+
+/// The command of these words.
+fn command_of(words: &[&str]) -> Option<Command>
+    ensures { result ≡ spec.command_of (map (λ word. word.now) words.now) }
+{
+    match words {
+        [word] => command_named(word),
+        _ => None,
+    }
 }
 
 /// Does what the words name, and tells nobody how it ended.
@@ -31,14 +56,21 @@ fn run_words<S: Source, O: Sink, C: Clock, L: Link>(
     first: &mut Bench<C, L>,
 ) -> Status
     ensures usage { result ≡ Status.Usage
-        ↔ spec.is_http (map (λ word. word.now) words.now) ≡ false }
-    ensures still { spec.is_http (map (λ word. word.now) words.now) ≡ false
+        ↔ spec.command_of (map (λ word. word.now) words.now) ≡ None }
+    ensures still { spec.command_of (map (λ word. word.now) words.now) ≡ None
         → (input.new ≡ input.old) × (out.new ≡ out.old) × (first.new ≡ first.old) }
     ensures http { let old = outside (S.left input.old) (O.written out.old)
         (C.readings first.old.clock) (L.exchanges first.old.link) in
         let new = outside (S.left input.new) (O.written out.new)
         (C.readings first.new.clock) (L.exchanges first.new.link) in
-        spec.is_http (map (λ word. word.now) words.now) ≡ true → RunsHttp old new result }
+        spec.command_of (map (λ word. word.now) words.now) ≡ Some Command.Http
+        → RunsHttp old new result }
+    ensures replay { let old = outside (S.left input.old) (O.written out.old)
+        (C.readings first.old.clock) (L.exchanges first.old.link) in
+        let new = outside (S.left input.new) (O.written out.new)
+        (C.readings first.new.clock) (L.exchanges first.new.link) in
+        spec.command_of (map (λ word. word.now) words.now) ≡ Some Command.Replay
+        → RunsReplay old new result }
     ensures read_count { S.faults input.old ≤ S.faults input.new }
     ensures read_cause { result ≡ Status.ReadFault
         → Rose (S.faults input.old) (S.faults input.new) }
@@ -48,18 +80,19 @@ fn run_words<S: Source, O: Sink, C: Clock, L: Link>(
     ensures write_steady { result ≢ Status.WriteFault → O.faults out.new ≡ O.faults out.old }
     ensures link { L.faults first.new.link ≡ L.faults first.old.link }
 {
-    if is_http(words) {
-        serve_streams(alloc, input, out, first)
-    } else {
-        Status::Usage
+    match command_of(words) {
+        Some(Command::Http) => serve_streams(alloc, input, out, first),
+        Some(Command::Replay) => replay_lines(alloc, input, out, first),
+        None => Status::Usage,
     }
 }
 
 /// Runs the command that the words name, and answers with the status and the door. The words are
 /// those behind the program's name. `input` and `out` are the streams of a command that has one
 /// connection or one list of lines; `err` gets the text of the status as a line; `first` is the
-/// bench of such a command, and `benches` are those of the workers. So far the one command is
-/// `http`, which serves `input` and `out` as one connection.
+/// bench of such a command, and `benches` are those of the workers. So far the commands are `http`,
+/// which serves `input` and `out` as one connection, and `replay`, which answers the lines of
+/// `input`.
 pub fn run<R, S: Source, O: Sink, E: Sink, D: Door + Send, C: Clock + Send, L: Link + Send>(
     rt: &R,
     alloc: Global,
@@ -77,11 +110,11 @@ where
     L: Drop,
     requires benches { 2 ≤ vec_len benches }
 
-    // Every list of words but the one `http` is usage: then nothing is read or written to `out`,
-    // and no reading is taken and no exchange made.
+    // Every list of words but the one `http` and the one `replay` is usage: then nothing is read or
+    // written to `out`, and no reading is taken and no exchange made.
     ensures usage { result.0 ≡ Status.Usage
-        ↔ spec.is_http (map (λ word. word.now) words.now) ≡ false }
-    ensures still { spec.is_http (map (λ word. word.now) words.now) ≡ false
+        ↔ spec.command_of (map (λ word. word.now) words.now) ≡ None }
+    ensures still { spec.command_of (map (λ word. word.now) words.now) ≡ None
         → (input.new ≡ input.old) × (out.new ≡ out.old) × (first.new ≡ first.old) }
 
     // At `http` an entity opens at the first reading that the clock of `first` gives in this call.
@@ -91,7 +124,18 @@ where
         (C.readings first.old.clock) (L.exchanges first.old.link) in
         let new = outside (S.left input.new) (O.written out.new)
         (C.readings first.new.clock) (L.exchanges first.new.link) in
-        spec.is_http (map (λ word. word.now) words.now) ≡ true → RunsHttp old new result.0 }
+        spec.command_of (map (λ word. word.now) words.now) ≡ Some Command.Http
+        → RunsHttp old new result.0 }
+
+    // At `replay` an entity opens at the reading 0, and `out` gets exactly the script of the lines
+    // of `input`, as far as the status says: BadLine where the line of that number is the first bad
+    // one.
+    ensures replay { let old = outside (S.left input.old) (O.written out.old)
+        (C.readings first.old.clock) (L.exchanges first.old.link) in
+        let new = outside (S.left input.new) (O.written out.new)
+        (C.readings first.new.clock) (L.exchanges first.new.link) in
+        spec.command_of (map (λ word. word.now) words.now) ≡ Some Command.Replay
+        → RunsReplay old new result.0 }
 
     // A fault is answered where the stream failed in this call, and only there.
     ensures read_count { S.faults input.old ≤ S.faults input.new }

@@ -1,0 +1,177 @@
+-- Lines on their way, joined with what comes next.
+use Rattle.std.proofs.Common.{◌≡◌, ℕ, ◌+◌, List, [], ◌∷◌, ◌++◌, length, map, Option, Some, None, IfSome, refl, sym, ap, subst, ◌∙◌, arith, append_assoc, length-append}
+use Rattle.std.proofs.KnownBytes.{Appends-trans}
+use Rattle.std.proofs.lemmas.List.{map-append}
+use Rattle.std.proofs.lemmas.List.Elements.{filter_map-append}
+use Rattle.std.proofs.lemmas.Grind.{flat_map-append}
+use Rattle.std.specs.Io.KnownBytes.{Appends}
+use Rattle.std.specs.Str.Lines.{lines}
+use Rattle.m2m_io.specs.Link.{Exchange}
+use Rattle.m2m_io.specs.Outside.{Outside}
+use Rattle.m2m_io.specs.declared.status.Status.{Status}
+use Rattle.m2m_io.specs.declared.status.Status.TheVariants.{Done, Usage, BadLine, ReadFault, WriteFault, Memory, BadStream}
+use Rattle.primitive_json.specs.declared.reply.ReplyParts.{ReplyParts}
+use Rattle.primitive_json.specs.declared.request.RequestParts.{RequestParts}
+use Rattle.turn_desk.specs.Entries.{readings_of, events_of, outcomes_of}
+use Rattle.turn_desk.specs.Joins.{Runs-append}
+use Rattle.entity_model.specs.Entity.{EntityData}
+use Rattle.cse_machine.specs.Step.{Step}
+use Rattle.cse_machine.specs.declared.event.Event.TheVariants.{Ask as AskEvent}
+use Rattle.cse_machine.specs.declared.event.Outcome.{Outcome}
+use Rattle.cse_server.specs.Replies.{GivesReplies}
+use Rattle.cse_server.proofs.RepliesLemmas.{gives-append}
+use Rattle.cse_server.proofs.WayLemmas.{Tells-append}
+use Rattle.primitive_replay.specs.Script.{request_on, requests_on, next_reading, reading_behind, readings_on, AsksLines, reply_line, script, WritesMost, Writes, StopsRightly, ReplaysFrom}
+use Rattle.primitive_replay.specs.Stream.{AreLines, BeginsWithLines, LeadsTo}
+use Rattle.primitive_replay.specs.Way.{GoesOn}
+use Rattle.primitive_replay.specs.declared.line.Line.{Line}
+use Rattle.primitive_replay.specs.declared.line.Line.TheVariants.{Empty, Reading, Ask}
+
+-- ---- requests and readings
+
+requests_on-append : (xs ys : List Line) → requests_on (xs ++ ys) ≡ requests_on xs ++ requests_on ys
+requests_on-append xs ys = filter_map-append request_on xs ys
+
+reading_behind-append : (xs ys : List Line) (reading : ℕ) → reading_behind reading (xs ++ ys) ≡ reading_behind (reading_behind reading xs) ys
+reading_behind-append [] ys reading = refl
+reading_behind-append (x ∷ xs) ys reading = reading_behind-append xs ys (next_reading reading x)
+
+readings_on-append : (xs ys : List Line) (reading : ℕ) → readings_on reading (xs ++ ys) ≡ readings_on reading xs ++ readings_on (reading_behind reading xs) ys
+readings_on-append [] ys reading = refl
+readings_on-append (Empty ∷ xs) ys reading = readings_on-append xs ys reading
+readings_on-append (Reading moment ∷ xs) ys reading = readings_on-append xs ys moment
+readings_on-append (Ask request ∷ xs) ys reading = ap (λ v. reading ∷ v) (readings_on-append xs ys reading)
+
+-- ---- lines of a stream
+
+no_place : (place : ℕ) → place + length {A = Line} [] ≡ place
+no_place place = omega arith
+
+next_place : (place : ℕ) (x : Line) (xs : List Line) → place + length (x ∷ xs) ≡ (place + 1) + length xs
+next_place place x xs = omega arith
+
+joined_place : (place between : ℕ) (xs ys : List Line) → place + length xs ≡ between → between + length ys ≡ place + length (xs ++ ys)
+joined_place place between xs ys places = omega (arith, places, length-append xs ys)
+
+AreLines-append : (ts us : List (List ℕ)) (xs ys : List Line) (place : ℕ) → AreLines place ts xs → AreLines (place + length xs) us ys → AreLines place (ts ++ us) (xs ++ ys)
+AreLines-append [] us [] ys place first then = subst (λ (n : ℕ). AreLines n us ys) (no_place place) then
+AreLines-append [] us (x ∷ xs) ys place first then = absurd first
+AreLines-append (t ∷ ts) us [] ys place first then = absurd first
+AreLines-append (t ∷ ts) us (x ∷ xs) ys place first then =
+    (first.0, AreLines-append ts us xs ys (place + 1) first.1 (subst (λ (n : ℕ). AreLines n us ys) (next_place place x xs) then))
+
+BeginsWithLines-append : (place between : ℕ) (xs ys : List Line) (bytes mid rest : List ℕ) → place + length xs ≡ between
+    → BeginsWithLines place bytes xs mid → BeginsWithLines between mid ys rest → BeginsWithLines place bytes (xs ++ ys) rest
+BeginsWithLines-append place between xs ys bytes mid rest places a b = record {
+  front = a.front ++ b.front;
+  texts = a.texts ++ b.texts;
+  bytes_are = a.bytes_are ∙ ap (λ v. a.front ++ v) b.bytes_are ∙ sym (append_assoc a.front b.front rest);
+  texts_are = a.texts_are ∙ ap (λ v. a.texts ++ v) b.texts_are ∙ sym (append_assoc a.texts b.texts (lines rest));
+  each = AreLines-append a.texts b.texts xs ys place a.each (subst (λ (n : ℕ). AreLines n b.texts ys) (sym places) b.each);
+}
+
+LeadsTo-append : (place between : ℕ) (xs ys : List Line) (left mid rest : Option (List ℕ)) → place + length xs ≡ between
+    → LeadsTo place left xs mid → LeadsTo between mid ys rest → LeadsTo place left (xs ++ ys) rest
+LeadsTo-append place between xs ys None mid rest places first then = tt
+LeadsTo-append place between xs ys (Some a) None rest places first then = absurd first
+LeadsTo-append place between xs ys (Some a) (Some b) None places first then = absurd then
+LeadsTo-append place between xs ys (Some a) (Some b) (Some c) places first then = BeginsWithLines-append place between xs ys a b c places first then
+
+-- what the stream says of an end
+abbrev EndsOn : ℕ → Status → List Line → Option (List ℕ) → List ℕ → Type 0
+EndsOn place status heard now bytes =
+    (rest : List ℕ) × BeginsWithLines place bytes heard rest × StopsRightly (place + length heard) status rest now
+
+stream_then : (place between : ℕ) (xs ys : List Line) (status : Status) (left mid now : Option (List ℕ)) → place + length xs ≡ between
+    → LeadsTo place left xs mid → IfSome mid (EndsOn between status ys now) → IfSome left (EndsOn place status (xs ++ ys) now)
+stream_then place between xs ys status None mid now places first then = tt
+stream_then place between xs ys status (Some a) None now places first then = absurd first
+stream_then place between xs ys status (Some a) (Some b) now places first then = (
+  then.0,
+  BeginsWithLines-append place between xs ys a b then.0 places first then.1,
+  subst (λ (n : ℕ). StopsRightly n status then.0 now) (joined_place place between xs ys places) then.2,
+)
+
+-- ---- questions
+
+events-append : (xs ys : List Line) → map AskEvent (requests_on xs) ++ map AskEvent (requests_on ys) ≡ map AskEvent (requests_on (xs ++ ys))
+events-append xs ys = sym (map-append AskEvent (requests_on xs) (requests_on ys)) ∙ ap (map AskEvent) (sym (requests_on-append xs ys))
+
+gave-append : (xs ys : List Line) (os os' : List Outcome) (ps ps' : List ReplyParts) (es es' : List Exchange)
+    → GivesReplies (requests_on xs) os ps es → GivesReplies (requests_on ys) os' ps' es'
+    → GivesReplies (requests_on (xs ++ ys)) (os ++ os') (ps ++ ps') (es ++ es')
+gave-append xs ys os os' ps ps' es es' first then =
+    subst (λ (v : List RequestParts). GivesReplies v (os ++ os') (ps ++ ps') (es ++ es')) (sym (requests_on-append xs ys))
+    (gives-append (requests_on xs) (requests_on ys) os os' ps ps' es es' first then)
+
+abbrev asks-append : (reading now : ℕ) (before between after : EntityData) (t t' t'' : Option (List Exchange)) (xs ys : List Line)
+    → now ≡ reading_behind reading xs
+    → AsksLines reading before between t t' xs → AsksLines now between after t' t'' ys → AsksLines reading before after t t'' (xs ++ ys)
+asks-append reading now before between after t t' t'' xs ys reads a b = record {
+  history = a.history ++ b.history;
+  replies = a.replies ++ b.replies;
+  exchanges = a.exchanges ++ b.exchanges;
+  leaves = Runs-append Step a.history b.history before between after a.leaves b.leaves;
+  readings_are = map-append (λ e. e.reading) a.history b.history
+      ∙ ap (λ v. v ++ readings_of b.history) a.readings_are
+      ∙ ap (λ v. readings_on reading xs ++ v) (b.readings_are ∙ ap (λ n. readings_on n ys) reads)
+      ∙ sym (readings_on-append xs ys reading);
+  events_are = map-append (λ e. e.event) a.history b.history
+      ∙ ap (λ v. v ++ events_of b.history) a.events_are
+      ∙ ap (λ v. map AskEvent (requests_on xs) ++ v) b.events_are
+      ∙ events-append xs ys;
+  gives = subst (λ (os : List Outcome). GivesReplies (requests_on (xs ++ ys)) os (a.replies ++ b.replies) (a.exchanges ++ b.exchanges))
+      (sym (map-append (λ e. e.outcome) a.history b.history))
+      (gave-append xs ys (outcomes_of a.history) (outcomes_of b.history) a.replies b.replies a.exchanges b.exchanges a.gives b.gives);
+  link = Tells-append a.exchanges b.exchanges t t' t'' a.link b.link;
+}
+
+-- ---- what is written
+
+said-append : (old put new : Option (List ℕ)) (rs ss : List ReplyParts) → Appends old put (script rs) → Appends put new (script ss) → Appends old new (script (rs ++ ss))
+said-append old put new rs ss a b =
+    subst (λ (v : List ℕ). Appends old new v) (sym (flat_map-append reply_line rs ss)) (Appends-trans old put new (script rs) (script ss) a b)
+
+most-append : (old put new : Option (List ℕ)) (rs ss : List ReplyParts) → Appends old put (script rs) → WritesMost put new ss → WritesMost old new (rs ++ ss)
+most-append old put new rs ss a b = record {
+  whole = rs ++ b.whole;
+  last = b.last;
+  told = b.told;
+  replies_are = ap (λ v. rs ++ v) b.replies_are ∙ sym (append_assoc rs b.whole b.last);
+  one_at_most = b.one_at_most;
+  said = said-append old put b.told rs b.whole a b.said;
+  part = b.part;
+}
+
+Writes-then : (status : Status) (old put new : Option (List ℕ)) (rs ss : List ReplyParts) → Appends old put (script rs) → Writes status put new ss → Writes status old new (rs ++ ss)
+Writes-then Done old put new rs ss a b = said-append old put new rs ss a b
+Writes-then Usage old put new rs ss a b = absurd b
+Writes-then (BadLine n) old put new rs ss a b = said-append old put new rs ss a b
+Writes-then ReadFault old put new rs ss a b = said-append old put new rs ss a b
+Writes-then WriteFault old put new rs ss a b = most-append old put new rs ss a b
+Writes-then Memory old put new rs ss a b = most-append old put new rs ss a b
+Writes-then BadStream old put new rs ss a b = absurd b
+
+-- ---- what goes on, and then goes on or ends
+
+pub GoesOn-then : (place between next reading then now : ℕ) (before entity after : EntityData) (old mid new : Outside)
+    → GoesOn place between reading then before entity old mid → GoesOn between next then now entity after mid new
+    → GoesOn place next reading now before after old new
+GoesOn-then place between next reading then now before entity after old mid new a b = record {
+  heard = a.heard ++ b.heard;
+  asks = asks-append reading then before entity after old.exchanges mid.exchanges new.exchanges a.heard b.heard a.reads a.asks b.asks;
+  places = sym (joined_place place between a.heard b.heard a.places) ∙ b.places;
+  reads = b.reads ∙ ap (λ n. reading_behind n b.heard) a.reads ∙ sym (reading_behind-append a.heard b.heard reading);
+  stream = LeadsTo-append place between a.heard b.heard old.left mid.left new.left a.places a.stream b.stream;
+  said = said-append old.written mid.written new.written a.asks.replies b.asks.replies a.said b.said;
+}
+
+pub Replays-then : (place between reading then : ℕ) (before entity after : EntityData) (old mid new : Outside) (status : Status)
+    → GoesOn place between reading then before entity old mid → ReplaysFrom between then entity after mid new status
+    → ReplaysFrom place reading before after old new status
+Replays-then place between reading then before entity after old mid new status a b = record {
+  heard = a.heard ++ b.heard;
+  asks = asks-append reading then before entity after old.exchanges mid.exchanges new.exchanges a.heard b.heard a.reads a.asks b.asks;
+  stream = stream_then place between a.heard b.heard status old.left mid.left new.left a.places a.stream b.stream;
+  said = Writes-then status old.written mid.written new.written a.asks.replies b.asks.replies a.said b.said;
+}

@@ -1,0 +1,55 @@
+use Rattle.std.proofs.Common.{◌+◌, ◌∙◌, None, refl, sym, subst, arith}
+use Rattle.std.specs.Io.KnownBytes.{prepend_known}
+use Rattle.m2m_io.specs.Outside.{outside}
+use Rattle.m2m_io.specs.declared.status.Status.TheVariants.{ReadFault, WriteFault}
+use Rattle.entity_model.specs.Entity.{EntityData}
+use Rattle.entity_model.specs.Opening.{opening}
+use Rattle.primitive_replay.specs.Way.{GoesOn}
+use Rattle.primitive_replay.proofs.TurnLemmas.{goes_none, is_none, next_goes, starved_first}
+use Rattle.primitive_replay.proofs.WayLemmas.{GoesOn-then, Replays-then}
+use Rattle.primitive_replay.proofs.replaying.replay.Goals as goal
+
+pub returns-in_default-clause-replays : goal.returns-in_default-clause-replays
+returns-in_default-clause-replays g c = record {
+  after = opening c.args.home 0;
+  all = starved_first (opening c.args.home 0) _ _ _ _;
+}
+
+pub returns-in_default-opened-clause-replays : goal.returns-in_default-opened-clause-replays
+returns-in_default-opened-clause-replays g c = record {
+  after = opening c.args.home 0;
+  all = starved_first (opening c.args.home 0) _ _ _ _;
+}
+
+pub loop-place-init : goal.loop-place-init
+loop-place-init g c = record {
+  place = omega arith;
+  goes = subst (λ (e : EntityData). GoesOn 1 1 0 0 (opening c.args.home 0) e
+      (outside (g.S.Source.left c.args.input.now) (g.O.Sink.written c.args.out.now) None (g.L.Link.exchanges c.args.link.now))
+      (outside (prepend_known c.in-Ok.held (g.S.Source.left c.args.input.now)) (g.O.Sink.written c.args.out.now) None (g.L.Link.exchanges c.args.link.now)))
+      (sym c.in-Ok-opened.ensures)
+      (goes_none 1 0 (opening c.args.home 0) c.in-Ok.held _ _ _ c.in-Ok.ensures);
+  read_steady = refl;
+  write_steady = refl;
+  link = refl;
+}
+
+pub returns-in-Some-clause-replays : goal.returns-in-Some-clause-replays
+returns-in-Some-clause-replays g c = record {
+  after = c.replay_next.new.entity;
+  all = Replays-then 1 c.loop-place.place 0 c.loop-place.reading (opening c.args.home 0) c.loop-place.entity c.replay_next.new.entity _ _ _ c.in-Some.status
+      c.loop-place.invariant.goes c.in-Some.ensures.next;
+}
+
+pub loop-place-preserved : goal.loop-place-preserved
+loop-place-preserved g c =
+    let on = c.in_default-replay_next.not-Some in
+    let next = next_goes _ _ c.replay_next.result on c.replay_next.ensures.next in
+    let few = c.replay_next.ensures.place (is_none c.replay_next.result on) in
+    record {
+      place = omega (arith, few);
+      goes = GoesOn-then 1 c.loop-place.place (c.loop-place.place + 1) 0 c.loop-place.reading c.replay_next.new.reading (opening c.args.home 0) c.loop-place.entity c.replay_next.new.entity _ _ _ c.loop-place.invariant.goes next;
+      read_steady = c.replay_next.ensures.read_steady (on ReadFault) ∙ c.loop-place.invariant.read_steady;
+      write_steady = c.replay_next.ensures.write_steady (on WriteFault) ∙ c.loop-place.invariant.write_steady;
+      link = c.replay_next.ensures.link ∙ c.loop-place.invariant.link;
+    }

@@ -1,0 +1,15 @@
+use Rattle.primitive_replay.proofs.TurnLemmas.{takes_empty, takes_reading, takes_request}
+use Rattle.primitive_replay.proofs.replaying.take_line.Goals as goal
+
+pub returns-in-Empty-clause-takes : goal.returns-in-Empty-clause-takes
+returns-in-Empty-clause-takes g c = rw c.in-Empty.is
+    (takes_empty c.args.reading.now c.args.entity.now (g.L.Link.exchanges c.args.link.now) (g.O.Sink.written c.args.out.now))
+
+pub returns-in-Reading-clause-takes : goal.returns-in-Reading-clause-takes
+returns-in-Reading-clause-takes g c = rw c.in-Reading.is
+    (takes_reading c.args.reading.now c.in-Reading.moment c.args.entity.now (g.L.Link.exchanges c.args.link.now) (g.O.Sink.written c.args.out.now))
+
+pub returns-in-Ask-clause-takes : goal.returns-in-Ask-clause-takes
+returns-in-Ask-clause-takes g c = rw c.in-Ask.is
+    (takes_request c.args.reading.now c.args.entity.now c.reply_to-reply.new.entity (g.L.Link.exchanges c.args.link.now) (g.O.Sink.written c.args.out.now) (g.O.Sink.written c.put_reply.new.out)
+    c.in-Ask.request c.reply_to-reply.result c.put_reply.result c.reply_to-reply.ensures c.put_reply.ensures.said)

@@ -1,0 +1,6 @@
+pub mod Front
+pub mod Lines
+pub mod Stream
+pub mod Script
+pub mod Way
+pub mod Laws

@@ -1,0 +1,75 @@
+//! What a request on a line is answered, and its way to the sink.
+ghost use Rattle.std.specs.Prelude.{◌≡◌, ◌≢◌, ◌≤◌, ◌++◌, Some, IfOk};
+ghost use Rattle.m2m_io.specs.Counts.{Rose};
+ghost use Rattle.primitive_json.specs.declared.request.RequestParts.{RequestParts};
+ghost use Rattle.cse_machine.specs.Answer.{starved};
+ghost use Rattle.primitive_replay.specs.Script.{reply_line};
+ghost use Rattle.primitive_replay.specs.Way.{RepliesTo, WritesReply};
+
+use cse_machine::{Event, Outcome, step};
+use entity_model::Entity;
+use m2m_io::{Sink, Status};
+use m2m_names::Rsc;
+use m2m_value::write;
+use primitive_json::{Reply, ReplyParts, Request, RequestParts, reply_into};
+use std::alloc::{AllocError as OutOfMemory, Global};
+use tree_model::Tree;
+
+/// The reply to the request of an event for which memory ran out.
+fn starved_reply(event: Event) -> Reply
+    ensures { (request : RequestParts) → event ≡ Event.Ask request → result ≡ starved request }
+{
+    match event {
+        Event::Ask(request) => {
+            let RequestParts { rqi, .. } = request.into_parts();
+            Reply::of(ReplyParts {
+                rsc: Rsc::Internal,
+                rqi: Some(rqi),
+                pc: None,
+            })
+        }
+    }
+}
+
+/// Puts a request to an entity at a reading of the clock, and gives the reply.
+pub(crate) fn reply_to<T: Tree>(
+    alloc: Global,
+    entity: &mut Entity<T>,
+    reading: u64,
+    request: Request,
+) -> Reply
+    ensures { RepliesTo reading entity.old request result entity.new }
+{
+    let event = Event::Ask(request);
+    match step(alloc, entity, reading, &event) {
+        Outcome::Done(reply) => reply,
+        Outcome::Starved { .. } => starved_reply(event),
+    }
+}
+
+/// The reply as a line.
+fn reply_text(alloc: Global, reply: Reply) -> Result<Vec<u8>, OutOfMemory>
+    ensures { IfOk result (λ text. text.items ≡ reply_line reply) }
+{
+    let value = reply_into(alloc, reply)?;
+    let mut text = Vec::new(alloc);
+    write(&value, &mut text)?;
+    text.push(b'\n')?;
+    Ok(text)
+}
+
+/// Writes the reply as a line, by one call of the sink. None where it was written.
+pub(crate) fn put_reply<O: Sink>(alloc: Global, out: &mut O, reply: Reply) -> Option<Status>
+    ensures said { WritesReply result (O.written out.old) (O.written out.new) (reply_line reply) }
+    ensures count { O.faults out.old ≤ O.faults out.new }
+    ensures cause { result ≡ Some Status.WriteFault → Rose (O.faults out.old) (O.faults out.new) }
+    ensures steady { result ≢ Some Status.WriteFault → O.faults out.new ≡ O.faults out.old }
+{
+    let Ok(text) = reply_text(alloc, reply) else {
+        return Some(Status::Memory);
+    };
+    match out.put(&text) {
+        Ok(()) => None,
+        Err(_) => Some(Status::WriteFault),
+    }
+}

@@ -1,0 +1,20 @@
+//! Lines of JSON primitives, answered as they come (TS-0004, 8.2).
+//!
+//! Callers hand in a home, a source of lines, a sink and a link. `replay` opens an entity with that
+//! home, and they see that what was written is the script of the lines that were taken, by the
+//! replies that the outcomes of a history of the machine give (`specs/Script`); what a line is, and
+//! which is bad (`specs/Lines`); and why it ended.
+#![tactic(auto)]
+
+mod answer;
+mod fault;
+mod front;
+mod held;
+mod laws;
+mod line;
+mod next;
+mod replaying;
+
+pub use laws::a_stream_has_its_lines_in_one_way;
+pub use line::{LINE_LIMIT, MOST_LINES};
+pub use replaying::replay;

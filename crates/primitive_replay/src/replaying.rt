@@ -1,0 +1,168 @@
+//! Lines, answered one after another.
+ghost use Rattle.std.specs.Prelude.{◌≡◌, ◌≢◌, ◌+◌, ◌≤◌, None, Some, IfOk, MatchOption};
+ghost use Rattle.std.specs.Io.KnownBytes.{prepend_known};
+ghost use Rattle.m2m_io.specs.Counts.{Rose};
+ghost use Rattle.m2m_io.specs.Outside.{outside};
+ghost use Rattle.entity_model.specs.Opening.{opening};
+ghost use Rattle.primitive_replay.specs.Front.{held_limit};
+ghost use Rattle.primitive_replay.specs.Lines.{lines_limit};
+ghost use Rattle.primitive_replay.specs.Script.{Replays, ReplaysFrom};
+ghost use Rattle.primitive_replay.specs.Way.{GoesOn, TakesLine, fault_status};
+
+use crate::answer::{put_reply, reply_to};
+use crate::fault::LineFault;
+use crate::held::Held;
+use crate::line::{Line, MOST_LINES};
+use crate::next::next_line;
+use entity_model::Entity;
+use m2m_io::{Link, Sink, Source, Status};
+use plain_tree::ListTree;
+use std::alloc::{AllocError as OutOfMemory, Global};
+use tree_model::{Home, Tree};
+
+/// Does what a line says. None where the lines go on.
+fn take_line<T: Tree, O: Sink, L: Link>(
+    alloc: Global,
+    entity: &mut Entity<T>,
+    reading: &mut u64,
+    out: &mut O,
+    link: &mut L,
+    line: Line,
+) -> Option<Status>
+    ensures takes { TakesLine reading.old reading.new entity.old entity.new
+        (L.exchanges link.old) (L.exchanges link.new) (O.written out.old) (O.written out.new)
+        line result }
+    ensures count { O.faults out.old ≤ O.faults out.new }
+    ensures cause { result ≡ Some Status.WriteFault → Rose (O.faults out.old) (O.faults out.new) }
+    ensures steady { result ≢ Some Status.WriteFault → O.faults out.new ≡ O.faults out.old }
+    ensures read { result ≢ Some Status.ReadFault }
+    ensures link { L.faults link.new ≡ L.faults link.old }
+{
+    match line {
+        Line::Empty => None,
+        Line::Reading(moment) => {
+            *reading = moment;
+            None
+        }
+        Line::Ask(request) => {
+            let reply = reply_to(alloc, entity, *reading, request);
+            put_reply(alloc, out, reply)
+        }
+    }
+}
+
+/// How it ends where no line was read at this place.
+fn fault_status(fault: LineFault, place: u64) -> Status
+    ensures { result ≡ fault_status fault place }
+{
+    match fault {
+        LineFault::Bad => Status::BadLine(place),
+        LineFault::ReadFault => Status::ReadFault,
+        LineFault::OutOfMemory => Status::Memory,
+    }
+}
+
+/// Replays the line that stands next, at this place, from 1. None where the lines go on.
+fn replay_next<T: Tree, S: Source, O: Sink, L: Link>(
+    alloc: Global,
+    entity: &mut Entity<T>,
+    held: &mut Held,
+    reading: &mut u64,
+    input: &mut S,
+    out: &mut O,
+    link: &mut L,
+    place: u64,
+) -> Option<Status>
+    ensures next { let old = outside (prepend_known held.old (S.left input.old))
+        (O.written out.old) None (L.exchanges link.old) in
+        let new = outside (S.left input.new) (O.written out.new) None (L.exchanges link.new) in
+        let on = record new { left = prepend_known held.new (S.left input.new) } in
+        MatchOption result
+        (GoesOn place (place + 1) reading.old reading.new entity.old entity.new old on)
+        (ReplaysFrom place reading.old entity.old entity.new old new) }
+    ensures place { result ≡ None → place ≤ lines_limit }
+    ensures read_count { S.faults input.old ≤ S.faults input.new }
+    ensures read_cause { result ≡ Some Status.ReadFault
+        → Rose (S.faults input.old) (S.faults input.new) }
+    ensures read_steady { result ≢ Some Status.ReadFault
+        → S.faults input.new ≡ S.faults input.old }
+    ensures write_count { O.faults out.old ≤ O.faults out.new }
+    ensures write_cause { result ≡ Some Status.WriteFault
+        → Rose (O.faults out.old) (O.faults out.new) }
+    ensures write_steady { result ≢ Some Status.WriteFault
+        → O.faults out.new ≡ O.faults out.old }
+    ensures link { L.faults link.new ≡ L.faults link.old }
+{
+    match next_line(alloc, held, input, place) {
+        Ok(Some(line)) => take_line(alloc, entity, reading, out, link, line),
+        Ok(None) => Some(Status::Done),
+        Err(fault) => Some(fault_status(fault, place)),
+    }
+}
+
+/// An entity as it opens at the reading 0.
+fn opened(alloc: Global, home: Home) -> Result<Entity<ListTree>, OutOfMemory>
+    ensures { IfOk result (λ entity. entity ≡ opening home 0) }
+{
+    Entity::open(alloc, home, ListTree::new(alloc), 0)
+}
+
+/// Replays the lines of `input` against an entity that opens at the reading 0, and writes the
+/// replies to their requests to `out`, a line each.
+///
+/// A line ends with LF; one CR before it isn't part of the line, and the last line may lack its
+/// end. It is empty; or it is `@` and 1 to 18 digits, which is the reading of the clock from there
+/// on, in seconds since 1970; or it is a request in JSON. Any other line is bad, and so is one of
+/// more than 131,072 bytes, and the 1,000,001st. Lines are read as they come: each is answered
+/// before more is read than the bytes in which it ended. Behind a bad line nothing is read or
+/// written. At the end the items of the outbox would be written; there are none as yet. The link is
+/// for requests that go on to another entity; none do as yet.
+///
+/// A line is answered in time linear in it beside its event, and the bytes held take constant room.
+pub fn replay<S: Source, O: Sink, L: Link>(
+    alloc: Global,
+    home: Home,
+    input: &mut S,
+    out: &mut O,
+    link: &mut L,
+) -> Status
+    ensures replays { let old = outside (S.left input.old) (O.written out.old)
+        None (L.exchanges link.old) in
+        let new = outside (S.left input.new) (O.written out.new) None (L.exchanges link.new) in
+        Replays (opening home 0) old new result }
+
+    // A fault is answered where the stream failed in this call, and only there.
+    ensures read_count { S.faults input.old ≤ S.faults input.new }
+    ensures read_cause { result ≡ Status.ReadFault
+        → Rose (S.faults input.old) (S.faults input.new) }
+    ensures read_steady { result ≢ Status.ReadFault → S.faults input.new ≡ S.faults input.old }
+    ensures write_count { O.faults out.old ≤ O.faults out.new }
+    ensures write_cause { result ≡ Status.WriteFault → Rose (O.faults out.old) (O.faults out.new) }
+    ensures write_steady { result ≢ Status.WriteFault → O.faults out.new ≡ O.faults out.old }
+
+    // No exchange failed, as none was made.
+    ensures link { L.faults link.new ≡ L.faults link.old }
+{
+    let Ok(mut held) = Held::new(alloc) else {
+        return Status::Memory;
+    };
+    let Ok(mut entity) = opened(alloc, home) else {
+        return Status::Memory;
+    };
+    let mut reading = 0;
+    for place in 1..MOST_LINES + 2 {
+        if let Some(status) = replay_next(
+            alloc,
+            &mut entity,
+            &mut held,
+            &mut reading,
+            input,
+            out,
+            link,
+            place,
+        ) {
+            return status;
+        }
+    }
+    Status::Done
+}
