@@ -185,8 +185,8 @@ framed_tells ty rows address =
     let members = pairs_of (members_of rows) in (
       ap (map shown_id) (append-nil (values_under members) ∙ none_under rows),
       ap (map shown_reference) (append-nil (listed_parts (member_of (codes "ch") (entries members))))
-      ∙ ap (λ (es : List Entry). map shown_reference (listed_parts (member_of (codes "ch") es))) (entries-pairs_of (members_of rows))
-      ∙ ap (λ (d : Option Data). map shown_reference (listed_parts d)) (none_referred rows),
+          ∙ ap (λ (es : List Entry). map shown_reference (listed_parts (member_of (codes "ch") es))) (entries-pairs_of (members_of rows))
+          ∙ ap (λ (d : Option Data). map shown_reference (listed_parts d)) (none_referred rows),
       refl,
     )
 

@@ -19,7 +19,8 @@ fn is_creatable(ty: Ty) -> bool
     ensures { result ≡ spec.is_creatable ty }
 {
     match ty {
-        Ty::AccessControlPolicy | Ty::Ae | Ty::Container | Ty::ContentInstance | Ty::CseBase => true,
+        Ty::AccessControlPolicy | Ty::Ae | Ty::Container | Ty::ContentInstance | Ty::CseBase =>
+            true,
         Ty::Group | Ty::PollingChannel | Ty::RemoteCse | Ty::Subscription => false,
         Ty::AccessControlPolicyAnnc | Ty::AeAnnc | Ty::ContainerAnnc => false,
         Ty::ContentInstanceAnnc | Ty::GroupAnnc => false,
