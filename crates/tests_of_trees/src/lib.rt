@@ -1,7 +1,7 @@
 //! The tests of trees of resources: of the libraries `tree_model`, `container_limits`,
 //! `policy_eval`, `addressing`, `retrieve_discover`, `entity_model` and `create_delete`, over their
-//! public calls. Their answers, most on one small tree, were worked out by hand. Without its tests this library
-//! is empty, and no crate stands on it.
+//! public calls. Their answers, most on one small tree, were worked out by hand. Without its tests
+//! this library is empty, and no crate stands on it.
 #![tactic(auto)]
 
 #[cfg(test)]
