@@ -8,7 +8,8 @@ use Rattle.m2m_names.specs.Ids.{id_parts}
 use Rattle.m2m_names.specs.declared.types.Ty.{Ty}
 use Rattle.m2m_names.specs.declared.types.Ty.TheVariants.{Group, PollingChannel}
 use Rattle.resource_model.specs.Resource.{ResourceData, is_ty}
-use Rattle.tree_model.specs.Tree.{ae_of, at, child_of, children_of, first_number, instance_of, line_of}
+use Rattle.tree_model.specs.Tree.{ae_of, at, child_of, children_of, first_number, instance_of}
+use Rattle.tree_model.specs.Tree.{line_of}
 use Rattle.addressing.specs.Addresses.{joined}
 use Rattle.addressing.specs.declared.addr.Addr.{Addr}
 use Rattle.addressing.specs.declared.addr.Addr.TheVariants.{Local, Foreign, OtherProvider}

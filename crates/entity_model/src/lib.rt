@@ -2,11 +2,11 @@
 //! and the moment of the last event; how it opens, and what each event finds of it.
 //!
 //! To callers an `Entity` is the record of these (`EntityData` of `specs/Entity`), its tree being
-//! the plain list of its resources, and it is sound at every moment (`IsSoundEntity` of `specs/Sound`).
-//! Its fields are public: whoever changes them in place owes that it is sound again. `Entity::open`
-//! gives exactly the opening entity. `sweep` brings the entity to the moment of an event, and
-//! removes what is due by then with all that stands below it; it takes no memory as yet, and would
-//! only where something is due.
+//! the plain list of its resources, and it is sound at every moment (`IsSoundEntity` of
+//! `specs/Sound`). Its fields are public: whoever changes them in place owes that it is sound
+//! again. `Entity::open` gives exactly the opening entity. `sweep` brings the entity to the moment
+//! of an event, and removes what is due by then with all that stands below it; it takes no memory
+//! as yet, and would only where something is due.
 //!
 //! Laws over every entity stand on functions without a body: an entity opens sound, and stays sound
 //! where something but the CSEBase is removed; its first resource is its only CSEBase; and while no

@@ -1,6 +1,6 @@
 -- The policies that a content names, by addresses (TS-0001, 9.3.1, 9.6.1.3.2 and 9.6.13).
-use Rattle.std.specs.Prelude.{ℕ, ◌==◌, Bool, ◌&&◌, List, [], ◌∷◌, length, map, is_some, Option, Some}
-use Rattle.std.specs.Prelude.{None, option_and_then, if◌then◌else◌, Result, Ok, Err}
+use Rattle.std.specs.Prelude.{ℕ, ◌==◌, Bool, ◌&&◌, List, [], ◌∷◌, length, map, is_some, Option}
+use Rattle.std.specs.Prelude.{Some, None, option_and_then, if◌then◌else◌, Result, Ok, Err}
 use Rattle.std.specs.List.{filter_map, list_all}
 use Rattle.m2m_names.specs.Attributes.{attr_short}
 use Rattle.m2m_names.specs.declared.attributes.Attr.{Attr}

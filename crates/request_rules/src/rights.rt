@@ -1,5 +1,6 @@
 //! The right that a request needs on its target.
-ghost use Rattle.std.specs.Prelude.{◌≡◌, ◌==◌, false, IsTrue, bytes_eq, option_and_then, option_map};
+ghost use Rattle.std.specs.Prelude.{◌≡◌, ◌==◌, false, IsTrue, bytes_eq, option_and_then};
+ghost use Rattle.std.specs.Prelude.{option_map};
 ghost use Rattle.std.specs.Option.{option_map_or};
 ghost use Rattle.m2m_names.specs.Name.{is_originator};
 ghost use Rattle.m2m_names.specs.Types.{ty_row};
