@@ -20,6 +20,12 @@ use Rattle.addressing.specs.declared.spot.Spot.TheVariants.{Resource, Fan, Poll}
 abbrev pub is_at : Ty → ℕ → List ResourceData → Bool
 is_at ty n nodes = option_map_or (λ (r : ResourceData). is_ty r.ty ty) (at n nodes) false
 
+-- the resource that an address names, where it names none of the virtual ones
+abbrev pub spot_resource : Spot → Option ℕ
+spot_resource (Resource n) = Some n
+spot_resource (Fan group rest) = None
+spot_resource (Poll channel) = None
+
 -- ---- the first segment
 
 -- the CSEBase, which stands under nothing

@@ -42,13 +42,13 @@ use Rattle.attribute_rules.proofs.KindLemmas.{created_members, kinds-with_value}
 use Rattle.attribute_rules.proofs.ValueLemmas.{value_wanted}
 use Rattle.policy_eval.specs.Rules.{listed_in, policy_at}
 use Rattle.policy_eval.proofs.NameLemmas.{policy_number-id_of}
-use Rattle.addressing.specs.Addresses.{address_of}
+use Rattle.addressing.specs.Laws.{spot_named}
 use Rattle.addressing.specs.declared.spot.Spot.{Spot}
 use Rattle.addressing.specs.declared.spot.Spot.TheVariants.{Resource, Fan, Poll}
 use Rattle.entity_model.specs.Entity.{EntityData}
 use Rattle.entity_model.specs.Sound.{is_known_id, IsSoundEntity}
 use Rattle.request_rules.specs.Creation.{Creation, ae_stem, creator_rows, given_rows, id_for, is_ae_id, new_ae_id, new_name, new_rows, own_name, new_size, next_state, rows_besides}
-use Rattle.request_rules.specs.Policies.{link_row, listed, place_of, policy_addressed, policy_ids, policy_meant, policy_on}
+use Rattle.request_rules.specs.Policies.{link_row, listed, policy_addressed, policy_ids, policy_meant, policy_on}
 use Rattle.create_delete.proofs.RowLemmas.{lacks_attr}
 
 -- ---- which attributes are put in
@@ -115,7 +115,7 @@ spot_policy nodes (Poll channel) p found = cc
 meant_found : (e : EntityData) (d : Data) (p : ResourceData) → policy_meant e d ≡ Some p → IsPolicyOf e.nodes p
 meant_found e d p found =
     let address = and_then_some (policy_addressed e) (as_text d) p found in
-    let spot = and_then_some (policy_on e.nodes) (place_of e.nodes (address_of e.home address.0)) p address.2 in
+    let spot = and_then_some (policy_on e.nodes) (spot_named e.home address.0 e.nodes) p address.2 in
     spot_policy e.nodes spot.0 p spot.2
 
 -- the id of a policy that is there is known

@@ -10,7 +10,7 @@ use Rattle.primitive_json.specs.declared.request.RequestParts.{RequestParts}
 use Rattle.resource_model.specs.Resource.{ResourceData}
 use Rattle.tree_model.specs.Tree.{at}
 use Rattle.tree_model.proofs.TreeLemmas.{at_number}
-use Rattle.addressing.specs.Laws.{named_by}
+use Rattle.addressing.specs.Laws.{spot_named}
 use Rattle.addressing.specs.declared.spot.Spot.{Spot}
 use Rattle.addressing.specs.declared.spot.Spot.TheVariants.{Resource, Fan, Poll}
 use Rattle.policy_eval.specs.Rights.{grants}
@@ -44,7 +44,7 @@ module _ (e : EntityData) (request : RequestParts) where
   abbrev Ways : Effect → Type 0
   Ways effect = IsRefused e request effect ⊎ IsOperated e request effect
 
-  on_resource : (n : ℕ) (o : Option ResourceData) → does_serve request.op request ≡ true → has_originator e.home request ≡ true → named_by e.home request.to e.nodes ≡ Some (Resource n) → at n e.nodes ≡ o → Ways (to_resource e request o)
+  on_resource : (n : ℕ) (o : Option ResourceData) → does_serve request.op request ≡ true → has_originator e.home request ≡ true → spot_named e.home request.to e.nodes ≡ Some (Resource n) → at n e.nodes ≡ o → Ways (to_resource e request o)
   on_resource n None served by is found = inl (NotFound, refl, refl)
   on_resource n (Some r) served by is found = inr (record {
     target = r;
@@ -56,14 +56,14 @@ module _ (e : EntityData) (request : RequestParts) where
     is = refl;
   })
 
-  on_spot : (spot : Option Spot) → does_serve request.op request ≡ true → has_originator e.home request ≡ true → named_by e.home request.to e.nodes ≡ spot → Ways (at_spot e request spot)
+  on_spot : (spot : Option Spot) → does_serve request.op request ≡ true → has_originator e.home request ≡ true → spot_named e.home request.to e.nodes ≡ spot → Ways (at_spot e request spot)
   on_spot None served by is = inl (NotFound, refl, refl)
   on_spot (Some (Resource n)) served by is = on_resource n (at n e.nodes) served by is refl
   on_spot (Some (Fan group rest)) served by is = inl (BadRequest, refl, refl)
   on_spot (Some (Poll channel)) served by is = inl (BadRequest, refl, refl)
 
   abbrev spot_is : Option Spot
-  spot_is = named_by e.home request.to e.nodes
+  spot_is = spot_named e.home request.to e.nodes
 
   pub two_ways : Ways (effect_of e request)
   two_ways = elim (cases_Bool (is_served request)) [

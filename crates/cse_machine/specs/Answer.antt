@@ -27,7 +27,7 @@ use Rattle.resource_model.specs.Home.{HomeData}
 use Rattle.resource_model.specs.Resource.{ResourceData}
 use Rattle.tree_model.specs.Tree.{at}
 use Rattle.addressing.specs.Addresses.{address_of}
-use Rattle.addressing.specs.Laws.{named_by}
+use Rattle.addressing.specs.Laws.{spot_named}
 use Rattle.addressing.specs.Short.{short_of}
 use Rattle.addressing.specs.declared.spot.Spot.{Spot}
 use Rattle.addressing.specs.declared.spot.Spot.TheVariants.{Resource, Fan, Poll}
@@ -167,7 +167,7 @@ resource_at nodes (Poll channel) = None
 
 -- the resource that an address names (TS-0001, 9.3.1)
 abbrev pub addressed : EntityData → List ℕ → Option ResourceData
-addressed e to = option_and_then (resource_at e.nodes) (named_by e.home to e.nodes)
+addressed e to = option_and_then (resource_at e.nodes) (spot_named e.home to e.nodes)
 
 -- what an operation gives on the resource that was found, if one was
 abbrev pub on_found : Op → EntityData → RequestParts → Option ResourceData → Effect
@@ -194,7 +194,7 @@ judged_at places e request spot = unless_refused places e request (at_spot e req
 -- what comes of a request to an entity from which what is due is gone
 abbrev pub effect_of : EntityData → RequestParts → Effect
 effect_of e request =
-    judged_at (first_places e request) e request (named_by e.home request.to e.nodes)
+    judged_at (first_places e request) e request (spot_named e.home request.to e.nodes)
 
 -- the outcome, and the entity after it
 abbrev pub given : EntityData → RequestParts → Outcome × EntityData

@@ -5,7 +5,7 @@ ghost use Rattle.m2m_names.specs.Name.{is_originator};
 ghost use Rattle.m2m_names.specs.declared.operations.Op.TheVariants.{Retrieve};
 ghost use Rattle.tree_model.specs.Tree.{at, has};
 ghost use Rattle.addressing.specs.Addresses.{GivesAddress, address_of};
-ghost use Rattle.addressing.specs.Laws.{named_by, named_here};
+ghost use Rattle.addressing.specs.Laws.{spot_named, named_here};
 ghost use Rattle.addressing.specs.Names.{IsLocal, segments_of, spot_of};
 ghost use Rattle.addressing.specs.Short.{short_of};
 ghost use Rattle.cse_machine.specs.Answer.{address_places, at_spot, effect_of, judged_at};
@@ -102,10 +102,10 @@ fn answer_to<T: Tree>(
     requires claimed { claimed_originator entity.old.home request.now ≡ o.now }
     ensures reply { IfOk result (λ r. r ≡ (judged_at (address_places entity.old request.now)
         entity.old request.now
-        (named_by entity.old.home request.now.to entity.old.nodes)).reply) }
+        (spot_named entity.old.home request.now.to entity.old.nodes)).reply) }
     ensures after { OnOk result (entity.new ≡ (judged_at (address_places entity.old request.now)
         entity.old request.now
-        (named_by entity.old.home request.now.to entity.old.nodes)).after) }
+        (spot_named entity.old.home request.now.to entity.old.nodes)).after) }
     ensures err { OnErr result (entity.new ≡ entity.old) }
 {
     match address(alloc, entity, request) {

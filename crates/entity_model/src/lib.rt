@@ -22,9 +22,10 @@ mod sweeping;
 
 pub use entity::Entity;
 pub use laws::{
-    a_sound_entity_has_one_base, an_entity_stays_sound, nothing_expires_while_no_time_passes,
+    a_sound_entity_has_one_base, nothing_expires_while_no_time_passes,
+    opening_expiry_and_removal_are_sound,
 };
 pub use moments::event_moment;
-pub use replying::{refuse, reply_to};
+pub use replying::{refuse, reply_to, wanted_content};
 pub use std::alloc::AllocError as OutOfMemory;
 pub use sweeping::sweep;

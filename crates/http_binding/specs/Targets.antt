@@ -1,7 +1,8 @@
 -- The target of a request: its path and its query (RFC 9112, section 3.2), and the address that a
 -- path is (TS-0009, 6.2.2).
-use Rattle.std.specs.Prelude.{ℕ, ◌==◌, nat_eq, nat_lt, nat_le, Bool, true, false, ◌&&◌, ◌||◌, List, []}
-use Rattle.std.specs.Prelude.{◌∷◌, length, drop, codes, Option, Some, None, if◌then◌else◌, unwrap_or}
+use Rattle.std.specs.Prelude.{ℕ, ◌==◌, nat_eq, nat_lt, nat_le, Bool, true, false, ◌&&◌, ◌||◌, List}
+use Rattle.std.specs.Prelude.{[], ◌∷◌, length, drop, codes, Option, Some, None, if◌then◌else◌}
+use Rattle.std.specs.Prelude.{unwrap_or}
 use Rattle.std.specs.List.{list_all, starts_with}
 use Rattle.std.specs.Option.{option_map_or}
 use Rattle.std.specs.Str.{is_utf8}
@@ -83,8 +84,8 @@ is_of_world path = starts_with nat_eq path (codes "/_/") && has_provider (drop 3
 
 -- the address that a path is: `/c/x` of `/~/c/x`, `//s/c/x` of `/_/s/c/x`, and else what stands
 -- behind the slash (TS-0009, 6.2.2.2)
-abbrev pub address_of : List ℕ → List ℕ
-address_of path =
+abbrev pub address_of_path : List ℕ → List ℕ
+address_of_path path =
     if is_of_sp path then drop 2 path
     else (if is_of_world path then slash ∷ drop 2 path else drop 1 path)
 
@@ -95,7 +96,7 @@ pub record TargetValues : Type 0 where
 
 abbrev pub values_of : PathAndQuery → TargetValues
 values_of parts = record {
-  to = address_of (with_tildes parts.path);
+  to = address_of_path (with_tildes parts.path);
   query = unwrap_or parts.query [];
 }
 

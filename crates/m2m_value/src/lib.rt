@@ -29,7 +29,7 @@ mod writing;
 
 pub use fault::ValFault;
 pub use reading::read;
-pub use shapes::{LABEL_LIMIT, count_of};
+pub use shapes::{count_of, is_label_text};
 pub use std::alloc::AllocError as OutOfMemory;
 pub use text::{Labels, Numbers, Text};
 pub use value::{Items, Members, Node, Val};

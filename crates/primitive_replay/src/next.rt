@@ -5,7 +5,7 @@ ghost use Rattle.std.specs.Io.KnownBytes.{IsAtEnd, Keeps, prepend_known};
 ghost use Rattle.std.specs.Str.Lines.{strip_carriage_return};
 ghost use Rattle.m2m_io.specs.Counts.{Rose};
 ghost use Rattle.primitive_replay.specs.Front.{HasNoEnd, IsFront, end_of, held_limit};
-ghost use Rattle.primitive_replay.specs.Lines.{lines_limit};
+ghost use Rattle.primitive_replay.specs.Lines.{most_lines};
 ghost use Rattle.primitive_replay.specs.Stream.{NextIs};
 
 use crate::fault::LineFault;
@@ -37,7 +37,7 @@ fn take_ended(
     requires within { end < length held.old }
     ensures next { (stream left : Option (List ℕ)) → Keeps stream (prepend_known held.old left)
         → NextIs place result stream (prepend_known held.new left) }
-    ensures place { IfOk result (λ line. IsSome line → place ≤ lines_limit) }
+    ensures place { IfOk result (λ line. IsSome line → place ≤ most_lines) }
     ensures some { result ≢ Ok None }
     ensures few { length held.new ≤ held_limit }
     ensures other { result ≢ Err LineFault.ReadFault }
@@ -57,7 +57,7 @@ fn take_last(alloc: Global, held: &mut Held, place: u64) -> Result<Option<Line>,
     requires some { held.old ≢ [] }
     ensures next { (stream left : Option (List ℕ)) → Keeps stream (prepend_known held.old left)
         → IsAtEnd left → NextIs place result stream (prepend_known held.new left) }
-    ensures place { IfOk result (λ line. IsSome line → place ≤ lines_limit) }
+    ensures place { IfOk result (λ line. IsSome line → place ≤ most_lines) }
     ensures some { result ≢ Ok None }
     ensures few { length held.new ≤ held_limit }
     ensures other { result ≢ Err LineFault.ReadFault }
@@ -85,7 +85,7 @@ fn take_front(
     ensures next { (stream left : Option (List ℕ)) → Keeps stream (prepend_known held.old left)
         → IsFront (Ok front) held.old left
         → NextIs place result stream (prepend_known held.new left) }
-    ensures place { IfOk result (λ line. IsSome line → place ≤ lines_limit) }
+    ensures place { IfOk result (λ line. IsSome line → place ≤ most_lines) }
     ensures end { result ≡ Ok None → front ≡ Front.End }
     ensures few { length held.new ≤ held_limit }
     ensures other { result ≢ Err LineFault.ReadFault }
@@ -109,7 +109,7 @@ pub(crate) fn next_line<S: Source>(
 ) -> Result<Option<Line>, LineFault>
     ensures next { NextIs place result (prepend_known held.old (S.left src.old))
         (prepend_known held.new (S.left src.new)) }
-    ensures place { IfOk result (λ line. IsSome line → place ≤ lines_limit) }
+    ensures place { IfOk result (λ line. IsSome line → place ≤ most_lines) }
     ensures end { result ≡ Ok None → IsAtEnd (S.left src.new) }
     ensures few { length held.new ≤ held_limit }
     ensures waiting { result ≡ Err LineFault.ReadFault → HasNoEnd held.new }

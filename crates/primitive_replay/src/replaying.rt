@@ -5,7 +5,7 @@ ghost use Rattle.m2m_io.specs.Counts.{Rose};
 ghost use Rattle.m2m_io.specs.Outside.{outside};
 ghost use Rattle.entity_model.specs.Opening.{opening};
 ghost use Rattle.primitive_replay.specs.Front.{held_limit};
-ghost use Rattle.primitive_replay.specs.Lines.{lines_limit};
+ghost use Rattle.primitive_replay.specs.Lines.{most_lines};
 ghost use Rattle.primitive_replay.specs.Script.{Replays, ReplaysFrom};
 ghost use Rattle.primitive_replay.specs.Way.{GoesOn, TakesLine, fault_status};
 
@@ -80,7 +80,7 @@ fn replay_next<T: Tree, S: Source, O: Sink, L: Link>(
         MatchOption result
         (GoesOn place (place + 1) reading.old reading.new entity.old entity.new old on)
         (ReplaysFrom place reading.old entity.old entity.new old new) }
-    ensures place { result ≡ None → place ≤ lines_limit }
+    ensures place { result ≡ None → place ≤ most_lines }
     ensures read_count { S.faults input.old ≤ S.faults input.new }
     ensures read_cause { result ≡ Some Status.ReadFault
         → Rose (S.faults input.old) (S.faults input.new) }
