@@ -2,7 +2,7 @@
 ghost use Rattle.std.specs.Prelude.{◌≡◌};
 ghost use Rattle.attribute_kinds.specs.Kinds.{has_kind};
 
-use crate::lists::{is_cse_ids, is_labels, is_points, is_notification_target, is_texts};
+use crate::lists::{is_cse_ids, is_labels, is_notification_target, is_points, is_texts};
 use crate::objects::{is_criteria, is_rules};
 use crate::values::{
     is_bool, is_content, is_count, is_cse_id, is_member_type, is_name, is_number_within,

@@ -284,7 +284,13 @@ fn table_rule(ty: Ty, attr: Attr) -> Option<Rule>
         Attr::Cr => row(&AUTHORED, ty, Creator, ONCE, false),
         Attr::Cs => row(&[ContentInstance], ty, Assigned(Count), NEVER, true),
         Attr::Csi => row(&[RemoteCse], ty, Given(CseId), FIXED, false),
-        Attr::Cst => row(&[RemoteCse], ty, Given(OneOf(1, LAST_CSE_TYPE)), ONCE, false),
+        Attr::Cst => row(
+            &[RemoteCse],
+            ty,
+            Given(OneOf(1, LAST_CSE_TYPE)),
+            ONCE,
+            false,
+        ),
         Attr::Csy => row(&[Group], ty, Given(OneOf(1, 3)), ONCE, true),
         Attr::Ct | Attr::Lt | Attr::Pi | Attr::Ri | Attr::Ty => {
             row(&Ty::ALL, ty, Derived, NEVER, false)
