@@ -12,7 +12,7 @@ ghost use Rattle.cse_server.specs.Talk.{last_reply};
 ghost use Rattle.cse_server.specs.Way.{RepliesOver};
 
 use cse_machine::Outcome;
-use http_binding::{echo_id, write_reply_frame};
+use http_binding::{echo_id, write_reply};
 use http_frames::{Frame, PutFault};
 use m2m_io::{Connection, Link};
 use m2m_names::Rsc;
@@ -94,7 +94,7 @@ pub(crate) fn put_reply<X: Connection>(
     ensures read_faults { X.Source.faults conn.new ≡ X.Source.faults conn.old }
     ensures holds { (X.kept_by_read conn.new).holds ≡ (X.kept_by_read conn.old).holds }
 {
-    write_reply_frame(alloc, reply, close, conn)
+    write_reply(alloc, reply, close, conn)
 }
 
 /// Writes the last reply of a connection on which no frame can stand.

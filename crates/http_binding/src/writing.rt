@@ -170,7 +170,7 @@ fn reply_bytes(alloc: Global, reply: &Reply, close: bool) -> Result<Vec<u8>, Out
 
 /// Writes a reply by one call of the sink (TS-0009, 6.3 to 6.5). It says whether the connection
 /// closes behind it.
-pub fn write_reply_frame<K: Sink>(
+pub fn write_reply<K: Sink>(
     alloc: Global,
     reply: &Reply,
     close: bool,
