@@ -19,6 +19,7 @@
 
 mod copy;
 mod fault;
+mod parsing;
 mod reading;
 mod same;
 mod shapes;
@@ -28,7 +29,8 @@ mod value;
 mod writing;
 
 pub use fault::ValFault;
-pub use reading::read;
+pub use json::Scratch;
+pub use reading::{read, read_in};
 pub use shapes::{count_of, is_label_text};
 pub use std::alloc::AllocError as OutOfMemory;
 pub use text::{Labels, Numbers, Text};

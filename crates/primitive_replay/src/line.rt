@@ -5,7 +5,7 @@ ghost use Rattle.primitive_replay.specs.Lines as spec;
 ghost use Rattle.primitive_replay.specs.Lines.{GivesLine};
 
 use crate::fault::LineFault;
-use m2m_value::{Val, ValFault, read};
+use m2m_value::{Scratch, Val, ValFault, read_in};
 use primitive_json::{PrimFault, Request, number_spelled, request_from};
 use std::alloc::{AllocError as OutOfMemory, Global};
 
@@ -45,17 +45,21 @@ fn line_in(alloc: Global, value: Val) -> Result<Option<Line>, OutOfMemory>
 }
 
 /// A line with the request that a JSON text is, if it is one.
-fn request_line(alloc: Global, text: &[u8]) -> Result<Option<Line>, OutOfMemory>
+fn request_line(
+    alloc: Global,
+    scratch: &mut Scratch,
+    text: &[u8],
+) -> Result<Option<Line>, OutOfMemory>
     ensures { IfOk result (λ line. line ≡ option_map Line.Ask (spec.request_of_text text.now)) }
 {
-    match read(alloc, text) {
+    match read_in(alloc, scratch, text) {
         Ok(value) => line_in(alloc, value),
         Err(ValFault::OutOfMemory) => Err(OutOfMemory),
         Err(_) => Ok(None),
     }
 }
 
-fn line_of(alloc: Global, text: &[u8]) -> Result<Option<Line>, OutOfMemory>
+fn line_of(alloc: Global, scratch: &mut Scratch, text: &[u8]) -> Result<Option<Line>, OutOfMemory>
     ensures { IfOk result (λ line. line ≡ spec.line_of text.now) }
 {
     if text.is_empty() {
@@ -64,18 +68,23 @@ fn line_of(alloc: Global, text: &[u8]) -> Result<Option<Line>, OutOfMemory>
     if text[0] == b'@' {
         Ok(reading_line(&text[1..]))
     } else {
-        request_line(alloc, text)
+        request_line(alloc, scratch, text)
     }
 }
 
 /// What the line at this place is, if it isn't bad.
-pub(crate) fn line_at(alloc: Global, place: u64, text: &[u8]) -> Result<Line, LineFault>
+pub(crate) fn line_at(
+    alloc: Global,
+    scratch: &mut Scratch,
+    place: u64,
+    text: &[u8],
+) -> Result<Line, LineFault>
     ensures { GivesLine result (spec.line_at place text.now) }
 {
     if place > MOST_LINES || text.len() > LINE_LIMIT {
         return Err(LineFault::Bad);
     }
-    match line_of(alloc, text)? {
+    match line_of(alloc, scratch, text)? {
         Some(line) => Ok(line),
         None => Err(LineFault::Bad),
     }
