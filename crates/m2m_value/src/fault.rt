@@ -1,8 +1,7 @@
 //! Why bytes were not read.
 ghost use Rattle.std.specs.Prelude.{◌≡◌};
-ghost use Rattle.m2m_value.specs.declared.fault.ValFault.TheVariants.{NotJson, OutOfMemory};
+ghost use Rattle.m2m_value.specs.declared.fault.ValFault.TheVariants.{OutOfMemory};
 
-use json::Invalid;
 use std::alloc::{AllocError, AllocFailed};
 
 /// Why bytes were not read as a value.
@@ -30,13 +29,5 @@ impl<T: Drop> From<AllocFailed<T>> for ValFault {
 
     fn from(_e: AllocFailed<T>) -> ValFault {
         ValFault::OutOfMemory
-    }
-}
-
-impl From<Invalid> for ValFault {
-    ghost from_gives = { λ _ e. e ≡ NotJson };
-
-    fn from(_e: Invalid) -> ValFault {
-        ValFault::NotJson
     }
 }

@@ -1,16 +1,17 @@
-//! From bytes to what `serde_json` keeps, in room that is lent. What has a number that isn't whole
-//! is left to `serde_json`, and so is the reason where nothing is given.
-ghost use Rattle.std.specs.Prelude.{◌≡◌, ◌==◌, ◌<◌, ◌≤◌, length, slice_index, Some, IfOk, IfSome};
-ghost use Rattle.std.specs.Prelude.{false, true, OnOk, IsTrue, IsUtf8};
-ghost use Rattle.json.specs.Json.{value, items, members};
-ghost use Rattle.serde_json.specs.Data.{no_members, depth as nesting};
-ghost use Rattle.serde_json.specs.Read.{of_json, of_items, of_members, converted};
+//! From bytes to what `serde_json` keeps, over what `json` reads in room that is lent. What has a
+//! number that isn't whole is left to `serde_json`, and so is the reason where nothing is given.
+ghost use Rattle.std.specs.Prelude.{◌≡◌, ◌==◌, ◌<◌, ◌≤◌, length, slice_index, Some, IfSome};
+ghost use Rattle.std.specs.Prelude.{string_bytes};
+ghost use Rattle.std.specs.Prelude.{false, true, IsTrue, IsUtf8};
+ghost use Rattle.json.specs.Value.{value_view, items_view as items_read};
+ghost use Rattle.json.specs.Value.{members_view as members_read};
+ghost use Rattle.serde_json.specs.Data.{no_members};
+ghost use Rattle.serde_json.specs.Read.{of_json, of_items, of_members};
 ghost use Rattle.serde_json.specs.Read.{number_of, number_from, read as read_text};
 ghost use Rattle.serde_json.specs.View.{view, number_view, items_view, members_view};
 
-use crate::fault::ValFault;
 use fast_float::Numeral;
-use json::{Reader, Scratch, Token};
+use json::{Reader, Scratch};
 use serde_json::{Map, Number, Value};
 use std::alloc::Global;
 
@@ -18,102 +19,74 @@ use std::alloc::Global;
 const DEPTH_LIMIT: usize = 127;
 
 /// The value that the bytes spell, if it is given.
-pub(crate) fn parse_in(
-    alloc: Global,
-    scratch: &mut Scratch,
-    bytes: &[u8],
-) -> Result<Value, ValFault>
-    ensures utf8 { OnOk result (IsUtf8 bytes.now) }
-    ensures ok { IfOk result (λ v. read_text bytes.now ≡ Some (view v)) }
-    ensures nests { IfOk result (λ v. nesting (view v) ≤ 127) }
+pub(crate) fn parse_in(alloc: Global, scratch: &mut Scratch, bytes: &[u8]) -> Option<Value>
+    ensures utf8 { IfSome result (λ v. IsUtf8 bytes.now) }
+    ensures ok { IfSome result (λ v. read_text bytes.now ≡ Some (view v)) }
 {
-    match std::str::from_utf8(bytes) {
-        Ok(text) => parse_text(alloc, scratch, text),
-        Err(_) => Err(ValFault::NotJson),
+    let text = std::str::from_utf8(bytes).ok()?;
+    parse_text(alloc, scratch, text)
+}
+
+fn parse_text(alloc: Global, scratch: &mut Scratch, text: &str) -> Option<Value>
+    ensures { IfSome result (λ v. read_text text.now ≡ Some (view v)) }
+{
+    let mut reader = Reader::new(text, scratch).ok()?;
+    let value = json::Value::read(alloc, &mut reader, DEPTH_LIMIT).ok()?;
+    match reader.next() {
+        Some(_) => None,
+        None => owned(alloc, value),
     }
 }
 
-fn parse_text(alloc: Global, scratch: &mut Scratch, text: &str) -> Result<Value, ValFault>
-    ensures ok { IfOk result (λ v. read_text text.now ≡ Some (view v)) }
-    ensures nests { IfOk result (λ v. nesting (view v) ≤ 127) }
+/// What `serde_json` keeps of a value that `json` read.
+#[cycle(owned)]
+fn owned(alloc: Global, value: json::Value<'_>) -> Option<Value>
+    ensures { IfSome result (λ v. of_json (value_view value.entry) ≡ Some (view v)) }
 {
-    let mut reader = Reader::new(text, scratch)?;
-    let value = parsed(alloc, &mut reader, DEPTH_LIMIT)?;
-    if reader.next().is_some() {
-        return Err(ValFault::NotJson);
-    }
-    Ok(value)
-}
-
-#[cycle(parsed)]
-fn parsed(alloc: Global, reader: &mut Reader<'_>, depth: usize) -> Result<Value, ValFault>
-    ensures ok { IfOk result
-        (λ v. converted of_json (value depth reader.old) ≡ Some (view v, reader.new)) }
-    ensures shorter { OnOk result (length reader.new < length reader.old) }
-{
-    let token = reader.next().ok_or(ValFault::NotJson)?;
-    match token {
-        Token::String(text) => Ok(Value::String(String::from_str(alloc, text)?)),
-        Token::Number(text) => match whole_number(text) {
-            Some(number) => Ok(Value::Number(number)),
-            None => Err(ValFault::NotJson),
-        },
-        Token::Bool(b) => Ok(Value::Bool(b)),
-        Token::Null => Ok(Value::Null),
-        Token::EndObject | Token::EndArray | Token::Key(_) | Token::Bad => Err(ValFault::NotJson),
-        Token::BeginArray => {
-            if depth == 0 {
-                return Err(ValFault::NotJson);
-            }
-            Ok(Value::Array(parsed_items(alloc, reader, depth - 1)?))
-        }
-        Token::BeginObject => {
-            if depth == 0 {
-                return Err(ValFault::NotJson);
-            }
-            Ok(Value::Object(parsed_members(alloc, reader, depth - 1)?))
-        }
+    match value {
+        json::Value::Null => Some(Value::Null),
+        json::Value::Bool(b) => Some(Value::Bool(b)),
+        json::Value::Number(text) => Some(Value::Number(whole_number(text)?)),
+        json::Value::String(text) => Some(Value::String(String::from_str(alloc, text).ok()?)),
+        json::Value::Array(items) => Some(Value::Array(owned_items(alloc, items)?)),
+        json::Value::Object(members) => Some(Value::Object(owned_members(alloc, members)?)),
     }
 }
 
-#[cycle(parsed)]
-fn parsed_items(
-    alloc: Global,
-    reader: &mut Reader<'_>,
-    depth: usize,
-) -> Result<Vec<Value>, ValFault>
-    ensures ok { IfOk result
-        (λ v. converted of_items (items (value depth) (length reader.old) reader.old)
-        ≡ Some (items_view v.items, reader.new)) }
-    ensures shorter { OnOk result (length reader.new < length reader.old) }
+#[cycle(owned)]
+fn owned_items(alloc: Global, items: Vec<json::Value<'_>>) -> Option<Vec<Value>>
+    ensures { IfSome result
+        (λ v. of_items (items_read items.entry.items) ≡ Some (items_view v.items)) }
 {
-    let mut found = Vec::new(alloc);
-    'items: while !reader.take_end_array() {
-        let item = parsed(alloc, reader, depth)?;
-        found.push(item)?;
+    let mut found = Vec::with_capacity(alloc, items.len()).ok()?;
+    for item in items {
+        found.push(owned(alloc, item)?).ok()?;
     }
-    Ok(found)
+    Some(found)
 }
 
-#[cycle(parsed)]
-fn parsed_members(
-    alloc: Global,
-    reader: &mut Reader<'_>,
-    depth: usize,
-) -> Result<Map<String, Value>, ValFault>
-    ensures ok { IfOk result
-        (λ m. converted (λ ms. of_members ms no_members)
-        (members (value depth) (length reader.old) reader.old)
-        ≡ Some (members_view m.entries, reader.new)) }
-    ensures shorter { OnOk result (length reader.new < length reader.old) }
+/// The members go in one after another, so that of those with one key the last stays.
+#[cycle(owned)]
+fn owned_members(alloc: Global, members: Vec<(&str, json::Value<'_>)>) -> Option<Map<String, Value>>
+    ensures { IfSome result
+        (λ m. of_members (members_read members.entry.items) no_members
+        ≡ Some (members_view m.entries)) }
 {
     let mut found = Map::new(alloc);
-    'members: while let Some(name) = reader.next_key()? {
-        let key = String::from_str(alloc, name)?;
-        let member = parsed(alloc, reader, depth)?;
-        drop(found.insert(key, member)?);
+    for member in members {
+        let (key, value) = owned_member(alloc, member)?;
+        drop(found.insert(key, value).ok()?);
     }
-    Ok(found)
+    Some(found)
+}
+
+#[cycle(owned)]
+fn owned_member(alloc: Global, member: (&str, json::Value<'_>)) -> Option<(String, Value)>
+    ensures { IfSome result (λ m. (string_bytes m.0 ≡ member.entry.0.now)
+        × (of_json (value_view member.entry.1) ≡ Some (view m.1))) }
+{
+    let (name, value) = member;
+    Some((String::from_str(alloc, name).ok()?, owned(alloc, value)?))
 }
 
 /// The number that a text writes, where that is whole and has 64 bits.

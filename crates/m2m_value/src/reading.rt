@@ -33,8 +33,8 @@ pub fn read_in(alloc: Global, scratch: &mut Scratch, bytes: &[u8]) -> Result<Val
     ensures nests { IfOk result (λ v. depth v ≤ 127) }
 {
     match parse_in(alloc, scratch, bytes) {
-        Ok(value) => kept(alloc, value),
-        Err(_) => read(alloc, bytes),
+        Some(value) => kept(alloc, value),
+        None => read(alloc, bytes),
     }
 }
 
