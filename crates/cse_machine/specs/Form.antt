@@ -39,8 +39,8 @@ abbrev pub has_fit_result : Op → Option ℤ → Bool
 has_fit_result op rcn =
     not (has_result op) || option_map_or (is_among (result_contents op)) rcn true
 
--- the filter, on a Retrieve alone, with labels and types of their kinds; its other conditions are so
--- by their types
+-- the filter, on a Retrieve alone, with labels and types of their kinds; its other conditions are
+-- so by their types
 abbrev pub are_fit_conditions : FilterParts → Bool
 are_fit_conditions f = list_all (is_filled label_limit) f.lbl && list_all is_type_number f.ty
 

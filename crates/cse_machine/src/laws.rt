@@ -72,8 +72,8 @@ pub fn a_history_goes_one_way()
     ensures { GoesOneWay }
 {}
 
-/// No request is refused for its form whose parameters are of their kinds, as are those of each that
-/// is read from a value or from a frame.
+/// No request is refused for its form whose parameters are of their kinds, as are those of each
+/// that is read from a value or from a frame.
 pub fn what_is_of_its_kinds_has_the_form()
     ensures { KindsHaveTheForm }
 {}
