@@ -121,7 +121,9 @@ fn has_fit_result(request: &Request) -> bool
 fn are_labels(labels: &[Text]) -> bool
     ensures { result ≡ list_all (names.is_filled label_limit) labels.now }
 {
-    labels.iter().all(|label| is_filled(label.entries(), LABEL_LIMIT))
+    labels
+        .iter()
+        .all(|label| is_filled(label.entries(), LABEL_LIMIT))
 }
 
 fn are_type_numbers(numbers: &[u64]) -> bool
