@@ -1,14 +1,13 @@
 -- What holds of a creation that no place refuses.
-use Rattle.std.proofs.Common.{◌≡◌, ℕ, List, true, false, not, Option, Some, None, option_and_then, sym, ap, ◌∙◌}
+use Rattle.std.proofs.Common.{◌≡◌, ℕ, List, true, false, Option, Some, None, option_and_then, sym, ap, ◌∙◌}
 use Rattle.std.proofs.lemmas.Bool.{and_parts}
 use Rattle.std.specs.Option.{option_map_or}
 use Rattle.m2m_names.specs.Types.{does_take}
 use Rattle.m2m_names.specs.declared.operations.Op.TheVariants.{Create}
 use Rattle.m2m_names.specs.declared.types.Ty.{Ty}
-use Rattle.m2m_names.specs.declared.types.Ty.TheVariants.{Group}
 use Rattle.m2m_value.specs.Data.{Data, Entry}
 use Rattle.primitive_json.specs.declared.request.RequestParts.{RequestParts}
-use Rattle.resource_model.specs.Resource.{ResourceData, is_ty}
+use Rattle.resource_model.specs.Resource.{ResourceData}
 use Rattle.tree_model.specs.Tree.{at}
 use Rattle.attribute_rules.specs.Admission.{are_admitted, attributes_in, is_admitted}
 use Rattle.attribute_rules.specs.declared.table.Writing.TheVariants.{Create as Creating}
@@ -19,7 +18,7 @@ use Rattle.request_rules.specs.Policies.{links_live}
 use Rattle.request_rules.specs.Requests.{admits_content, child_ty, content_for, is_content_for, is_for, named_by, takes_child}
 use Rattle.request_rules.specs.Rights.{may_do}
 use Rattle.request_rules.proofs.CreatingLemmas.{named_is, passes_is}
-use Rattle.request_rules.proofs.EditingLemmas.{names_some}
+use Rattle.request_rules.proofs.EditingLemmas.{admitted_for, names_some}
 use Rattle.request_rules.proofs.OrderLemmas.{all_hold}
 use Rattle.create_delete.specs.Joining.{IsAllowed}
 
@@ -78,7 +77,7 @@ creates_content e o request parent ty none child lacks = names_attributes e o re
 pub admitted_content : (e : EntityData) (o : List ℕ) (request : RequestParts) (parent : ResourceData) (ty : Ty) (content : Data) → fault_on Create e o request parent ≡ None → child_ty request ≡ Some ty → request.pc ≡ Some content → is_admitted Creating ty content ≡ true
 admitted_content e o request parent ty content none child is =
     sym (ap (λ (x : Option Data). option_map_or (is_admitted Creating ty) x false) is)
-    ∙ (and_parts (not (is_ty ty Group)) (option_map_or (is_admitted Creating ty) request.pc false) (content_of e o request parent ty none child)).1
+    ∙ admitted_for Creating request ty (content_of e o request parent ty none child)
 
 -- ---- the creation is allowed
 

@@ -19,6 +19,7 @@ use Rattle.entity_model.specs.Entity.{EntityData}
 use Rattle.entity_model.specs.Places.{Effect, refusal, refused}
 use Rattle.retrieve_discover.specs.Replies.{discovered, retrieved, retrieved_of}
 use Rattle.cse_machine.specs.Answer.{does_serve, is_served, has_originator, has_address, is_in_time, is_blocking, operated_by, reading_reply, resource_at, addressed, to_resource, at_spot, effect_of}
+use Rattle.cse_machine.specs.Form.{is_of_kinds}
 use Rattle.cse_machine.specs.Guard.{is_success, fan_group, fanned}
 use Rattle.request_rules.specs.Rights.{is_discovery}
 use Rattle.cse_machine.specs.Rights.{claimed_originator}
@@ -68,17 +69,20 @@ module _ (e : EntityData) (request : RequestParts) where
   pub two_ways : Ways (effect_of e request)
   two_ways = elim (cases_Bool (is_served request)) [
     | inr f ↦ inl (BadRequest, refl, rw f refl)
-    | inl s ↦ elim (cases_Bool (has_originator e.home request)) [
+    | inl s ↦ elim (cases_Bool (is_of_kinds request)) [
       | inr f ↦ inl (BadRequest, refl, rw (s, f) refl)
-      | inl o ↦ elim (cases_Bool (has_address e.home request)) [
-        | inr f ↦ inl (BadRequest, refl, rw (s, o, f) refl)
-        | inl a ↦ elim (cases_Bool (is_in_time e request)) [
-          | inr f ↦ inl (RequestTimeout, refl, rw (s, o, a, f) refl)
-          | inl t ↦ elim (cases_Bool (is_blocking request)) [
-            | inr f ↦ inl (NonBlocking, refl, rw (s, o, a, t, f) refl)
-            | inl b ↦
-                let passed : effect_of e request ≡ at_spot e request spot_is = rw (s, o, a, t, b) refl in
-                subst Ways (sym passed) (on_spot spot_is s o refl)
+      | inl k ↦ elim (cases_Bool (has_originator e.home request)) [
+        | inr f ↦ inl (BadRequest, refl, rw (s, k, f) refl)
+        | inl o ↦ elim (cases_Bool (has_address e.home request)) [
+          | inr f ↦ inl (BadRequest, refl, rw (s, k, o, f) refl)
+          | inl a ↦ elim (cases_Bool (is_in_time e request)) [
+            | inr f ↦ inl (RequestTimeout, refl, rw (s, k, o, a, f) refl)
+            | inl t ↦ elim (cases_Bool (is_blocking request)) [
+              | inr f ↦ inl (NonBlocking, refl, rw (s, k, o, a, t, f) refl)
+              | inl b ↦
+                  let passed : effect_of e request ≡ at_spot e request spot_is = rw (s, k, o, a, t, b) refl in
+                  subst Ways (sym passed) (on_spot spot_is s o refl)
+            ]
           ]
         ]
       ]

@@ -1,4 +1,5 @@
 //! Laws of the machine, over its definitions.
+ghost use Rattle.cse_machine.specs.Form.{KindsHaveTheForm};
 ghost use Rattle.cse_machine.specs.Guard.{StepsAreGuarded, HistoriesAreGuarded};
 ghost use Rattle.cse_machine.specs.Guard.{RefusalsChangeNothing, RetrievesChangeNoResource};
 ghost use Rattle.cse_machine.specs.Guard.{WantOfMemoryChangesNothing};
@@ -69,4 +70,10 @@ pub fn steps_make_a_legal_history()
 /// The same events at the same readings have the same outcomes, where there is memory for them.
 pub fn a_history_goes_one_way()
     ensures { GoesOneWay }
+{}
+
+/// No request is refused for its form whose parameters are of their kinds, as are those of each
+/// that is read from a value or from a frame.
+pub fn what_is_of_its_kinds_has_the_form()
+    ensures { KindsHaveTheForm }
 {}

@@ -1,6 +1,6 @@
 use Rattle.std.proofs.Common.{sym}
 use Rattle.cse_machine.proofs.PlaceLemmas.{claimed_is}
-use Rattle.cse_machine.proofs.machine.answer.Goals as goal
+use Rattle.cse_machine.proofs.machine.answer_served.Goals as goal
 
 pub answer_to-requires-clause-claimed : goal.answer_to-requires-clause-claimed
 answer_to-requires-clause-claimed g c =
