@@ -47,6 +47,7 @@ const CREATIONS: &str =
 CAdmin 3 "op":1,"ty":3,"rcn":0,"pc":{"m2m:cnt":{"rn":"c","mni":0}} => 2001
 CAdmin 4 "op":1,"ty":3,"rcn":0,"pc":{"m2m:cnt":{"rn":"d","mbs":2}} => 2001
 CAdmin 3 "op":1,"ty":15,"rcn":0,"pc":{"m2m:pch":{"rn":"p"}} => 2001
+C1 99 "op":1,"ty":2,"pc":{} => 4004
 C1 4 "op":1,"ty":2,"pc":{} => 4103
 CAdmin 4 "op":1,"ty":2,"pc":{} => 4108
 CAdmin 4 "op":1,"ty":77,"pc":{} => 4108
@@ -65,7 +66,8 @@ CAdmin 5 "op":1,"ty":4,"rcn":0,"pc":{"m2m:cin":{"con":"ab"}} => 2001
 CAdmin 7 "op":1,"ty":23,"pc":{} => 5203"#;
 
 /// So is an update.
-const UPDATES: &str = r#"C1 1 "op":3,"pc":{} => 4103
+const UPDATES: &str = r#"C1 99 "op":3,"pc":{} => 4004
+C1 1 "op":3,"pc":{} => 4103
 CAdmin 1 "op":3,"pc":{} => 4005
 CAdmin 1 "op":1,"ty":3,"rcn":0,"pc":{"m2m:cnt":{"rn":"c"}} => 2001
 CAdmin 3 "op":3,"pc":{} => 4000
