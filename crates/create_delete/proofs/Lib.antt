@@ -14,11 +14,13 @@ pub mod PushingLemmas
 pub mod RelinkLemmas
 pub mod ReplacedLemmas
 pub mod ReplacementLemmas
+pub mod ResultLemmas
 pub mod RightCreateLemmas
 pub mod RightLemmas
 pub mod RightUpdateLemmas
 pub mod RowLemmas
 pub mod TellingLemmas
+pub mod ThoseLemmas
 pub mod UpdatableLemmas
 pub mod UpdatedLemmas
 pub mod UpdatedRowLemmas

@@ -18,6 +18,7 @@ mod growth;
 mod guard;
 mod joining;
 mod laws;
+mod listing;
 mod pushing;
 mod telling;
 mod updating;
@@ -37,5 +38,6 @@ pub use laws::{
     a_deletion_takes_what_stands_at_or_below_its_target, a_refusal_changes_nothing,
     nothing_is_done_without_the_right,
 };
+pub use listing::{Changes, named_attrs};
 pub use std::alloc::AllocError as OutOfMemory;
 pub use updating::update;
