@@ -7,6 +7,7 @@ pub mod InstanceLemmas
 pub mod JoiningLemmas
 pub mod KeptLemmas
 pub mod LeftLemmas
+pub mod ListingLemmas
 pub mod NewcomerLemmas
 pub mod PerformedLemmas
 pub mod PrunedLemmas

@@ -1,12 +1,12 @@
 -- The resources of the numbers that a limit pushes out, in the order of the numbers, are those of a tree that have one of them.
-use Rattle.std.proofs.Common.{◌≡◌, ℕ, suc, List, [], ◌∷◌, Bool, true, false, not, ◌&&◌, Option, Some, inl, inr, refl, sym, ap, ◌∙◌, subst}
+use Rattle.std.proofs.Common.{◌≡◌, ℕ, suc, List, [], ◌∷◌, Bool, true, false, not, ◌&&◌, Option, Some, None, inl, inr, refl, sym, ap, ◌∙◌, subst}
 use Rattle.std.proofs.lemmas.Bool.{cases_Bool}
 use Rattle.std.specs.List.{cons_option, filter, list_all, slice_get}
 use Rattle.m2m_names.specs.declared.types.Ty.TheVariants.{Container}
 use Rattle.resource_model.specs.Resource.{ResourceData, is_ty}
 use Rattle.tree_model.specs.Tree.{at, has, instances_of, is_instance, is_tree}
 use Rattle.tree_model.proofs.OrderLemmas.{placed_stands, tree_ascends}
-use Rattle.container_limits.specs.Limits.{evicted, kept, numbers_of}
+use Rattle.container_limits.specs.Limits.{evicted, kept, limits_of, numbers_of}
 use Rattle.container_limits.specs.declared.limits.Limits.{Limits}
 use Rattle.entity_model.specs.Entity.{EntityData}
 use Rattle.create_delete.specs.Changes.{those_of}
@@ -24,10 +24,10 @@ filter_both : (p q : ResourceData → Bool) (rs : List ResourceData) → filter 
 filter_both p q [] = refl
 filter_both p q (r ∷ rs) = elim (cases_Bool (p r)) [
   | inl t ↦ elim (cases_Bool (q r)) [
-    | inl u ↦ rw (t, u, t, u) (ap (λ (ss : List ResourceData). r ∷ ss) (filter_both p q rs))
-    | inr v ↦ rw (t, v, t, v) (filter_both p q rs)
+    | inl u ↦ rw (t, u) (ap (λ (ss : List ResourceData). r ∷ ss) (filter_both p q rs))
+    | inr v ↦ rw (t, v) (filter_both p q rs)
   ]
-  | inr f ↦ rw (f, f) (filter_both p q rs)
+  | inr f ↦ rw f (filter_both p q rs)
 ]
 
 -- those of the numbers of what a test picks
@@ -51,6 +51,6 @@ none_false (s ∷ nodes) = none_false nodes
 -- those that an update pushes out
 pub those_pushed : (e : EntityData) (c : ResourceData) → is_tree e.nodes ≡ true → those_of (pushed_by e c) e.nodes ≡ filter (is_numbered_in (pushed_by e c)) e.nodes
 those_pushed e c tree = elim (cases_Bool (is_ty c.ty Container)) [
-  | inl t ↦ rw t (those_evicted _ _ _ _ e.nodes tree)
+  | inl t ↦ rw t (those_evicted (limits_of c) None e.last c.number e.nodes tree)
   | inr f ↦ rw f (sym (nothing_picked (is_numbered_in []) e.nodes (none_false e.nodes)))
 ]

@@ -131,11 +131,7 @@ fn first_there<'a, T: Tree>(tree: &'a T, numbers: &'a [u64]) -> Option<(&'a Reso
 }
 
 // The next of these resources that is the one of a number, or stands below it.
-fn next_below<'a, T: Tree>(
-    tree: &T,
-    target: u64,
-    left: &mut Walk<'a, T>,
-) -> Option<&'a Resource>
+fn next_below<'a, T: Tree>(tree: &T, target: u64, left: &mut Walk<'a, T>) -> Option<&'a Resource>
     ensures { MatchOption result
         ((filter (spec.is_at_or_below target (T.nodes tree.now)) left.old ≡ [])
         × (filter (spec.is_at_or_below target (T.nodes tree.now)) left.new ≡ []))
