@@ -22,7 +22,7 @@ use Rattle.entity_model.specs.Entity.{EntityData}
 use Rattle.entity_model.specs.Places.{Effect}
 use Rattle.entity_model.specs.Sound.{IsSoundEntity}
 use Rattle.request_rules.specs.Order.{fault_at, fault_on}
-use Rattle.create_delete.specs.Changes.{changes_at, changes_by, created, creation_changes, deleted, deletion_changes, named_attrs, only_in, those_of, update_changes, update_made, updated}
+use Rattle.create_delete.specs.Changes.{changes_at, changes_by, created, creation_changes, deleted, deletion_changes, named_attrs, only_in, update_changes, update_made, updated}
 use Rattle.create_delete.specs.Changing.{is_numbered_in, nodes_updated, performed_at, pushed_by, pushed_out, without_all}
 use Rattle.create_delete.specs.Joining.{after_joining, gone_by, with_newcomer, MayJoin}
 use Rattle.create_delete.specs.Newcomer.{IsFilling, IsNewcomer, IsReplacement}
