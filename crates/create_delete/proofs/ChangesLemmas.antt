@@ -23,12 +23,13 @@ use Rattle.entity_model.specs.Places.{Effect}
 use Rattle.entity_model.specs.Sound.{IsSoundEntity}
 use Rattle.request_rules.specs.Order.{fault_at, fault_on}
 use Rattle.create_delete.specs.Changes.{changes_at, changes_by, created, creation_changes, deleted, deletion_changes, named_attrs, only_in, update_changes, update_made, updated}
-use Rattle.create_delete.specs.Changing.{is_numbered_in, nodes_updated, performed_at, pushed_by, pushed_out, without_all}
-use Rattle.create_delete.specs.Joining.{after_joining, gone_by, with_newcomer, MayJoin}
+use Rattle.create_delete.specs.Changing.{after_joining, is_numbered_in, nodes_updated, performed_at, pushed_by, pushed_out, with_newcomer, without_all}
+use Rattle.create_delete.specs.Joining.{gone_by, MayJoin}
 use Rattle.create_delete.specs.Newcomer.{IsFilling, IsNewcomer, IsReplacement}
 use Rattle.create_delete.specs.declared.joining.Filling.{Filling}
 use Rattle.create_delete.proofs.GrownLemmas.{grown_by, nothing_picked}
 use Rattle.create_delete.proofs.InstanceLemmas.{limits_restamped, pruning as filling_pruning}
+use Rattle.create_delete.proofs.JoiningLemmas.{filled_is, pushes_named}
 use Rattle.create_delete.proofs.KeptLemmas.{filter_among}
 use Rattle.create_delete.proofs.LeftLemmas.{all_but_out, filter_found, filter_swap, has_left}
 use Rattle.create_delete.proofs.PerformedLemmas.{done_at}
@@ -185,10 +186,9 @@ module _ (e : EntityData) (sound : IsSoundEntity e) (r c : ResourceData) (st : �
 pub join_makes_changes : (e : EntityData) (r : ResourceData) (f : Option Filling) (request : RequestParts) (n : ℕ) → IsSoundEntity e → MayJoin e r f → changes_by Create request n e (after_joining e r f) ≡ creation_changes e.nodes r (gone_by f)
 join_makes_changes e r None request n sound may = join_changes e r request n sound may.0
 join_makes_changes e r (Some f) request n sound may =
-    let after : List ℕ → ℕ → EntityData = λ gone m. record { home = e.home; nodes = without_all gone (restamped_at m e.last f.state (e.nodes ++ r ∷ [])); next = e.next + 1; last = e.last } in
-    let Makes : List ℕ → ℕ → Type 0 = λ gone m. changes_by Create request n e (after gone m) ≡ creation_changes e.nodes r gone in
-    subst (λ (m : ℕ). Makes f.gone m) (sym may.container)
-    (subst (λ (gone : List ℕ). Makes gone r.parent) (sym may.gone) (fill_changes e sound r may.parent f.state may.joins request n))
+    ap (changes_by Create request n e) (sym (filled_is e r f may))
+    ∙ fill_changes e sound r may.parent f.state may.joins request n
+    ∙ ap (creation_changes e.nodes r) (pushes_named e r may.parent f.state may.joins ∙ sym may.gone)
 
 -- ---- what an operation prepares
 

@@ -9,8 +9,9 @@ ghost use Rattle.entity_model.specs.Sound.{IsSoundEntity};
 ghost use Rattle.request_rules.specs.Order.{fault_at};
 ghost use Rattle.create_delete.specs.Changes.{changes_at, changes_by, creation_changes};
 ghost use Rattle.create_delete.specs.Changes.{deletion_changes, named_attrs, update_changes};
-ghost use Rattle.create_delete.specs.Changing.{delete_effect, nodes_updated, pushed_by};
-ghost use Rattle.create_delete.specs.Joining.{after_joining, gone_by, MayJoin};
+ghost use Rattle.create_delete.specs.Changing.{after_joining, delete_effect, nodes_updated};
+ghost use Rattle.create_delete.specs.Changing.{pushed_by};
+ghost use Rattle.create_delete.specs.Joining.{gone_by, MayJoin};
 ghost use Rattle.create_delete.specs.Newcomer.{IsReplacement};
 ghost use Rattle.create_delete.specs.declared.joining.Filling.{Filling};
 

@@ -9,9 +9,9 @@ ghost use Rattle.request_rules.specs.Creation.{creation_of};
 ghost use Rattle.request_rules.specs.Order.{creation_by, fault_at, fault_on};
 ghost use Rattle.request_rules.specs.Requests as requests;
 ghost use Rattle.create_delete.specs.Changes.{changes_at, creation_changes};
-ghost use Rattle.create_delete.specs.Changing.{create_effect, done_by, performed_at};
-ghost use Rattle.create_delete.specs.Joining.{after_joining, filling_of, gone_by, IsAllowed};
-ghost use Rattle.create_delete.specs.Joining.{MayJoin};
+ghost use Rattle.create_delete.specs.Changing.{after_joining, create_effect, done_by, filling_of};
+ghost use Rattle.create_delete.specs.Changing.{performed_at};
+ghost use Rattle.create_delete.specs.Joining.{gone_by, IsAllowed, MayJoin};
 
 use crate::building::{new_resource, next_state, tell_soundness};
 use crate::joining::{Filling, put};

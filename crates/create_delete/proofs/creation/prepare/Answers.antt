@@ -4,8 +4,8 @@ use Rattle.m2m_names.specs.declared.operations.Op.TheVariants.{Create}
 use Rattle.entity_model.specs.Places.{Effect}
 use Rattle.request_rules.proofs.OrderLemmas.{nothing_on}
 use Rattle.create_delete.specs.Changes.{changes_at, creation_changes}
-use Rattle.create_delete.specs.Changing.{done_by, performed_at}
-use Rattle.create_delete.specs.Joining.{after_joining, gone_by, MayJoin}
+use Rattle.create_delete.specs.Changing.{after_joining, done_by, performed_at}
+use Rattle.create_delete.specs.Joining.{gone_by, MayJoin}
 use Rattle.create_delete.proofs.ChangesLemmas.{created_are}
 use Rattle.create_delete.proofs.PerformedLemmas.{done_at}
 use Rattle.create_delete.proofs.ResultLemmas.{IfOk-joined}
