@@ -4,7 +4,9 @@
 //! `specs/Changing`): a refusal by the first place that doesn't hold, in the one order of the crate
 //! request_rules, and else a reply and the entity after it. A call judges, which changes nothing;
 //! it prepares, which takes all memory; and it applies, which can't fail but where a resource is
-//! put last, which comes first. Where memory runs out nothing has changed.
+//! put last, which comes first. Where memory runs out nothing has changed. What is prepared lends
+//! the changes that it makes, one after another (`Changes`): those by which the entity comes to be
+//! what the call leaves (`changes_at` of `specs/Changes`).
 //!
 //! An originator is passed in its short form. A content for a group isn't admitted yet.
 #![tactic(auto)]
