@@ -1,6 +1,5 @@
 //! The contents of replies (TS-0001, 8.1.2; TS-0004, 7.5.2).
-ghost use Rattle.std.specs.Prelude.{◌≡◌, ◌++◌, [], ◌∷◌, codes, pos, IfOk, IsTrue, IsUtf8, filter};
-ghost use Rattle.std.specs.Prelude.{unwrap_or};
+ghost use Rattle.std.specs.Prelude.{◌≡◌, ◌++◌, [], ◌∷◌, codes, IfOk, IsTrue, IsUtf8, filter};
 ghost use Rattle.m2m_names.specs.Types.{ty_member};
 ghost use Rattle.m2m_value.specs.Data as json;
 ghost use Rattle.tree_model.specs.Shown.{wrapped};
@@ -19,6 +18,12 @@ use tree_model::{Attrs, Resource, Tree, attributes, content, members_of, shown};
 
 // What result content a Create or an Update asks for: the attributes, where it says none.
 const ATTRIBUTES: i64 = 1;
+
+fn asked_content(request: &Request) -> i64
+    ensures { result ≡ spec.asked_content request.now }
+{
+    request.parts().rcn.unwrap_or(ATTRIBUTES)
+}
 
 // The structured address that a resource has when it comes last.
 #[tactic(auto, using(crate::proofs::TellingLemmas::path_of_last))]
@@ -115,10 +120,10 @@ pub(crate) fn created_content<T: Tree>(
     resource: &Resource,
 ) -> Result<Option<Val>, OutOfMemory>
     requires { IsTrue (has resource.now.parent entity.now.nodes) }
-    ensures { IfOk result (λ c. c
-        ≡ spec.created_content (unwrap_or request.now.rcn (pos 1)) entity.now resource.now) }
+    ensures { IfOk result (λ c. c ≡ spec.created_content (spec.asked_content request.now)
+        entity.now resource.now) }
 {
-    let asked = request.parts().rcn.unwrap_or(ATTRIBUTES);
+    let asked = asked_content(request);
     if asked == 0 {
         return Ok(None);
     }
@@ -185,10 +190,10 @@ pub(crate) fn updated_content<T: Tree>(
     members: &Members,
     resource: &Resource,
 ) -> Result<Option<Val>, OutOfMemory>
-    ensures { IfOk result (λ c. c ≡ spec.updated_content (unwrap_or request.now.rcn (pos 1))
+    ensures { IfOk result (λ c. c ≡ spec.updated_content (spec.asked_content request.now)
         entity.now members.now resource.now) }
 {
-    if request.parts().rcn.unwrap_or(ATTRIBUTES) == 0 {
+    if asked_content(request) == 0 {
         return Ok(None);
     }
     Ok(Some(told_content(alloc, entity, members, resource)?))
