@@ -32,15 +32,10 @@ use Rattle.tree_model.specs.Tree.{at, instances_of, replaced, restamped_at, with
 use Rattle.request_rules.specs.Creation.{Creation, new_resource, new_size, next_state}
 use Rattle.entity_model.specs.Entity.{EntityData}
 use Rattle.request_rules.specs.Order.{creation_by, places}
-use Rattle.entity_model.specs.Places.{Effect, refused, reply_to, unless_refused}
+use Rattle.entity_model.specs.Places.{Effect, refused, reply_to, unless_refused, wanted_content}
 use Rattle.request_rules.specs.Policies.{link_row}
 use Rattle.request_rules.specs.Requests.{child_ty, named_by}
 use Rattle.create_delete.specs.declared.joining.Filling.{Filling}
-
--- the result content that a Create or an Update asks for: the attributes, where it says none
--- (TS-0001, 8.1.2)
-abbrev pub asked_content : RequestParts → ℤ
-asked_content request = unwrap_or request.rcn (pos 1)
 
 -- ---- what limits push out
 
@@ -113,7 +108,7 @@ created_content rcn e r =
 
 abbrev pub create_effect : RequestParts → Creation → Effect
 create_effect request c = record {
-  reply = reply_to request Created (created_content (asked_content request) c.e (new_resource c));
+  reply = reply_to request Created (created_content (wanted_content request.rcn) c.e (new_resource c));
   after = after_joining c.e (new_resource c) (filling_of c);
 }
 
@@ -166,7 +161,7 @@ updated_content rcn e es r =
 -- what comes of an update that names these attributes and leaves the resource so
 abbrev pub updated_to : EntityData → RequestParts → List Entry → ResourceData → Effect
 updated_to e request es r = record {
-  reply = reply_to request Updated (updated_content (asked_content request) e es r);
+  reply = reply_to request Updated (updated_content (wanted_content request.rcn) e es r);
   after = record e { nodes = nodes_updated e r };
 }
 
