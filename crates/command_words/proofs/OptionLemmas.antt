@@ -57,9 +57,13 @@ pub left_next : (name : List ℕ) (words : List (List ℕ)) (at taken : ℕ) (o 
     → bytes_eq o.name name ≡ false → IsLeft name words (at + taken)
 left_next name words at taken o left front other os e =
     let here = left os e in
-    let behind = in_front_some o (choices (drop taken (drop at words))) here.0 (sym front ∙ here.1.0) in
-    (behind.0, (ap choices (sym (drop-drop taken at words)) ∙ behind.1.0,
-    here.1.1 ∙ ap (value_of name) behind.1.1 ∙ value_behind name o behind.0 other))
+    let behind = in_front_some o (choices (drop taken (drop at words))) here.0 (sym front ∙ here.1.0) in (
+      behind.0,
+      (
+        ap choices (sym (drop-drop taken at words)) ∙ behind.1.0,
+        here.1.1 ∙ ap (value_of name) behind.1.1 ∙ value_behind name o behind.0 other,
+      ),
+    )
 
 -- the option stands first
 pub left_found : (name : List ℕ) (words : List (List ℕ)) (at taken : ℕ) (o : Choice) → IsLeft name words at

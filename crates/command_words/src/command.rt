@@ -44,11 +44,7 @@ const MOST_ACCEPTED: u64 = 1_000_000_000;
 fn is_home_option(name: &str) -> bool
     ensures { result ≡ is_one_of spec.home_options name.now }
 {
-    name == "--id"
-        || name == "--base"
-        || name == "--sp"
-        || name == "--admin"
-        || name == "--type"
+    name == "--id" || name == "--base" || name == "--sp" || name == "--admin" || name == "--type"
 }
 
 fn is_serving_option(name: &str) -> bool

@@ -27,7 +27,11 @@ impl HomeWords<'_> {
         ensures memory { IfErr result
             (λ _. admitted (home_by self.entry) ≡ Some (home_by self.entry)) }
     {
-        let (sp, csi, base) = (self.sp.as_bytes(), self.csi.as_bytes(), self.base.as_bytes());
+        let (sp, csi, base) = (
+            self.sp.as_bytes(),
+            self.csi.as_bytes(),
+            self.base.as_bytes(),
+        );
         match Home::new(alloc, sp, csi, base, self.cst, self.admin.as_bytes()) {
             Ok(home) => Ok(Some(home)),
             Err(HomeFault::Bad(_)) => Ok(None),

@@ -19,11 +19,13 @@ returns-then-eq c = left_found c.args.name.now (texts c.args.words.now) c.loop-a
     (sym c.if-eq.ensures)
 
 pub loop-at-preserved : goal.loop-at-preserved
-loop-at-preserved c = (grind (arith, common_steps, c.in_ok-said.ensures.taken, c.loop-at.invariant.0),
-    left_next c.args.name.now (texts c.args.words.now) c.loop-at.at c.in_ok-said.taken
-    (choice c.in_ok-said.said.now c.in_ok-said.value.now) c.loop-at.invariant.1
-    (front_option c.args.words.now _ c.loop-at.at c.in_ok-said.taken (choice c.in_ok-said.said.now c.in_ok-said.value.now) (grind (arith, common_steps)) c.in_ok-said.ensures.value)
-    (sym c.if-eq.ensures))
+loop-at-preserved c = (
+  grind (arith, common_steps, c.in_ok-said.ensures.taken, c.loop-at.invariant.0),
+  left_next c.args.name.now (texts c.args.words.now) c.loop-at.at c.in_ok-said.taken
+      (choice c.in_ok-said.said.now c.in_ok-said.value.now) c.loop-at.invariant.1
+      (front_option c.args.words.now _ c.loop-at.at c.in_ok-said.taken (choice c.in_ok-said.said.now c.in_ok-said.value.now) (grind (arith, common_steps)) c.in_ok-said.ensures.value)
+      (sym c.if-eq.ensures),
+)
 
 pub returns : goal.returns
 returns c = left_nothing c.args.name.now (texts c.args.words.now) c.loop-at.at c.loop-at.invariant.1 (grind (arith, common_steps, c.loop-at-test.false))
