@@ -1,15 +1,23 @@
 -- The words of a command line, and what is served of them.
-use Rattle.std.proofs.Common.{◌≡◌, ℕ, List, Option, Some, None, option_and_then, option_map, refl, sym, ap, subst, ◌∙◌}
+use Rattle.std.proofs.Common.{◌≡◌, ◌≢◌, ℕ, List, Option, Some, None, option_and_then, option_map, map, Bor, refl, sym, ap, subst, ◌∙◌}
 use Rattle.resource_model.specs.Home.{HomeData}
 use Rattle.command_words.specs.Command.{Command, Serving, Task, http, replay, serve, words_say, admitted, command_in}
+use Rattle.command_words.specs.Command.{task_by}
+use Rattle.command_words.specs.declared.command.Serving as read_serving
+use Rattle.command_words.specs.declared.command.Task as read_task
+use Rattle.command_words.specs.declared.command.Task.TheVariants as read
 use Rattle.cse_cli.specs.Words.{command_at, served, command_of}
 
+-- words behind references
+abbrev pub texts : List (Bor (List ℕ)) → List (List ℕ)
+texts words = map (λ word. word.now) words
+
 -- a command that is served
-abbrev in_service : Option Command → Option Command
+abbrev pub in_service : Option Command → Option Command
 in_service = option_and_then (λ said. served said.task said.home)
 
 -- what is said, at a home that may be admitted
-abbrev at_home : Command → Option HomeData → Option Command
+abbrev pub at_home : Command → Option HomeData → Option Command
 at_home said = option_map (λ home. record said { home = home })
 
 -- words that say nothing
@@ -52,3 +60,10 @@ served_same http wanted home given e =
 served_same replay wanted home given e =
     (ap (λ c. task_in c replay) e, ap (λ c. home_in c home) e)
 served_same (serve serving) wanted home given e = absurd (subst IsServed (sym e) tt)
+
+-- all but a server for many is served
+pub served_some : (task : read_task.Task) (home : HomeData) → ((serving : read_serving.Serving) → task ≢ read.Serve serving)
+    → served (task_by task) home ≢ None
+served_some read.Http home other e = subst IsServed e tt
+served_some read.Replay home other e = subst IsServed e tt
+served_some (read.Serve serving) home other e = other serving refl

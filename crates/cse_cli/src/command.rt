@@ -31,19 +31,19 @@ fn run_task<S: Source, O: Sink, C: Clock, L: Link>(
     out: &mut O,
     first: &mut Bench<C, L>,
 ) -> Status
-    ensures usage { result ≡ Status.Usage ↔ spec.served (task_by task) home ≡ None }
-    ensures still { spec.served (task_by task) home ≡ None
+    ensures usage { result ≡ Status.Usage ↔ spec.served (task_by task.entry) home ≡ None }
+    ensures still { spec.served (task_by task.entry) home ≡ None
         → (input.new ≡ input.old) × (out.new ≡ out.old) × (first.new ≡ first.old) }
     ensures http { let old = outside (S.left input.old) (O.written out.old)
         (C.readings first.old.clock) (L.exchanges first.old.link) in
         let new = outside (S.left input.new) (O.written out.new)
         (C.readings first.new.clock) (L.exchanges first.new.link) in
-        task_by task ≡ asked.http → RunsHttp home old new result }
+        task_by task.entry ≡ asked.http → RunsHttp home old new result }
     ensures replay { let old = outside (S.left input.old) (O.written out.old)
         (C.readings first.old.clock) (L.exchanges first.old.link) in
         let new = outside (S.left input.new) (O.written out.new)
         (C.readings first.new.clock) (L.exchanges first.new.link) in
-        task_by task ≡ asked.replay → RunsReplay home old new result }
+        task_by task.entry ≡ asked.replay → RunsReplay home old new result }
     ensures read_count { S.faults input.old ≤ S.faults input.new }
     ensures read_cause { result ≡ Status.ReadFault
         → Rose (S.faults input.old) (S.faults input.new) }

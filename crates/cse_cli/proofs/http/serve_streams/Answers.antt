@@ -19,7 +19,7 @@ pub returns-clause-runs : goal.returns-clause-runs
 returns-clause-runs g c =
     let read_name = first_name _ _ _ _ c.serve_connection-ended.ensures.holds in
     let put_name = second_name _ _ _ _ c.serve_connection-ended.ensures.holds in
-    after_both (λ i o. ServesStreams (outside (g.S.Source.left c.args.input.now) (g.O.Sink.written c.args.out.now) (g.C.Clock.readings c.args.bench.now.clock) (g.L.Link.exchanges c.args.bench.now.link)) (outside (g.S.Source.left i) (g.O.Sink.written o) (g.C.Clock.readings c.serve_connection-ended.new.clock) (g.L.Link.exchanges c.serve_connection-ended.new.link)) c.status_of.result)
+    after_both (λ i o. ServesStreams c.args.home (outside (g.S.Source.left c.args.input.now) (g.O.Sink.written c.args.out.now) (g.C.Clock.readings c.args.bench.now.clock) (g.L.Link.exchanges c.args.bench.now.link)) (outside (g.S.Source.left i) (g.O.Sink.written o) (g.C.Clock.readings c.serve_connection-ended.new.clock) (g.L.Link.exchanges c.serve_connection-ended.new.link)) c.status_of.result)
     c.new-wire.result.input.ghost_name c.serve_connection-ended.new.conn.input.ghost_name c.new-wire.result.out.ghost_name c.serve_connection-ended.new.conn.out.ghost_name
     _ c.serve_connection-ended.new.conn.input.now _ c.serve_connection-ended.new.conn.out.now read_name (search rules) put_name (search rules)
     (record {
