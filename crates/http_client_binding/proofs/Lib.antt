@@ -1,0 +1,4 @@
+pub mod AskLemmas
+pub mod QueryLemmas
+pub mod SaidLemmas
+pub mod UrlLemmas
