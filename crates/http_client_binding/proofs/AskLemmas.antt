@@ -37,12 +37,11 @@ use Rattle.http_frames.specs.Frame.{body_limit}
 use Rattle.http_frames.specs.Stream.{BeginsWithFrame}
 use Rattle.http_frames.specs.Text.{frame_text, IsLine, IsSoundFrame}
 use Rattle.http_frames.proofs.TextLemmas.{written_is_read}
-use Rattle.http_binding.specs.declared.headers.Field.TheVariants.{Origin, Id, Expiry}
 use Rattle.http_binding.specs.Binding.{created_type}
-use Rattle.http_binding.specs.Headers.{field_name, type_field, length_field, connection_field}
-use Rattle.http_binding.specs.Replying.{body_of, close_lines}
+use Rattle.http_binding.specs.Headers.{type_field, length_field, connection_field}
+use Rattle.http_binding.specs.Replying.{body_of, id_lines, close_lines}
 use Rattle.http_client_binding.specs.declared.target.Aim.{Aim}
-use Rattle.http_client_binding.specs.Asking.{method_text, target_text, host_field, origin_lines, expiry_text, expiry_lines, content_type, content_lines, caller_lines, body_lines, request_frame}
+use Rattle.http_client_binding.specs.Asking.{method_text, target_text, host_field, origin_field, origin_lines, expiry_field, expiry_text, expiry_lines, content_type, content_lines, caller_lines, body_lines, request_frame}
 use Rattle.http_client_binding.specs.TargetWriting.{host_of}
 use Rattle.http_client_binding.specs.Laws.{IsSendable}
 use Rattle.http_client_binding.proofs.UrlLemmas.{host_passes}
@@ -112,8 +111,8 @@ length_is n small =
 
 two_graphic : (n : ℕ) → n < 100 → AllPass is_graphic (two n)
 two_graphic n small =
-    All-cons Graphic (48 + n / 10) ((48 + n % 10) ∷ []) (digit_graphic _ (omega arith, omega arith))
-    (All-cons Graphic (48 + n % 10) [] (digit_graphic _ (omega arith, omega arith)) (All-nil Graphic))
+    All-cons Graphic (48 + n / 10) ((48 + n % 10) ∷ []) (digit_graphic (48 + n / 10) (omega arith, omega arith))
+    (All-cons Graphic (48 + n % 10) [] (digit_graphic (48 + n % 10) (omega arith, omega arith)) (All-nil Graphic))
 
 four_graphic : (n : ℕ) → n < 10000 → AllPass is_graphic (four n)
 four_graphic n small =
@@ -166,13 +165,13 @@ unfolding is_token_byte
 origin_is None h = All-nil IsLine
 origin_is (Some s) h =
     let all = (and_parts (is_filled originator_limit s) (list_all is_ascii_graphic s) h).1 in
-    All-cons IsLine (field_name Origin, s) [] (line_is (field_name Origin) s refl (AllPass-from_list_all is_graphic s all)) (All-nil IsLine)
+    All-cons IsLine (origin_field, s) [] (line_is (origin_field) s refl (AllPass-from_list_all is_graphic s all)) (All-nil IsLine)
 
-id_is : (rqi : List ℕ) → IsTrue (is_request_id rqi) → IsLine (field_name Id, rqi)
+id_is : (rqi : List ℕ) → IsTrue (is_request_id rqi) → All IsLine (id_lines (Some rqi))
 unfolding is_token_byte
 id_is rqi h =
     let all = (and_parts (is_in_range 1 request_id_limit (length rqi)) (list_all is_graphic rqi) h).1 in
-    line_is (field_name Id) rqi refl (AllPass-from_list_all is_graphic rqi all)
+    All-cons IsLine (codes "X-M2M-RI", rqi) [] (line_is (codes "X-M2M-RI") rqi refl (AllPass-from_list_all is_graphic rqi all)) (All-nil IsLine)
 
 expiry_graphic : (when : When) → IsWhenOfKind when → IsShortWhen when → AllPass is_graphic (expiry_text when)
 expiry_graphic (At at) h g = text_graphic (timestamp at) at (timestamp_is at h)
@@ -182,7 +181,7 @@ expiry_is : (when : Option When) → IfSome when IsWhenOfKind → IfSome when Is
 unfolding is_token_byte
 expiry_is None h g = All-nil IsLine
 expiry_is (Some when) h g =
-    All-cons IsLine (field_name Expiry, expiry_text when) [] (line_is (field_name Expiry) (expiry_text when) refl (expiry_graphic when h g)) (All-nil IsLine)
+    All-cons IsLine (expiry_field, expiry_text when) [] (line_is (expiry_field) (expiry_text when) refl (expiry_graphic when h g)) (All-nil IsLine)
 
 type_graphic : (type : Option ℕ) → IfSome type (λ n. IsTrue (nat_le n 65_535)) → AllPass is_graphic (content_type type)
 type_graphic None h = AllPass-from_list_all is_graphic (codes "application/json") refl
@@ -213,18 +212,19 @@ type_short Notify type h = tt
 lines_are : (r : RequestParts) (url : List ℕ) (aim : Aim) → IsSendable r url aim → All IsLine (caller_lines r url ++ body_lines r)
 unfolding is_token_byte
 lines_are r url aim h =
-    let behind = (field_name Id, r.rqi) ∷ expiry_lines r.rqet in
+    let id = id_lines (Some r.rqi) in
+    let behind = id ++ expiry_lines r.rqet in
     let last = (length_field, decimal (length (body_of r.pc))) ∷ close_lines true in
     All-append IsLine (caller_lines r url) (body_lines r)
-    (All-cons IsLine (host_field, host_of url) (origin_lines r.fr ++ behind) (line_is host_field (host_of url) refl (host_passes url h.url))
+    (All-cons IsLine (host_field, host_of url) (origin_lines r.fr ++ behind) (line_is host_field (host_of url) refl (host_passes url h.is_url))
     (All-append IsLine (origin_lines r.fr) behind (origin_is r.fr h.kinds.fr)
-    (All-cons IsLine (field_name Id, r.rqi) (expiry_lines r.rqet) (id_is r.rqi h.kinds.rqi) (expiry_is r.rqet h.kinds.rqet h.expiry))))
+    (All-append IsLine id (expiry_lines r.rqet) (id_is r.rqi h.kinds.rqi) (expiry_is r.rqet h.kinds.rqet h.expiry))))
     (All-append IsLine (content_lines (created_type r.op r.ty) r.pc) last (content_is (created_type r.op r.ty) r.pc (type_short r.op r.ty h.kinds.ty)) (ending_is (length (body_of r.pc)) (omega (arith, h.body))))
 
 -- how many they are, and what they say of the body
 abbrev lines_with : List ℕ → Option (List ℕ) → List ℕ → Option When → Option ℕ → Option Data → List ℕ → List Line
 lines_with host fr id when type content size =
-    ((host_field, host) ∷ (origin_lines fr ++ ((field_name Id, id) ∷ expiry_lines when)))
+    ((host_field, host) ∷ (origin_lines fr ++ (id_lines (Some id) ++ expiry_lines when)))
     ++ (content_lines type content ++ ((length_field, size) ∷ close_lines true))
 
 record Announces (size : List ℕ) (lines : List Line) : Type 0 where

@@ -13,13 +13,14 @@ abbrev with_more : List ℕ → Pair → List ℕ
 with_more text pair = append_pair text pair.0 pair.1
 
 -- after the pair of one more element
-pub pair_more : {X : Type 0} (pair : X → Pair) (xs : List X) (i : ℕ) (x : X) (start before after : List ℕ) → i < length xs → x ≡ get_or xs i x
-    → before ≡ extend_pairs start (map pair (take i xs)) → after ≡ append_pair before (pair x).0 (pair x).1
+pub pair_more : {X : Type 0} (pair : X → Pair) (xs : List X) (i : ℕ) (d : X) (start before after : List ℕ) → i < length xs
+    → before ≡ extend_pairs start (map pair (take i xs)) → after ≡ append_pair before (pair (get_or xs i d)).0 (pair (get_or xs i d)).1
     → after ≡ extend_pairs start (map pair (take (i + 1) xs))
-pair_more pair xs i x start before after h is so_far now =
+pair_more pair xs i d start before after h so_far now =
     let done = map pair (take i xs) in
-    now ∙ ap (λ text. with_more text (pair x)) so_far ∙ sym (fold_push with_more start done (pair x))
-    ∙ ap (fold with_more start) (ap (λ y. done ++ pair y ∷ []) is ∙ sym (map_more pair xs i x h))
+    let next = pair (get_or xs i d) in
+    now ∙ ap (λ text. with_more text next) so_far ∙ sym (fold_push with_more start done next)
+    ∙ ap (fold with_more start) (sym (map_more pair xs i d h))
 
 pub pairs_end : {X : Type 0} (pair : X → Pair) (xs : List X) (i : ℕ) (start last : List ℕ) → length xs ≤ i
     → last ≡ extend_pairs start (map pair (take i xs)) → last ≡ extend_pairs start (map pair xs)
@@ -36,13 +37,14 @@ numbers_end key numbers i start last all so =
     pairs_end (λ n. (key, decimal n)) numbers i start last all so ∙ ap (extend_pairs start) (numbers_at key numbers)
 
 -- after the pairs of one more element
-pub pairs_more : {X : Type 0} (pairs : X → List Pair) (xs : List X) (i : ℕ) (x : X) (start before after : List ℕ) → i < length xs → x ≡ get_or xs i x
-    → before ≡ extend_pairs start (flat_map pairs (take i xs)) → after ≡ extend_pairs before (pairs x)
+pub pairs_more : {X : Type 0} (pairs : X → List Pair) (xs : List X) (i : ℕ) (d : X) (start before after : List ℕ) → i < length xs
+    → before ≡ extend_pairs start (flat_map pairs (take i xs)) → after ≡ extend_pairs before (pairs (get_or xs i d))
     → after ≡ extend_pairs start (flat_map pairs (take (i + 1) xs))
-pairs_more pairs xs i x start before after h is so_far now =
+pairs_more pairs xs i d start before after h so_far now =
     let done = flat_map pairs (take i xs) in
-    now ∙ ap (λ text. extend_pairs text (pairs x)) so_far ∙ sym (fold-append with_more start done (pairs x))
-    ∙ ap (fold with_more start) (flat_map_more pairs [] (take i xs) x ∙ ap (flat_map pairs) (ap (λ y. take i xs ++ y ∷ []) is ∙ sym (take_more xs i x h)))
+    let next = get_or xs i d in
+    now ∙ ap (λ text. extend_pairs text (pairs next)) so_far ∙ sym (fold-append with_more start done (pairs next))
+    ∙ ap (fold with_more start) (flat_map_more pairs [] (take i xs) next ∙ ap (flat_map pairs) (sym (take_more xs i d h)))
 
 pub pairs_all : {X : Type 0} (pairs : X → List Pair) (xs : List X) (i : ℕ) (start last : List ℕ) → length xs ≤ i
     → last ≡ extend_pairs start (flat_map pairs (take i xs)) → last ≡ extend_pairs start (flat_map pairs xs)

@@ -1,15 +1,15 @@
 -- The frame of a reply says the reply.
-use Rattle.std.proofs.Common.{◌≡◌, ℕ, ◌+◌, ◌/◌, ◌%◌, ◌<◌, ◌≤◌, ◌^◌, ◌==◌, Bool, true, false, ◌&&◌, List, [], ◌∷◌, ◌++◌, length, Option, Some, None, Result, Ok, Err, IfSome, decimal, refl, sym, ap, ◌∙◌, arith}
+use Rattle.std.proofs.Common.{◌≡◌, ℕ, ◌+◌, ◌*◌, ◌/◌, ◌%◌, ◌<◌, ◌≤◌, ◌^◌, ◌==◌, Bool, true, false, ◌&&◌, List, [], ◌∷◌, ◌++◌, length, get_or, codes, Option, Some, None, Result, Ok, Err, IfSome, decimal, refl, sym, ap, ◌∙◌, arith}
 use Rattle.std.specs.Bool.{if◌then◌else◌}
 use Rattle.std.specs.Prelude.{ℤ, pos, negsuc}
 use lib.Signed.{mag}
 use Rattle.std.specs.Fmt.{signed_decimal}
-use Rattle.std.specs.Char.{is_ascii_digit}
+use Rattle.std.specs.Char.{digit_value, is_ascii_digit}
 use Rattle.std.specs.List.{list_all}
 use Rattle.std.specs.Option.{option_map_or}
 use Rattle.std.specs.Result.{result_unwrap_or, is_ok}
 use Rattle.std.specs.Str.Parse.{digits_value}
-use Rattle.std.proofs.lemmas.Bool.{and_from, lt-ltb, false≢true}
+use Rattle.std.proofs.lemmas.Bool.{and_parts, and_from, eqb-true, lt-ltb, false≢true}
 use Rattle.std.proofs.lemmas.Fmt.{decimal_nonempty, decimal_step, decimal_digit, digits_decimal, digits_value-decimal}
 use Rattle.m2m_names.specs.StatusCodes.{rsc_row, rsc_of_number}
 use Rattle.m2m_names.specs.declared.codes.Rsc.{Rsc}
@@ -22,12 +22,13 @@ use Rattle.m2m_value.proofs.RoundTrip.{reading-text_of}
 use Rattle.primitive_json.specs.Bounds.{is_request_id}
 use Rattle.primitive_json.specs.declared.reply.ReplyParts.{ReplyParts}
 use Rattle.primitive_json.proofs.Numerals.{own}
+use Rattle.http_frames.specs.declared.frame.Start.TheVariants.{Answer}
+use Rattle.http_frames.specs.declared.frame.Frame.{Frame}
 use Rattle.http_frames.specs.Lines.{Line, is_same_name, values_named}
 use Rattle.http_binding.specs.declared.fault.BindFault.{BindFault}
 use Rattle.http_binding.specs.declared.fault.BindFault.TheVariants as bind
-use Rattle.http_binding.specs.declared.headers.Field.TheVariants.{Id}
-use Rattle.http_binding.specs.Binding.{and_then, value_in, lone_value, header_value, echo_of}
-use Rattle.http_binding.specs.Headers.{field_name, code_field, length_field, is_some_text}
+use Rattle.http_binding.specs.Binding.{and_then, value_in, echo_of}
+use Rattle.http_binding.specs.Headers.{code_field, length_field, is_some_text}
 use Rattle.http_client_binding.specs.Laws.{IsTold}
 use Rattle.http_client_binding.specs.ReplyReading.{is_code_text, code_spelled, lone_code, code_in, some_content, content_said, reply_in}
 use Rattle.http_binding.specs.Replying.{body_of, id_lines, type_lines, close_lines, reply_lines, reply_frame}
@@ -49,23 +50,6 @@ code_named code size (Some id) None false = refl
 code_named code size (Some id) None true = refl
 code_named code size (Some id) (Some d) false = refl
 code_named code size (Some id) (Some d) true = refl
-
--- the value of the line that repeats the identifier, where there is one
-abbrev id_values : Option (List ℕ) → List (List ℕ)
-id_values None = []
-id_values (Some id) = id ∷ []
-
-id_named : (code size : List ℕ) (id : Option (List ℕ)) (content : Option Data) (close : Bool)
-    → values_named (field_name Id) ((code_field, code) ∷ (id_lines id ++ (type_lines content ++ ((length_field, size) ∷ close_lines close)))) ≡ id_values id
-unfolding is_same_name
-id_named code size None None false = refl
-id_named code size None None true = refl
-id_named code size None (Some d) false = refl
-id_named code size None (Some d) true = refl
-id_named code size (Some id) None false = refl
-id_named code size (Some id) None true = refl
-id_named code size (Some id) (Some d) false = refl
-id_named code size (Some id) (Some d) true = refl
 
 -- ---- the status code
 
@@ -98,29 +82,43 @@ code_told reply close =
 
 -- ---- the identifier
 
-id_told : (id : Option (List ℕ)) → IfSome id (λ s. is_request_id s ≡ true) → result_unwrap_or (lone_value Id (id_values id)) None ≡ id
-id_told None h = refl
-id_told (Some id) h = ap (λ r. result_unwrap_or r None) (then_is (is_request_id id) (Ok (Some id)) (Err (bind.Header (field_name Id))) h)
+kept : (is : Bool) (id : List ℕ) (fault : BindFault) → is ≡ true → result_unwrap_or (if is then Ok (Some id) else Err fault) None ≡ Some id
+kept true id fault h = refl
+kept false id fault h = absurd (false≢true h)
 
-echoed : (reply : ReplyParts) (close : Bool) → IfSome reply.rqi (λ s. is_request_id s ≡ true) → echo_of (reply_frame reply close) ≡ reply.rqi
-echoed reply close h =
-    ap (λ values. result_unwrap_or (lone_value Id values) None) (id_named (decimal (rsc_row reply.rsc).number) (decimal (length (body_of reply.pc))) reply.rqi reply.pc close)
-    ∙ id_told reply.rqi h
+abbrev frame_with : ℕ → List ℕ → Option (List ℕ) → Option Data → List ℕ → Bool → List ℕ → Frame
+frame_with http code id content size close body = record {
+  start = Answer http 1;
+  lines = (code_field, code) ∷ (id_lines id ++ (type_lines content ++ ((length_field, size) ∷ close_lines close)));
+  body = body;
+}
+
+echoed : (http : ℕ) (code : List ℕ) (id : Option (List ℕ)) (content : Option Data) (size : List ℕ) (close : Bool) (body : List ℕ)
+    → IfSome id (λ s. is_request_id s ≡ true) → echo_of (frame_with http code id content size close body) ≡ id
+unfolding is_same_name
+echoed http code None None size false body h = refl
+echoed http code None None size true body h = refl
+echoed http code None (Some d) size false body h = refl
+echoed http code None (Some d) size true body h = refl
+echoed http code (Some id) None size false body h = kept (is_request_id id) id (bind.Header (codes "X-M2M-RI")) h
+echoed http code (Some id) None size true body h = kept (is_request_id id) id (bind.Header (codes "X-M2M-RI")) h
+echoed http code (Some id) (Some d) size false body h = kept (is_request_id id) id (bind.Header (codes "X-M2M-RI")) h
+echoed http code (Some id) (Some d) size true body h = kept (is_request_id id) id (bind.Header (codes "X-M2M-RI")) h
 
 -- ---- the content
 
 number_some : (z : ℤ) → mag z < 2 ^ 63 → is_some_text (signed_decimal z) ≡ true
 number_some (pos n) h = let small : n < 2 ^ 63 = h in lt-ltb 0 (length (decimal n)) (decimal_nonempty n (omega arith))
-number_some (negsuc n) h = refl
+number_some (negsuc n) h = lt-ltb 0 (length (signed_decimal (negsuc n))) (omega arith)
 
 text_some : (d : Data) → IsSound d → is_some_text (text_of d) ≡ true
 text_some null h = refl
 text_some (boolean true) h = refl
 text_some (boolean false) h = refl
 text_some (number z) h = number_some z h
-text_some (text s) h = refl
-text_some (list es) h = refl
-text_some (object ps) h = refl
+text_some (text s) h = lt-ltb 0 (length (text_of (text s))) (omega arith)
+text_some (list es) h = lt-ltb 0 (length (text_of (list es))) (omega arith)
+text_some (object ps) h = lt-ltb 0 (length (text_of (object ps))) (omega arith)
 
 content_told : (content : Option Data) → IfSome content (λ d. IsSound d × (depth d ≤ 127)) → content_said (body_of content) ≡ Ok content
 content_told None h = refl
@@ -133,9 +131,41 @@ pub reply_said : (reply : ReplyParts) (close : Bool) → IsTold reply → reply_
 reply_said reply close h =
     ap (λ r. and_then r (λ code. and_then (content_said (body_of reply.pc)) (λ content. Ok (record { rsc = code; rqi = echo_of (reply_frame reply close); pc = content })))) (code_told reply close)
     ∙ ap (λ r. and_then r (λ content. Ok (record { rsc = reply.rsc; rqi = echo_of (reply_frame reply close); pc = content }))) (content_told reply.pc h.pc)
-    ∙ ap (λ id. Ok (record { rsc = reply.rsc; rqi = id; pc = reply.pc })) (echoed reply close h.rqi)
+    ∙ ap (λ id. Ok (record { rsc = reply.rsc; rqi = id; pc = reply.pc })) (echoed (rsc_row reply.rsc).http (decimal (rsc_row reply.rsc).number) reply.rqi reply.pc (decimal (length (body_of reply.pc))) close (body_of reply.pc) h.rqi)
 
 -- ---- four digits, as they are read
 
-digits_of : (a b c d : ℕ) → code_spelled (a ∷ b ∷ c ∷ d ∷ []) ≡ (if list_all is_ascii_digit (a ∷ b ∷ c ∷ d ∷ []) then rsc_of_number (digits_value 10 (a ∷ b ∷ c ∷ d ∷ [])) else None)
-digits_of a b c d = refl
+pub record AreFour (text : List ℕ) : Type 0 where
+  pub size : length text ≡ 4
+  pub first : is_ascii_digit (get_or text 0 0) ≡ true
+  pub second : is_ascii_digit (get_or text 1 0) ≡ true
+  pub third : is_ascii_digit (get_or text 2 0) ≡ true
+  pub fourth : is_ascii_digit (get_or text 3 0) ≡ true
+  pub value :
+      digits_value 10 text
+      ≡ ((digit_value (get_or text 0 0) * 10 + digit_value (get_or text 1 0)) * 10 + digit_value (get_or text 2 0)) * 10 + digit_value (get_or text 3 0)
+
+worth : (a b c d : ℕ) → (((0 * 10 + a) * 10 + b) * 10 + c) * 10 + d ≡ ((a * 10 + b) * 10 + c) * 10 + d
+worth a b c d = omega arith
+
+pub are_four : (text : List ℕ) → is_code_text text ≡ true → AreFour text
+are_four [] h = absurd (false≢true h)
+are_four (a ∷ []) h = absurd (false≢true h)
+are_four (a ∷ b ∷ []) h = absurd (false≢true h)
+are_four (a ∷ b ∷ c ∷ []) h = absurd (false≢true h)
+are_four (a ∷ b ∷ c ∷ d ∷ []) h =
+    let one = and_parts (is_ascii_digit a) (list_all is_ascii_digit (b ∷ c ∷ d ∷ [])) h in
+    let two = and_parts (is_ascii_digit b) (list_all is_ascii_digit (c ∷ d ∷ [])) one.1 in
+    let three = and_parts (is_ascii_digit c) (list_all is_ascii_digit (d ∷ [])) two.1 in
+    let four = and_parts (is_ascii_digit d) true three.1 in
+    record {
+      size = refl;
+      first = one.0;
+      second = two.0;
+      third = three.0;
+      fourth = four.0;
+      value = worth (digit_value a) (digit_value b) (digit_value c) (digit_value d);
+    }
+are_four (a ∷ b ∷ c ∷ d ∷ e ∷ text) h =
+    let size = (and_parts (length (a ∷ b ∷ c ∷ d ∷ e ∷ text) == 4) (list_all is_ascii_digit (a ∷ b ∷ c ∷ d ∷ e ∷ text)) h).0 in
+    absurd (omega (arith, eqb-true (length (a ∷ b ∷ c ∷ d ∷ e ∷ text)) 4 size))

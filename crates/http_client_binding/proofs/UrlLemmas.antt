@@ -6,7 +6,6 @@ use Rattle.std.specs.Int.{is_in_range}
 use Rattle.std.specs.List.{list_all}
 use Rattle.std.proofs.lemmas.Bool.{and_parts}
 use Rattle.std.proofs.lemmas.Bool.Decides.{nat_tests}
-use Rattle.std.proofs.lemmas.List.{length-append}
 use Rattle.std.proofs.lemmas.List.Elements.{All-nil, All-cons, All-append, All-drop, All-take, All-weaker}
 use Rattle.std.proofs.lemmas.List.Sums.{AllPass-from_list_all}
 use Rattle.httparse.specs.Grammar.{AllPass}
@@ -15,15 +14,6 @@ use Rattle.m2m_names.specs.Urls.{is_host_byte, is_path_byte, number_of, is_host,
 use Rattle.primitive_json.specs.Bounds.{is_graphic}
 use Rattle.primitive_json.specs.Notes.{IsSomeUrl}
 use Rattle.http_client_binding.specs.TargetWriting.{behind_scheme, host_of}
-
--- `http://` stands in front
-pub url_long : (text : List ℕ) → IsSomeUrl text → 7 ≤ length text
-url_long text h =
-    let u = h.1 in
-    let size : length text ≡ 7 + length u.host + length u.port + length u.path =
-    ap length u.bytes ∙ length-append (codes "http://" ++ u.host ++ u.port) u.path
-    ∙ ap (λ n. n + length u.path) (length-append (codes "http://" ++ u.host) u.port ∙ ap (λ n. n + length u.port) (length-append (codes "http://") u.host)) in
-    omega (arith, size)
 
 -- each byte is printable
 host_graphic : (b : ℕ) → is_host_byte b ≡ true → IsTrue (is_graphic b)

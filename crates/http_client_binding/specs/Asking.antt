@@ -13,10 +13,9 @@ use Rattle.primitive_json.specs.declared.request.When.TheVariants.{At, Millis}
 use Rattle.http_frames.specs.declared.frame.Start.TheVariants.{Ask}
 use Rattle.http_frames.specs.declared.frame.Frame.{Frame}
 use Rattle.http_frames.specs.Lines.{Line}
-use Rattle.http_binding.specs.declared.headers.Field.TheVariants.{Origin, Id, Expiry}
 use Rattle.http_binding.specs.Binding.{created_type}
-use Rattle.http_binding.specs.Headers.{field_name, type_field, length_field}
-use Rattle.http_binding.specs.Replying.{body_of, close_lines}
+use Rattle.http_binding.specs.Headers.{type_field, length_field}
+use Rattle.http_binding.specs.Replying.{body_of, id_lines, close_lines}
 use Rattle.http_client_binding.specs.declared.target.Aim.{Aim}
 use Rattle.http_client_binding.specs.declared.target.Aim.TheVariants.{Direct, Peer}
 use Rattle.http_client_binding.specs.TargetWriting.{host_of, path_and_query_of, root_path}
@@ -43,9 +42,16 @@ target_text r url Peer =
 abbrev pub host_field : List ℕ
 host_field = codes "Host"
 
+-- the names of the fields that say who asks, and when the request expires
+abbrev pub origin_field : List ℕ
+origin_field = codes "X-M2M-Origin"
+
+abbrev pub expiry_field : List ℕ
+expiry_field = codes "X-M2M-RET"
+
 abbrev pub origin_lines : Option (List ℕ) → List Line
 origin_lines None = []
-origin_lines (Some originator) = (field_name Origin, originator) ∷ []
+origin_lines (Some originator) = (origin_field, originator) ∷ []
 
 -- when a request expires: a timestamp, or milliseconds by their digits
 abbrev pub expiry_text : When → List ℕ
@@ -54,7 +60,7 @@ expiry_text (Millis n) = decimal n
 
 abbrev pub expiry_lines : Option When → List Line
 expiry_lines None = []
-expiry_lines (Some when) = (field_name Expiry, expiry_text when) ∷ []
+expiry_lines (Some when) = (expiry_field, expiry_text when) ∷ []
 
 -- the type of the content, with the number of the type that is to be created
 abbrev pub content_type : Option ℕ → List ℕ
@@ -69,7 +75,7 @@ content_lines type (Some content) = (type_field, content_type type) ∷ []
 abbrev pub caller_lines : RequestParts → List ℕ → List Line
 caller_lines r url =
     (host_field, host_of url)
-    ∷ (origin_lines r.fr ++ ((field_name Id, r.rqi) ∷ expiry_lines r.rqet))
+    ∷ (origin_lines r.fr ++ (id_lines (Some r.rqi) ++ expiry_lines r.rqet))
 
 -- and those that speak of the body, and of the connection, which closes behind the reply
 abbrev pub body_lines : RequestParts → List Line

@@ -38,7 +38,7 @@ IsTargetText text = (0 < length text) × AllPass is_uri_byte text × IsUtf8 text
 pub record IsSendable (r : RequestParts) (url : List ℕ) (aim : Aim) : Type 0 where
   pub kinds : IsOfKinds r
   pub expiry : HasShortExpiry r
-  pub url : IsSomeUrl url
+  pub is_url : IsSomeUrl url
   pub target : IsTargetText (target_text r url aim)
   pub head : length (head_text (request_frame r url aim)) ≤ head_limit
   pub body : length (body_of r.pc) ≤ body_limit Request

@@ -1,5 +1,5 @@
 //! The reply that a frame says.
-ghost use Rattle.std.specs.Prelude.{◌≡◌, ◌<◌, ◌^◌, IfOk, IfSome, IsTrue, IsUtf8};
+ghost use Rattle.std.specs.Prelude.{◌≡◌, ◌+◌, ◌*◌, ◌<◌, IfOk, IfSome, IsTrue, IsUtf8};
 ghost use Rattle.std.specs.Char.{digit_value, is_ascii_digit};
 ghost use Rattle.std.specs.Str.Parse.{digits_value};
 ghost use Rattle.http_binding.specs.Binding.{echo_of, ReadsAs};
@@ -38,15 +38,29 @@ fn number_of(a: u16, b: u16, c: u16, d: u16) -> u16
     ((a * 10 + b) * 10 + c) * 10 + d
 }
 
+/// Whether the text is four digits.
+fn is_code_text(text: &[u8]) -> bool
+    ensures { result ≡ spec.is_code_text text.now }
+{
+    text.len() == 4 && text.iter().all(u8::is_ascii_digit)
+}
+
+/// The number that such a text writes.
+fn code_number(text: &[u8]) -> u16
+    requires { IsTrue (spec.is_code_text text.now) }
+    ensures { result ≡ digits_value 10 text.now }
+{
+    number_of(digit(text[0]), digit(text[1]), digit(text[2]), digit(text[3]))
+}
+
 /// The status code that four digits write.
 fn code_spelled(text: &[u8]) -> Option<Rsc>
     ensures { result ≡ spec.code_spelled text.now }
 {
-    match text {
-        [a, b, c, d] if text.iter().all(u8::is_ascii_digit) => {
-            Rsc::from_number(number_of(digit(*a), digit(*b), digit(*c), digit(*d)))
-        }
-        _ => None,
+    if is_code_text(text) {
+        Rsc::from_number(code_number(text))
+    } else {
+        None
     }
 }
 

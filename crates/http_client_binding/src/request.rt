@@ -1,5 +1,5 @@
 //! The frame of a request.
-ghost use Rattle.std.specs.Prelude.{◌≡◌, ◌++◌, ◌∷◌, [], true, IfOk, OnOk, length};
+ghost use Rattle.std.specs.Prelude.{◌≡◌, ◌++◌, ◌∷◌, [], true, IfOk, OnOk, Some, length, string_bytes};
 ghost use Rattle.std.specs.Fmt.{decimal};
 ghost use Rattle.std.specs.Option.{ForSome};
 ghost use Rattle.http_binding.specs.Binding.{created_type};
@@ -190,14 +190,28 @@ fn type_of(request: &RequestParts) -> Option<u32>
     }
 }
 
-/// Puts the lines that say how long the body is, and that the connection closes, behind the others.
+/// Puts the line that says how long the body is behind the others.
+fn push_length(alloc: Global, lines: &mut Vec<Line>, len: usize) -> Result<(), OutOfMemory>
+    ensures { OnOk result (lines.new.items ≡ lines.old.items ++ (length_field, decimal len) ∷ []) }
+{
+    let digits = format!(in alloc; "{len}")?;
+    push_line(alloc, lines, "Content-Length", digits.as_bytes())
+}
+
+/// Puts the line that says that the connection closes behind the others.
+fn push_close(alloc: Global, lines: &mut Vec<Line>) -> Result<(), OutOfMemory>
+    ensures { OnOk result (lines.new.items ≡ lines.old.items ++ close_lines true) }
+{
+    push_line(alloc, lines, "Connection", b"close")
+}
+
+/// Puts both behind the others.
 fn push_ending(alloc: Global, lines: &mut Vec<Line>, len: usize) -> Result<(), OutOfMemory>
     ensures { OnOk result (lines.new.items
         ≡ lines.old.items ++ ((length_field, decimal len) ∷ close_lines true)) }
 {
-    let digits = format!(in alloc; "{len}")?;
-    push_line(alloc, lines, "Content-Length", digits.as_bytes())?;
-    push_line(alloc, lines, "Connection", b"close")
+    push_length(alloc, lines, len)?;
+    push_close(alloc, lines)
 }
 
 /// Puts the lines that speak of a body of so many bytes behind the others.
