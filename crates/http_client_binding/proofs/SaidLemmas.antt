@@ -1,15 +1,15 @@
 -- The frame of a reply says the reply.
-use Rattle.std.proofs.Common.{◌≡◌, ℕ, ◌+◌, ◌*◌, ◌/◌, ◌%◌, ◌<◌, ◌≤◌, ◌^◌, ◌==◌, Bool, true, false, ◌&&◌, List, [], ◌∷◌, ◌++◌, length, get_or, codes, Option, Some, None, Result, Ok, Err, IfSome, decimal, refl, sym, ap, ◌∙◌, arith}
+use Rattle.std.proofs.Common.{◌≡◌, ℕ, ◌+◌, ◌/◌, ◌%◌, ◌<◌, ◌≤◌, ◌^◌, ◌==◌, Bool, true, false, ◌&&◌, List, [], ◌∷◌, ◌++◌, length, codes, Option, Some, None, Result, Ok, Err, IfSome, decimal, refl, sym, ap, ◌∙◌, arith}
 use Rattle.std.specs.Bool.{if◌then◌else◌}
 use Rattle.std.specs.Prelude.{ℤ, pos, negsuc}
 use lib.Signed.{mag}
 use Rattle.std.specs.Fmt.{signed_decimal}
-use Rattle.std.specs.Char.{digit_value, is_ascii_digit}
+use Rattle.std.specs.Char.{is_ascii_digit}
 use Rattle.std.specs.List.{list_all}
 use Rattle.std.specs.Option.{option_map_or}
 use Rattle.std.specs.Result.{result_unwrap_or, is_ok}
 use Rattle.std.specs.Str.Parse.{digits_value}
-use Rattle.std.proofs.lemmas.Bool.{and_parts, and_from, eqb-true, lt-ltb, false≢true}
+use Rattle.std.proofs.lemmas.Bool.{and_from, lt-ltb, false≢true}
 use Rattle.std.proofs.lemmas.Fmt.{decimal_nonempty, decimal_step, decimal_digit, digits_decimal, digits_value-decimal}
 use Rattle.m2m_names.specs.StatusCodes.{rsc_row, rsc_of_number}
 use Rattle.m2m_names.specs.declared.codes.Rsc.{Rsc}
@@ -132,40 +132,3 @@ reply_said reply close h =
     ap (λ r. and_then r (λ code. and_then (content_said (body_of reply.pc)) (λ content. Ok (record { rsc = code; rqi = echo_of (reply_frame reply close); pc = content })))) (code_told reply close)
     ∙ ap (λ r. and_then r (λ content. Ok (record { rsc = reply.rsc; rqi = echo_of (reply_frame reply close); pc = content }))) (content_told reply.pc h.pc)
     ∙ ap (λ id. Ok (record { rsc = reply.rsc; rqi = id; pc = reply.pc })) (echoed (rsc_row reply.rsc).http (decimal (rsc_row reply.rsc).number) reply.rqi reply.pc (decimal (length (body_of reply.pc))) close (body_of reply.pc) h.rqi)
-
--- ---- four digits, as they are read
-
-pub record AreFour (text : List ℕ) : Type 0 where
-  pub size : length text ≡ 4
-  pub first : is_ascii_digit (get_or text 0 0) ≡ true
-  pub second : is_ascii_digit (get_or text 1 0) ≡ true
-  pub third : is_ascii_digit (get_or text 2 0) ≡ true
-  pub fourth : is_ascii_digit (get_or text 3 0) ≡ true
-  pub value :
-      digits_value 10 text
-      ≡ ((digit_value (get_or text 0 0) * 10 + digit_value (get_or text 1 0)) * 10 + digit_value (get_or text 2 0)) * 10 + digit_value (get_or text 3 0)
-
-worth : (a b c d : ℕ) → (((0 * 10 + a) * 10 + b) * 10 + c) * 10 + d ≡ ((a * 10 + b) * 10 + c) * 10 + d
-worth a b c d = omega arith
-
-pub are_four : (text : List ℕ) → is_code_text text ≡ true → AreFour text
-are_four [] h = absurd (false≢true h)
-are_four (a ∷ []) h = absurd (false≢true h)
-are_four (a ∷ b ∷ []) h = absurd (false≢true h)
-are_four (a ∷ b ∷ c ∷ []) h = absurd (false≢true h)
-are_four (a ∷ b ∷ c ∷ d ∷ []) h =
-    let one = and_parts (is_ascii_digit a) (list_all is_ascii_digit (b ∷ c ∷ d ∷ [])) h in
-    let two = and_parts (is_ascii_digit b) (list_all is_ascii_digit (c ∷ d ∷ [])) one.1 in
-    let three = and_parts (is_ascii_digit c) (list_all is_ascii_digit (d ∷ [])) two.1 in
-    let four = and_parts (is_ascii_digit d) true three.1 in
-    record {
-      size = refl;
-      first = one.0;
-      second = two.0;
-      third = three.0;
-      fourth = four.0;
-      value = worth (digit_value a) (digit_value b) (digit_value c) (digit_value d);
-    }
-are_four (a ∷ b ∷ c ∷ d ∷ e ∷ text) h =
-    let size = (and_parts (length (a ∷ b ∷ c ∷ d ∷ e ∷ text) == 4) (list_all is_ascii_digit (a ∷ b ∷ c ∷ d ∷ e ∷ text)) h).0 in
-    absurd (omega (arith, eqb-true (length (a ∷ b ∷ c ∷ d ∷ e ∷ text)) 4 size))

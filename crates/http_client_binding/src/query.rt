@@ -108,11 +108,7 @@ fn append_count(out: &mut Vec<u8>, key: &str, n: Option<u64>) -> Result<(), OutO
 }
 
 /// Appends the pair that says how a filter is used, where that is said.
-fn append_usage(
-    out: &mut Vec<u8>,
-    key: &str,
-    usage: Option<FilterUsage>,
-) -> Result<(), OutOfMemory>
+fn append_usage(out: &mut Vec<u8>, key: &str, usage: Option<FilterUsage>) -> Result<(), OutOfMemory>
     ensures { OnOk result (out.new.items
         ≡ form.extend_pairs out.old.items (spec.pairs_at key.now (spec.usage_texts usage))) }
 {

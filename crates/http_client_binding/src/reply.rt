@@ -1,6 +1,7 @@
 //! The reply that a frame says.
-ghost use Rattle.std.specs.Prelude.{◌≡◌, ◌+◌, ◌*◌, ◌<◌, IfOk, IfSome, IsTrue, IsUtf8};
+ghost use Rattle.std.specs.Prelude.{◌≡◌, ◌+◌, ◌*◌, ◌<◌, ◌==◌, IfOk, IfSome, IsTrue, IsUtf8, length};
 ghost use Rattle.std.specs.Char.{digit_value, is_ascii_digit};
+ghost use Rattle.std.specs.List.{list_all};
 ghost use Rattle.std.specs.Str.Parse.{digits_value};
 ghost use Rattle.http_binding.specs.Binding.{echo_of, ReadsAs};
 ghost use Rattle.http_binding.specs.Headers.{code_field};
@@ -38,11 +39,23 @@ fn number_of(a: u16, b: u16, c: u16, d: u16) -> u16
     ((a * 10 + b) * 10 + c) * 10 + d
 }
 
+fn are_digits(text: &[u8]) -> bool
+    ensures { result ≡ list_all is_ascii_digit text.now }
+{
+    text.iter().all(u8::is_ascii_digit)
+}
+
+fn are_four(text: &[u8]) -> bool
+    ensures { result ≡ (length text.now == 4) }
+{
+    text.len() == 4
+}
+
 /// Whether the text is four digits.
 fn is_code_text(text: &[u8]) -> bool
     ensures { result ≡ spec.is_code_text text.now }
 {
-    text.len() == 4 && text.iter().all(u8::is_ascii_digit)
+    are_four(text) && are_digits(text)
 }
 
 /// The number that such a text writes.
@@ -50,7 +63,12 @@ fn code_number(text: &[u8]) -> u16
     requires { IsTrue (spec.is_code_text text.now) }
     ensures { result ≡ digits_value 10 text.now }
 {
-    number_of(digit(text[0]), digit(text[1]), digit(text[2]), digit(text[3]))
+    number_of(
+        digit(text[0]),
+        digit(text[1]),
+        digit(text[2]),
+        digit(text[3]),
+    )
 }
 
 /// The status code that four digits write.

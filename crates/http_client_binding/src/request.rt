@@ -116,11 +116,7 @@ fn expiry_text(alloc: Global, when: When) -> Result<Vec<u8>, OutOfMemory>
 }
 
 /// Puts the line that says when a request expires behind the others, where that is said.
-fn push_expiry(
-    alloc: Global,
-    lines: &mut Vec<Line>,
-    when: Option<When>,
-) -> Result<(), OutOfMemory>
+fn push_expiry(alloc: Global, lines: &mut Vec<Line>, when: Option<When>) -> Result<(), OutOfMemory>
     requires { ForSome when IsSoundWhen }
     ensures { OnOk result (lines.new.items ≡ lines.old.items ++ spec.expiry_lines when) }
 {
@@ -190,12 +186,24 @@ fn type_of(request: &RequestParts) -> Option<u32>
     }
 }
 
+/// Puts one line with a number behind the others.
+fn push_number(
+    alloc: Global,
+    lines: &mut Vec<Line>,
+    name: &str,
+    n: usize,
+) -> Result<(), OutOfMemory>
+    ensures { OnOk result (lines.new.items ≡ lines.old.items ++ (name.now, decimal n) ∷ []) }
+{
+    let digits = format!(in alloc; "{n}")?;
+    push_line(alloc, lines, name, digits.as_bytes())
+}
+
 /// Puts the line that says how long the body is behind the others.
 fn push_length(alloc: Global, lines: &mut Vec<Line>, len: usize) -> Result<(), OutOfMemory>
     ensures { OnOk result (lines.new.items ≡ lines.old.items ++ (length_field, decimal len) ∷ []) }
 {
-    let digits = format!(in alloc; "{len}")?;
-    push_line(alloc, lines, "Content-Length", digits.as_bytes())
+    push_number(alloc, lines, "Content-Length", len)
 }
 
 /// Puts the line that says that the connection closes behind the others.

@@ -7,8 +7,8 @@ use http_frames::write_frame;
 use m2m_io::MemSink;
 use m2m_names::read_url;
 use primitive_json::read_request;
-use std::process::Abort;
 use std::alloc::AllocGlobal;
+use std::process::Abort;
 use std::test::Fail;
 
 const FORWARDED: &str = r#"{"op":2,"to":"/id-mn/cse-mn","fr":"/id-in/CAdmin","rqi":"r9"}"#;
