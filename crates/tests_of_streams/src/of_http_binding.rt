@@ -10,15 +10,15 @@ use primitive_json::{Reply, ReplyParts};
 use std::alloc::Global;
 use std::test::Fail;
 
-const WRITTEN: &str = "HTTP/1.1 409 Conflict\r\nX-M2M-RSC: 4105\r\nX-M2M-RI: r1\r\n\
+pub(crate) const WRITTEN: &str = "HTTP/1.1 409 Conflict\r\nX-M2M-RSC: 4105\r\nX-M2M-RI: r1\r\n\
     Content-Type: application/json\r\nContent-Length: 10\r\nConnection: close\r\n\r\n\
     {\"a\":\"é\"}";
 
-fn parsed(alloc: Global, json: &str) -> Result<Val, Fail> {
+pub(crate) fn parsed(alloc: Global, json: &str) -> Result<Val, Fail> {
     Ok(read(alloc, json.as_bytes())?)
 }
 
-fn conflict(alloc: Global) -> Result<Reply, Fail> {
+pub(crate) fn conflict(alloc: Global) -> Result<Reply, Fail> {
     let rqi = text(alloc, "r1")?;
     let content = parsed(alloc, "{ \"a\": \"é\" }")?;
     Ok(Reply::of(ReplyParts {
@@ -28,7 +28,7 @@ fn conflict(alloc: Global) -> Result<Reply, Fail> {
     }))
 }
 
-fn as_frame(alloc: Global, reply: &Reply) -> Result<MemSink, Fail> {
+pub(crate) fn as_frame(alloc: Global, reply: &Reply) -> Result<MemSink, Fail> {
     let frame = of_reply(alloc, reply, true)?;
     let mut sink = MemSink::new(Vec::new(alloc), Vec::new(alloc));
     write_frame(alloc, &frame, &mut sink)?;

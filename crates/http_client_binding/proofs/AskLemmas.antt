@@ -1,0 +1,285 @@
+-- The frame of a request is sound, so that it is read back from its text.
+use Rattle.std.proofs.Common.{◌≡◌, ℕ, ◌+◌, ◌/◌, ◌%◌, ◌<◌, ◌≤◌, ◌^◌, Bool, true, false, ◌&&◌, ◌==◌, nat_le, nat_lt, leb, ltb, List, [], ◌∷◌, ◌++◌, length, reverse, codes, Option, Some, None, IsTrue, IfSome, refl, sym, ap, subst, ◌∙◌, arith}
+use Rattle.std.specs.Prelude.{All}
+use Rattle.std.specs.Fmt.{decimal}
+use Rattle.std.specs.Char.{is_ascii_digit, is_ascii_graphic}
+use Rattle.std.specs.Int.{is_in_range, IsInRange}
+use Rattle.std.specs.List.{list_all}
+use Rattle.std.specs.Str.Parse.{AllDigits}
+use Rattle.std.proofs.lemmas.Bool.{and_parts, and_from, le-leb, leb-true, ltb-true, eqb-true, cond-true, cond-false}
+use Rattle.std.proofs.lemmas.Bool.Decides.{nat_tests}
+use Rattle.std.proofs.lemmas.Fmt.{decimal_is_IsNumeral, length-decimal-le}
+use Rattle.std.proofs.lemmas.List.{reverse-reverse}
+use Rattle.std.proofs.lemmas.List.Elements.{All-nil, All-cons, All-head, All-append, All-weaker}
+use Rattle.std.proofs.lemmas.List.Sums.{AllPass-from_list_all, list_all-from_AllPass}
+use Rattle.std.proofs.lemmas.Str.Parse.{digit_from_value}
+use Rattle.httparse.specs.Grammar.{AllPass, IsToken, is_token, is_token_byte, is_value_byte, is_ows, skip_ows, trim_ows}
+use Rattle.httparse.proofs.TrimLemmas.{AllPass-reverse}
+use Rattle.m2m_names.specs.Name.{is_filled, is_originator, originator_limit}
+use Rattle.m2m_names.specs.Calendar.{is_date, days_of_month}
+use Rattle.m2m_names.specs.Stamps.{Stamp, is_stamp, is_fraction, stamp_bytes, timestamp, two, four, IsTimestamp}
+use Rattle.m2m_names.specs.declared.operations.Op.{Op}
+use Rattle.m2m_names.specs.declared.operations.Op.TheVariants.{Create, Retrieve, Update, Notify, Delete as Removal}
+use Rattle.m2m_names.proofs.CalendarLemmas.{days_of_month_bounds}
+use Rattle.m2m_names.proofs.StampReadingLemmas.{timestamp_is}
+use Rattle.m2m_value.specs.Data.{Data}
+use Rattle.primitive_json.specs.Bounds.{is_graphic, is_request_id, request_id_limit}
+use Rattle.primitive_json.specs.Laws.{IsWhenOfKind, IsShortWhen, IsOfKinds, HasShortExpiry}
+use Rattle.primitive_json.specs.declared.request.RequestParts.{RequestParts}
+use Rattle.primitive_json.specs.declared.request.When.{When}
+use Rattle.primitive_json.specs.declared.request.When.TheVariants.{At, Millis}
+use Rattle.http_frames.specs.declared.frame.Side.TheVariants.{Request}
+use Rattle.http_frames.specs.declared.frame.Start.{Start}
+use Rattle.http_frames.specs.declared.frame.Start.TheVariants.{Ask}
+use Rattle.http_frames.specs.Lines.{Line, is_same_name, values_named}
+use Rattle.http_frames.specs.Body.{counted, minor_of, framing_of, framing_of_values, is_length, CarriesBody}
+use Rattle.http_frames.specs.Frame.{body_limit}
+use Rattle.http_frames.specs.Stream.{BeginsWithFrame}
+use Rattle.http_frames.specs.Text.{frame_text, IsLine, IsSoundFrame}
+use Rattle.http_frames.proofs.TextLemmas.{written_is_read}
+use Rattle.http_binding.specs.Binding.{created_type}
+use Rattle.http_binding.specs.Headers.{type_field, length_field, connection_field}
+use Rattle.http_binding.specs.Replying.{body_of, id_lines, close_lines}
+use Rattle.http_client_binding.specs.declared.target.Aim.{Aim}
+use Rattle.http_client_binding.specs.Asking.{method_text, target_text, host_field, origin_field, origin_lines, expiry_field, expiry_text, expiry_lines, content_type, content_lines, caller_lines, body_lines, request_frame}
+use Rattle.http_client_binding.specs.TargetWriting.{host_of}
+use Rattle.http_client_binding.specs.Laws.{IsSendable}
+use Rattle.http_client_binding.proofs.UrlLemmas.{host_passes}
+
+-- ---- texts of printable characters
+
+abbrev Graphic : ℕ → Type 0
+Graphic b = IsTrue (is_graphic b)
+
+-- a printable character but space may stand in a value, and is no white space
+graphic_value : (b : ℕ) → Graphic b → IsTrue (is_value_byte b)
+graphic_value b h = grind (arith, nat_tests, h)
+
+graphic_apart : (b : ℕ) → Graphic b → is_ows b ≡ false
+graphic_apart b h = grind (arith, nat_tests, h)
+
+skip_nothing : (value : List ℕ) → AllPass is_graphic value → skip_ows value ≡ value
+skip_nothing [] all = refl
+skip_nothing (b ∷ value) all = cond-false _ _ _ (graphic_apart b (All-head Graphic b value all))
+
+trim_nothing : (value : List ℕ) → AllPass is_graphic value → trim_ows value ≡ value
+unfolding trim_ows
+trim_nothing value all =
+    let front = skip_nothing value all in
+    let back = skip_nothing (reverse value) (AllPass-reverse is_graphic value all) in
+    rw (front, back, reverse-reverse)
+
+token_is : (name : List ℕ) → IsTrue (is_token name) → IsToken name
+token_is name token =
+    let parts = and_parts (ltb 0 (length name)) (list_all is_token_byte name) token in
+    (ltb-true 0 (length name) parts.0, AllPass-from_list_all is_token_byte name parts.1)
+
+line_is : (name value : List ℕ) → IsTrue (is_token name) → AllPass is_graphic value → IsLine (name, value)
+line_is name value token all = (
+  token_is name token,
+  All-weaker Graphic (λ b. IsTrue (is_value_byte b)) graphic_value value all,
+  trim_nothing value all,
+)
+
+-- ---- numbers
+
+digits_pass : (test : ℕ → Bool) → ((c : ℕ) → IsInRange 48 57 c → IsTrue (test c)) → (ds : List ℕ) → AllDigits 10 ds → AllPass test ds
+digits_pass test f [] all = All-nil (λ c. IsTrue (test c))
+digits_pass test f (c ∷ ds) all = All-cons (λ c. IsTrue (test c)) c ds (f c (digit_from_value c all.0)) (digits_pass test f ds all.1)
+
+near_graphic : (low high c : ℕ) → IsInRange low high c → 33 ≤ low → high ≤ 126 → Graphic c
+near_graphic low high c h from to = and_from _ _ (le-leb 33 c (omega (arith, h.0))) (le-leb c 126 (omega (arith, h.1)))
+
+digit_is : (c : ℕ) → IsInRange 48 57 c → IsTrue (is_ascii_digit c)
+digit_is c h = and_from _ _ (le-leb 48 c h.0) (le-leb c 57 h.1)
+
+digit_graphic : (c : ℕ) → IsInRange 48 57 c → Graphic c
+digit_graphic c h = near_graphic 48 57 c h (omega arith) (omega arith)
+
+decimal_graphic : (n : ℕ) → n < 2 ^ 64 → AllPass is_graphic (decimal n)
+decimal_graphic n small = digits_pass is_graphic digit_graphic (decimal n) (decimal_is_IsNumeral n small).0.1
+
+-- a length of seven digits at most is a value of Content-Length, and is worth what it is
+length_is : (n : ℕ) → n < 10 ^ 7 → is_length (decimal n) ≡ true
+length_is n small =
+    let numeral = (decimal_is_IsNumeral n (omega arith)).0 in
+    and_from _ _ (le-leb 1 (length (decimal n)) (omega (arith, numeral.0)))
+    (and_from _ _ (le-leb (length (decimal n)) 18 (omega (arith, length-decimal-le 7 n (omega arith) small (omega arith))))
+    (list_all-from_AllPass is_ascii_digit (decimal n) (digits_pass is_ascii_digit digit_is (decimal n) numeral.1)))
+
+-- ---- timestamps
+
+two_graphic : (n : ℕ) → n < 100 → AllPass is_graphic (two n)
+two_graphic n small =
+    All-cons Graphic (48 + n / 10) ((48 + n % 10) ∷ []) (digit_graphic (48 + n / 10) (omega arith, omega arith))
+    (All-cons Graphic (48 + n % 10) [] (digit_graphic (48 + n % 10) (omega arith, omega arith)) (All-nil Graphic))
+
+four_graphic : (n : ℕ) → n < 10000 → AllPass is_graphic (four n)
+four_graphic n small =
+    All-append Graphic (two (n / 100)) (two (n % 100)) (two_graphic (n / 100) (omega arith)) (two_graphic (n % 100) (omega arith))
+
+ascii_digit_graphic : (c : ℕ) → is_ascii_digit c ≡ true → Graphic c
+ascii_digit_graphic c h = grind (arith, nat_tests)
+
+fraction_graphic : (bytes : List ℕ) → is_fraction bytes ≡ true → AllPass is_graphic bytes
+fraction_graphic [] is = All-nil Graphic
+fraction_graphic (b ∷ digits) is =
+    let parts = and_parts ((b == 44) && is_in_range 1 6 (length digits)) (list_all is_ascii_digit digits) is in
+    let comma : b ≡ 44 = eqb-true b 44 (and_parts (b == 44) (is_in_range 1 6 (length digits)) parts.0).0 in
+    All-cons Graphic b digits (subst Graphic (sym comma) refl)
+    (All-weaker (λ c. is_ascii_digit c ≡ true) Graphic ascii_digit_graphic digits (AllPass-from_list_all is_ascii_digit digits parts.1))
+
+most_of : (low high n : ℕ) → is_in_range low high n ≡ true → n ≤ high
+most_of low high n h = leb-true n high (and_parts (nat_le low n) (nat_le n high) h).1
+
+stamp_graphic : (s : Stamp) → is_stamp s ≡ true → AllPass is_graphic (stamp_bytes s)
+stamp_graphic s h =
+    let d3 = and_parts (is_date s.year s.month s.day && nat_lt s.hour 24 && nat_lt s.minute 60) (nat_lt s.second 60) h in
+    let d2 = and_parts (is_date s.year s.month s.day && nat_lt s.hour 24) (nat_lt s.minute 60) d3.0 in
+    let d1 = and_parts (is_date s.year s.month s.day) (nat_lt s.hour 24) d2.0 in
+    let e2 = and_parts (is_in_range 1970 9999 s.year && is_in_range 1 12 s.month) (is_in_range 1 (days_of_month s.year s.month) s.day) d1.0 in
+    let e1 = and_parts (is_in_range 1970 9999 s.year) (is_in_range 1 12 s.month) e2.0 in
+    let second : s.second < 60 = ltb-true s.second 60 d3.1 in
+    let minute : s.minute < 60 = ltb-true s.minute 60 d2.1 in
+    let hour : s.hour < 24 = ltb-true s.hour 24 d1.1 in
+    let year : s.year ≤ 9999 = most_of 1970 9999 s.year e1.0 in
+    let month : s.month ≤ 12 = most_of 1 12 s.month e1.1 in
+    let day : s.day ≤ days_of_month s.year s.month = most_of 1 (days_of_month s.year s.month) s.day e2.1 in
+    let days : days_of_month s.year s.month ≤ 31 = (days_of_month_bounds s.year s.month).0 in
+    let date : AllPass is_graphic (four s.year ++ two s.month ++ two s.day) =
+    All-append Graphic (four s.year ++ two s.month) (two s.day) (All-append Graphic (four s.year) (two s.month) (four_graphic s.year (omega arith)) (two_graphic s.month (omega arith))) (two_graphic s.day (omega (arith, day, days))) in
+    let with_hour : AllPass is_graphic (four s.year ++ two s.month ++ two s.day ++ 84 ∷ two s.hour) =
+    All-append Graphic (four s.year ++ two s.month ++ two s.day) (84 ∷ two s.hour) date (All-cons Graphic 84 (two s.hour) refl (two_graphic s.hour (omega arith))) in
+    All-append Graphic (four s.year ++ two s.month ++ two s.day ++ 84 ∷ two s.hour ++ two s.minute) (two s.second)
+    (All-append Graphic (four s.year ++ two s.month ++ two s.day ++ 84 ∷ two s.hour) (two s.minute) with_hour (two_graphic s.minute (omega arith)))
+    (two_graphic s.second (omega arith))
+
+text_graphic : (text : List ℕ) (at : ℕ) → IsTimestamp text at → AllPass is_graphic text
+text_graphic text at h =
+    subst (AllPass is_graphic) (sym h.bytes) (All-append Graphic (stamp_bytes h.stamp) h.fraction (stamp_graphic h.stamp h.is) (fraction_graphic h.fraction h.tail))
+
+-- ---- the lines
+
+origin_is : (fr : Option (List ℕ)) → IfSome fr (λ s. IsTrue (is_originator s)) → All IsLine (origin_lines fr)
+unfolding is_token_byte
+origin_is None h = All-nil IsLine
+origin_is (Some s) h =
+    let all = (and_parts (is_filled originator_limit s) (list_all is_ascii_graphic s) h).1 in
+    All-cons IsLine (origin_field, s) [] (line_is (origin_field) s refl (AllPass-from_list_all is_graphic s all)) (All-nil IsLine)
+
+id_is : (rqi : List ℕ) → IsTrue (is_request_id rqi) → All IsLine (id_lines (Some rqi))
+unfolding is_token_byte
+id_is rqi h =
+    let all = (and_parts (is_in_range 1 request_id_limit (length rqi)) (list_all is_graphic rqi) h).1 in
+    All-cons IsLine (codes "X-M2M-RI", rqi) [] (line_is (codes "X-M2M-RI") rqi refl (AllPass-from_list_all is_graphic rqi all)) (All-nil IsLine)
+
+expiry_graphic : (when : When) → IsWhenOfKind when → IsShortWhen when → AllPass is_graphic (expiry_text when)
+expiry_graphic (At at) h g = text_graphic (timestamp at) at (timestamp_is at h)
+expiry_graphic (Millis n) h g = decimal_graphic n (omega (arith, g))
+
+expiry_is : (when : Option When) → IfSome when IsWhenOfKind → IfSome when IsShortWhen → All IsLine (expiry_lines when)
+unfolding is_token_byte
+expiry_is None h g = All-nil IsLine
+expiry_is (Some when) h g =
+    All-cons IsLine (expiry_field, expiry_text when) [] (line_is (expiry_field) (expiry_text when) refl (expiry_graphic when h g)) (All-nil IsLine)
+
+type_graphic : (type : Option ℕ) → IfSome type (λ n. IsTrue (nat_le n 65_535)) → AllPass is_graphic (content_type type)
+type_graphic None h = AllPass-from_list_all is_graphic (codes "application/json") refl
+type_graphic (Some n) h =
+    let small : n ≤ 65_535 = leb-true n 65_535 h in
+    All-append Graphic (codes "application/json;ty=") (decimal n) (AllPass-from_list_all is_graphic (codes "application/json;ty=") refl) (decimal_graphic n (omega arith))
+
+content_is : (type : Option ℕ) (content : Option Data) → IfSome type (λ n. IsTrue (nat_le n 65_535)) → All IsLine (content_lines type content)
+unfolding is_token_byte
+content_is type None h = All-nil IsLine
+content_is type (Some content) h =
+    All-cons IsLine (type_field, content_type type) [] (line_is type_field (content_type type) refl (type_graphic type h)) (All-nil IsLine)
+
+ending_is : (n : ℕ) → n < 10 ^ 7 → All IsLine ((length_field, decimal n) ∷ close_lines true)
+unfolding is_token_byte
+ending_is n small =
+    let value = codes "close" in
+    All-cons IsLine (length_field, decimal n) (close_lines true) (line_is length_field (decimal n) refl (decimal_graphic n (omega arith)))
+    (All-cons IsLine (connection_field, value) [] (line_is connection_field value refl (AllPass-from_list_all is_graphic value refl)) (All-nil IsLine))
+
+type_short : (op : Op) (type : Option ℕ) → IfSome type (λ n. IsTrue (nat_le n 65_535)) → IfSome (created_type op type) (λ n. IsTrue (nat_le n 65_535))
+type_short Create type h = h
+type_short Retrieve type h = tt
+type_short Update type h = tt
+type_short Removal type h = tt
+type_short Notify type h = tt
+
+lines_are : (r : RequestParts) (url : List ℕ) (aim : Aim) → IsSendable r url aim → All IsLine (caller_lines r url ++ body_lines r)
+unfolding is_token_byte
+lines_are r url aim h =
+    let id = id_lines (Some r.rqi) in
+    let behind = id ++ expiry_lines r.rqet in
+    let last = (length_field, decimal (length (body_of r.pc))) ∷ close_lines true in
+    All-append IsLine (caller_lines r url) (body_lines r)
+    (All-cons IsLine (host_field, host_of url) (origin_lines r.fr ++ behind) (line_is host_field (host_of url) refl (host_passes url h.is_url))
+    (All-append IsLine (origin_lines r.fr) behind (origin_is r.fr h.kinds.fr)
+    (All-append IsLine id (expiry_lines r.rqet) (id_is r.rqi h.kinds.rqi) (expiry_is r.rqet h.kinds.rqet h.expiry))))
+    (All-append IsLine (content_lines (created_type r.op r.ty) r.pc) last (content_is (created_type r.op r.ty) r.pc (type_short r.op r.ty h.kinds.ty)) (ending_is (length (body_of r.pc)) (omega (arith, h.body))))
+
+-- how many they are, and what they say of the body
+abbrev lines_with : List ℕ → Option (List ℕ) → List ℕ → Option When → Option ℕ → Option Data → List ℕ → List Line
+lines_with host fr id when type content size =
+    ((host_field, host) ∷ (origin_lines fr ++ (id_lines (Some id) ++ expiry_lines when)))
+    ++ (content_lines type content ++ ((length_field, size) ∷ close_lines true))
+
+record Announces (size : List ℕ) (lines : List Line) : Type 0 where
+  count : length lines ≤ 7
+  coding : values_named (codes "transfer-encoding") lines ≡ []
+  size_is : values_named (codes "content-length") lines ≡ size ∷ []
+
+announces : (host : List ℕ) (fr : Option (List ℕ)) (id : List ℕ) (when : Option When) (type : Option ℕ) (content : Option Data) (size : List ℕ) → Announces size (lines_with host fr id when type content size)
+unfolding is_same_name
+announces host None id None type None size = record { count = omega arith; coding = refl; size_is = refl }
+announces host None id None type (Some content) size = record { count = omega arith; coding = refl; size_is = refl }
+announces host None id (Some when) type None size = record { count = omega arith; coding = refl; size_is = refl }
+announces host None id (Some when) type (Some content) size = record { count = omega arith; coding = refl; size_is = refl }
+announces host (Some fr) id None type None size = record { count = omega arith; coding = refl; size_is = refl }
+announces host (Some fr) id None type (Some content) size = record { count = omega arith; coding = refl; size_is = refl }
+announces host (Some fr) id (Some when) type None size = record { count = omega arith; coding = refl; size_is = refl }
+announces host (Some fr) id (Some when) type (Some content) size = record { count = omega arith; coding = refl; size_is = refl }
+
+framing_is : (start : Start) (n : ℕ) (lines : List Line) → n < 10 ^ 7 → Announces (decimal n) lines → framing_of start lines ≡ counted n
+framing_is start n lines small a =
+    (λ i. framing_of_values (minor_of start) (a.coding i) (a.size_is i)) ∙ cond-true _ _ _ (length_is n small) ∙ ap counted (decimal_is_IsNumeral n (omega arith)).1
+
+-- ---- the frame
+
+method_token : (op : Op) → IsToken (method_text op)
+unfolding is_token_byte
+method_token Create = token_is (codes "POST") refl
+method_token Retrieve = token_is (codes "GET") refl
+method_token Update = token_is (codes "PUT") refl
+method_token Removal = token_is (codes "DELETE") refl
+method_token Notify = token_is (codes "POST") refl
+
+request_sound : (r : RequestParts) (url : List ℕ) (aim : Aim) → IsSendable r url aim → IsSoundFrame Request (request_frame r url aim)
+request_sound r url aim h =
+    let start = Ask (method_text r.op) (target_text r url aim) 1 in
+    let body = body_of r.pc in
+    let says = announces (host_of url) r.fr r.rqi r.rqet (created_type r.op r.ty) r.pc (decimal (length body)) in
+    let framing = framing_is start (length body) (caller_lines r url ++ body_lines r) (omega (arith, h.body)) says in
+    record {
+      start = (method_token r.op, h.target.0, h.target.1, h.target.2, omega arith);
+      lines = lines_are r url aim h;
+      head_fits = h.head;
+      lines_fit = omega (arith, says.count);
+      body = subst (λ f. CarriesBody (body_limit Request) f body body) (sym framing) (refl, refl, h.body);
+    }
+
+pub request_back : (r : RequestParts) (url : List ℕ) (aim : Aim) → IsSendable r url aim
+    → IsSoundFrame Request (request_frame r url aim)
+    × ((rest : List ℕ) → BeginsWithFrame Request (frame_text (request_frame r url aim) ++ rest) (request_frame r url aim) rest)
+request_back r url aim h =
+    let sound = request_sound r url aim h in (
+      sound,
+      λ rest. record {
+        bytes = frame_text (request_frame r url aim);
+        is_frame = written_is_read Request (request_frame r url aim) sound;
+        stream_is = refl;
+      },
+    )

@@ -1,0 +1,5 @@
+pub mod AskLemmas
+pub mod LineLemmas
+pub mod QueryLemmas
+pub mod SaidLemmas
+pub mod UrlLemmas

@@ -1,0 +1,94 @@
+-- The frame of a request to a URL (TS-0009, 6.2 to 6.5; RFC 9112, sections 3 to 6).
+use Rattle.std.specs.Prelude.{ℕ, true, List, [], ◌∷◌, ◌++◌, length, codes, Option, Some, None}
+use Rattle.std.specs.Fmt.{decimal}
+use Rattle.http_uri.specs.Grammar.{or_slash}
+use Rattle.m2m_names.specs.Stamps.{timestamp}
+use Rattle.m2m_names.specs.declared.operations.Op.{Op}
+use Rattle.m2m_names.specs.declared.operations.Op.TheVariants.{Create, Retrieve, Update, Delete}
+use Rattle.m2m_names.specs.declared.operations.Op.TheVariants.{Notify}
+use Rattle.m2m_value.specs.Data.{Data}
+use Rattle.primitive_json.specs.declared.request.RequestParts.{RequestParts}
+use Rattle.primitive_json.specs.declared.request.When.{When}
+use Rattle.primitive_json.specs.declared.request.When.TheVariants.{At, Millis}
+use Rattle.http_frames.specs.declared.frame.Start.TheVariants.{Ask}
+use Rattle.http_frames.specs.declared.frame.Frame.{Frame}
+use Rattle.http_frames.specs.Lines.{Line}
+use Rattle.http_binding.specs.Binding.{created_type}
+use Rattle.http_binding.specs.Headers.{type_field, length_field}
+use Rattle.http_binding.specs.Replying.{body_of, id_lines, close_lines}
+use Rattle.http_client_binding.specs.declared.target.Aim.{Aim}
+use Rattle.http_client_binding.specs.declared.target.Aim.TheVariants.{Direct, Peer}
+use Rattle.http_client_binding.specs.TargetWriting.{host_of, path_and_query_of, root_path}
+use Rattle.http_client_binding.specs.TargetWriting.{path_of_address}
+use Rattle.http_client_binding.specs.QueryWriting.{query_text, query_part}
+
+-- the method of an operation (TS-0009, 6.2.1)
+abbrev pub method_text : Op → List ℕ
+method_text Create = codes "POST"
+method_text Retrieve = codes "GET"
+method_text Update = codes "PUT"
+method_text Delete = codes "DELETE"
+method_text Notify = codes "POST"
+
+-- the target: that of the URL alone, or that of the request at the entity to which the URL leads
+abbrev pub target_text : RequestParts → List ℕ → Aim → List ℕ
+target_text r url Direct = or_slash (path_and_query_of url)
+target_text r url Peer =
+    root_path url ++ path_of_address r.to ++ query_part (query_text r)
+
+-- ---- the lines (TS-0009, 6.4)
+
+-- the name of the field that says which host is asked (RFC 9110, section 7.2)
+abbrev pub host_field : List ℕ
+host_field = codes "Host"
+
+-- the names of the fields that say who asks, and when the request expires
+abbrev pub origin_field : List ℕ
+origin_field = codes "X-M2M-Origin"
+
+abbrev pub expiry_field : List ℕ
+expiry_field = codes "X-M2M-RET"
+
+abbrev pub origin_lines : Option (List ℕ) → List Line
+origin_lines None = []
+origin_lines (Some originator) = (origin_field, originator) ∷ []
+
+-- when a request expires: a timestamp, or milliseconds by their digits
+abbrev pub expiry_text : When → List ℕ
+expiry_text (At at) = timestamp at
+expiry_text (Millis n) = decimal n
+
+abbrev pub expiry_lines : Option When → List Line
+expiry_lines None = []
+expiry_lines (Some when) = (expiry_field, expiry_text when) ∷ []
+
+-- the type of the content, with the number of the type that is to be created
+abbrev pub content_type : Option ℕ → List ℕ
+content_type None = codes "application/json"
+content_type (Some number) = codes "application/json;ty=" ++ decimal number
+
+abbrev pub content_lines : Option ℕ → Option Data → List Line
+content_lines type None = []
+content_lines type (Some content) = (type_field, content_type type) ∷ []
+
+-- the lines that speak of host and caller
+abbrev pub caller_lines : RequestParts → List ℕ → List Line
+caller_lines r url =
+    (host_field, host_of url)
+    ∷ (origin_lines r.fr ++ (id_lines (Some r.rqi) ++ expiry_lines r.rqet))
+
+-- and those that speak of the body, and of the connection, which closes behind the reply
+abbrev pub body_lines : RequestParts → List Line
+body_lines r =
+    content_lines (created_type r.op r.ty) r.pc
+    ++ ((length_field, decimal (length (body_of r.pc))) ∷ close_lines true)
+
+-- ---- the frame
+
+-- the frame of a request to a URL
+abbrev pub request_frame : RequestParts → List ℕ → Aim → Frame
+request_frame r url aim = record {
+  start = Ask (method_text r.op) (target_text r url aim) 1;
+  lines = caller_lines r url ++ body_lines r;
+  body = body_of r.pc;
+}

@@ -1,0 +1,53 @@
+-- Laws of the binding on the side that asks.
+use Rattle.std.specs.Prelude.{◌≡◌, ◌<◌, ◌≤◌, ℕ, Bool, List, ◌++◌, length, IsTrue, IsUtf8, IfSome, Ok}
+use Rattle.httparse.specs.Grammar.{AllPass, is_uri_byte}
+use Rattle.m2m_value.specs.Data.{depth}
+use Rattle.m2m_value.specs.Sound.{IsSound}
+use Rattle.primitive_json.specs.Bounds.{is_request_id}
+use Rattle.primitive_json.specs.Laws.{IsOfKinds, HasShortExpiry}
+use Rattle.primitive_json.specs.Notes.{IsSomeUrl}
+use Rattle.primitive_json.specs.declared.request.RequestParts.{RequestParts}
+use Rattle.primitive_json.specs.declared.reply.ReplyParts.{ReplyParts}
+use Rattle.http_frames.specs.declared.frame.Side.TheVariants.{Request}
+use Rattle.http_frames.specs.Frame.{head_limit, body_limit}
+use Rattle.http_frames.specs.Stream.{BeginsWithFrame}
+use Rattle.http_frames.specs.Text.{IsSoundFrame, head_text, frame_text}
+use Rattle.http_binding.specs.Replying.{body_of, reply_frame}
+use Rattle.http_client_binding.specs.declared.target.Aim.{Aim}
+use Rattle.http_client_binding.specs.ReplyReading.{reply_in}
+use Rattle.http_client_binding.specs.Asking.{target_text, request_frame}
+
+-- The identifier of a reply, if it has one, is one, and its content is no deeper than a text is
+-- read.
+pub record IsTold (reply : ReplyParts) : Type 0 where
+  pub rqi : IfSome reply.rqi (λ id. IsTrue (is_request_id id))
+  pub pc : IfSome reply.pc (λ content. IsSound content × (depth content ≤ 127))
+
+-- The frame of such a reply says the reply.
+abbrev pub ReplyIsSaid : Type 0
+ReplyIsSaid =
+    (reply : ReplyParts) (close : Bool) → IsTold reply
+    → reply_in (reply_frame reply close) ≡ Ok reply
+
+-- the text may be the target of a request (RFC 9112, section 3.2)
+abbrev pub IsTargetText : List ℕ → Type 0
+IsTargetText text = (0 < length text) × AllPass is_uri_byte text × IsUtf8 text
+
+-- The parameters of a request are of their kinds, it goes to a URL, its target is one of the
+-- grammar, and its head and its body are no longer than a frame's may be.
+pub record IsSendable (r : RequestParts) (url : List ℕ) (aim : Aim) : Type 0 where
+  pub kinds : IsOfKinds r
+  pub expiry : HasShortExpiry r
+  pub is_url : IsSomeUrl url
+  pub target : IsTargetText (target_text r url aim)
+  pub head : length (head_text (request_frame r url aim)) ≤ head_limit
+  pub body : length (body_of r.pc) ≤ body_limit Request
+
+-- The frame of such a request is sound, and stands at the front of its text, whatever follows.
+abbrev pub RequestIsReadBack : Type 0
+RequestIsReadBack =
+    (r : RequestParts) (url : List ℕ) (aim : Aim) → IsSendable r url aim
+    → IsSoundFrame Request (request_frame r url aim)
+    × ((rest : List ℕ)
+    → BeginsWithFrame Request (frame_text (request_frame r url aim) ++ rest)
+    (request_frame r url aim) rest)

@@ -1,0 +1,99 @@
+-- The query of a request (TS-0009, 6.2.2.3): its pairs, as a form writes them.
+use Rattle.std.specs.Prelude.{ℕ, ℤ, List, [], ◌∷◌, ◌++◌, map, codes, Option, Some, None}
+use Rattle.std.specs.Prelude.{if◌then◌else◌}
+use Rattle.std.specs.Fmt.{decimal, signed_decimal}
+use Rattle.std.specs.List.{flat_map}
+use Rattle.form_urlencoded.specs.Form.{extend_pairs}
+use Rattle.http_uri.specs.ByteClasses.{question_mark}
+use Rattle.m2m_names.specs.Stamps.{timestamp}
+use Rattle.filter_criteria.specs.Conditions.{name_of_condition}
+use Rattle.filter_criteria.specs.declared.condition.Condition.{Condition}
+use Rattle.filter_criteria.specs.declared.condition.Condition.TheVariants.{CreatedAfter}
+use Rattle.filter_criteria.specs.declared.condition.Condition.TheVariants.{CreatedBefore}
+use Rattle.filter_criteria.specs.declared.condition.Condition.TheVariants.{ExpireAfter}
+use Rattle.filter_criteria.specs.declared.condition.Condition.TheVariants.{ExpireBefore}
+use Rattle.filter_criteria.specs.declared.condition.Condition.TheVariants.{Usage, OneLabel, Limit}
+use Rattle.filter_criteria.specs.declared.condition.Condition.TheVariants.{ModifiedSince}
+use Rattle.filter_criteria.specs.declared.condition.Condition.TheVariants.{StateTagBigger}
+use Rattle.filter_criteria.specs.declared.condition.Condition.TheVariants.{StateTagSmaller}
+use Rattle.filter_criteria.specs.declared.condition.Condition.TheVariants.{SizeAbove, SizeBelow}
+use Rattle.filter_criteria.specs.declared.condition.Condition.TheVariants.{OneType, UnmodifiedSince}
+use Rattle.filter_criteria.specs.declared.filter.FilterParts.{FilterParts}
+use Rattle.filter_criteria.specs.declared.filter.FilterUsage.{FilterUsage}
+use Rattle.filter_criteria.specs.declared.filter.FilterUsage.TheVariants.{Discovery, Conditional}
+use Rattle.primitive_json.specs.declared.request.RequestParts.{RequestParts}
+use Rattle.http_binding.specs.Headers.{is_some_text}
+use Rattle.http_binding.specs.Queries.{Pair}
+
+-- ---- the texts of values
+
+abbrev pub moment_texts : Option ℕ → List (List ℕ)
+moment_texts None = []
+moment_texts (Some at) = timestamp at ∷ []
+
+abbrev pub count_texts : Option ℕ → List (List ℕ)
+count_texts None = []
+count_texts (Some n) = decimal n ∷ []
+
+abbrev pub usage_texts : Option FilterUsage → List (List ℕ)
+usage_texts None = []
+usage_texts (Some Discovery) = codes "1" ∷ []
+usage_texts (Some Conditional) = codes "2" ∷ []
+
+abbrev pub whole_texts : Option ℤ → List (List ℕ)
+whole_texts None = []
+whole_texts (Some z) = signed_decimal z ∷ []
+
+-- the texts of what a filter has of a condition: one of each label, and of each type
+abbrev pub condition_texts : FilterParts → Condition → List (List ℕ)
+condition_texts f CreatedAfter = moment_texts f.cra
+condition_texts f CreatedBefore = moment_texts f.crb
+condition_texts f ExpireAfter = moment_texts f.exa
+condition_texts f ExpireBefore = moment_texts f.exb
+condition_texts f Usage = usage_texts f.fu
+condition_texts f OneLabel = f.lbl
+condition_texts f Limit = count_texts f.lim
+condition_texts f ModifiedSince = moment_texts f.ms
+condition_texts f StateTagBigger = count_texts f.stb
+condition_texts f StateTagSmaller = count_texts f.sts
+condition_texts f SizeAbove = count_texts f.sza
+condition_texts f SizeBelow = count_texts f.szb
+condition_texts f OneType = map decimal f.ty
+condition_texts f UnmodifiedSince = moment_texts f.us
+
+-- ---- the pairs
+
+-- each of these values at this key
+abbrev pub pairs_at : List ℕ → List (List ℕ) → List Pair
+pairs_at key texts = map (λ text. (key, text)) texts
+
+abbrev pub condition_pairs : FilterParts → Condition → List Pair
+condition_pairs f condition = pairs_at (name_of_condition condition) (condition_texts f condition)
+
+-- the conditions in the order in which they are written (the profile's)
+abbrev pub written_order : List Condition
+written_order =
+    CreatedBefore ∷ CreatedAfter ∷ ModifiedSince ∷ UnmodifiedSince ∷ StateTagSmaller ∷
+    StateTagBigger ∷ ExpireBefore ∷ ExpireAfter ∷ OneLabel ∷ OneType ∷ SizeAbove ∷ SizeBelow ∷
+    Usage ∷ Limit ∷ []
+
+abbrev pub filter_pairs : Option FilterParts → List Pair
+filter_pairs None = []
+filter_pairs (Some f) = flat_map (condition_pairs f) written_order
+
+-- the result content, the conditions of the filter, and the form of addresses, each where it is
+-- there
+abbrev pub query_pairs : RequestParts → List Pair
+query_pairs r =
+    pairs_at (codes "rcn") (whole_texts r.rcn) ++ filter_pairs r.fc
+    ++ pairs_at (codes "drt") (whole_texts r.drt)
+
+-- ---- the query
+
+-- the pairs as a form (URL Standard, section 5.2)
+abbrev pub query_text : RequestParts → List ℕ
+query_text r = extend_pairs [] (query_pairs r)
+
+-- the query behind its mark, where it has a pair
+abbrev pub query_part : List ℕ → List ℕ
+query_part query = if is_some_text query then question_mark ∷ query else []

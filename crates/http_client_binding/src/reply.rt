@@ -1,0 +1,148 @@
+//! The reply that a frame says.
+ghost use Rattle.std.specs.Prelude.{◌≡◌, ◌+◌, ◌*◌, ◌<◌, ◌==◌, IfOk, IfSome, IsTrue, IsUtf8, length};
+ghost use Rattle.std.specs.Char.{digit_value, is_ascii_digit};
+ghost use Rattle.std.specs.List.{list_all};
+ghost use Rattle.std.specs.Str.Parse.{digits_value};
+ghost use Rattle.http_binding.specs.Binding.{echo_of, ReadsAs};
+ghost use Rattle.http_binding.specs.Headers.{code_field};
+ghost use Rattle.http_frames.specs.Lines.{values_named};
+ghost use Rattle.http_client_binding.specs.ReplyReading as spec;
+
+use crate::{BindFault, OutOfMemory};
+use http_binding::echo_id;
+use http_frames::{Found, Frame, Lines};
+use m2m_names::Rsc;
+use m2m_value::{Text, Val, ValFault, read};
+use primitive_json::{Reply, ReplyParts};
+use std::alloc::Global;
+
+/// The name of the field that tells the status code.
+const CODE: &[u8] = b"X-M2M-RSC";
+
+/// The value of a decimal digit.
+fn digit(byte: u8) -> u16
+    requires { IsTrue (is_ascii_digit byte) }
+    ensures value { result ≡ digit_value byte }
+    ensures bound { result < 10 }
+{
+    u16::from(byte - b'0')
+}
+
+/// The number that four digits write.
+fn number_of(a: u16, b: u16, c: u16, d: u16) -> u16
+    requires a { a < 10 }
+    requires b { b < 10 }
+    requires c { c < 10 }
+    requires d { d < 10 }
+    ensures { result ≡ ((a * 10 + b) * 10 + c) * 10 + d }
+{
+    ((a * 10 + b) * 10 + c) * 10 + d
+}
+
+fn are_digits(text: &[u8]) -> bool
+    ensures { result ≡ list_all is_ascii_digit text.now }
+{
+    text.iter().all(u8::is_ascii_digit)
+}
+
+fn are_four(text: &[u8]) -> bool
+    ensures { result ≡ (length text.now == 4) }
+{
+    text.len() == 4
+}
+
+/// Whether the text is four digits.
+fn is_code_text(text: &[u8]) -> bool
+    ensures { result ≡ spec.is_code_text text.now }
+{
+    are_four(text) && are_digits(text)
+}
+
+/// The number that such a text writes.
+fn code_number(text: &[u8]) -> u16
+    requires { IsTrue (spec.is_code_text text.now) }
+    ensures { result ≡ digits_value 10 text.now }
+{
+    number_of(
+        digit(text[0]),
+        digit(text[1]),
+        digit(text[2]),
+        digit(text[3]),
+    )
+}
+
+/// The status code that four digits write.
+fn code_spelled(text: &[u8]) -> Option<Rsc>
+    ensures { result ≡ spec.code_spelled text.now }
+{
+    if is_code_text(text) {
+        Rsc::from_number(code_number(text))
+    } else {
+        None
+    }
+}
+
+/// The status code of the only line that tells one.
+fn lone_code(lines: &Lines) -> Option<Rsc>
+    ensures { result ≡ spec.lone_code (values_named code_field lines.now) }
+{
+    match lines.find(CODE) {
+        Found::One(value) => code_spelled(value),
+        Found::Absent | Found::Repeated => None,
+    }
+}
+
+/// The status code that the lines tell.
+fn code_in(alloc: Global, lines: &Lines) -> Result<Rsc, BindFault>
+    ensures { ReadsAs (λ code. code) result (spec.code_in lines.now) }
+{
+    match lone_code(lines) {
+        Some(code) => Ok(code),
+        None => Err(BindFault::Header(Text::from_slice(alloc, CODE)?)),
+    }
+}
+
+/// The content that a body is, which isn't empty: any value.
+fn some_content(alloc: Global, body: &[u8]) -> Result<Option<Val>, BindFault>
+    ensures { ReadsAs (λ content. content) result (spec.some_content body.now) }
+{
+    match read(alloc, body) {
+        Ok(value) => Ok(Some(value)),
+        Err(ValFault::OutOfMemory) => Err(BindFault::OutOfMemory),
+        Err(fault) => Err(BindFault::Body(fault)),
+    }
+}
+
+/// The content that a body is, and none where it is empty.
+fn content_said(alloc: Global, body: &[u8]) -> Result<Option<Val>, BindFault>
+    ensures { ReadsAs (λ content. content) result (spec.content_said body.now) }
+{
+    if body.is_empty() {
+        Ok(None)
+    } else {
+        some_content(alloc, body)
+    }
+}
+
+/// The identifier that the frame repeats.
+fn id_in(alloc: Global, frame: &Frame) -> Result<Option<Text>, OutOfMemory>
+    ensures value { IfOk result (λ id. id ≡ echo_of frame.now) }
+    ensures utf8 { IfOk result (λ id. IfSome id IsUtf8) }
+{
+    match echo_id(frame) {
+        Some(id) => Ok(Some(Text::from_slice(alloc, id)?)),
+        None => Ok(None),
+    }
+}
+
+/// The reply that a frame says (TS-0009, 6.3 to 6.5), or why it says none: first its status code,
+/// by the only line that tells one, then its body. The identifier is left out where it is none, or
+/// stands twice; the status of HTTP and every other line are unread.
+pub fn to_reply(alloc: Global, frame: &Frame) -> Result<Reply, BindFault>
+    ensures { ReadsAs (λ reply. reply) result (spec.reply_in frame.now) }
+{
+    let rsc = code_in(alloc, &frame.lines)?;
+    let pc = content_said(alloc, frame.body.entries())?;
+    let rqi = id_in(alloc, frame)?;
+    Ok(Reply::of(ReplyParts { rsc, rqi, pc }))
+}
