@@ -2,6 +2,7 @@
 use Rattle.std.proofs.Common.{◌≡◌, ℕ, ℤ, Bool, true, false, not, ◌&&◌, ◌||◌, Option, Some, None, is_some, IfSome, IsTrue, refl, sym, ap, ◌∙◌}
 use Rattle.std.specs.Option.{option_map_or}
 use Rattle.std.proofs.lemmas.Bool.{and_from, or_left, or_right}
+use Rattle.m2m_names.specs.Types.{is_type_number}
 use Rattle.m2m_names.specs.declared.operations.Op.{Op}
 use Rattle.m2m_value.specs.Data.{Data}
 use Rattle.m2m_value.specs.View.{as_object}
@@ -11,7 +12,7 @@ use Rattle.primitive_json.specs.Kinds.{address_forms, result_contents}
 use Rattle.primitive_json.specs.Laws.{IsOfKinds}
 use Rattle.primitive_json.specs.Members.{creates, has_content, has_result, retrieves}
 use Rattle.primitive_json.specs.declared.request.RequestParts.{RequestParts}
-use Rattle.cse_machine.specs.Form.{are_fit_conditions, has_fit_content, has_fit_filter, has_fit_form, has_fit_result, has_fit_type, is_among, is_of_kinds, is_type_number}
+use Rattle.cse_machine.specs.Form.{are_fit_conditions, has_fit_content, has_fit_filter, has_fit_form, has_fit_result, has_fit_type, is_among, is_of_kinds}
 
 -- what is there where it is needed, passes where it is there
 needed : {X : Type 0} (p : X → Bool) (x : Option X) (reads : Bool) → is_some x ≡ reads → IfSome x (λ v. IsTrue (p v)) → (not reads || option_map_or p x false) ≡ true

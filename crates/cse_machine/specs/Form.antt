@@ -1,15 +1,15 @@
 -- The form of a request, whoever made it: each parameter that its operation reads is of its kind,
 -- and those are there that the operation needs (TS-0001, 8.1.2; TS-0004, 7.3.2.1 and 8.2.2). Its
 -- address and its originator are judged beside this.
-use Rattle.std.specs.Prelude.{◌≡◌, ℕ, nat_le, ℤ, Bool, true, false, not, ◌&&◌, ◌||◌, List}
+use Rattle.std.specs.Prelude.{◌≡◌, ℕ, ℤ, Bool, true, false, not, ◌&&◌, ◌||◌, List}
 use Rattle.std.specs.Prelude.{Option, is_some}
 use Rattle.std.specs.List.{list_all, list_any}
 use Rattle.std.specs.Option.{option_map_or}
 use Rattle.std.specs.Ordering.{int_eq}
-use Rattle.m2m_names.specs.Name.{is_filled}
+use Rattle.m2m_names.specs.Types.{is_type_number}
 use Rattle.m2m_names.specs.declared.operations.Op.{Op}
 use Rattle.m2m_value.specs.Data.{Data}
-use Rattle.m2m_value.specs.Shapes.{label_limit}
+use Rattle.m2m_value.specs.Shapes.{is_label_text}
 use Rattle.m2m_value.specs.View.{as_object}
 use Rattle.filter_criteria.specs.declared.filter.FilterParts.{FilterParts}
 use Rattle.primitive_json.specs.Bounds.{is_request_id}
@@ -17,10 +17,6 @@ use Rattle.primitive_json.specs.Kinds.{address_forms, result_contents}
 use Rattle.primitive_json.specs.Laws.{IsOfKinds}
 use Rattle.primitive_json.specs.Members.{creates, has_content, has_result, retrieves}
 use Rattle.primitive_json.specs.declared.request.RequestParts.{RequestParts}
-
--- the number of a resource type, known or not
-abbrev pub is_type_number : ℕ → Bool
-is_type_number n = nat_le n 65_535
 
 -- the type of what is created, which a Create needs, and which nothing else reads
 abbrev pub has_fit_type : Op → Option ℕ → Bool
@@ -42,7 +38,7 @@ has_fit_result op rcn =
 -- the filter, on a Retrieve alone, with labels and types of their kinds; its other conditions are
 -- so by their types
 abbrev pub are_fit_conditions : FilterParts → Bool
-are_fit_conditions f = list_all (is_filled label_limit) f.lbl && list_all is_type_number f.ty
+are_fit_conditions f = list_all is_label_text f.lbl && list_all is_type_number f.ty
 
 abbrev pub has_fit_filter : Op → Option FilterParts → Bool
 has_fit_filter op fc = option_map_or (λ f. retrieves op && are_fit_conditions f) fc true

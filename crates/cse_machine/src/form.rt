@@ -2,22 +2,15 @@
 ghost use Rattle.std.specs.Prelude.{◌≡◌, false, true, is_some};
 ghost use Rattle.std.specs.List.{list_all};
 ghost use Rattle.std.specs.Option.{option_map_or};
-ghost use Rattle.m2m_names.specs.Name as names;
-ghost use Rattle.m2m_value.specs.Shapes.{label_limit};
+ghost use Rattle.m2m_names.specs.Types as types;
+ghost use Rattle.m2m_value.specs.Shapes as shapes;
 ghost use Rattle.m2m_value.specs.View.{as_object};
-ghost use Rattle.primitive_json.specs.Kinds as kinds;
 ghost use Rattle.primitive_json.specs.Members as members;
 ghost use Rattle.cse_machine.specs.Form as spec;
 
-use m2m_names::{Op, is_filled};
-use m2m_value::{Text, Val};
-use primitive_json::{Filter, Request, is_request_id};
-
-/// The most bytes that a label has.
-const LABEL_LIMIT: usize = 256;
-
-/// The greatest number of a resource type.
-const LAST_TYPE: u64 = 65_535;
+use m2m_names::{Op, is_type_number};
+use m2m_value::{Text, is_label_text};
+use primitive_json::{Filter, Request, is_request_id, result_contents};
 
 // ---- what an operation reads
 
@@ -46,28 +39,10 @@ fn has_result(op: Op) -> bool
     !matches!(op, Op::Notify)
 }
 
-fn result_contents(op: Op) -> &'static [i64]
-    ensures { result.now ≡ kinds.result_contents op }
-{
-    match op {
-        Op::Create => &[0, 1, 2, 3],
-        Op::Retrieve => &[1, 4, 5, 6],
-        Op::Update => &[0, 1],
-        Op::Delete => &[0],
-        Op::Notify => &[],
-    }
-}
-
 // ---- its parameters
 
-fn is_type_number(number: u64) -> bool
-    ensures { result ≡ spec.is_type_number number }
-{
-    number <= LAST_TYPE
-}
-
 fn names_type(request: &Request) -> bool
-    ensures { result ≡ option_map_or spec.is_type_number request.now.ty false }
+    ensures { result ≡ option_map_or types.is_type_number request.now.ty false }
 {
     match request.parts().ty {
         Some(number) => is_type_number(u64::from(number)),
@@ -119,15 +94,13 @@ fn has_fit_result(request: &Request) -> bool
 }
 
 fn are_labels(labels: &[Text]) -> bool
-    ensures { result ≡ list_all (names.is_filled label_limit) labels.now }
+    ensures { result ≡ list_all shapes.is_label_text labels.now }
 {
-    labels
-        .iter()
-        .all(|label| is_filled(label.entries(), LABEL_LIMIT))
+    labels.iter().all(|label| is_label_text(label.entries()))
 }
 
 fn are_type_numbers(numbers: &[u64]) -> bool
-    ensures { result ≡ list_all spec.is_type_number numbers.now }
+    ensures { result ≡ list_all types.is_type_number numbers.now }
 {
     numbers.iter().all(|number| is_type_number(*number))
 }
