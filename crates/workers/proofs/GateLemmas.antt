@@ -1,10 +1,10 @@
 -- A door that workers share, from one connection to the next.
-use Rattle.std.proofs.Common.{◌≡◌, ℕ, ◌+◌, ◌≤◌, Bool, true, Option, Some, None, refl, sym, ap, subst, ◌∙◌, inl, inr, arith}
+use Rattle.std.proofs.Common.{◌≡◌, ℕ, ◌+◌, true, Option, Some, None, refl, sym, ap, subst, ◌∙◌, inl, inr, arith}
 use Rattle.m2m_io.specs.Counts.{Rose}
 use Rattle.m2m_io.specs.Told.{Tells, TellsStill}
 use Rattle.workers.specs.declared.gate.Ending.{Ending}
 use Rattle.workers.specs.declared.gate.Ending.TheVariants.{Over, Enough, Fault}
-use Rattle.workers.specs.Gate.{DoorTold, AtMostAccepted, CountsDown, EndsAs, Guards, Takes, ServesDoor, IsOneLess}
+use Rattle.workers.specs.Gate.{DoorTold, AtMostAccepted, CountsDown, Guards, Takes, ServesDoor, IsOneLess}
 
 module _ {T : Type 0} where
   -- what is told after two calls

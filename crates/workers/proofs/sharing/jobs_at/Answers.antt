@@ -1,5 +1,4 @@
-use Rattle.std.proofs.Common.{◌≡◌, ◌+◌, ◌≤◌, ◌∷◌, [], map, sym, subst, vec_len, vec_capacity, rules, arith}
-use Rattle.std.specs.Vec.Iter.{into_iter_len}
+use Rattle.std.proofs.Common.{◌∷◌, sym, subst, arith}
 use Rattle.std.proofs.lemmas.List.Elements.{All-nil, All-same, All-push}
 use Rattle.turn_desk.specs.Seats.{known_to}
 use Rattle.workers.specs.Jobs.{known_to_all, IsSeatedAt, AreSeated}

@@ -1,5 +1,5 @@
-use Rattle.std.proofs.Common.{◌≡◌, ◌∷◌, ◌+◌, ◌≤◌, length, vec_len, vec_capacity}
-use Rattle.std.specs.Vec.Iter.{into_iter_items, into_iter_len}
+use Rattle.std.proofs.Common.{◌∷◌, ◌+◌, ◌≤◌, vec_len, vec_capacity}
+use Rattle.std.specs.Vec.Iter.{into_iter_len}
 use Rattle.turn_desk.specs.Seats.{IsSeated, known_to}
 use Rattle.workers.specs.Jobs.{known_to_all, AreSeated}
 use Rattle.workers.specs.Shares.{HasGoneOn, AddUpTo}
