@@ -23,7 +23,7 @@ use Rattle.m2m_names.specs.declared.operations.Op.TheVariants.{Create, Retrieve,
 use Rattle.m2m_names.proofs.CalendarLemmas.{days_of_month_bounds}
 use Rattle.m2m_names.proofs.StampReadingLemmas.{timestamp_is}
 use Rattle.m2m_value.specs.Data.{Data}
-use Rattle.primitive_json.specs.Bounds.{is_graphic, is_request_id, request_id_limit}
+use Rattle.primitive_json.specs.Bounds.{is_request_id, request_id_limit}
 use Rattle.primitive_json.specs.Laws.{IsWhenOfKind, IsShortWhen, IsOfKinds, HasShortExpiry}
 use Rattle.primitive_json.specs.declared.request.RequestParts.{RequestParts}
 use Rattle.primitive_json.specs.declared.request.When.{When}
@@ -49,7 +49,7 @@ use Rattle.http_client_binding.proofs.UrlLemmas.{host_passes}
 -- ---- texts of printable characters
 
 abbrev Graphic : ℕ → Type 0
-Graphic b = IsTrue (is_graphic b)
+Graphic b = IsTrue (is_ascii_graphic b)
 
 -- a printable character but space may stand in a value, and is no white space
 graphic_value : (b : ℕ) → Graphic b → IsTrue (is_value_byte b)
@@ -58,15 +58,15 @@ graphic_value b h = grind (arith, nat_tests, h)
 graphic_apart : (b : ℕ) → Graphic b → is_ows b ≡ false
 graphic_apart b h = grind (arith, nat_tests, h)
 
-skip_nothing : (value : List ℕ) → AllPass is_graphic value → skip_ows value ≡ value
+skip_nothing : (value : List ℕ) → AllPass is_ascii_graphic value → skip_ows value ≡ value
 skip_nothing [] all = refl
 skip_nothing (b ∷ value) all = cond-false _ _ _ (graphic_apart b (All-head Graphic b value all))
 
-trim_nothing : (value : List ℕ) → AllPass is_graphic value → trim_ows value ≡ value
+trim_nothing : (value : List ℕ) → AllPass is_ascii_graphic value → trim_ows value ≡ value
 unfolding trim_ows
 trim_nothing value all =
     let front = skip_nothing value all in
-    let back = skip_nothing (reverse value) (AllPass-reverse is_graphic value all) in
+    let back = skip_nothing (reverse value) (AllPass-reverse is_ascii_graphic value all) in
     rw (front, back, reverse-reverse)
 
 token_is : (name : List ℕ) → IsTrue (is_token name) → IsToken name
@@ -74,7 +74,7 @@ token_is name token =
     let parts = and_parts (ltb 0 (length name)) (list_all is_token_byte name) token in
     (ltb-true 0 (length name) parts.0, AllPass-from_list_all is_token_byte name parts.1)
 
-line_is : (name value : List ℕ) → IsTrue (is_token name) → AllPass is_graphic value → IsLine (name, value)
+line_is : (name value : List ℕ) → IsTrue (is_token name) → AllPass is_ascii_graphic value → IsLine (name, value)
 line_is name value token all = (
   token_is name token,
   All-weaker Graphic (λ b. IsTrue (is_value_byte b)) graphic_value value all,
@@ -96,8 +96,8 @@ digit_is c h = and_from _ _ (le-leb 48 c h.0) (le-leb c 57 h.1)
 digit_graphic : (c : ℕ) → IsInRange 48 57 c → Graphic c
 digit_graphic c h = near_graphic 48 57 c h (omega arith) (omega arith)
 
-decimal_graphic : (n : ℕ) → n < 2 ^ 64 → AllPass is_graphic (decimal n)
-decimal_graphic n small = digits_pass is_graphic digit_graphic (decimal n) (decimal_is_IsNumeral n small).0.1
+decimal_graphic : (n : ℕ) → n < 2 ^ 64 → AllPass is_ascii_graphic (decimal n)
+decimal_graphic n small = digits_pass is_ascii_graphic digit_graphic (decimal n) (decimal_is_IsNumeral n small).0.1
 
 -- a length of seven digits at most is a value of Content-Length, and is worth what it is
 length_is : (n : ℕ) → n < 10 ^ 7 → is_length (decimal n) ≡ true
@@ -109,19 +109,19 @@ length_is n small =
 
 -- ---- timestamps
 
-two_graphic : (n : ℕ) → n < 100 → AllPass is_graphic (two n)
+two_graphic : (n : ℕ) → n < 100 → AllPass is_ascii_graphic (two n)
 two_graphic n small =
     All-cons Graphic (48 + n / 10) ((48 + n % 10) ∷ []) (digit_graphic (48 + n / 10) (omega arith, omega arith))
     (All-cons Graphic (48 + n % 10) [] (digit_graphic (48 + n % 10) (omega arith, omega arith)) (All-nil Graphic))
 
-four_graphic : (n : ℕ) → n < 10000 → AllPass is_graphic (four n)
+four_graphic : (n : ℕ) → n < 10000 → AllPass is_ascii_graphic (four n)
 four_graphic n small =
     All-append Graphic (two (n / 100)) (two (n % 100)) (two_graphic (n / 100) (omega arith)) (two_graphic (n % 100) (omega arith))
 
 ascii_digit_graphic : (c : ℕ) → is_ascii_digit c ≡ true → Graphic c
 ascii_digit_graphic c h = grind (arith, nat_tests)
 
-fraction_graphic : (bytes : List ℕ) → is_fraction bytes ≡ true → AllPass is_graphic bytes
+fraction_graphic : (bytes : List ℕ) → is_fraction bytes ≡ true → AllPass is_ascii_graphic bytes
 fraction_graphic [] is = All-nil Graphic
 fraction_graphic (b ∷ digits) is =
     let parts = and_parts ((b == 44) && is_in_range 1 6 (length digits)) (list_all is_ascii_digit digits) is in
@@ -132,7 +132,7 @@ fraction_graphic (b ∷ digits) is =
 most_of : (low high n : ℕ) → is_in_range low high n ≡ true → n ≤ high
 most_of low high n h = leb-true n high (and_parts (nat_le low n) (nat_le n high) h).1
 
-stamp_graphic : (s : Stamp) → is_stamp s ≡ true → AllPass is_graphic (stamp_bytes s)
+stamp_graphic : (s : Stamp) → is_stamp s ≡ true → AllPass is_ascii_graphic (stamp_bytes s)
 stamp_graphic s h =
     let d3 = and_parts (is_date s.year s.month s.day && nat_lt s.hour 24 && nat_lt s.minute 60) (nat_lt s.second 60) h in
     let d2 = and_parts (is_date s.year s.month s.day && nat_lt s.hour 24) (nat_lt s.minute 60) d3.0 in
@@ -146,17 +146,17 @@ stamp_graphic s h =
     let month : s.month ≤ 12 = most_of 1 12 s.month e1.1 in
     let day : s.day ≤ days_of_month s.year s.month = most_of 1 (days_of_month s.year s.month) s.day e2.1 in
     let days : days_of_month s.year s.month ≤ 31 = (days_of_month_bounds s.year s.month).0 in
-    let date : AllPass is_graphic (four s.year ++ two s.month ++ two s.day) =
+    let date : AllPass is_ascii_graphic (four s.year ++ two s.month ++ two s.day) =
     All-append Graphic (four s.year ++ two s.month) (two s.day) (All-append Graphic (four s.year) (two s.month) (four_graphic s.year (omega arith)) (two_graphic s.month (omega arith))) (two_graphic s.day (omega (arith, day, days))) in
-    let with_hour : AllPass is_graphic (four s.year ++ two s.month ++ two s.day ++ 84 ∷ two s.hour) =
+    let with_hour : AllPass is_ascii_graphic (four s.year ++ two s.month ++ two s.day ++ 84 ∷ two s.hour) =
     All-append Graphic (four s.year ++ two s.month ++ two s.day) (84 ∷ two s.hour) date (All-cons Graphic 84 (two s.hour) refl (two_graphic s.hour (omega arith))) in
     All-append Graphic (four s.year ++ two s.month ++ two s.day ++ 84 ∷ two s.hour ++ two s.minute) (two s.second)
     (All-append Graphic (four s.year ++ two s.month ++ two s.day ++ 84 ∷ two s.hour) (two s.minute) with_hour (two_graphic s.minute (omega arith)))
     (two_graphic s.second (omega arith))
 
-text_graphic : (text : List ℕ) (at : ℕ) → IsTimestamp text at → AllPass is_graphic text
+text_graphic : (text : List ℕ) (at : ℕ) → IsTimestamp text at → AllPass is_ascii_graphic text
 text_graphic text at h =
-    subst (AllPass is_graphic) (sym h.bytes) (All-append Graphic (stamp_bytes h.stamp) h.fraction (stamp_graphic h.stamp h.is) (fraction_graphic h.fraction h.tail))
+    subst (AllPass is_ascii_graphic) (sym h.bytes) (All-append Graphic (stamp_bytes h.stamp) h.fraction (stamp_graphic h.stamp h.is) (fraction_graphic h.fraction h.tail))
 
 -- ---- the lines
 
@@ -165,15 +165,15 @@ unfolding is_token_byte
 origin_is None h = All-nil IsLine
 origin_is (Some s) h =
     let all = (and_parts (is_filled originator_limit s) (list_all is_ascii_graphic s) h).1 in
-    All-cons IsLine (origin_field, s) [] (line_is (origin_field) s refl (AllPass-from_list_all is_graphic s all)) (All-nil IsLine)
+    All-cons IsLine (origin_field, s) [] (line_is (origin_field) s refl (AllPass-from_list_all is_ascii_graphic s all)) (All-nil IsLine)
 
 id_is : (rqi : List ℕ) → IsTrue (is_request_id rqi) → All IsLine (id_lines (Some rqi))
 unfolding is_token_byte
 id_is rqi h =
-    let all = (and_parts (is_in_range 1 request_id_limit (length rqi)) (list_all is_graphic rqi) h).1 in
-    All-cons IsLine (codes "X-M2M-RI", rqi) [] (line_is (codes "X-M2M-RI") rqi refl (AllPass-from_list_all is_graphic rqi all)) (All-nil IsLine)
+    let all = (and_parts (is_in_range 1 request_id_limit (length rqi)) (list_all is_ascii_graphic rqi) h).1 in
+    All-cons IsLine (codes "X-M2M-RI", rqi) [] (line_is (codes "X-M2M-RI") rqi refl (AllPass-from_list_all is_ascii_graphic rqi all)) (All-nil IsLine)
 
-expiry_graphic : (when : When) → IsWhenOfKind when → IsShortWhen when → AllPass is_graphic (expiry_text when)
+expiry_graphic : (when : When) → IsWhenOfKind when → IsShortWhen when → AllPass is_ascii_graphic (expiry_text when)
 expiry_graphic (At at) h g = text_graphic (timestamp at) at (timestamp_is at h)
 expiry_graphic (Millis n) h g = decimal_graphic n (omega (arith, g))
 
@@ -183,11 +183,11 @@ expiry_is None h g = All-nil IsLine
 expiry_is (Some when) h g =
     All-cons IsLine (expiry_field, expiry_text when) [] (line_is (expiry_field) (expiry_text when) refl (expiry_graphic when h g)) (All-nil IsLine)
 
-type_graphic : (type : Option ℕ) → IfSome type (λ n. IsTrue (nat_le n 65_535)) → AllPass is_graphic (content_type type)
-type_graphic None h = AllPass-from_list_all is_graphic (codes "application/json") refl
+type_graphic : (type : Option ℕ) → IfSome type (λ n. IsTrue (nat_le n 65_535)) → AllPass is_ascii_graphic (content_type type)
+type_graphic None h = AllPass-from_list_all is_ascii_graphic (codes "application/json") refl
 type_graphic (Some n) h =
     let small : n ≤ 65_535 = leb-true n 65_535 h in
-    All-append Graphic (codes "application/json;ty=") (decimal n) (AllPass-from_list_all is_graphic (codes "application/json;ty=") refl) (decimal_graphic n (omega arith))
+    All-append Graphic (codes "application/json;ty=") (decimal n) (AllPass-from_list_all is_ascii_graphic (codes "application/json;ty=") refl) (decimal_graphic n (omega arith))
 
 content_is : (type : Option ℕ) (content : Option Data) → IfSome type (λ n. IsTrue (nat_le n 65_535)) → All IsLine (content_lines type content)
 unfolding is_token_byte
@@ -200,7 +200,7 @@ unfolding is_token_byte
 ending_is n small =
     let value = codes "close" in
     All-cons IsLine (length_field, decimal n) (close_lines true) (line_is length_field (decimal n) refl (decimal_graphic n (omega arith)))
-    (All-cons IsLine (connection_field, value) [] (line_is connection_field value refl (AllPass-from_list_all is_graphic value refl)) (All-nil IsLine))
+    (All-cons IsLine (connection_field, value) [] (line_is connection_field value refl (AllPass-from_list_all is_ascii_graphic value refl)) (All-nil IsLine))
 
 type_short : (op : Op) (type : Option ℕ) → IfSome type (λ n. IsTrue (nat_le n 65_535)) → IfSome (created_type op type) (λ n. IsTrue (nat_le n 65_535))
 type_short Create type h = h
