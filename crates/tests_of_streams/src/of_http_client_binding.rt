@@ -34,13 +34,13 @@ const AS_CREATED: &str = "POST /n?b=1 HTTP/1.1\r\nHost: 127.0.0.1\r\nX-M2M-RI: r
 fn asked(
     rt: &(impl Abort + AllocGlobal),
     json: &str,
-    url: &str,
+    url: &[u8],
     aim: Aim,
 ) -> Result<MemSink, Fail> {
     let value = parsed(rt.alloc(), json)?;
     let request = read_request(rt.alloc(), &value)?;
-    read_url(url.as_bytes()).expect(rt, "a URL");
-    let frame = of_request(rt.alloc(), &request, url.as_bytes(), aim)?;
+    read_url(url).expect(rt, "a URL");
+    let frame = of_request(rt.alloc(), &request, url, aim)?;
     let mut sink = MemSink::new(Vec::new(rt.alloc()), Vec::new(rt.alloc()));
     write_frame(rt.alloc(), &frame, &mut sink)?;
     Ok(sink)
@@ -48,11 +48,11 @@ fn asked(
 
 #[test]
 fn a_request_asks_for_its_address_or_for_the_path_of_a_url(rt: HostRuntime) -> Result<(), Fail> {
-    let sink = asked(&rt, FORWARDED, "http://127.0.0.1:8081", Aim::Peer)?;
+    let sink = asked(&rt, FORWARDED, b"http://127.0.0.1:8081", Aim::Peer)?;
     assert_eq!(rt; show(sink.written()), AS_FORWARDED);
-    let sink = asked(&rt, DISCOVERED, "http://mn.example/in/?b=1", Aim::Peer)?;
+    let sink = asked(&rt, DISCOVERED, b"http://mn.example/in/?b=1", Aim::Peer)?;
     assert_eq!(rt; show(sink.written()), AS_DISCOVERED);
-    let sink = asked(&rt, CREATED, "http://127.0.0.1/n?b=1", Aim::Direct)?;
+    let sink = asked(&rt, CREATED, b"http://127.0.0.1/n?b=1", Aim::Direct)?;
     assert_eq!(rt; show(sink.written()), AS_CREATED);
     Ok(())
 }
