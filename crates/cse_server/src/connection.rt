@@ -222,7 +222,11 @@ where
     ensures link { L.faults link.new ≡ L.faults link.old }
 {
     match read_next(alloc, conn, inbox) {
-        Ok(Next::Message(frame)) => answer(alloc, desk, seat, conn, clock, link, place, &frame),
+        Ok(Next::Message(frame)) => {
+            let ended = answer(alloc, desk, seat, conn, clock, link, place, &frame);
+            inbox.give_back(frame);
+            ended
+        }
         Ok(Next::End) => Some(Ended::Closed),
         Err(FrameFault::NoFrame) => Some(refuse(alloc, conn)),
         Err(FrameFault::ReadFault) => Some(Ended::ReadFault),
