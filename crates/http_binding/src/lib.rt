@@ -20,6 +20,7 @@ mod method;
 mod query;
 mod reply;
 mod request;
+mod room;
 mod target;
 mod writing;
 
@@ -31,5 +32,6 @@ pub use laws::{
 };
 pub use reply::of_reply;
 pub use request::to_request;
+pub use room::ReplyRoom;
 pub use std::alloc::AllocError as OutOfMemory;
 pub use writing::write_reply;

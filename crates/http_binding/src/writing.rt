@@ -14,7 +14,7 @@ ghost use Rattle.http_binding.specs.Headers.{code_field, length_field};
 ghost use Rattle.http_binding.specs.Replying.{body_of, id_lines, type_lines, close_lines};
 ghost use Rattle.http_binding.specs.Replying.{reply_text};
 
-use crate::OutOfMemory;
+use crate::{OutOfMemory, ReplyRoom};
 use http_frames::{PutFault, phrase_of};
 use itoa::Buffer;
 use m2m_io::Sink;
@@ -138,9 +138,9 @@ fn append_framing(
     append_close(out, close)
 }
 
-/// A head with a reply's lines, for a body of so many bytes.
+/// A head with a reply's lines, for a body of so many bytes, in this buffer.
 fn head_for(
-    alloc: Global,
+    mut out: Vec<u8>,
     parts: &ReplyParts,
     len: usize,
     close: bool,
@@ -149,19 +149,21 @@ fn head_for(
     ensures { IfOk result (λ head. head.items ++ body_of parts.now.pc
         ≡ reply_text parts.now close) }
 {
-    let mut out = Vec::with_capacity(alloc, HEAD_ROOM)?;
+    out.clear();
+    out.reserve(HEAD_ROOM)?;
     append_primitive(&mut out, parts)?;
     append_framing(&mut out, &parts.pc, len, close)?;
     out.extend_from_slice(b"\r\n")?;
     Ok(out)
 }
 
-/// Bytes in whose place a head may be written.
-fn room_for_head(alloc: Global) -> Result<Vec<u8>, OutOfMemory>
+/// Bytes in whose place a head may be written, in this buffer.
+fn room_for_head(mut text: Vec<u8>) -> Result<Vec<u8>, OutOfMemory>
     ensures { IfOk result (λ text. length text.items ≡ 384) }
 {
-    let mut text = Vec::with_capacity(alloc, HEAD_ROOM + CONTENT_ROOM)?;
-    text.resize(HEAD_ROOM, 0)?;
+    text.clear();
+    text.reserve(HEAD_ROOM + CONTENT_ROOM)?;
+    text.extend_from_slice(&[0; HEAD_ROOM])?;
     Ok(text)
 }
 
@@ -175,22 +177,23 @@ fn append_body(out: &mut Vec<u8>, content: &Option<Val>) -> Result<(), OutOfMemo
     Ok(())
 }
 
-/// The body, behind room for its head.
+/// The body, behind room for its head, in this buffer.
 #[tactic(auto, using(crate::proofs::JoinLemmas::behind_room))]
-fn body_behind_room(alloc: Global, content: &Option<Val>) -> Result<Vec<u8>, OutOfMemory>
+fn body_behind_room(buffer: Vec<u8>, content: &Option<Val>) -> Result<Vec<u8>, OutOfMemory>
     ensures len { IfOk result (λ text. length text.items ≡ 384 + length (body_of content.now)) }
     ensures body { IfOk result (λ text. drop 384 text.items ≡ body_of content.now) }
 {
-    let mut text = room_for_head(alloc)?;
+    let mut text = room_for_head(buffer)?;
     append_body(&mut text, content)?;
     Ok(text)
 }
 
-/// The bytes of a reply: those of a buffer from `start` on.
+/// The bytes of a reply: those of a buffer from `start` on. The other buffer is done with.
 #[derive(Debug, Drop)]
 struct ReplyBytes {
     buffer: Vec<u8>,
     start: usize,
+    spare: Vec<u8>,
 }
 
 impl Model for ReplyBytes {
@@ -208,6 +211,11 @@ impl ReplyBytes {
         ensures { result.now ≡ self.now }
     {
         &self.buffer[self.start..]
+    }
+
+    /// Gives the buffers back.
+    fn give_back(self, alloc: Global, room: &mut ReplyRoom) {
+        room.keep(alloc, self.buffer, self.spare);
     }
 }
 
@@ -241,32 +249,40 @@ fn joined(mut head: Vec<u8>, mut text: Vec<u8>) -> Result<ReplyBytes, OutOfMemor
         Ok(ReplyBytes {
             start: HEAD_ROOM - head.len(),
             buffer: text,
+            spare: head,
         })
     } else {
         head.extend_from_slice(body_in(&text))?;
         Ok(ReplyBytes {
             start: 0,
             buffer: head,
+            spare: text,
         })
     }
 }
 
 /// The bytes of a reply. Its content is written once, and its head before it.
-fn reply_bytes(alloc: Global, reply: &Reply, close: bool) -> Result<ReplyBytes, OutOfMemory>
+fn reply_bytes(
+    alloc: Global,
+    reply: &Reply,
+    close: bool,
+    room: &mut ReplyRoom,
+) -> Result<ReplyBytes, OutOfMemory>
     ensures { IfOk result (λ bytes. bytes ≡ reply_text reply.now close) }
 {
     let parts = reply.parts();
-    let text = body_behind_room(alloc, &parts.pc)?;
-    let head = head_for(alloc, parts, text.len() - HEAD_ROOM, close)?;
+    let text = body_behind_room(room.take_text(alloc), &parts.pc)?;
+    let head = head_for(room.take_head(alloc), parts, text.len() - HEAD_ROOM, close)?;
     joined(head, text)
 }
 
 /// Writes a reply by one call of the sink (TS-0009, 6.3 to 6.5). It says whether the connection
-/// closes behind it.
+/// closes behind it. It is written in the room of those before it.
 pub fn write_reply<K: Sink>(
     alloc: Global,
     reply: &Reply,
     close: bool,
+    room: &mut ReplyRoom,
     sink: &mut K,
 ) -> Result<(), PutFault>
     ensures ok { OnOk result
@@ -286,7 +302,8 @@ pub fn write_reply<K: Sink>(
     // The side that is read, of a sink that is a source as well, stays as it is.
     ensures beside { K.kept_by_put sink.new ≡ K.kept_by_put sink.old }
 {
-    let bytes = reply_bytes(alloc, reply, close)?;
-    sink.put(bytes.as_slice())?;
-    Ok(())
+    let bytes = reply_bytes(alloc, reply, close, room)?;
+    let put = sink.put(bytes.as_slice());
+    bytes.give_back(alloc, room);
+    Ok(put?)
 }
