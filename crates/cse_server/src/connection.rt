@@ -12,7 +12,7 @@ ghost use Rattle.cse_server.specs.Way.{Goes, Hears, Refuses, Turns};
 use crate::closing::{MOST_FRAMES, closes};
 use crate::replying::{put_last_reply, put_reply, refusal_of, reply_by};
 use cse_machine::{Event, Outcome};
-use http_binding::{BindFault, to_request};
+use http_binding::{BindFault, ReplyRoom, to_request};
 use http_frames::{Frame, FrameFault, Inbox, Next, PutFault};
 use m2m_io::{Clock, Connection, Link};
 use primitive_json::{Reply, Request};
@@ -100,6 +100,7 @@ fn answer<D, X, C, L>(
     conn: &mut X,
     clock: &mut C,
     link: &mut L,
+    room: &mut ReplyRoom,
     place: u64,
     frame: &Frame,
 ) -> Option<Ended>
@@ -132,7 +133,7 @@ where
         return Some(Ended::Memory);
     };
     let close = closes(place, frame);
-    match put_reply(alloc, conn, &reply, close) {
+    match put_reply(alloc, conn, room, &reply, close) {
         Ok(()) if close => Some(Ended::Closed),
         Ok(()) => None,
         Err(fault) => Some(Ended::from(fault)),
@@ -140,7 +141,7 @@ where
 }
 
 /// Ends a connection on which no frame can stand.
-fn refuse<X: Connection>(alloc: Global, conn: &mut X) -> Ended
+fn refuse<X: Connection>(alloc: Global, conn: &mut X, room: &mut ReplyRoom) -> Ended
     ensures refuses { Refuses (X.written conn.old) (X.written conn.new) result }
     ensures count { X.Sink.faults conn.old ≤ X.Sink.faults conn.new }
     ensures cause { result ≡ Ended.WriteFault
@@ -151,7 +152,7 @@ fn refuse<X: Connection>(alloc: Global, conn: &mut X) -> Ended
     ensures read_faults { X.Source.faults conn.new ≡ X.Source.faults conn.old }
     ensures holds { (X.kept_by_read conn.new).holds ≡ (X.kept_by_read conn.old).holds }
 {
-    match put_last_reply(alloc, conn) {
+    match put_last_reply(alloc, conn, room) {
         Ok(()) => Ended::NoFrame,
         Err(fault) => Ended::from(fault),
     }
@@ -187,6 +188,7 @@ fn serve_next<D, X, C, L>(
     clock: &mut C,
     link: &mut L,
     inbox: &mut Inbox,
+    room: &mut ReplyRoom,
     place: u64,
 ) -> Option<Ended>
 where
@@ -222,9 +224,13 @@ where
     ensures link { L.faults link.new ≡ L.faults link.old }
 {
     match read_next(alloc, conn, inbox) {
-        Ok(Next::Message(frame)) => answer(alloc, desk, seat, conn, clock, link, place, &frame),
+        Ok(Next::Message(frame)) => {
+            let ended = answer(alloc, desk, seat, conn, clock, link, room, place, &frame);
+            inbox.give_back(frame);
+            ended
+        }
         Ok(Next::End) => Some(Ended::Closed),
-        Err(FrameFault::NoFrame) => Some(refuse(alloc, conn)),
+        Err(FrameFault::NoFrame) => Some(refuse(alloc, conn, room)),
         Err(FrameFault::ReadFault) => Some(Ended::ReadFault),
         Err(FrameFault::OutOfMemory) => Some(Ended::Memory),
     }
@@ -279,8 +285,11 @@ where
     let Ok(mut inbox) = Inbox::new(alloc) else {
         return Ended::Memory;
     };
+    let mut room = ReplyRoom::new(alloc);
     for place in 1..MOST_FRAMES + 1 {
-        if let Some(ended) = serve_next(alloc, desk, seat, conn, clock, link, &mut inbox, place) {
+        if let Some(ended) = serve_next(
+            alloc, desk, seat, conn, clock, link, &mut inbox, &mut room, place,
+        ) {
             return ended;
         }
     }

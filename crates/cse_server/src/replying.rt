@@ -12,7 +12,7 @@ ghost use Rattle.cse_server.specs.Talk.{last_reply};
 ghost use Rattle.cse_server.specs.Way.{RepliesOver};
 
 use cse_machine::Outcome;
-use http_binding::{echo_id, write_reply};
+use http_binding::{ReplyRoom, echo_id, write_reply};
 use http_frames::{Frame, PutFault};
 use m2m_io::{Connection, Link};
 use m2m_names::Rsc;
@@ -78,6 +78,7 @@ pub(crate) fn reply_by<L: Link>(
 pub(crate) fn put_reply<X: Connection>(
     alloc: Global,
     conn: &mut X,
+    room: &mut ReplyRoom,
     reply: &Reply,
     close: bool,
 ) -> Result<(), PutFault>
@@ -94,11 +95,15 @@ pub(crate) fn put_reply<X: Connection>(
     ensures read_faults { X.Source.faults conn.new ≡ X.Source.faults conn.old }
     ensures holds { (X.kept_by_read conn.new).holds ≡ (X.kept_by_read conn.old).holds }
 {
-    write_reply(alloc, reply, close, conn)
+    write_reply(alloc, reply, close, room, conn)
 }
 
 /// Writes the last reply of a connection on which no frame can stand.
-pub(crate) fn put_last_reply<X: Connection>(alloc: Global, conn: &mut X) -> Result<(), PutFault>
+pub(crate) fn put_last_reply<X: Connection>(
+    alloc: Global,
+    conn: &mut X,
+    room: &mut ReplyRoom,
+) -> Result<(), PutFault>
     ensures ok { OnOk result (Appends (X.written conn.old) (X.written conn.new) last_reply) }
     ensures err { OnErr result
         (AppendsPrefix (X.written conn.old) (X.written conn.new) last_reply) }
@@ -111,5 +116,5 @@ pub(crate) fn put_last_reply<X: Connection>(alloc: Global, conn: &mut X) -> Resu
     ensures read_faults { X.Source.faults conn.new ≡ X.Source.faults conn.old }
     ensures holds { (X.kept_by_read conn.new).holds ≡ (X.kept_by_read conn.old).holds }
 {
-    put_reply(alloc, conn, &bare_reply(Rsc::BadRequest, None), true)
+    put_reply(alloc, conn, room, &bare_reply(Rsc::BadRequest, None), true)
 }

@@ -1,4 +1,5 @@
 pub mod BackLemmas
+pub mod JoinLemmas
 pub mod LawLemmas
 pub mod QueryLemmas
 pub mod ReplyLemmas

@@ -19,6 +19,7 @@ mod method;
 mod query;
 mod reply;
 mod request;
+mod room;
 mod target;
 mod writing;
 
@@ -30,5 +31,6 @@ pub use laws::{
 };
 pub use reply::of_reply;
 pub use request::to_request;
+pub use room::ReplyRoom;
 pub use std::alloc::AllocError as OutOfMemory;
 pub use writing::write_reply;

@@ -25,7 +25,7 @@ const CONTENT_ROOM: usize = 512;
 const MOST_LINES: usize = 5;
 
 /// The bytes of the body.
-pub(crate) fn body_text(alloc: Global, content: &Option<Val>) -> Result<Vec<u8>, OutOfMemory>
+fn body_text(alloc: Global, content: &Option<Val>) -> Result<Vec<u8>, OutOfMemory>
     ensures { IfOk result (λ bytes. bytes.items ≡ body_of content.now) }
 {
     let Some(value) = content else {

@@ -1,5 +1,6 @@
 //! The bytes of a reply, and their way into a sink.
-ghost use Rattle.std.specs.Prelude.{◌≡◌, ◌≢◌, ◌≤◌, ◌++◌, Err, IfOk, OnOk, codes};
+ghost use Rattle.std.specs.Prelude.{◌≡◌, ◌≢◌, ◌≤◌, ◌+◌, ◌-◌, ◌++◌, Err, IfOk, OnOk, codes, length};
+ghost use Rattle.std.specs.Prelude.{drop};
 ghost use Rattle.std.specs.Fmt.{decimal};
 ghost use Rattle.std.specs.Io.KnownBytes.{Appends};
 ghost use Rattle.m2m_io.specs.Counts.{Rose};
@@ -13,17 +14,20 @@ ghost use Rattle.http_binding.specs.Headers.{code_field, length_field};
 ghost use Rattle.http_binding.specs.Replying.{body_of, id_lines, type_lines, close_lines};
 ghost use Rattle.http_binding.specs.Replying.{reply_text};
 
-use crate::OutOfMemory;
-use crate::reply::body_text;
+use crate::{OutOfMemory, ReplyRoom};
 use http_frames::{PutFault, phrase_of};
 use itoa::Buffer;
 use m2m_io::Sink;
-use m2m_value::{Text, Val};
+use m2m_value::{Text, Val, write};
 use primitive_json::{Reply, ReplyParts};
 use std::alloc::Global;
+use std::marker::Model;
 
-/// Room for most heads.
+/// So many bytes stand before a content until its head is made: room for most heads.
 const HEAD_ROOM: usize = 384;
+
+/// Room for most contents behind them.
+const CONTENT_ROOM: usize = 512;
 
 /// Appends a number in decimal digits.
 fn append_number(out: &mut Vec<u8>, n: u64) -> Result<(), OutOfMemory>
@@ -134,46 +138,151 @@ fn append_framing(
     append_close(out, close)
 }
 
-/// Appends the empty line that ends a head, and the body.
-fn append_body(out: &mut Vec<u8>, body: &[u8]) -> Result<(), OutOfMemory>
-    ensures { OnOk result (out.new.items ≡ out.old.items ++ (crlf_bytes ++ body.now)) }
-{
-    out.extend_from_slice(b"\r\n")?;
-    out.extend_from_slice(body)
-}
-
-/// The bytes of a reply with this body.
-fn bytes_with(
-    alloc: Global,
+/// A head with a reply's lines, for a body of so many bytes, in this buffer.
+fn head_for(
+    mut out: Vec<u8>,
     parts: &ReplyParts,
-    body: &[u8],
+    len: usize,
     close: bool,
 ) -> Result<Vec<u8>, OutOfMemory>
-    requires { body.now ≡ body_of parts.now.pc }
-    ensures { IfOk result (λ bytes. bytes.items ≡ reply_text parts.now close) }
+    requires { len ≡ length (body_of parts.now.pc) }
+    ensures { IfOk result (λ head. head.items ++ body_of parts.now.pc
+        ≡ reply_text parts.now close) }
 {
-    let mut out = Vec::with_capacity(alloc, HEAD_ROOM.saturating_add(body.len()))?;
+    out.clear();
+    out.reserve(HEAD_ROOM)?;
     append_primitive(&mut out, parts)?;
-    append_framing(&mut out, &parts.pc, body.len(), close)?;
-    append_body(&mut out, body)?;
+    append_framing(&mut out, &parts.pc, len, close)?;
+    out.extend_from_slice(b"\r\n")?;
     Ok(out)
 }
 
-/// The bytes of a reply. Its content is written once, and then copied behind the head.
-fn reply_bytes(alloc: Global, reply: &Reply, close: bool) -> Result<Vec<u8>, OutOfMemory>
-    ensures { IfOk result (λ bytes. bytes.items ≡ reply_text reply.now close) }
+/// Bytes in whose place a head may be written, in this buffer.
+fn room_for_head(mut text: Vec<u8>) -> Result<Vec<u8>, OutOfMemory>
+    ensures { IfOk result (λ text. length text.items ≡ 384) }
+{
+    text.clear();
+    text.reserve(HEAD_ROOM + CONTENT_ROOM)?;
+    text.extend_from_slice(&[0; HEAD_ROOM])?;
+    Ok(text)
+}
+
+/// Appends the body, where there is some.
+fn append_body(out: &mut Vec<u8>, content: &Option<Val>) -> Result<(), OutOfMemory>
+    ensures { OnOk result (out.new.items ≡ out.old.items ++ body_of content.now) }
+{
+    if let Some(value) = content {
+        write(value, out)?;
+    }
+    Ok(())
+}
+
+/// The body, behind room for its head, in this buffer.
+#[tactic(auto, using(crate::proofs::JoinLemmas::behind_room))]
+fn body_behind_room(buffer: Vec<u8>, content: &Option<Val>) -> Result<Vec<u8>, OutOfMemory>
+    ensures len { IfOk result (λ text. length text.items ≡ 384 + length (body_of content.now)) }
+    ensures body { IfOk result (λ text. drop 384 text.items ≡ body_of content.now) }
+{
+    let mut text = room_for_head(buffer)?;
+    append_body(&mut text, content)?;
+    Ok(text)
+}
+
+/// The bytes of a reply: those of a buffer from `start` on. The other buffer is done with.
+#[derive(Debug, Drop)]
+struct ReplyBytes {
+    buffer: Vec<u8>,
+    start: usize,
+    spare: Vec<u8>,
+}
+
+impl Model for ReplyBytes {
+    ghost use Rattle.std.specs.Prelude.{◌≤◌, List, ℕ, drop, length};
+
+    ghost Value = { List ℕ };
+
+    ghost view = { λ b. drop b.start b.buffer.items };
+
+    ghost invariant = { λ b. b.start ≤ length b.buffer.items };
+}
+
+impl ReplyBytes {
+    fn as_slice(&self) -> &[u8]
+        ensures { result.now ≡ self.now }
+    {
+        &self.buffer[self.start..]
+    }
+
+    /// Gives the buffers back.
+    fn give_back(self, alloc: Global, room: &mut ReplyRoom) {
+        room.keep(alloc, self.buffer, self.spare);
+    }
+}
+
+/// Writes a head right before this place.
+#[tactic(auto, using(crate::proofs::JoinLemmas::put_there))]
+fn put_before(text: &mut [u8], place: usize, head: &[u8])
+    requires room { length head.now ≤ place }
+    requires within { place ≤ length text.old }
+    ensures { drop (place - length head.now) text.new ≡ head.now ++ drop place text.old }
+{
+    let start = place - head.len();
+    text[start..place].copy_from_slice(head);
+}
+
+/// The body that stands behind room for its head.
+fn body_in(text: &[u8]) -> &[u8]
+    requires { 384 ≤ length text.now }
+    ensures { result.now ≡ drop 384 text.now }
+{
+    &text[HEAD_ROOM..]
+}
+
+/// A head and the body that stands behind room for one. The body is copied only where the head has
+/// no room there.
+fn joined(mut head: Vec<u8>, mut text: Vec<u8>) -> Result<ReplyBytes, OutOfMemory>
+    requires { 384 ≤ length text.items }
+    ensures { IfOk result (λ bytes. bytes ≡ head.items ++ drop 384 text.items) }
+{
+    if head.len() <= HEAD_ROOM {
+        put_before(&mut text, HEAD_ROOM, &head);
+        Ok(ReplyBytes {
+            start: HEAD_ROOM - head.len(),
+            buffer: text,
+            spare: head,
+        })
+    } else {
+        head.extend_from_slice(body_in(&text))?;
+        Ok(ReplyBytes {
+            start: 0,
+            buffer: head,
+            spare: text,
+        })
+    }
+}
+
+/// The bytes of a reply. Its content is written once, and its head before it.
+fn reply_bytes(
+    alloc: Global,
+    reply: &Reply,
+    close: bool,
+    room: &mut ReplyRoom,
+) -> Result<ReplyBytes, OutOfMemory>
+    ensures { IfOk result (λ bytes. bytes ≡ reply_text reply.now close) }
 {
     let parts = reply.parts();
-    let body = body_text(alloc, &parts.pc)?;
-    bytes_with(alloc, parts, &body, close)
+    let text = body_behind_room(room.take_text(alloc), &parts.pc)?;
+    let head = head_for(room.take_head(alloc), parts, text.len() - HEAD_ROOM, close)?;
+    joined(head, text)
 }
 
 /// Writes a reply by one call of the sink (TS-0009, 6.3 to 6.5). It says whether the connection
-/// closes behind it.
+/// closes behind it. It is written in the room of those before it.
 pub fn write_reply<K: Sink>(
     alloc: Global,
     reply: &Reply,
     close: bool,
+    room: &mut ReplyRoom,
     sink: &mut K,
 ) -> Result<(), PutFault>
     ensures ok { OnOk result
@@ -193,7 +302,8 @@ pub fn write_reply<K: Sink>(
     // The side that is read, of a sink that is a source as well, stays as it is.
     ensures beside { K.kept_by_put sink.new ≡ K.kept_by_put sink.old }
 {
-    let bytes = reply_bytes(alloc, reply, close)?;
-    sink.put(&bytes)?;
-    Ok(())
+    let bytes = reply_bytes(alloc, reply, close, room)?;
+    let put = sink.put(bytes.as_slice());
+    bytes.give_back(alloc, room);
+    Ok(put?)
 }

@@ -15,6 +15,7 @@ use crate::chunks::Walked;
 use crate::held::Held;
 use crate::look::{FrameSpans, LINES_LIMIT, Look, look_for_frame};
 use crate::parts::frame_of;
+use crate::rooms::Rooms;
 use crate::{Frame, FrameFault, Next, Side};
 use httparse::spans::{EMPTY_HEADER_SPAN, HeaderSpan};
 use m2m_io::Source;
@@ -86,6 +87,7 @@ fn settle<S: Source>(
 /// Takes the frame that the spans cover off the front.
 fn take_frame(
     held: &mut Held,
+    rooms: &mut Rooms,
     alloc: Global,
     headers: &[HeaderSpan],
     spans: FrameSpans,
@@ -97,7 +99,7 @@ fn take_frame(
     ensures ok { OnOk result (held.new ≡ drop spans.end held.old) }
     ensures err { OnErr result (held.new ≡ held.old) }
 {
-    let frame = frame_of(alloc, held.bytes(), headers, spans, chunks)?;
+    let frame = frame_of(rooms, alloc, held.bytes(), headers, spans, chunks)?;
     held.skip(spans.end);
     Ok(frame)
 }
@@ -105,6 +107,7 @@ fn take_frame(
 /// Reads what stands next.
 fn read_next<S: Source>(
     held: &mut Held,
+    rooms: &mut Rooms,
     alloc: Global,
     src: &mut S,
     side: Side,
@@ -127,7 +130,7 @@ fn read_next<S: Source>(
     let mut walked = Walked::new(alloc);
     match settle(held, src, side, &mut headers, &mut walked)? {
         Settled::Whole(spans) => {
-            let frame = take_frame(held, alloc, &headers, spans, walked.body)?;
+            let frame = take_frame(held, rooms, alloc, &headers, spans, walked.body)?;
             Ok(Next::Message(frame))
         }
         Settled::End => Ok(Next::End),
@@ -141,11 +144,13 @@ fn is_refusal(next: &Result<Next, FrameFault>) -> bool
     matches!(next, Err(FrameFault::NoFrame))
 }
 
-/// The bytes of a stream that were read and are not yet given in a frame.
+/// The bytes of a stream that were read and are not yet given in a frame, and some room for the
+/// texts of frames.
 #[derive(Debug, Drop)]
 pub struct Inbox {
     held: Held,
     refused: bool,
+    rooms: Rooms,
 }
 
 impl Model for Inbox {
@@ -166,7 +171,16 @@ impl Inbox {
         Ok(Inbox {
             held: Held::new(alloc)?,
             refused: false,
+            rooms: Rooms::new(alloc),
         })
+    }
+
+    /// Takes back a frame that is done with. The texts of the next ones stand in its room, so that
+    /// they need no memory, but for long ones.
+    pub fn give_back(&mut self, frame: Frame)
+        ensures { self.new ≡ self.old }
+    {
+        self.rooms.keep_frame(frame);
     }
 
     fn next<S: Source>(
@@ -198,7 +212,7 @@ impl Inbox {
         if self.refused {
             return Err(FrameFault::NoFrame);
         }
-        let next = read_next(&mut self.held, alloc, src, side);
+        let next = read_next(&mut self.held, &mut self.rooms, alloc, src, side);
         self.refused = is_refusal(&next);
         next
     }

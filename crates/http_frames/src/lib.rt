@@ -17,6 +17,7 @@ mod laws;
 mod lines;
 mod look;
 mod parts;
+mod rooms;
 mod write;
 
 pub use fault::{FrameFault, PutFault};

@@ -6,20 +6,26 @@ ghost use Rattle.http_frames.specs.Spans.{IsStartWithin, AreWithin, frame_at, st
 
 use crate::head::StartSpans;
 use crate::look::FrameSpans;
+use crate::rooms::Rooms;
 use crate::{Frame, Lines, Start};
 use httparse::spans::{HeaderSpan, Span};
 use m2m_value::Text;
 use std::alloc::{AllocError, Global};
 
 /// The text that a span covers.
-fn span_text(alloc: Global, bytes: &[u8], span: Span) -> Result<Text, AllocError>
+fn span_text(rooms: &mut Rooms, alloc: Global, bytes: &[u8], span: Span) -> Result<Text, AllocError>
     requires { IsWithin (length bytes.now) span }
     ensures { IfOk result (λ text. text ≡ span_bytes bytes.now span) }
 {
-    Text::from_slice(alloc, span.of(bytes))
+    rooms.text(alloc, span.of(bytes))
 }
 
-fn start_of(alloc: Global, bytes: &[u8], start: StartSpans) -> Result<Start, AllocError>
+fn start_of(
+    rooms: &mut Rooms,
+    alloc: Global,
+    bytes: &[u8],
+    start: StartSpans,
+) -> Result<Start, AllocError>
     requires { IsStartWithin (length bytes.now) start }
     ensures { IfOk result (λ begin. begin ≡ start_at bytes.now start) }
 {
@@ -29,28 +35,34 @@ fn start_of(alloc: Global, bytes: &[u8], start: StartSpans) -> Result<Start, All
             target,
             minor,
         } => Start::Ask {
-            method: span_text(alloc, bytes, method)?,
-            target: span_text(alloc, bytes, target)?,
+            method: span_text(rooms, alloc, bytes, method)?,
+            target: span_text(rooms, alloc, bytes, target)?,
             minor,
         },
         StartSpans::Answer { status, minor } => Start::Answer { status, minor },
     })
 }
 
-fn lines_of(alloc: Global, bytes: &[u8], headers: &[HeaderSpan]) -> Result<Lines, AllocError>
+fn lines_of(
+    rooms: &mut Rooms,
+    alloc: Global,
+    bytes: &[u8],
+    headers: &[HeaderSpan],
+) -> Result<Lines, AllocError>
     requires { All (IsHeaderWithin (length bytes.now)) headers.now }
     ensures { IfOk result (λ lines. lines ≡ map (header_bytes bytes.now) headers.now) }
 {
-    let mut lines = Vec::with_capacity(alloc, headers.len())?;
+    let mut lines = rooms.lines(alloc, headers.len())?;
     for header in headers {
-        let name = span_text(alloc, bytes, header.name)?;
-        lines.push((name, span_text(alloc, bytes, header.value)?))?;
+        let name = span_text(rooms, alloc, bytes, header.name)?;
+        lines.push((name, span_text(rooms, alloc, bytes, header.value)?))?;
     }
     Ok(Lines::of(lines))
 }
 
 /// The body that the spans cover, where `chunks` is what its chunks carry, if it has any.
 fn body_of(
+    rooms: &mut Rooms,
     alloc: Global,
     bytes: &[u8],
     spans: FrameSpans,
@@ -64,12 +76,14 @@ fn body_of(
     if spans.chunked {
         Ok(Text::of(chunks))
     } else {
-        Text::from_slice(alloc, &bytes[spans.body..spans.end])
+        rooms.text(alloc, &bytes[spans.body..spans.end])
     }
 }
 
-/// The frame that the spans cover. Its body is copied once, and what its chunks carry never.
+/// The frame that the spans cover. Its texts stand in room that frames before it gave back, where
+/// there is some. Its body is copied once, and what its chunks carry never.
 pub(crate) fn frame_of(
+    rooms: &mut Rooms,
     alloc: Global,
     bytes: &[u8],
     headers: &[HeaderSpan],
@@ -80,8 +94,8 @@ pub(crate) fn frame_of(
     ensures { IfOk result (λ frame. frame ≡ frame_at bytes.now headers.now chunks.items spans) }
 {
     Ok(Frame {
-        start: start_of(alloc, bytes, spans.start)?,
-        lines: lines_of(alloc, bytes, &headers[..spans.lines])?,
-        body: body_of(alloc, bytes, spans, chunks)?,
+        start: start_of(rooms, alloc, bytes, spans.start)?,
+        lines: lines_of(rooms, alloc, bytes, &headers[..spans.lines])?,
+        body: body_of(rooms, alloc, bytes, spans, chunks)?,
     })
 }

@@ -11,14 +11,20 @@ returns-in-Ok-Message-clause-next g c =
     let old =
     outside (g.X.Source.left c.read_next.new.conn) (g.X.Sink.written c.args.conn.now) (g.C.Clock.readings c.args.clock.now) (g.L.Link.exchanges c.args.link.now) in
     let new =
-    outside (g.X.Source.left c.answer.new.conn) (g.X.Sink.written c.answer.new.conn) (g.C.Clock.readings c.answer.new.clock) (g.L.Link.exchanges c.answer.new.link) in
-    message_next g.D.Desk.grown c.args.place c.args.seat.now c.answer.new.seat
-    (stream_of c.args.inbox.now.held (g.X.Source.left c.args.conn.now)) (g.X.Source.left c.answer.new.conn) c.read_next.new.inbox.held old new
-    c.in-Ok-Message.frame c.answer.result _ next.refused
+    outside (g.X.Source.left c.answer-ended.new.conn) (g.X.Sink.written c.answer-ended.new.conn) (g.C.Clock.readings c.answer-ended.new.clock) (g.L.Link.exchanges c.answer-ended.new.link) in
+    rw c.give_back.ensures
+    (message_next g.D.Desk.grown c.args.place c.args.seat.now c.answer-ended.new.seat
+    (stream_of c.args.inbox.now.held (g.X.Source.left c.args.conn.now)) (g.X.Source.left c.answer-ended.new.conn) c.read_next.new.inbox.held old new
+    c.in-Ok-Message.frame c.answer-ended.result _ next.refused
     (next.small c.requires.few)
-    (rw c.answer.ensures.left (given_little _ _ _ _ _ next.message c.requires.few))
-    (rw c.answer.ensures.left (given_leads _ _ _ _ _ next.message))
-    (rw (← c.read_next.ensures.written) c.answer.ensures.turns)
+    (rw c.answer-ended.ensures.left (given_little _ _ _ _ _ next.message c.requires.few))
+    (rw c.answer-ended.ensures.left (given_leads _ _ _ _ _ next.message))
+    (rw (← c.read_next.ensures.written) c.answer-ended.ensures.turns))
+
+pub returns-in-Ok-Message-clause-few : goal.returns-in-Ok-Message-clause-few
+returns-in-Ok-Message-clause-few g c =
+    let next = rw c.in-Ok-Message.field-0-is at c.in-Ok-Message.ensures.next in
+    rw c.give_back.ensures (next.small c.requires.few)
 
 pub returns-in-Ok-End-clause-next : goal.returns-in-Ok-End-clause-next
 returns-in-Ok-End-clause-next g c =

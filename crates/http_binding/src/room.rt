@@ -1,0 +1,55 @@
+//! Room in which one reply after another is written.
+ghost use Rattle.std.specs.Prelude.{◌≤◌, vec_capacity};
+
+use std::alloc::Global;
+use std::mem::replace;
+
+/// A buffer that is kept has room for at most so many bytes.
+const MOST_ROOM: usize = 4_096;
+
+/// Room in which one reply after another is written, so that a reply needs memory only where it is
+/// long. What is kept between two of them is little.
+#[derive(Debug, Drop)]
+pub struct ReplyRoom {
+    text: Vec<u8>,
+    head: Vec<u8>,
+    ghost little_text: { vec_capacity text ≤ 4096 },
+    ghost little_head: { vec_capacity head ≤ 4096 },
+}
+
+/// The buffer, if it is small, and else an empty one.
+fn small_only(alloc: Global, buffer: Vec<u8>) -> Vec<u8>
+    ensures { vec_capacity result ≤ 4096 }
+{
+    if buffer.capacity() <= MOST_ROOM {
+        buffer
+    } else {
+        Vec::new(alloc)
+    }
+}
+
+impl ReplyRoom {
+    /// Room that takes no memory until the first reply.
+    pub fn new(alloc: Global) -> ReplyRoom {
+        ReplyRoom {
+            text: Vec::new(alloc),
+            head: Vec::new(alloc),
+        }
+    }
+
+    /// The buffer of the text, which stays without one until it is given back.
+    pub(crate) fn take_text(&mut self, alloc: Global) -> Vec<u8> {
+        replace(&mut self.text, Vec::new(alloc))
+    }
+
+    /// The buffer of the head, which stays without one until it is given back.
+    pub(crate) fn take_head(&mut self, alloc: Global) -> Vec<u8> {
+        replace(&mut self.head, Vec::new(alloc))
+    }
+
+    /// Keeps these buffers, if they are small.
+    pub(crate) fn keep(&mut self, alloc: Global, text: Vec<u8>, head: Vec<u8>) {
+        self.text = small_only(alloc, text);
+        self.head = small_only(alloc, head);
+    }
+}
