@@ -29,7 +29,9 @@ fn scheme_len(text: &[u8]) -> usize
     ensures value { result ≡ scheme_len text.now }
     ensures within { result ≤ length text.now }
 {
-    text.iter().take_while(|byte| is_scheme_byte(**byte)).count()
+    text.iter()
+        .take_while(|byte| is_scheme_byte(**byte))
+        .count()
 }
 
 /// How long the authority at the front of a text is.
