@@ -1,7 +1,9 @@
 -- A text is an authority where the test says so.
-use Rattle.std.proofs.Common.{◌≡◌, ℕ, zero, suc, ◌-◌, ◌<◌, ◌==◌, nat_lt, nat_le, Bool, true, false, not, ◌||◌, ◌&&◌, List, [], ◌∷◌, ◌++◌, length, take, get_or, refl, sym, subst, arith, append_assoc, append-nil}
+use Rattle.std.proofs.Common.{◌≡◌, ℕ, zero, suc, ◌-◌, ◌<◌, ◌==◌, nat_lt, nat_le, Bool, true, false, not, ◌||◌, ◌&&◌, List, [], ◌∷◌, ◌++◌, length, take, get_or, Result, Ok, Err, IfOk, OnOk, refl, sym, ◌∙◌, subst, arith, append_assoc, append-nil}
 use Rattle.std.proofs.lemmas.Bool.{and_parts, and_from, false≢true, ltb-true, lt-ltb, leb-true, le-leb, eqb-true, eq-eqb}
 use Rattle.http_uri.specs.ByteClasses.{is_authority_byte, count_of}
+use Rattle.http_uri.specs.Error.{IsOutOfMemory, UnlessOutOfMemory}
+use Rattle.http_uri.specs.declared.error.UriError.{UriError}
 use Rattle.http_uri.specs.Grammar.{last_piece, MayFollow, IsAuthority}
 use Rattle.http_binding.specs.Laws.{AuthoritiesAreOfUris}
 use Rattle.http_binding.specs.Targets.{may_follow, may_all_follow, is_authority}
@@ -135,6 +137,11 @@ no_authority_by text false is wrong = sym is
 
 pub told_no_authority : (text : List ℕ) → ¬ (IsAuthority text) → false ≡ is_authority text
 told_no_authority text wrong = no_authority_by text (is_authority text) refl wrong
+
+pub refused_authority : {E : Type 0} (text : List ℕ) (error : UriError) (r : Result Bool E) → IfOk r (λ is. is ≡ false) → OnOk r (¬ (IsOutOfMemory error))
+    → UnlessOutOfMemory error (¬ (IsAuthority text)) → IfOk r (λ is. is ≡ is_authority text)
+refused_authority text error (Ok is) no told wrong = no ∙ told_no_authority text (wrong told)
+refused_authority text error (Err e) no told wrong = tt
 
 pub authorities_are_of_uris : AuthoritiesAreOfUris
 authorities_are_of_uris text = (authority_from text, authority_to text)

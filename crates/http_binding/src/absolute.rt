@@ -1,6 +1,7 @@
 //! Targets in absolute-form.
-ghost use Rattle.std.specs.Prelude.{◌≡◌, ◌≤◌, IfOk, length};
+ghost use Rattle.std.specs.Prelude.{◌≡◌, ◌≤◌, false, IfOk, OnOk, length};
 ghost use Rattle.http_uri.specs.ByteClasses as uri;
+ghost use Rattle.http_uri.specs.Error.{IsOutOfMemory};
 ghost use Rattle.http_uri.specs.Grammar.{scheme_len, authority_len};
 ghost use Rattle.http_binding.specs.Targets as spec;
 
@@ -77,14 +78,24 @@ fn is_tail(text: &[u8]) -> bool
     text.is_empty() || (is_delimiter(text[0]) && is_path_and_query(before(b'#', text)))
 }
 
+/// What a reader that fails tells of its text: that it isn't valid, unless memory ran out.
+fn refused(error: UriError) -> Result<bool, OutOfMemory>
+    ensures no { IfOk result (λ is. is ≡ false) }
+    ensures told { OnOk result (¬ (IsOutOfMemory error)) }
+{
+    match error {
+        UriError::Invalid(_) => Ok(false),
+        UriError::OutOfMemory => Err(OutOfMemory),
+    }
+}
+
 /// Whether the text is an authority.
 fn is_authority(alloc: Global, text: &[u8]) -> Result<bool, OutOfMemory>
     ensures { IfOk result (λ is. is ≡ spec.is_authority text.now) }
 {
     match Authority::from_bytes(alloc, text) {
         Ok(_) => Ok(true),
-        Err(UriError::Invalid(_)) => Ok(false),
-        Err(UriError::OutOfMemory) => Err(OutOfMemory),
+        Err(error) => refused(error),
     }
 }
 
