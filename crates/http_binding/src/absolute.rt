@@ -94,7 +94,7 @@ fn is_authority(alloc: Global, text: &[u8]) -> Result<bool, OutOfMemory>
     ensures { IfOk result (λ is. is ≡ spec.is_authority text.now) }
 {
     match Authority::from_bytes(alloc, text) {
-        Ok(_) => Ok(true),
+        Ok(_authority) => Ok(true),
         Err(error) => refused(error),
     }
 }
