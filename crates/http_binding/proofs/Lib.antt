@@ -1,3 +1,4 @@
+pub mod AuthorityLemmas
 pub mod BackLemmas
 pub mod LawLemmas
 pub mod QueryLemmas
