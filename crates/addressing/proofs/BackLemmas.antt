@@ -13,7 +13,8 @@ use Rattle.addressing.specs.declared.addr.Addr.{Addr}
 use Rattle.addressing.specs.declared.addr.Addr.TheVariants.{Local, Foreign, OtherProvider}
 use Rattle.addressing.specs.declared.addr.AddrFault.{AddrFault}
 use Rattle.addressing.specs.declared.addr.AddrFault.TheVariants.{TooLong, Shape}
-use Rattle.addressing.specs.Addresses.{KeepsText, address_of, are_names, by_cse, by_names, by_provider, cut_at, is_slash, joined, longest, of_provider, between_slashes, printed, shaped, under, unless_shapeless}
+use Rattle.m2m_names.specs.Urls.{point_limit}
+use Rattle.addressing.specs.Addresses.{KeepsText, address_of, are_names, by_cse, by_names, by_provider, cut_at, is_slash, joined, of_provider, between_slashes, printed, shaped, under, unless_shapeless}
 use Rattle.policy_eval.proofs.FormLemmas.{starts_rest}
 use Rattle.addressing.proofs.PartLemmas.{joined-between_slashes, no_slash, between_slashes-joined, parts_by_cut}
 
@@ -46,13 +47,13 @@ shaped-slash home (b ∷ rest) begins = rw (ne_eqb 47 b (λ e. eqb-false b 47 be
 
 -- ---- a text of an address is no longer than one
 
-shown : (home : HomeData) (text : List ℕ) (a : Addr) → length text ≤ longest → shaped home text ≡ Some a → address_of home text ≡ Ok a
+shown : (home : HomeData) (text : List ℕ) (a : Addr) → length text ≤ point_limit → shaped home text ≡ Some a → address_of home text ≡ Ok a
 shown home text a short is =
-    ap (λ b. cond b (Err TooLong) (unless_shapeless (shaped home text))) (false_from_ne_true _ (λ long. omega (arith, short, ltb-true longest (length text) long)))
+    ap (λ b. cond b (Err TooLong) (unless_shapeless (shaped home text))) (false_from_ne_true _ (λ long. omega (arith, short, ltb-true point_limit (length text) long)))
     ∙ ap unless_shapeless is
 
 -- segments with slashes between them are read as these segments
-pub joined_back : (home : HomeData) (name : List ℕ) (names : List (List ℕ)) → are_names (name ∷ names) ≡ true → length (joined (name ∷ names)) ≤ longest → address_of home (joined (name ∷ names)) ≡ Ok (Local (name ∷ names))
+pub joined_back : (home : HomeData) (name : List ℕ) (names : List (List ℕ)) → are_names (name ∷ names) ≡ true → length (joined (name ∷ names)) ≤ point_limit → address_of home (joined (name ∷ names)) ≡ Ok (Local (name ∷ names))
 joined_back home name names are short =
     let parts : between_slashes (joined (name ∷ names)) ≡ name ∷ names = between_slashes-joined name names are in
     shown home (joined (name ∷ names)) (Local (name ∷ names)) short
@@ -191,7 +192,7 @@ by_cse_begins home (b ∷ rest) a is = elim (cases_Bool (is_slash b)) [
       let none : None ≡ Some a = sym (ap (under home (b ∷ rest)) parts) ∙ is in cc
 ]
 
-made_back : (home : HomeData) (n : ℕ) (a : Addr) → IsHome home → n ≤ longest → Made home n a → KeepsText a → address_of home (printed home a) ≡ Ok a
+made_back : (home : HomeData) (n : ℕ) (a : Addr) → IsHome home → n ≤ point_limit → Made home n a → KeepsText a → address_of home (printed home a) ≡ Ok a
 made_back home n (Local []) is short made keeps = alone_back home (csi_name home is)
 made_back home n (Local (s ∷ segments)) is short made keeps = joined_back home s segments made.0 (omega (arith, short, made.1))
 made_back home n (Foreign text) is short made keeps =
@@ -205,9 +206,9 @@ answer_or b (Ok a) = Some a
 answer_or b (Err fault) = Some b
 
 pub printed_back : (home : HomeData) (text : List ℕ) (a : Addr) → IsHome home → address_of home text ≡ Ok a → KeepsText a → address_of home (printed home a) ≡ Ok a
-printed_back home text a is read keeps = elim (cases_Bool (nat_lt longest (length text))) [
+printed_back home text a is read keeps = elim (cases_Bool (nat_lt point_limit (length text))) [
   | inl t ↦ (let no : Err TooLong ≡ Ok a = rw t at read in cc)
-  | inr f ↦ made_back home (length text) a is (ltb-false longest (length text) f) (shaped_made home text a (told (shaped home text) (rw f at read))) keeps
+  | inr f ↦ made_back home (length text) a is (ltb-false point_limit (length text) f) (shaped_made home text a (told (shaped home text) (rw f at read))) keeps
 ]
   where
     told : (o : Option Addr) → unless_shapeless o ≡ Ok a → o ≡ Some a

@@ -23,8 +23,9 @@ use Rattle.resource_model.specs.Resource.{ResourceData, has_number, id_of, is_ty
 use Rattle.tree_model.specs.Tree.{ae_of, at, child_of, may_stand, has, has_child, is_child, is_tree, line_from, line_of, resource_number}
 use Rattle.tree_model.proofs.GrowthLemmas.{IsNext, growth, line-append, next_fits, root_parent, stands, zero_lacks}
 use Rattle.tree_model.proofs.TreeLemmas.{at_has, at_number, at-append, has-append, has_at, has_from_at}
-use Rattle.addressing.specs.Addresses.{are_names, joined, longest}
-use Rattle.addressing.specs.Laws.{have_free_names, named_here, named_by}
+use Rattle.m2m_names.specs.Urls.{point_limit}
+use Rattle.addressing.specs.Addresses.{are_names, joined}
+use Rattle.addressing.specs.Laws.{have_free_names, named_here, spot_named}
 use Rattle.addressing.specs.Names.{base_named, fan_point, first_named, id_named, is_at, is_fan, is_poll, names_to, next_named, poll_point, spot_from, spot_of, structured_of}
 use Rattle.addressing.specs.declared.spot.Spot.{Spot}
 use Rattle.addressing.specs.declared.spot.Spot.TheVariants.{Resource}
@@ -70,7 +71,7 @@ id_is_name ty n small =
     (and_from _ _ (lt-ltb 0 (length (word ++ decimal n)) (omega (arith, some, all))) (le-leb (length (word ++ decimal n)) 64 (omega (arith, long, most, all))))
     (list_all-append is_unreserved word (decimal n) ∙ and_from _ _ parts.1 (digits_are_plain n small))
 
-id_length : (ty : Ty) (n : ℕ) → n < 2 ^ 63 → length (id_text ty n) ≤ longest
+id_length : (ty : Ty) (n : ℕ) → n < 2 ^ 63 → length (id_text ty n) ≤ point_limit
 id_length ty n small =
     let filled = (and_parts (is_filled 64 (id_text ty n)) _ (id_is_name ty n small)).0 in
     omega (arith, leb-true (length (id_text ty n)) 64 (and_parts _ (leb (length (id_text ty n)) 64) filled).1)
@@ -87,7 +88,7 @@ id_found nodes r found small =
     ap (option_and_then (λ (id : Ty × ℕ). cond (is_at id.0 id.1 nodes) (Some id.1) None)) (id_parts-id_text r.ty r.number small)
     ∙ ap (λ b. cond b (Some r.number) None) there
 
-pub named_by_id : (home : HomeData) (nodes : List ResourceData) (r : ResourceData) → at r.number nodes ≡ Some r → r.number < 2 ^ 63 → child_of 0 (id_of r) nodes ≡ None → named_by home (id_of r) nodes ≡ Some (Resource r.number)
+pub named_by_id : (home : HomeData) (nodes : List ResourceData) (r : ResourceData) → at r.number nodes ≡ Some r → r.number < 2 ^ 63 → child_of 0 (id_of r) nodes ≡ None → spot_named home (id_of r) nodes ≡ Some (Resource r.number)
 named_by_id home nodes r found small other =
     let base : base_named (id_of r) nodes ≡ None = rw (id_is_no_mark r.ty r.number small) other in
     let first : first_named (id_of r) nodes ≡ Some r.number =
@@ -275,11 +276,11 @@ leads nodes tree free (suc k) r below found =
           leads_below nodes tree r found own stood.child (subst (λ m. Leads nodes m (names_to m nodes)) number up)
     ]
 
-pub named_by_structured : (home : HomeData) (nodes : List ResourceData) (r : ResourceData) → is_tree nodes ≡ true → have_free_names nodes ≡ true → at r.number nodes ≡ Some r → length (structured_of r.number nodes) ≤ longest → named_by home (structured_of r.number nodes) nodes ≡ Some (Resource r.number)
-named_by_structured home nodes r tree free found short =
+pub spot_named_structured : (home : HomeData) (nodes : List ResourceData) (r : ResourceData) → is_tree nodes ≡ true → have_free_names nodes ≡ true → at r.number nodes ≡ Some r → length (structured_of r.number nodes) ≤ point_limit → spot_named home (structured_of r.number nodes) nodes ≡ Some (Resource r.number)
+spot_named_structured home nodes r tree free found short =
     let way = leads nodes tree free (suc r.number) r (omega arith) found in
     let text : structured_of r.number nodes ≡ joined (way.first ∷ way.rest) = ap joined way.are in
-    ap (λ t. named_by home t nodes) text
+    ap (λ t. spot_named home t nodes) text
     ∙ ap (λ a. named_here a nodes) (joined_back home way.first way.rest way.names_all (omega (arith, short, ap length text)))
     ∙ way.spot
 

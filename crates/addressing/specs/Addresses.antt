@@ -6,6 +6,7 @@ use Rattle.std.specs.Prelude.{Result, Ok, Err, option_and_then}
 use Rattle.std.specs.List.{after_first, before_first, join_with_byte, list_all, position_or_len}
 use Rattle.std.specs.List.{slice_split, starts_with}
 use Rattle.m2m_names.specs.Name.{is_name}
+use Rattle.m2m_names.specs.Urls.{point_limit}
 use Rattle.resource_model.specs.Home.{HomeData}
 use Rattle.addressing.specs.declared.addr.Addr.{Addr}
 use Rattle.addressing.specs.declared.addr.Addr.TheVariants.{Local, Foreign, OtherProvider}
@@ -45,10 +46,6 @@ abbrev pub are_names : List (List ℕ) → Bool
 are_names parts = list_all is_name parts
 
 -- ---- addresses
-
--- the most bytes that an address has
-abbrev pub longest : ℕ
-longest = 512
 
 -- under a CSE-ID, here without its slash, stand segments: those under own CSE-ID are local; what
 -- stands under another is foreign, and keeps its text
@@ -93,7 +90,7 @@ unless_shapeless (Some addr) = Ok addr
 -- the address that a text is, or its fault
 abbrev pub address_of : HomeData → List ℕ → Result Addr AddrFault
 address_of home text =
-    if nat_lt longest (length text) then Err TooLong else unless_shapeless (shaped home text)
+    if nat_lt point_limit (length text) then Err TooLong else unless_shapeless (shaped home text)
 
 -- memory may be taken before this is told: for what is kept, and for names before one that is none
 abbrev pub MayTakeMemory : Result Addr AddrFault → Type 0

@@ -1,9 +1,8 @@
 -- What holds of addresses on every list.
 use Rattle.std.specs.Prelude.{ℕ, Bool, List, Option, None, Result, Ok, Err}
 use Rattle.std.specs.List.{list_all}
-use Rattle.m2m_names.specs.Name.{is_free_name}
 use Rattle.resource_model.specs.Home.{HomeData}
-use Rattle.resource_model.specs.Resource.{ResourceData}
+use Rattle.resource_model.specs.Resource.{ResourceData, has_free_name}
 use Rattle.addressing.specs.Addresses.{address_of}
 use Rattle.addressing.specs.Names.{spot_of}
 use Rattle.addressing.specs.declared.addr.Addr.{Addr}
@@ -19,9 +18,9 @@ named_here (Ok OtherProvider) nodes = None
 named_here (Err fault) nodes = None
 
 -- what a text names
-abbrev pub named_by : HomeData → List ℕ → List ResourceData → Option Spot
-named_by home text nodes = named_here (address_of home text) nodes
+abbrev pub spot_named : HomeData → List ℕ → List ResourceData → Option Spot
+spot_named home text nodes = named_here (address_of home text) nodes
 
 -- each resource has a name that addresses nothing else
 abbrev pub have_free_names : List ResourceData → Bool
-have_free_names nodes = list_all (λ (r : ResourceData). is_free_name r.name) nodes
+have_free_names nodes = list_all has_free_name nodes

@@ -8,7 +8,8 @@ use Rattle.m2m_names.specs.Ids.{id_parts}
 use Rattle.m2m_names.specs.declared.types.Ty.{Ty}
 use Rattle.m2m_names.specs.declared.types.Ty.TheVariants.{Group, PollingChannel}
 use Rattle.resource_model.specs.Resource.{ResourceData, is_ty}
-use Rattle.tree_model.specs.Tree.{ae_of, at, child_of, children_of, first_number, instance_of, line_of}
+use Rattle.tree_model.specs.Tree.{ae_of, at, child_of, children_of, first_number, instance_of}
+use Rattle.tree_model.specs.Tree.{line_of}
 use Rattle.addressing.specs.Addresses.{joined}
 use Rattle.addressing.specs.declared.addr.Addr.{Addr}
 use Rattle.addressing.specs.declared.addr.Addr.TheVariants.{Local, Foreign, OtherProvider}
@@ -18,6 +19,12 @@ use Rattle.addressing.specs.declared.spot.Spot.TheVariants.{Resource, Fan, Poll}
 -- the resource of the number is of the type
 abbrev pub is_at : Ty → ℕ → List ResourceData → Bool
 is_at ty n nodes = option_map_or (λ (r : ResourceData). is_ty r.ty ty) (at n nodes) false
+
+-- the resource that an address names, where it names none of the virtual ones
+abbrev pub spot_resource : Spot → Option ℕ
+spot_resource (Resource n) = Some n
+spot_resource (Fan group rest) = None
+spot_resource (Poll channel) = None
 
 -- ---- the first segment
 

@@ -6,8 +6,9 @@ ghost use Rattle.tree_model.specs.Tree.{at, child_of, is_tree};
 ghost use Rattle.policy_eval.specs.Seen.{seen_list};
 ghost use Rattle.addressing.specs.declared.spot.Spot.TheVariants.{Resource};
 ghost use Rattle.addressing.specs.declared.addr.Addr.{Addr};
-ghost use Rattle.addressing.specs.Addresses.{KeepsText, address_of, longest, printed};
-ghost use Rattle.addressing.specs.Laws.{have_free_names, named_by};
+ghost use Rattle.m2m_names.specs.Urls.{point_limit};
+ghost use Rattle.addressing.specs.Addresses.{KeepsText, address_of, printed};
+ghost use Rattle.addressing.specs.Laws.{have_free_names, spot_named};
 ghost use Rattle.addressing.specs.Names.{spot_of, structured_of};
 
 /// What an address that was read prints as is read as the same address, where it keeps a text.
@@ -22,11 +23,11 @@ pub fn what_is_printed_is_read_back()
 pub fn a_resource_is_named_by_its_addresses()
     ensures structured { (home : HomeData) (nodes : List ResourceData) (r : ResourceData) →
         IsTrue (is_tree nodes) → IsTrue (have_free_names nodes) →
-        at r.number nodes ≡ Some r → length (structured_of r.number nodes) ≤ longest →
-        named_by home (structured_of r.number nodes) nodes ≡ Some (Resource r.number) }
+        at r.number nodes ≡ Some r → length (structured_of r.number nodes) ≤ point_limit →
+        spot_named home (structured_of r.number nodes) nodes ≡ Some (Resource r.number) }
     ensures id { (home : HomeData) (nodes : List ResourceData) (r : ResourceData) →
         at r.number nodes ≡ Some r → r.number < 2 ^ 63 → child_of 0 (id_of r) nodes ≡ None →
-        named_by home (id_of r) nodes ≡ Some (Resource r.number) }
+        spot_named home (id_of r) nodes ≡ Some (Resource r.number) }
 {}
 
 /// What an address names is the same on the list as an originator sees it.

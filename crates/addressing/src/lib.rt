@@ -26,7 +26,7 @@ pub use laws::{
 pub use m2m_value::Labels as Segments;
 pub use naming::structured;
 pub use reading::parse;
-pub use resolving::resolve;
+pub use resolving::{name_spot, resolve};
 pub use short::short_fr;
 pub use spot::Spot;
 pub use std::alloc::AllocError as OutOfMemory;

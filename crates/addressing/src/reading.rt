@@ -8,13 +8,10 @@ ghost use Rattle.addressing.specs.Addresses.{GivesAddress, address_of, are_names
 ghost use Rattle.addressing.specs.Addresses.{between_slashes, unless_shapeless};
 
 use crate::addr::{Addr, AddrFault, slashed};
-use m2m_names::is_name;
+use m2m_names::{POINT_LIMIT, is_name};
 use m2m_value::{Labels, Text};
 use std::alloc::Global;
 use tree_model::Home;
-
-/// The most bytes that an address has (the length is the profile's).
-const LONGEST: usize = 512;
 
 /// Reads a text as an address. It is too long where it has over 512 bytes, and else shapeless where
 /// it has none of the three forms. To tell that it is too long, or of another provider, takes no
@@ -22,7 +19,7 @@ const LONGEST: usize = 512;
 pub fn parse(alloc: Global, text: &[u8], home: &Home) -> Result<Addr, AddrFault>
     ensures { GivesAddress result (address_of home.now text.now) }
 {
-    if text.len() > LONGEST {
+    if text.len() > POINT_LIMIT {
         return Err(AddrFault::TooLong);
     }
     shaped(alloc, text, home)

@@ -1,5 +1,6 @@
 //! What an address names in a tree.
-ghost use Rattle.std.specs.Prelude.{◌≡◌, ◌+◌, ◌*◌, ◌≤◌, length};
+ghost use Rattle.std.specs.Prelude.{◌≡◌, ◌+◌, ◌*◌, ◌<◌, ◌≤◌, length, Ok};
+ghost use Rattle.addressing.specs.Laws.{named_here};
 ghost use Rattle.addressing.specs.Names as spec;
 ghost use Rattle.addressing.specs.Names.{IsLocal, segments_of};
 
@@ -7,7 +8,8 @@ use crate::addr::Addr;
 use crate::spot::Spot;
 use m2m_names::{Ty, read_id};
 use m2m_value::Text;
-use std::sync::ledger::Ledger;
+use std::marker::Brand;
+use std::sync::ledger::{Blank, Ledger};
 use tree_model::{Steps, Tree};
 
 /// What a local address names. It asks for one child for each segment at most, and else looks up.
@@ -21,6 +23,27 @@ pub fn resolve<T: Tree, L: Ledger>(tree: &T, addr: &Addr, steps: &mut Steps<L>) 
         Addr::Local(segments) => spot_of(tree, segments.entries(), steps),
         _ => unreachable!(),
     }
+}
+
+/// What an address names here, for who counts no steps.
+pub fn name_spot<T: Tree>(tree: &T, addr: &Addr) -> Option<Spot>
+    ensures { result ≡ named_here (Ok addr.now) (T.nodes tree.now) }
+{
+    match addr {
+        Addr::Local(_) => resolved::<T, Brand>(tree, addr, Blank::new(1)),
+        _ => None,
+    }
+}
+
+fn resolved<T: Tree, L: Ledger>(tree: &T, addr: &Addr, blank: Blank) -> Option<Spot>
+    requires local { IsLocal addr.now }
+    requires name { blank.name ≡ L.name }
+    requires parts { blank.parts ≡ L.parts }
+    requires some { 0 < blank.parts }
+    ensures { result ≡ spec.spot_of (segments_of addr.now) (T.nodes tree.now) }
+{
+    let mut steps = Steps::<L>::new(blank);
+    resolve(tree, addr, &mut steps)
 }
 
 #[tactic(auto, using(crate::proofs::CostLemmas::cost_of_first, crate::proofs::CostLemmas::cost_of_all))]

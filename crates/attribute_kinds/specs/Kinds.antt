@@ -6,8 +6,10 @@ use Rattle.std.specs.Int.{is_in_range}
 use Rattle.std.specs.List.{list_all}
 use Rattle.std.specs.Option.{option_map_or}
 use Rattle.m2m_names.specs.Name.{is_filled, is_free_name, is_name, is_originator}
+use Rattle.m2m_names.specs.Operations.{all_bits}
 use Rattle.m2m_names.specs.StampReading.{moment_at}
 use Rattle.m2m_names.specs.Types.{ty_of_number}
+use Rattle.m2m_names.specs.Urls.{point_limit}
 use Rattle.m2m_value.specs.Data.{Data, null, boolean, number, text, list, object, Entry}
 use Rattle.m2m_value.specs.Shapes.{is_text_of, is_list_of, is_some_of, is_count_of, is_object_of}
 use Rattle.m2m_value.specs.Shapes.{are_keys_among, has_member, may_have_member, is_label}
@@ -28,17 +30,13 @@ abbrev pub is_cse_id : List ℕ → Bool
 is_cse_id [] = false
 is_cse_id (b ∷ name) = (b == 47) && is_name name
 
--- the most bytes that the text of an address or of a URL has
-abbrev pub point_limit : ℕ
-point_limit = 512
-
 -- the text of an address or of a URL: 1 to 512 printable ASCII characters without a space
 abbrev pub is_point : List ℕ → Bool
 is_point s = is_filled point_limit s && list_all is_ascii_graphic s
 
 -- a list of exactly one text of an address or of a URL
-abbrev pub is_target : List Data → Bool
-is_target ds = (length ds == 1) && list_all (is_text_of is_point) ds
+abbrev pub is_notification_target : List Data → Bool
+is_notification_target ds = (length ds == 1) && list_all (is_text_of is_point) ds
 
 -- an access control rule: exactly `acor`, a list, not empty, of originators, and `acop`, a sum of
 -- the six bits (TS-0001, 9.6.2.1)
@@ -46,7 +44,7 @@ abbrev pub is_rule : List Entry → Bool
 is_rule es =
     are_keys_among (codes "acor" ∷ codes "acop" ∷ []) es
     && has_member (codes "acor") (is_some_of (is_text_of is_originator)) es
-    && has_member (codes "acop") (is_count_of (is_in_range 0 63)) es
+    && has_member (codes "acop") (is_count_of (is_in_range 0 all_bits)) es
 
 -- access control rules: exactly `acr`, a list of them (TS-0001, 9.6.2)
 abbrev pub is_rules : List Entry → Bool
@@ -91,7 +89,7 @@ has_kind CseIds d = is_list_of (is_text_of is_cse_id) d
 has_kind Originator d = is_text_of is_originator d
 has_kind Policies d = is_list_of (λ e. is_some (as_text e)) d
 has_kind Points d = is_list_of (is_text_of is_point) d
-has_kind Target d = option_map_or is_target (as_list d) false
+has_kind Target d = option_map_or is_notification_target (as_list d) false
 has_kind Rules d = is_object_of is_rules d
 has_kind Criteria d = is_object_of is_criteria d
 has_kind MemberType d = is_count_of is_member_type d

@@ -2,7 +2,7 @@
 ghost use Rattle.std.specs.Prelude.{◌≡◌};
 ghost use Rattle.attribute_kinds.specs.Kinds.{has_kind};
 
-use crate::lists::{is_cse_ids, is_labels, is_points, is_target, is_texts};
+use crate::lists::{is_cse_ids, is_labels, is_notification_target, is_points, is_texts};
 use crate::objects::{is_criteria, is_rules};
 use crate::values::{
     is_bool, is_content, is_count, is_cse_id, is_member_type, is_name, is_number_within,
@@ -66,7 +66,7 @@ impl Kind {
             Kind::Originator => is_originator(value),
             Kind::Policies => is_texts(value),
             Kind::Points => is_points(value),
-            Kind::Target => is_target(value),
+            Kind::Target => is_notification_target(value),
             Kind::Rules => is_rules(value),
             Kind::Criteria => is_criteria(value),
             Kind::MemberType => is_member_type(value),

@@ -83,8 +83,8 @@ pub fn is_points(value: &Val) -> bool
     }
 }
 
-pub fn is_target(value: &Val) -> bool
-    ensures { result ≡ option_map_or spec.is_target (views.as_list value.now) false }
+pub fn is_notification_target(value: &Val) -> bool
+    ensures { result ≡ option_map_or spec.is_notification_target (views.as_list value.now) false }
 {
     match list_in(value) {
         Some(values) => values.len() == 1 && are_points(values),

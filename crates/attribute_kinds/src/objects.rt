@@ -3,11 +3,13 @@ ghost use Rattle.std.specs.Prelude.{◌≡◌, ◌∷◌, [], codes};
 ghost use Rattle.std.specs.Int.{is_in_range};
 ghost use Rattle.std.specs.List.{list_all};
 ghost use Rattle.m2m_names.specs.Name as names;
+ghost use Rattle.m2m_names.specs.Operations.{all_bits};
 ghost use Rattle.m2m_value.specs.Shapes as shapes;
 ghost use Rattle.attribute_kinds.specs.Kinds as spec;
 
 use crate::lists::{is_event_kinds, is_labels, is_originators};
 use crate::values::{is_number_within, list_in};
+use m2m_names::ALL_BITS;
 use m2m_value::{Members, Text, Val};
 
 fn is_rule_key(key: &Text) -> bool
@@ -61,10 +63,10 @@ fn have_originators(members: &Members) -> bool
 
 fn have_bits(members: &Members) -> bool
     ensures { result ≡ shapes.has_member (codes "acop")
-        (shapes.is_count_of (is_in_range 0 63)) members.now }
+        (shapes.is_count_of (is_in_range 0 all_bits)) members.now }
 {
     match members.get(b"acop") {
-        Some(value) => is_number_within(0, 63, value),
+        Some(value) => is_number_within(0, u64::from(ALL_BITS), value),
         None => false,
     }
 }

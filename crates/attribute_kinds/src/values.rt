@@ -8,11 +8,8 @@ ghost use Rattle.attribute_kinds.specs.declared.kinds.Kind.TheVariants.{Count};
 ghost use Rattle.m2m_value.specs.Shapes as shapes;
 ghost use Rattle.attribute_kinds.specs.Kinds as spec;
 
-use m2m_names::{Ty, are_graphic, is_filled};
+use m2m_names::{POINT_LIMIT, Ty, are_graphic, is_filled};
 use m2m_value::Val;
-
-/// The most bytes that the text of an address or of a URL has.
-const POINT_LIMIT: usize = 512;
 
 /// The bytes of a text.
 pub fn text_in(value: &Val) -> Option<&[u8]>

@@ -20,6 +20,7 @@ use Rattle.m2m_names.specs.declared.types.Ty.TheVariants.{ContainerAnnc, Content
 use Rattle.m2m_names.specs.declared.types.Ty.TheVariants.{GroupAnnc}
 use Rattle.m2m_names.specs.Types.{all_types}
 use Rattle.resource_model.specs.Attributes.{is_attr}
+use Rattle.resource_model.specs.Home.{last_cse_type}
 use Rattle.resource_model.specs.Resource.{is_ty}
 use Rattle.attribute_kinds.specs.declared.kinds.Kind.{Kind}
 use Rattle.attribute_kinds.specs.declared.kinds.Kind.TheVariants.{Name, Stamp, Text, Label, Labels}
@@ -127,7 +128,7 @@ attr_rows =
     ∷ attr_row (Ae ∷ []) Poa (Given Points) Optional Optional true
     ∷ attr_row (Ae ∷ []) Rr (Given Truth) Mandatory Mandatory true
     ∷ attr_row (Ae ∷ RemoteCse ∷ []) Srv (Given Labels) Optional Optional false
-    ∷ attr_row (RemoteCse ∷ []) Cst (Given (OneOf 1 3)) Optional NotPermitted false
+    ∷ attr_row (RemoteCse ∷ []) Cst (Given (OneOf 1 last_cse_type)) Optional NotPermitted false
     ∷ attr_row (RemoteCse ∷ []) Cb (Given Label) Mandatory NotPermitted false
     ∷ attr_row (RemoteCse ∷ []) Csi (Given CseId) Mandatory NotPermitted false
     ∷ attr_row (RemoteCse ∷ []) Poa (Given Points) Optional Optional false

@@ -12,7 +12,7 @@ use attribute_kinds::Kind::*;
 use m2m_names::Ty::*;
 use m2m_names::{Attr, Ty};
 use m2m_value::Val;
-use resource_model::Resource;
+use resource_model::{LAST_CSE_TYPE, Resource};
 
 /// Whether a request names an attribute (TS-0004, 7.4: M, O and NP).
 #[derive(Clone, Copy, Debug, PartialEq, Eq)]
@@ -284,7 +284,13 @@ fn table_rule(ty: Ty, attr: Attr) -> Option<Rule>
         Attr::Cr => row(&AUTHORED, ty, Creator, ONCE, false),
         Attr::Cs => row(&[ContentInstance], ty, Assigned(Count), NEVER, true),
         Attr::Csi => row(&[RemoteCse], ty, Given(CseId), FIXED, false),
-        Attr::Cst => row(&[RemoteCse], ty, Given(OneOf(1, 3)), ONCE, false),
+        Attr::Cst => row(
+            &[RemoteCse],
+            ty,
+            Given(OneOf(1, LAST_CSE_TYPE)),
+            ONCE,
+            false,
+        ),
         Attr::Csy => row(&[Group], ty, Given(OneOf(1, 3)), ONCE, true),
         Attr::Ct | Attr::Lt | Attr::Pi | Attr::Ri | Attr::Ty => {
             row(&Ty::ALL, ty, Derived, NEVER, false)

@@ -4,6 +4,10 @@ use Rattle.std.proofs.Common.{◌≡◌, ℕ, ◌+◌, List, [], ◌∷◌, ◌+
 use Rattle.std.proofs.lemmas.Bool.{cases_Bool, cases_eq, and_parts, both_ways}
 use Rattle.std.proofs.lemmas.List.Elements.{filter-append}
 use Rattle.std.specs.List.{filter, list_all, list_any}
+use Rattle.std.specs.Option.{option_map_or}
+use Rattle.m2m_names.specs.declared.codes.Rsc.{Rsc}
+use Rattle.m2m_names.specs.declared.codes.Rsc.TheVariants.{NotFound}
+use Rattle.m2m_names.specs.declared.operations.Op.{Op}
 use Rattle.m2m_names.specs.declared.operations.Op.TheVariants.{Create, Update, Delete}
 use Rattle.m2m_names.specs.declared.types.Ty.TheVariants.{Container, ContentInstance}
 use Rattle.primitive_json.specs.declared.request.RequestParts.{RequestParts}
@@ -15,20 +19,25 @@ use Rattle.tree_model.proofs.TreeLemmas.{at_has, at_number, at-replaced_other, h
 use Rattle.container_limits.specs.Limits.{evicted, limits_of}
 use Rattle.container_limits.proofs.LimitLemmas.{not_not}
 use Rattle.entity_model.specs.Entity.{EntityData}
+use Rattle.entity_model.specs.Places.{Effect}
 use Rattle.entity_model.specs.Sound.{IsSoundEntity}
-use Rattle.create_delete.specs.Changes.{changes_by, created, deleted, named_attrs, only_in, update_made, updated}
-use Rattle.create_delete.specs.Changing.{is_numbered_in, nodes_updated, pushed_by, pushed_out, without_all}
-use Rattle.create_delete.specs.Joining.{after_joining, gone_by, with_newcomer, MayJoin}
+use Rattle.request_rules.specs.Order.{fault_at, fault_on}
+use Rattle.create_delete.specs.Changes.{changes_at, changes_by, created, creation_changes, deleted, deletion_changes, named_attrs, only_in, update_changes, update_made, updated}
+use Rattle.create_delete.specs.Changing.{after_joining, is_numbered_in, nodes_updated, performed_at, pushed_by, pushed_out, with_newcomer, without_all}
+use Rattle.create_delete.specs.Joining.{gone_by, MayJoin}
 use Rattle.create_delete.specs.Newcomer.{IsFilling, IsNewcomer, IsReplacement}
 use Rattle.create_delete.specs.declared.joining.Filling.{Filling}
 use Rattle.create_delete.proofs.GrownLemmas.{grown_by, nothing_picked}
 use Rattle.create_delete.proofs.InstanceLemmas.{limits_restamped, pruning as filling_pruning}
+use Rattle.create_delete.proofs.JoiningLemmas.{filled_is, pushes_named}
 use Rattle.create_delete.proofs.KeptLemmas.{filter_among}
 use Rattle.create_delete.proofs.LeftLemmas.{all_but_out, filter_found, filter_swap, has_left}
+use Rattle.create_delete.proofs.PerformedLemmas.{done_at}
 use Rattle.create_delete.proofs.PushingLemmas.{nothing_removed}
 use Rattle.create_delete.proofs.ReplacedLemmas.{replaced_by}
 use Rattle.create_delete.proofs.RightCreateLemmas.{container_there, lacks, nodes_filled, not_out, older_there, same_filled, stamped_there}
 use Rattle.create_delete.proofs.RightUpdateLemmas.{now_there, turned_tree, updated_in, updated_left}
+use Rattle.create_delete.proofs.ThoseLemmas.{those_evicted, those_pushed}
 use Rattle.create_delete.proofs.UpdatedLemmas.{pruning}
 
 -- ---- what is gone
@@ -49,7 +58,7 @@ nothing_apart nodes = filter_among (λ s. not (has s.number nodes)) (λ s. false
 
 -- ---- a Delete
 
-pub delete_changes : (e : EntityData) (request : RequestParts) (n : ℕ) → IsSoundEntity e → changes_by Delete request n e (record { home = e.home; nodes = without (has_number n) e.nodes; next = e.next; last = e.last }) ≡ map deleted (filter (λ r. list_any (has_number n) (line_of r.number e.nodes)) e.nodes)
+pub delete_changes : (e : EntityData) (request : RequestParts) (n : ℕ) → IsSoundEntity e → changes_by Delete request n e (record { home = e.home; nodes = without (has_number n) e.nodes; next = e.next; last = e.last }) ≡ deletion_changes e.nodes n
 delete_changes e request n sound =
     let tree = tree_from_well_formed e.nodes sound.tree in
     ap (map deleted) (gone_are (λ r. list_any (has_number n) (line_of r.number e.nodes)) e.nodes (without (has_number n) e.nodes) tree (λ r found.
@@ -90,12 +99,13 @@ module _ (e : EntityData) (sound : IsSoundEntity e) (c : ResourceData) (new : Is
       by_left None is = absurd (both_ways _ new.plain (and_parts (is_under c.number c) (is_ty c.ty ContentInstance) ((updated_left e sound c new).gone c (now_there e sound c new) is)).1)
       by_left (Some s) is = sym ((updated_left e sound c new).stood c.number s is) ∙ now_there e sound c new
 
-  pub update_changes : (request : RequestParts) (old : ResourceData) → at c.number e.nodes ≡ Some old → changes_by Update request c.number e (updated_in e c) ≡ updated old c (named_attrs request old) ∷ map deleted (filter (is_numbered_in (pushed_by e c)) e.nodes)
-  update_changes request old found =
+  pub updating_changes : (request : RequestParts) (old : ResourceData) → at c.number e.nodes ≡ Some old → changes_by Update request c.number e (updated_in e c) ≡ update_changes e.nodes old c (named_attrs request old) (pushed_by e c)
+  updating_changes request old found =
       ap (λ (x : Option ResourceData). update_made request x (at c.number (nodes_updated e c)) ++ map deleted (only_in e.nodes (nodes_updated e c))) found
       ∙ ap (λ (x : Option ResourceData). update_made request (Some old) x ++ map deleted (only_in e.nodes (nodes_updated e c))) c_left
       ∙ ap (λ (rs : List ResourceData). updated old c (named_attrs request old) ∷ map deleted rs)
-      (gone_are (is_numbered_in (pushed_by e c)) e.nodes (nodes_updated e c) (tree_from_well_formed e.nodes sound.tree) each_left)
+      (gone_are (is_numbered_in (pushed_by e c)) e.nodes (nodes_updated e c) (tree_from_well_formed e.nodes sound.tree) each_left
+      ∙ sym (those_pushed e c (tree_from_well_formed e.nodes sound.tree)))
 
 -- ---- a Create
 
@@ -166,17 +176,46 @@ module _ (e : EntityData) (sound : IsSoundEntity e) (r c : ResourceData) (st : �
       ∙ ap (filter (λ s. not (is_numbered_in out_stamped s))) (stays_known ∙ only_last e r sound filling.new)
       ∙ ap (λ (b : Bool). cond (not b) (r ∷ []) []) (not_out e sound r c st filling)
 
-  fill_changes : (request : RequestParts) (n : ℕ) → changes_by Create request n e (record { home = e.home; nodes = left; next = e.next + 1; last = e.last }) ≡ created r ∷ map deleted (filter (is_numbered_in out) e.nodes)
+  fill_changes : (request : RequestParts) (n : ℕ) → changes_by Create request n e (record { home = e.home; nodes = left; next = e.next + 1; last = e.last }) ≡ creation_changes e.nodes r out
   fill_changes request n =
       ap (λ (rs : List ResourceData). map created rs ++ map deleted (only_in e.nodes left)) fresh
-      ∙ ap (λ (rs : List ResourceData). created r ∷ map deleted rs) (gone_are (is_numbered_in out) e.nodes left (tree_from_well_formed e.nodes sound.tree) each_has)
+      ∙ ap (λ (rs : List ResourceData). created r ∷ map deleted rs)
+      (gone_are (is_numbered_in out) e.nodes left (tree_from_well_formed e.nodes sound.tree) each_has
+      ∙ sym (those_evicted (limits_of c) (Some (instance_size r)) e.last r.parent e.nodes (tree_from_well_formed e.nodes sound.tree)))
 
-pub join_makes_changes : (e : EntityData) (r : ResourceData) (f : Option Filling) (request : RequestParts) (n : ℕ) → IsSoundEntity e → MayJoin e r f → changes_by Create request n e (after_joining e r f) ≡ created r ∷ map deleted (filter (is_numbered_in (gone_by f)) e.nodes)
-join_makes_changes e r None request n sound may =
-    join_changes e r request n sound may.0
-    ∙ ap (λ (rs : List ResourceData). created r ∷ map deleted rs) (sym (nothing_picked (is_numbered_in []) e.nodes (none_false e.nodes)))
+pub join_makes_changes : (e : EntityData) (r : ResourceData) (f : Option Filling) (request : RequestParts) (n : ℕ) → IsSoundEntity e → MayJoin e r f → changes_by Create request n e (after_joining e r f) ≡ creation_changes e.nodes r (gone_by f)
+join_makes_changes e r None request n sound may = join_changes e r request n sound may.0
 join_makes_changes e r (Some f) request n sound may =
-    let after : List ℕ → ℕ → EntityData = λ gone m. record { home = e.home; nodes = without_all gone (restamped_at m e.last f.state (e.nodes ++ r ∷ [])); next = e.next + 1; last = e.last } in
-    let Makes : List ℕ → ℕ → Type 0 = λ gone m. changes_by Create request n e (after gone m) ≡ created r ∷ map deleted (filter (is_numbered_in gone) e.nodes) in
-    subst (λ (m : ℕ). Makes f.gone m) (sym may.container)
-    (subst (λ (gone : List ℕ). Makes gone r.parent) (sym may.gone) (fill_changes e sound r may.parent f.state may.joins request n))
+    ap (changes_by Create request n e) (sym (filled_is e r f may))
+    ∙ fill_changes e sound r may.parent f.state may.joins request n
+    ∙ ap (creation_changes e.nodes r) (pushes_named e r may.parent f.state may.joins ∙ sym may.gone)
+
+-- ---- what an operation prepares
+
+-- those of an operation that no place refuses
+made : (op : Op) (e : EntityData) (o : List ℕ) (request : RequestParts) (n : ℕ) → fault_at op e o request n ≡ None → changes_at op e o request n ≡ changes_by op request n e (performed_at op e o request n).after
+made op e o request n allowed = ap (λ (x : Option Rsc). option_map_or (λ fault. []) x (changes_by op request n e (performed_at op e o request n).after)) allowed
+
+pub created_are : (e : EntityData) (o : List ℕ) (request : RequestParts) (n : ℕ) (r : ResourceData) (f : Option Filling) → IsSoundEntity e → fault_at Create e o request n ≡ None → MayJoin e r f → after_joining e r f ≡ (performed_at Create e o request n).after → creation_changes e.nodes r (gone_by f) ≡ changes_at Create e o request n
+created_are e o request n r f sound allowed may after =
+    sym (join_makes_changes e r f request n sound may) ∙ ap (changes_by Create request n e) after
+    ∙ sym (made Create e o request n allowed)
+
+pub updated_are : (e : EntityData) (o : List ℕ) (request : RequestParts) (n : ℕ) (r s : ResourceData) (gone : List ℕ) → IsSoundEntity e → fault_at Update e o request n ≡ None → at n e.nodes ≡ Some r → s.number ≡ n → IsReplacement e s → gone ≡ pushed_by e s → record e { nodes = nodes_updated e s } ≡ (performed_at Update e o request n).after → update_changes e.nodes r s (named_attrs request r) gone ≡ changes_at Update e o request n
+updated_are e o request n r s gone sound allowed found same new out after =
+    ap (update_changes e.nodes r s (named_attrs request r)) out
+    ∙ sym (updating_changes e sound s new request r (ap (λ (m : ℕ). at m e.nodes) same ∙ found))
+    ∙ ap (λ (m : ℕ). changes_by Update request m e (record e { nodes = nodes_updated e s })) same
+    ∙ ap (changes_by Update request n e) after
+    ∙ sym (made Update e o request n allowed)
+
+pub deleted_are : (e : EntityData) (o : List ℕ) (request : RequestParts) (n : ℕ) → IsSoundEntity e → fault_at Delete e o request n ≡ None → changes_at Delete e o request n ≡ deletion_changes e.nodes n
+deleted_are e o request n sound allowed = by_target (at n e.nodes) refl
+  where
+    by_target : (x : Option ResourceData) → at n e.nodes ≡ x → changes_at Delete e o request n ≡ deletion_changes e.nodes n
+    by_target None is = (let told : Some NotFound ≡ None = sym (ap (λ (x : Option ResourceData). option_map_or (fault_on Delete e o request) x (Some NotFound)) is) ∙ allowed in cc)
+    by_target (Some r) is =
+        made Delete e o request n allowed
+        ∙ ap (λ (x : Effect). changes_by Delete request n e x.after) (done_at Delete e o request n r is allowed)
+        ∙ ap (λ (m : ℕ). changes_by Delete request n e (record e { nodes = without (has_number m) e.nodes })) (at_number n e.nodes r is)
+        ∙ delete_changes e request n sound

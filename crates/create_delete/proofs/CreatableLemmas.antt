@@ -1,25 +1,26 @@
 -- What holds of a creation that no place refuses.
-use Rattle.std.proofs.Common.{◌≡◌, ℕ, List, true, false, not, Option, Some, None, option_and_then, sym, ap, ◌∙◌}
+use Rattle.std.proofs.Common.{◌≡◌, ℕ, List, true, false, Option, Some, None, option_and_then, sym, ap, ◌∙◌}
 use Rattle.std.proofs.lemmas.Bool.{and_parts}
+use Rattle.std.specs.List.{list_all}
 use Rattle.std.specs.Option.{option_map_or}
 use Rattle.m2m_names.specs.Types.{does_take}
 use Rattle.m2m_names.specs.declared.operations.Op.TheVariants.{Create}
 use Rattle.m2m_names.specs.declared.types.Ty.{Ty}
-use Rattle.m2m_names.specs.declared.types.Ty.TheVariants.{Group}
 use Rattle.m2m_value.specs.Data.{Data, Entry}
 use Rattle.primitive_json.specs.declared.request.RequestParts.{RequestParts}
-use Rattle.resource_model.specs.Resource.{ResourceData, is_ty}
+use Rattle.resource_model.specs.Resource.{ResourceData}
 use Rattle.tree_model.specs.Tree.{at}
 use Rattle.attribute_rules.specs.Admission.{are_admitted, attributes_in, is_admitted}
 use Rattle.attribute_rules.specs.declared.table.Writing.TheVariants.{Create as Creating}
 use Rattle.entity_model.specs.Entity.{EntityData}
+use Rattle.entity_model.specs.Places.{Place}
 use Rattle.request_rules.specs.Creation.{creation_of, is_unique, has_room}
-use Rattle.request_rules.specs.Order.{expires_later, fault_on, passes, places}
+use Rattle.request_rules.specs.Order.{creation_places, expires_later, fault_on, places}
 use Rattle.request_rules.specs.Policies.{links_live}
 use Rattle.request_rules.specs.Requests.{admits_content, child_ty, content_for, is_content_for, is_for, named_by, takes_child}
 use Rattle.request_rules.specs.Rights.{may_do}
-use Rattle.request_rules.proofs.CreatingLemmas.{named_is, passes_is}
-use Rattle.request_rules.proofs.EditingLemmas.{names_some}
+use Rattle.request_rules.proofs.CreatingLemmas.{named_is, new_is}
+use Rattle.request_rules.proofs.EditingLemmas.{admitted_for, names_some}
 use Rattle.request_rules.proofs.OrderLemmas.{all_hold}
 use Rattle.create_delete.specs.Joining.{IsAllowed}
 
@@ -30,8 +31,7 @@ record Holds (e : EntityData) (o : List ℕ) (request : RequestParts) (parent : 
   admits : admits_content Create request parent ≡ true
   later : expires_later e (named_by Create request parent) ≡ true
   live : links_live e (named_by Create request parent) ≡ true
-  unique : passes is_unique Create e o request parent ≡ true
-  room : passes has_room Create e o request parent ≡ true
+  new : list_all (λ (p : Place). p.holds) (creation_places Create e o request parent) ≡ true
 
 holds : (e : EntityData) (o : List ℕ) (request : RequestParts) (parent : ResourceData) → fault_on Create e o request parent ≡ None → Holds e o request parent
 holds e o request parent none =
@@ -42,15 +42,12 @@ holds e o request parent none =
     let admits = and_parts (admits_content Create request parent) _ taken.1 in
     let expiry = and_parts (expires_later e (named_by Create request parent)) _ admits.1 in
     let links = and_parts (links_live e (named_by Create request parent)) _ expiry.1 in
-    let single = and_parts (passes is_unique Create e o request parent) _ links.1 in
-    let room = and_parts (passes has_room Create e o request parent) _ single.1 in
     record {
       taken = taken.0;
       admits = admits.0;
       later = expiry.0;
       live = links.0;
-      unique = single.0;
-      room = room.0;
+      new = links.1;
     }
 
 -- ---- what is there
@@ -78,7 +75,7 @@ creates_content e o request parent ty none child lacks = names_attributes e o re
 pub admitted_content : (e : EntityData) (o : List ℕ) (request : RequestParts) (parent : ResourceData) (ty : Ty) (content : Data) → fault_on Create e o request parent ≡ None → child_ty request ≡ Some ty → request.pc ≡ Some content → is_admitted Creating ty content ≡ true
 admitted_content e o request parent ty content none child is =
     sym (ap (λ (x : Option Data). option_map_or (is_admitted Creating ty) x false) is)
-    ∙ (and_parts (not (is_ty ty Group)) (option_map_or (is_admitted Creating ty) request.pc false) (content_of e o request parent ty none child)).1
+    ∙ admitted_for Creating request ty (content_of e o request parent ty none child)
 
 -- ---- the creation is allowed
 
@@ -86,6 +83,8 @@ pub allowed : (e : EntityData) (o : List ℕ) (request : RequestParts) (parent :
 allowed e o request parent ty content es none there child is whole =
     let h = holds e o request parent none in
     let names : named_by Create request parent ≡ es = named_is request parent ty es child whole in
+    let unique = and_parts (is_unique (creation_of e o ty parent es)) _ (sym (ap (list_all (λ (p : Place). p.holds)) (new_is e o request parent ty es child whole)) ∙ h.new) in
+    let room = and_parts (has_room (creation_of e o ty parent es)) _ unique.1 in
     let named : attributes_in ty content ≡ Some es = sym (ap (option_and_then (attributes_in ty)) is) ∙ whole in
     record {
       parent = there;
@@ -93,6 +92,6 @@ allowed e o request parent ty content es none there child is whole =
       admitted = sym (ap (λ (x : Option (List Entry)). option_map_or (are_admitted Creating ty) x false) named) ∙ admitted_content e o request parent ty content none child is;
       later = ap (expires_later e) (sym names) ∙ h.later;
       live = ap (links_live e) (sym names) ∙ h.live;
-      unique = sym (passes_is is_unique e o request parent ty es child whole) ∙ h.unique;
-      room = sym (passes_is has_room e o request parent ty es child whole) ∙ h.room;
+      unique = unique.0;
+      room = room.0;
     }

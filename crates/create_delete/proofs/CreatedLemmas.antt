@@ -18,26 +18,25 @@ use Rattle.m2m_value.specs.Data.{Data, Entry, number, text}
 use Rattle.m2m_value.specs.Node.{AreSorted}
 use Rattle.m2m_value.specs.Shapes.{as_count}
 use Rattle.m2m_value.specs.View.{as_text, member_of}
-use Rattle.primitive_json.specs.declared.request.RequestParts.{RequestParts}
 use Rattle.resource_model.specs.Attributes.{Row, count_at, is_attr, value_of, with_value}
 use Rattle.resource_model.specs.Resource.{ResourceData, is_ty, ae_id, cse_id}
 use Rattle.resource_model.proofs.AttributeLemmas.{value-with_value_same}
 use Rattle.tree_model.specs.Shown.{with_rows, own_cse_id}
-use Rattle.tree_model.specs.Tree.{at, age_end, depth, due_under, may_stand, has_ae_id, has_child, has_channel, has_cse_id, instances_of, is_due, is_placed, lesser, same_text, instance_size}
+use Rattle.tree_model.specs.Tree.{at, age_end, depth, due_under, may_stand, has_ae_id, has_child, has_channel, has_cse_id, is_due, is_placed, lesser, same_text, instance_size}
 use Rattle.tree_model.proofs.ShownLemmas.{with_rows-append}
 use Rattle.tree_model.proofs.TreeLemmas.{at_has}
 use Rattle.attribute_rules.specs.Admission.{attributes_in}
 use Rattle.attribute_rules.specs.Contents.{named_text, wanted_in, wanted_of}
 use Rattle.attribute_rules.proofs.ValueLemmas.{value_wanted}
-use Rattle.container_limits.specs.Limits.{evicted, is_within, limits_of}
+use Rattle.container_limits.specs.Limits.{is_within}
 use Rattle.policy_eval.specs.Rules.{listed_in, ids_at}
 use Rattle.entity_model.specs.Entity.{EntityData, last_reading}
 use Rattle.entity_model.specs.Sound.{is_known_id, largest_size, greatest_count, greatest_depth, IsSoundEntity}
 use Rattle.request_rules.specs.Creation.{Creation, creator_rows, given_rows, has_room, is_below, is_free_cse_id, is_single, is_small, new_ae_id, new_name, new_resource, new_rows, new_size, next_state, takes_instance}
 use Rattle.request_rules.specs.Policies.{link_row}
 use Rattle.request_rules.specs.Requests.{named_expiry}
-use Rattle.create_delete.specs.Changing.{create_effect}
-use Rattle.create_delete.specs.Joining.{after_joining, filling_of, IsAllowed, MayJoin}
+use Rattle.create_delete.specs.Changing.{filling_of, pushed_out}
+use Rattle.create_delete.specs.Joining.{IsAllowed, MayJoin}
 use Rattle.create_delete.specs.Newcomer.{IsFilling, IsNewcomer}
 use Rattle.create_delete.proofs.NewcomerLemmas.{lacks_creator, lacks_given, lacks_link, link_known, new_kinds, new_name_is_free, state_small, wanted_none}
 use Rattle.create_delete.proofs.RowLemmas.{value_unset}
@@ -291,17 +290,10 @@ module _ (c : Creation) (sound : IsSoundEntity c.e) (originator : is_originator 
       parent = c.parent;
       joins = filling is;
       container = refl;
-      gone = ap (λ (n : ℕ). evicted (limits_of c.parent) (Some n) c.e.last (instances_of c.parent.number c.e.nodes)) (sym (size_is is));
+      gone = ap (λ (n : ℕ). pushed_out c.e c.parent (Some n)) (sym (size_is is));
     })
     | inr other ↦ rw other (newcomer, other)
   ]
-
--- what it does is what is defined
-pub joining_effect : (request : RequestParts) (c : Creation) → after_joining c.e (new_resource c) (filling_of c) ≡ (create_effect request c).after
-joining_effect request c = elim (cases_Bool (is_ty c.ty ContentInstance)) [
-  | inl is ↦ rw is refl
-  | inr other ↦ rw other refl
-]
 
 -- ---- what building it takes
 

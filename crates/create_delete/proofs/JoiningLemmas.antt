@@ -6,14 +6,16 @@ use Rattle.m2m_names.specs.declared.attributes.Attr.TheVariants.{St}
 use Rattle.m2m_names.specs.declared.types.Ty.TheVariants.{Container}
 use Rattle.resource_model.specs.Attributes.{value_of}
 use Rattle.resource_model.specs.Resource.{ResourceData, is_ty}
-use Rattle.tree_model.specs.Tree.{at, may_stand, has_state, is_tree, is_taken, restamped_at}
+use Rattle.tree_model.specs.Tree.{at, may_stand, has_state, instance_size, instances_of, is_tree, is_taken, restamped_at}
 use Rattle.tree_model.proofs.QuietLemmas.{found_passes}
 use Rattle.tree_model.proofs.StampLemmas.{tree_restamped}
+use Rattle.tree_model.proofs.TreeLemmas.{at_number}
+use Rattle.container_limits.specs.Limits.{evicted, limits_of}
 use Rattle.entity_model.specs.Entity.{EntityData}
 use Rattle.entity_model.specs.Sound.{has_state_tag, IsSoundEntity}
-use Rattle.create_delete.specs.Changing.{without_all}
-use Rattle.create_delete.specs.Joining.{filled, MayFill}
-use Rattle.create_delete.specs.Newcomer.{IsNewcomer}
+use Rattle.create_delete.specs.Changing.{filled, pushed_out, without_all}
+use Rattle.create_delete.specs.Joining.{MayFill}
+use Rattle.create_delete.specs.Newcomer.{IsFilling, IsNewcomer}
 use Rattle.create_delete.specs.declared.joining.Filling.{Filling}
 use Rattle.create_delete.proofs.InstanceLemmas.{grown_tree, is_container, sound_filled, there}
 
@@ -36,13 +38,18 @@ filling_state e r f sound may =
 pub filling_tree : (e : EntityData) (r : ResourceData) (f : Filling) → IsSoundEntity e → MayFill e r f → is_tree (restamped_at f.container e.last f.state (e.nodes ++ r ∷ [])) ≡ true
 filling_tree e r f sound may = tree_restamped (e.nodes ++ r ∷ []) f.container e.last f.state (grown_tree e r may.parent f.state sound may.joins) (filling_state e r f sound may)
 
+-- a container is the resource of its number
+pub pushes_named : (e : EntityData) (r c : ResourceData) (st : ℕ) → IsFilling e r c st → evicted (limits_of c) (Some (instance_size r)) e.last (instances_of r.parent e.nodes) ≡ pushed_out e c (Some (instance_size r))
+pushes_named e r c st filling = ap (λ (n : ℕ). evicted (limits_of c) (Some (instance_size r)) e.last (instances_of n e.nodes)) (sym (at_number r.parent e.nodes c filling.container))
+
+pub filled_is : (e : EntityData) (r : ResourceData) (f : Filling) (may : MayFill e r f) → record { home = e.home; nodes = without_all (evicted (limits_of may.parent) (Some (instance_size r)) e.last (instances_of r.parent e.nodes)) (restamped_at r.parent e.last f.state (e.nodes ++ r ∷ [])); next = e.next + 1; last = e.last } ≡ filled e r f
+filled_is e r f may =
+    let after : List ℕ → ℕ → EntityData = λ gone n. record { home = e.home; nodes = without_all gone (restamped_at n e.last f.state (e.nodes ++ r ∷ [])); next = e.next + 1; last = e.last } in
+    ap (λ (gone : List ℕ). after gone r.parent) (pushes_named e r may.parent f.state may.joins ∙ sym may.gone)
+    ∙ ap (after f.gone) (sym may.container)
+
 pub filling_sound : (e : EntityData) (r : ResourceData) (f : Filling) → IsSoundEntity e → MayFill e r f → IsSoundEntity (filled e r f)
-filling_sound e r f sound may =
-    let grown : List ResourceData = e.nodes ++ r ∷ [] in
-    let after : List ℕ → ℕ → EntityData = λ gone n. record { home = e.home; nodes = without_all gone (restamped_at n e.last f.state grown); next = e.next + 1; last = e.last } in
-    subst IsSoundEntity
-    (ap (λ (gone : List ℕ). after gone r.parent) (sym may.gone) ∙ ap (after f.gone) (sym may.container))
-    (sound_filled e r may.parent f.state sound may.joins)
+filling_sound e r f sound may = subst IsSoundEntity (filled_is e r f may) (sound_filled e r may.parent f.state sound may.joins)
 
 -- what the steps leave is sound
 pub filling_after : (e : EntityData) (r : ResourceData) (f : Filling) (gone : List ℕ) (grown stamped left : List ResourceData) → IsSoundEntity e → MayFill e r f → grown ≡ e.nodes ++ r ∷ [] → stamped ≡ restamped_at f.container e.last f.state grown → gone ≡ f.gone → left ≡ without_all gone stamped → IsSoundEntity (record { home = e.home; nodes = left; next = e.next + 1; last = e.last })

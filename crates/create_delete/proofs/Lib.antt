@@ -4,9 +4,11 @@ pub mod CreatedLemmas
 pub mod DeletionLemmas
 pub mod GrownLemmas
 pub mod InstanceLemmas
+pub mod JoinedLemmas
 pub mod JoiningLemmas
 pub mod KeptLemmas
 pub mod LeftLemmas
+pub mod ListingLemmas
 pub mod NewcomerLemmas
 pub mod PerformedLemmas
 pub mod PrunedLemmas
@@ -14,11 +16,13 @@ pub mod PushingLemmas
 pub mod RelinkLemmas
 pub mod ReplacedLemmas
 pub mod ReplacementLemmas
+pub mod ResultLemmas
 pub mod RightCreateLemmas
 pub mod RightLemmas
 pub mod RightUpdateLemmas
 pub mod RowLemmas
 pub mod TellingLemmas
+pub mod ThoseLemmas
 pub mod UpdatableLemmas
 pub mod UpdatedLemmas
 pub mod UpdatedRowLemmas

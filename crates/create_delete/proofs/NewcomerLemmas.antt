@@ -13,6 +13,7 @@ use Rattle.std.specs.Fmt.{decimal}
 use Rattle.std.specs.List.{list_all, filter_map, cons_option}
 use Rattle.std.specs.Option.{option_map_or}
 use Rattle.m2m_names.specs.Attributes.{attr_short}
+use Rattle.m2m_names.specs.Ids.{id_text}
 use Rattle.m2m_names.specs.Name.{is_free_name, is_one_of, is_originator, is_unreserved, address_marks, virtual_names}
 use Rattle.m2m_names.specs.Types.{ty_row}
 use Rattle.m2m_names.specs.declared.attributes.Attr.{Attr}
@@ -42,13 +43,13 @@ use Rattle.attribute_rules.proofs.KindLemmas.{created_members, kinds-with_value}
 use Rattle.attribute_rules.proofs.ValueLemmas.{value_wanted}
 use Rattle.policy_eval.specs.Rules.{listed_in, policy_at}
 use Rattle.policy_eval.proofs.NameLemmas.{policy_number-id_of}
-use Rattle.addressing.specs.Addresses.{address_of}
+use Rattle.addressing.specs.Laws.{spot_named}
 use Rattle.addressing.specs.declared.spot.Spot.{Spot}
 use Rattle.addressing.specs.declared.spot.Spot.TheVariants.{Resource, Fan, Poll}
 use Rattle.entity_model.specs.Entity.{EntityData}
 use Rattle.entity_model.specs.Sound.{is_known_id, IsSoundEntity}
-use Rattle.request_rules.specs.Creation.{Creation, ae_stem, creator_rows, given_rows, id_for, is_ae_id, new_ae_id, new_name, new_rows, own_name, new_size, next_state, rows_besides}
-use Rattle.request_rules.specs.Policies.{link_row, listed, place_of, policy_addressed, policy_ids, policy_meant, policy_on}
+use Rattle.request_rules.specs.Creation.{Creation, ae_stem, creator_rows, given_rows, is_ae_id, new_ae_id, new_name, new_rows, own_name, new_size, next_state, rows_besides}
+use Rattle.request_rules.specs.Policies.{link_row, listed, policy_addressed, policy_ids, policy_meant, policy_on}
 use Rattle.create_delete.proofs.RowLemmas.{lacks_attr}
 
 -- ---- which attributes are put in
@@ -115,7 +116,7 @@ spot_policy nodes (Poll channel) p found = cc
 meant_found : (e : EntityData) (d : Data) (p : ResourceData) → policy_meant e d ≡ Some p → IsPolicyOf e.nodes p
 meant_found e d p found =
     let address = and_then_some (policy_addressed e) (as_text d) p found in
-    let spot = and_then_some (policy_on e.nodes) (place_of e.nodes (address_of e.home address.0)) p address.2 in
+    let spot = and_then_some (policy_on e.nodes) (spot_named e.home address.0 e.nodes) p address.2 in
     spot_policy e.nodes spot.0 p spot.2
 
 -- the id of a policy that is there is known
@@ -200,15 +201,15 @@ digits_are_graphic n small =
     (λ n ds big earlier. list_all-append is_ascii_graphic ds ((48 + n % 10) ∷ []) ∙ and_from _ _ earlier (and_from _ _ (digit_is_graphic (n % 10) (omega arith)) refl))
     n (omega (arith, small))
 
-stem_id : (stem : List ℕ) (n : ℕ) → (length stem ≡ 1) × (list_all is_ascii_graphic stem ≡ true) → n < 2 ^ 63 → is_originator (stem ++ id_for Ae n) ≡ true
+stem_id : (stem : List ℕ) (n : ℕ) → (length stem ≡ 1) × (list_all is_ascii_graphic stem ≡ true) → n < 2 ^ 63 → is_originator (stem ++ id_text Ae n) ≡ true
 stem_id stem n plain small =
     let most : length (decimal n) ≤ 19 = length-decimal-le 19 n (omega arith) (omega (arith, small)) (omega (arith, small)) in
-    let id : length (id_for Ae n) ≡ 2 + length (decimal n) = length-append (codes "ae") (decimal n) in
-    let all : length (stem ++ id_for Ae n) ≡ length stem + length (id_for Ae n) = length-append stem (id_for Ae n) in
+    let id : length (id_text Ae n) ≡ 2 + length (decimal n) = length-append (codes "ae") (decimal n) in
+    let all : length (stem ++ id_text Ae n) ≡ length stem + length (id_text Ae n) = length-append stem (id_text Ae n) in
     let one : length stem ≡ 1 = plain.0 in
     and_from _ _
-    (and_from _ _ (lt-ltb 0 (length (stem ++ id_for Ae n)) (omega (arith, one, all))) (le-leb (length (stem ++ id_for Ae n)) 256 (omega (arith, one, most, id, all))))
-    (list_all-append is_ascii_graphic stem (id_for Ae n) ∙ and_from _ _ plain.1 (list_all-append is_ascii_graphic (codes "ae") (decimal n) ∙ and_from _ _ refl (digits_are_graphic n small)))
+    (and_from _ _ (lt-ltb 0 (length (stem ++ id_text Ae n)) (omega (arith, one, all))) (le-leb (length (stem ++ id_text Ae n)) 256 (omega (arith, one, most, id, all))))
+    (list_all-append is_ascii_graphic stem (id_text Ae n) ∙ and_from _ _ plain.1 (list_all-append is_ascii_graphic (codes "ae") (decimal n) ∙ and_from _ _ refl (digits_are_graphic n small)))
 
 stem_plain : (o : List ℕ) → (length (ae_stem o) ≡ 1) × (list_all is_ascii_graphic (ae_stem o) ≡ true)
 stem_plain o = elim (cases_Bool (bytes_eq o (codes "S"))) [

@@ -34,16 +34,16 @@ use Rattle.request_rules.specs.Order.{creation_by, fault_at, fault_on, places}
 use Rattle.request_rules.specs.Requests.{child_ty, content_for}
 use Rattle.request_rules.specs.Rights.{create_bits, is_granted, is_subscribing, may_do}
 use Rattle.request_rules.proofs.OrderLemmas.{all_hold, found_at, nothing_on}
-use Rattle.create_delete.specs.Changing.{create_effect, is_numbered_in, performed_at, without_all}
+use Rattle.create_delete.specs.Changing.{after_joining, create_effect, filled, filling_of, is_numbered_in, performed_at, with_newcomer, without_all}
 use Rattle.create_delete.specs.Guard.{ChangesByRight, DiffersIn, filling_attrs, NamesInOrder, IsChanged, IsChangedByRight, IsGone, IsNew}
-use Rattle.create_delete.specs.Joining.{after_joining, filling_of, IsAllowed, with_newcomer, MayJoin}
+use Rattle.create_delete.specs.Joining.{IsAllowed, MayFill, MayJoin}
 use Rattle.create_delete.specs.Newcomer.{IsFilling, IsNewcomer}
 use Rattle.create_delete.specs.declared.joining.Filling.{Filling}
 use Rattle.create_delete.proofs.CreatableLemmas.{allowed, creates_content, names_attributes, names_type}
-use Rattle.create_delete.proofs.CreatedLemmas.{joining_effect, may_join}
+use Rattle.create_delete.proofs.CreatedLemmas.{may_join}
 use Rattle.create_delete.proofs.GrownLemmas.{grown_by, sound_grown}
 use Rattle.create_delete.proofs.InstanceLemmas.{grown_tree, instance_type, is_container, limits_restamped, pruning, there}
-use Rattle.create_delete.proofs.JoiningLemmas.{filling_sound}
+use Rattle.create_delete.proofs.JoiningLemmas.{filled_is, filling_sound}
 use Rattle.create_delete.proofs.KeptLemmas.{all_filtered, is_not_kept}
 use Rattle.create_delete.proofs.LeftLemmas.{instances_left, is_left, left_at, IsLeft}
 use Rattle.create_delete.proofs.PerformedLemmas.{done_at}
@@ -240,10 +240,13 @@ module _ (e : EntityData) (sound : IsSoundEntity e) (r c : ResourceData) (st : �
 pub joins_by_right : (e : EntityData) (o : List ℕ) (r : ResourceData) (f : Option Filling) → IsSoundEntity e → MayJoin e r f → is_granted e o (op_row Create).bit r.parent ≡ true → ChangesByRight Create e o r.parent (after_joining e r f)
 joins_by_right e o r None sound may right = joined_by_right e sound r may.0 o right
 joins_by_right e o r (Some f) sound may right =
-    let after : List ℕ → ℕ → EntityData = λ gone n. record { home = e.home; nodes = without_all gone (restamped_at n e.last f.state (e.nodes ++ r ∷ [])); next = e.next + 1; last = e.last } in
-    subst (ChangesByRight Create e o r.parent)
-    (ap (λ (gone : List ℕ). after gone r.parent) (sym may.gone) ∙ ap (after f.gone) (sym may.container))
-    (filled_by_right e sound r may.parent f.state may.joins o right)
+    subst (ChangesByRight Create e o r.parent) (filled_is e r f may) (filled_by_right e sound r may.parent f.state may.joins o right)
+
+-- an instance joins those that it leaves
+pub newest_filled : (e : EntityData) (r : ResourceData) (f : Filling) → IsSoundEntity e → (may : MayFill e r f) → instances_of r.parent (filled e r f).nodes ≡ kept (limits_of may.parent) (Some (instance_size r)) e.last (instances_of r.parent e.nodes) ++ r ∷ []
+newest_filled e r f sound may =
+    ap (λ (x : EntityData). instances_of r.parent x.nodes) (sym (filled_is e r f may))
+    ∙ instances_filled e sound r may.parent f.state may.joins
 
 pub joins_sound : (e : EntityData) (r : ResourceData) (f : Option Filling) → IsSoundEntity e → MayJoin e r f → IsSoundEntity (after_joining e r f)
 joins_sound e r None sound may = sound_grown e r sound may.0 may.1
@@ -309,7 +312,7 @@ module _ (e : EntityData) (o : List ℕ) (request : RequestParts) (n : ℕ) (sou
   joins = may_join create.made made_sound (ap is_originator create.originator ∙ originator) create.sorted create.may
 
   after_is : (performed_at Create e o request n).after ≡ after_joining create.made.e (new_resource create.made) (filling_of create.made)
-  after_is = create.after ∙ sym (joining_effect request create.made)
+  after_is = create.after
 
   pub create_by_right : ChangesByRight Create e o n (performed_at Create e o request n).after
   create_by_right =

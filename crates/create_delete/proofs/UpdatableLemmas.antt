@@ -1,12 +1,11 @@
 -- What holds of an update that no place refuses.
-use Rattle.std.proofs.Common.{◌≡◌, ℕ, List, [], true, false, not, Option, Some, None, option_and_then, unwrap_or, sym, ap, ◌∙◌}
+use Rattle.std.proofs.Common.{◌≡◌, ℕ, List, [], true, false, Option, Some, None, option_and_then, unwrap_or, sym, ap, ◌∙◌}
 use Rattle.std.proofs.lemmas.Bool.{and_parts}
 use Rattle.std.specs.Option.{option_map_or}
 use Rattle.m2m_names.specs.declared.operations.Op.TheVariants.{Update}
-use Rattle.m2m_names.specs.declared.types.Ty.TheVariants.{Group}
 use Rattle.m2m_value.specs.Data.{Data, Entry}
 use Rattle.primitive_json.specs.declared.request.RequestParts.{RequestParts}
-use Rattle.resource_model.specs.Resource.{ResourceData, is_ty}
+use Rattle.resource_model.specs.Resource.{ResourceData}
 use Rattle.tree_model.specs.Tree.{at}
 use Rattle.attribute_rules.specs.Admission.{are_admitted, attributes_in, is_admitted}
 use Rattle.attribute_rules.specs.declared.table.Writing.TheVariants.{Update as Updating}
@@ -15,7 +14,7 @@ use Rattle.request_rules.specs.Order.{expires_later, fault_on, places}
 use Rattle.request_rules.specs.Policies.{links_live}
 use Rattle.request_rules.specs.Requests.{admits_content, content_for, is_content_for, is_for, named_by, takes_child}
 use Rattle.request_rules.specs.Rights.{may_do}
-use Rattle.request_rules.proofs.EditingLemmas.{names_some}
+use Rattle.request_rules.proofs.EditingLemmas.{admitted_for, names_some}
 use Rattle.request_rules.proofs.OrderLemmas.{all_hold}
 use Rattle.create_delete.specs.Updating.{IsUpdatable}
 
@@ -48,7 +47,7 @@ updates_content e o request r none lacks = updates_attributes e o request r none
 pub admitted_update : (e : EntityData) (o : List ℕ) (request : RequestParts) (r : ResourceData) (content : Data) → fault_on Update e o request r ≡ None → request.pc ≡ Some content → is_admitted Updating r.ty content ≡ true
 admitted_update e o request r content none is =
     sym (ap (λ (x : Option Data). option_map_or (is_admitted Updating r.ty) x false) is)
-    ∙ (and_parts (not (is_ty r.ty Group)) (option_map_or (is_admitted Updating r.ty) request.pc false) (holds e o request r none).admits).1
+    ∙ admitted_for Updating request r.ty (holds e o request r none).admits
 
 -- and it may be done
 pub updatable : (e : EntityData) (o : List ℕ) (request : RequestParts) (r : ResourceData) (content : Data) (es : List Entry) → fault_on Update e o request r ≡ None → at r.number e.nodes ≡ Some r → request.pc ≡ Some content → content_for request r.ty ≡ Some es → IsUpdatable e es r

@@ -1,16 +1,19 @@
 -- The changes that an operation makes, one after another: what subscriptions and announced
 -- resources are told of (TS-0001, 9.6.8 and 9.6.26).
-use Rattle.std.specs.Prelude.{ℕ, not, List, [], ◌∷◌, ◌++◌, map, filter, Option, Some, None}
-use Rattle.std.specs.List.{filter_map}
+use Rattle.std.specs.Prelude.{ℕ, Bool, not, List, [], ◌∷◌, ◌++◌, map, filter, Option, Some, None}
+use Rattle.std.specs.List.{filter_map, list_any}
 use Rattle.std.specs.Option.{option_map_or}
 use Rattle.m2m_names.specs.Attributes.{attr_of_short}
 use Rattle.m2m_names.specs.declared.attributes.Attr.{Attr}
 use Rattle.m2m_names.specs.declared.operations.Op.{Op}
 use Rattle.m2m_names.specs.declared.operations.Op.TheVariants.{Create, Retrieve, Update, Delete}
 use Rattle.m2m_names.specs.declared.operations.Op.TheVariants.{Notify}
+use Rattle.m2m_value.specs.Data.{Entry}
 use Rattle.primitive_json.specs.declared.request.RequestParts.{RequestParts}
-use Rattle.resource_model.specs.Resource.{ResourceData}
-use Rattle.tree_model.specs.Tree.{at, has}
+use Rattle.resource_model.specs.Resource.{ResourceData, has_number}
+use Rattle.resource_model.specs.declared.resource.Change.{Change}
+use Rattle.resource_model.specs.declared.resource.Change.TheVariants.{Created, Updated, Deleted}
+use Rattle.tree_model.specs.Tree.{at, has, line_of}
 use Rattle.entity_model.specs.Entity.{EntityData}
 use Rattle.request_rules.specs.Order.{fault_at}
 use Rattle.request_rules.specs.Requests.{named_by}
@@ -27,9 +30,13 @@ pub data ChangeData : Type 0 where
 abbrev pub only_in : List ResourceData → List ResourceData → List ResourceData
 only_in nodes others = filter (λ r. not (has r.number others)) nodes
 
+-- the attributes of which these are the values
+abbrev pub attrs_of : List Entry → List Attr
+attrs_of es = filter_map (λ e. attr_of_short e.0) es
+
 -- the attributes that an Update of the resource names
 abbrev pub named_attrs : RequestParts → ResourceData → List Attr
-named_attrs request r = filter_map (λ e. attr_of_short e.0) (named_by Update request r)
+named_attrs request r = attrs_of (named_by Update request r)
 
 -- the change of a resource that was the first and is the second
 abbrev pub update_made : RequestParts → Option ResourceData → Option ResourceData
@@ -58,3 +65,42 @@ abbrev pub changes_at : Op → EntityData → List ℕ → RequestParts → ℕ 
 changes_at op e o request n =
     option_map_or (λ fault. []) (fault_at op e o request n)
     (changes_by op request n e (performed_at op e o request n).after)
+
+-- ---- the same as a list that is gone through
+
+-- the change that a value of the code lends
+abbrev pub change_of : Change → ChangeData
+change_of (Created r) = created r.now
+change_of (Updated before after named) = updated before.now after.now named.now
+change_of (Deleted r) = deleted r.now
+
+-- the resources of these numbers, in the order of the numbers
+abbrev pub those_of : List ℕ → List ResourceData → List ResourceData
+those_of numbers nodes = filter_map (λ n. at n nodes) numbers
+
+-- it is the resource of the number, or stands below it
+abbrev pub is_at_or_below : ℕ → List ResourceData → ResourceData → Bool
+is_at_or_below n nodes r = list_any (has_number n) (line_of r.number nodes)
+
+-- the changes that come first, if one is given
+abbrev pub first_of : Option Change → List ChangeData
+first_of (Some c) = change_of c ∷ []
+first_of None = []
+
+-- of these resources those at or below the one of the number, where one is given
+abbrev pub those_below : Option ℕ → List ResourceData → List ResourceData → List ResourceData
+those_below (Some n) nodes left = filter (is_at_or_below n nodes) left
+those_below None nodes left = []
+
+-- a creation makes the resource, and then pushes out those of these numbers
+abbrev pub creation_changes : List ResourceData → ResourceData → List ℕ → List ChangeData
+creation_changes nodes r gone = created r ∷ map deleted (those_of gone nodes)
+
+-- an update of these attributes makes the second of the first, and then pushes out those
+abbrev pub update_changes : List ResourceData → ResourceData → ResourceData → List Attr → List ℕ
+    → List ChangeData
+update_changes nodes r s named gone = updated r s named ∷ map deleted (those_of gone nodes)
+
+-- a deletion takes the resource of the number, and then what stands below it
+abbrev pub deletion_changes : List ResourceData → ℕ → List ChangeData
+deletion_changes nodes n = map deleted (filter (is_at_or_below n nodes) nodes)

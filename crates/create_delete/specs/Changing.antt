@@ -32,9 +32,10 @@ use Rattle.tree_model.specs.Tree.{at, instances_of, replaced, restamped_at, with
 use Rattle.request_rules.specs.Creation.{Creation, new_resource, new_size, next_state}
 use Rattle.entity_model.specs.Entity.{EntityData}
 use Rattle.request_rules.specs.Order.{creation_by, places}
-use Rattle.entity_model.specs.Places.{Effect, refused, reply_to, unless_refused}
+use Rattle.entity_model.specs.Places.{Effect, refused, reply_to, unless_refused, wanted_content}
 use Rattle.request_rules.specs.Policies.{link_row}
 use Rattle.request_rules.specs.Requests.{child_ty, named_by}
+use Rattle.create_delete.specs.declared.joining.Filling.{Filling}
 
 -- ---- what limits push out
 
@@ -54,19 +55,32 @@ pushed_out e container size =
 
 -- ---- Create
 
--- the list with the new resource, which is the last in order of creation
-abbrev pub grown : Creation → List ResourceData
-grown c = c.e.nodes ++ new_resource c ∷ []
+-- the entity with a new instance, which is the last in order of creation: its container was changed
+-- at the moment, and has pushed out what doesn't fit beside it
+abbrev pub filled : EntityData → ResourceData → Filling → EntityData
+filled e r f = record e {
+  nodes = without_all f.gone (restamped_at f.container e.last f.state (e.nodes ++ r ∷ []));
+  next = e.next + 1;
+}
 
--- with a new instance: its container was changed at the moment, and has pushed out what doesn't fit
--- beside it
-abbrev pub with_instance : Creation → List ResourceData
-with_instance c =
-    without_all (pushed_out c.e c.parent (Some (new_size c)))
-    (restamped_at c.parent.number c.e.last (next_state c.parent) (grown c))
+-- the entity with any other resource
+abbrev pub with_newcomer : EntityData → ResourceData → EntityData
+with_newcomer e r = record e { nodes = e.nodes ++ r ∷ []; next = e.next + 1 }
 
-abbrev pub nodes_created : Creation → List ResourceData
-nodes_created c = if is_ty c.ty ContentInstance then with_instance c else grown c
+abbrev pub after_joining : EntityData → ResourceData → Option Filling → EntityData
+after_joining e r None = with_newcomer e r
+after_joining e r (Some f) = filled e r f
+
+-- what the resource of a creation does besides
+abbrev pub filling_of : Creation → Option Filling
+filling_of c =
+    if is_ty c.ty ContentInstance
+    then Some (record {
+      container = c.parent.number;
+      state = next_state c.parent;
+      gone = pushed_out c.e c.parent (Some (new_size c));
+    })
+    else None
 
 -- the structured address of a resource that comes last (TS-0001, 9.3.1)
 abbrev pub address_last : EntityData → ResourceData → Data
@@ -83,7 +97,7 @@ attributes_and_address e r =
     ) ∷ []))
 
 -- the content of the reply by the result content that is asked for: nothing, the attributes, the
--- address, or both; where none is asked for, the attributes (TS-0001, 8.1.2)
+-- address, or both (TS-0001, 8.1.2)
 abbrev pub created_content : ℤ → EntityData → ResourceData → Option Data
 created_content rcn e r =
     if int_eq rcn (pos 0) then None else
@@ -94,10 +108,8 @@ created_content rcn e r =
 
 abbrev pub create_effect : RequestParts → Creation → Effect
 create_effect request c = record {
-  reply =
-      reply_to request Created
-      (created_content (unwrap_or request.rcn (pos 1)) c.e (new_resource c));
-  after = record c.e { nodes = nodes_created c; next = c.e.next + 1 };
+  reply = reply_to request Created (created_content (wanted_content request.rcn) c.e (new_resource c));
+  after = after_joining c.e (new_resource c) (filling_of c);
 }
 
 -- ---- Update
@@ -141,8 +153,7 @@ is_told es row = is_told_at es row.0
 abbrev pub told_rows : EntityData → List Entry → ResourceData → List Row
 told_rows e es r = filter (is_told es) (shown_rows e.home e.nodes r)
 
--- the content of the reply by the result content that is asked for: nothing, or these, also where
--- none is asked for
+-- the content of the reply by the result content that is asked for: nothing, or these
 abbrev pub updated_content : ℤ → EntityData → List Entry → ResourceData → Option Data
 updated_content rcn e es r =
     if int_eq rcn (pos 0) then None else Some (wrapped r.ty (told_rows e es r))
@@ -150,7 +161,7 @@ updated_content rcn e es r =
 -- what comes of an update that names these attributes and leaves the resource so
 abbrev pub updated_to : EntityData → RequestParts → List Entry → ResourceData → Effect
 updated_to e request es r = record {
-  reply = reply_to request Updated (updated_content (unwrap_or request.rcn (pos 1)) e es r);
+  reply = reply_to request Updated (updated_content (wanted_content request.rcn) e es r);
   after = record e { nodes = nodes_updated e r };
 }
 

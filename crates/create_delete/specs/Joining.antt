@@ -1,18 +1,16 @@
--- What a creation does to an entity, and when it may.
-use Rattle.std.specs.Prelude.{◌≡◌, ℕ, ◌+◌, List, [], ◌∷◌, ◌++◌, false, Option, Some, None}
-use Rattle.std.specs.Prelude.{if◌then◌else◌, IsTrue}
+-- When a creation may be done, and what may join an entity.
+use Rattle.std.specs.Prelude.{◌≡◌, ℕ, List, [], false, Option, Some, None, IsTrue}
 use Rattle.m2m_names.specs.Types.{does_take}
 use Rattle.m2m_names.specs.declared.types.Ty.TheVariants.{ContentInstance}
 use Rattle.resource_model.specs.Resource.{ResourceData, is_ty}
-use Rattle.tree_model.specs.Tree.{at, instances_of, restamped_at, instance_size}
+use Rattle.tree_model.specs.Tree.{at, instance_size}
 use Rattle.attribute_rules.specs.Admission.{are_admitted}
 use Rattle.attribute_rules.specs.declared.table.Writing.TheVariants.{Create}
-use Rattle.container_limits.specs.Limits.{evicted, limits_of}
 use Rattle.entity_model.specs.Entity.{EntityData}
-use Rattle.request_rules.specs.Creation.{Creation, has_room, is_unique, new_size, next_state}
+use Rattle.request_rules.specs.Creation.{Creation, has_room, is_unique}
 use Rattle.request_rules.specs.Order.{expires_later}
 use Rattle.request_rules.specs.Policies.{links_live}
-use Rattle.create_delete.specs.Changing.{pushed_out, without_all}
+use Rattle.create_delete.specs.Changing.{pushed_out}
 use Rattle.create_delete.specs.Newcomer.{IsFilling, IsNewcomer}
 use Rattle.create_delete.specs.declared.joining.Filling.{Filling}
 
@@ -33,20 +31,7 @@ pub record MayFill (e : EntityData) (r : ResourceData) (f : Filling) : Type 0 wh
   pub parent : ResourceData
   pub joins : IsFilling e r parent f.state
   pub container : f.container ≡ r.parent
-  pub gone : f.gone
-      ≡ evicted (limits_of parent) (Some (instance_size r)) e.last
-      (instances_of r.parent e.nodes)
-
--- the entity with the instance
-abbrev pub filled : EntityData → ResourceData → Filling → EntityData
-filled e r f = record e {
-  nodes = without_all f.gone (restamped_at f.container e.last f.state (e.nodes ++ r ∷ []));
-  next = e.next + 1;
-}
-
--- the entity with any other resource
-abbrev pub with_newcomer : EntityData → ResourceData → EntityData
-with_newcomer e r = record e { nodes = e.nodes ++ r ∷ []; next = e.next + 1 }
+  pub gone : f.gone ≡ pushed_out e parent (Some (instance_size r))
 
 -- what an instance does besides, and that any other resource does nothing
 abbrev pub MayJoin : EntityData → ResourceData → Option Filling → Type 0
@@ -57,18 +42,3 @@ MayJoin e r (Some f) = MayFill e r f
 abbrev pub gone_by : Option Filling → List ℕ
 gone_by None = []
 gone_by (Some f) = f.gone
-
-abbrev pub after_joining : EntityData → ResourceData → Option Filling → EntityData
-after_joining e r None = with_newcomer e r
-after_joining e r (Some f) = filled e r f
-
--- what the resource of a creation does besides
-abbrev pub filling_of : Creation → Option Filling
-filling_of c =
-    if is_ty c.ty ContentInstance
-    then Some (record {
-      container = c.parent.number;
-      state = next_state c.parent;
-      gone = pushed_out c.e c.parent (Some (new_size c));
-    })
-    else None

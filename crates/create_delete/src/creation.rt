@@ -8,8 +8,10 @@ ghost use Rattle.attribute_rules.specs.declared.table.Writing.TheVariants as wri
 ghost use Rattle.request_rules.specs.Creation.{creation_of};
 ghost use Rattle.request_rules.specs.Order.{creation_by, fault_at, fault_on};
 ghost use Rattle.request_rules.specs.Requests as requests;
-ghost use Rattle.create_delete.specs.Changing.{create_effect, done_by, performed_at};
-ghost use Rattle.create_delete.specs.Joining.{after_joining, filling_of, IsAllowed, MayJoin};
+ghost use Rattle.create_delete.specs.Changes.{changes_at, creation_changes};
+ghost use Rattle.create_delete.specs.Changing.{after_joining, create_effect, done_by, filling_of};
+ghost use Rattle.create_delete.specs.Changing.{performed_at};
+ghost use Rattle.create_delete.specs.Joining.{gone_by, IsAllowed, MayJoin};
 
 use crate::building::{new_resource, next_state, tell_soundness};
 use crate::joining::{Filling, put};
@@ -55,6 +57,7 @@ pub fn create<T: Tree>(
     apply(entity, prepared)
 }
 
+// The resource, what it pushes out, and the reply: what these are lists all changes (`Changes`).
 fn prepare<T: Tree>(
     alloc: Global,
     entity: &Entity<T>,
@@ -69,7 +72,11 @@ fn prepare<T: Tree>(
         p.reply ≡ (performed_at Create entity.now o.now request.now parent).reply) }
     ensures after { IfOk result (λ p. after_joining entity.now p.resource p.filling
         ≡ (performed_at Create entity.now o.now request.now parent).after) }
+    ensures changes { IfOk result (λ p.
+        creation_changes entity.now.nodes p.resource (gone_by p.filling)
+        ≡ changes_at Create entity.now o.now request.now parent) }
 {
+    tell_soundness(entity);
     match find(entity, parent) {
         Some(parent) => prepare_under(alloc, entity, o, request, parent),
         None => unreachable!(),

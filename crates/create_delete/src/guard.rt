@@ -5,13 +5,15 @@ ghost use Rattle.m2m_names.specs.declared.operations.Op.{Op};
 ghost use Rattle.m2m_names.specs.declared.types.Ty.TheVariants.{Container};
 ghost use Rattle.primitive_json.specs.declared.request.RequestParts.{RequestParts};
 ghost use Rattle.resource_model.specs.Resource.{ResourceData, is_ty};
-ghost use Rattle.tree_model.specs.Tree.{at, instances_of, instance_size, restamped_at};
-ghost use Rattle.container_limits.specs.Limits.{evicted, kept, limits_of};
+ghost use Rattle.tree_model.specs.Tree.{at, instances_of, instance_size};
+ghost use Rattle.container_limits.specs.Limits.{kept, limits_of};
 ghost use Rattle.entity_model.specs.Entity.{EntityData};
 ghost use Rattle.entity_model.specs.Sound.{IsSoundEntity};
-ghost use Rattle.create_delete.specs.Changing.{nodes_updated, performed_at, without_all};
+ghost use Rattle.create_delete.specs.Changing.{filled, nodes_updated, performed_at};
 ghost use Rattle.create_delete.specs.Guard.{ChangesByRight, NamesInOrder};
-ghost use Rattle.create_delete.specs.Newcomer.{IsFilling, IsReplacement};
+ghost use Rattle.create_delete.specs.Joining.{MayFill};
+ghost use Rattle.create_delete.specs.Newcomer.{IsReplacement};
+ghost use Rattle.create_delete.specs.declared.joining.Filling.{Filling};
 
 /// Of a sound entity an operation on a resource changes nothing but by a grant to the originator,
 /// judged on the entity before. A resource is new only under the target, with CREATE. It differs
@@ -43,11 +45,8 @@ pub fn a_container_keeps_the_newest_that_fit()
     ensures updated { (e : EntityData) (c : ResourceData) → IsSoundEntity e → IsReplacement e c
         → IsTrue (is_ty c.ty Container) → instances_of c.number (nodes_updated e c)
         ≡ kept (limits_of c) None e.last (instances_of c.number e.nodes) }
-    ensures filled { (e : EntityData) (r c : ResourceData) (st : ℕ) → IsSoundEntity e
-        → IsFilling e r c st → instances_of r.parent
-        (without_all
-        (evicted (limits_of c) (Some (instance_size r)) e.last (instances_of r.parent e.nodes))
-        (restamped_at r.parent e.last st (e.nodes ++ r ∷ [])))
-        ≡ kept (limits_of c) (Some (instance_size r)) e.last (instances_of r.parent e.nodes)
-        ++ r ∷ [] }
+    ensures filled { (e : EntityData) (r : ResourceData) (f : Filling) → IsSoundEntity e
+        → (may : MayFill e r f) → instances_of r.parent (filled e r f).nodes
+        ≡ kept (limits_of may.parent) (Some (instance_size r)) e.last
+        (instances_of r.parent e.nodes) ++ r ∷ [] }
 {}

@@ -2,9 +2,9 @@
 ghost use Rattle.std.specs.Prelude.{◌≡◌, false, OnOk, OnErr};
 ghost use Rattle.m2m_names.specs.declared.types.Ty.TheVariants.{ContentInstance};
 ghost use Rattle.resource_model.specs.Resource.{is_ty};
+ghost use Rattle.create_delete.specs.Changing.{after_joining, filled, with_newcomer};
+ghost use Rattle.create_delete.specs.Joining.{MayFill, MayJoin};
 ghost use Rattle.create_delete.specs.Newcomer.{IsNewcomer};
-ghost use Rattle.create_delete.specs.Joining.{after_joining, filled, with_newcomer, MayFill};
-ghost use Rattle.create_delete.specs.Joining.{MayJoin};
 
 use crate::growth::put_last;
 use crate::pushing::remove_all;

@@ -4,7 +4,9 @@
 //! `specs/Changing`): a refusal by the first place that doesn't hold, in the one order of the crate
 //! request_rules, and else a reply and the entity after it. A call judges, which changes nothing;
 //! it prepares, which takes all memory; and it applies, which can't fail but where a resource is
-//! put last, which comes first. Where memory runs out nothing has changed.
+//! put last, which comes first. Where memory runs out nothing has changed. What is prepared lends
+//! the changes that it makes, one after another (`Changes`): those by which the entity comes to be
+//! what the call leaves (`changes_at` of `specs/Changes`).
 //!
 //! An originator is passed in its short form. A content for a group isn't admitted yet.
 #![tactic(auto)]
@@ -18,6 +20,7 @@ mod growth;
 mod guard;
 mod joining;
 mod laws;
+mod listing;
 mod pushing;
 mod telling;
 mod updating;
@@ -37,5 +40,6 @@ pub use laws::{
     a_deletion_takes_what_stands_at_or_below_its_target, a_refusal_changes_nothing,
     nothing_is_done_without_the_right,
 };
+pub use listing::{Changes, named_attrs};
 pub use std::alloc::AllocError as OutOfMemory;
 pub use updating::update;

@@ -1,23 +1,23 @@
 //! The contents of replies (TS-0001, 8.1.2; TS-0004, 7.5.2).
-ghost use Rattle.std.specs.Prelude.{◌≡◌, ◌++◌, [], ◌∷◌, codes, pos, IfOk, IsTrue, IsUtf8, filter};
-ghost use Rattle.std.specs.Prelude.{unwrap_or};
+ghost use Rattle.std.specs.Prelude.{◌≡◌, ◌++◌, [], ◌∷◌, codes, IfOk, IsTrue, IsUtf8, filter};
 ghost use Rattle.m2m_names.specs.Types.{ty_member};
 ghost use Rattle.m2m_value.specs.Data as json;
 ghost use Rattle.tree_model.specs.Shown.{wrapped};
 ghost use Rattle.tree_model.specs.Tree.{has};
 ghost use Rattle.addressing.specs.Names.{structured_of};
+ghost use Rattle.entity_model.specs.Places as places;
 ghost use Rattle.create_delete.specs.Changing as spec;
 
 use crate::building::tell_soundness;
 use addressing::structured;
-use entity_model::Entity;
+use entity_model::{Entity, wanted_content};
 use m2m_names::{Attr, Ty};
 use m2m_value::{Members, Text, Val};
 use primitive_json::Request;
 use std::alloc::{AllocError as OutOfMemory, Global};
 use tree_model::{Attrs, Resource, Tree, attributes, content, members_of, shown};
 
-// What result content a Create or an Update asks for: the attributes, where it says none.
+// The result content of the attributes.
 const ATTRIBUTES: i64 = 1;
 
 // The structured address that a resource has when it comes last.
@@ -115,10 +115,10 @@ pub(crate) fn created_content<T: Tree>(
     resource: &Resource,
 ) -> Result<Option<Val>, OutOfMemory>
     requires { IsTrue (has resource.now.parent entity.now.nodes) }
-    ensures { IfOk result (λ c. c
-        ≡ spec.created_content (unwrap_or request.now.rcn (pos 1)) entity.now resource.now) }
+    ensures { IfOk result (λ c. c ≡ spec.created_content (places.wanted_content request.now.rcn)
+        entity.now resource.now) }
 {
-    let asked = request.parts().rcn.unwrap_or(ATTRIBUTES);
+    let asked = wanted_content(request);
     if asked == 0 {
         return Ok(None);
     }
@@ -185,10 +185,10 @@ pub(crate) fn updated_content<T: Tree>(
     members: &Members,
     resource: &Resource,
 ) -> Result<Option<Val>, OutOfMemory>
-    ensures { IfOk result (λ c. c ≡ spec.updated_content (unwrap_or request.now.rcn (pos 1))
+    ensures { IfOk result (λ c. c ≡ spec.updated_content (places.wanted_content request.now.rcn)
         entity.now members.now resource.now) }
 {
-    if request.parts().rcn.unwrap_or(ATTRIBUTES) == 0 {
+    if wanted_content(request) == 0 {
         return Ok(None);
     }
     Ok(Some(told_content(alloc, entity, members, resource)?))

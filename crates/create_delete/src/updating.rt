@@ -2,11 +2,13 @@
 ghost use Rattle.std.specs.Prelude.{◌≡◌, None, Some, IfOk, OnOk, OnErr, IsTrue};
 ghost use Rattle.m2m_names.specs.Name.{is_originator};
 ghost use Rattle.m2m_names.specs.declared.operations.Op.TheVariants.{Update};
+ghost use Rattle.resource_model.specs.Resource.{ResourceData};
 ghost use Rattle.tree_model.specs.Tree.{at};
 ghost use Rattle.attribute_rules.specs.Admission.{attributes_in, is_admitted};
 ghost use Rattle.attribute_rules.specs.declared.table.Writing.TheVariants as writing;
 ghost use Rattle.request_rules.specs.Order.{fault_at, fault_on};
 ghost use Rattle.request_rules.specs.Requests as requests;
+ghost use Rattle.create_delete.specs.Changes.{changes_at, named_attrs, update_changes};
 ghost use Rattle.create_delete.specs.Changing as spec;
 ghost use Rattle.create_delete.specs.Changing.{performed_at};
 ghost use Rattle.create_delete.specs.Newcomer.{IsReplacement};
@@ -56,7 +58,7 @@ pub fn update<T: Tree>(
     Ok(apply(entity, prepared))
 }
 
-// The resource, what it pushes out, and the reply.
+// The resource, what it pushes out, and the reply: what these are lists all changes (`Changes`).
 fn prepare<T: Tree>(
     alloc: Global,
     entity: &Entity<T>,
@@ -72,7 +74,11 @@ fn prepare<T: Tree>(
     ensures after { IfOk result (λ c.
         record entity.now { nodes = spec.nodes_updated entity.now c.resource }
         ≡ (performed_at Update entity.now o.now request.now target).after) }
+    ensures changes { (r : ResourceData) → at target entity.now.nodes ≡ Some r → IfOk result (λ c.
+        update_changes entity.now.nodes r c.resource (named_attrs request.now r) c.gone
+        ≡ changes_at Update entity.now o.now request.now target) }
 {
+    tell_soundness(entity);
     match find(entity, target) {
         Some(resource) => prepare_for(alloc, entity, o, request, resource),
         None => unreachable!(),
@@ -89,6 +95,7 @@ fn prepare_for<T: Tree>(
     requires stands { at resource.now.number entity.now.nodes ≡ Some resource.now }
     requires allowed { fault_on Update entity.now o.now request.now resource.now ≡ None }
     ensures may { IfOk result (λ c. IsReplacement entity.now c.resource) }
+    ensures same { IfOk result (λ c. c.resource.number ≡ resource.now.number) }
     ensures gone { IfOk result (λ c. c.gone ≡ spec.pushed_by entity.now c.resource) }
     ensures reply { IfOk result (λ c. c.reply ≡ (spec.update_effect entity.now request.now
         (requests.named_by Update request.now resource.now) resource.now).reply) }
@@ -115,6 +122,7 @@ fn prepare_with<T: Tree>(
     requires content { request.now.pc ≡ Some content.now }
     requires allowed { fault_on Update entity.now o.now request.now resource.now ≡ None }
     ensures may { IfOk result (λ c. IsReplacement entity.now c.resource) }
+    ensures same { IfOk result (λ c. c.resource.number ≡ resource.now.number) }
     ensures gone { IfOk result (λ c. c.gone ≡ spec.pushed_by entity.now c.resource) }
     ensures reply { IfOk result (λ c. c.reply ≡ (spec.update_effect entity.now request.now
         (requests.named_by Update request.now resource.now) resource.now).reply) }
@@ -141,6 +149,7 @@ fn prepare_by<T: Tree>(
     requires named { attributes_in resource.now.ty content.now ≡ Some members.now }
     requires allowed { IsUpdatable entity.now members.now resource.now }
     ensures may { IfOk result (λ c. IsReplacement entity.now c.resource) }
+    ensures same { IfOk result (λ c. c.resource.number ≡ resource.now.number) }
     ensures gone { IfOk result (λ c. c.gone ≡ spec.pushed_by entity.now c.resource) }
     ensures reply { IfOk result (λ c. c.reply
         ≡ (spec.update_effect entity.now request.now members.now resource.now).reply) }

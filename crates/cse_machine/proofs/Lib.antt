@@ -2,6 +2,7 @@ pub mod PlaceLemmas
 pub mod OwnLemmas
 pub mod WayLemmas
 pub mod ChangingLemmas
+pub mod FormLemmas
 pub mod GuardLemmas
 pub mod HistoryLemmas
 pub mod SightLemmas

@@ -12,7 +12,7 @@ use Rattle.addressing.specs.Short.{short_of, shortened}
 use Rattle.addressing.proofs.ShortLemmas.{short_is_originator}
 use Rattle.entity_model.specs.Entity.{EntityData}
 use Rattle.retrieve_discover.specs.Replies.{discovered, retrieved}
-use Rattle.cse_machine.specs.Answer.{has_originator, reading_reply}
+use Rattle.cse_machine.specs.Answer.{has_originator, is_registration, reading_reply, said_originator}
 use Rattle.request_rules.specs.Rights.{is_discovery}
 use Rattle.cse_machine.specs.Rights.{claimed_originator}
 
@@ -29,24 +29,28 @@ short_is home text o e = elim (cases_Bool (is_originator text && nat_lt 0 (lengt
   | inr f ↦ (let none : None ≡ Some o = rw f at e in cc)
 ]
 
-pub claimed_is : (home : HomeData) (request : RequestParts) (o : List ℕ) → option_and_then (short_of home) request.fr ≡ Some o → claimed_originator home request ≡ o
-claimed_is home request o = by_fr request.fr
+pub claimed_is : (home : HomeData) (request : RequestParts) (o : List ℕ) → option_and_then (short_of home) (said_originator request) ≡ Some o → claimed_originator home request ≡ o
+claimed_is home request o said = elim (cases_Bool (is_registration request)) [
+  | inl t ↦ short_is home (unwrap_or request.fr (codes "C")) o (rw t at said)
+  | inr f ↦ by_fr request.fr (rw f at said)
+]
   where
     by_fr : (fr : Option (List ℕ)) → option_and_then (short_of home) fr ≡ Some o → shortened home (unwrap_or fr (codes "C")) ≡ o
     by_fr None e = let none : None ≡ Some o = e in cc
     by_fr (Some text) e = short_is home text o e
 
+originator_of : (home : HomeData) (said : Option (List ℕ)) (o : List ℕ) → option_and_then (short_of home) said ≡ Some o → is_originator o ≡ true
+originator_of home None o is = let none : None ≡ Some o = is in cc
+originator_of home (Some text) o is = short_is_originator home text o is
+
 -- who asks so, is an originator
 pub claimed_valid : (home : HomeData) (request : RequestParts) → has_originator home request ≡ true → is_originator (claimed_originator home request) ≡ true
-claimed_valid home request = by_fr request.fr
+claimed_valid home request has = by_short (option_and_then (short_of home) (said_originator request)) refl has
   where
-    by_short : (text : List ℕ) (t : Option (List ℕ)) → short_of home text ≡ t → is_some t ≡ true → is_originator (shortened home text) ≡ true
-    by_short text None is some = absurd (false≢true some)
-    by_short text (Some t) is some = ap is_originator (short_is home text t is) ∙ short_is_originator home text t is
-
-    by_fr : (fr : Option (List ℕ)) → is_some (option_and_then (short_of home) fr) ≡ true → is_originator (shortened home (unwrap_or fr (codes "C"))) ≡ true
-    by_fr None some = absurd (false≢true some)
-    by_fr (Some text) some = by_short text (short_of home text) refl some
+    by_short : (short : Option (List ℕ)) → option_and_then (short_of home) (said_originator request) ≡ short → is_some short ≡ true → is_originator (claimed_originator home request) ≡ true
+    by_short None is some = absurd (false≢true some)
+    by_short (Some o) is some =
+        ap is_originator (claimed_is home request o is) ∙ originator_of home (said_originator request) o is
 
 -- ---- what is read
 

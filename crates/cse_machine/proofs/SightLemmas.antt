@@ -22,7 +22,7 @@ use Rattle.tree_model.proofs.GrowthLemmas.{tree_from_well_formed}
 use Rattle.tree_model.proofs.KeptLemmas.{KeepsStanding, is_well_formed-map, is_well_formed-without}
 use Rattle.tree_model.proofs.LiveLemmas.{without_none}
 use Rattle.addressing.specs.Addresses.{address_of}
-use Rattle.addressing.specs.Laws.{named_by, named_here}
+use Rattle.addressing.specs.Laws.{spot_named, named_here}
 use Rattle.addressing.specs.declared.addr.Addr.{Addr}
 use Rattle.addressing.specs.declared.addr.Addr.TheVariants.{Local, Foreign, OtherProvider}
 use Rattle.addressing.specs.declared.addr.AddrFault.{AddrFault}
@@ -184,9 +184,9 @@ module _ (e : EntityData) (o : List ℕ) (well : is_well_formed e.nodes ≡ true
 
   covered_seen : (request : RequestParts) → does_cover request.op ≡ true → claimed_originator e.home request ≡ o → AreSeenAlike o (effect_of seeing request) (effect_of e request)
   covered_seen request covered by =
-      let spot = named_by e.home request.to e.nodes in
+      let spot = spot_named e.home request.to e.nodes in
       by_fault seeing e o request (first_fault (first_places e request))
-      (at_spot seeing request (named_by e.home request.to (seen_list e.home e.nodes o))) (at_spot e request spot)
+      (at_spot seeing request (spot_named e.home request.to (seen_list e.home e.nodes o))) (at_spot e request spot)
       sight_twice
       (subst (λ (s : Option Spot). AreSeenAlike o (at_spot seeing request s) (at_spot e request spot)) (sym (named_seen (address_of e.home request.to)))
       (spot_seen request spot covered by))

@@ -10,7 +10,7 @@ use Rattle.primitive_json.specs.declared.request.RequestParts.{RequestParts}
 use Rattle.resource_model.specs.Resource.{ResourceData}
 use Rattle.tree_model.specs.Tree.{at}
 use Rattle.tree_model.proofs.TreeLemmas.{at_number}
-use Rattle.addressing.specs.Laws.{named_by}
+use Rattle.addressing.specs.Laws.{spot_named}
 use Rattle.addressing.specs.declared.spot.Spot.{Spot}
 use Rattle.addressing.specs.declared.spot.Spot.TheVariants.{Resource, Fan, Poll}
 use Rattle.policy_eval.specs.Rights.{grants}
@@ -19,6 +19,7 @@ use Rattle.entity_model.specs.Entity.{EntityData}
 use Rattle.entity_model.specs.Places.{Effect, refusal, refused}
 use Rattle.retrieve_discover.specs.Replies.{discovered, retrieved, retrieved_of}
 use Rattle.cse_machine.specs.Answer.{does_serve, is_served, has_originator, has_address, is_in_time, is_blocking, operated_by, reading_reply, resource_at, addressed, to_resource, at_spot, effect_of}
+use Rattle.cse_machine.specs.Form.{is_of_kinds}
 use Rattle.cse_machine.specs.Guard.{is_success, fan_group, fanned}
 use Rattle.request_rules.specs.Rights.{is_discovery}
 use Rattle.cse_machine.specs.Rights.{claimed_originator}
@@ -44,7 +45,7 @@ module _ (e : EntityData) (request : RequestParts) where
   abbrev Ways : Effect → Type 0
   Ways effect = IsRefused e request effect ⊎ IsOperated e request effect
 
-  on_resource : (n : ℕ) (o : Option ResourceData) → does_serve request.op request ≡ true → has_originator e.home request ≡ true → named_by e.home request.to e.nodes ≡ Some (Resource n) → at n e.nodes ≡ o → Ways (to_resource e request o)
+  on_resource : (n : ℕ) (o : Option ResourceData) → does_serve request.op request ≡ true → has_originator e.home request ≡ true → spot_named e.home request.to e.nodes ≡ Some (Resource n) → at n e.nodes ≡ o → Ways (to_resource e request o)
   on_resource n None served by is found = inl (NotFound, refl, refl)
   on_resource n (Some r) served by is found = inr (record {
     target = r;
@@ -56,29 +57,32 @@ module _ (e : EntityData) (request : RequestParts) where
     is = refl;
   })
 
-  on_spot : (spot : Option Spot) → does_serve request.op request ≡ true → has_originator e.home request ≡ true → named_by e.home request.to e.nodes ≡ spot → Ways (at_spot e request spot)
+  on_spot : (spot : Option Spot) → does_serve request.op request ≡ true → has_originator e.home request ≡ true → spot_named e.home request.to e.nodes ≡ spot → Ways (at_spot e request spot)
   on_spot None served by is = inl (NotFound, refl, refl)
   on_spot (Some (Resource n)) served by is = on_resource n (at n e.nodes) served by is refl
   on_spot (Some (Fan group rest)) served by is = inl (BadRequest, refl, refl)
   on_spot (Some (Poll channel)) served by is = inl (BadRequest, refl, refl)
 
   abbrev spot_is : Option Spot
-  spot_is = named_by e.home request.to e.nodes
+  spot_is = spot_named e.home request.to e.nodes
 
   pub two_ways : Ways (effect_of e request)
   two_ways = elim (cases_Bool (is_served request)) [
     | inr f ↦ inl (BadRequest, refl, rw f refl)
-    | inl s ↦ elim (cases_Bool (has_originator e.home request)) [
+    | inl s ↦ elim (cases_Bool (is_of_kinds request)) [
       | inr f ↦ inl (BadRequest, refl, rw (s, f) refl)
-      | inl o ↦ elim (cases_Bool (has_address e.home request)) [
-        | inr f ↦ inl (BadRequest, refl, rw (s, o, f) refl)
-        | inl a ↦ elim (cases_Bool (is_in_time e request)) [
-          | inr f ↦ inl (RequestTimeout, refl, rw (s, o, a, f) refl)
-          | inl t ↦ elim (cases_Bool (is_blocking request)) [
-            | inr f ↦ inl (NonBlocking, refl, rw (s, o, a, t, f) refl)
-            | inl b ↦
-                let passed : effect_of e request ≡ at_spot e request spot_is = rw (s, o, a, t, b) refl in
-                subst Ways (sym passed) (on_spot spot_is s o refl)
+      | inl k ↦ elim (cases_Bool (has_originator e.home request)) [
+        | inr f ↦ inl (BadRequest, refl, rw (s, k, f) refl)
+        | inl o ↦ elim (cases_Bool (has_address e.home request)) [
+          | inr f ↦ inl (BadRequest, refl, rw (s, k, o, f) refl)
+          | inl a ↦ elim (cases_Bool (is_in_time e request)) [
+            | inr f ↦ inl (RequestTimeout, refl, rw (s, k, o, a, f) refl)
+            | inl t ↦ elim (cases_Bool (is_blocking request)) [
+              | inr f ↦ inl (NonBlocking, refl, rw (s, k, o, a, t, f) refl)
+              | inl b ↦
+                  let passed : effect_of e request ≡ at_spot e request spot_is = rw (s, k, o, a, t, b) refl in
+                  subst Ways (sym passed) (on_spot spot_is s o refl)
+            ]
           ]
         ]
       ]

@@ -1,10 +1,9 @@
 -- What a CSE answers a request (TS-0001, 10.2; TS-0004, 7.2 and 7.3.3).
-use Rattle.std.specs.Prelude.{◌≡◌, ℕ, pos, nat_lt, Bool, true, false, not, ◌&&◌, ◌||◌, List, [], ◌∷◌}
-use Rattle.std.specs.Prelude.{Option, Some, None, is_ok, is_some, option_and_then, if◌then◌else◌}
+use Rattle.std.specs.Prelude.{◌≡◌, ℕ, pos, nat_lt, Bool, true, false, not, ◌&&◌, List, [], ◌∷◌}
+use Rattle.std.specs.Prelude.{codes, Option, Some, None, is_ok, is_some, option_and_then}
+use Rattle.std.specs.Prelude.{unwrap_or, if◌then◌else◌}
 use Rattle.std.specs.Option.{option_map_or}
 use Rattle.std.specs.Ordering.{int_eq}
-use Rattle.m2m_names.specs.Attributes.{attr_short}
-use Rattle.m2m_names.specs.declared.attributes.Attr.TheVariants.{Aa, At as AnnounceTo}
 use Rattle.m2m_names.specs.declared.codes.Rsc.TheVariants.{BadRequest, Internal, NonBlocking}
 use Rattle.m2m_names.specs.declared.codes.Rsc.TheVariants.{NotFound, RequestTimeout}
 use Rattle.m2m_names.specs.declared.operations.Op.{Op}
@@ -17,17 +16,16 @@ use Rattle.m2m_names.specs.declared.types.Ty.TheVariants.{PollingChannel, Remote
 use Rattle.m2m_names.specs.declared.types.Ty.TheVariants.{AccessControlPolicyAnnc, AeAnnc}
 use Rattle.m2m_names.specs.declared.types.Ty.TheVariants.{ContainerAnnc, ContentInstanceAnnc}
 use Rattle.m2m_names.specs.declared.types.Ty.TheVariants.{GroupAnnc}
-use Rattle.m2m_value.specs.Data.{Data, Entry}
-use Rattle.m2m_value.specs.View.{as_object, member_of}
+use Rattle.primitive_json.specs.Members.{creates}
 use Rattle.primitive_json.specs.declared.reply.ReplyParts.{ReplyParts}
 use Rattle.primitive_json.specs.declared.request.RequestParts.{RequestParts}
 use Rattle.primitive_json.specs.declared.request.When.{When}
 use Rattle.primitive_json.specs.declared.request.When.TheVariants.{At, Millis}
 use Rattle.resource_model.specs.Home.{HomeData}
-use Rattle.resource_model.specs.Resource.{ResourceData}
+use Rattle.resource_model.specs.Resource.{ResourceData, is_ty}
 use Rattle.tree_model.specs.Tree.{at}
 use Rattle.addressing.specs.Addresses.{address_of}
-use Rattle.addressing.specs.Laws.{named_by}
+use Rattle.addressing.specs.Laws.{spot_named}
 use Rattle.addressing.specs.Short.{short_of}
 use Rattle.addressing.specs.declared.spot.Spot.{Spot}
 use Rattle.addressing.specs.declared.spot.Spot.TheVariants.{Resource, Fan, Poll}
@@ -40,7 +38,8 @@ use Rattle.create_delete.specs.Guard.{NamesInOrder}
 use Rattle.cse_machine.specs.declared.event.Outcome.{Outcome}
 use Rattle.cse_machine.specs.declared.event.Outcome.TheVariants.{Done}
 use Rattle.request_rules.specs.Requests.{child_ty}
-use Rattle.request_rules.specs.Rights.{is_discovery, sole}
+use Rattle.request_rules.specs.Rights.{is_discovery}
+use Rattle.cse_machine.specs.Form.{is_of_kinds}
 use Rattle.cse_machine.specs.Rights.{claimed_originator}
 
 -- the reply where memory ran out
@@ -71,24 +70,11 @@ is_creatable GroupAnnc = false
 abbrev pub has_creatable_type : RequestParts → Bool
 has_creatable_type request = option_map_or is_creatable (child_ty request) true
 
--- the members of what the only member of a content has: the attributes that it names
-abbrev pub inner_members : Data → Option (List Entry)
-inner_members content = option_and_then (λ e. as_object e.1) (sole content)
-
--- it names what announces a resource, or what of it is announced: copies aren't made yet (TS-0001,
--- 9.6.26)
-abbrev pub names_copy : List Entry → Bool
-names_copy es = is_some (member_of (attr_short AnnounceTo) es) || is_some (member_of (attr_short Aa) es)
-
-abbrev pub asks_for_copies : RequestParts → Bool
-asks_for_copies request =
-    option_map_or names_copy (option_and_then inner_members request.pc) false
-
 -- which requests of an operation are served so far
 abbrev pub does_serve : Op → RequestParts → Bool
-does_serve Create request = has_creatable_type request && not (asks_for_copies request)
+does_serve Create request = has_creatable_type request
 does_serve Retrieve request = true
-does_serve Update request = not (asks_for_copies request)
+does_serve Update request = true
 does_serve Delete request = true
 does_serve Notify request = false
 
@@ -97,9 +83,19 @@ is_served request = does_serve request.op request
 
 -- ---- where a request is refused whatever its address names
 
+-- it registers an application entity (TS-0001, 10.2.2.2)
+abbrev pub is_registration : RequestParts → Bool
+is_registration request =
+    creates request.op && option_map_or (λ ty. is_ty ty Ae) (child_ty request) false
+
+-- whom it says that asks; an application entity that registers without a word of it asks as `C`
+abbrev pub said_originator : RequestParts → Option (List ℕ)
+said_originator request =
+    if is_registration request then Some (unwrap_or request.fr (codes "C")) else request.fr
+
 -- it says who asks, by a text that has a short form (TS-0001, 7.2 and 8.1.2)
 abbrev pub has_originator : HomeData → RequestParts → Bool
-has_originator home request = is_some (option_and_then (short_of home) request.fr)
+has_originator home request = is_some (option_and_then (short_of home) (said_originator request))
 
 -- it is sent to an address (TS-0001, 9.3.1)
 abbrev pub has_address : HomeData → RequestParts → Bool
@@ -118,7 +114,8 @@ abbrev pub is_blocking : RequestParts → Bool
 is_blocking request = option_map_or (λ z. int_eq z (pos 3)) request.rt true
 
 -- these places, from the last back to the first: by when and how it is answered; by its address; by
--- its originator; and as one that isn't served yet, which counts as malformed (TS-0004, 7.3.2.1)
+-- its originator; by its other parameters; and as one that isn't served yet, which counts as
+-- malformed (TS-0004, 7.3.2.1)
 abbrev pub time_places : EntityData → RequestParts → List Place
 time_places e request =
     unless (is_in_time e request) RequestTimeout ∷ unless (is_blocking request) NonBlocking ∷ []
@@ -131,8 +128,11 @@ abbrev pub originator_places : EntityData → RequestParts → List Place
 originator_places e request =
     unless (has_originator e.home request) BadRequest ∷ address_places e request
 
+abbrev pub form_places : EntityData → RequestParts → List Place
+form_places e request = unless (is_of_kinds request) BadRequest ∷ originator_places e request
+
 abbrev pub first_places : EntityData → RequestParts → List Place
-first_places e request = unless (is_served request) BadRequest ∷ originator_places e request
+first_places e request = unless (is_served request) BadRequest ∷ form_places e request
 
 -- ---- one operation
 
@@ -167,7 +167,7 @@ resource_at nodes (Poll channel) = None
 
 -- the resource that an address names (TS-0001, 9.3.1)
 abbrev pub addressed : EntityData → List ℕ → Option ResourceData
-addressed e to = option_and_then (resource_at e.nodes) (named_by e.home to e.nodes)
+addressed e to = option_and_then (resource_at e.nodes) (spot_named e.home to e.nodes)
 
 -- what an operation gives on the resource that was found, if one was
 abbrev pub on_found : Op → EntityData → RequestParts → Option ResourceData → Effect
@@ -182,7 +182,7 @@ to_resource e request found = on_found request.op e request found
 -- does a foreign address, as no request goes on to another CSE yet. Fan-out points and poll points
 -- aren't served yet.
 abbrev pub at_spot : EntityData → RequestParts → Option Spot → Effect
-at_spot e request None = refused e request NotFound
+at_spot e request None = to_resource e request None
 at_spot e request (Some (Resource n)) = to_resource e request (at n e.nodes)
 at_spot e request (Some (Fan group rest)) = refused e request BadRequest
 at_spot e request (Some (Poll channel)) = refused e request BadRequest
@@ -194,7 +194,7 @@ judged_at places e request spot = unless_refused places e request (at_spot e req
 -- what comes of a request to an entity from which what is due is gone
 abbrev pub effect_of : EntityData → RequestParts → Effect
 effect_of e request =
-    judged_at (first_places e request) e request (named_by e.home request.to e.nodes)
+    judged_at (first_places e request) e request (spot_named e.home request.to e.nodes)
 
 -- the outcome, and the entity after it
 abbrev pub given : EntityData → RequestParts → Outcome × EntityData

@@ -16,7 +16,7 @@ use Rattle.primitive_json.specs.declared.request.RequestParts.{RequestParts}
 use Rattle.resource_model.specs.Resource.{ResourceData}
 use Rattle.turn_desk.specs.Entries.{entry_of}
 use Rattle.policy_eval.specs.Rights.{fan_grants}
-use Rattle.addressing.specs.Laws.{named_by}
+use Rattle.addressing.specs.Laws.{spot_named}
 use Rattle.addressing.specs.declared.spot.Spot.{Spot}
 use Rattle.addressing.specs.declared.spot.Spot.TheVariants.{Resource, Fan, Poll}
 use Rattle.entity_model.specs.Entity.{EntityData, event_moment, swept}
@@ -88,7 +88,7 @@ fan_group (Fan group rest) = Some group
 fan_group (Poll channel) = None
 
 abbrev pub fanned : EntityData → List ℕ → Option ℕ
-fanned e to = option_and_then fan_group (named_by e.home to e.nodes)
+fanned e to = option_and_then fan_group (spot_named e.home to e.nodes)
 
 -- the operation on one member: its request, its reply, and the entity after it
 pub record Single : Type 0 where

@@ -1,4 +1,5 @@
 pub mod Rights
+pub mod Form
 pub mod Answer
 pub mod Step
 pub mod History

@@ -1,15 +1,20 @@
 // What is told of a request before what its address names.
-ghost use Rattle.std.specs.Prelude.{◌≡◌, false, IfSome, List, Some, option_map};
+ghost use Rattle.std.specs.Prelude.{◌≡◌, false, IfSome, List, Some, option_and_then, option_map};
 ghost use Rattle.std.specs.Option.{option_map_or};
 ghost use Rattle.m2m_names.specs.declared.types.Ty.{Ty};
+ghost use Rattle.m2m_names.specs.declared.types.Ty.TheVariants.{Ae};
 ghost use Rattle.m2m_value.specs.Data.{Entry};
 ghost use Rattle.m2m_value.specs.Node.{AreSorted};
+ghost use Rattle.m2m_value.specs.View.{as_object};
+ghost use Rattle.resource_model.specs.Resource.{is_ty};
 ghost use Rattle.attribute_rules.specs.Admission.{attributes_in};
+ghost use Rattle.request_rules.specs.Rights.{sole};
 ghost use Rattle.create_delete.specs.Guard.{NamesInOrder};
 ghost use Rattle.cse_machine.specs.Answer as spec;
 
+use crate::form::creates;
 use entity_model::Entity;
-use m2m_names::{Attr, Op, Ty};
+use m2m_names::{Op, Ty};
 use m2m_value::{Members, Val};
 use primitive_json::{Request, When};
 use request_rules::child_ty;
@@ -36,75 +41,47 @@ fn has_creatable_type(request: &Request) -> bool
     }
 }
 
-// The members of what the only member of a content has. That they stand in order is told by their
-// list.
-fn inner_members(content: &Val) -> Option<&Members>
-    ensures members { option_map (λ m. m.now) result ≡ spec.inner_members content.now }
-    ensures sorted { IfSome result (λ m. AreSorted m.now) }
-{
-    match content.as_obj()?.entries() {
-        [entry] => {
-            let members = entry.1.as_obj()?;
-            let _entries = members.entries();
-            Some(members)
-        }
-        _ => None,
-    }
-}
-
-fn names_copy(members: &Members) -> bool
-    ensures { result ≡ spec.names_copy members.now }
-{
-    members.get(Attr::At.short().as_bytes()).is_some()
-        || members.get(Attr::Aa.short().as_bytes()).is_some()
-}
-
-fn holds_copies(content: &Val) -> bool
-    ensures { result ≡ option_map_or spec.names_copy (spec.inner_members content.now) false }
-{
-    match inner_members(content) {
-        Some(members) => names_copy(members),
-        None => false,
-    }
-}
-
-fn asks_for_copies(request: &Request) -> bool
-    ensures { result ≡ spec.asks_for_copies request.now }
-{
-    match &request.parts().pc {
-        Some(content) => holds_copies(content),
-        None => false,
-    }
-}
-
-/// Whether the request is one of those that are served so far: all but a Notify, the creation of
-/// what is told of changes, polls, fans out or comes from another CSE, and what asks for copies.
+/// Whether the request is one of those that are served so far: all but a Notify, and the creation
+/// of what is told of changes, polls, fans out or comes from another CSE.
 pub(crate) fn is_served(request: &Request) -> bool
     ensures { result ≡ spec.is_served request.now }
 {
     match request.parts().op {
-        Op::Create => has_creatable_type(request) && !asks_for_copies(request),
-        Op::Update => !asks_for_copies(request),
-        Op::Retrieve | Op::Delete => true,
+        Op::Create => has_creatable_type(request),
+        Op::Retrieve | Op::Update | Op::Delete => true,
         Op::Notify => false,
     }
 }
 
-// That what a content names stands in order.
-fn tell_content(content: &Val)
-    ensures { (ty : Ty) (es : List Entry) → attributes_in ty content.now ≡ Some es → AreSorted es }
-{
-    let _members = inner_members(content);
-}
+// ---- the originator
 
-/// That what the content of a request names stands in order, as its types keep it.
-pub(crate) fn tell_order(request: &Request)
-    ensures { NamesInOrder request.now }
+fn is_of_ae(child: Option<Ty>) -> bool
+    ensures { result ≡ option_map_or (λ ty. is_ty ty Ae) child false }
 {
-    if let Some(content) = &request.parts().pc {
-        tell_content(content);
+    match child {
+        Some(ty) => ty.number() == Ty::Ae.number(),
+        None => false,
     }
 }
+
+fn is_registration(request: &Request) -> bool
+    ensures { result ≡ spec.is_registration request.now }
+{
+    creates(request.parts().op) && is_of_ae(child_ty(request))
+}
+
+/// Whom the request says that asks: `C` where an application entity registers without a word of it.
+pub(crate) fn said_originator(request: &Request) -> Option<&[u8]>
+    ensures { option_map (λ o. o.now) result ≡ spec.said_originator request.now }
+{
+    match &request.parts().fr {
+        Some(fr) => Some(fr.entries()),
+        None if is_registration(request) => Some(b"C".as_slice()),
+        None => None,
+    }
+}
+
+// ---- its times
 
 /// Whether it hasn't expired at the moment of the event.
 pub(crate) fn is_in_time<T: Tree>(entity: &Entity<T>, request: &Request) -> bool
@@ -132,5 +109,40 @@ pub(crate) fn is_blocking(request: &Request) -> bool
     match request.parts().rt {
         Some(rt) => rt == 3,
         None => true,
+    }
+}
+
+// ---- the content
+
+// The members of what the only member of a content has. That they stand in order is told by their
+// list.
+fn inner_members(content: &Val) -> Option<&Members>
+    ensures members { option_map (λ m. m.now) result
+        ≡ option_and_then (λ e. as_object e.1) (sole content.now) }
+    ensures sorted { IfSome result (λ m. AreSorted m.now) }
+{
+    match content.as_obj()?.entries() {
+        [entry] => {
+            let members = entry.1.as_obj()?;
+            let _entries = members.entries();
+            Some(members)
+        }
+        _ => None,
+    }
+}
+
+// That what a content names stands in order.
+fn tell_content(content: &Val)
+    ensures { (ty : Ty) (es : List Entry) → attributes_in ty content.now ≡ Some es → AreSorted es }
+{
+    let _members = inner_members(content);
+}
+
+/// That what the content of a request names stands in order, as its types keep it.
+pub(crate) fn tell_order(request: &Request)
+    ensures { NamesInOrder request.now }
+{
+    if let Some(content) = &request.parts().pc {
+        tell_content(content);
     }
 }

@@ -1,4 +1,5 @@
 //! Laws of the machine, over its definitions.
+ghost use Rattle.cse_machine.specs.Form.{KindsHaveTheForm};
 ghost use Rattle.cse_machine.specs.Guard.{StepsAreGuarded, HistoriesAreGuarded};
 ghost use Rattle.cse_machine.specs.Guard.{RefusalsChangeNothing, RetrievesChangeNoResource};
 ghost use Rattle.cse_machine.specs.Guard.{WantOfMemoryChangesNothing};
@@ -34,10 +35,10 @@ pub fn a_sight_has_the_shape_of_its_entity()
 /// or with the status that a request was served, comes only to an originator with the right that
 /// the request needs on the resource that it addressed; other resources are shown by RETRIEVE, and
 /// found by DISCOVERY. A resource is new only under a parent with CREATE. It differs only with
-/// UPDATE, and then not in its `acpi`; or in that alone with the right to change it; or in its state
-/// tag alone where a new instance stands in it, but for the moment of its last change. It is gone
-/// only at or below a target with DELETE, or as an instance of a container that the operation adds
-/// to or changes by right.
+/// UPDATE, and then not in its `acpi`; or in that alone with the right to change it; or in its
+/// state tag alone where a new instance stands in it, but for the moment of its last change. It is
+/// gone only at or below a target with DELETE, or as an instance of a container that the operation
+/// adds to or changes by right.
 pub fn nothing_is_shown_or_changed_without_a_grant()
     ensures steps { StepsAreGuarded }
     ensures histories { HistoriesAreGuarded }
@@ -69,4 +70,10 @@ pub fn steps_make_a_legal_history()
 /// The same events at the same readings have the same outcomes, where there is memory for them.
 pub fn a_history_goes_one_way()
     ensures { GoesOneWay }
+{}
+
+/// No request is refused for its form whose parameters are of their kinds, as are those of each
+/// that is read from a value or from a frame.
+pub fn what_is_of_its_kinds_has_the_form()
+    ensures { KindsHaveTheForm }
 {}

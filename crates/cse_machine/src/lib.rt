@@ -4,8 +4,9 @@
 //! entity is then the one after it. Both are exactly the relation `Step` of `specs/Step`: one
 //! function of the entity without what is due and of the request, and want of memory as the one
 //! free answer. Every request may be asked. Those that aren't served yet (`is_served` of
-//! `specs/Answer`) are answered as malformed: so far all but a Retrieve and a Delete, and those of a
-//! fan-out point or a poll point.
+//! `specs/Answer`) are answered as malformed: a Notify, and the creation of another type than
+//! accessControlPolicy, AE, container and contentInstance; and so is every request to a fan-out
+//! point or a poll point. A content that asks for copies isn't admitted yet.
 //!
 //! Laws over every history stand on functions without a body. What is shown or changed is so by a
 //! grant to the originator; and an originator is answered by no more than it sees, in the requests
@@ -13,6 +14,7 @@
 #![tactic(auto)]
 
 mod event;
+mod form;
 mod judging;
 mod laws;
 mod machine;
@@ -22,6 +24,7 @@ pub use laws::{
     a_history_goes_one_way, a_sight_has_the_shape_of_its_entity,
     a_step_changes_what_is_asked_alone, an_originator_is_answered_by_what_it_sees,
     equal_sights_are_answered_alike, nothing_is_shown_or_changed_without_a_grant,
-    steps_make_a_legal_history, what_is_refused_or_read_changes_nothing,
+    steps_make_a_legal_history, what_is_of_its_kinds_has_the_form,
+    what_is_refused_or_read_changes_nothing,
 };
 pub use machine::step;

@@ -5,17 +5,19 @@ ghost use Rattle.m2m_names.specs.Name.{is_originator};
 ghost use Rattle.m2m_names.specs.declared.operations.Op.TheVariants.{Retrieve};
 ghost use Rattle.tree_model.specs.Tree.{at, has};
 ghost use Rattle.addressing.specs.Addresses.{GivesAddress, address_of};
-ghost use Rattle.addressing.specs.Laws.{named_by, named_here};
+ghost use Rattle.addressing.specs.Laws.{spot_named, named_here};
 ghost use Rattle.addressing.specs.Names.{IsLocal, segments_of, spot_of};
 ghost use Rattle.addressing.specs.Short.{short_of};
 ghost use Rattle.cse_machine.specs.Answer.{address_places, at_spot, effect_of, judged_at};
-ghost use Rattle.cse_machine.specs.Answer.{on_found, reading_reply, time_places, to_resource};
+ghost use Rattle.cse_machine.specs.Answer.{form_places, on_found, reading_reply, time_places};
+ghost use Rattle.cse_machine.specs.Answer.{to_resource};
 ghost use Rattle.cse_machine.specs.Answer as spec;
 ghost use Rattle.cse_machine.specs.Rights.{claimed_originator};
 ghost use Rattle.cse_machine.specs.Step.{Step};
 
 use crate::event::{Event, Outcome};
-use crate::judging::{is_blocking, is_in_time, is_served, tell_order};
+use crate::form::is_of_kinds;
+use crate::judging::{is_blocking, is_in_time, is_served, said_originator, tell_order};
 use addressing::{Addr, AddrFault, Spot, parse, resolve, short_fr};
 use create_delete::{create, delete, update};
 use entity_model::{Entity, refuse, sweep};
@@ -62,7 +64,29 @@ fn answer<T: Tree>(
     ensures after { OnOk result (entity.new ≡ (effect_of entity.old request.now).after) }
     ensures err { OnErr result (entity.new ≡ entity.old) }
 {
-    if !is_served(request) {
+    if is_served(request) {
+        answer_served(alloc, entity, request)
+    } else {
+        refuse(alloc, request, Rsc::BadRequest)
+    }
+}
+
+// What one gives that is served.
+fn answer_served<T: Tree>(
+    alloc: Global,
+    entity: &mut Entity<T>,
+    request: &Request,
+) -> Result<Reply, OutOfMemory>
+    requires { IsTrue (spec.is_served request.now) }
+    ensures reply { IfOk result (λ r. r ≡ (judged_at (form_places entity.old request.now)
+        entity.old request.now
+        (spot_named entity.old.home request.now.to entity.old.nodes)).reply) }
+    ensures after { OnOk result (entity.new ≡ (judged_at (form_places entity.old request.now)
+        entity.old request.now
+        (spot_named entity.old.home request.now.to entity.old.nodes)).after) }
+    ensures err { OnErr result (entity.new ≡ entity.old) }
+{
+    if !is_of_kinds(request) {
         return refuse(alloc, request, Rsc::BadRequest);
     }
     match originator(entity, request) {
@@ -74,11 +98,11 @@ fn answer<T: Tree>(
 // Whom the request is judged as, in the short form.
 fn originator<'a, T: Tree>(entity: &Entity<T>, request: &'a Request) -> Option<&'a [u8]>
     ensures value { option_map (λ o. o.now) result
-        ≡ option_and_then (short_of entity.now.home) request.now.fr }
+        ≡ option_and_then (short_of entity.now.home) (spec.said_originator request.now) }
     ensures originator { IfSome result (λ o. IsTrue (is_originator o.now)) }
 {
-    match &request.parts().fr {
-        Some(fr) => short_fr(fr.entries(), &entity.home),
+    match said_originator(request) {
+        Some(fr) => short_fr(fr, &entity.home),
         None => None,
     }
 }
@@ -102,10 +126,10 @@ fn answer_to<T: Tree>(
     requires claimed { claimed_originator entity.old.home request.now ≡ o.now }
     ensures reply { IfOk result (λ r. r ≡ (judged_at (address_places entity.old request.now)
         entity.old request.now
-        (named_by entity.old.home request.now.to entity.old.nodes)).reply) }
+        (spot_named entity.old.home request.now.to entity.old.nodes)).reply) }
     ensures after { OnOk result (entity.new ≡ (judged_at (address_places entity.old request.now)
         entity.old request.now
-        (named_by entity.old.home request.now.to entity.old.nodes)).after) }
+        (spot_named entity.old.home request.now.to entity.old.nodes)).after) }
     ensures err { OnErr result (entity.new ≡ entity.old) }
 {
     match address(alloc, entity, request) {

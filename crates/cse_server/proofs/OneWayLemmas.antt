@@ -10,7 +10,7 @@ use Rattle.turn_desk.specs.Growth.{IsOwnRun}
 use Rattle.turn_desk.proofs.GrowthLemmas.{Grew-runs}
 use Rattle.http_frames.specs.declared.frame.Frame.{Frame}
 use Rattle.http_frames.specs.declared.frame.Side.TheVariants.{Request}
-use Rattle.http_frames.specs.Stream.{BeginsWithFrame, HasNoFrame}
+use Rattle.http_frames.specs.Stream.{BeginsWithFrames, BeginsWithFrame, HasNoFrame}
 use Rattle.http_frames.proofs.FrameLemmas.{BeginsWith_unique}
 use Rattle.http_frames.proofs.InboxLemmas.{none_within}
 use Rattle.http_frames.proofs.LookLemmas.{some_bytes}
@@ -27,7 +27,7 @@ use Rattle.cse_server.specs.declared.connection.Ended.{Ended}
 use Rattle.cse_server.specs.declared.connection.Ended.TheVariants.{Closed, NoFrame, ReadFault, WriteFault, Memory}
 use Rattle.cse_server.specs.Closing.{closes}
 use Rattle.cse_server.specs.Talk.{requests_in, talk, some_closes, ends_at_close}
-use Rattle.cse_server.specs.Connection.{IsThese, RefusesRightly, EndsRightly, Says, AsksFrames}
+use Rattle.cse_server.specs.Connection.{RefusesRightly, EndsRightly, Says, AsksFrames}
 use Rattle.cse_server.specs.Replies.{GivesReplies}
 use Rattle.cse_server.specs.Laws.{IsFaultless, ServesBoth, AreServedAlike, IsAnsweredInOneWay, EqualSightsAreServedAlike}
 use Rattle.cse_server.proofs.RepliesLemmas.{gives_one_way}
@@ -96,7 +96,7 @@ up_behind place x (y ∷ ys) f up = rw f at up
 
 -- a stream settles which frames are heard, and how the connection ends
 pub heard_one_way : (heard others : List Frame) (place : ℕ) (ended end : Ended) (refused denied : Bool) (stream rest other : List ℕ)
-    → IsThese stream heard rest → IsThese stream others other
+    → BeginsWithFrames Request stream heard rest → BeginsWithFrames Request stream others other
     → IsTrue (ends_at_close heard place) → IsTrue (ends_at_close others place)
     → Settles place ended refused heard rest → Settles place end denied others other
     → (heard ≡ others) × (refused ≡ denied) × (ended ≡ end)
@@ -116,8 +116,8 @@ heard_one_way (x ∷ xs) (y ∷ ys) place ended end refused denied stream rest o
           let single : ys ≡ [] = last_heard place y ys c ups in
           let same : x ∷ xs ≡ y ∷ ys = cc (first.0, alone, single) in
           let whole : rest ≡ other =
-          sym (subst (λ (fs : List Frame). IsThese a.0 fs rest) alone a.2) ∙ first.1
-          ∙ subst (λ (fs : List Frame). IsThese b.0 fs other) single b.2 in
+          sym (subst (λ (fs : List Frame). BeginsWithFrames Request a.0 fs rest) alone a.2) ∙ first.1
+          ∙ subst (λ (fs : List Frame). BeginsWithFrames Request b.0 fs other) single b.2 in
           let ends =
           same_end place ended end refused denied (y ∷ ys) other
           (subst (λ (v : List ℕ). Settles place ended refused (y ∷ ys) v) whole
@@ -127,7 +127,7 @@ heard_one_way (x ∷ xs) (y ∷ ys) place ended end refused denied stream rest o
           let here : closes place x ≡ false = ap (closes place) first.0 ∙ o in
           let later =
           heard_one_way xs ys (place + 1) ended end refused denied b.0 rest other
-          (subst (λ (v : List ℕ). IsThese v xs rest) first.1 a.2) b.2
+          (subst (λ (v : List ℕ). BeginsWithFrames Request v xs rest) first.1 a.2) b.2
           (up_behind place x xs here up) (up_behind place y ys o ups)
           (Settles-behind place ended refused x xs rest here s) (Settles-behind place end denied y ys other o t) in
           (cc (first.0, later.0), later.1, later.2)

@@ -10,7 +10,7 @@ use Rattle.turn_desk.specs.Entries.{Marked}
 use Rattle.turn_desk.proofs.GrowthLemmas.{AsksAll-nothing}
 use Rattle.http_frames.specs.declared.frame.Frame.{Frame}
 use Rattle.http_frames.specs.declared.frame.Side.TheVariants.{Request}
-use Rattle.http_frames.specs.Stream.{HasNoFrame}
+use Rattle.http_frames.specs.Stream.{BeginsWithFrames, HasNoFrame}
 use Rattle.http_frames.specs.Inbox.{stream_of, Reads, HoldsNoFrame, most_held}
 use Rattle.http_binding.specs.Replying.{reply_text}
 use Rattle.http_frames.specs.declared.fault.PutFault.{PutFault}
@@ -21,7 +21,7 @@ use Rattle.cse_server.specs.declared.connection.Ended.{Ended}
 use Rattle.cse_server.specs.declared.connection.Ended.TheVariants.{Closed, NoFrame, ReadFault, WriteFault, Memory}
 use Rattle.cse_server.specs.Closing.{closes}
 use Rattle.cse_server.specs.Talk.{reply_texts, last_reply, talk, talk_before_last, some_closes, ends_at_close}
-use Rattle.cse_server.specs.Connection.{IsThese, ReadsLittle, RefusesRightly, EndsRightly, AppendsCut, Says, AsksFrames, ServesFrom}
+use Rattle.cse_server.specs.Connection.{ReadsLittle, RefusesRightly, EndsRightly, AppendsCut, Says, AsksFrames, ServesFrom}
 use Rattle.cse_server.specs.Way.{Leads, Goes, Hears, Refuses, SaysTurn, Turns, end_of_put}
 use Rattle.cse_server.proofs.NextLemmas.{kept_leads, reads_little, ended_empty, refused_rightly, reply_texts-one, some_closes-one}
 use Rattle.cse_server.proofs.PutLemmas.{prefix_none, cut_first}
@@ -71,7 +71,7 @@ turn_ends place frame Memory heard old new text rest src same little said = litt
 -- what the stream says of an end without a last reply
 abbrev EndsOn : ℕ → Ended → List Frame → Option (List ℕ) → List ℕ → Type 0
 EndsOn place ended heard src bytes =
-    (rest : List ℕ) × IsThese bytes heard rest × RefusesRightly place false heard rest × EndsRightly place ended false heard rest src
+    (rest : List ℕ) × BeginsWithFrames Request bytes heard rest × RefusesRightly place false heard rest × EndsRightly place ended false heard rest src
 
 turn_stream : (left src : Option (List ℕ)) (held : List ℕ) (place : ℕ) (frame : Frame) (ended : Ended) (heard : List Frame)
     (old new : Option (List ℕ)) (text : List ℕ) → heard ≡ frame ∷ [] → length held < most_held Request
@@ -81,7 +81,7 @@ turn_stream None src held place frame ended heard old new text same few leads sa
 turn_stream (Some bytes) None held place frame ended heard old new text same few leads said = absurd leads
 turn_stream (Some bytes) (Some m) held place frame ended heard old new text same few leads said = (
   held ++ m,
-  subst (λ (fs : List Frame). IsThese bytes fs (held ++ m)) (sym same) leads,
+  subst (λ (fs : List Frame). BeginsWithFrames Request bytes fs (held ++ m)) (sym same) leads,
   (λ t. absurd (false≢true t)),
   turn_ends place frame ended heard old new text (held ++ m) (Some m) same (record { held = held; rest_is = refl; few = few }) said,
 )
@@ -91,7 +91,7 @@ starved_stream : (left src : Option (List ℕ)) (place : ℕ) (ended : Ended) (h
 starved_stream None src place ended heard same memory little = tt
 starved_stream (Some bytes) src place ended heard same memory little = (
   bytes,
-  subst (λ (fs : List Frame). IsThese bytes fs bytes) (sym same) refl,
+  subst (λ (fs : List Frame). BeginsWithFrames Request bytes fs bytes) (sym same) refl,
   (λ t. absurd (false≢true t)),
   subst (λ (e : Ended). EndsRightly place e false heard bytes src) (sym memory) little,
 )
@@ -164,7 +164,7 @@ module _ {S : Type 0} (grown : S → List (Marked Event Outcome) → S → Type 
     }
       where
         here : (left : Option (List ℕ)) → IfSome left (λ bytes. RefusesRightly place refused [] bytes × EndsRightly place ended refused [] bytes new.left)
-            → IfSome left (λ bytes. (rest : List ℕ) × IsThese bytes [] rest × RefusesRightly place refused [] rest × EndsRightly place ended refused [] rest new.left)
+            → IfSome left (λ bytes. (rest : List ℕ) × BeginsWithFrames Request bytes [] rest × RefusesRightly place refused [] rest × EndsRightly place ended refused [] rest new.left)
         here None h = tt
         here (Some bytes) h = (bytes, refl, h.0, h.1)
 

@@ -18,7 +18,9 @@ use Rattle.cse_machine.specs.declared.event.Outcome.{Outcome}
 use Rattle.cse_server.specs.declared.connection.Ended.{Ended}
 use Rattle.cse_server.specs.declared.connection.Ended.TheVariants.{Closed, NoFrame, ReadFault, WriteFault, Memory}
 use Rattle.cse_server.specs.Talk.{requests_in, reply_texts, talk, talk_before_last, some_closes}
-use Rattle.cse_server.specs.Connection.{IsThese, RefusesRightly, EndsRightly, Says, AsksFrames, ServesFrom}
+use Rattle.http_frames.specs.declared.frame.Side.TheVariants.{Request}
+use Rattle.http_frames.specs.Stream.{BeginsWithFrames}
+use Rattle.cse_server.specs.Connection.{RefusesRightly, EndsRightly, Says, AsksFrames, ServesFrom}
 use Rattle.cse_server.specs.Replies.{GivesReplies}
 use Rattle.cse_server.specs.Way.{Leads, Goes}
 use Rattle.cse_server.proofs.TalkLemmas.{some_closes-append, ends_at_close-append, requests_in-append, reply_texts-append, talk-append, before_last-joined}
@@ -40,15 +42,15 @@ Tells-nil (Some xs) = sym (append-nil xs)
 
 -- ---- streams
 
-pub IsThese-append : (xs ys : List Frame) (stream mid rest : List ℕ) → IsThese stream xs mid → IsThese mid ys rest → IsThese stream (xs ++ ys) rest
-IsThese-append [] ys stream mid rest first then = subst (λ (v : List ℕ). IsThese v ys rest) (sym first) then
-IsThese-append (x ∷ xs) ys stream mid rest first then = (first.0, first.1, IsThese-append xs ys first.0 mid rest first.2 then)
+pub BeginsWithFrames-append : (xs ys : List Frame) (stream mid rest : List ℕ) → BeginsWithFrames Request stream xs mid → BeginsWithFrames Request mid ys rest → BeginsWithFrames Request stream (xs ++ ys) rest
+BeginsWithFrames-append [] ys stream mid rest first then = subst (λ (v : List ℕ). BeginsWithFrames Request v ys rest) (sym first) then
+BeginsWithFrames-append (x ∷ xs) ys stream mid rest first then = (first.0, first.1, BeginsWithFrames-append xs ys first.0 mid rest first.2 then)
 
 pub Leads-append : (xs ys : List Frame) (left mid rest : Option (List ℕ)) → Leads left xs mid → Leads mid ys rest → Leads left (xs ++ ys) rest
 Leads-append xs ys None mid rest first then = tt
 Leads-append xs ys (Some a) None rest first then = absurd first
 Leads-append xs ys (Some a) (Some b) None first then = absurd then
-Leads-append xs ys (Some a) (Some b) (Some c) first then = IsThese-append xs ys a b c first then
+Leads-append xs ys (Some a) (Some b) (Some c) first then = BeginsWithFrames-append xs ys a b c first then
 
 -- ---- how it ends, joined
 
@@ -68,14 +70,14 @@ Ends-then place between Memory refused xs ys rest now stays places h = h
 -- what the stream says of an end
 abbrev EndsOn : ℕ → Ended → Bool → List Frame → Option (List ℕ) → List ℕ → Type 0
 EndsOn place ended refused heard now bytes =
-    (rest : List ℕ) × IsThese bytes heard rest × RefusesRightly place refused heard rest × EndsRightly place ended refused heard rest now
+    (rest : List ℕ) × BeginsWithFrames Request bytes heard rest × RefusesRightly place refused heard rest × EndsRightly place ended refused heard rest now
 
 stream_then : (place between : ℕ) (xs ys : List Frame) (refused : Bool) (ended : Ended) (left mid now : Option (List ℕ)) → some_closes xs place ≡ false → place + length xs ≡ between → Leads left xs mid → IfSome mid (EndsOn between ended refused ys now) → IfSome left (EndsOn place ended refused (xs ++ ys) now)
 stream_then place between xs ys refused ended None mid now stays places first then = tt
 stream_then place between xs ys refused ended (Some a) None now stays places first then = absurd first
 stream_then place between xs ys refused ended (Some a) (Some b) now stays places first then = (
   then.0,
-  IsThese-append xs ys a b then.0 first then.1,
+  BeginsWithFrames-append xs ys a b then.0 first then.1,
   Refuses-then place between refused xs ys then.0 stays places then.2,
   Ends-then place between ended refused xs ys then.0 now stays places then.3,
 )

@@ -12,7 +12,7 @@ use Rattle.turn_desk.specs.Growth.{AsksAll}
 use Rattle.http_frames.specs.declared.frame.Frame.{Frame}
 use Rattle.http_frames.specs.declared.frame.Side.TheVariants.{Request}
 use Rattle.http_frames.specs.Inbox.{most_held}
-use Rattle.http_frames.specs.Stream.{BeginsWithFrame, HasNoFrame}
+use Rattle.http_frames.specs.Stream.{BeginsWithFrames, HasNoFrame}
 use Rattle.cse_machine.specs.declared.event.Event.{Event}
 use Rattle.cse_machine.specs.declared.event.Event.TheVariants.{Ask}
 use Rattle.cse_machine.specs.declared.event.Outcome.{Outcome}
@@ -21,14 +21,6 @@ use Rattle.cse_server.specs.declared.connection.Ended.TheVariants.{Closed, NoFra
 use Rattle.cse_server.specs.declared.connection.Ended.TheVariants.{WriteFault, Memory}
 use Rattle.cse_server.specs.Replies.{GivesReplies}
 use Rattle.cse_server.specs.Talk.{requests_in, talk, talk_before_last, some_closes, ends_at_close}
-
--- ---- streams
-
--- The stream is these requests one after another, and then a rest (RFC 9112, section 9.3).
-abbrev pub IsThese : List ℕ → List Frame → List ℕ → Type 0
-IsThese stream [] rest = stream ≡ rest
-IsThese stream (frame ∷ frames) rest =
-    (after : List ℕ) × BeginsWithFrame Request stream frame after × IsThese after frames rest
 
 -- ---- how it ends
 
@@ -109,7 +101,7 @@ pub record ServesFrom {S : Type 0} (place : ℕ)
   -- they are the requests of the stream up to the first that closes, and it ended as they and the
   -- rest say
   pub up_to : IsTrue (ends_at_close heard place)
-  pub stream : IfSome old.left (λ bytes. (rest : List ℕ) × IsThese bytes heard rest
+  pub stream : IfSome old.left (λ bytes. (rest : List ℕ) × BeginsWithFrames Request bytes heard rest
       × RefusesRightly place refused heard rest
       × EndsRightly place ended refused heard rest new.left)
   -- their talk by these replies is written

@@ -21,13 +21,15 @@ use Rattle.cse_server.specs.Closing.{closes}
 use Rattle.cse_server.specs.Replies.{GivesReply}
 use Rattle.cse_server.specs.Talk.{request_in, reply_for, reply_texts, last_reply}
 use Rattle.cse_server.specs.Talk.{some_closes}
-use Rattle.cse_server.specs.Connection.{IsThese, AsksFrames}
+use Rattle.http_frames.specs.declared.frame.Side.TheVariants.{Request}
+use Rattle.http_frames.specs.Stream.{BeginsWithFrames}
+use Rattle.cse_server.specs.Connection.{AsksFrames}
 
 -- The stream, where it is told, was these requests and then what is left of it now.
 abbrev pub Leads : Option (List ℕ) → List Frame → Option (List ℕ) → Type 0
 Leads None heard now = ⊤
 Leads (Some stream) heard None = ⊥
-Leads (Some stream) heard (Some rest) = IsThese stream heard rest
+Leads (Some stream) heard (Some rest) = BeginsWithFrames Request stream heard rest
 
 -- The connection goes on: the frames from this place up to the next were answered, and none of them
 -- closes.

@@ -7,8 +7,8 @@ pub fn what_is_behind_a_closing_frame_is_not_answered()
     ensures { NothingIsAnsweredBehindClose }
 {}
 
-/// What a connection of a sound entity shows and changes, it does by a grant to the originator of the
-/// request.
+/// What a connection of a sound entity shows and changes, it does by a grant to the originator of
+/// the request.
 pub fn a_connection_shows_and_changes_by_grant_alone()
     ensures { ServesGuarded }
 {}

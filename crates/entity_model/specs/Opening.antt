@@ -1,5 +1,6 @@
 -- The entity that nothing has happened to yet.
 use Rattle.std.specs.Prelude.{ℕ, List, [], ◌∷◌, codes}
+use Rattle.m2m_names.specs.Operations.{all_bits}
 use Rattle.m2m_names.specs.Stamps.{last_moment}
 use Rattle.m2m_names.specs.declared.attributes.Attr.TheVariants.{Acpi, Pv, Pvs}
 use Rattle.m2m_names.specs.declared.types.Ty.TheVariants.{AccessControlPolicy, CseBase}
@@ -7,7 +8,7 @@ use Rattle.m2m_value.specs.Data.{Data, text, list, elements_of}
 use Rattle.resource_model.specs.Attributes.{Row}
 use Rattle.resource_model.specs.Home.{HomeData}
 use Rattle.resource_model.specs.Resource.{ResourceData}
-use Rattle.policy_eval.specs.Rules.{all_bits, written_rule, written_rules}
+use Rattle.policy_eval.specs.Rules.{written_rule, written_rules}
 use Rattle.policy_eval.specs.Rights.{create_bit}
 use Rattle.entity_model.specs.Entity.{EntityData, cut}
 

@@ -1,5 +1,6 @@
 -- What comes of a request, and the order in which it is refused.
-use Rattle.std.specs.Prelude.{Bool, List, [], ◌∷◌, Option, Some, None, if◌then◌else◌}
+use Rattle.std.specs.Prelude.{Bool, ℤ, pos, List, [], ◌∷◌, Option, Some, None, unwrap_or}
+use Rattle.std.specs.Prelude.{if◌then◌else◌}
 use Rattle.std.specs.Option.{option_map_or}
 use Rattle.m2m_names.specs.declared.codes.Rsc.{Rsc}
 use Rattle.m2m_value.specs.Data.{Data}
@@ -14,6 +15,10 @@ reply_to request rsc content = record { rsc = rsc; rqi = Some request.rqi; pc = 
 -- a refusal has no content
 abbrev pub refusal : RequestParts → Rsc → ReplyParts
 refusal request rsc = reply_to request rsc None
+
+-- the result content that a request asks for: the attributes, where it says none (TS-0001, 8.1.2)
+abbrev pub wanted_content : Option ℤ → ℤ
+wanted_content rcn = unwrap_or rcn (pos 1)
 
 -- what comes of a request: the reply, and the entity after it
 pub record Effect : Type 0 where

@@ -5,7 +5,6 @@ use Rattle.std.specs.Prelude.{option_and_then, IsTrue}
 use Rattle.std.specs.List.{filter_map, list_all, list_any}
 use Rattle.std.specs.Option.{option_map_or}
 use Rattle.std.specs.Str.{bytes_eq}
-use Rattle.m2m_names.specs.Name.{is_free_name}
 use Rattle.m2m_names.specs.declared.attributes.Attr.TheVariants.{Acpi, Macp, St}
 use Rattle.m2m_names.specs.declared.types.Ty.TheVariants.{Container, ContentInstance, CseBase}
 use Rattle.m2m_value.specs.Data.{Data}
@@ -13,6 +12,7 @@ use Rattle.m2m_value.specs.View.{as_text}
 use Rattle.resource_model.specs.Attributes.{value_of}
 use Rattle.resource_model.specs.Home.{HomeData, IsHome}
 use Rattle.resource_model.specs.Resource.{ResourceData, is_ty, cse_id}
+pub use Rattle.resource_model.specs.Resource.{has_free_name}
 use Rattle.tree_model.specs.Shown.{own_cse_id}
 use Rattle.tree_model.specs.Tree.{channels_of, instances_of, instance_size, sizes_of, depth}
 use Rattle.tree_model.specs.Tree.{are_below, is_well_formed}
@@ -70,10 +70,6 @@ has_state_tag r = not (is_ty r.ty Container) || is_some (value_of St r.attrs)
 abbrev pub begins_with_base : HomeData → List ResourceData → Bool
 begins_with_base home [] = false
 begins_with_base home (r ∷ nodes) = is_ty r.ty CseBase && bytes_eq r.name home.base
-
--- its name addresses nothing else (TS-0001, 9.6.1.3)
-abbrev pub has_free_name : ResourceData → Bool
-has_free_name r = is_free_name r.name
 
 -- the own CSE-ID and those of all remote CSEs
 abbrev pub cse_ids : HomeData → List ResourceData → List (List ℕ)

@@ -10,7 +10,7 @@ ghost use Rattle.entity_model.specs.Sound.{IsSoundEntity, spares_first};
 
 /// An entity opens sound, and stays sound: under the expiry, and where some resources are removed
 /// with all that stands below them, unless the CSEBase is.
-pub fn an_entity_stays_sound()
+pub fn opening_expiry_and_removal_are_sound()
     ensures opened { (home : HomeData) (reading : ℕ) → IsHome home
         → IsSoundEntity (opening home reading) }
     ensures swept { (reading : ℕ) (e : EntityData) → IsSoundEntity e

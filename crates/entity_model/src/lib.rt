@@ -2,11 +2,11 @@
 //! and the moment of the last event; how it opens, and what each event finds of it.
 //!
 //! To callers an `Entity` is the record of these (`EntityData` of `specs/Entity`), its tree being
-//! the plain list of its resources, and it is sound at every moment (`IsSoundEntity` of `specs/Sound`).
-//! Its fields are public: whoever changes them in place owes that it is sound again. `Entity::open`
-//! gives exactly the opening entity. `sweep` brings the entity to the moment of an event, and
-//! removes what is due by then with all that stands below it; it takes no memory as yet, and would
-//! only where something is due.
+//! the plain list of its resources, and it is sound at every moment (`IsSoundEntity` of
+//! `specs/Sound`). Its fields are public: whoever changes them in place owes that it is sound
+//! again. `Entity::open` gives exactly the opening entity. `sweep` brings the entity to the moment
+//! of an event, and removes what is due by then with all that stands below it; it takes no memory
+//! as yet, and would only where something is due.
 //!
 //! Laws over every entity stand on functions without a body: an entity opens sound, and stays sound
 //! where something but the CSEBase is removed; its first resource is its only CSEBase; and while no
@@ -22,9 +22,10 @@ mod sweeping;
 
 pub use entity::Entity;
 pub use laws::{
-    a_sound_entity_has_one_base, an_entity_stays_sound, nothing_expires_while_no_time_passes,
+    a_sound_entity_has_one_base, nothing_expires_while_no_time_passes,
+    opening_expiry_and_removal_are_sound,
 };
 pub use moments::event_moment;
-pub use replying::{refuse, reply_to};
+pub use replying::{refuse, reply_to, wanted_content};
 pub use std::alloc::AllocError as OutOfMemory;
 pub use sweeping::sweep;

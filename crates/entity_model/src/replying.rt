@@ -30,3 +30,10 @@ pub fn refuse(alloc: Global, request: &Request, fault: Rsc) -> Result<Reply, Out
 {
     reply_to(alloc, request, fault, None)
 }
+
+/// The result content that a request asks for: 1, the attributes, where it says none.
+pub fn wanted_content(request: &Request) -> i64
+    ensures { result ≡ spec.wanted_content request.now.rcn }
+{
+    request.parts().rcn.unwrap_or(1)
+}

@@ -1,10 +1,10 @@
 -- Filters are read back from what is written of them, and what is read is of its kinds.
-use Rattle.std.proofs.Common.{◌≡◌, ℕ, nat_le, ℤ, pos, List, [], ◌∷◌, map, Bool, true, is_some, Option, Some, None, option_map, option_and_then, IfSome, refl, sym, ap, ◌∙◌}
+use Rattle.std.proofs.Common.{◌≡◌, ℕ, ℤ, pos, List, [], ◌∷◌, map, Bool, true, is_some, Option, Some, None, option_map, option_and_then, IfSome, refl, sym, ap, ◌∙◌}
 use Rattle.std.specs.List.{list_all, filter_map}
 use Rattle.std.specs.Option.{option_map_or}
-use Rattle.m2m_names.specs.Name.{is_filled}
+use Rattle.m2m_names.specs.Types.{is_type_number}
 use Rattle.m2m_value.specs.Data.{Data, number, text, object, Entry, pairs_of}
-use Rattle.m2m_value.specs.Shapes.{as_count, is_label, label_limit}
+use Rattle.m2m_value.specs.Shapes.{as_count, is_label, is_label_text}
 use Rattle.m2m_value.specs.View.{as_text, as_number, member_of}
 use Rattle.m2m_value.proofs.Levels.{entries-pairs_of}
 use Rattle.filter_criteria.specs.Bounds.{IsMoment}
@@ -26,11 +26,11 @@ usage_back : (usage : FilterUsage) → read_usage (number (usage_number usage)) 
 usage_back Discovery = refl
 usage_back Conditional = refl
 
-labels_kept : (ls : List (List ℕ)) → list_all (is_filled label_limit) ls ≡ true → AllBack label_of text ls
-labels_kept ls h = all_back label_of text (is_filled label_limit) (where_kept (is_filled label_limit)) ls h
+labels_kept : (ls : List (List ℕ)) → list_all is_label_text ls ≡ true → AllBack label_of text ls
+labels_kept ls h = all_back label_of text is_label_text (where_kept is_label_text) ls h
 
-types_kept : (ns : List ℕ) → list_all (λ n. nat_le n 65_535) ns ≡ true → AllBack read_type_number count_data ns
-types_kept ns h = all_back read_type_number count_data (λ n. nat_le n 65_535) (where_kept (λ n. nat_le n 65_535)) ns h
+types_kept : (ns : List ℕ) → list_all is_type_number ns ≡ true → AllBack read_type_number count_data ns
+types_kept ns h = all_back read_type_number count_data is_type_number (where_kept is_type_number) ns h
 
 -- ---- the filter of the members
 
@@ -72,10 +72,10 @@ module _ (f : FilterParts) where
       any None = tt
       any (Some u) = tt
 
-  labels_there : list_all (is_filled label_limit) f.lbl ≡ true → labels_in es ≡ f.lbl
+  labels_there : list_all is_label_text f.lbl ≡ true → labels_in es ≡ f.lbl
   labels_there h = ap (λ d. option_map_or (all_of label_of) d []) (there f OneLabel) ∙ list_back label_of text f.lbl (labels_kept f.lbl h)
 
-  types_there : list_all (λ n. nat_le n 65_535) f.ty ≡ true → types_in es ≡ f.ty
+  types_there : list_all is_type_number f.ty ≡ true → types_in es ≡ f.ty
   types_there h = ap (λ d. option_map_or (all_of read_type_number) d []) (there f OneType) ∙ list_back read_type_number count_data f.ty (types_kept f.ty h)
 
   -- the filter is read from what is written of it
@@ -118,14 +118,14 @@ each_fits f kinds CreatedBefore = fits_moment f.crb kinds.crb
 each_fits f kinds ExpireAfter = fits_moment f.exa kinds.exa
 each_fits f kinds ExpireBefore = fits_moment f.exb kinds.exb
 each_fits f kinds Usage = fits_usage f.fu
-each_fits f kinds OneLabel = list_passes text (is_filled label_limit) is_label (λ s h. h) f.lbl kinds.lbl
+each_fits f kinds OneLabel = list_passes text is_label_text is_label (λ s h. h) f.lbl kinds.lbl
 each_fits f kinds Limit = fits_count f.lim
 each_fits f kinds ModifiedSince = fits_moment f.ms kinds.ms
 each_fits f kinds StateTagBigger = fits_count f.stb
 each_fits f kinds StateTagSmaller = fits_count f.sts
 each_fits f kinds SizeAbove = fits_count f.sza
 each_fits f kinds SizeBelow = fits_count f.szb
-each_fits f kinds OneType = list_passes count_data (λ n. nat_le n 65_535) (λ d. is_some (read_type_number d)) (λ n h. ap is_some (where_kept (λ n. nat_le n 65_535) n h)) f.ty kinds.ty
+each_fits f kinds OneType = list_passes count_data is_type_number (λ d. is_some (read_type_number d)) (λ n h. ap is_some (where_kept is_type_number n h)) f.ty kinds.ty
 each_fits f kinds UnmodifiedSince = fits_moment f.us kinds.us
 
 pub filter_fits : (f : FilterParts) → IsFilterOfKinds f → is_filter (written_filter f) ≡ true
@@ -150,6 +150,6 @@ filter_of_kinds es = record {
   us = moment_kind UnmodifiedSince es;
   exb = moment_kind ExpireBefore es;
   exa = moment_kind ExpireAfter es;
-  lbl = all_of_kind label_of (is_filled label_limit) (λ d. where_passes (is_filled label_limit) (as_text d)) (member_of (name_of_condition OneLabel) es);
-  ty = all_of_kind read_type_number (λ n. nat_le n 65_535) (λ d. where_passes (λ n. nat_le n 65_535) (as_count d)) (member_of (name_of_condition OneType) es);
+  lbl = all_of_kind label_of is_label_text (λ d. where_passes is_label_text (as_text d)) (member_of (name_of_condition OneLabel) es);
+  ty = all_of_kind read_type_number is_type_number (λ d. where_passes is_type_number (as_count d)) (member_of (name_of_condition OneType) es);
 }

@@ -4,10 +4,9 @@ use Rattle.std.specs.Prelude.{is_some, if◌then◌else◌, codes, option_and_th
 use Rattle.std.specs.List.{list_all, filter_map}
 use Rattle.std.specs.Option.{option_map_or}
 use Rattle.std.specs.Str.{bytes_eq}
-use Rattle.m2m_names.specs.Name.{is_filled}
 use Rattle.m2m_names.specs.StampReading.{moment_at}
 use Rattle.m2m_value.specs.Data.{Data, null, boolean, number, text, list, object, Entry}
-use Rattle.m2m_value.specs.Shapes.{as_count, is_label, label_limit}
+use Rattle.m2m_value.specs.Shapes.{as_count, is_label, is_label_text}
 use Rattle.m2m_value.specs.View.{as_number, as_text, as_object, elements, member_of}
 use Rattle.filter_criteria.specs.Values.{where_it, read_type_number}
 use Rattle.filter_criteria.specs.declared.condition.Condition.{Condition}
@@ -36,7 +35,7 @@ read_moment d = option_and_then moment_at (as_text d)
 
 -- a label: a text of 1 to 256 bytes
 abbrev pub label_of : Data → Option (List ℕ)
-label_of d = where_it (is_filled label_limit) (as_text d)
+label_of d = where_it is_label_text (as_text d)
 
 -- how a filter is used, by its number (TS-0004, 6.3.4.2.31)
 abbrev pub usage_numbered : ℤ → Option FilterUsage
@@ -159,5 +158,5 @@ filter_in es = record {
 }
 
 -- the filter with these labels in place of its own
-abbrev pub with_labels : List (List ℕ) → FilterParts → FilterParts
-with_labels labels f = record f { lbl = labels }
+abbrev pub relabelled : List (List ℕ) → FilterParts → FilterParts
+relabelled labels f = record f { lbl = labels }

@@ -1,9 +1,9 @@
 -- What is read as a filter is of its kinds, and is read back from the value that is written of it.
-use Rattle.std.specs.Prelude.{◌≡◌, nat_le, IsTrue, IfSome, List}
+use Rattle.std.specs.Prelude.{◌≡◌, IsTrue, IfSome, List}
 use Rattle.std.specs.List.{list_all}
-use Rattle.m2m_names.specs.Name.{is_filled}
+use Rattle.m2m_names.specs.Types.{is_type_number}
 use Rattle.m2m_value.specs.Data.{Entry}
-use Rattle.m2m_value.specs.Shapes.{label_limit}
+use Rattle.m2m_value.specs.Shapes.{is_label_text}
 use Rattle.filter_criteria.specs.Bounds.{IsMoment}
 use Rattle.filter_criteria.specs.Conditions.{is_filter, filter_in}
 use Rattle.filter_criteria.specs.Values.{members_in}
@@ -18,8 +18,8 @@ pub record IsFilterOfKinds (f : FilterParts) : Type 0 where
   pub us : IfSome f.us IsMoment
   pub exb : IfSome f.exb IsMoment
   pub exa : IfSome f.exa IsMoment
-  pub lbl : IsTrue (list_all (is_filled label_limit) f.lbl)
-  pub ty : IsTrue (list_all (λ n. nat_le n 65_535) f.ty)
+  pub lbl : IsTrue (list_all is_label_text f.lbl)
+  pub ty : IsTrue (list_all is_type_number f.ty)
 
 -- the filter that members make is of its kinds
 abbrev pub FiltersAreOfKinds : Type 0

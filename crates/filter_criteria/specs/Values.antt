@@ -1,9 +1,10 @@
 -- Members of an object by their names, the object of the members that are there, and the kinds of
 -- values that filters share with the primitives around them (TS-0004, 8.2.2 and 8.2.5).
-use Rattle.std.specs.Prelude.{ℕ, nat_le, Bool, pos, List, [], ◌∷◌, Option, Some, None}
+use Rattle.std.specs.Prelude.{ℕ, Bool, pos, List, [], ◌∷◌, Option, Some, None}
 use Rattle.std.specs.Prelude.{if◌then◌else◌, option_map, unwrap_or}
 use Rattle.std.specs.List.{filter_map}
 use Rattle.m2m_names.specs.Stamps.{timestamp}
+use Rattle.m2m_names.specs.Types.{is_type_number}
 use Rattle.m2m_value.specs.Data.{Data, number, text, object, Entry, pairs_of}
 use Rattle.m2m_value.specs.Shapes.{as_count}
 use Rattle.m2m_value.specs.View.{as_object}
@@ -17,9 +18,9 @@ where_it test (Some a) = if test a then Some a else None
 abbrev pub members_in : Data → List Entry
 members_in d = unwrap_or (as_object d) []
 
--- the number of a resource type: 0 to 65,535
+-- the number of a resource type
 abbrev pub read_type_number : Data → Option ℕ
-read_type_number d = where_it (λ n. nat_le n 65_535) (as_count d)
+read_type_number d = where_it is_type_number (as_count d)
 
 -- ---- the members that are there
 

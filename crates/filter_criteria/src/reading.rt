@@ -11,8 +11,8 @@ ghost use Rattle.filter_criteria.specs.Values as shared;
 use crate::condition::{Condition, Sort};
 use crate::filter::{Filter, FilterParts, FilterUsage};
 use crate::values::{owned_text, read_type_number, value_at};
-use m2m_names::{is_filled, read_stamp};
-use m2m_value::{LABEL_LIMIT, Labels, Node, Numbers, Text, Val};
+use m2m_names::read_stamp;
+use m2m_value::{Labels, Node, Numbers, Text, Val, is_label_text};
 use std::alloc::{AllocError as OutOfMemory, Global};
 use std::slice;
 
@@ -150,7 +150,7 @@ fn types_in(alloc: Global, filter: &Val) -> Result<Numbers, OutOfMemory>
 /// The filter that the members make, but for its labels.
 pub fn plain_filter(alloc: Global, filter: &Val) -> Result<Filter, OutOfMemory>
     ensures { IfOk result
-        (λ f. f ≡ spec.with_labels [] (spec.filter_in (shared.members_in filter.now))) }
+        (λ f. f ≡ spec.relabelled [] (spec.filter_in (shared.members_in filter.now))) }
 {
     Ok(Filter::of(FilterParts {
         crb: moment_for(filter, Condition::CreatedBefore),
@@ -190,7 +190,7 @@ fn owned_label(value: Val) -> Option<Text>
     ensures utf8 { IfSome result IsUtf8 }
 {
     match owned_text(Some(value)) {
-        Some(text) if is_filled(text.entries(), LABEL_LIMIT) => Some(text),
+        Some(text) if is_label_text(text.entries()) => Some(text),
         _ => None,
     }
 }
@@ -236,7 +236,7 @@ pub fn labels_from(alloc: Global, value: Option<Val>) -> Result<Labels, OutOfMem
 /// The filter, if there is one, with these labels.
 pub fn labelled(filter: Option<Filter>, labels: Labels) -> Option<Filter>
     requires { AllByRecursion IsUtf8 labels }
-    ensures { result ≡ option_map (spec.with_labels labels) filter }
+    ensures { result ≡ option_map (spec.relabelled labels) filter }
 {
     match filter {
         Some(filter) => Some(Filter::of(FilterParts {

@@ -10,7 +10,7 @@ ghost use Rattle.m2m_value.specs.View.{as_text, member_of};
 ghost use Rattle.filter_criteria.specs.Bounds.{IsMoment};
 ghost use Rattle.filter_criteria.specs.Values as spec;
 
-use m2m_names::write_stamp;
+use m2m_names::{is_type_number, write_stamp};
 use m2m_value::{Members, Node, Text, Val};
 use std::alloc::{AllocError as OutOfMemory, Global};
 
@@ -36,7 +36,7 @@ pub fn read_type_number(value: &Val) -> Option<u32>
     ensures { result ≡ spec.read_type_number value.now }
 {
     let number = value.as_count()?;
-    if number <= 65_535 {
+    if is_type_number(number) {
         Some(number as u32)
     } else {
         None

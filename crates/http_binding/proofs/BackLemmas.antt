@@ -2,7 +2,7 @@
 use Rattle.std.proofs.Common.{◌≡◌, ℕ, zero, suc, ◌*◌, ◌<◌, ◌≤◌, ◌^◌, Bool, true, false, ◌&&◌, leb, ltb, List, [], ◌∷◌, ◌++◌, length, reverse, codes, Option, Some, None, IsTrue, IfSome, refl, sym, ap, subst, ◌∙◌, arith}
 use Rattle.std.specs.Prelude.{All}
 use Rattle.std.specs.Fmt.{decimal}
-use Rattle.std.specs.Char.{is_ascii_digit}
+use Rattle.std.specs.Char.{is_ascii_digit, is_ascii_graphic}
 use Rattle.std.specs.Int.{is_in_range, IsInRange}
 use Rattle.std.specs.List.{list_all, flat_map}
 use Rattle.std.specs.Str.Parse.{AllDigits}
@@ -19,7 +19,7 @@ use Rattle.m2m_names.specs.StatusCodes.{rsc_row}
 use Rattle.m2m_names.specs.declared.codes.Rsc.{Rsc}
 use Rattle.m2m_names.proofs.StatusLemmas.{number_in_range, http_in_range}
 use Rattle.m2m_value.specs.Data.{Data}
-use Rattle.primitive_json.specs.Bounds.{is_graphic, is_request_id}
+use Rattle.primitive_json.specs.Bounds.{is_request_id}
 use Rattle.primitive_json.specs.declared.reply.ReplyParts.{ReplyParts}
 use Rattle.http_frames.specs.declared.frame.Side.TheVariants.{Reply}
 use Rattle.http_frames.specs.declared.frame.Start.{Start}
@@ -36,33 +36,33 @@ use Rattle.http_binding.specs.Replying.{body_of, id_lines, type_lines, close_lin
 use Rattle.http_binding.specs.Laws.{IsWithinLimits}
 
 -- a printable character but space may stand in a value, and is no white space
-graphic_value : (b : ℕ) → IsTrue (is_graphic b) → IsTrue (is_value_byte b)
+graphic_value : (b : ℕ) → IsTrue (is_ascii_graphic b) → IsTrue (is_value_byte b)
 graphic_value b h = grind (arith, nat_tests, h)
 
-graphic_apart : (b : ℕ) → IsTrue (is_graphic b) → is_ows b ≡ false
+graphic_apart : (b : ℕ) → IsTrue (is_ascii_graphic b) → is_ows b ≡ false
 graphic_apart b h = grind (arith, nat_tests, h)
 
-skip_nothing : (value : List ℕ) → AllPass is_graphic value → skip_ows value ≡ value
+skip_nothing : (value : List ℕ) → AllPass is_ascii_graphic value → skip_ows value ≡ value
 skip_nothing [] all = refl
-skip_nothing (b ∷ value) all = cond-false _ _ _ (graphic_apart b (All-head (λ c. IsTrue (is_graphic c)) b value all))
+skip_nothing (b ∷ value) all = cond-false _ _ _ (graphic_apart b (All-head (λ c. IsTrue (is_ascii_graphic c)) b value all))
 
-trim_nothing : (value : List ℕ) → AllPass is_graphic value → trim_ows value ≡ value
+trim_nothing : (value : List ℕ) → AllPass is_ascii_graphic value → trim_ows value ≡ value
 unfolding trim_ows
 trim_nothing value all =
     let front = skip_nothing value all in
-    let back = skip_nothing (reverse value) (AllPass-reverse is_graphic value all) in
+    let back = skip_nothing (reverse value) (AllPass-reverse is_ascii_graphic value all) in
     rw (front, back, reverse-reverse)
 
 -- a line of the grammar, and not long
 abbrev IsShortLine : Line → Type 0
 IsShortLine line = IsLine line × (length (line_text line) ≤ 160)
 
-short_line : (name value : List ℕ) → IsTrue (is_token name) → length name ≤ 16 → AllPass is_graphic value → length value ≤ 128 → IsShortLine (name, value)
+short_line : (name value : List ℕ) → IsTrue (is_token name) → length name ≤ 16 → AllPass is_ascii_graphic value → length value ≤ 128 → IsShortLine (name, value)
 short_line name value token narrow all short =
     let parts = and_parts (ltb 0 (length name)) (list_all is_token_byte name) token in (
       (
         (ltb-true 0 (length name) parts.0, AllPass-from_list_all is_token_byte name parts.1),
-        All-weaker (λ b. IsTrue (is_graphic b)) (λ b. IsTrue (is_value_byte b)) graphic_value value all,
+        All-weaker (λ b. IsTrue (is_ascii_graphic b)) (λ b. IsTrue (is_value_byte b)) graphic_value value all,
         trim_nothing value all,
       ),
       omega (arith, length-append name (58 ∷ 32 ∷ value ++ 13 ∷ 10 ∷ []), length-append value (13 ∷ 10 ∷ [])),
@@ -73,14 +73,14 @@ digits_pass : (test : ℕ → Bool) → ((c : ℕ) → IsInRange 48 57 c → IsT
 digits_pass test f [] all = All-nil (λ c. IsTrue (test c))
 digits_pass test f (c ∷ ds) all = All-cons (λ c. IsTrue (test c)) c ds (f c (digit_from_value c all.0)) (digits_pass test f ds all.1)
 
-digit_graphic : (c : ℕ) → IsInRange 48 57 c → IsTrue (is_graphic c)
+digit_graphic : (c : ℕ) → IsInRange 48 57 c → IsTrue (is_ascii_graphic c)
 digit_graphic c h = and_from _ _ (le-leb 33 c (omega (arith, h.0))) (le-leb c 126 (omega (arith, h.1)))
 
 digit_is : (c : ℕ) → IsInRange 48 57 c → IsTrue (is_ascii_digit c)
 digit_is c h = and_from _ _ (le-leb 48 c h.0) (le-leb c 57 h.1)
 
-decimal_graphic : (n : ℕ) → n < 2 ^ 64 → AllPass is_graphic (decimal n)
-decimal_graphic n small = digits_pass is_graphic digit_graphic (decimal n) (decimal_is_IsNumeral n small).0.1
+decimal_graphic : (n : ℕ) → n < 2 ^ 64 → AllPass is_ascii_graphic (decimal n)
+decimal_graphic n small = digits_pass is_ascii_graphic digit_graphic (decimal n) (decimal_is_IsNumeral n small).0.1
 
 -- a length of seven digits at most is a value of Content-Length, and is worth what it is
 length_is : (n : ℕ) → n < 10 ^ 7 → is_length (decimal n) ≡ true
@@ -110,23 +110,23 @@ short_id : (id : Option (List ℕ)) → IfSome id (λ t. IsTrue (is_request_id t
 unfolding is_token_byte
 short_id None h = All-nil IsShortLine
 short_id (Some id) h =
-    let parts = and_parts (is_in_range 1 128 (length id)) (list_all is_graphic id) h in
+    let parts = and_parts (is_in_range 1 128 (length id)) (list_all is_ascii_graphic id) h in
     let short = leb-true (length id) 128 (and_parts (leb 1 (length id)) _ parts.0).1 in
-    All-cons IsShortLine (field_name Id, id) [] (short_line (field_name Id) id refl (omega arith) (AllPass-from_list_all is_graphic id parts.1) short) (All-nil IsShortLine)
+    All-cons IsShortLine (field_name Id, id) [] (short_line (field_name Id) id refl (omega arith) (AllPass-from_list_all is_ascii_graphic id parts.1) short) (All-nil IsShortLine)
 
 short_type : (content : Option Data) → All IsShortLine (type_lines content)
 unfolding is_token_byte
 short_type None = All-nil IsShortLine
 short_type (Some content) =
     let value = codes "application/json" in
-    All-cons IsShortLine (type_field, value) [] (short_line (type_field) value refl (omega arith) (AllPass-from_list_all is_graphic value refl) (omega arith)) (All-nil IsShortLine)
+    All-cons IsShortLine (type_field, value) [] (short_line (type_field) value refl (omega arith) (AllPass-from_list_all is_ascii_graphic value refl) (omega arith)) (All-nil IsShortLine)
 
 short_close : (close : Bool) → All IsShortLine (close_lines close)
 unfolding is_token_byte
 short_close false = All-nil IsShortLine
 short_close true =
     let value = codes "close" in
-    All-cons IsShortLine (connection_field, value) [] (short_line connection_field value refl (omega arith) (AllPass-from_list_all is_graphic value refl) (omega arith)) (All-nil IsShortLine)
+    All-cons IsShortLine (connection_field, value) [] (short_line connection_field value refl (omega arith) (AllPass-from_list_all is_ascii_graphic value refl) (omega arith)) (All-nil IsShortLine)
 
 short_number : (name : List ℕ) (n : ℕ) → IsTrue (is_token name) → length name ≤ 16 → n < 10 ^ 7 → IsShortLine (name, decimal n)
 short_number name n token narrow small =

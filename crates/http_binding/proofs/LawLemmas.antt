@@ -1,8 +1,8 @@
 -- What is known of a frame that binds.
 use Rattle.std.proofs.Common.{◌≡◌, ◌<◌, ◌^◌, ℕ, Bool, true, false, not, ◌||◌, List, [], ◌∷◌, length, Option, Some, None, is_some, Result, Ok, Err, IfSome, refl, sym, ap, subst, ◌∙◌, arith}
 use Rattle.std.specs.Bool.{if◌then◌else◌}
-use Rattle.std.specs.Prelude.{ℤ, option_and_then, option_map, nat_le}
-use Rattle.std.specs.Option.{option_map_or}
+use Rattle.std.specs.Prelude.{ℤ, option_and_then, option_map}
+use Rattle.std.specs.Option.{option_map_or, option_or}
 use Rattle.std.specs.Str.{IsUtf8}
 use Rattle.std.specs.Str.Parse.{digits_value}
 use Rattle.std.specs.Result.{result_unwrap_or, is_ok}
@@ -10,6 +10,7 @@ use Rattle.std.proofs.lemmas.Bool.{and_parts, false≢true}
 use Rattle.std.specs.Int.{is_in_range}
 use Rattle.m2m_names.specs.Name.{is_filled, is_originator, originator_limit}
 use Rattle.m2m_names.specs.StampReading.{moment_at}
+use Rattle.m2m_names.specs.Types.{is_type_number}
 use Rattle.m2m_names.proofs.NameLemmas.{graphic_is_utf8}
 use Rattle.m2m_names.proofs.NameLemmas.{graphic_is_utf8 as id_is_utf8}
 use Rattle.m2m_names.proofs.StampReadingLemmas.{read_last}
@@ -118,7 +119,7 @@ stamp_timely : (at : Option ℕ) → IfSome at IsMoment → IfSome (option_map A
 stamp_timely None h = tt
 stamp_timely (Some at) h = (h, tt)
 
-timely_by : (text : List ℕ) (numeral : Bool) → is_numeral text ≡ numeral → IfSome (if numeral then Some (Millis (digits_value 10 text)) else option_map At (moment_at text)) IsTimely
+timely_by : (text : List ℕ) (numeral : Bool) → is_numeral text ≡ numeral → IfSome (option_or (option_map Millis (if numeral then Some (digits_value 10 text) else None)) (option_map At (moment_at text))) IsTimely
 timely_by text true is = (tt, numeral_bound text is)
 timely_by text false is = stamp_timely (moment_at text) (read_last text (moment_at text) refl)
 
@@ -128,7 +129,7 @@ timely (Some text) = timely_by text (is_numeral text) refl
 
 -- the number of the type that a Create creates is short
 abbrev IsShort : Option ℕ → Type 0
-IsShort number = IfSome number (λ n. nat_le n 65_535 ≡ true)
+IsShort number = IfSome number (λ n. is_type_number n ≡ true)
 
 short_said : (said : Option TypeNumber) → option_map_or is_short_number said false ≡ true → IsShort (option_and_then (λ number. number) said)
 short_said None h = tt

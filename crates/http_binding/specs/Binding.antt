@@ -12,7 +12,8 @@ use Rattle.m2m_value.specs.View.{as_object}
 use Rattle.m2m_value.specs.declared.fault.ValFault.{ValFault}
 use Rattle.m2m_value.specs.declared.fault.ValFault.TheVariants.{NotJson}
 use Rattle.primitive_json.specs.Kinds.{expiry_spelled}
-use Rattle.primitive_json.specs.Members.{creates, has_content, has_result}
+use Rattle.primitive_json.specs.Members.{creates, has_content, has_result, name_of_member}
+use Rattle.primitive_json.specs.declared.member.Member.TheVariants as members
 use Rattle.primitive_json.specs.declared.request.RequestParts.{RequestParts}
 use Rattle.primitive_json.specs.declared.request.When.{When}
 use Rattle.http_frames.specs.declared.frame.Start.{Start}
@@ -154,7 +155,7 @@ object_only value = if is_some (as_object value) then Ok (Some value) else Err (
 abbrev pub content_in : List ℕ → Result (Option Data) BindFault
 content_in body =
     if is_some_text body then and_then (value_in (reading body)) object_only
-    else Err (bind.Missing (codes "pc"))
+    else Err (bind.Missing (name_of_member members.Content))
 
 -- the content that a body has, on an operation that has one; any other body is unread
 abbrev pub content_of : Op → List ℕ → Result (Option Data) BindFault

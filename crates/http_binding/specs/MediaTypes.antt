@@ -1,5 +1,5 @@
 -- What a line Content-Type says (TS-0009, 6.4.3; RFC 9110, section 8.3).
-use Rattle.std.specs.Prelude.{ℕ, ◌-◌, ◌==◌, nat_le, Bool, true, false, ◌&&◌, List, [], ◌∷◌}
+use Rattle.std.specs.Prelude.{ℕ, ◌-◌, ◌==◌, Bool, true, false, ◌&&◌, List, [], ◌∷◌}
 use Rattle.std.specs.Prelude.{length, take, drop, fold, codes, bytes_eq, Option, Some, None}
 use Rattle.std.specs.Prelude.{is_some, option_and_then, if◌then◌else◌}
 use Rattle.std.specs.List.{list_all, list_any, prefix_len, suffix_len, slice_split}
@@ -8,6 +8,7 @@ use Rattle.std.specs.Option.{option_map_or}
 use Rattle.std.specs.Str.Parse.{digits_value}
 use Rattle.http_uri.specs.ByteClasses.{split_once_front, split_once_back}
 use Rattle.m2m_names.specs.Name.{is_filled}
+use Rattle.m2m_names.specs.Types.{is_type_number}
 use Rattle.http_frames.specs.Lines.{is_same_name}
 use Rattle.http_binding.specs.declared.method.Method.{Method}
 use Rattle.http_binding.specs.declared.method.Method.TheVariants.{Get, Post, Put, Delete}
@@ -69,7 +70,8 @@ parameter_said before name value =
 
 abbrev pub piece_said : TypeNumber → List ℕ → Option TypeNumber
 piece_said before piece =
-    option_map_or (parameter_said before (split_once_front 61 piece)) (split_once_back 61 piece) None
+    option_map_or (parameter_said before (split_once_front 61 piece)) (split_once_back 61 piece)
+    None
 
 abbrev pub next_said : Option TypeNumber → List ℕ → Option TypeNumber
 next_said before piece =
@@ -79,7 +81,8 @@ next_said before piece =
 -- the value is no type of content with parameters
 abbrev pub type_said : List ℕ → Option TypeNumber
 type_said value =
-    if is_media_type (front_of value) then fold next_said (Some None) (parameters_of value) else None
+    if is_media_type (front_of value) then fold next_said (Some None) (parameters_of value)
+    else None
 
 -- the number of that type
 abbrev pub type_number : List ℕ → TypeNumber
@@ -87,7 +90,7 @@ type_number value = option_and_then (λ said. said) (type_said value)
 
 -- a number that a type may have
 abbrev pub is_short_number : TypeNumber → Bool
-is_short_number number = option_map_or (λ n. nat_le n 65_535) number true
+is_short_number number = option_map_or is_type_number number true
 
 -- what the line may be: on PUT and on POST a type of content, on POST with the number of a type,
 -- if with any; on GET and DELETE anything, since they have no content

@@ -1,5 +1,5 @@
 -- The query of a request (TS-0009, 6.2.2.3): its pairs, and what they say.
-use Rattle.std.specs.Prelude.{ℕ, ◌==◌, nat_le, Bool, not, ◌&&◌, ◌||◌, ℤ, pos, List, [], ◌∷◌, ◌++◌, map}
+use Rattle.std.specs.Prelude.{ℕ, ◌==◌, Bool, not, ◌&&◌, ◌||◌, ℤ, pos, List, [], ◌∷◌, ◌++◌, map}
 use Rattle.std.specs.Prelude.{bytes_eq, codes, Option, Some, None, option_map, option_and_then}
 use Rattle.std.specs.Prelude.{unwrap_or, is_some, if◌then◌else◌, Result, Ok, Err}
 use Rattle.std.specs.List.{list_all, list_any, filter_map, slice_split}
@@ -7,12 +7,12 @@ use Rattle.std.specs.Option.{option_map_or}
 use Rattle.std.specs.Ordering.{int_eq}
 use Rattle.std.specs.Str.{is_utf8}
 use Rattle.std.specs.Str.Lossy.{utf8_lossy}
-use Rattle.std.specs.Str.Parse.{digits_value}
 use Rattle.form_urlencoded.specs.Form as form
-use Rattle.m2m_names.specs.Name.{is_filled, is_one_of}
+use Rattle.m2m_names.specs.Name.{is_one_of}
 use Rattle.m2m_names.specs.StampReading.{moment_at}
+use Rattle.m2m_names.specs.Types.{is_type_number}
 use Rattle.m2m_names.specs.declared.operations.Op.{Op}
-use Rattle.m2m_value.specs.Shapes.{label_limit}
+use Rattle.m2m_value.specs.Shapes.{is_label_text}
 use Rattle.filter_criteria.specs.Conditions.{condition_named, row_of_condition, usage_numbered}
 use Rattle.filter_criteria.specs.Values.{where_it}
 use Rattle.filter_criteria.specs.declared.condition.Condition.{Condition}
@@ -31,8 +31,9 @@ use Rattle.filter_criteria.specs.declared.condition.Sort.TheVariants.{Moment, Co
 use Rattle.filter_criteria.specs.declared.condition.Sort.TheVariants.{Use}
 use Rattle.filter_criteria.specs.declared.filter.FilterParts.{FilterParts}
 use Rattle.filter_criteria.specs.declared.filter.FilterUsage.{FilterUsage}
-use Rattle.primitive_json.specs.Kinds.{is_numeral, result_contents, address_forms}
-use Rattle.primitive_json.specs.Members.{retrieves, has_result}
+use Rattle.primitive_json.specs.Kinds.{number_spelled, result_contents, address_forms}
+use Rattle.primitive_json.specs.Members.{retrieves, has_result, name_of_member}
+use Rattle.primitive_json.specs.declared.member.Member.TheVariants as members
 use Rattle.http_binding.specs.declared.fault.BindFault.{BindFault}
 use Rattle.http_binding.specs.declared.fault.BindFault.TheVariants as bind
 use Rattle.http_binding.specs.declared.query.Key.{Key}
@@ -69,19 +70,15 @@ is_unread name = is_one_of unread_keys name
 -- what a key stands for, where it stands for anything
 abbrev pub key_named : List ℕ → Option Key
 key_named name =
-    if bytes_eq name (codes "rcn") then Some ResultContent
-    else (if bytes_eq name (codes "rt") then Some ResponseType
-    else (if bytes_eq name (codes "drt") then Some DesiredForm
+    if bytes_eq name (name_of_member members.ResultContent) then Some ResultContent
+    else (if bytes_eq name (name_of_member members.ResponseType) then Some ResponseType
+    else (if bytes_eq name (name_of_member members.DesiredForm) then Some DesiredForm
     else (if is_unread name then Some Unread
     else option_map OfFilter (condition_named name))))
 
 -- ---- the values
 
--- the number that 1 to 18 digits write
-abbrev pub number_spelled : List ℕ → Option ℕ
-number_spelled s = if is_numeral s then Some (digits_value 10 s) else None
-
--- the same, as a number with a sign
+-- the number that 1 to 18 digits write, as one with a sign
 abbrev pub whole_spelled : List ℕ → Option ℤ
 whole_spelled s = option_map pos (number_spelled s)
 
@@ -107,17 +104,17 @@ usage_spelled s = option_and_then usage_numbered (whole_spelled s)
 abbrev pub words_of : List ℕ → List (List ℕ)
 words_of s = slice_split (λ b. b == 32) s
 
--- a label: a text of 1 to 256 bytes
-abbrev pub is_label_text : List ℕ → Bool
-is_label_text s = is_filled label_limit s && is_utf8 s
+-- a label, which is UTF-8
+abbrev pub spells_label : List ℕ → Bool
+spells_label s = is_label_text s && is_utf8 s
 
 -- the labels that the words of a text are, where each is one
 abbrev pub labels_spelled : List ℕ → Option (List (List ℕ))
-labels_spelled s = if list_all is_label_text (words_of s) then Some (words_of s) else None
+labels_spelled s = if list_all spells_label (words_of s) then Some (words_of s) else None
 
 -- the number of a type
 abbrev pub type_spelled : List ℕ → Option ℕ
-type_spelled s = where_it (λ n. nat_le n 65_535) (number_spelled s)
+type_spelled s = where_it is_type_number (number_spelled s)
 
 abbrev pub is_type_text : List ℕ → Bool
 is_type_text s = is_some (type_spelled s)
@@ -130,10 +127,10 @@ types_spelled s =
 -- ---- what the pairs say
 
 -- a place that is empty, with a value that is there: a key stands once
-abbrev pub filled : {A : Type 0} → Option A → Option A → Option (Option A)
-filled place None = None
-filled None (Some value) = Some (Some value)
-filled (Some old) (Some value) = None
+abbrev pub placed : {A : Type 0} → Option A → Option A → Option (Option A)
+placed place None = None
+placed None (Some value) = Some (Some value)
+placed (Some old) (Some value) = None
 
 -- a filter without conditions
 abbrev pub no_conditions : FilterParts
@@ -156,24 +153,24 @@ no_conditions = record {
 
 -- the filter with one more condition on a moment, on a number, or on its use
 abbrev pub with_moment : Condition → Option ℕ → FilterParts → Option FilterParts
-with_moment CreatedAfter at f = option_map (λ o. record f { cra = o }) (filled f.cra at)
-with_moment CreatedBefore at f = option_map (λ o. record f { crb = o }) (filled f.crb at)
-with_moment ExpireAfter at f = option_map (λ o. record f { exa = o }) (filled f.exa at)
-with_moment ExpireBefore at f = option_map (λ o. record f { exb = o }) (filled f.exb at)
-with_moment ModifiedSince at f = option_map (λ o. record f { ms = o }) (filled f.ms at)
-with_moment UnmodifiedSince at f = option_map (λ o. record f { us = o }) (filled f.us at)
+with_moment CreatedAfter at f = option_map (λ o. record f { cra = o }) (placed f.cra at)
+with_moment CreatedBefore at f = option_map (λ o. record f { crb = o }) (placed f.crb at)
+with_moment ExpireAfter at f = option_map (λ o. record f { exa = o }) (placed f.exa at)
+with_moment ExpireBefore at f = option_map (λ o. record f { exb = o }) (placed f.exb at)
+with_moment ModifiedSince at f = option_map (λ o. record f { ms = o }) (placed f.ms at)
+with_moment UnmodifiedSince at f = option_map (λ o. record f { us = o }) (placed f.us at)
 with_moment condition at f = None
 
 abbrev pub with_number : Condition → Option ℕ → FilterParts → Option FilterParts
-with_number Limit n f = option_map (λ o. record f { lim = o }) (filled f.lim n)
-with_number StateTagBigger n f = option_map (λ o. record f { stb = o }) (filled f.stb n)
-with_number StateTagSmaller n f = option_map (λ o. record f { sts = o }) (filled f.sts n)
-with_number SizeAbove n f = option_map (λ o. record f { sza = o }) (filled f.sza n)
-with_number SizeBelow n f = option_map (λ o. record f { szb = o }) (filled f.szb n)
+with_number Limit n f = option_map (λ o. record f { lim = o }) (placed f.lim n)
+with_number StateTagBigger n f = option_map (λ o. record f { stb = o }) (placed f.stb n)
+with_number StateTagSmaller n f = option_map (λ o. record f { sts = o }) (placed f.sts n)
+with_number SizeAbove n f = option_map (λ o. record f { sza = o }) (placed f.sza n)
+with_number SizeBelow n f = option_map (λ o. record f { szb = o }) (placed f.szb n)
 with_number condition n f = None
 
 abbrev pub with_usage : Option FilterUsage → FilterParts → Option FilterParts
-with_usage usage f = option_map (λ o. record f { fu = o }) (filled f.fu usage)
+with_usage usage f = option_map (λ o. record f { fu = o }) (placed f.fu usage)
 
 -- the filter with more labels, or more types, behind those before, where there are any
 abbrev pub with_labels : Option (List (List ℕ)) → FilterParts → Option FilterParts
@@ -199,13 +196,13 @@ abbrev pub nothing_said : Query
 nothing_said = record { rcn = None; rt = None; fc = None; drt = None }
 
 abbrev pub with_result : Option ℤ → Query → Option Query
-with_result number q = option_map (λ o. record q { rcn = o }) (filled q.rcn number)
+with_result number q = option_map (λ o. record q { rcn = o }) (placed q.rcn number)
 
 abbrev pub with_response : Option ℤ → Query → Option Query
-with_response number q = option_map (λ o. record q { rt = o }) (filled q.rt number)
+with_response number q = option_map (λ o. record q { rt = o }) (placed q.rt number)
 
 abbrev pub with_form : Option ℤ → Query → Option Query
-with_form number q = option_map (λ o. record q { drt = o }) (filled q.drt number)
+with_form number q = option_map (λ o. record q { drt = o }) (placed q.drt number)
 
 abbrev pub with_filter : Condition → List ℕ → Query → Option Query
 with_filter condition s q =
@@ -226,4 +223,5 @@ said_more op pair q = option_and_then (λ key. with_key op key pair.1 q) (key_na
 
 -- the same, or the key of a pair that is bad
 abbrev pub with_pair : Op → Pair → Query → Result Query BindFault
-with_pair op pair q = option_map_or (λ said. Ok said) (said_more op pair q) (Err (bind.Query pair.0))
+with_pair op pair q =
+    option_map_or (λ said. Ok said) (said_more op pair q) (Err (bind.Query pair.0))

@@ -155,8 +155,8 @@ is_of_world path = starts_with nat_eq path (codes "/_/") && has_provider (drop 3
 
 -- the address that a path is: `/c/x` of `/~/c/x`, `//s/c/x` of `/_/s/c/x`, and else what stands
 -- behind the slash (TS-0009, 6.2.2.2)
-abbrev pub address_of : List ℕ → List ℕ
-address_of path =
+abbrev pub address_of_path : List ℕ → List ℕ
+address_of_path path =
     if is_of_sp path then drop 2 path
     else (if is_of_world path then slash ∷ drop 2 path else drop 1 path)
 
@@ -167,7 +167,7 @@ pub record TargetValues : Type 0 where
 
 abbrev pub values_of : PathAndQuery → TargetValues
 values_of parts = record {
-  to = address_of (with_tildes parts.path);
+  to = address_of_path (with_tildes parts.path);
   query = unwrap_or parts.query [];
 }
 

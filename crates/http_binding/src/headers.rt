@@ -7,14 +7,13 @@ ghost use Rattle.http_binding.specs.Seen.{seen_values, seen_caller};
 ghost use Rattle.http_binding.specs.Binding.{required, unless_empty, caller_of, echo_of, ReadsAs};
 ghost use Rattle.http_binding.specs.declared.fault.BindFault.TheVariants as fault;
 
-use crate::digits::expiry_spelled;
 use crate::media_type::{admits_type, type_number};
 use crate::method::Method;
 use crate::{BindFault, OutOfMemory};
 use http_frames::{Found, Frame, Lines};
 use m2m_names::is_originator;
 use m2m_value::Text;
-use primitive_json::{When, is_request_id};
+use primitive_json::{When, expiry_spelled, is_request_id};
 use std::alloc::Global;
 
 /// A field that is read.

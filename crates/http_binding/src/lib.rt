@@ -1,10 +1,10 @@
 //! The HTTP binding of oneM2M (TS-0009), between frames and primitives: `to_request` gives the
 //! request that a frame binds to, or the first fault of the frame; `echo_id` the identifier that a
 //! reply to it repeats, also where it binds to none; `of_reply` the frame of a reply, and
-//! `write_reply` its bytes. Callers see the binding as a function of the frame (`binding`, the chain
-//! of the parts of a request in the order of their faults), and the bytes of a reply as those of its
-//! frame (`reply_text`). They answer a frame that binds to nothing themselves, and say whether the
-//! connection closes behind a reply.
+//! `write_reply` its bytes. Callers see the binding as a function of the frame (`binding`, the
+//! chain of the parts of a request in the order of their faults), and the bytes of a reply as those
+//! of its frame (`reply_text`). They answer a frame that binds to nothing themselves, and say
+//! whether the connection closes behind a reply.
 //!
 //! The parts of a request each have a module: the method, the target with the address that a path
 //! is, the header fields with the type of the content, the query with the conditions of a filter,
@@ -12,7 +12,6 @@
 #![tactic(auto)]
 
 mod absolute;
-mod digits;
 mod fault;
 mod headers;
 mod laws;

@@ -4,10 +4,10 @@ ghost use Rattle.std.specs.List.{prefix_len, slice_split};
 ghost use Rattle.http_frames.specs.Lines.{is_same_name};
 ghost use Rattle.http_binding.specs.MediaTypes as spec;
 
-use crate::digits::{are_digits, digits_number};
 use crate::method::Method;
 use crate::target::{before, behind};
-use m2m_names::is_filled;
+use m2m_names::{are_digits, is_filled, is_type_number};
+use primitive_json::digits_number;
 
 /// The number of the type that is to be created, where it is said.
 type TypeNumber = Option<u32>;
@@ -142,5 +142,5 @@ pub(crate) fn admits_type(method: Method, value: &[u8]) -> bool
 fn is_short_number(number: TypeNumber) -> bool
     ensures { result ≡ spec.is_short_number number }
 {
-    number.is_none_or(|n| n <= 65_535)
+    number.is_none_or(|n| is_type_number(u64::from(n)))
 }

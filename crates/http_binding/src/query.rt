@@ -1,17 +1,16 @@
 //! The query of a request: its pairs, and what they say.
 ghost use Rattle.std.specs.Prelude.{◌≡◌, ◌++◌, ◌∷◌, [], IfOk, OnOk, option_map};
 ghost use Rattle.std.specs.List.{list_all, filter_map};
-ghost use Rattle.primitive_json.specs.Kinds as kinds;
 ghost use Rattle.http_binding.specs.Binding.{said_by, query_of, ReadsAs};
 ghost use Rattle.http_binding.specs.Queries as spec;
 
-use crate::digits::{digits_number, is_numeral};
 use crate::target::{before, behind, is_text};
 use crate::{BindFault, OutOfMemory};
 use filter_criteria::{Condition, FilterParts, FilterUsage, Sort};
 use form_urlencoded::{decode, raw_pairs};
-use m2m_names::{Op, is_filled, read_stamp};
-use m2m_value::{LABEL_LIMIT, Labels, Numbers, Text};
+use m2m_names::{Op, is_type_number, read_stamp};
+use m2m_value::{Labels, Numbers, Text, is_label_text};
+use primitive_json::{Member, number_spelled, result_contents};
 use std::alloc::Global;
 
 /// A key and its value.
@@ -45,11 +44,11 @@ impl Key {
     fn named(name: &[u8]) -> Option<Key>
         ensures { result ≡ spec.key_named name.now }
     {
-        if name == b"rcn".as_slice() {
+        if name == Member::ResultContent.name().as_bytes() {
             Some(Key::ResultContent)
-        } else if name == b"rt".as_slice() {
+        } else if name == Member::ResponseType.name().as_bytes() {
             Some(Key::ResponseType)
-        } else if name == b"drt".as_slice() {
+        } else if name == Member::DesiredForm.name().as_bytes() {
             Some(Key::DesiredForm)
         } else if is_unread(name) {
             Some(Key::Unread)
@@ -66,44 +65,16 @@ fn is_unread(name: &[u8]) -> bool
     matches!(name, b"da" | b"rp")
 }
 
-/// The number that 1 to 18 digits write.
-fn number_spelled(text: &[u8]) -> Option<u64>
-    ensures { result ≡ spec.number_spelled text.now }
-{
-    if is_numeral(text) {
-        Some(digits_number(text))
-    } else {
-        None
-    }
-}
-
 fn whole_spelled(text: &[u8]) -> Option<i64>
     ensures { result ≡ spec.whole_spelled text.now }
 {
-    if is_numeral(text) {
-        Some(digits_number(text) as i64)
-    } else {
-        None
-    }
+    Some(number_spelled(text)? as i64)
 }
 
 fn is_among(numbers: &[i64], number: i64) -> bool
     ensures { result ≡ spec.among numbers.now number }
 {
     numbers.contains(&number)
-}
-
-/// What the result content of an operation may be.
-fn result_contents(op: Op) -> &'static [i64]
-    ensures { result.now ≡ kinds.result_contents op }
-{
-    match op {
-        Op::Create => &[0, 1, 2, 3],
-        Op::Retrieve => &[1, 4, 5, 6],
-        Op::Update => &[0, 1],
-        Op::Delete => &[0],
-        Op::Notify => &[],
-    }
 }
 
 /// Whether the content of the result may be so.
@@ -164,16 +135,16 @@ fn words_of(alloc: Global, text: &[u8]) -> Result<Vec<Text>, OutOfMemory>
     Ok(words)
 }
 
-fn is_label(text: &[u8]) -> bool
-    ensures { result ≡ spec.is_label_text text.now }
+fn spells_label(text: &[u8]) -> bool
+    ensures { result ≡ spec.spells_label text.now }
 {
-    is_filled(text, LABEL_LIMIT) && is_text(text)
+    is_label_text(text) && is_text(text)
 }
 
 fn are_labels(words: &[Text]) -> bool
-    ensures { result ≡ list_all spec.is_label_text words.now }
+    ensures { result ≡ list_all spec.spells_label words.now }
 {
-    words.iter().all(|word| is_label(word.entries()))
+    words.iter().all(|word| spells_label(word.entries()))
 }
 
 /// The labels that the words of a text are, where each is one.
@@ -194,7 +165,11 @@ fn type_spelled(text: &[u8]) -> Option<u64>
     ensures { result ≡ spec.type_spelled text.now }
 {
     let number = number_spelled(text)?;
-    if number <= 65_535 { Some(number) } else { None }
+    if is_type_number(number) {
+        Some(number)
+    } else {
+        None
+    }
 }
 
 fn is_type(text: &[u8]) -> bool
@@ -244,8 +219,8 @@ fn types_spelled(alloc: Global, text: &[u8]) -> Result<Option<Vec<u64>>, OutOfMe
 }
 
 /// A place that is empty, with a value that is there.
-fn filled<T: Copy>(place: Option<T>, value: Option<T>) -> Option<Option<T>>
-    ensures { result ≡ spec.filled place value }
+fn placed<T: Copy>(place: Option<T>, value: Option<T>) -> Option<Option<T>>
+    ensures { result ≡ spec.placed place value }
 {
     match (place, value) {
         (None, Some(value)) => Some(Some(value)),
@@ -278,27 +253,27 @@ fn with_moment(parts: FilterParts, condition: Condition, at: Option<u64>) -> Opt
 {
     match condition {
         Condition::CreatedAfter => Some(FilterParts {
-            cra: filled(parts.cra, at)?,
+            cra: placed(parts.cra, at)?,
             ..parts
         }),
         Condition::CreatedBefore => Some(FilterParts {
-            crb: filled(parts.crb, at)?,
+            crb: placed(parts.crb, at)?,
             ..parts
         }),
         Condition::ExpireAfter => Some(FilterParts {
-            exa: filled(parts.exa, at)?,
+            exa: placed(parts.exa, at)?,
             ..parts
         }),
         Condition::ExpireBefore => Some(FilterParts {
-            exb: filled(parts.exb, at)?,
+            exb: placed(parts.exb, at)?,
             ..parts
         }),
         Condition::ModifiedSince => Some(FilterParts {
-            ms: filled(parts.ms, at)?,
+            ms: placed(parts.ms, at)?,
             ..parts
         }),
         Condition::UnmodifiedSince => Some(FilterParts {
-            us: filled(parts.us, at)?,
+            us: placed(parts.us, at)?,
             ..parts
         }),
         _ => None,
@@ -311,23 +286,23 @@ fn with_number(parts: FilterParts, condition: Condition, n: Option<u64>) -> Opti
 {
     match condition {
         Condition::Limit => Some(FilterParts {
-            lim: filled(parts.lim, n)?,
+            lim: placed(parts.lim, n)?,
             ..parts
         }),
         Condition::StateTagBigger => Some(FilterParts {
-            stb: filled(parts.stb, n)?,
+            stb: placed(parts.stb, n)?,
             ..parts
         }),
         Condition::StateTagSmaller => Some(FilterParts {
-            sts: filled(parts.sts, n)?,
+            sts: placed(parts.sts, n)?,
             ..parts
         }),
         Condition::SizeAbove => Some(FilterParts {
-            sza: filled(parts.sza, n)?,
+            sza: placed(parts.sza, n)?,
             ..parts
         }),
         Condition::SizeBelow => Some(FilterParts {
-            szb: filled(parts.szb, n)?,
+            szb: placed(parts.szb, n)?,
             ..parts
         }),
         _ => None,
@@ -338,7 +313,7 @@ fn with_usage(parts: FilterParts, usage: Option<FilterUsage>) -> Option<FilterPa
     ensures { result ≡ spec.with_usage usage parts }
 {
     Some(FilterParts {
-        fu: filled(parts.fu, usage)?,
+        fu: placed(parts.fu, usage)?,
         ..parts
     })
 }
@@ -446,7 +421,7 @@ fn with_result(query: Query, number: Option<i64>) -> Option<Query>
     ensures { result ≡ spec.with_result number query }
 {
     Some(Query {
-        rcn: filled(query.rcn, number)?,
+        rcn: placed(query.rcn, number)?,
         ..query
     })
 }
@@ -455,7 +430,7 @@ fn with_response(query: Query, number: Option<i64>) -> Option<Query>
     ensures { result ≡ spec.with_response number query }
 {
     Some(Query {
-        rt: filled(query.rt, number)?,
+        rt: placed(query.rt, number)?,
         ..query
     })
 }
@@ -464,7 +439,7 @@ fn with_form(query: Query, number: Option<i64>) -> Option<Query>
     ensures { result ≡ spec.with_form number query }
 {
     Some(Query {
-        drt: filled(query.drt, number)?,
+        drt: placed(query.drt, number)?,
         ..query
     })
 }

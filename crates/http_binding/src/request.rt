@@ -17,11 +17,8 @@ use filter_criteria::{Filter, FilterParts};
 use http_frames::Frame;
 use m2m_names::Op;
 use m2m_value::{Text, Val, ValFault, read};
-use primitive_json::{Request, RequestParts};
+use primitive_json::{Member, Request, RequestParts};
 use std::alloc::Global;
-
-/// The name of the parameter that the body is.
-const CONTENT: &[u8] = b"pc";
 
 /// The text, where there is one, as one of its own.
 fn copy_of(alloc: Global, text: Option<&[u8]>) -> Result<Option<Text>, OutOfMemory>
@@ -60,7 +57,7 @@ fn content_in(alloc: Global, body: &[u8]) -> Result<Option<Val>, BindFault>
     ensures { ReadsAs (λ content. content) result (spec.content_in body.now) }
 {
     if body.is_empty() {
-        return Err(BindFault::Missing(Text::from_slice(alloc, CONTENT)?));
+        return Err(BindFault::Missing(Text::from_slice(alloc, Member::Content.name().as_bytes())?));
     }
     object_only(value_in(alloc, body)?)
 }

@@ -13,13 +13,11 @@ use crate::{BindFault, OutOfMemory};
 use http_frames::Start;
 use m2m_names::is_filled;
 use m2m_value::Text;
+use primitive_json::TARGET_LIMIT;
 use std::alloc::Global;
 
 /// A URI has at most so many bytes.
 pub(crate) const URI_LIMIT: usize = 65_534;
-
-/// An address has at most so many bytes.
-const ADDRESS_LIMIT: usize = 1_024;
 
 /// The path of a target, and its query, where it has one.
 #[derive(Clone, Copy)]
@@ -192,8 +190,8 @@ fn has_provider(text: &[u8]) -> bool
 }
 
 /// The address that a path is.
-fn address_of(alloc: Global, path: &[u8]) -> Result<Text, OutOfMemory>
-    ensures { IfOk result (λ text. text ≡ spec.address_of path.now) }
+fn address_of_path(alloc: Global, path: &[u8]) -> Result<Text, OutOfMemory>
+    ensures { IfOk result (λ text. text ≡ spec.address_of_path path.now) }
 {
     if is_of_sp(path) {
         Text::from_slice(alloc, &path[2..])
@@ -217,10 +215,10 @@ fn address_of_world(alloc: Global, path: &[u8]) -> Result<Text, OutOfMemory>
 
 /// The same, of a path in which `%7E` stands for `~`.
 fn read_address(alloc: Global, path: &[u8]) -> Result<Text, OutOfMemory>
-    ensures { IfOk result (λ text. text ≡ spec.address_of (spec.with_tildes path.now)) }
+    ensures { IfOk result (λ text. text ≡ spec.address_of_path (spec.with_tildes path.now)) }
 {
     let path = with_tildes(alloc, path)?;
-    address_of(alloc, &path)
+    address_of_path(alloc, &path)
 }
 
 /// What the path and the query of a target say.
@@ -229,7 +227,7 @@ fn said_by(alloc: Global, parts: PathAndQuery<'_>) -> Result<Target<'_>, BindFau
     ensures utf8 { IfOk result (λ target. IsUtf8 target.to) }
 {
     let to = read_address(alloc, parts.path)?;
-    if is_filled(to.entries(), ADDRESS_LIMIT) && is_text(to.entries()) {
+    if is_filled(to.entries(), TARGET_LIMIT) && is_text(to.entries()) {
         Ok(Target {
             to,
             query: parts.query.unwrap_or(b""),

@@ -1,7 +1,6 @@
 //! The reply that a frame says.
 ghost use Rattle.std.specs.Prelude.{◌≡◌, ◌+◌, ◌*◌, ◌<◌, ◌==◌, IfOk, IfSome, IsTrue, IsUtf8, length};
 ghost use Rattle.std.specs.Char.{digit_value, is_ascii_digit};
-ghost use Rattle.std.specs.List.{list_all};
 ghost use Rattle.std.specs.Str.Parse.{digits_value};
 ghost use Rattle.http_binding.specs.Binding.{echo_of, ReadsAs};
 ghost use Rattle.http_binding.specs.Headers.{code_field};
@@ -11,7 +10,7 @@ ghost use Rattle.http_client_binding.specs.ReplyReading as spec;
 use crate::{BindFault, OutOfMemory};
 use http_binding::echo_id;
 use http_frames::{Found, Frame, Lines};
-use m2m_names::Rsc;
+use m2m_names::{Rsc, are_digits};
 use m2m_value::{Text, Val, ValFault, read};
 use primitive_json::{Reply, ReplyParts};
 use std::alloc::Global;
@@ -37,12 +36,6 @@ fn number_of(a: u16, b: u16, c: u16, d: u16) -> u16
     ensures { result ≡ ((a * 10 + b) * 10 + c) * 10 + d }
 {
     ((a * 10 + b) * 10 + c) * 10 + d
-}
-
-fn are_digits(text: &[u8]) -> bool
-    ensures { result ≡ list_all is_ascii_digit text.now }
-{
-    text.iter().all(u8::is_ascii_digit)
 }
 
 fn are_four(text: &[u8]) -> bool

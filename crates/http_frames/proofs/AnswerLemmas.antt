@@ -7,7 +7,7 @@ use Rattle.http_frames.specs.declared.frame.Next.{Next}
 use Rattle.http_frames.specs.declared.frame.Next.TheVariants.{Message, End}
 use Rattle.http_frames.specs.declared.fault.FrameFault.{FrameFault}
 use Rattle.http_frames.specs.declared.fault.FrameFault.TheVariants.{NoFrame, ReadFault, OutOfMemory}
-use Rattle.http_frames.specs.Stream.{BeginsWithFrame, HasNoFrame, Frames}
+use Rattle.http_frames.specs.Stream.{BeginsWithFrame, BeginsWithFrames, HasNoFrame, Frames}
 use Rattle.http_frames.specs.Inbox.{Reads, GivesFrame, GivesAsNeeded, HoldsNoFrame, IfMessage, UnlessMessage, AnswersNext, GivesNext, stream_of, most_held}
 use Rattle.http_frames.specs.Waiting.{piece_limit, ReadsAsNeeded}
 use Rattle.http_frames.proofs.FrameLemmas.{BeginsWith_unique, BeginsWithFrame-append}
@@ -30,14 +30,14 @@ after_message : (side : Side) (stream now : List ℕ) (frame : Frame) (frames : 
 after_message side stream now frame [] tail begins f =
     absurd (f.1 frame now (subst (λ (v : List ℕ). BeginsWithFrame side v frame now) f.0 begins))
 after_message side stream now frame (g ∷ gs) tail begins f =
-    let same = BeginsWith_unique side stream frame g now f.0 begins f.1 in
-    (gs, sym (ap (λ h. h ∷ gs) same.0), subst (λ (v : List ℕ). Frames side v gs tail) (sym same.1) f.2)
+    let same = BeginsWith_unique side stream frame g now f.0.0 begins f.0.1 in
+    (gs, sym (ap (λ h. h ∷ gs) same.0), (subst (λ (v : List ℕ). BeginsWithFrames side v gs tail) (sym same.1) f.0.2, f.1))
 
 -- a stream that begins with no frame has none
 no_frames : (side : Side) (stream : List ℕ) (frames : List Frame) (tail : List ℕ) → HasNoFrame side stream
     → Frames side stream frames tail → (frames ≡ []) × (tail ≡ stream)
 no_frames side stream [] tail none f = (refl, sym f.0)
-no_frames side stream (g ∷ gs) tail none f = absurd (none g f.0 f.1)
+no_frames side stream (g ∷ gs) tail none f = absurd (none g f.0.0 f.0.1)
 
 nothing_begins : (side : Side) → HasNoFrame side []
 nothing_begins side = none_within side [] 1 (some_bytes side []) (omega arith)

@@ -15,7 +15,7 @@ use Rattle.http_frames.specs.Chunks.{Announces, Chunk, chunk_text, chunks_text, 
 use Rattle.httparse.specs.Grammar.{ChunkLine, print_chunk_line, chunk_size}
 use Rattle.httparse.proofs.ChunkLemmas.{chunk_line_unique}
 use Rattle.http_frames.specs.Frame.{IsHead, IsFrame, body_limit}
-use Rattle.http_frames.specs.Stream.{BeginsWithFrame, Frames, FramesAreUnique, NoFrameBeginsAnother}
+use Rattle.http_frames.specs.Stream.{BeginsWithFrame, BeginsWithFrames, Frames, FramesAreUnique, NoFrameBeginsAnother}
 
 -- two heads at the front of one stream are one head, with one rest
 pub IsHead_unique : (side : Side) (text other : List ℕ) (start begin : Start) (lines rows : List Line)
@@ -141,12 +141,12 @@ BeginsWithFrame-append side stream f rest more a = record {
 
 pub Frames_unique : FramesAreUnique
 Frames_unique side stream [] [] rest other a b = (refl, sym a.0 ∙ b.0)
-Frames_unique side stream [] (g ∷ gs) rest other a b = absurd (a.1 g b.0 (subst (λ (s : List ℕ). BeginsWithFrame side s g b.0) a.0 b.1))
-Frames_unique side stream (f ∷ fs) [] rest other a b = absurd (b.1 f a.0 (subst (λ (s : List ℕ). BeginsWithFrame side s f a.0) b.0 a.1))
+Frames_unique side stream [] (g ∷ gs) rest other a b = absurd (a.1 g b.0.0 (subst (λ (s : List ℕ). BeginsWithFrame side s g b.0.0) a.0 b.0.1))
+Frames_unique side stream (f ∷ fs) [] rest other a b = absurd (b.1 f a.0.0 (subst (λ (s : List ℕ). BeginsWithFrame side s f a.0.0) b.0 a.0.1))
 Frames_unique side stream (f ∷ fs) (g ∷ gs) rest other a b =
-    let first = BeginsWith_unique side stream f g a.0 b.0 a.1 b.1 in
-    let later = Frames_unique side b.0 fs gs rest other
-    (subst (λ (s : List ℕ). Frames side s fs rest) first.1 a.2) b.2 in
+    let first = BeginsWith_unique side stream f g a.0.0 b.0.0 a.0.1 b.0.1 in
+    let later = Frames_unique side b.0.0 fs gs rest other
+    (subst (λ (s : List ℕ). BeginsWithFrames side s fs rest) first.1 a.0.2, a.1) (b.0.2, b.1) in
     (cc (first.0, later.0), later.1)
 
 pub frame_ends : NoFrameBeginsAnother

@@ -16,11 +16,17 @@ abbrev pub HasNoFrame : Side → List ℕ → Type 0
 HasNoFrame side stream =
     (frame : Frame) (rest : List ℕ) → ¬ (BeginsWithFrame side stream frame rest)
 
--- The stream is these frames one after another, and then a rest that begins with none.
+-- The stream is these frames one after another, and then a rest (RFC 9112, section 9.3).
+abbrev pub BeginsWithFrames : Side → List ℕ → List Frame → List ℕ → Type 0
+BeginsWithFrames side stream [] rest = stream ≡ rest
+BeginsWithFrames side stream (frame ∷ frames) rest =
+    (after : List ℕ) × BeginsWithFrame side stream frame after
+    × BeginsWithFrames side after frames rest
+
+-- The same, and the rest begins with none.
 abbrev pub Frames : Side → List ℕ → List Frame → List ℕ → Type 0
-Frames side stream [] rest = (stream ≡ rest) × HasNoFrame side rest
-Frames side stream (frame ∷ frames) rest =
-    (after : List ℕ) × BeginsWithFrame side stream frame after × Frames side after frames rest
+Frames side stream frames rest =
+    BeginsWithFrames side stream frames rest × HasNoFrame side rest
 
 -- A stream has one list of frames, and one rest.
 abbrev pub FramesAreUnique : Type 0

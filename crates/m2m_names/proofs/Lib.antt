@@ -5,6 +5,7 @@ pub mod IdLemmas
 pub mod LookupLemmas
 pub mod NameLemmas
 pub mod OperationLemmas
+pub mod PlaceLemmas
 pub mod StampLemmas
 pub mod StampReadingLemmas
 pub mod StampTextLemmas

@@ -11,7 +11,7 @@ use Rattle.std.proofs.lemmas.Option.{cond_some, same_Some}
 use Rattle.std.proofs.lemmas.Slice.Eq.{bytes_eq-Decides}
 use Rattle.std.proofs.Math.Seq.{drop-append_seam, take-append_seam}
 use Rattle.m2m_names.specs.Steps.{◌>>=◌}
-use Rattle.m2m_names.specs.Urls.{is_host_byte, is_path_byte, number_of, is_host, is_port_number, is_port, is_path, IsUrl}
+use Rattle.m2m_names.specs.Urls.{is_host_byte, is_path_byte, number_of, is_host, is_port_value, is_port_number, is_port, is_path, IsUrl}
 use Rattle.m2m_names.specs.UrlReading.{past_scheme, host_at, port_digits_at, port_at, host_end_at}
 use Rattle.m2m_names.proofs.StepLemmas.{bind_some, bind_again}
 
@@ -79,8 +79,8 @@ digits_take : (bytes : List ℕ) (x : ℕ × List ℕ) → port_digits_at bytes 
 unfolding port_digits_at
 digits_take bytes x e =
     let n = prefix_len is_ascii_digit bytes in
-    let h = cond_some (is_in_range 1 5 n && is_in_range 1 65_535 (number_of (take n bytes))) (n, drop n bytes) x e in
-    let ranges = both_of (is_in_range 1 5 n) (is_in_range 1 65_535 (number_of (take n bytes))) h.0 in
+    let h = cond_some (is_in_range 1 5 n && is_port_value (number_of (take n bytes))) (n, drop n bytes) x e in
+    let ranges = both_of (is_in_range 1 5 n) (is_port_value (number_of (take n bytes))) h.0 in
     let size : length (take n bytes) ≡ n = length-prefix_len is_ascii_digit bytes in
     let same_len : n ≡ x.0 = ap (λ (y : ℕ × List ℕ). y.0) h.1 in
     let same_rest : drop n bytes ≡ x.1 = ap (λ (y : ℕ × List ℕ). y.1) h.1 in

@@ -1,7 +1,7 @@
 -- The attributes of resources.
-use Rattle.std.specs.Prelude.{ℕ, List, [], ◌∷◌, Option, find, codes}
+use Rattle.std.specs.Prelude.{ℕ, List, [], ◌∷◌, length, filter, Option, find, codes}
 use Rattle.std.specs.Cmp.Lexicographic.{slice_cmp}
-use Rattle.std.specs.Ordering.{nat_cmp}
+use Rattle.std.specs.Ordering.{nat_cmp, is_lt}
 use Rattle.std.specs.declared.cmp.Ordering.{Ordering}
 use Rattle.std.specs.Str.{bytes_eq}
 use Rattle.m2m_names.specs.declared.attributes.Attr.{Attr}
@@ -76,3 +76,7 @@ attr_of_short text = find (λ a. bytes_eq (attr_short a) text) all_attrs
 -- which of two attributes has the smaller short name, in the order of bytes
 abbrev pub attr_cmp : Attr → Attr → Ordering
 attr_cmp a b = slice_cmp nat_cmp (attr_short a) (attr_short b)
+
+-- how many attributes have a smaller short name
+abbrev pub attr_place : Attr → ℕ
+attr_place a = length (filter (λ b. is_lt (attr_cmp b a)) all_attrs)

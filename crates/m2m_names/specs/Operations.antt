@@ -21,6 +21,14 @@ op_row Update = op_entry 3 4
 op_row Delete = op_entry 4 8
 op_row Notify = op_entry 5 16
 
+-- the bit of DISCOVERY, which is a Retrieve that looks for resources (TS-0001, 9.6.2.1.2)
+abbrev pub discovery_bit : ℕ
+discovery_bit = 32
+
+-- all six bits: CREATE 1, RETRIEVE 2, UPDATE 4, DELETE 8, NOTIFY 16, DISCOVERY 32
+abbrev pub all_bits : ℕ
+all_bits = 63
+
 -- all operations, in the order of their numbers
 abbrev pub all_ops : List Op
 all_ops = Create ∷ Retrieve ∷ Update ∷ Delete ∷ Notify ∷ []

@@ -1,5 +1,6 @@
 -- The resource types.
 use Rattle.std.specs.Prelude.{ℕ, List, [], ◌∷◌, ◌++◌, Option, Bool, find, Contains, codes, ◌==◌}
+use Rattle.std.specs.Prelude.{nat_le}
 use Rattle.std.specs.List.{list_any}
 use Rattle.std.specs.Str.{bytes_eq}
 use Rattle.m2m_names.specs.declared.types.Ty.{Ty}
@@ -47,6 +48,10 @@ all_types =
     AccessControlPolicy ∷ Ae ∷ Container ∷ ContentInstance ∷ CseBase ∷ Group ∷ PollingChannel
     ∷ RemoteCse ∷ Subscription ∷ AccessControlPolicyAnnc ∷ AeAnnc ∷ ContainerAnnc
     ∷ ContentInstanceAnnc ∷ GroupAnnc ∷ []
+
+-- a number that a resource type may have, known or not: 0 to 65,535 (the profile's)
+abbrev pub is_type_number : ℕ → Bool
+is_type_number n = nat_le n 65_535
 
 -- the type of a number
 abbrev pub ty_of_number : ℕ → Option Ty

@@ -6,7 +6,7 @@ use Rattle.std.specs.Int.{is_in_range}
 use Rattle.std.specs.List.{prefix_len}
 use Rattle.std.specs.Str.{bytes_eq}
 use Rattle.m2m_names.specs.Steps.{◌>>=◌}
-use Rattle.m2m_names.specs.Urls.{is_host_byte, number_of, is_path}
+use Rattle.m2m_names.specs.Urls.{is_host_byte, number_of, is_path, is_port_value, point_limit}
 
 -- the bytes after the scheme
 abbrev pub past_scheme : List ℕ → Option (List ℕ)
@@ -23,7 +23,7 @@ host_at bytes =
 unfoldable pub port_digits_at : List ℕ → Option (ℕ × List ℕ)
 port_digits_at bytes =
     let n = prefix_len is_ascii_digit bytes in
-    if is_in_range 1 5 n && is_in_range 1 65_535 (number_of (take n bytes))
+    if is_in_range 1 5 n && is_port_value (number_of (take n bytes))
     then Some (n, drop n bytes) else None
 
 -- the length of a port with its colon, or 0 where there is none, and the bytes after it
@@ -40,4 +40,4 @@ host_end_at bytes = do
   rest ← past_scheme bytes
   host ← host_at rest
   port ← port_at host.1
-  if is_path port.1 && nat_le (length bytes) 512 then Some (7 + host.0 + port.0) else None
+  if is_path port.1 && nat_le (length bytes) point_limit then Some (7 + host.0 + port.0) else None

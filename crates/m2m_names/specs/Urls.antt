@@ -3,7 +3,7 @@
 -- printable ASCII.
 use Rattle.std.specs.Prelude.{◌≡◌, ℕ, ◌+◌, ◌-◌, ◌*◌, ◌≤◌, Bool, true, not, ◌&&◌, ◌||◌, ◌==◌, List}
 use Rattle.std.specs.Prelude.{[], ◌∷◌, ◌++◌, length, fold, codes, IsTrue}
-use Rattle.std.specs.Char.{is_ascii_digit, is_ascii_alphanumeric}
+use Rattle.std.specs.Char.{is_ascii_digit, is_ascii_alphanumeric, is_ascii_graphic}
 use Rattle.std.specs.Int.{is_in_range}
 use Rattle.std.specs.List.{list_all}
 
@@ -13,7 +13,7 @@ is_host_byte b = is_ascii_alphanumeric b || (b == 46) || (b == 45)
 
 -- a printable ASCII character that is neither a space nor `#`
 abbrev pub is_path_byte : ℕ → Bool
-is_path_byte b = is_in_range 33 126 b && not (b == 35)
+is_path_byte b = is_ascii_graphic b && not (b == 35)
 
 -- the number that decimal digits stand for
 abbrev pub number_of : List ℕ → ℕ
@@ -23,11 +23,15 @@ number_of digits = fold (λ n b. n * 10 + (b - 48)) 0 digits
 abbrev pub is_host : List ℕ → Bool
 is_host bytes = is_in_range 1 253 (length bytes) && list_all is_host_byte bytes
 
--- 1 to 5 digits of a number from 1 to 65,535
+-- the number of a port: 1 to 65,535
+abbrev pub is_port_value : ℕ → Bool
+is_port_value n = is_in_range 1 65_535 n
+
+-- 1 to 5 digits of such a number
 abbrev pub is_port_number : List ℕ → Bool
 is_port_number digits =
     is_in_range 1 5 (length digits) && list_all is_ascii_digit digits
-    && is_in_range 1 65_535 (number_of digits)
+    && is_port_value (number_of digits)
 
 -- nothing, or `:` and the number of a port
 abbrev pub is_port : List ℕ → Bool
@@ -39,6 +43,10 @@ abbrev pub is_path : List ℕ → Bool
 is_path [] = true
 is_path (b ∷ bytes) = (b == 47) && list_all is_path_byte bytes
 
+-- the most bytes that an address or a URL has (the profile's)
+abbrev pub point_limit : ℕ
+point_limit = 512
+
 -- the text is a URL whose host and port end at that place
 pub record IsUrl (text : List ℕ) (host_end : ℕ) : Type 0 where
   pub host : List ℕ
@@ -49,4 +57,4 @@ pub record IsUrl (text : List ℕ) (host_end : ℕ) : Type 0 where
   pub path_is : IsTrue (is_path path)
   pub bytes : text ≡ codes "http://" ++ host ++ port ++ path
   pub ends : host_end ≡ 7 + length host + length port
-  pub short : length text ≤ 512
+  pub short : length text ≤ point_limit

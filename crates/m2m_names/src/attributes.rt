@@ -3,13 +3,13 @@ ghost use Rattle.std.specs.Prelude.{◌≡◌, ◌≢◌, IfSome, IfNone, Some};
 ghost use Rattle.std.specs.Cmp.Lexicographic.{slice_cmp};
 ghost use Rattle.std.specs.Ordering.{nat_cmp};
 ghost use Rattle.m2m_names.specs.declared.attributes.Attr.{Attr};
-ghost use Rattle.m2m_names.specs.Attributes.{attr_short, attr_of_short, attr_cmp};
+ghost use Rattle.m2m_names.specs.Attributes.{attr_short, attr_of_short, attr_cmp, attr_place};
 
 use std::cmp::Ordering;
 
 /// An attribute of a resource, named by its short name (TS-0004, 8.2.3).
 ///
-/// `order` is that of the keys of an object in canonical JSON.
+/// `order` is that of the keys of an object in canonical JSON, in which the variants stand.
 #[derive(Clone, Copy, Debug, PartialEq, Eq)]
 pub enum Attr {
     Aa,
@@ -201,10 +201,19 @@ impl Attr {
         }
     }
 
+    /// How many attributes have a smaller short name.
+    fn place(self) -> u8
+        ensures { result ≡ attr_place self }
+    {
+        self as u8
+    }
+
     /// How it stands to another: as their short names do in the order of bytes.
     pub fn order(self, other: Attr) -> Ordering
         ensures { result ≡ attr_cmp self other }
     {
-        self.short().cmp(other.short())
+        let mine = self.place();
+        let theirs = other.place();
+        mine.cmp(&theirs)
     }
 }

@@ -24,10 +24,10 @@ pub use codes::{OtherNumber, Rsc};
 pub use ids::{read_digits, read_id};
 pub use laws::status_numbers_have_their_digits;
 pub use name::{
-    are_graphic, is_filled, is_free_name, is_local_originator, is_name, is_originator,
+    are_digits, are_graphic, is_filled, is_free_name, is_local_originator, is_name, is_originator,
     is_resource_id,
 };
-pub use operations::Op;
+pub use operations::{ALL_BITS, DISCOVERY_BIT, Op};
 pub use stamps::{LAST_MOMENT, read_stamp, write_stamp};
-pub use types::Ty;
-pub use urls::{UrlParts, read_url};
+pub use types::{Ty, is_type_number};
+pub use urls::{POINT_LIMIT, UrlParts, read_url};

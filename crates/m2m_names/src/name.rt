@@ -78,7 +78,8 @@ fn is_numbered(text: &[u8], word: &[u8]) -> bool
     text.starts_with(word) && word.len() < text.len() && are_digits(&text[word.len()..])
 }
 
-pub(crate) fn are_digits(text: &[u8]) -> bool
+/// Whether all bytes are decimal digits, zeros in front of others too.
+pub fn are_digits(text: &[u8]) -> bool
     ensures { result ≡ list_all chars.is_ascii_digit text.now }
 {
     text.iter().all(|byte| byte.is_ascii_digit())

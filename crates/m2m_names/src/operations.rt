@@ -20,6 +20,12 @@ struct Row {
     bit: u32,
 }
 
+/// The bit of DISCOVERY in `acop` (TS-0001, 9.6.2.1.2).
+pub const DISCOVERY_BIT: u32 = 32;
+
+/// All six bits of `acop`.
+pub const ALL_BITS: u32 = 63;
+
 const ALL: [Op; 5] = [Op::Create, Op::Retrieve, Op::Update, Op::Delete, Op::Notify];
 
 impl Op {

@@ -1,8 +1,9 @@
 //! The resource types.
-ghost use Rattle.std.specs.Prelude.{◌≡◌, ◌≢◌, ◌↔◌, IfSome, IfNone, IsTrue, Some};
+ghost use Rattle.std.specs.Prelude.{◌≡◌, ◌≢◌, ◌≤◌, ◌↔◌, IfSome, IfNone, IsTrue, Some};
+ghost use Rattle.std.specs.Bool.{OnTrue};
 ghost use Rattle.m2m_names.specs.declared.types.Ty.{Ty};
 ghost use Rattle.m2m_names.specs.Types.{ty_row, ty_of_number, ty_of_word, ty_member, Takes};
-ghost use Rattle.m2m_names.specs.Types.{does_take};
+ghost use Rattle.m2m_names.specs.Types.{does_take, is_type_number};
 
 /// A resource type, by the standard's own names (TS-0001, 9.6; `Annc` ends those of announced
 /// resources).
@@ -236,4 +237,12 @@ impl Ty {
     {
         self.row().takes.contains(&child)
     }
+}
+
+/// Whether a resource type may have the number, be it known or not.
+pub fn is_type_number(number: u64) -> bool
+    ensures value { result ≡ is_type_number number }
+    ensures bound { OnTrue result (number ≤ 65_535) }
+{
+    number <= 65_535
 }

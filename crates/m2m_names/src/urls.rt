@@ -8,6 +8,9 @@ ghost use Rattle.m2m_names.specs.Urls.{IsUrl, number_of};
 ghost use Rattle.m2m_names.specs.UrlReading.{past_scheme, host_at, port_digits_at, port_at};
 ghost use Rattle.m2m_names.specs.UrlReading.{host_end_at};
 
+/// The most bytes that an address or a URL has (the profile's).
+pub const POINT_LIMIT: usize = 512;
+
 /// The parts of a URL.
 #[derive(Clone, Copy, Debug, PartialEq, Eq)]
 pub struct UrlParts {
@@ -124,7 +127,7 @@ fn host_end(text: &[u8]) -> Option<usize>
     let rest = after_scheme(text)?;
     let (host_len, rest) = host(rest)?;
     let (port_len, rest) = port(rest)?;
-    if !is_path(rest) || text.len() > 512 {
+    if !is_path(rest) || text.len() > POINT_LIMIT {
         return None;
     }
     Some(7 + host_len + port_len)

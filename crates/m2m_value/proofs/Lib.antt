@@ -5,3 +5,4 @@ pub mod Lookup
 pub mod Raised
 pub mod RoundTrip
 pub mod Depths
+pub mod Parses

@@ -53,6 +53,9 @@ may_have_member key fits es = option_map_or fits (member_of key es) true
 abbrev pub label_limit : ℕ
 label_limit = 256
 
--- a text of 1 to 256 bytes
+-- the text of a label: 1 to 256 bytes
+abbrev pub is_label_text : List ℕ → Bool
+is_label_text s = is_filled label_limit s
+
 abbrev pub is_label : Data → Bool
-is_label d = is_text_of (is_filled label_limit) d
+is_label d = is_text_of is_label_text d

@@ -11,14 +11,17 @@
 //! What it costs. A read of 64 KiB is what `serde_json` does (one pass for UTF-8, one that marks
 //! where tokens are, one over the tokens, with one allocation for each text and key and some for
 //! each list and object), and then one pass over the values, not the bytes: texts and keys are
-//! moved, and each list and object is allocated once, at its length. A write is one pass over the
-//! value, and its bytes go straight to the end of `out`: no allocation where there is room for
-//! them, and otherwise those by which a vector grows, some fifteen from nothing to 64 KiB. A
-//! size is one pass over the value, without memory.
+//! moved, and each list and object is allocated once, at its length. `read` clears 16 KiB of
+//! room of its own first; `read_in` has the caller's `Scratch`, which is kept from read to read and
+//! grows to the longest text, and takes one more allocation for each list and object. A write is one
+//! pass over the value, and its bytes go straight to the end of `out`: no allocation where there is
+//! room for them, and otherwise those by which a vector grows, some fifteen from nothing to 64 KiB.
+//! A size is one pass over the value, without memory.
 #![tactic(auto)]
 
 mod copy;
 mod fault;
+mod parsing;
 mod reading;
 mod same;
 mod shapes;
@@ -28,8 +31,9 @@ mod value;
 mod writing;
 
 pub use fault::ValFault;
-pub use reading::read;
-pub use shapes::{LABEL_LIMIT, count_of};
+pub use json::Scratch;
+pub use reading::{read, read_in};
+pub use shapes::{count_of, is_label_text};
 pub use std::alloc::AllocError as OutOfMemory;
 pub use text::{Labels, Numbers, Text};
 pub use value::{Items, Members, Node, Val};

@@ -7,8 +7,10 @@ ghost use Rattle.m2m_value.specs.Reading.{whole_of, value_of, elements_in, pairs
 ghost use Rattle.m2m_value.specs.Reading.{Gives};
 
 use crate::fault::ValFault;
+use crate::parsing::parse_in;
 use crate::text::Text;
 use crate::value::{Items, Members, Node, Val};
+use json::Scratch;
 use serde_json::{Map, Number, Value};
 use std::alloc::Global;
 
@@ -22,6 +24,17 @@ pub fn read(alloc: Global, bytes: &[u8]) -> Result<Val, ValFault>
         Ok(value) => kept(alloc, value),
         Err(e) if !e.is_memory() => Err(ValFault::NotJson),
         Err(_) => Err(ValFault::OutOfMemory),
+    }
+}
+
+/// The same, in room that is kept from one read to the next.
+pub fn read_in(alloc: Global, scratch: &mut Scratch, bytes: &[u8]) -> Result<Val, ValFault>
+    ensures value { Gives (λ v. v) result (reading bytes.now) }
+    ensures nests { IfOk result (λ v. depth v ≤ 127) }
+{
+    match parse_in(alloc, scratch, bytes) {
+        Some(value) => kept(alloc, value),
+        None => read(alloc, bytes),
     }
 }
 

@@ -6,7 +6,7 @@ use crate::value::Val;
 use m2m_names::is_filled;
 
 /// The most bytes that a label has.
-pub const LABEL_LIMIT: usize = 256;
+const LABEL_LIMIT: usize = 256;
 
 /// The count of a whole number from 0 on.
 pub fn count_of(n: i64) -> Option<u64>
@@ -14,6 +14,13 @@ pub fn count_of(n: i64) -> Option<u64>
     ensures bound { IfSome result (λ n. n < 2 ^ 63) }
 {
     if n < 0 { None } else { Some(n as u64) }
+}
+
+/// Whether the text is that of a label: 1 to 256 bytes.
+pub fn is_label_text(text: &[u8]) -> bool
+    ensures { result ≡ spec.is_label_text text.now }
+{
+    is_filled(text, LABEL_LIMIT)
 }
 
 impl Val {
@@ -30,7 +37,7 @@ impl Val {
         ensures { result ≡ spec.is_label self.now }
     {
         match self.as_text() {
-            Some(text) => is_filled(text.entries(), LABEL_LIMIT),
+            Some(text) => is_label_text(text.entries()),
             None => false,
         }
     }

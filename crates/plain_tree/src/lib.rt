@@ -2,9 +2,10 @@
 //! asked by a walk of its own. It is the body that says what a tree is; `tree_model` has the trait
 //! and all definitions.
 //!
-//! `Nodes` is that list, with its order kept: a resource is found in it by halving, and a removal is
-//! one pass in place, which searches for no parent. `ListTree` keeps besides a moment before which
-//! nothing is due. Callers owe the conditions of `insert` and `replace`. Only an insert takes memory.
+//! `Nodes` is that list, with its order kept: a resource is found in it by halving, and a removal
+//! is one pass in place, which searches for no parent. `ListTree` keeps besides a moment before
+//! which nothing is due. Callers owe the conditions of `insert` and `replace`. Only an insert takes
+//! memory.
 #![tactic(auto)]
 
 mod finding;

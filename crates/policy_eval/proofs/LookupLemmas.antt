@@ -14,7 +14,8 @@ use Rattle.resource_model.specs.Home.{HomeData}
 use Rattle.resource_model.specs.Resource.{ResourceData, is_ty}
 use Rattle.tree_model.specs.Tree.{at, due}
 use Rattle.policy_eval.specs.Alike.{is_attr_in, shape_attrs}
-use Rattle.policy_eval.specs.Rules.{only, Rule, rule_for, all_bits, rules_in, policy_of, policies_of, rules_by, listed_in, ids_at, owner_rules, registree, linked_rules, channel_rules, rules_of, fan_rules}
+use Rattle.m2m_names.specs.Operations.{all_bits}
+use Rattle.policy_eval.specs.Rules.{only, Rule, rule_for, rules_in, policy_of, policies_of, rules_by, listed_in, ids_at, owner_rules, registree, linked_rules, channel_rules, rules_of, fan_rules}
 use Rattle.policy_eval.specs.Rights.{bits_by, has_bits}
 use Rattle.policy_eval.specs.Seen.{create_bit, update_bit, retrieve_bit, discovery_bit, has_bit, fills, is_filled_in, may_use, found_attrs, limit_attrs, size_attrs, member_attrs, is_shown, seen_value, seen_row, seen_owner, seen, is_policy_rules, is_way}
 use Rattle.policy_eval.proofs.TwiceLemmas.{made, value_by}

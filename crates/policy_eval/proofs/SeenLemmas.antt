@@ -24,7 +24,8 @@ use Rattle.tree_model.specs.Tree.{at, child_of}
 use Rattle.resource_model.proofs.AttributeLemmas.{is_attr-same}
 use Rattle.tree_model.proofs.TreeLemmas.{at-map}
 use Rattle.policy_eval.specs.Originators.{full_form, own_lead, is_same}
-use Rattle.policy_eval.specs.Rules.{texts_of, member_at, member_number, all_bits, sum_of_bits, stated_rule, rules_in, listed_in}
+use Rattle.m2m_names.specs.Operations.{all_bits}
+use Rattle.policy_eval.specs.Rules.{texts_of, member_at, member_number, sum_of_bits, stated_rule, rules_in, listed_in}
 use Rattle.policy_eval.specs.Rights.{is_subject, with_rule, with_rules, bits_by, grants, relinks, fan_grants}
 use Rattle.policy_eval.specs.Alike.{is_attr_in, shape_attrs, Alike, AreAlike}
 use Rattle.policy_eval.specs.Seen.{is_url, first_url, only_point, seen_points, way_in, retrieve_bit, discovery_bit, has_bit, fills, is_filled_in, may_use, found_attrs, limit_attrs, size_attrs, member_attrs, Shows, is_shown, plain_rules, seen_rules, is_policy_rules, is_way, seen_value, another, seen_owner, seen_ct, seen_lt, seen_et, seen, seen_list}

@@ -3,6 +3,7 @@ use Rattle.std.specs.Prelude.{ℕ, ◌==◌, Bool, List, bit_and, bit_or, false,
 use Rattle.std.specs.List.{fold, list_any}
 use Rattle.std.specs.Option.{option_map_or}
 use Rattle.m2m_names.specs.Operations.{op_row}
+pub use Rattle.m2m_names.specs.Operations.{discovery_bit}
 use Rattle.m2m_names.specs.declared.operations.Op.TheVariants.{Create, Retrieve, Update}
 use Rattle.resource_model.specs.Home.{HomeData}
 use Rattle.resource_model.specs.Resource.{ResourceData}
@@ -21,10 +22,6 @@ retrieve_bit = (op_row Retrieve).bit
 
 abbrev pub update_bit : ℕ
 update_bit = (op_row Update).bit
-
--- that of DISCOVERY, which is a Retrieve that looks for resources
-abbrev pub discovery_bit : ℕ
-discovery_bit = 32
 
 -- ---- who has them
 

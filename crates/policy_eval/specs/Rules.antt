@@ -9,6 +9,7 @@ use Rattle.m2m_names.specs.declared.types.Ty.TheVariants.{AccessControlPolicy, A
 use Rattle.m2m_names.specs.declared.types.Ty.TheVariants.{PollingChannel, RemoteCse}
 use Rattle.m2m_names.specs.declared.types.Ty.{Ty}
 use Rattle.m2m_names.specs.Ids.{id_parts}
+use Rattle.m2m_names.specs.Operations.{all_bits}
 use Rattle.m2m_value.specs.Data.{Data, number, text, list, object, elements_of, pairs_of}
 use Rattle.m2m_value.specs.View.{as_list, as_number, as_object, as_text, member_of}
 use Rattle.resource_model.specs.Attributes.{value_of, text_at}
@@ -29,11 +30,6 @@ pub record Rule : Type 0 where
 
 abbrev pub rule_for : Subjects → ℕ → Rule
 rule_for subjects bits = record { subjects = subjects; bits = bits }
-
--- all six bits: CREATE 1, RETRIEVE 2, UPDATE 4, DELETE 8, NOTIFY 16, DISCOVERY 32 (TS-0001,
--- 9.6.2.1.2)
-abbrev pub all_bits : ℕ
-all_bits = 63
 
 -- a sum of the six bits; a number that is none gives nothing
 abbrev pub sum_of_bits : ℤ → ℕ

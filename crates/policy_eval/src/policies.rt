@@ -5,12 +5,9 @@ ghost use Rattle.resource_model.specs.Resource.{is_ty};
 ghost use Rattle.std.specs.Option.{option_map_or};
 ghost use Rattle.policy_eval.specs.Rules as spec;
 
-use m2m_names::{Attr, Ty, read_id};
+use m2m_names::{ALL_BITS, Attr, Ty, read_id};
 use m2m_value::Val;
 use tree_model::{Resource, Tree};
-
-/// All six bits of `acop`.
-pub const ALL_BITS: u32 = 63;
 
 /// The member of an object.
 fn member_at<'a>(value: &'a Val, key: &[u8]) -> Option<&'a Val>

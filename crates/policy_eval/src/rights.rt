@@ -1,14 +1,15 @@
 //! The rights of an originator.
 ghost use Rattle.std.specs.Prelude.{◌≡◌, [], ◌∷◌, IsTrue, map};
 ghost use Rattle.m2m_names.specs.Name.{is_originator};
+ghost use Rattle.m2m_names.specs.Operations.{all_bits};
 ghost use Rattle.tree_model.specs.Tree.{has};
 ghost use Rattle.policy_eval.specs.Rules as spec_rules;
 ghost use Rattle.policy_eval.specs.Rules.{named, texts_of};
 ghost use Rattle.policy_eval.specs.Rights as spec;
 
 use crate::originators::{does_name, is_same};
-use crate::policies::{ALL_BITS, bits_of, entries_of, ids_at, policy_named, registree, rules_in};
-use m2m_names::{Attr, Op, Ty};
+use crate::policies::{bits_of, entries_of, ids_at, policy_named, registree, rules_in};
+use m2m_names::{ALL_BITS, Attr, Op, Ty};
 use m2m_value::Val;
 use tree_model::{Home, Resource, Tree};
 
@@ -64,7 +65,7 @@ fn bits_by_policies<T: Tree>(tree: &T, home: &Home, o: &[u8], attr: Attr, ids: &
 /// All bits to one originator, and none to any other.
 fn only(home: &Home, o: &[u8], text: &[u8]) -> u32
     ensures { result ≡ spec.bits_by home.now o.now
-        (spec_rules.rule_for (spec_rules.only text.now) spec_rules.all_bits ∷ []) }
+        (spec_rules.rule_for (spec_rules.only text.now) all_bits ∷ []) }
 {
     if is_same(home, o, text) { ALL_BITS } else { 0 }
 }

@@ -7,9 +7,9 @@ use Rattle.m2m_value.specs.Data.{Data, null, Entry}
 use Rattle.m2m_value.specs.View.{member_of}
 use Rattle.m2m_value.proofs.Lookup.{compared, member_of-put_other}
 use Rattle.filter_criteria.specs.Conditions as conditions
-use Rattle.filter_criteria.specs.Conditions.{filter_in, labels_of, with_labels}
+use Rattle.filter_criteria.specs.Conditions.{filter_in, labels_of, relabelled}
 use Rattle.filter_criteria.specs.Values.{members_in}
-use Rattle.primitive_json.specs.Reading.{value_read, operation_in, request_fault, request_made, request_of, read_as, plain_in, kept_in, with_kept}
+use Rattle.primitive_json.specs.Reading.{value_read, operation_in, request_fault, request_made, request_of_members, read_as, plain_in, kept_in, with_kept}
 use Rattle.filter_criteria.specs.declared.condition.Condition.TheVariants.{OneLabel}
 use Rattle.filter_criteria.specs.declared.filter.FilterParts.{FilterParts}
 use Rattle.primitive_json.specs.declared.fault.PrimFault.{PrimFault}
@@ -25,7 +25,7 @@ taken_other (Some x) key name other old new same taken absent apart =
     ap (member_of other) (taken ∙ ap (λ k. insert_entry compared old k null) same) ∙ member_of-put_other name other old null apart
 
 -- a filter is made again of its labels and the rest of it
-filter_again : (o : Option Data) → option_map (with_labels (labels_of (option_and_then (λ d. member_of (conditions.name_of_condition OneLabel) (members_in d)) o))) (option_map (with_labels []) (option_map (λ d. filter_in (members_in d)) o)) ≡ option_map (λ d. filter_in (members_in d)) o
+filter_again : (o : Option Data) → option_map (relabelled (labels_of (option_and_then (λ d. member_of (conditions.name_of_condition OneLabel) (members_in d)) o))) (option_map (relabelled []) (option_map (λ d. filter_in (members_in d)) o)) ≡ option_map (λ d. filter_in (members_in d)) o
 filter_again None = refl
 filter_again (Some d) = refl
 
@@ -34,7 +34,7 @@ pub request_again : (op : Op) (es : List Entry) → with_kept (plain_in op es) (
 request_again op es = ap (λ (fc : Option FilterParts). record (request_made op es) { fc = fc }) (filter_again (value_read op FilterCriteria es))
 
 -- the request of members that have no fault
-pub request_read : (es : List Entry) (plain : RequestParts) (kept : Kept) (r : RequestParts) → (request_fault (operation_in es) es ≡ None) × (plain ≡ plain_in (unwrap_or (operation_in es) Create) es) → kept ≡ kept_in plain.op es → r ≡ with_kept plain kept → request_of es ≡ Ok r
+pub request_read : (es : List Entry) (plain : RequestParts) (kept : Kept) (r : RequestParts) → (request_fault (operation_in es) es ≡ None) × (plain ≡ plain_in (unwrap_or (operation_in es) Create) es) → kept ≡ kept_in plain.op es → r ≡ with_kept plain kept → request_of_members es ≡ Ok r
 request_read es plain kept r judged is made =
     let op = unwrap_or (operation_in es) Create in
     let same : kept ≡ kept_in op es = is ∙ ap (λ (p : RequestParts). kept_in p.op es) judged.1 in
@@ -56,10 +56,10 @@ told : (fault : Option PrimFault) (made : RequestParts) → (fault ≡ None → 
 told None made some = some refl
 told (Some fault) made some = tt
 
-pub judged_told : (es : List Entry) → (request_fault (operation_in es) es ≡ None → has_filter (unwrap_or (operation_in es) Create) es) → IfOk (request_of es) (λ (r : RequestParts). IsSome r.fc)
+pub judged_told : (es : List Entry) → (request_fault (operation_in es) es ≡ None → has_filter (unwrap_or (operation_in es) Create) es) → IfOk (request_of_members es) (λ (r : RequestParts). IsSome r.fc)
 judged_told es some = told (request_fault (operation_in es) es) (request_made (unwrap_or (operation_in es) Create) es) some
 
-pub labels_told : (es : List Entry) (plain : RequestParts) (kept : Kept) → (request_fault (operation_in es) es ≡ None) × (plain ≡ plain_in (unwrap_or (operation_in es) Create) es) → kept ≡ kept_in plain.op es → IsSome kept.lbl → IfOk (request_of es) (λ (r : RequestParts). IsSome r.fc)
+pub labels_told : (es : List Entry) (plain : RequestParts) (kept : Kept) → (request_fault (operation_in es) es ≡ None) × (plain ≡ plain_in (unwrap_or (operation_in es) Create) es) → kept ≡ kept_in plain.op es → IsSome kept.lbl → IfOk (request_of_members es) (λ (r : RequestParts). IsSome r.fc)
 labels_told es plain kept judged is some =
     let op = unwrap_or (operation_in es) Create in
     let same : kept ≡ kept_in op es = is ∙ ap (λ (p : RequestParts). kept_in p.op es) judged.1 in

@@ -14,7 +14,7 @@ use Rattle.m2m_value.specs.Shapes.{as_count}
 use Rattle.m2m_value.specs.View.{as_text}
 use Rattle.filter_criteria.specs.Bounds.{IsMoment}
 use Rattle.filter_criteria.proofs.PartLemmas.{passes_along, moment_back}
-use Rattle.primitive_json.specs.Kinds.{is_numeral, expiry_spelled, read_expiry}
+use Rattle.primitive_json.specs.Kinds.{is_numeral, number_spelled, expiry_spelled, read_expiry}
 use Rattle.primitive_json.specs.Laws.{IsWhenOfKind, IsShortWhen}
 use Rattle.primitive_json.specs.Writing.{expiry_data}
 use Rattle.primitive_json.proofs.Numerals.{own}
@@ -64,25 +64,24 @@ decimal_is_numeral n short =
 
 pub expiry_back : (when : When) → IsWhenOfKind when → IsShortWhen when → read_expiry (expiry_data when) ≡ Some when
 expiry_back (At at) last short =
-    ap (λ b. if b then Some (Millis (digits_value 10 (timestamp at))) else option_map At (moment_at (timestamp at))) (stamp_is_no_numeral at)
+    ap (λ b. option_or (option_map Millis (if b then Some (digits_value 10 (timestamp at)) else None)) (option_map At (moment_at (timestamp at)))) (stamp_is_no_numeral at)
     ∙ ap (option_map At) (moment_back at last)
 expiry_back (Millis n) kind short =
     let small : n < 2 ^ 64 = omega arith in
-    ap (λ b. if b then Some (Millis (digits_value 10 (decimal n))) else option_map At (moment_at (decimal n))) (decimal_is_numeral n short)
+    ap (λ b. option_or (option_map Millis (if b then Some (digits_value 10 (decimal n)) else None)) (option_map At (moment_at (decimal n)))) (decimal_is_numeral n short)
     ∙ ap (λ v. Some (Millis v)) (digits_value-decimal own n small)
 
 when_at : (o : Option ℕ) → IfSome o IsMoment → IfSome (option_map At o) IsWhenOfKind
 when_at None h = tt
 when_at (Some at) h = h
 
-when_in : (s : List ℕ) (b : Bool) → IfSome (if b then Some (Millis (digits_value 10 s)) else option_map At (moment_at s)) IsWhenOfKind
-when_in s true = tt
-when_in s false = when_at (moment_at s) (read_last s (moment_at s) refl)
-
 when_or : (n : Option ℕ) (o : Option When) → IfSome o IsWhenOfKind → IfSome (option_or (option_map Millis n) o) IsWhenOfKind
 when_or None o h = h
 when_or (Some n) o h = tt
 
+when_spelled : (s : List ℕ) → IfSome (expiry_spelled s) IsWhenOfKind
+when_spelled s = when_or (number_spelled s) (option_map At (moment_at s)) (when_at (moment_at s) (read_last s (moment_at s) refl))
+
 -- what is read as a time of expiry is of its kind
 pub when_of_kind : (d : Data) → IfSome (read_expiry d) IsWhenOfKind
-when_of_kind d = when_or (as_count d) (option_and_then expiry_spelled (as_text d)) (passes_along IsWhenOfKind expiry_spelled (λ s. when_in s (is_numeral s)) (as_text d))
+when_of_kind d = when_or (as_count d) (option_and_then expiry_spelled (as_text d)) (passes_along IsWhenOfKind expiry_spelled when_spelled (as_text d))

@@ -15,7 +15,7 @@ use Rattle.m2m_value.specs.View.{as_text, member_of}
 use Rattle.primitive_json.specs.Bounds.{is_request_id}
 use Rattle.primitive_json.specs.Kinds.{is_id_text, read_status}
 use Rattle.primitive_json.specs.Laws.{IsReplyOfKinds}
-use Rattle.primitive_json.specs.Reading.{read_as, rsc_name, rqi_name, pc_name, reply_fault, reply_made, reply_of, read_reply}
+use Rattle.primitive_json.specs.Reading.{read_as, rsc_name, rqi_name, pc_name, reply_fault, reply_made, reply_of_members, read_reply}
 use Rattle.primitive_json.specs.Writing.{reply_rows, written_reply}
 use Rattle.filter_criteria.specs.Values.{members_in, present, count_data}
 use Rattle.primitive_json.specs.declared.fault.PrimFault.{PrimFault}
@@ -102,7 +102,7 @@ module _ (r : ReplyParts) (kind : IsReplyOfKinds r) where
       λ i. record { rsc = rsc i; rqi = rqi i; pc = pc i }
 
   pub reply_back : read_reply (written_reply r) ≡ Ok r
-  reply_back = ap reply_of (members_in-object_of (reply_rows r)) ∙ read_if_no_fault (reply_fault es) (reply_made es) r without_fault same_reply
+  reply_back = ap reply_of_members (members_in-object_of (reply_rows r)) ∙ read_if_no_fault (reply_fault es) (reply_made es) r without_fault same_reply
 
 -- ---- what is read is of its kind
 

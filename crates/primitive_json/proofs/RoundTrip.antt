@@ -5,6 +5,7 @@ use Rattle.std.specs.List.{list_all, list_any, find}
 use Rattle.std.specs.Option.{option_or, option_map_or}
 use Rattle.std.specs.Ordering.{int_eq}
 use Rattle.m2m_names.specs.Name.{is_filled, is_originator}
+use Rattle.m2m_names.specs.Types.{is_type_number}
 use Rattle.m2m_names.specs.Operations.{op_row}
 use Rattle.m2m_names.specs.declared.operations.Op.{Op}
 use Rattle.m2m_names.specs.declared.operations.Op.TheVariants.{Create, Retrieve, Update, Delete, Notify}
@@ -24,7 +25,7 @@ use Rattle.filter_criteria.proofs.Present.{member_of-present, members_in-object_
 use Rattle.primitive_json.specs.Kinds.{is_number_among, address_forms, read_operation, result_contents, read_response_type, read_expiry}
 use Rattle.primitive_json.specs.Laws.{IsWhenOfKind, IsShortWhen, IsOfKinds, HasShortExpiry}
 use Rattle.primitive_json.specs.Members.{creates, retrieves, has_content, has_result, all_members, name_of_member, is_read, is_needed}
-use Rattle.primitive_json.specs.Reading.{read_as, is_good, is_missing, missing_member, bad_entry, request_fault, value_read, operation_in, request_made, request_of, read_request}
+use Rattle.primitive_json.specs.Reading.{read_as, is_good, is_missing, missing_member, bad_entry, request_fault, value_read, operation_in, request_made, request_of_members, read_request}
 use Rattle.primitive_json.specs.Writing.{only_where, expiry_data, member_value, written_member, written_request}
 use Rattle.primitive_json.proofs.FaultLemmas.{named_again, read_without_fault, read_if_no_fault, needed_is_there, fitting, operation_is_known}
 use Rattle.primitive_json.proofs.KindLemmas.{told_passes, told_or_passes, expiry_back, when_of_kind}
@@ -128,7 +129,7 @@ each_good r kinds short Target = kinds.to
 each_good r kinds short ResourceType =
     let Q : Data → Type 0 = λ d. is_good (Some r.op) (name_of_member ResourceType, d) ≡ true in
     if_kept Q (creates r.op) (option_map count_data r.ty)
-    (if_some count_data (λ n. nat_le n 65_535 ≡ true) Q (λ n h. passes_or (not (creates r.op)) _ (ap is_some (where_kept (λ n. nat_le n 65_535) n h))) r.ty kinds.ty)
+    (if_some count_data (λ n. is_type_number n ≡ true) Q (λ n h. passes_or (not (creates r.op)) _ (ap is_some (where_kept is_type_number n h))) r.ty kinds.ty)
 
 -- ---- each parameter is read back
 
@@ -187,7 +188,7 @@ module _ (r : RequestParts) (kinds : IsOfKinds r) (short : HasShortExpiry r) whe
       let fr = ap (option_and_then as_text) (there r Originator) ∙ text_again r.fr in
       let rqi = ap (λ (d : Option Data). unwrap_or (option_and_then as_text d) []) (there r RequestId) in
       let ty = ap (λ (d : Option Data). option_and_then read_type_number (only_where (creates r.op) d)) (there r ResourceType)
-      ∙ scoped read_type_number count_data (creates r.op) r.ty kinds.ty_there (each_back read_type_number count_data (λ n. nat_le n 65_535 ≡ true) (where_kept (λ n. nat_le n 65_535)) r.ty kinds.ty) in
+      ∙ scoped read_type_number count_data (creates r.op) r.ty kinds.ty_there (each_back read_type_number count_data (λ n. is_type_number n ≡ true) (where_kept is_type_number) r.ty kinds.ty) in
       let pc = ap (only_where (has_content r.op)) (there r Content) ∙ kept_twice (has_content r.op) r.pc kinds.pc_there in
       let rqet = ap (option_and_then read_expiry) (there r Expiry) ∙ timely_back r.rqet kinds.rqet short in
       let rt = ap (option_and_then read_response_type) (there r ResponseType) ∙ each_back read_response_type number (λ z. Unit {0}) (λ z h. refl) r.rt (any_number r.rt) in
@@ -211,7 +212,7 @@ module _ (r : RequestParts) (kinds : IsOfKinds r) (short : HasShortExpiry r) whe
   -- a request of its kinds is read back
   pub request_back : read_request (written_request r) ≡ Ok r
   request_back =
-      ap request_of (members_in-object_of (map (written_member r) all_members))
+      ap request_of_members (members_in-object_of (map (written_member r) all_members))
       ∙ ap (λ (o : Option Op). read_as (request_fault o es) (request_made (unwrap_or o Create) es)) operation_there
       ∙ read_if_no_fault (request_fault (Some r.op) es) (request_made r.op es) r without_fault same_request
 
@@ -252,7 +253,7 @@ kinds_of op es h =
       fr = read_along as_text is_originator true (member_of (name_of_member Originator) es) (λ read d found. fitting (Some op) es Originator d h refl found);
       rqi = ap (λ (d : Option Data). is_request_id (unwrap_or (option_and_then as_text d) [])) rqi.1
           ∙ told_or_passes is_request_id (as_text rqi.0) [] (fitting (Some op) es RequestId rqi.0 h refl rqi.1);
-      ty = passes_along (λ n. nat_le n 65_535 ≡ true) read_type_number (λ d. where_passes (λ n. nat_le n 65_535) (as_count d)) (value_read op ResourceType es);
+      ty = passes_along (λ n. is_type_number n ≡ true) read_type_number (λ d. where_passes is_type_number (as_count d)) (value_read op ResourceType es);
       ty_there = scoped_there read_type_number (creates op) (member_of (name_of_member ResourceType) es) (λ created.
           let at = needed_is_there (Some op) es ResourceType h created in (at.0, at.1, fitting (Some op) es ResourceType at.0 h created at.1));
       pc = if_read (λ d. is_some (as_object d) ≡ true) (has_content op) (member_of (name_of_member Content) es) (λ has d found. fitting (Some op) es Content d h has found);

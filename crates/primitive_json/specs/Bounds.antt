@@ -1,11 +1,8 @@
 -- What the request identifiers of primitives keep to.
 use Rattle.std.specs.Prelude.{ℕ, Bool, ◌&&◌, List, length}
+use Rattle.std.specs.Char.{is_ascii_graphic}
 use Rattle.std.specs.Int.{is_in_range}
 use Rattle.std.specs.List.{list_all}
-
--- a printable ASCII character but space
-abbrev pub is_graphic : ℕ → Bool
-is_graphic b = is_in_range 33 126 b
 
 -- the most bytes that a request identifier has
 abbrev pub request_id_limit : ℕ
@@ -14,4 +11,5 @@ request_id_limit = 128
 -- a request identifier: 1 to 128 printable ASCII characters without a space (TS-0001, 8.1.2; the
 -- length is the profile's)
 abbrev pub is_request_id : List ℕ → Bool
-is_request_id text = is_in_range 1 request_id_limit (length text) && list_all is_graphic text
+is_request_id text =
+    is_in_range 1 request_id_limit (length text) && list_all is_ascii_graphic text

@@ -77,10 +77,14 @@ numeral_limit = 18
 abbrev pub is_numeral : List ℕ → Bool
 is_numeral s = is_filled numeral_limit s && list_all is_ascii_digit s
 
+-- the number that they write
+abbrev pub number_spelled : List ℕ → Option ℕ
+number_spelled s = if is_numeral s then Some (digits_value 10 s) else None
+
 -- milliseconds by digits, else the moment of a timestamp
 abbrev pub expiry_spelled : List ℕ → Option When
 expiry_spelled s =
-    if is_numeral s then Some (Millis (digits_value 10 s)) else option_map At (moment_at s)
+    option_or (option_map Millis (number_spelled s)) (option_map At (moment_at s))
 
 -- milliseconds by a number, else what a text spells (TS-0004, 6.3.3)
 abbrev pub read_expiry : Data → Option When

@@ -1,9 +1,10 @@
 -- What is read is of its kinds, and is read back from the value that is written of it.
-use Rattle.std.specs.Prelude.{◌≡◌, ℕ, ◌<◌, ◌^◌, nat_le, Bool, IsTrue, Option, IfSome, is_some, Ok}
+use Rattle.std.specs.Prelude.{◌≡◌, ℕ, ◌<◌, ◌^◌, Bool, IsTrue, Option, IfSome, is_some, Ok}
 use Rattle.std.specs.Prelude.{⊤}
 use Rattle.std.specs.List.{list_all, list_any}
 use Rattle.std.specs.Ordering.{int_eq}
 use Rattle.m2m_names.specs.Name.{is_filled, is_originator}
+use Rattle.m2m_names.specs.Types.{is_type_number}
 use Rattle.m2m_value.specs.Data.{Data}
 use Rattle.m2m_value.specs.View.{as_object}
 use Rattle.filter_criteria.specs.Bounds.{IsMoment}
@@ -29,7 +30,7 @@ pub record IsOfKinds (r : RequestParts) : Type 0 where
   pub to : IsTrue (is_filled target_limit r.to)
   pub fr : IfSome r.fr (λ s. IsTrue (is_originator s))
   pub rqi : IsTrue (is_request_id r.rqi)
-  pub ty : IfSome r.ty (λ n. IsTrue (nat_le n 65_535))
+  pub ty : IfSome r.ty (λ n. IsTrue (is_type_number n))
   pub ty_there : is_some r.ty ≡ creates r.op
   pub pc : IfSome r.pc (λ d. IsTrue (is_some (as_object d)))
   pub pc_there : is_some r.pc ≡ has_content r.op

@@ -11,7 +11,7 @@ use Rattle.m2m_value.specs.Data.{Data, Entry}
 use Rattle.m2m_value.specs.Shapes.{may_have_member}
 use Rattle.m2m_value.specs.View.{as_number, as_object, as_text, member_of}
 use Rattle.filter_criteria.specs.Conditions as conditions
-use Rattle.filter_criteria.specs.Conditions.{is_filter, filter_in, labels_of, with_labels}
+use Rattle.filter_criteria.specs.Conditions.{is_filter, filter_in, labels_of, relabelled}
 use Rattle.filter_criteria.specs.Values.{members_in, read_type_number}
 use Rattle.primitive_json.specs.Kinds.{is_address_text, is_originator_text, is_id_text}
 use Rattle.primitive_json.specs.Kinds.{is_number_among, address_forms, read_operation}
@@ -136,7 +136,7 @@ plain_in op es = record (request_made op es) {
   fr = None;
   rqi = [];
   pc = None;
-  fc = option_map (with_labels []) (request_made op es).fc;
+  fc = option_map (relabelled []) (request_made op es).fc;
 }
 
 -- the values of which these are made
@@ -158,17 +158,17 @@ with_kept plain kept = record plain {
   fr = option_and_then as_text kept.fr;
   rqi = unwrap_or (option_and_then as_text kept.rqi) [];
   pc = kept.pc;
-  fc = option_map (with_labels (labels_of kept.lbl)) plain.fc;
+  fc = option_map (relabelled (labels_of kept.lbl)) plain.fc;
 }
 
-abbrev pub request_of : List Entry → Result RequestParts PrimFault
-request_of es =
+abbrev pub request_of_members : List Entry → Result RequestParts PrimFault
+request_of_members es =
     let op = operation_in es in
     read_as (request_fault op es) (request_made (unwrap_or op Create) es)
 
 -- the request that a value is
 abbrev pub read_request : Data → Result RequestParts PrimFault
-read_request d = request_of (members_in d)
+read_request d = request_of_members (members_in d)
 
 -- ---- a reply
 
@@ -176,10 +176,10 @@ abbrev pub rsc_name : List ℕ
 rsc_name = codes "rsc"
 
 abbrev pub rqi_name : List ℕ
-rqi_name = codes "rqi"
+rqi_name = name_of_member RequestId
 
 abbrev pub pc_name : List ℕ
-pc_name = codes "pc"
+pc_name = name_of_member Content
 
 -- the first fault of a reply: the status code must be there; the request identifier comes before it
 -- in byte order
@@ -198,9 +198,9 @@ reply_made es = record {
   pc = member_of pc_name es;
 }
 
-abbrev pub reply_of : List Entry → Result ReplyParts PrimFault
-reply_of es = read_as (reply_fault es) (reply_made es)
+abbrev pub reply_of_members : List Entry → Result ReplyParts PrimFault
+reply_of_members es = read_as (reply_fault es) (reply_made es)
 
 -- the reply that a value is
 abbrev pub read_reply : Data → Result ReplyParts PrimFault
-read_reply d = reply_of (members_in d)
+read_reply d = reply_of_members (members_in d)

@@ -1,7 +1,5 @@
 //! What the values of members are read as, where they are of their kinds. Nothing is copied.
 ghost use Rattle.std.specs.Prelude.{◌≡◌, ◌<◌, ◌^◌, IfSome, IsTrue};
-ghost use Rattle.std.specs.Char.{is_ascii_digit};
-ghost use Rattle.std.specs.List.{list_all};
 ghost use Rattle.std.specs.Str.Parse.{digits_value};
 ghost use Rattle.primitive_json.specs.Requests.{IsSoundWhen};
 ghost use Rattle.primitive_json.specs.Kinds as spec;
@@ -9,11 +7,11 @@ ghost use Rattle.primitive_json.specs.Kinds as spec;
 use crate::bounds::is_request_id;
 use crate::request::When;
 use filter_criteria::value_at;
-use m2m_names::{Op, Rsc, is_filled, is_originator, read_stamp};
+use m2m_names::{Op, Rsc, are_digits, is_filled, is_originator, read_stamp};
 use m2m_value::Val;
 
 /// The most bytes that the target of a request has.
-const TARGET_LIMIT: usize = 1_024;
+pub const TARGET_LIMIT: usize = 1_024;
 
 /// The most digits of a count of milliseconds.
 const NUMERAL_LIMIT: usize = 18;
@@ -81,7 +79,7 @@ pub fn read_response_type(value: &Val) -> Option<i64>
 }
 
 /// The number that the digits write.
-fn digits_number(digits: &[u8]) -> u64
+pub fn digits_number(digits: &[u8]) -> u64
     requires { IsTrue (spec.is_numeral digits.now) }
     ensures value { result ≡ digits_value 10 digits.now }
     ensures bound { result < 10 ^ 18 }
@@ -93,28 +91,33 @@ fn digits_number(digits: &[u8]) -> u64
     number
 }
 
-/// Whether all bytes are decimal digits, zeros in front of others too.
-fn are_decimal(text: &[u8]) -> bool
-    ensures { result ≡ list_all is_ascii_digit text.now }
-{
-    text.iter().all(u8::is_ascii_digit)
-}
-
 /// Whether the text is 1 to 18 digits.
-fn is_numeral(text: &[u8]) -> bool
+pub fn is_numeral(text: &[u8]) -> bool
     ensures { result ≡ spec.is_numeral text.now }
 {
-    is_filled(text, NUMERAL_LIMIT) && are_decimal(text)
+    is_filled(text, NUMERAL_LIMIT) && are_digits(text)
 }
 
-fn expiry_spelled(text: &[u8]) -> Option<When>
+/// The number that 1 to 18 digits write.
+pub fn number_spelled(text: &[u8]) -> Option<u64>
+    ensures value { result ≡ spec.number_spelled text.now }
+    ensures bound { IfSome result (λ n. n < 10 ^ 18) }
+{
+    if is_numeral(text) {
+        Some(digits_number(text))
+    } else {
+        None
+    }
+}
+
+/// The time of expiry that a text spells: milliseconds by digits, else the moment of a timestamp.
+pub fn expiry_spelled(text: &[u8]) -> Option<When>
     ensures value { result ≡ spec.expiry_spelled text.now }
     ensures sound { IfSome result IsSoundWhen }
 {
-    if is_numeral(text) {
-        Some(When::Millis(digits_number(text)))
-    } else {
-        Some(When::At(read_stamp(text)?))
+    match number_spelled(text) {
+        Some(number) => Some(When::Millis(number)),
+        None => Some(When::At(read_stamp(text)?)),
     }
 }
 

@@ -2,7 +2,7 @@
 use Rattle.std.proofs.Common.{◌≡◌, ℕ, ◌<◌, Bool, true, false, ◌&&◌, List, length, None, refl, arith}
 use Rattle.std.specs.Prelude.{nat_le}
 use Rattle.std.proofs.lemmas.Bool.Decides.{nat_tests}
-use Rattle.primitive_replay.specs.Lines.{line_at, line_limit, lines_limit}
+use Rattle.primitive_replay.specs.Lines.{line_at, line_limit, most_lines}
 
 and_no : (b : Bool) → (b && false) ≡ false
 and_no true = refl
@@ -14,8 +14,8 @@ too_many n m more = grind (arith, nat_tests)
 -- more bytes than a line has
 pub line_at_long : (place : ℕ) (text : List ℕ) → line_limit < length text → line_at place text ≡ None
 line_at_long place text long =
-    rw (too_many (length text) line_limit long, and_no (nat_le place lines_limit)) refl
+    rw (too_many (length text) line_limit long, and_no (nat_le place most_lines)) refl
 
 -- a place behind the last
-pub line_at_late : (place : ℕ) (text : List ℕ) → lines_limit < place → line_at place text ≡ None
-line_at_late place text late = rw (too_many place lines_limit late) refl
+pub line_at_late : (place : ℕ) (text : List ℕ) → most_lines < place → line_at place text ≡ None
+line_at_late place text late = rw (too_many place most_lines late) refl

@@ -5,10 +5,9 @@ use Rattle.std.specs.Prelude.{◌≡◌, ℕ, ◌==◌, nat_le, ◌&&◌, List, 
 use Rattle.std.specs.Prelude.{Some, None, Result, Ok, Err, if◌then◌else◌, option_map}
 use Rattle.std.specs.Prelude.{option_and_then, ⊤}
 use Rattle.std.specs.Result.{result_ok}
-use Rattle.std.specs.Str.Parse.{digits_value}
 use Rattle.m2m_value.specs.Data.{Data}
 use Rattle.m2m_value.specs.Reading.{reading}
-use Rattle.primitive_json.specs.Kinds.{is_numeral}
+use Rattle.primitive_json.specs.Kinds.{number_spelled}
 use Rattle.primitive_json.specs.Reading.{read_request}
 use Rattle.primitive_json.specs.declared.request.RequestParts.{RequestParts}
 use Rattle.primitive_replay.specs.declared.fault.LineFault.{LineFault}
@@ -21,33 +20,29 @@ abbrev pub line_limit : ℕ
 line_limit = 131072
 
 -- the most lines
-abbrev pub lines_limit : ℕ
-lines_limit = 1000000
-
--- the reading that 1 to 18 decimal digits are
-abbrev pub reading_of : List ℕ → Option ℕ
-reading_of digits = if is_numeral digits then Some (digits_value 10 digits) else None
+abbrev pub most_lines : ℕ
+most_lines = 1000000
 
 -- the request that a value is (TS-0004, 8.2.2)
-abbrev pub request_in : Data → Option RequestParts
-request_in value = result_ok (read_request value)
+abbrev pub request_of_value : Data → Option RequestParts
+request_of_value value = result_ok (read_request value)
 
 -- the request that a JSON text is
-abbrev pub request_of : List ℕ → Option RequestParts
-request_of text = option_and_then request_in (result_ok (reading text))
+abbrev pub request_of_text : List ℕ → Option RequestParts
+request_of_text text = option_and_then request_of_value (result_ok (reading text))
 
 -- what a line is: nothing stands on it; or `@` (64) and a reading; or a request
 abbrev pub line_of : List ℕ → Option Line
 line_of [] = Some Empty
 line_of (b ∷ text) =
-    if b == 64 then option_map Reading (reading_of text)
-    else option_map Ask (request_of (b ∷ text))
+    if b == 64 then option_map Reading (number_spelled text)
+    else option_map Ask (request_of_text (b ∷ text))
 
 -- what the line at a place, from 1, is: none where it is bad, as it has none of these forms, or too
 -- many bytes, or stands behind the last line that there may be
 abbrev pub line_at : ℕ → List ℕ → Option Line
 line_at place text =
-    if nat_le place lines_limit && nat_le (length text) line_limit then line_of text else None
+    if nat_le place most_lines && nat_le (length text) line_limit then line_of text else None
 
 -- what a line is told to be, unless memory runs out
 abbrev pub GivesLine : Result Line LineFault → Option Line → Type 0

@@ -15,6 +15,9 @@ use primitive_json::{Reply, ReplyParts, Request, RequestParts, reply_into};
 use std::alloc::{AllocError as OutOfMemory, Global};
 use tree_model::Tree;
 
+/// Most replies have at most so many bytes; for a longer one the room grows.
+const REPLY_ROOM: usize = 512;
+
 /// The reply to the request of an event for which memory ran out.
 fn starved_reply(event: Event) -> Reply
     ensures { (request : RequestParts) → event ≡ Event.Ask request → result ≡ starved request }
@@ -52,7 +55,7 @@ fn reply_text(alloc: Global, reply: Reply) -> Result<Vec<u8>, OutOfMemory>
     ensures { IfOk result (λ text. text.items ≡ reply_line reply) }
 {
     let value = reply_into(alloc, reply)?;
-    let mut text = Vec::new(alloc);
+    let mut text = Vec::with_capacity(alloc, REPLY_ROOM)?;
     write(&value, &mut text)?;
     text.push(b'\n')?;
     Ok(text)

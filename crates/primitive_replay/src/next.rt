@@ -5,7 +5,7 @@ ghost use Rattle.std.specs.Io.KnownBytes.{IsAtEnd, Keeps, prepend_known};
 ghost use Rattle.std.specs.Str.Lines.{strip_carriage_return};
 ghost use Rattle.m2m_io.specs.Counts.{Rose};
 ghost use Rattle.primitive_replay.specs.Front.{HasNoEnd, IsFront, end_of, held_limit};
-ghost use Rattle.primitive_replay.specs.Lines.{lines_limit};
+ghost use Rattle.primitive_replay.specs.Lines.{most_lines};
 ghost use Rattle.primitive_replay.specs.Stream.{NextIs};
 
 use crate::fault::LineFault;
@@ -13,6 +13,7 @@ use crate::front::{Front, settle};
 use crate::held::Held;
 use crate::line::{Line, line_at};
 use m2m_io::Source;
+use m2m_value::Scratch;
 use std::alloc::Global;
 
 /// The text of a line before its LF, without the CR that may stand there.
@@ -29,6 +30,7 @@ fn without_return(text: &[u8]) -> &[u8]
 /// Takes the line that ends at this place of the bytes held, behind which anything may be left.
 fn take_ended(
     alloc: Global,
+    scratch: &mut Scratch,
     held: &mut Held,
     place: u64,
     end: usize,
@@ -37,12 +39,12 @@ fn take_ended(
     requires within { end < length held.old }
     ensures next { (stream left : Option (List ℕ)) → Keeps stream (prepend_known held.old left)
         → NextIs place result stream (prepend_known held.new left) }
-    ensures place { IfOk result (λ line. IsSome line → place ≤ lines_limit) }
+    ensures place { IfOk result (λ line. IsSome line → place ≤ most_lines) }
     ensures some { result ≢ Ok None }
     ensures few { length held.new ≤ held_limit }
     ensures other { result ≢ Err LineFault.ReadFault }
 {
-    match line_at(alloc, place, without_return(&held.bytes()[..end])) {
+    match line_at(alloc, scratch, place, without_return(&held.bytes()[..end])) {
         Ok(line) => {
             held.skip(end + 1);
             Ok(Some(line))
@@ -52,19 +54,24 @@ fn take_ended(
 }
 
 /// Takes all bytes held as the last line, behind which nothing is left.
-fn take_last(alloc: Global, held: &mut Held, place: u64) -> Result<Option<Line>, LineFault>
+fn take_last(
+    alloc: Global,
+    scratch: &mut Scratch,
+    held: &mut Held,
+    place: u64,
+) -> Result<Option<Line>, LineFault>
     requires none { HasNoEnd held.old }
     requires some { held.old ≢ [] }
     ensures next { (stream left : Option (List ℕ)) → Keeps stream (prepend_known held.old left)
         → IsAtEnd left → NextIs place result stream (prepend_known held.new left) }
-    ensures place { IfOk result (λ line. IsSome line → place ≤ lines_limit) }
+    ensures place { IfOk result (λ line. IsSome line → place ≤ most_lines) }
     ensures some { result ≢ Ok None }
     ensures few { length held.new ≤ held_limit }
     ensures other { result ≢ Err LineFault.ReadFault }
 {
     let text = held.bytes();
     let len = text.len();
-    match line_at(alloc, place, text) {
+    match line_at(alloc, scratch, place, text) {
         Ok(line) => {
             held.skip(len);
             Ok(Some(line))
@@ -76,6 +83,7 @@ fn take_last(alloc: Global, held: &mut Held, place: u64) -> Result<Option<Line>,
 /// Takes the line that stands at the front.
 fn take_front(
     alloc: Global,
+    scratch: &mut Scratch,
     held: &mut Held,
     place: u64,
     front: Front,
@@ -85,14 +93,14 @@ fn take_front(
     ensures next { (stream left : Option (List ℕ)) → Keeps stream (prepend_known held.old left)
         → IsFront (Ok front) held.old left
         → NextIs place result stream (prepend_known held.new left) }
-    ensures place { IfOk result (λ line. IsSome line → place ≤ lines_limit) }
+    ensures place { IfOk result (λ line. IsSome line → place ≤ most_lines) }
     ensures end { result ≡ Ok None → front ≡ Front.End }
     ensures few { length held.new ≤ held_limit }
     ensures other { result ≢ Err LineFault.ReadFault }
 {
     match front {
-        Front::Whole(end) => take_ended(alloc, held, place, end),
-        Front::Last => take_last(alloc, held, place),
+        Front::Whole(end) => take_ended(alloc, scratch, held, place, end),
+        Front::Last => take_last(alloc, scratch, held, place),
         Front::TooLong => Err(LineFault::Bad),
         Front::End => Ok(None),
     }
@@ -103,13 +111,14 @@ fn take_front(
 /// held have no whole line.
 pub(crate) fn next_line<S: Source>(
     alloc: Global,
+    scratch: &mut Scratch,
     held: &mut Held,
     src: &mut S,
     place: u64,
 ) -> Result<Option<Line>, LineFault>
     ensures next { NextIs place result (prepend_known held.old (S.left src.old))
         (prepend_known held.new (S.left src.new)) }
-    ensures place { IfOk result (λ line. IsSome line → place ≤ lines_limit) }
+    ensures place { IfOk result (λ line. IsSome line → place ≤ most_lines) }
     ensures end { result ≡ Ok None → IsAtEnd (S.left src.new) }
     ensures few { length held.new ≤ held_limit }
     ensures waiting { result ≡ Err LineFault.ReadFault → HasNoEnd held.new }
@@ -119,7 +128,7 @@ pub(crate) fn next_line<S: Source>(
     ensures steady { result ≢ Err LineFault.ReadFault → S.faults src.new ≡ S.faults src.old }
 {
     match settle(held, src) {
-        Ok(front) => take_front(alloc, held, place, front),
+        Ok(front) => take_front(alloc, scratch, held, place, front),
         Err(fault) => Err(fault),
     }
 }

@@ -5,7 +5,7 @@ ghost use Rattle.m2m_io.specs.Counts.{Rose};
 ghost use Rattle.m2m_io.specs.Outside.{outside};
 ghost use Rattle.entity_model.specs.Opening.{opening};
 ghost use Rattle.primitive_replay.specs.Front.{held_limit};
-ghost use Rattle.primitive_replay.specs.Lines.{lines_limit};
+ghost use Rattle.primitive_replay.specs.Lines.{most_lines};
 ghost use Rattle.primitive_replay.specs.Script.{Replays, ReplaysFrom};
 ghost use Rattle.primitive_replay.specs.Way.{GoesOn, TakesLine, fault_status};
 
@@ -16,6 +16,7 @@ use crate::line::{Line, MOST_LINES};
 use crate::next::next_line;
 use entity_model::Entity;
 use m2m_io::{Link, Sink, Source, Status};
+use m2m_value::Scratch;
 use plain_tree::ListTree;
 use std::alloc::{AllocError as OutOfMemory, Global};
 use tree_model::{Home, Tree};
@@ -66,6 +67,7 @@ fn fault_status(fault: LineFault, place: u64) -> Status
 fn replay_next<T: Tree, S: Source, O: Sink, L: Link>(
     alloc: Global,
     entity: &mut Entity<T>,
+    scratch: &mut Scratch,
     held: &mut Held,
     reading: &mut u64,
     input: &mut S,
@@ -80,7 +82,7 @@ fn replay_next<T: Tree, S: Source, O: Sink, L: Link>(
         MatchOption result
         (GoesOn place (place + 1) reading.old reading.new entity.old entity.new old on)
         (ReplaysFrom place reading.old entity.old entity.new old new) }
-    ensures place { result ≡ None → place ≤ lines_limit }
+    ensures place { result ≡ None → place ≤ most_lines }
     ensures read_count { S.faults input.old ≤ S.faults input.new }
     ensures read_cause { result ≡ Some Status.ReadFault
         → Rose (S.faults input.old) (S.faults input.new) }
@@ -93,7 +95,7 @@ fn replay_next<T: Tree, S: Source, O: Sink, L: Link>(
         → O.faults out.new ≡ O.faults out.old }
     ensures link { L.faults link.new ≡ L.faults link.old }
 {
-    match next_line(alloc, held, input, place) {
+    match next_line(alloc, scratch, held, input, place) {
         Ok(Some(line)) => take_line(alloc, entity, reading, out, link, line),
         Ok(None) => Some(Status::Done),
         Err(fault) => Some(fault_status(fault, place)),
@@ -118,7 +120,8 @@ fn opened(alloc: Global, home: Home) -> Result<Entity<ListTree>, OutOfMemory>
 /// written. At the end the items of the outbox would be written; there are none as yet. The link is
 /// for requests that go on to another entity; none do as yet.
 ///
-/// A line is answered in time linear in it beside its event, and the bytes held take constant room.
+/// A line is answered in time linear in it beside its event, and the bytes held and the room for
+/// reading one, which is kept from line to line, are at most some multiple of the longest line.
 pub fn replay<S: Source, O: Sink, L: Link>(
     alloc: Global,
     home: Home,
@@ -149,11 +152,13 @@ pub fn replay<S: Source, O: Sink, L: Link>(
     let Ok(mut entity) = opened(alloc, home) else {
         return Status::Memory;
     };
+    let mut scratch = Scratch::new(alloc);
     let mut reading = 0;
     for place in 1..MOST_LINES + 2 {
         if let Some(status) = replay_next(
             alloc,
             &mut entity,
+            &mut scratch,
             &mut held,
             &mut reading,
             input,

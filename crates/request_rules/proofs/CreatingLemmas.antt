@@ -2,7 +2,7 @@
 use Rattle.std.proofs.Common.{◌≡◌, ℕ, List, [], ◌∷◌, ◌++◌, Bool, true, false, Option, Some, None, unwrap_or, refl, sym, ap, ◌∙◌}
 use Rattle.std.specs.Option.{option_map_or, option_or}
 use Rattle.m2m_names.specs.declared.codes.Rsc.{Rsc}
-use Rattle.m2m_names.specs.declared.codes.Rsc.TheVariants.{BadRequest, Conflict, NotAcceptable}
+use Rattle.m2m_names.specs.declared.codes.Rsc.TheVariants.{BadRequest, NotAcceptable}
 use Rattle.m2m_names.specs.declared.operations.Op.TheVariants.{Create}
 use Rattle.m2m_names.specs.declared.types.Ty.{Ty}
 use Rattle.m2m_value.specs.Data.{Entry}
@@ -10,8 +10,8 @@ use Rattle.primitive_json.specs.declared.request.RequestParts.{RequestParts}
 use Rattle.resource_model.specs.Resource.{ResourceData}
 use Rattle.request_rules.specs.Creation.{Creation, creation_of, is_unique, has_room}
 use Rattle.entity_model.specs.Entity.{EntityData}
-use Rattle.request_rules.specs.Order.{passes, creation_by, named_places, content_places, creation_places, fault_named, fault_new}
-use Rattle.entity_model.specs.Places.{first_fault, unless}
+use Rattle.request_rules.specs.Order.{creation_by, named_places, content_places, creation_places, fault_named, fault_new, new_places}
+use Rattle.entity_model.specs.Places.{Place, first_fault, unless}
 use Rattle.request_rules.specs.Requests.{admits_content, child_ty, content_for, named_for, named_by}
 use Rattle.request_rules.proofs.OrderLemmas.{first_fault-append}
 
@@ -21,11 +21,11 @@ named_is request parent ty es child content =
     ap (λ (o : Option Ty). option_map_or (named_for request) o []) child
     ∙ ap (λ (o : Option (List Entry)). unwrap_or o []) content
 
--- a test of what it creates
-pub passes_is : (test : Creation → Bool) (e : EntityData) (o : List ℕ) (request : RequestParts) (parent : ResourceData) (ty : Ty) (es : List Entry) → child_ty request ≡ Some ty → content_for request ty ≡ Some es → passes test Create e o request parent ≡ test (creation_of e o ty parent es)
-passes_is test e o request parent ty es child content =
-    ap (λ (x : Option Ty). option_map_or (λ ty. test (creation_by e o request parent ty)) x true) child
-    ∙ ap (λ (x : Option (List Entry)). test (creation_of e o ty parent (unwrap_or x []))) content
+-- by what it creates it is refused
+pub new_is : (e : EntityData) (o : List ℕ) (request : RequestParts) (parent : ResourceData) (ty : Ty) (es : List Entry) → child_ty request ≡ Some ty → content_for request ty ≡ Some es → creation_places Create e o request parent ≡ new_places (creation_of e o ty parent es)
+new_is e o request parent ty es child content =
+    ap (λ (x : Option Ty). option_map_or (λ ty. new_places (creation_by e o request parent ty)) x []) child
+    ∙ ap (λ (x : Option (List Entry)). new_places (creation_of e o ty parent (unwrap_or x []))) content
 
 -- an admitted one is refused by what it names, and then by what it creates
 pub refused_by : (e : EntityData) (o : List ℕ) (request : RequestParts) (parent : ResourceData) (ty : Ty) (es : List Entry) → child_ty request ≡ Some ty → content_for request ty ≡ Some es → admits_content Create request parent ≡ true → first_fault (content_places Create e request parent ++ creation_places Create e o request parent) ≡ option_or (fault_named e es) (fault_new (creation_of e o ty parent es))
@@ -33,8 +33,7 @@ refused_by e o request parent ty es child content admitted =
     ap (λ (b : Bool). first_fault ((unless b BadRequest ∷ named_places e (named_by Create request parent)) ++ creation_places Create e o request parent)) admitted
     ∙ first_fault-append (named_places e (named_by Create request parent)) (creation_places Create e o request parent)
     ∙ ap (λ (x : List Entry). option_or (fault_named e x) (first_fault (creation_places Create e o request parent))) (named_is request parent ty es child content)
-    ∙ ap (λ (b : Bool). option_or (fault_named e es) (first_fault (unless b Conflict ∷ unless (passes has_room Create e o request parent) NotAcceptable ∷ []))) (passes_is is_unique e o request parent ty es child content)
-    ∙ ap (λ (b : Bool). option_or (fault_named e es) (first_fault (unless (is_unique (creation_of e o ty parent es)) Conflict ∷ unless b NotAcceptable ∷ []))) (passes_is has_room e o request parent ty es child content)
+    ∙ ap (λ (x : List Place). option_or (fault_named e es) (first_fault x)) (new_is e o request parent ty es child content)
 
 -- what is created is refused for want of room, or by nothing
 pub new_by_room : (c : Creation) → is_unique c ≡ true → has_room c ≡ false → Some NotAcceptable ≡ fault_new c

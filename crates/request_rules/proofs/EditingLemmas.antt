@@ -10,13 +10,13 @@ use Rattle.m2m_names.specs.declared.types.Ty.TheVariants.{Group}
 use Rattle.m2m_value.specs.Data.{Data, Entry}
 use Rattle.primitive_json.specs.declared.request.RequestParts.{RequestParts}
 use Rattle.resource_model.specs.Resource.{ResourceData, is_ty}
-use Rattle.attribute_rules.specs.Admission.{are_admitted, attributes_in}
+use Rattle.attribute_rules.specs.Admission.{are_admitted, attributes_in, is_admitted}
 use Rattle.attribute_rules.specs.declared.table.Writing.{Writing}
 use Rattle.attribute_rules.specs.declared.table.Writing.TheVariants.{Update as Updating}
 use Rattle.entity_model.specs.Entity.{EntityData}
 use Rattle.entity_model.specs.Places.{first_fault, unless}
 use Rattle.request_rules.specs.Order.{named_places, content_places, creation_places, fault_named}
-use Rattle.request_rules.specs.Requests.{content_for, is_content_for, named_by}
+use Rattle.request_rules.specs.Requests.{content_for, is_content_for, named_by, named_for, names_copy}
 use Rattle.request_rules.proofs.OrderLemmas.{first_fault-append}
 
 -- ---- an admitted content is there
@@ -29,10 +29,15 @@ some_content : {X : Type 0} (f : Data → Option X) (g : X → Bool) (pc : Optio
 some_content f g None t none = cc
 some_content f g (Some d) t none = no_content g (f d) none t
 
+-- it is admitted for the type
+pub admitted_for : (writing : Writing) (request : RequestParts) (ty : Ty) → is_content_for writing request ty ≡ true → option_map_or (is_admitted writing ty) request.pc false ≡ true
+admitted_for writing request ty admitted =
+    (and_parts (not (is_ty ty Group) && not (names_copy (named_for request ty))) (option_map_or (is_admitted writing ty) request.pc false) admitted).1
+
 -- and names attributes
 pub names_some : (writing : Writing) (request : RequestParts) (ty : Ty) → is_content_for writing request ty ≡ true → content_for request ty ≡ None → ⊥
 names_some writing request ty admitted none =
-    some_content (attributes_in ty) (are_admitted writing ty) request.pc (and_parts (not (is_ty ty Group)) _ admitted).1 none
+    some_content (attributes_in ty) (are_admitted writing ty) request.pc (admitted_for writing request ty admitted) none
 
 -- ---- an Update
 

@@ -1,11 +1,12 @@
 -- What a Create makes (TS-0001, 9.6.1.3 and 10.2.1; TS-0004, 7.3.3 and 7.4).
 use Rattle.std.specs.Prelude.{ℕ, pos, ◌+◌, ◌-◌, ◌^◌, min, nat_eq, nat_le, nat_lt, Bool, true, not}
-use Rattle.std.specs.Prelude.{◌&&◌, ◌||◌, List, [], ◌∷◌, ◌++◌, length, codes, bytes_eq, Option, Some}
-use Rattle.std.specs.Prelude.{unwrap_or, if◌then◌else◌}
+use Rattle.std.specs.Prelude.{◌&&◌, ◌||◌, List, [], ◌∷◌, ◌++◌, length, codes, bytes_eq, Option}
+use Rattle.std.specs.Prelude.{Some, unwrap_or, if◌then◌else◌}
 use Rattle.std.specs.Fmt.{decimal}
 use Rattle.std.specs.List.{starts_with}
 use Rattle.std.specs.Option.{option_map_or}
 use Rattle.m2m_names.specs.Attributes.{attr_short}
+use Rattle.m2m_names.specs.Ids.{id_text}
 use Rattle.m2m_names.specs.Name.{is_name}
 use Rattle.m2m_names.specs.Stamps.{last_moment}
 use Rattle.m2m_names.specs.Types.{ty_row}
@@ -44,10 +45,6 @@ creation_of e o ty parent named =
 
 -- ---- names and identifiers
 
--- the resource id of a type and a number
-abbrev pub id_for : Ty → ℕ → List ℕ
-id_for ty n = (ty_row ty).word ++ decimal n
-
 -- the name: the one that is given, else the short word of the type, `_` and the number
 abbrev pub own_name : Ty → ℕ → List ℕ
 own_name ty n = (ty_row ty).word ++ codes "_" ++ decimal n
@@ -75,11 +72,11 @@ abbrev pub ae_id_for : List ℕ → List ℕ → List ℕ
 ae_id_for o id = if is_ae_id o then o else ae_stem o ++ id
 
 abbrev pub new_ae_id : Creation → List ℕ
-new_ae_id c = ae_id_for c.o (id_for Ae c.e.next)
+new_ae_id c = ae_id_for c.o (id_text Ae c.e.next)
 
 -- who owns it: an application entity owns itself, and all else its originator
 abbrev pub owner_for : List ℕ → Ty → ℕ → List ℕ
-owner_for o ty n = if is_ty ty Ae then ae_id_for o (id_for Ae n) else o
+owner_for o ty n = if is_ty ty Ae then ae_id_for o (id_text Ae n) else o
 
 abbrev pub new_owner : Creation → List ℕ
 new_owner c = owner_for c.o c.ty c.e.next

@@ -34,16 +34,6 @@ expires_later e es = option_map_or (nat_lt e.last) (named_expiry es) true
 abbrev pub creation_by : EntityData → List ℕ → RequestParts → ResourceData → Ty → Creation
 creation_by e o request parent ty = creation_of e o ty parent (named_for request ty)
 
--- whether a test of what is created holds; what creates nothing passes it
-abbrev pub passes : (Creation → Bool) → Op → EntityData → List ℕ → RequestParts → ResourceData
-    → Bool
-passes test Create e o request parent =
-    option_map_or (λ ty. test (creation_by e o request parent ty)) (child_ty request) true
-passes test Retrieve e o request r = true
-passes test Update e o request r = true
-passes test Delete e o request r = true
-passes test Notify e o request r = true
-
 -- for want of the right, then by the types of target and child
 abbrev pub target_places : Op → EntityData → List ℕ → RequestParts → ResourceData → List Place
 target_places op e o request target =
@@ -62,20 +52,24 @@ content_places op e request target =
     unless (admits_content op request target) BadRequest
     ∷ named_places e (named_by op request target)
 
--- then by what stands there already, and by a limit
+-- then by what stands there already, and by a limit; what creates nothing passes them
+abbrev pub new_places : Creation → List Place
+new_places c = unless (is_unique c) Conflict ∷ unless (has_room c) NotAcceptable ∷ []
+
 abbrev pub creation_places : Op → EntityData → List ℕ → RequestParts → ResourceData → List Place
-creation_places op e o request target =
-    unless (passes is_unique op e o request target) Conflict
-    ∷ unless (passes has_room op e o request target) NotAcceptable
-    ∷ []
+creation_places Create e o request parent =
+    option_map_or (λ ty. new_places (creation_by e o request parent ty)) (child_ty request) []
+creation_places Retrieve e o request r = []
+creation_places Update e o request r = []
+creation_places Delete e o request r = []
+creation_places Notify e o request r = []
 
 -- the status by which what a content names, and that by which what is created, is refused
 abbrev pub fault_named : EntityData → List Entry → Option Rsc
 fault_named e es = first_fault (named_places e es)
 
 abbrev pub fault_new : Creation → Option Rsc
-fault_new c =
-    first_fault (unless (is_unique c) Conflict ∷ unless (has_room c) NotAcceptable ∷ [])
+fault_new c = first_fault (new_places c)
 
 -- Every operation is refused in this order. A test that doesn't concern an operation holds of it.
 abbrev pub places : Op → EntityData → List ℕ → RequestParts → ResourceData → List Place

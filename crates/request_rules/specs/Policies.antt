@@ -1,6 +1,6 @@
 -- The policies that a content names, by addresses (TS-0001, 9.3.1, 9.6.1.3.2 and 9.6.13).
-use Rattle.std.specs.Prelude.{ℕ, ◌==◌, Bool, ◌&&◌, List, [], ◌∷◌, length, map, is_some, Option, Some}
-use Rattle.std.specs.Prelude.{None, option_and_then, if◌then◌else◌, Result, Ok, Err}
+use Rattle.std.specs.Prelude.{ℕ, ◌==◌, Bool, ◌&&◌, List, [], ◌∷◌, length, map, is_some, Option}
+use Rattle.std.specs.Prelude.{option_and_then, if◌then◌else◌}
 use Rattle.std.specs.List.{filter_map, list_all}
 use Rattle.m2m_names.specs.Attributes.{attr_short}
 use Rattle.m2m_names.specs.declared.attributes.Attr.{Attr}
@@ -9,33 +9,20 @@ use Rattle.m2m_value.specs.Data.{Data, Entry, text, list, elements_of}
 use Rattle.m2m_value.specs.View.{as_text, member_of}
 use Rattle.resource_model.specs.Attributes.{Row}
 use Rattle.resource_model.specs.Resource.{ResourceData, id_of}
-use Rattle.addressing.specs.Addresses.{address_of}
-use Rattle.addressing.specs.Names.{spot_of}
-use Rattle.addressing.specs.declared.addr.Addr.{Addr}
-use Rattle.addressing.specs.declared.addr.Addr.TheVariants.{Local, Foreign, OtherProvider}
-use Rattle.addressing.specs.declared.addr.AddrFault.{AddrFault}
+use Rattle.addressing.specs.Laws.{spot_named}
+use Rattle.addressing.specs.Names.{spot_resource}
 use Rattle.addressing.specs.declared.spot.Spot.{Spot}
-use Rattle.addressing.specs.declared.spot.Spot.TheVariants.{Resource, Fan, Poll}
 use Rattle.policy_eval.specs.Rules.{listed_in, policy_at}
 use Rattle.entity_model.specs.Entity.{EntityData}
 
--- the policy that stands where an address leads
+-- the policy that an address names
 abbrev pub policy_on : List ResourceData → Spot → Option ResourceData
-policy_on nodes (Resource n) = policy_at nodes n
-policy_on nodes (Fan group rest) = None
-policy_on nodes (Poll channel) = None
-
--- where an address leads in the tree; one of another CSE leads nowhere in it
-abbrev pub place_of : List ResourceData → Result Addr AddrFault → Option Spot
-place_of nodes (Ok (Local segments)) = spot_of segments nodes
-place_of nodes (Ok (Foreign address)) = None
-place_of nodes (Ok OtherProvider) = None
-place_of nodes (Err fault) = None
+policy_on nodes spot = option_and_then (policy_at nodes) (spot_resource spot)
 
 -- the live policy that a text addresses
 abbrev pub policy_addressed : EntityData → List ℕ → Option ResourceData
 policy_addressed e address =
-    option_and_then (policy_on e.nodes) (place_of e.nodes (address_of e.home address))
+    option_and_then (policy_on e.nodes) (spot_named e.home address e.nodes)
 
 abbrev pub policy_meant : EntityData → Data → Option ResourceData
 policy_meant e d = option_and_then (policy_addressed e) (as_text d)

@@ -2,9 +2,8 @@
 use Rattle.std.specs.Prelude.{ℕ, Bool, true, false, ◌&&◌, ◌||◌, List, [], not, Option, Some, None}
 use Rattle.std.specs.Prelude.{option_and_then, unwrap_or}
 use Rattle.std.specs.Option.{option_map_or}
-use Rattle.m2m_names.specs.StampReading.{moment_at}
 use Rattle.m2m_names.specs.Types.{ty_of_number, does_take}
-use Rattle.m2m_names.specs.declared.attributes.Attr.TheVariants.{Et}
+use Rattle.m2m_names.specs.declared.attributes.Attr.TheVariants.{Aa, At}
 use Rattle.m2m_names.specs.declared.operations.Op.{Op}
 use Rattle.m2m_names.specs.declared.operations.Op.TheVariants.{Create, Retrieve, Update, Delete}
 use Rattle.m2m_names.specs.declared.operations.Op.TheVariants.{Notify}
@@ -13,8 +12,8 @@ use Rattle.m2m_names.specs.declared.types.Ty.TheVariants.{Ae, ContentInstance, C
 use Rattle.m2m_value.specs.Data.{Entry}
 use Rattle.primitive_json.specs.declared.request.RequestParts.{RequestParts}
 use Rattle.resource_model.specs.Resource.{ResourceData, is_ty}
-use Rattle.attribute_rules.specs.Admission.{attributes_in, is_admitted}
-use Rattle.attribute_rules.specs.Contents.{named_text}
+use Rattle.attribute_rules.specs.Admission.{attributes_in, is_admitted, is_named}
+use Rattle.attribute_rules.specs.Contents.{wanted_in}
 use Rattle.attribute_rules.specs.declared.table.Writing.{Writing}
 use Rattle.attribute_rules.specs.declared.table.Writing.TheVariants.{Create as Creating}
 use Rattle.attribute_rules.specs.declared.table.Writing.TheVariants.{Update as Updating}
@@ -62,11 +61,16 @@ named_for request ty = unwrap_or (content_for request ty) []
 abbrev pub named_by : Op → RequestParts → ResourceData → List Entry
 named_by op request r = option_map_or (named_for request) (content_ty op request r) []
 
+-- it names what announces a resource, or what of it is announced (TS-0001, 9.6.26)
+abbrev pub names_copy : List Entry → Bool
+names_copy es = is_named At es || is_named Aa es
+
 -- It is admitted for a resource of the type (TS-0004, 7.4). That of a group isn't, as long as
--- members aren't served.
+-- members aren't served, nor one that asks for copies, as long as none are made.
 abbrev pub is_content_for : Writing → RequestParts → Ty → Bool
 is_content_for writing request ty =
-    not (is_ty ty Group) && option_map_or (is_admitted writing ty) request.pc false
+    not (is_ty ty Group) && not (names_copy (named_for request ty))
+    && option_map_or (is_admitted writing ty) request.pc false
 
 -- what is written is admitted
 abbrev pub admits_content : Op → RequestParts → ResourceData → Bool
@@ -79,4 +83,4 @@ admits_content Notify request r = true
 
 -- the moment of expiry that these attributes name
 abbrev pub named_expiry : List Entry → Option ℕ
-named_expiry es = option_and_then moment_at (named_text Et es)
+named_expiry es = (wanted_in es).et

@@ -32,18 +32,39 @@ fn is_admitted_edit(ty: Ty, content: Option<&Val>) -> bool
     }
 }
 
+fn names_copy(members: &Members) -> bool
+    ensures { result ≡ spec.names_copy members.now }
+{
+    members.get(Attr::At.short().as_bytes()).is_some()
+        || members.get(Attr::Aa.short().as_bytes()).is_some()
+}
+
+// Whether the content asks for copies, where it is one for the type.
+fn asks_for_copies(request: &Request, ty: Ty) -> bool
+    ensures { result ≡ spec.names_copy (spec.named_for request.now ty) }
+{
+    match content_for(request, ty) {
+        Some(members) => names_copy(members),
+        None => false,
+    }
+}
+
 /// Whether the content is admitted for a new resource of the type.
 pub(crate) fn is_created_by(request: &Request, ty: Ty) -> bool
     ensures { result ≡ spec.is_content_for Create request.now ty }
 {
-    !is_ty(ty, Ty::Group) && is_admitted_new(ty, request.parts().pc.as_ref())
+    !is_ty(ty, Ty::Group)
+        && !asks_for_copies(request, ty)
+        && is_admitted_new(ty, request.parts().pc.as_ref())
 }
 
 /// Whether the content is admitted for a resource of the type that is to be updated.
 pub(crate) fn is_updated_by(request: &Request, ty: Ty) -> bool
     ensures { result ≡ spec.is_content_for Update request.now ty }
 {
-    !is_ty(ty, Ty::Group) && is_admitted_edit(ty, request.parts().pc.as_ref())
+    !is_ty(ty, Ty::Group)
+        && !asks_for_copies(request, ty)
+        && is_admitted_edit(ty, request.parts().pc.as_ref())
 }
 
 /// Whether the content is admitted for what a Create names.

@@ -8,7 +8,8 @@
 //! doesn't hold; it changes nothing. `Creation` also says which resource a Create makes, as its
 //! name, its identifiers and its size are what places speak of.
 //!
-//! An originator is passed in its short form. A content for a group isn't admitted yet.
+//! An originator is passed in its short form. A content for a group isn't admitted yet, nor one
+//! that asks for copies.
 #![tactic(auto)]
 
 mod asking;

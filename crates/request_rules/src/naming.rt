@@ -1,6 +1,7 @@
 //! Names and identifiers of what is created.
 ghost use Rattle.std.specs.Prelude.{◌≡◌, ◌++◌, IfOk, IfSome, IsTrue, IsUtf8};
 ghost use Rattle.std.specs.Prelude.{option_map, unwrap_or};
+ghost use Rattle.m2m_names.specs.Ids as ids;
 ghost use Rattle.m2m_names.specs.Name.{is_originator};
 ghost use Rattle.m2m_names.specs.declared.types.Ty.TheVariants.{Ae};
 ghost use Rattle.attribute_rules.specs.Contents.{named_text};
@@ -12,7 +13,7 @@ use std::alloc::{AllocError as OutOfMemory, Global};
 
 /// The resource id of a type and a number.
 pub(crate) fn id_text(alloc: Global, ty: Ty, number: u64) -> Result<Text, OutOfMemory>
-    ensures value { IfOk result (λ t. t ≡ spec.id_for ty number) }
+    ensures value { IfOk result (λ t. t ≡ ids.id_text ty number) }
     ensures utf8 { IfOk result (λ t. IsUtf8 t) }
 {
     let id = format!(in alloc; "{}{}", ty.word(), number)?;
@@ -63,7 +64,7 @@ pub(crate) fn given_ae_id(alloc: Global, o: &[u8], id: &Text) -> Result<Text, Ou
 /// The AE-ID of a new application entity of a number.
 pub fn new_ae_id(alloc: Global, o: &[u8], number: u64) -> Result<Text, OutOfMemory>
     requires { IsTrue (is_originator o.now) }
-    ensures value { IfOk result (λ t. t ≡ spec.ae_id_for o.now (spec.id_for Ae number)) }
+    ensures value { IfOk result (λ t. t ≡ spec.ae_id_for o.now (ids.id_text Ae number)) }
     ensures utf8 { IfOk result (λ t. IsUtf8 t) }
 {
     if is_ae_id(o) {

@@ -1,61 +1,28 @@
 //! The policies that a content names, by addresses.
-ghost use Rattle.std.specs.Prelude.{◌≡◌, ◌<◌, [], ◌∷◌, ◌++◌, Ok, Some, IfOk, OnOk, is_some};
+ghost use Rattle.std.specs.Prelude.{◌≡◌, [], ◌∷◌, ◌++◌, Some, IfOk, OnOk, is_some};
 ghost use Rattle.std.specs.Prelude.{option_and_then, option_map};
 ghost use Rattle.std.specs.List.{list_all};
-ghost use Rattle.addressing.specs.Addresses.{address_of};
-ghost use Rattle.addressing.specs.Names.{IsLocal, segments_of, spot_of};
+ghost use Rattle.addressing.specs.Laws.{spot_named};
 ghost use Rattle.policy_eval.specs.Rules as rules;
 ghost use Rattle.request_rules.specs.Policies as spec;
 
-use addressing::{Addr, AddrFault, Spot, parse, resolve};
+use addressing::{AddrFault, Spot, name_spot, parse};
 use entity_model::Entity;
 use m2m_names::{Attr, Ty};
 use m2m_value::{Members, Val};
 use std::alloc::{AllocError as OutOfMemory, Global};
-use std::marker::Brand;
-use std::sync::ledger::{Blank, Ledger};
-use tree_model::{Resource, Steps, Tree};
+use tree_model::{Resource, Tree};
 
-// What a local address names, for who counts no steps.
-fn named<T: Tree>(tree: &T, addr: &Addr) -> Option<Spot>
-    requires { IsLocal addr.now }
-    ensures { result ≡ spot_of (segments_of addr.now) (T.nodes tree.now) }
-{
-    named_by::<T, Brand>(tree, addr, Blank::new(1))
-}
-
-fn named_by<T: Tree, L: Ledger>(tree: &T, addr: &Addr, blank: Blank) -> Option<Spot>
-    requires local { IsLocal addr.now }
-    requires name { blank.name ≡ L.name }
-    requires parts { blank.parts ≡ L.parts }
-    requires some { 0 < blank.parts }
-    ensures { result ≡ spot_of (segments_of addr.now) (T.nodes tree.now) }
-{
-    let mut steps = Steps::<L>::new(blank);
-    resolve(tree, addr, &mut steps)
-}
-
-fn spot_at<T: Tree>(tree: &T, addr: &Addr) -> Option<Spot>
-    ensures { result ≡ spec.place_of (T.nodes tree.now) (Ok addr.now) }
-{
-    match addr {
-        Addr::Local(_) => named(tree, addr),
-        Addr::Foreign(_) => None,
-        Addr::OtherProvider => None,
-    }
-}
-
-// Where an address leads in the tree.
-fn place_of<T: Tree>(
+// What an address names in the tree.
+fn spot_named<T: Tree>(
     alloc: Global,
     entity: &Entity<T>,
     address: &[u8],
 ) -> Result<Option<Spot>, OutOfMemory>
-    ensures { IfOk result (λ s.
-        s ≡ spec.place_of entity.now.nodes (address_of entity.now.home address.now)) }
+    ensures { IfOk result (λ s. s ≡ spot_named entity.now.home address.now entity.now.nodes) }
 {
     match parse(alloc, address, &entity.home) {
-        Ok(addr) => Ok(spot_at(&entity.tree, &addr)),
+        Ok(addr) => Ok(name_spot(&entity.tree, &addr)),
         Err(AddrFault::TooLong) => Ok(None),
         Err(AddrFault::Shape) => Ok(None),
         Err(AddrFault::OutOfMemory) => Err(OutOfMemory),
@@ -92,7 +59,7 @@ fn policy_addressed<'a, T: Tree>(
     ensures { IfOk result (λ found. option_map (λ r. r.now) found
         ≡ spec.policy_addressed entity.now address.now) }
 {
-    let spot = place_of(alloc, entity, address)?;
+    let spot = spot_named(alloc, entity, address)?;
     Ok(policy_on(&entity.tree, spot))
 }
 

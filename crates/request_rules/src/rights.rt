@@ -1,5 +1,6 @@
 //! The right that a request needs on its target.
-ghost use Rattle.std.specs.Prelude.{◌≡◌, ◌==◌, false, IsTrue, bytes_eq, option_and_then, option_map};
+ghost use Rattle.std.specs.Prelude.{◌≡◌, ◌==◌, false, IsTrue, bytes_eq, option_and_then};
+ghost use Rattle.std.specs.Prelude.{option_map};
 ghost use Rattle.std.specs.Option.{option_map_or};
 ghost use Rattle.m2m_names.specs.Name.{is_originator};
 ghost use Rattle.m2m_names.specs.Types.{ty_row};
@@ -9,14 +10,11 @@ ghost use Rattle.request_rules.specs.Rights as spec;
 
 use entity_model::Entity;
 use filter_criteria::FilterUsage;
-use m2m_names::{Attr, Op, Ty};
+use m2m_names::{Attr, DISCOVERY_BIT, Op, Ty};
 use m2m_value::{Text, Val};
 use policy_eval::{granted, may_relink};
 use primitive_json::Request;
 use tree_model::Tree;
-
-// The bit of DISCOVERY in `acop`.
-const DISCOVERY: u32 = 32;
 
 fn is_granted<T: Tree>(entity: &Entity<T>, o: &[u8], bits: u32, number: u64) -> bool
     requires originator { IsTrue (is_originator o.now) }
@@ -118,7 +116,7 @@ fn retrieve_bits(request: &Request) -> u32
     ensures { result ≡ spec.retrieve_bits request.now }
 {
     if is_discovery(request) {
-        DISCOVERY
+        DISCOVERY_BIT
     } else {
         Op::Retrieve.bit()
     }

@@ -1,6 +1,7 @@
 //! What must not stand twice.
 ghost use Rattle.std.specs.Prelude.{◌≡◌, true, not, IfOk, Some, option_map, IsTrue};
 ghost use Rattle.std.specs.Option.{option_map_or};
+ghost use Rattle.m2m_names.specs.Ids as ids;
 ghost use Rattle.m2m_names.specs.Name.{is_originator};
 ghost use Rattle.m2m_names.specs.declared.types.Ty.TheVariants.{Ae};
 ghost use Rattle.tree_model.specs.Shown.{own_cse_id};
@@ -53,7 +54,7 @@ fn has_free_cse_id<T: Tree>(
 fn has_free_ae_id<T: Tree>(alloc: Global, entity: &Entity<T>, o: &[u8]) -> Result<bool, OutOfMemory>
     requires { IsTrue (is_originator o.now) }
     ensures { IfOk result (λ b. b
-        ≡ not (trees.has_ae_id (Some (spec.ae_id_for o.now (spec.id_for Ae entity.now.next)))
+        ≡ not (trees.has_ae_id (Some (spec.ae_id_for o.now (ids.id_text Ae entity.now.next)))
         entity.now.nodes)) }
 {
     let aei = new_ae_id(alloc, o, entity.next)?;

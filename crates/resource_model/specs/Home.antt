@@ -16,9 +16,13 @@ pub record HomeData : Type 0 where
 abbrev pub is_base_name : List ℕ → Bool
 is_base_name text = is_free_name text && not (is_resource_id text)
 
--- a CSE type: infrastructure node, middle node or application service node (TS-0004, 6.3.4.2.3)
+-- the numbers of CSE types: 1 for an infrastructure node, 2 for a middle node, 3 for an application
+-- service node (TS-0004, 6.3.4.2.3)
+abbrev pub last_cse_type : ℕ
+last_cse_type = 3
+
 abbrev pub is_cse_type : ℤ → Bool
-is_cse_type cst = int_le (pos 1) cst && int_le cst (pos 3)
+is_cse_type cst = int_le (pos 1) cst && int_le cst (pos last_cse_type)
 
 -- the place of the first argument that isn't admitted, from 0
 abbrev pub first_bad : HomeData → Option ℕ

@@ -1,7 +1,8 @@
 -- A resource (TS-0001, 9.6).
-use Rattle.std.specs.Prelude.{ℕ, ◌^◌, ◌<◌, ◌≤◌, ◌==◌, List, ◌++◌, Bool, Option, None, if◌then◌else◌}
+use Rattle.std.specs.Prelude.{ℕ, ◌^◌, ◌<◌, ◌≤◌, ◌==◌, List, Bool, Option, None, if◌then◌else◌}
 use Rattle.std.specs.Prelude.{IsUtf8}
-use Rattle.std.specs.Fmt.{decimal}
+use Rattle.m2m_names.specs.Ids.{id_text}
+use Rattle.m2m_names.specs.Name.{is_free_name}
 use Rattle.m2m_names.specs.Stamps.{last_moment}
 use Rattle.m2m_names.specs.Types.{ty_row}
 use Rattle.m2m_names.specs.declared.attributes.Attr.TheVariants.{Aei, Csi}
@@ -30,9 +31,13 @@ is_ty a b = (ty_row a).number == (ty_row b).number
 abbrev pub has_number : ℕ → ResourceData → Bool
 has_number n r = r.number == n
 
--- its resource identifier: the short word of its type, and its number
+-- its resource identifier
 abbrev pub id_of : ResourceData → List ℕ
-id_of r = (ty_row r.ty).word ++ decimal r.number
+id_of r = id_text r.ty r.number
+
+-- its name addresses nothing else (TS-0001, 9.6.1.3)
+abbrev pub has_free_name : ResourceData → Bool
+has_free_name r = is_free_name r.name
 
 -- the AE-ID of an application entity (TS-0001, 7.1.2)
 abbrev pub ae_id : ResourceData → Option (List ℕ)

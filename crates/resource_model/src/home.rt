@@ -19,6 +19,8 @@ pub const CSE_ID: &str = "id-in";
 pub const BASE: &str = "cse-in";
 /// The CSE type of a home where none is named: an infrastructure node.
 pub const CSE_TYPE: i64 = 1;
+/// The last of the numbers of CSE types: an application service node.
+pub const LAST_CSE_TYPE: u64 = 3;
 /// The administrator of a home where none is named.
 pub const ADMIN: &str = "CAdmin";
 
@@ -103,7 +105,7 @@ fn first_bad(sp: &[u8], csi: &[u8], base: &[u8], cst: i64, admin: &[u8]) -> Opti
     if !is_base_name(base) {
         return Some(2);
     }
-    if cst < 1 || cst > 3 {
+    if cst < 1 || cst > LAST_CSE_TYPE as i64 {
         return Some(3);
     }
     if !is_originator(admin) {

@@ -11,6 +11,6 @@ mod home;
 mod resource;
 
 pub use attrs::{AttrSet, Attrs};
-pub use home::{ADMIN, BASE, CSE_ID, CSE_TYPE, Home, HomeFault, SERVICE_PROVIDER};
+pub use home::{ADMIN, BASE, CSE_ID, CSE_TYPE, Home, HomeFault, LAST_CSE_TYPE, SERVICE_PROVIDER};
 pub use resource::{Change, Moments, Resource};
 pub use std::alloc::AllocError as OutOfMemory;

@@ -25,13 +25,14 @@ use Rattle.policy_eval.proofs.DueLemmas.{due-seen}
 use Rattle.policy_eval.proofs.RetrievedLemmas.{attributes-seen}
 use Rattle.policy_eval.proofs.SeenLemmas.{at-seen, grants-seen, seen_shows}
 use Rattle.retrieve_discover.specs.Conditions.{meets_any}
-use Rattle.retrieve_discover.specs.Contents.{content, may_retrieve, members, most_references, most_shown, reference, references, references_alone, referred, shown_forest, wanted_content, whole, with_forest, with_last, with_member, with_references}
-use Rattle.retrieve_discover.specs.Descendants.{Forest, bare, rooted, cut_forest, grown}
+use Rattle.entity_model.specs.Places.{wanted_content}
+use Rattle.retrieve_discover.specs.Contents.{content, may_retrieve, members, most_references, most_shown, reference, references, references_alone, referred, shown_forest, whole, with_forest, with_last, with_member, with_references}
+use Rattle.retrieve_discover.specs.Descendants.{Forest, bare, rooted, cut_forest, forest_of}
 use Rattle.retrieve_discover.specs.Replies.{is_by_id, refusal, retrieved, retrieved_of, success}
 use Rattle.retrieve_discover.proofs.OrderLemmas.{Each, IsFound, each_found, in_order-tree}
-use Rattle.retrieve_discover.proofs.ForestLemmas.{AllIn, all-cut, all-grown}
+use Rattle.retrieve_discover.proofs.ForestLemmas.{AllIn, all-cut, all-forest_of}
 use Rattle.retrieve_discover.proofs.ConditionLemmas.{LooksAlike, meets-alike}
-use Rattle.retrieve_discover.proofs.MapLemmas.{children-map, cut-map, filter-map, grown-map, map_forest}
+use Rattle.retrieve_discover.proofs.MapLemmas.{children-map, cut-map, filter-map, forest_of-map, map_forest}
 use Rattle.retrieve_discover.proofs.SightLemmas.{address-seen}
 
 -- ---- the members of an object
@@ -119,9 +120,9 @@ module _ (home : HomeData) (nodes : List ResourceData) (o : List ℕ) (well : is
 
   shown-seen : (n : ℕ) (es : List Entry) → with_forest (members home (map g nodes)) (shown_forest home (map g nodes) o n) es ≡ with_forest (members home nodes) (shown_forest home nodes o n) es
   shown-seen n es =
-      ap (λ f. with_forest (members home (map g nodes)) (cut_forest f most_shown) es) (grown-map g (λ s. refl) (λ s. refl) (may_retrieve home (map g nodes) o) goes goes-seen nodes n)
-      ∙ ap (λ f. with_forest (members home (map g nodes)) f es) (cut-map g (grown goes n nodes) most_shown)
-      ∙ forest-seen (cut_forest (grown goes n nodes) most_shown) es (all-cut (λ r. IsFound nodes r × (goes r ≡ true)) (grown goes n nodes) most_shown (all-grown (IsFound nodes) goes nodes n (each_found nodes (in_order-tree nodes (tree_from_well_formed nodes well)))))
+      ap (λ f. with_forest (members home (map g nodes)) (cut_forest f most_shown) es) (forest_of-map g (λ s. refl) (λ s. refl) (may_retrieve home (map g nodes) o) goes goes-seen nodes n)
+      ∙ ap (λ f. with_forest (members home (map g nodes)) f es) (cut-map g (forest_of goes n nodes) most_shown)
+      ∙ forest-seen (cut_forest (forest_of goes n nodes) most_shown) es (all-cut (λ r. IsFound nodes r × (goes r ≡ true)) (forest_of goes n nodes) most_shown (all-forest_of (IsFound nodes) goes nodes n (each_found nodes (in_order-tree nodes (tree_from_well_formed nodes well)))))
 
   -- ---- the reply
 

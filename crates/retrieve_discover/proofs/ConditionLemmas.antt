@@ -14,7 +14,7 @@ use Rattle.filter_criteria.specs.declared.filter.FilterParts.{FilterParts}
 use Rattle.resource_model.specs.Attributes.{value_of}
 use Rattle.resource_model.specs.Resource.{ResourceData, is_ty}
 use Rattle.tree_model.specs.Tree.{due}
-use Rattle.retrieve_discover.specs.Conditions.{is_above, is_below, is_from, is_label, meets}
+use Rattle.retrieve_discover.specs.Conditions.{is_over_bound, is_under_bound, is_from_bound, is_that_label, meets}
 use Rattle.filter_criteria.specs.Conditions.{all_conditions}
 use Rattle.filter_criteria.specs.declared.condition.Condition.{Condition}
 use Rattle.filter_criteria.specs.declared.condition.Condition.TheVariants.{Limit, Usage, CreatedAfter, CreatedBefore, ExpireAfter, ExpireBefore, ModifiedSince, OneLabel, OneType, SizeAbove, SizeBelow, StateTagBigger, StateTagSmaller, UnmodifiedSince}
@@ -23,24 +23,24 @@ abbrev count_in : Option Data → Option ℕ
 count_in d = option_and_then as_count d
 
 abbrev label_in : Option Data → List ℕ → Bool
-label_in d label = option_map_or (list_any (is_label label)) (option_and_then as_list d) false
+label_in d label = option_map_or (list_any (is_that_label label)) (option_and_then as_list d) false
 
 abbrev size_by : Option Data → Ty → Option ℕ
 size_by d ty = cond (is_ty ty ContentInstance) (count_in d) None
 
 abbrev holds_by : FilterParts → ℕ → ℕ → Option ℕ → Option Data → Option Data → Option Data → Ty → Condition → Bool
-holds_by f ct lt moment st cs lbl ty CreatedBefore = is_below f.crb (Some ct)
-holds_by f ct lt moment st cs lbl ty CreatedAfter = is_above f.cra (Some ct)
-holds_by f ct lt moment st cs lbl ty ModifiedSince = is_above f.ms (Some lt)
-holds_by f ct lt moment st cs lbl ty UnmodifiedSince = is_below f.us (Some lt)
-holds_by f ct lt moment st cs lbl ty StateTagSmaller = is_below f.sts (count_in st)
-holds_by f ct lt moment st cs lbl ty StateTagBigger = is_above f.stb (count_in st)
-holds_by f ct lt moment st cs lbl ty ExpireBefore = is_below f.exb moment
-holds_by f ct lt moment st cs lbl ty ExpireAfter = is_above f.exa moment
+holds_by f ct lt moment st cs lbl ty CreatedBefore = is_under_bound f.crb (Some ct)
+holds_by f ct lt moment st cs lbl ty CreatedAfter = is_over_bound f.cra (Some ct)
+holds_by f ct lt moment st cs lbl ty ModifiedSince = is_over_bound f.ms (Some lt)
+holds_by f ct lt moment st cs lbl ty UnmodifiedSince = is_under_bound f.us (Some lt)
+holds_by f ct lt moment st cs lbl ty StateTagSmaller = is_under_bound f.sts (count_in st)
+holds_by f ct lt moment st cs lbl ty StateTagBigger = is_over_bound f.stb (count_in st)
+holds_by f ct lt moment st cs lbl ty ExpireBefore = is_under_bound f.exb moment
+holds_by f ct lt moment st cs lbl ty ExpireAfter = is_over_bound f.exa moment
 holds_by f ct lt moment st cs lbl ty OneLabel = (length f.lbl == 0) || list_any (label_in lbl) f.lbl
 holds_by f ct lt moment st cs lbl ty OneType = (length f.ty == 0) || list_any (λ n. n == (ty_row ty).number) f.ty
-holds_by f ct lt moment st cs lbl ty SizeAbove = is_from f.sza (size_by cs ty)
-holds_by f ct lt moment st cs lbl ty SizeBelow = is_below f.szb (size_by cs ty)
+holds_by f ct lt moment st cs lbl ty SizeAbove = is_from_bound f.sza (size_by cs ty)
+holds_by f ct lt moment st cs lbl ty SizeBelow = is_under_bound f.szb (size_by cs ty)
 holds_by f ct lt moment st cs lbl ty Usage = true
 holds_by f ct lt moment st cs lbl ty Limit = true
 

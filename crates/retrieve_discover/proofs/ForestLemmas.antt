@@ -9,7 +9,7 @@ use Rattle.m2m_names.specs.Types.{ty_member}
 use Rattle.resource_model.specs.Resource.{ResourceData}
 use Rattle.tree_model.specs.Tree.{children_of, is_tree, is_under}
 use Rattle.retrieve_discover.specs.Contents.{with_forest, with_last}
-use Rattle.retrieve_discover.specs.Descendants.{Forest, bare, rooted, cut_forest, grown, listed, reached_forest, forest_size}
+use Rattle.retrieve_discover.specs.Descendants.{Forest, bare, rooted, cut_forest, forest_of, preorder, reached_forest, forest_size}
 use Rattle.retrieve_discover.proofs.BelowLemmas.{above-filter}
 use Rattle.retrieve_discover.proofs.OrderLemmas.{Each, are_above, in_order, in_order-tree, first_of}
 use Rattle.retrieve_discover.proofs.WalkLemmas.{drop_get}
@@ -42,16 +42,16 @@ above_zero : (m : ℕ) → (m == 0) ≡ false → 0 < m
 above_zero m f = grind (arith, nat_tests)
 
 -- they are the first of its list
-pub listed-cut : (f : Forest) (m : ℕ) → listed (cut_forest f m) ≡ take m (listed f)
-listed-cut bare m = sym (take_of_none m)
-listed-cut (rooted r kids more) m = elim (cases_Bool (m == 0)) [
-  | inl t ↦ (let nothing : 0 ≡ m = sym (eqb-true m 0 t) in rw t (ap (λ k. take k (r ∷ (listed kids ++ listed more))) nothing))
+pub preorder-cut : (f : Forest) (m : ℕ) → preorder (cut_forest f m) ≡ take m (preorder f)
+preorder-cut bare m = sym (take_of_none m)
+preorder-cut (rooted r kids more) m = elim (cases_Bool (m == 0)) [
+  | inl t ↦ (let nothing : 0 ≡ m = sym (eqb-true m 0 t) in rw t (ap (λ k. take k (r ∷ (preorder kids ++ preorder more))) nothing))
   | inr f ↦
       let some : 0 < m = above_zero m f in
-      rw f (ap (λ rs. r ∷ (rs ++ listed (cut_forest more (m - 1 - forest_size kids)))) (listed-cut kids (m - 1))
-      ∙ ap (λ rs. r ∷ (take (m - 1) (listed kids) ++ rs)) (listed-cut more (m - 1 - forest_size kids))
-      ∙ ap (λ rs. r ∷ rs) (sym (take-both (m - 1) (listed kids) (listed more)))
-      ∙ sym (take_first m r (listed kids ++ listed more) some))
+      rw f (ap (λ rs. r ∷ (rs ++ preorder (cut_forest more (m - 1 - forest_size kids)))) (preorder-cut kids (m - 1))
+      ∙ ap (λ rs. r ∷ (take (m - 1) (preorder kids) ++ rs)) (preorder-cut more (m - 1 - forest_size kids))
+      ∙ ap (λ rs. r ∷ rs) (sym (take-both (m - 1) (preorder kids) (preorder more)))
+      ∙ sym (take_first m r (preorder kids ++ preorder more) some))
 ]
 
 -- ---- what holds of each resource of a forest
@@ -67,14 +67,14 @@ all-cut P (rooted r kids more) m all = elim (cases_Bool (m == 0)) [
   | inr f ↦ rw f (all.0, (all-cut P kids (m - 1) all.1.0, all-cut P more (m - 1 - forest_size kids) all.1.1))
 ]
 
-pub all-grown : (P : ResourceData → Type 0) (goes : ResourceData → Bool) (rs : List ResourceData) (n : ℕ) → Each P rs → AllIn (λ r. P r × (goes r ≡ true)) (grown goes n rs)
-all-grown P goes [] n each = tt
-all-grown P goes (r ∷ rs) n each = elim (cases_Bool (is_under n r)) [
+pub all-forest_of : (P : ResourceData → Type 0) (goes : ResourceData → Bool) (rs : List ResourceData) (n : ℕ) → Each P rs → AllIn (λ r. P r × (goes r ≡ true)) (forest_of goes n rs)
+all-forest_of P goes [] n each = tt
+all-forest_of P goes (r ∷ rs) n each = elim (cases_Bool (is_under n r)) [
   | inl u ↦ elim (cases_Bool (goes r)) [
-    | inl t ↦ rw (u, t) ((each.0, t), (all-grown P goes rs r.number each.1, all-grown P goes rs n each.1))
-    | inr f ↦ rw (u, f) (all-grown P goes rs n each.1)
+    | inl t ↦ rw (u, t) ((each.0, t), (all-forest_of P goes rs r.number each.1, all-forest_of P goes rs n each.1))
+    | inr f ↦ rw (u, f) (all-forest_of P goes rs n each.1)
   ]
-  | inr v ↦ rw v (all-grown P goes rs n each.1)
+  | inr v ↦ rw v (all-forest_of P goes rs n each.1)
 ]
 
 -- ---- child by child
@@ -83,45 +83,45 @@ module _ (goes : ResourceData → Bool) where
   -- the children of a resource in order, each with what is reached below it
   abbrev pub chain : List ResourceData → List ResourceData → Forest
   chain nodes [] = bare
-  chain nodes (c ∷ kids) = cond (goes c) (rooted c (grown goes c.number nodes) (chain nodes kids)) (chain nodes kids)
+  chain nodes (c ∷ kids) = cond (goes c) (rooted c (forest_of goes c.number nodes) (chain nodes kids)) (chain nodes kids)
 
-  grown_skips : (n : ℕ) (r : ResourceData) (later : List ResourceData) → r.parent < n → grown goes n (r ∷ later) ≡ grown goes n later
-  grown_skips n r later less = rw (ne_eqb r.parent n (λ e. omega (arith, less, e))) refl
+  forest_of_skips : (n : ℕ) (r : ResourceData) (later : List ResourceData) → r.parent < n → forest_of goes n (r ∷ later) ≡ forest_of goes n later
+  forest_of_skips n r later less = rw (ne_eqb r.parent n (λ e. omega (arith, less, e))) refl
 
   skip_all : (r : ResourceData) (later kids : List ResourceData) → r.parent < r.number → are_above r.number kids ≡ true → chain (r ∷ later) kids ≡ chain later kids
   skip_all r later [] parent above = refl
   skip_all r later (c ∷ kids) parent above =
       let parts = and_parts (nat_lt r.number c.number) _ above in
       let less : r.number < c.number = ltb-true r.number c.number parts.0 in
-      let here : grown goes c.number (r ∷ later) ≡ grown goes c.number later = grown_skips c.number r later (omega (arith, less, parent)) in
+      let here : forest_of goes c.number (r ∷ later) ≡ forest_of goes c.number later = forest_of_skips c.number r later (omega (arith, less, parent)) in
       ap (λ f. cond (goes c) (rooted c f (chain (r ∷ later) kids)) (chain (r ∷ later) kids)) here
-      ∙ ap (λ f. cond (goes c) (rooted c (grown goes c.number later) f) f) (skip_all r later kids parent parts.1)
+      ∙ ap (λ f. cond (goes c) (rooted c (forest_of goes c.number later) f) f) (skip_all r later kids parent parts.1)
 
-  grown_kids : (n : ℕ) (nodes : List ResourceData) → in_order nodes ≡ true → grown goes n nodes ≡ chain nodes (children_of n nodes)
-  grown_kids n [] order = refl
-  grown_kids n (r ∷ later) order =
+  forest_of_kids : (n : ℕ) (nodes : List ResourceData) → in_order nodes ≡ true → forest_of goes n nodes ≡ chain nodes (children_of n nodes)
+  forest_of_kids n [] order = refl
+  forest_of_kids n (r ∷ later) order =
       let first = first_of r later order in
-      let rest : chain (r ∷ later) (children_of n later) ≡ grown goes n later =
+      let rest : chain (r ∷ later) (children_of n later) ≡ forest_of goes n later =
       skip_all r later (children_of n later) first.parent (above-filter r.number (is_under n) later first.above)
-      ∙ sym (grown_kids n later first.rest) in
+      ∙ sym (forest_of_kids n later first.rest) in
       elim (cases_Bool (is_under n r)) [
         | inl t ↦
             let kids = chain (r ∷ later) (children_of n later) in
-            let all = ap (λ f. cond (goes r) (rooted r f kids) kids) (grown_skips r.number r later first.parent) ∙ ap (λ f. cond (goes r) (rooted r (grown goes r.number later) f) f) rest in
+            let all = ap (λ f. cond (goes r) (rooted r f kids) kids) (forest_of_skips r.number r later first.parent) ∙ ap (λ f. cond (goes r) (rooted r (forest_of goes r.number later) f) f) rest in
             rw t (sym all)
         | inr f ↦ rw f (sym rest)
       ]
 
-  pub grown_by_kids : (n : ℕ) (nodes : List ResourceData) → is_tree nodes ≡ true → grown goes n nodes ≡ chain nodes (children_of n nodes)
-  grown_by_kids n nodes grew = grown_kids n nodes (in_order-tree nodes grew)
+  pub forest_of_by_kids : (n : ℕ) (nodes : List ResourceData) → is_tree nodes ≡ true → forest_of goes n nodes ≡ chain nodes (children_of n nodes)
+  forest_of_by_kids n nodes grew = forest_of_kids n nodes (in_order-tree nodes grew)
 
-  gone_to : (nodes kids : List ResourceData) (k : ℕ) (r : ResourceData) → slice_get kids k ≡ Some r → goes r ≡ true → chain nodes (drop k kids) ≡ rooted r (grown goes r.number nodes) (chain nodes (drop (k + 1) kids))
+  gone_to : (nodes kids : List ResourceData) (k : ℕ) (r : ResourceData) → slice_get kids k ≡ Some r → goes r ≡ true → chain nodes (drop k kids) ≡ rooted r (forest_of goes r.number nodes) (chain nodes (drop (k + 1) kids))
   gone_to nodes kids k r is g = ap (chain nodes) (drop_get kids k r is) ∙ rw g refl
 
   passed : (nodes kids : List ResourceData) (k : ℕ) (r : ResourceData) → slice_get kids k ≡ Some r → goes r ≡ false → chain nodes (drop k kids) ≡ chain nodes (drop (k + 1) kids)
   passed nodes kids k r is h = ap (chain nodes) (drop_get kids k r is) ∙ rw h refl
 
-  here_true : (nodes : List ResourceData) (r : ResourceData) → goes r ≡ true → reached_forest goes nodes r ≡ rooted r (grown goes r.number nodes) bare
+  here_true : (nodes : List ResourceData) (r : ResourceData) → goes r ≡ true → reached_forest goes nodes r ≡ rooted r (forest_of goes r.number nodes) bare
   here_true nodes r g = rw g refl
 
   here_false : (nodes : List ResourceData) (r : ResourceData) → goes r ≡ false → reached_forest goes nodes r ≡ bare
@@ -134,9 +134,9 @@ module _ (goes : ResourceData → Bool) where
   pub turned : (members : ResourceData → List Entry) (nodes kids : List ResourceData) (k left less : ℕ) (r : ResourceData) (es more : List Entry) → slice_get kids k ≡ Some r → 0 < left → less ≡ left - forest_size (reached_forest goes nodes r) → more ≡ with_forest members (cut_forest (reached_forest goes nodes r) left) es → with_forest members (cut_forest (chain nodes (drop k kids)) left) es ≡ with_forest members (cut_forest (chain nodes (drop (k + 1) kids)) less) more
   turned members nodes kids k left less r es more is some rest grew = elim (cases_Bool (goes r)) [
     | inl g ↦
-        let below = grown goes r.number nodes in
+        let below = forest_of goes r.number nodes in
         let after = chain nodes (drop (k + 1) kids) in
-        let size : forest_size (reached_forest goes nodes r) ≡ length (r ∷ listed below) = ap forest_size (here_true nodes r g) ∙ ap (λ (rs : List ResourceData). length (r ∷ rs)) (append-nil (listed below)) in
+        let size : forest_size (reached_forest goes nodes r) ≡ length (r ∷ preorder below) = ap forest_size (here_true nodes r g) ∙ ap (λ (rs : List ResourceData). length (r ∷ rs)) (append-nil (preorder below)) in
         let fewer : left - 1 - forest_size below ≡ less = omega (arith, rest, size) in
         let alone : with_forest members (cut_forest (reached_forest goes nodes r) left) es ≡ with_last (ty_member r.ty) (object (pairs_of (with_forest members (cut_forest below (left - 1)) (members r)))) es =
         ap (λ f. with_forest members (cut_forest f left) es) (here_true nodes r g) ∙ ap (λ f. with_forest members f es) (cut_more left r below bare some) in
@@ -156,10 +156,10 @@ module _ (goes : ResourceData → Bool) where
   pub sizes : (nodes kids : List ResourceData) (k left less : ℕ) (r : ResourceData) → slice_get kids k ≡ Some r → less ≡ left - forest_size (reached_forest goes nodes r) → left - forest_size (chain nodes (drop k kids)) ≡ less - forest_size (chain nodes (drop (k + 1) kids))
   sizes nodes kids k left less r is rest = elim (cases_Bool (goes r)) [
     | inl g ↦
-        let below = grown goes r.number nodes in
-        let size : forest_size (reached_forest goes nodes r) ≡ length (r ∷ listed below) = ap forest_size (here_true nodes r g) ∙ ap (λ (rs : List ResourceData). length (r ∷ rs)) (append-nil (listed below)) in
+        let below = forest_of goes r.number nodes in
+        let size : forest_size (reached_forest goes nodes r) ≡ length (r ∷ preorder below) = ap forest_size (here_true nodes r g) ∙ ap (λ (rs : List ResourceData). length (r ∷ rs)) (append-nil (preorder below)) in
         let both = ap forest_size (gone_to nodes kids k r is g) in
-        let sum = length-append (listed below) (listed (chain nodes (drop (k + 1) kids))) in
+        let sum = length-append (preorder below) (preorder (chain nodes (drop (k + 1) kids))) in
         omega (arith, both, sum, size, rest)
     | inr h ↦
         let nothing : less ≡ left - forest_size bare = rest ∙ ap (λ f. left - forest_size f) (here_false nodes r h) in
@@ -183,14 +183,14 @@ module _ (goes : ResourceData → Bool) where
       (ap (λ f. with_forest members (cut_forest f left) es) (sym nothing), same ∙ ap (λ f. left - forest_size f) (sym nothing))
 
   -- one that is gone to adds its object, with what is shown below it
-  pub shown_alone : (members : ResourceData → List Entry) (nodes : List ResourceData) (left : ℕ) (r : ResourceData) (es : List Entry) → goes r ≡ true → 0 < left → with_forest members (cut_forest (reached_forest goes nodes r) left) es ≡ with_last (ty_member r.ty) (object (pairs_of (with_forest members (cut_forest (grown goes r.number nodes) (left - 1)) (members r)))) es
+  pub shown_alone : (members : ResourceData → List Entry) (nodes : List ResourceData) (left : ℕ) (r : ResourceData) (es : List Entry) → goes r ≡ true → 0 < left → with_forest members (cut_forest (reached_forest goes nodes r) left) es ≡ with_last (ty_member r.ty) (object (pairs_of (with_forest members (cut_forest (forest_of goes r.number nodes) (left - 1)) (members r)))) es
   shown_alone members nodes left r es gone some =
       ap (λ f. with_forest members (cut_forest f left) es) (here_true nodes r gone)
-      ∙ ap (λ f. with_forest members f es) (cut_more left r (grown goes r.number nodes) bare some)
+      ∙ ap (λ f. with_forest members f es) (cut_more left r (forest_of goes r.number nodes) bare some)
 
-  pub size_alone : (nodes : List ResourceData) (r : ResourceData) → goes r ≡ true → forest_size (reached_forest goes nodes r) ≡ forest_size (grown goes r.number nodes) + 1
+  pub size_alone : (nodes : List ResourceData) (r : ResourceData) → goes r ≡ true → forest_size (reached_forest goes nodes r) ≡ forest_size (forest_of goes r.number nodes) + 1
   size_alone nodes r gone =
-      let size : forest_size (reached_forest goes nodes r) ≡ length (r ∷ listed (grown goes r.number nodes)) = ap forest_size (here_true nodes r gone) ∙ ap (λ (rs : List ResourceData). length (r ∷ rs)) (append-nil (listed (grown goes r.number nodes))) in
+      let size : forest_size (reached_forest goes nodes r) ≡ length (r ∷ preorder (forest_of goes r.number nodes)) = ap forest_size (here_true nodes r gone) ∙ ap (λ (rs : List ResourceData). length (r ∷ rs)) (append-nil (preorder (forest_of goes r.number nodes))) in
       omega (arith, size)
 
   -- where nothing more is shown, or no child is left, all that is shown has been

@@ -15,17 +15,17 @@ use Rattle.policy_eval.specs.Rights.{grants}
 use Rattle.policy_eval.specs.Seen.{discovery_bit, retrieve_bit}
 use Rattle.retrieve_discover.specs.Conditions.{meets, meets_any}
 use Rattle.retrieve_discover.specs.Contents.{content, may_retrieve, most_references, most_shown, referred, shown_forest}
-use Rattle.retrieve_discover.specs.Descendants.{below, grown, listed}
+use Rattle.retrieve_discover.specs.Descendants.{below, forest_of, preorder}
 use Rattle.retrieve_discover.specs.Findings.{address_list, all_found, found, found_addresses, is_found, most_of}
 use Rattle.retrieve_discover.specs.Replies.{discovered, is_by_id, refusal, retrieved, retrieved_of, success}
-use Rattle.retrieve_discover.proofs.ForestLemmas.{listed-cut}
+use Rattle.retrieve_discover.proofs.ForestLemmas.{preorder-cut}
 
 -- what holds of every resource that may be gone to holds of all that are reached
-all_reached : (P : ResourceData → Type 0) (goes : ResourceData → Bool) → ((r : ResourceData) → goes r ≡ true → P r) → (rs : List ResourceData) (n : ℕ) → All P (listed (grown goes n rs))
+all_reached : (P : ResourceData → Type 0) (goes : ResourceData → Bool) → ((r : ResourceData) → goes r ≡ true → P r) → (rs : List ResourceData) (n : ℕ) → All P (preorder (forest_of goes n rs))
 all_reached P goes holds [] n = All-nil P
 all_reached P goes holds (r ∷ rs) n = elim (cases_Bool (is_under n r)) [
   | inl u ↦ elim (cases_Bool (goes r)) [
-    | inl t ↦ rw (u, t) (All-cons P r _ (holds r t) (All-append P (listed (grown goes r.number rs)) (listed (grown goes n rs)) (all_reached P goes holds rs r.number) (all_reached P goes holds rs n)))
+    | inl t ↦ rw (u, t) (All-cons P r _ (holds r t) (All-append P (preorder (forest_of goes r.number rs)) (preorder (forest_of goes n rs)) (all_reached P goes holds rs r.number) (all_reached P goes holds rs n)))
     | inr f ↦ rw (u, f) (all_reached P goes holds rs n)
   ]
   | inr v ↦ rw v (all_reached P goes holds rs n)
@@ -36,11 +36,11 @@ abbrev pub Grants : HomeData → List ResourceData → List ℕ → ℕ → Reso
 Grants home nodes o bit r = grants home nodes o bit r.number ≡ true
 
 module _ (home : HomeData) (nodes : List ResourceData) (o : List ℕ) where
-  pub shown_granted : (n : ℕ) → All (Grants home nodes o retrieve_bit) (listed (shown_forest home nodes o n))
+  pub shown_granted : (n : ℕ) → All (Grants home nodes o retrieve_bit) (preorder (shown_forest home nodes o n))
   shown_granted n =
       let goes = may_retrieve home nodes o in
       let P = Grants home nodes o retrieve_bit in
-      rw (listed-cut (grown goes n nodes) most_shown) (All-take P most_shown (listed (grown goes n nodes)) (all_reached P goes (λ r t. t) nodes n))
+      rw (preorder-cut (forest_of goes n nodes) most_shown) (All-take P most_shown (preorder (forest_of goes n nodes)) (all_reached P goes (λ r t. t) nodes n))
 
   pub referred_granted : (n : ℕ) → All (Grants home nodes o retrieve_bit) (referred home nodes o n)
   referred_granted n =

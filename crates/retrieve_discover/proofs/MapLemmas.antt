@@ -6,7 +6,7 @@ use Rattle.std.proofs.lemmas.Bool.{cases_Bool}
 use Rattle.std.proofs.lemmas.List.{length-map, map-append, reverse-append}
 use Rattle.resource_model.specs.Resource.{ResourceData, has_number}
 use Rattle.tree_model.specs.Tree.{children_of, is_under, line_from, line_of}
-use Rattle.retrieve_discover.specs.Descendants.{Forest, bare, rooted, below, cut_forest, grown, listed, forest_size}
+use Rattle.retrieve_discover.specs.Descendants.{Forest, bare, rooted, below, cut_forest, forest_of, preorder, forest_size}
 use Rattle.retrieve_discover.proofs.OrderLemmas.{Each}
 
 module _ (g : ResourceData → ResourceData) where
@@ -30,15 +30,15 @@ module _ (g : ResourceData → ResourceData) where
   map_forest bare = bare
   map_forest (rooted r kids more) = rooted (g r) (map_forest kids) (map_forest more)
 
-  listed-map : (f : Forest) → listed (map_forest f) ≡ map g (listed f)
-  listed-map bare = refl
-  listed-map (rooted r kids more) =
-      ap (λ rs. g r ∷ (rs ++ listed (map_forest more))) (listed-map kids)
-      ∙ ap (λ rs. g r ∷ (map g (listed kids) ++ rs)) (listed-map more)
-      ∙ ap (λ rs. g r ∷ rs) (sym (map-append g (listed kids) (listed more)))
+  preorder-map : (f : Forest) → preorder (map_forest f) ≡ map g (preorder f)
+  preorder-map bare = refl
+  preorder-map (rooted r kids more) =
+      ap (λ rs. g r ∷ (rs ++ preorder (map_forest more))) (preorder-map kids)
+      ∙ ap (λ rs. g r ∷ (map g (preorder kids) ++ rs)) (preorder-map more)
+      ∙ ap (λ rs. g r ∷ rs) (sym (map-append g (preorder kids) (preorder more)))
 
   size-map : (f : Forest) → forest_size (map_forest f) ≡ forest_size f
-  size-map f = ap (λ (rs : List ResourceData). length rs) (listed-map f) ∙ length-map (listed f) g
+  size-map f = ap (λ (rs : List ResourceData). length rs) (preorder-map f) ∙ length-map (preorder f) g
 
   pub cut-map : (f : Forest) (m : ℕ) → cut_forest (map_forest f) m ≡ map_forest (cut_forest f m)
   cut-map bare m = refl
@@ -84,15 +84,15 @@ module _ (g : ResourceData → ResourceData) where
     pub line-map : (rs : List ResourceData) (n : ℕ) → line_of n (map g rs) ≡ map g (line_of n rs)
     line-map rs n = ap (line_from n) (reverse-map rs) ∙ line_from-map (reverse rs) n
 
-    pub grown-map : (goes had : ResourceData → Bool) → ((r : ResourceData) → goes (g r) ≡ had r) → (rs : List ResourceData) (n : ℕ) → grown goes n (map g rs) ≡ map_forest (grown had n rs)
-    grown-map goes had same [] n = refl
-    grown-map goes had same (r ∷ rs) n = elim (cases_Bool (is_under n r)) [
+    pub forest_of-map : (goes had : ResourceData → Bool) → ((r : ResourceData) → goes (g r) ≡ had r) → (rs : List ResourceData) (n : ℕ) → forest_of goes n (map g rs) ≡ map_forest (forest_of had n rs)
+    forest_of-map goes had same [] n = refl
+    forest_of-map goes had same (r ∷ rs) n = elim (cases_Bool (is_under n r)) [
       | inl u ↦ elim (cases_Bool (had r)) [
         | inl t ↦ rw (under-map n r ∙ u, u, same r ∙ t, t) (
-            ap (λ k. rooted (g r) (grown goes k (map g rs)) (grown goes n (map g rs))) (number r)
-            ∙ ap (λ x. rooted (g r) x (grown goes n (map g rs))) (grown-map goes had same rs r.number)
-            ∙ ap (rooted (g r) (map_forest (grown had r.number rs))) (grown-map goes had same rs n))
-        | inr f ↦ rw (under-map n r ∙ u, u, same r ∙ f, f) (grown-map goes had same rs n)
+            ap (λ k. rooted (g r) (forest_of goes k (map g rs)) (forest_of goes n (map g rs))) (number r)
+            ∙ ap (λ x. rooted (g r) x (forest_of goes n (map g rs))) (forest_of-map goes had same rs r.number)
+            ∙ ap (rooted (g r) (map_forest (forest_of had r.number rs))) (forest_of-map goes had same rs n))
+        | inr f ↦ rw (under-map n r ∙ u, u, same r ∙ f, f) (forest_of-map goes had same rs n)
       ]
-      | inr v ↦ rw (under-map n r ∙ v, v) (grown-map goes had same rs n)
+      | inr v ↦ rw (under-map n r ∙ v, v) (forest_of-map goes had same rs n)
     ]

@@ -14,12 +14,13 @@ use Rattle.tree_model.specs.Tree.{at, child_of, has, is_tree, line_from, line_of
 use Rattle.tree_model.proofs.GrowthLemmas.{stands, zero_lacks}
 use Rattle.tree_model.proofs.TreeLemmas.{has_at}
 use Rattle.policy_eval.specs.Rights.{grants}
-use Rattle.addressing.specs.Addresses.{are_names, between_slashes, joined, longest}
-use Rattle.addressing.specs.Laws.{have_free_names, named_by}
+use Rattle.m2m_names.specs.Urls.{point_limit}
+use Rattle.addressing.specs.Addresses.{are_names, between_slashes, joined}
+use Rattle.addressing.specs.Laws.{have_free_names, spot_named}
 use Rattle.addressing.specs.Names.{structured_of}
 use Rattle.addressing.specs.declared.spot.Spot.{Spot}
 use Rattle.addressing.specs.declared.spot.Spot.TheVariants.{Resource, Fan, Poll}
-use Rattle.addressing.proofs.NameLemmas.{child_of_its_name, line_of_none, named_by_id, named_by_structured}
+use Rattle.addressing.proofs.NameLemmas.{child_of_its_name, line_of_none, named_by_id, spot_named_structured}
 use Rattle.addressing.proofs.PartLemmas.{between_slashes-joined}
 use Rattle.retrieve_discover.specs.Guard.{HasOwnAddresses, IsNamedByRight, is_address_of, is_no_name}
 use Rattle.retrieve_discover.proofs.OrderLemmas.{IsFound}
@@ -154,14 +155,14 @@ same_spot : (n m : ℕ) → Some (Resource n) ≡ Some (Resource m) → n ≡ m
 same_spot n m same = ap number_in (same_Some (Resource n) (Resource m) same)
 
 -- what names something is short
-named_is_short : (home : HomeData) (text : List ℕ) (nodes : List ResourceData) (spot : Spot) → named_by home text nodes ≡ Some spot → length text ≤ longest
-named_is_short home text nodes spot named = elim (cases_Bool (nat_lt longest (length text))) [
+named_is_short : (home : HomeData) (text : List ℕ) (nodes : List ResourceData) (spot : Spot) → spot_named home text nodes ≡ Some spot → length text ≤ point_limit
+named_is_short home text nodes spot named = elim (cases_Bool (nat_lt point_limit (length text))) [
   | inl t ↦ (let none : None ≡ Some spot = rw t at named in cc)
-  | inr f ↦ ltb-false longest (length text) f
+  | inr f ↦ ltb-false point_limit (length text) f
 ]
 
 module _ (home : HomeData) (nodes : List ResourceData) (own : HasOwnAddresses nodes) where
-  id_names : (r : ResourceData) → IsFound nodes r → named_by home (id_of r) nodes ≡ Some (Resource r.number)
+  id_names : (r : ResourceData) → IsFound nodes r → spot_named home (id_of r) nodes ≡ Some (Resource r.number)
   id_names r there =
       let small : r.number < 2 ^ 63 = ltb-true r.number (2 ^ 63) (all_found_at (λ (s : ResourceData). nat_lt s.number (2 ^ 63)) nodes r.number r own.numbers there) in
       let free : is_no_name nodes r ≡ true = all_found_at (is_no_name nodes) nodes r.number r own.base there in
@@ -173,15 +174,15 @@ module _ (home : HomeData) (nodes : List ResourceData) (own : HasOwnAddresses no
 
   id_or_path : (r s : ResourceData) → IsFound nodes r → IsFound nodes s → id_of r ≡ structured_of s.number nodes → r.number ≡ s.number
   id_or_path r s one two same =
-      let short : length (id_of r) ≤ longest = named_is_short home (id_of r) nodes (Resource r.number) (id_names r one) in
-      let path : length (structured_of s.number nodes) ≤ longest = omega (arith, short, ap length same) in
-      same_spot r.number s.number (sym (id_names r one) ∙ ap (λ t. named_by home t nodes) same ∙ named_by_structured home nodes s own.tree own.names two path)
+      let short : length (id_of r) ≤ point_limit = named_is_short home (id_of r) nodes (Resource r.number) (id_names r one) in
+      let path : length (structured_of s.number nodes) ≤ point_limit = omega (arith, short, ap length same) in
+      same_spot r.number s.number (sym (id_names r one) ∙ ap (λ t. spot_named home t nodes) same ∙ spot_named_structured home nodes s own.tree own.names two path)
 
   -- two resources that have one address are one
   pub one_address : (address : List ℕ) (r s : ResourceData) → IsFound nodes r → IsFound nodes s → is_address_of nodes address r ≡ true → is_address_of nodes address s ≡ true → r.number ≡ s.number
   one_address address r s one two first second = elim (or_cases (bytes_eq address (id_of r)) _ first) [
     | inl a ↦ elim (or_cases (bytes_eq address (id_of s)) _ second) [
-      | inl b ↦ same_spot r.number s.number (sym (id_names r one) ∙ ap (λ t. named_by home t nodes) (sym (text (id_of r) a) ∙ text (id_of s) b) ∙ id_names s two)
+      | inl b ↦ same_spot r.number s.number (sym (id_names r one) ∙ ap (λ t. spot_named home t nodes) (sym (text (id_of r) a) ∙ text (id_of s) b) ∙ id_names s two)
       | inr c ↦ id_or_path r s one two (sym (text (id_of r) a) ∙ text (structured_of s.number nodes) c)
     ]
     | inr d ↦ elim (or_cases (bytes_eq address (id_of s)) _ second) [

@@ -9,7 +9,7 @@ use Rattle.resource_model.specs.Resource.{ResourceData}
 use Rattle.tree_model.specs.Tree.{at, is_tree, is_under, line_of}
 use Rattle.tree_model.proofs.GrowthLemmas.{stands}
 use Rattle.tree_model.proofs.TreeLemmas.{at_number}
-use Rattle.retrieve_discover.specs.Descendants.{below, grown, line_up_to, line_below, listed}
+use Rattle.retrieve_discover.specs.Descendants.{below, forest_of, line_up_to, line_below, preorder}
 use Rattle.retrieve_discover.proofs.OrderLemmas.{Each, IsFound, each_found, in_order-tree}
 
 -- what holds of each of two lists holds of each of both
@@ -112,7 +112,7 @@ module _ (nodes : List ResourceData) (tree : is_tree nodes ≡ true) where
     all_none n r [] each = tt
     all_none n r (s ∷ rs) each = (each.0 ∙ and_false (passes r.number s), all_none n r rs each.1)
 
-    reaches : (later : List ResourceData) (n : ℕ) (t : ResourceData) → at n nodes ≡ Some t → Each (IsFound nodes) later → filter (passes n) (below n later) ≡ listed (grown goes n later)
+    reaches : (later : List ResourceData) (n : ℕ) (t : ResourceData) → at n nodes ≡ Some t → Each (IsFound nodes) later → filter (passes n) (below n later) ≡ preorder (forest_of goes n later)
     reaches [] n t there each = refl
     reaches (r ∷ later) n t there each = elim (cases_Bool (is_under n r)) [
       | inl u ↦
@@ -125,10 +125,10 @@ module _ (nodes : List ResourceData) (tree : is_tree nodes ≡ true) where
           let split = filter-append (passes n) (below r.number later) (below n later) in
           elim (cases_Bool (goes r)) [
             | inl g ↦
-                let kept : filter (passes n) (below r.number later) ≡ listed (grown goes r.number later) =
+                let kept : filter (passes n) (below r.number later) ≡ preorder (forest_of goes r.number later) =
                 filter-each (passes n) (passes r.number) (below r.number later) (all_same n r (below r.number later) (passes_through n r true (below r.number later) (passing ∙ g) first))
                 ∙ reaches later r.number r each.0 each.1 in
-                rw (u, passing ∙ g, g) (ap (λ rs. r ∷ rs) (split ∙ ap (λ rs. rs ++ filter (passes n) (below n later)) kept ∙ ap (λ rs. listed (grown goes r.number later) ++ rs) rest))
+                rw (u, passing ∙ g, g) (ap (λ rs. r ∷ rs) (split ∙ ap (λ rs. rs ++ filter (passes n) (below n later)) kept ∙ ap (λ rs. preorder (forest_of goes r.number later) ++ rs) rest))
             | inr h ↦
                 let none : filter (passes n) (below r.number later) ≡ [] =
                 filter_none (passes n) (below r.number later) (all_none n r (below r.number later) (passes_through n r false (below r.number later) (passing ∙ h) first)) in
@@ -138,5 +138,5 @@ module _ (nodes : List ResourceData) (tree : is_tree nodes ≡ true) where
     ]
 
     -- a filter by the line below a resource goes down from it
-    pub filtered_is_reached : (n : ℕ) (t : ResourceData) → at n nodes ≡ Some t → filter (passes n) (below n nodes) ≡ listed (grown goes n nodes)
+    pub filtered_is_reached : (n : ℕ) (t : ResourceData) → at n nodes ≡ Some t → filter (passes n) (below n nodes) ≡ preorder (forest_of goes n nodes)
     filtered_is_reached n t there = reaches nodes n t there (each_found nodes (in_order-tree nodes tree))

@@ -27,13 +27,14 @@ use Rattle.tree_model.specs.Tree.{at, children_of, is_under}
 use Rattle.tree_model.proofs.ShownLemmas.{shown_value}
 use Rattle.policy_eval.specs.Rights.{discovery_bit, grants, retrieve_bit}
 use Rattle.retrieve_discover.specs.Conditions.{meets, meets_any}
-use Rattle.retrieve_discover.specs.Contents.{content, may_retrieve, members, most_references, most_shown, reference, references, references_alone, referred, shown_forest, wanted_content, whole, with_forest, with_references}
-use Rattle.retrieve_discover.specs.Descendants.{Forest, below, grown}
+use Rattle.entity_model.specs.Places.{wanted_content}
+use Rattle.retrieve_discover.specs.Contents.{content, may_retrieve, members, most_references, most_shown, reference, references, references_alone, referred, shown_forest, whole, with_forest, with_references}
+use Rattle.retrieve_discover.specs.Descendants.{Forest, below, forest_of}
 use Rattle.retrieve_discover.specs.Findings.{address, address_in, address_list, found, found_addresses, is_found, most_of}
 use Rattle.retrieve_discover.specs.Guard.{AreNamedByRight, HasOwnAddresses, IsNamedByRight, IsShownByRight, OthersAreShownByRight}
 use Rattle.retrieve_discover.specs.Replies.{discovered, is_by_id, refusal, retrieved, retrieved_of, success}
 use Rattle.retrieve_discover.specs.Told.{addresses_in, ids_below, ids_shown, is_object, listed_parts, references_in, references_shown, shown_id, shown_reference, text_in, unframed, values_among, values_under}
-use Rattle.retrieve_discover.proofs.ForestLemmas.{all-cut, all-grown}
+use Rattle.retrieve_discover.proofs.ForestLemmas.{all-cut, all-forest_of}
 use Rattle.retrieve_discover.proofs.NamedLemmas.{its_address, named_by_right}
 use Rattle.retrieve_discover.proofs.OrderLemmas.{Each, IsFound, each-filter, each_found, in_order-tree}
 use Rattle.retrieve_discover.proofs.ReachLemmas.{each_below_found}
@@ -166,7 +167,7 @@ module _ (home : HomeData) (nodes : List ResourceData) (o : List ℕ) (own : Has
   whole_told r =
       let forest = shown_forest home nodes o r.number in
       let ms = with_forest (members home nodes) forest (members home nodes r) in
-      let all = all-cut (IsGranted retrieve_bit) (grown (may_retrieve home nodes o) r.number nodes) most_shown (all-grown (IsFound nodes) (may_retrieve home nodes o) nodes r.number all_there) in
+      let all = all-cut (IsGranted retrieve_bit) (forest_of (may_retrieve home nodes o) r.number nodes) most_shown (all-forest_of (IsFound nodes) (may_retrieve home nodes o) nodes r.number all_there) in
       told_under r.ty ms (under_forest IsNamedObject (IsGranted retrieve_bit) (members home nodes) own_object own_members forest (members home nodes r) all (own_members r))
       (none_referred_to r.ty ms (kept_beside (members home nodes) (codes "ch") refl forest (members home nodes r) ∙ none_referred (shown_rows home nodes r)))
 

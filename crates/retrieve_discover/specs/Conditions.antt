@@ -28,17 +28,17 @@ use Rattle.filter_criteria.specs.declared.condition.Condition.TheVariants.{Unmod
 
 -- ---- bounds: where one is given, the resource has a value, and it stands so to the bound
 
-abbrev pub is_below : Option ℕ → Option ℕ → Bool
-is_below None value = true
-is_below (Some bound) value = option_map_or (λ n. nat_lt n bound) value false
+abbrev pub is_under_bound : Option ℕ → Option ℕ → Bool
+is_under_bound None value = true
+is_under_bound (Some bound) value = option_map_or (λ n. nat_lt n bound) value false
 
-abbrev pub is_above : Option ℕ → Option ℕ → Bool
-is_above None value = true
-is_above (Some bound) value = option_map_or (λ n. nat_lt bound n) value false
+abbrev pub is_over_bound : Option ℕ → Option ℕ → Bool
+is_over_bound None value = true
+is_over_bound (Some bound) value = option_map_or (λ n. nat_lt bound n) value false
 
-abbrev pub is_from : Option ℕ → Option ℕ → Bool
-is_from None value = true
-is_from (Some bound) value = option_map_or (λ n. nat_le bound n) value false
+abbrev pub is_from_bound : Option ℕ → Option ℕ → Bool
+is_from_bound None value = true
+is_from_bound (Some bound) value = option_map_or (λ n. nat_le bound n) value false
 
 -- ---- what a resource has
 
@@ -47,12 +47,13 @@ abbrev pub size_in : ResourceData → Option ℕ
 size_in r = if is_ty r.ty ContentInstance then count_at Cs r.attrs else None
 
 -- it has the label
-abbrev pub is_label : List ℕ → Data → Bool
-is_label label d = same_text (as_text d) (Some label)
+abbrev pub is_that_label : List ℕ → Data → Bool
+is_that_label label d = same_text (as_text d) (Some label)
 
 abbrev pub has_label : ResourceData → List ℕ → Bool
 has_label r label =
-    option_map_or (list_any (is_label label)) (option_and_then as_list (value_of Lbl r.attrs)) false
+    option_map_or (list_any (is_that_label label)) (option_and_then as_list (value_of Lbl r.attrs))
+    false
 
 -- where labels are given, it has one of them
 abbrev pub has_one_of : List (List ℕ) → ResourceData → Bool
@@ -67,18 +68,18 @@ is_of_one types r = (length types == 0) || list_any (λ n. n == (ty_row r.ty).nu
 -- What has to hold of a resource of the list for a condition of the filter; a condition that isn't
 -- given always holds. How a filter is used, and how much it asks for, is none on a resource.
 abbrev pub holds : Condition → List ResourceData → FilterParts → ResourceData → Bool
-holds CreatedBefore nodes f r = is_below f.crb (Some r.ct)
-holds CreatedAfter nodes f r = is_above f.cra (Some r.ct)
-holds ModifiedSince nodes f r = is_above f.ms (Some r.lt)
-holds UnmodifiedSince nodes f r = is_below f.us (Some r.lt)
-holds StateTagSmaller nodes f r = is_below f.sts (count_at St r.attrs)
-holds StateTagBigger nodes f r = is_above f.stb (count_at St r.attrs)
-holds ExpireBefore nodes f r = is_below f.exb (due nodes r)
-holds ExpireAfter nodes f r = is_above f.exa (due nodes r)
+holds CreatedBefore nodes f r = is_under_bound f.crb (Some r.ct)
+holds CreatedAfter nodes f r = is_over_bound f.cra (Some r.ct)
+holds ModifiedSince nodes f r = is_over_bound f.ms (Some r.lt)
+holds UnmodifiedSince nodes f r = is_under_bound f.us (Some r.lt)
+holds StateTagSmaller nodes f r = is_under_bound f.sts (count_at St r.attrs)
+holds StateTagBigger nodes f r = is_over_bound f.stb (count_at St r.attrs)
+holds ExpireBefore nodes f r = is_under_bound f.exb (due nodes r)
+holds ExpireAfter nodes f r = is_over_bound f.exa (due nodes r)
 holds OneLabel nodes f r = has_one_of f.lbl r
 holds OneType nodes f r = is_of_one f.ty r
-holds SizeAbove nodes f r = is_from f.sza (size_in r)
-holds SizeBelow nodes f r = is_below f.szb (size_in r)
+holds SizeAbove nodes f r = is_from_bound f.sza (size_in r)
+holds SizeBelow nodes f r = is_under_bound f.szb (size_in r)
 holds Usage nodes f r = true
 holds Limit nodes f r = true
 

@@ -1,6 +1,6 @@
 -- What a Retrieve shows (TS-0001, 10.2.3; TS-0004, 6.3.4.2.7 and 7.5.2).
 use Rattle.std.specs.Prelude.{ℕ, ℤ, pos, Bool, List, [], ◌∷◌, ◌++◌, map, filter, take, codes}
-use Rattle.std.specs.Prelude.{Option, unwrap_or, if◌then◌else◌}
+use Rattle.std.specs.Prelude.{Option, if◌then◌else◌}
 use Rattle.std.specs.BTreeMap.{insert_entry}
 use Rattle.std.specs.Cmp.Lexicographic.{slice_cmp}
 use Rattle.std.specs.List.{list_all}
@@ -15,7 +15,8 @@ use Rattle.policy_eval.specs.Rules.{listed_in}
 use Rattle.policy_eval.specs.Seen.{retrieve_bit}
 use Rattle.tree_model.specs.Shown.{members_of, shown_rows, shown_ty, under_type}
 use Rattle.tree_model.specs.Tree.{children_of}
-use Rattle.retrieve_discover.specs.Descendants.{Forest, bare, rooted, below, cut_forest, grown}
+use Rattle.entity_model.specs.Places.{wanted_content}
+use Rattle.retrieve_discover.specs.Descendants.{Forest, bare, rooted, below, cut_forest, forest_of}
 use Rattle.retrieve_discover.specs.Descendants.{line_below}
 use Rattle.retrieve_discover.specs.Findings.{address}
 
@@ -72,7 +73,7 @@ shown_below home nodes o n =
 
 -- the same, each with what is shown below it
 abbrev pub shown_forest : HomeData → List ResourceData → List ℕ → ℕ → Forest
-shown_forest home nodes o n = cut_forest (grown (may_retrieve home nodes o) n nodes) most_shown
+shown_forest home nodes o n = cut_forest (forest_of (may_retrieve home nodes o) n nodes) most_shown
 
 -- an object more at the end of the list that a member has
 abbrev pub with_last : List ℕ → Data → List Entry → List Entry
@@ -101,10 +102,6 @@ with_references home nodes o by_id r = under_type r.ty
 abbrev pub references_alone : HomeData → List ResourceData → List ℕ → Bool → ResourceData → Data
 references_alone home nodes o by_id r =
     under_type r.ty ((codes "ch", references home nodes o by_id r.number) ∷ [])
-
--- the result content that a Retrieve without one has: the attributes (TS-0001, 8.1.2)
-abbrev pub wanted_content : Option ℤ → ℤ
-wanted_content rcn = unwrap_or rcn (pos 1)
 
 abbrev pub content : HomeData → List ResourceData → List ℕ → Bool → Option ℤ → ResourceData → Data
 content home nodes o by_id rcn r =

@@ -28,19 +28,19 @@ pub data Forest : Type 0 where
 
 -- those descendants of a resource that are reached by going down through such resources alone, each
 -- with those below it
-abbrev pub grown : (ResourceData → Bool) → ℕ → List ResourceData → Forest
-grown goes n [] = bare
-grown goes n (r ∷ later) =
-    if is_under n r && goes r then rooted r (grown goes r.number later) (grown goes n later)
-    else grown goes n later
+abbrev pub forest_of : (ResourceData → Bool) → ℕ → List ResourceData → Forest
+forest_of goes n [] = bare
+forest_of goes n (r ∷ later) =
+    if is_under n r && goes r then rooted r (forest_of goes r.number later) (forest_of goes n later)
+    else forest_of goes n later
 
 -- the resources of a forest, each before what stands below it
-abbrev pub listed : Forest → List ResourceData
-listed bare = []
-listed (rooted r kids more) = r ∷ (listed kids ++ listed more)
+abbrev pub preorder : Forest → List ResourceData
+preorder bare = []
+preorder (rooted r kids more) = r ∷ (preorder kids ++ preorder more)
 
 abbrev pub forest_size : Forest → ℕ
-forest_size forest = length (listed forest)
+forest_size forest = length (preorder forest)
 
 -- the first of a forest, as many as this
 abbrev pub cut_forest : Forest → ℕ → Forest
@@ -51,4 +51,4 @@ cut_forest (rooted r kids more) m =
 
 -- a resource with what is reached below it, where it is reached itself
 abbrev pub reached_forest : (ResourceData → Bool) → List ResourceData → ResourceData → Forest
-reached_forest goes nodes r = if goes r then rooted r (grown goes r.number nodes) bare else bare
+reached_forest goes nodes r = if goes r then rooted r (forest_of goes r.number nodes) bare else bare

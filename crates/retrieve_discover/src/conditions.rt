@@ -24,18 +24,18 @@ pub fn holds<T: Tree>(
     ensures { result ≡ spec.holds condition (T.nodes tree.now) filter.now resource.now }
 {
     match condition {
-        Condition::CreatedBefore => is_below(filter.crb, Some(resource.ct())),
-        Condition::CreatedAfter => is_above(filter.cra, Some(resource.ct())),
-        Condition::ModifiedSince => is_above(filter.ms, Some(resource.lt())),
-        Condition::UnmodifiedSince => is_below(filter.us, Some(resource.lt())),
-        Condition::StateTagSmaller => is_below(filter.sts, resource.attrs().count(Attr::St)),
-        Condition::StateTagBigger => is_above(filter.stb, resource.attrs().count(Attr::St)),
-        Condition::ExpireBefore => is_below(filter.exb, due(tree, resource)),
-        Condition::ExpireAfter => is_above(filter.exa, due(tree, resource)),
+        Condition::CreatedBefore => is_under_bound(filter.crb, Some(resource.ct())),
+        Condition::CreatedAfter => is_over_bound(filter.cra, Some(resource.ct())),
+        Condition::ModifiedSince => is_over_bound(filter.ms, Some(resource.lt())),
+        Condition::UnmodifiedSince => is_under_bound(filter.us, Some(resource.lt())),
+        Condition::StateTagSmaller => is_under_bound(filter.sts, resource.attrs().count(Attr::St)),
+        Condition::StateTagBigger => is_over_bound(filter.stb, resource.attrs().count(Attr::St)),
+        Condition::ExpireBefore => is_under_bound(filter.exb, due(tree, resource)),
+        Condition::ExpireAfter => is_over_bound(filter.exa, due(tree, resource)),
         Condition::OneLabel => has_one_of(resource, filter.lbl.entries()),
         Condition::OneType => is_of_one(resource, filter.ty.entries()),
-        Condition::SizeAbove => is_from(filter.sza, size_in(resource)),
-        Condition::SizeBelow => is_below(filter.szb, size_in(resource)),
+        Condition::SizeAbove => is_from_bound(filter.sza, size_in(resource)),
+        Condition::SizeBelow => is_under_bound(filter.szb, size_in(resource)),
         Condition::Usage | Condition::Limit => true,
     }
 }
@@ -61,8 +61,8 @@ pub(crate) fn meets_any<T: Tree>(tree: &T, filter: Option<&Filter>, resource: &R
     }
 }
 
-fn is_below(bound: Option<u64>, value: Option<u64>) -> bool
-    ensures { result ≡ spec.is_below bound value }
+fn is_under_bound(bound: Option<u64>, value: Option<u64>) -> bool
+    ensures { result ≡ spec.is_under_bound bound value }
 {
     match (bound, value) {
         (None, _) => true,
@@ -71,8 +71,8 @@ fn is_below(bound: Option<u64>, value: Option<u64>) -> bool
     }
 }
 
-fn is_above(bound: Option<u64>, value: Option<u64>) -> bool
-    ensures { result ≡ spec.is_above bound value }
+fn is_over_bound(bound: Option<u64>, value: Option<u64>) -> bool
+    ensures { result ≡ spec.is_over_bound bound value }
 {
     match (bound, value) {
         (None, _) => true,
@@ -81,8 +81,8 @@ fn is_above(bound: Option<u64>, value: Option<u64>) -> bool
     }
 }
 
-fn is_from(bound: Option<u64>, value: Option<u64>) -> bool
-    ensures { result ≡ spec.is_from bound value }
+fn is_from_bound(bound: Option<u64>, value: Option<u64>) -> bool
+    ensures { result ≡ spec.is_from_bound bound value }
 {
     match (bound, value) {
         (None, _) => true,
@@ -125,7 +125,7 @@ fn has_label(resource: &Resource, label: &[u8]) -> bool
 }
 
 fn lists(labels: &Val, label: &[u8]) -> bool
-    ensures { result ≡ option_map_or (list_any (spec.is_label label.now))
+    ensures { result ≡ option_map_or (list_any (spec.is_that_label label.now))
         (as_list labels.now) false }
 {
     match labels.as_list() {
@@ -135,13 +135,13 @@ fn lists(labels: &Val, label: &[u8]) -> bool
 }
 
 fn is_among(values: &[Val], label: &[u8]) -> bool
-    ensures { result ≡ list_any (spec.is_label label.now) values.now }
+    ensures { result ≡ list_any (spec.is_that_label label.now) values.now }
 {
-    values.iter().any(|value| is_label(value, label))
+    values.iter().any(|value| is_that_label(value, label))
 }
 
-fn is_label(value: &Val, label: &[u8]) -> bool
-    ensures { result ≡ spec.is_label label.now value.now }
+fn is_that_label(value: &Val, label: &[u8]) -> bool
+    ensures { result ≡ spec.is_that_label label.now value.now }
 {
     match value.as_text() {
         Some(text) => text.entries() == label,

@@ -9,6 +9,7 @@ use crate::descendants::add_descendants;
 use crate::look::{Look, members_of};
 use crate::references::references;
 use crate::replies;
+use entity_model::wanted_content;
 use m2m_value::{Members, Text, Val};
 use primitive_json::Request;
 use std::alloc::{AllocError as OutOfMemory, Global};
@@ -35,7 +36,7 @@ pub(crate) fn content<T: Tree>(
         o,
         by_id: replies::is_by_id(request),
     };
-    match request.parts().rcn.unwrap_or(1) {
+    match wanted_content(request) {
         4 => whole(alloc, &look, target),
         5 => with_references(alloc, &look, target),
         6 => references_alone(alloc, &look, target),

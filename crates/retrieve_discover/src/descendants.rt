@@ -7,7 +7,7 @@ ghost use Rattle.m2m_value.specs.View.{as_list};
 ghost use Rattle.policy_eval.specs.Rules.{listed_in};
 ghost use Rattle.tree_model.specs.Tree.{at, is_tree};
 ghost use Rattle.retrieve_discover.specs.Contents as spec;
-ghost use Rattle.retrieve_discover.specs.Descendants.{cut_forest, forest_size, grown};
+ghost use Rattle.retrieve_discover.specs.Descendants.{cut_forest, forest_size, forest_of};
 ghost use Rattle.retrieve_discover.specs.Descendants.{reached_forest};
 
 use crate::look::{Look, may_retrieve, members_of};
@@ -30,11 +30,11 @@ pub(crate) fn add_descendants<T: Tree>(
     requires originator { IsTrue (is_originator look.now.o.now) }
     ensures members { OnOk result (members.new
         ≡ spec.with_forest (spec.members look.now.home.now (T.nodes look.now.tree.now))
-        (cut_forest (grown
+        (cut_forest (forest_of
         (spec.may_retrieve look.now.home.now (T.nodes look.now.tree.now) look.now.o.now)
         parent (T.nodes look.now.tree.now)) left.old) members.old) }
     ensures left { OnOk result (left.new ≡ left.old - forest_size
-        (grown (spec.may_retrieve look.now.home.now (T.nodes look.now.tree.now) look.now.o.now)
+        (forest_of (spec.may_retrieve look.now.home.now (T.nodes look.now.tree.now) look.now.o.now)
         parent (T.nodes look.now.tree.now))) }
     ensures keys { OnOk result (HaveTextKeys members.old → HaveTextKeys members.new) }
 {

@@ -6,11 +6,11 @@ ghost use Rattle.tree_model.specs.Tree.{at, has, is_tree};
 ghost use Rattle.retrieve_discover.specs.Findings as spec;
 ghost use Rattle.retrieve_discover.specs.Replies.{discovered};
 
-use crate::finding::{DISCOVERY_BIT, Wanted, find_below};
+use crate::finding::{Wanted, find_below};
 use crate::paths::path_to;
 use crate::replies::{is_by_id, succeed};
 use entity_model::refuse;
-use m2m_names::Rsc;
+use m2m_names::{DISCOVERY_BIT, Rsc};
 use m2m_value::{Items, Members, Text, Val};
 use policy_eval::granted;
 use primitive_json::{Filter, FilterParts, Reply, Request};

@@ -9,14 +9,12 @@ ghost use Rattle.retrieve_discover.specs.Findings as spec;
 
 use crate::conditions::meets;
 use crate::paths::{address, go_down};
+use m2m_names::DISCOVERY_BIT;
 use m2m_value::Val;
 use policy_eval::granted;
 use primitive_json::FilterParts;
 use std::alloc::{AllocError as OutOfMemory, Global};
 use tree_model::{Home, Resource, Tree, child_at};
-
-/// The bit of DISCOVERY in `acop` (TS-0001, 9.6.2.1.2).
-pub(crate) const DISCOVERY_BIT: u32 = 32;
 
 /// What a discovery looks for, by whom, in which form, and how many at most.
 #[derive(Drop)]

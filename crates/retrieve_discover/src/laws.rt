@@ -11,7 +11,7 @@ ghost use Rattle.addressing.specs.Laws.{have_free_names};
 ghost use Rattle.policy_eval.specs.Rights.{grants};
 ghost use Rattle.policy_eval.specs.Seen.{discovery_bit, retrieve_bit, seen_list};
 ghost use Rattle.retrieve_discover.specs.Contents.{referred, shown_below, shown_forest};
-ghost use Rattle.retrieve_discover.specs.Descendants.{listed};
+ghost use Rattle.retrieve_discover.specs.Descendants.{preorder};
 ghost use Rattle.retrieve_discover.specs.Findings.{found};
 ghost use Rattle.retrieve_discover.specs.Guard.{HasOwnAddresses, OthersAreShownByRight};
 ghost use Rattle.retrieve_discover.specs.Guard.{is_address_of};
@@ -22,7 +22,7 @@ ghost use Rattle.retrieve_discover.specs.Replies.{discovered, refusal, retrieved
 pub fn what_is_shown_is_a_filter()
     ensures { (home : HomeData) (nodes : List ResourceData) (o : List ℕ) (n : ℕ)
         (r : ResourceData) → IsTrue (is_tree nodes) → at n nodes ≡ Some r →
-        listed (shown_forest home nodes o n) ≡ shown_below home nodes o n }
+        preorder (shown_forest home nodes o n) ≡ shown_below home nodes o n }
 {}
 
 /// Nothing is shown or found without a grant. Without the right on the target the answer is that
@@ -35,7 +35,7 @@ pub fn nothing_is_shown_or_found_without_a_grant()
         retrieved home nodes o request n ≡ refusal request NoPrivilege }
     ensures shown { (home : HomeData) (nodes : List ResourceData) (o : List ℕ) (n : ℕ) →
         All (λ r. IsTrue (grants home nodes o retrieve_bit r.number))
-        (listed (shown_forest home nodes o n)) }
+        (preorder (shown_forest home nodes o n)) }
     ensures referred { (home : HomeData) (nodes : List ResourceData) (o : List ℕ) (n : ℕ) →
         All (λ r. IsTrue (grants home nodes o retrieve_bit r.number)) (referred home nodes o n) }
     ensures discovered { (home : HomeData) (nodes : List ResourceData) (o : List ℕ)

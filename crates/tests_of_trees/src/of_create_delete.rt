@@ -2,16 +2,16 @@
 ghost use Rattle.std.specs.Prelude.{IsTrue};
 ghost use Rattle.m2m_names.specs.Name.{is_originator};
 
-use create_delete::{OutOfMemory, create, delete, update};
+use create_delete::{Changes, OutOfMemory, create, delete, named_attrs, update};
 use entity_model::Entity;
 use m2m_names::{Op, is_originator};
-use m2m_value::{read, write};
+use m2m_value::{Val, read, write};
 use plain_tree::ListTree;
 use primitive_json::{Reply, Request, request_from};
 use std::alloc::{AllocGlobal, Global};
 use std::process::Abort;
 use std::test::Fail;
-use tree_model::Home;
+use tree_model::{AttrSet, Change, Home, Tree};
 
 // Each line is a request to one entity: the originator, the number of the target, the members of
 // the request, and what its reply tells: the status and the content.
@@ -47,6 +47,7 @@ const CREATIONS: &str =
 CAdmin 3 "op":1,"ty":3,"rcn":0,"pc":{"m2m:cnt":{"rn":"c","mni":0}} => 2001
 CAdmin 4 "op":1,"ty":3,"rcn":0,"pc":{"m2m:cnt":{"rn":"d","mbs":2}} => 2001
 CAdmin 3 "op":1,"ty":15,"rcn":0,"pc":{"m2m:pch":{"rn":"p"}} => 2001
+C1 99 "op":1,"ty":2,"pc":{} => 4004
 C1 4 "op":1,"ty":2,"pc":{} => 4103
 CAdmin 4 "op":1,"ty":2,"pc":{} => 4108
 CAdmin 4 "op":1,"ty":77,"pc":{} => 4108
@@ -65,7 +66,8 @@ CAdmin 5 "op":1,"ty":4,"rcn":0,"pc":{"m2m:cin":{"con":"ab"}} => 2001
 CAdmin 7 "op":1,"ty":23,"pc":{} => 5203"#;
 
 /// So is an update.
-const UPDATES: &str = r#"C1 1 "op":3,"pc":{} => 4103
+const UPDATES: &str = r#"C1 99 "op":3,"pc":{} => 4004
+C1 1 "op":3,"pc":{} => 4103
 CAdmin 1 "op":3,"pc":{} => 4005
 CAdmin 1 "op":1,"ty":3,"rcn":0,"pc":{"m2m:cnt":{"rn":"c"}} => 2001
 CAdmin 3 "op":3,"pc":{} => 4000
@@ -77,6 +79,13 @@ CAdmin 3 "op":3,"pc":{"m2m:cnt":{"acpi":["-/acpAdmin"]}} => 2004 {"m2m:cnt":{"ac
 C1 3 "op":3,"pc":{"m2m:cnt":{"acpi":null}} => 4103
 CAdmin 3 "op":3,"pc":{"m2m:cnt":{"et":"20231114T221321"}} => 2004 {"m2m:cnt":{"et":"20231114T221321","lt":"20231114T221320"}}
 CAdmin 3 "op":3,"pc":{"m2m:cnt":{"et":null}} => 2004 {"m2m:cnt":{"et":"99991231T235959","lt":"20231114T221320"}}"#;
+
+/// A family: an application entity, its container, and two instances in that.
+const FAMILY: &str =
+    r#"CAdmin 1 "op":1,"ty":2,"rcn":0,"pc":{"m2m:ae":{"api":"N.x","rr":true}} => 2001
+CAdmin 3 "op":1,"ty":3,"rcn":0,"pc":{"m2m:cnt":{}} => 2001
+CAdmin 4 "op":1,"ty":4,"rcn":0,"pc":{"m2m:cin":{"con":1}} => 2001
+CAdmin 4 "op":1,"ty":4,"rcn":0,"pc":{"m2m:cin":{"con":2}} => 2001"#;
 
 fn opened(alloc: Global) -> Result<Entity<ListTree>, OutOfMemory> {
     Entity::open(
@@ -181,4 +190,50 @@ fn creations_are_refused_in_order(rt: HostRuntime) -> Result<(), Fail> {
 #[test]
 fn updates_are_refused_in_order(rt: HostRuntime) -> Result<(), Fail> {
     check(&rt, UPDATES)
+}
+
+/// The kind of a change, the number of its resource, and how many attributes it names.
+fn told_change(alloc: Global, change: Change<'_>) -> Result<String, OutOfMemory> {
+    match change {
+        Change::Created(made) => format!(in alloc; "+{}", made.number()),
+        Change::Updated { after, named, .. } => {
+            format!(in alloc; "={}:{}", after.number(), named.entries().len())
+        }
+        Change::Deleted(gone) => format!(in alloc; "-{}", gone.number()),
+    }
+}
+
+fn told_changes<T: Tree>(
+    alloc: Global,
+    changes: Changes<'_, T>,
+) -> Result<Vec<u8>, OutOfMemory> {
+    let mut out = Vec::new(alloc);
+    for change in changes {
+        out.extend_from_slice(told_change(alloc, change)?.as_bytes())?;
+    }
+    Ok(out)
+}
+
+/// The attributes that this content names.
+fn named_in(rt: &(impl Abort + AllocGlobal), content: &[u8]) -> Result<AttrSet, OutOfMemory> {
+    let value: Val = read(rt.alloc(), content).map_err(|_| OutOfMemory)?;
+    named_attrs(rt.alloc(), value.as_obj().expect(rt, "an object"))
+}
+
+#[test]
+fn changes_are_listed_in_order(rt: HostRuntime) -> Result<(), Fail> {
+    let mut entity = opened(rt.alloc())?;
+    for line in FAMILY.lines() {
+        check_line(&rt, &mut entity, line)?;
+    }
+    let tree = &entity.tree;
+    let container = tree.get(4).expect(&rt, "a container");
+    let named = named_in(&rt, br#"{"lbl":[],"mni":0,"x":1}"#)?;
+    let made = told_changes(rt.alloc(), Changes::of_creation(tree, container, &[5, 6]))?;
+    assert!(rt; made.as_slice() == b"+4-5-6".as_slice());
+    let update = Changes::of_update(tree, container, container, &named, &[5]);
+    assert!(rt; told_changes(rt.alloc(), update)?.as_slice() == b"=4:2-5".as_slice());
+    let gone = told_changes(rt.alloc(), Changes::of_deletion(tree, 3))?;
+    assert!(rt; gone.as_slice() == b"-3-4-5-6".as_slice());
+    Ok(())
 }

@@ -15,7 +15,7 @@ use Rattle.turn_desk.specs.Joins.{Runs-append}
 use Rattle.std.specs.declared.snapshot.Snapshot.{Snapshot}
 use Rattle.turn_desk.specs.declared.view.View.{View}
 use Rattle.turn_desk.specs.declared.view.Held.{Held}
-use Rattle.turn_desk.specs.Shared.{Begins, AreInLine, longer, times, total, Fits, IsAtHome, IsTaken, AreApart, AreOwned, Weighed, AddUp, Kept, Leaves, newcomer, spent, halved, sibling, joined_view, with_ticket, with_entry, Draws, TakesTurn, Looks, Passes, Tells, HasTurn, IsIdle, IsWaiting, IsServed, OwnsAll, AreJoined, SamePart, IsWhole, own_places, Grows}
+use Rattle.turn_desk.specs.Shared.{Begins, AreInLine, longer, times, total, Fits, IsAtHome, IsTaken, AreApart, AreOwned, Weighed, AddUp, Kept, Leaves, newcomer, spent, halved, sibling, joined_view, with_ticket, with_entry, Draws, TakesTurn, Looks, Passes, TellsOneLog, HasTurn, IsIdle, IsWaiting, IsServed, OwnsAll, AreJoined, SamePart, IsWhole, own_places, Grows}
 
 -- ---- sums
 
@@ -693,7 +693,7 @@ module _ {X E R : Type 0} (step : ℕ → E → X → R → X → Type 0) (openi
   the_first v (suc j) e = absurd (some-ne-none v (sym e))
 
   pub tells : (slots id : ℕ) (me : Me (Held X E R) (View X E R)) → me.0.turn ≡ false → me.0.share ≢ 0
-      → Allows (Kept step opening) slots id me 1 (λ n. n) (λ _. Tells step me)
+      → Allows (Kept step opening) slots id me 1 (λ n. n) (λ _. TellsOneLog step me)
   tells slots id me idle part s k ls at range =
       let w : View X E R = record me.0 { left = []; right = [] } in
       let f = k.fit id me.0 at in (
@@ -845,7 +845,7 @@ module _ {X E R : Type 0} where
   joined-part v w part whole z = part (none_of v.share w.whole (w.share * v.whole) whole z)
 
   pub idle-joined : (step : ℕ → E → X → R → X → Type 0) (a b me after : Me (Held X E R) (View X E R))
-      → IsIdle step a → IsIdle step b → me ≡ (joined_view a.0 b.0, a.1) → Tells step me after → IsIdle step after
+      → IsIdle step a → IsIdle step b → me ≡ (joined_view a.0 b.0, a.1) → TellsOneLog step me after → IsIdle step after
   idle-joined step a b me after p q e t =
       let v : after ≡ (record (joined_view a.0 b.0) { left = []; right = [] }, a.1) =
       t.view ∙ ap (λ (m : Me (Held X E R) (View X E R)). (record m.0 { left = []; right = [] }, m.1)) e in

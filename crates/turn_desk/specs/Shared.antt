@@ -204,7 +204,7 @@ module _ {X E R : Type 0} where
 
   -- Two seats that were joined have seen one log, which is a history of the object, and no entry is
   -- own to both.
-  pub record Tells (step : ℕ → E → X → R → X
+  pub record TellsOneLog (step : ℕ → E → X → R → X
       → Type 0) (before after : Me (Held X E R) (View X E R)) : Type 0 where
     pub view : after ≡ (record before.0 { left = []; right = [] }, before.1)
     pub line : AreInLine before.0.left before.0.right

@@ -55,7 +55,7 @@ struct Tell<O> {
 }
 
 impl<O: Object> Play<Slot<O>, Knows<O>> for Tell<O> {
-    ghost then = { λ _ m _ n. spec.Tells O.step m n };
+    ghost then = { λ _ m _ n. spec.TellsOneLog O.step m n };
 }
 
 struct Halve;

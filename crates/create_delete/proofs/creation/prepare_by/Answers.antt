@@ -3,8 +3,7 @@ use Rattle.std.proofs.lemmas.Result.{IfOk-weaker}
 use Rattle.m2m_value.specs.Data.{Entry}
 use Rattle.request_rules.specs.Creation.{Creation, creation_of}
 use Rattle.request_rules.specs.Order.{creation_by}
-use Rattle.create_delete.specs.Changing.{create_effect}
-use Rattle.create_delete.specs.Joining.{after_joining}
+use Rattle.create_delete.specs.Changing.{after_joining, create_effect}
 use Rattle.create_delete.proofs.CreatableLemmas.{admitted_content, allowed, names_attributes}
 use Rattle.create_delete.proofs.creation.prepare_by.Goals as goal
 

@@ -3,9 +3,10 @@ use Rattle.resource_model.specs.Resource.{ResourceData}
 use Rattle.tree_model.specs.Tree.{has}
 use Rattle.tree_model.proofs.TreeLemmas.{at_has}
 use Rattle.request_rules.specs.Creation.{Creation, creation_of, new_resource}
-use Rattle.create_delete.specs.Joining.{after_joining, filling_of, MayJoin}
+use Rattle.create_delete.specs.Changing.{after_joining, filling_of}
+use Rattle.create_delete.specs.Joining.{MayJoin}
 use Rattle.create_delete.specs.declared.joining.Filling.{Filling}
-use Rattle.create_delete.proofs.CreatedLemmas.{joining_effect, may_join}
+use Rattle.create_delete.proofs.CreatedLemmas.{may_join}
 use Rattle.create_delete.proofs.creation.prepare_new.Goals as goal
 
 -- its parent is there
@@ -27,4 +28,3 @@ returns-clause-after g c =
     let made : Creation = creation_of c.args.entity.now c.args.o.now c.args.ty c.args.parent.now c.args.members.now in
     ap (λ (r : ResourceData). after_joining made.e r c.in_ok-filling.filling) c.in_ok-resource.ensures
     ∙ ap (after_joining made.e (new_resource made)) (c.in_ok-filling.ensures c.args.o.now)
-    ∙ joining_effect c.args.request.now made

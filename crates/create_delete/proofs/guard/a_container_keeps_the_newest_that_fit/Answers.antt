@@ -1,5 +1,5 @@
 use Rattle.create_delete.proofs.LeftLemmas.{keeps_all}
-use Rattle.create_delete.proofs.RightCreateLemmas.{instances_filled}
+use Rattle.create_delete.proofs.RightCreateLemmas.{newest_filled}
 use Rattle.create_delete.proofs.RightLemmas.{keeps_newest}
 use Rattle.create_delete.proofs.guard.a_container_keeps_the_newest_that_fit.Goals as goal
 
@@ -10,4 +10,4 @@ pub returns-clause-updated : goal.returns-clause-updated
 returns-clause-updated c = keeps_newest
 
 pub returns-clause-filled : goal.returns-clause-filled
-returns-clause-filled c = λ e r c st sound filling. instances_filled e sound r c st filling
+returns-clause-filled c = newest_filled

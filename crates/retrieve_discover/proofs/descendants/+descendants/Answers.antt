@@ -4,7 +4,7 @@ use Rattle.tree_model.specs.Tree.{at, children_of}
 use Rattle.tree_model.proofs.TreeLemmas.{at_has}
 use Rattle.retrieve_discover.specs.Contents.{may_retrieve, members, with_forest}
 use Rattle.retrieve_discover.specs.Descendants.{cut_forest, forest_size}
-use Rattle.retrieve_discover.proofs.ForestLemmas.{chain, ended, grown_by_kids, sizes, stopped, turned}
+use Rattle.retrieve_discover.proofs.ForestLemmas.{chain, ended, forest_of_by_kids, sizes, stopped, turned}
 use Rattle.retrieve_discover.proofs.PathLemmas.{above_child}
 use Rattle.retrieve_discover.proofs.WalkLemmas.{drop_none, kids_past}
 use Rattle.retrieve_discover.proofs.descendants.+descendants.Goals as goal
@@ -14,7 +14,7 @@ add_descendants-loop-k-init g t c =
     let look = c.args.look.now in
     let nodes = g.T.Tree.nodes look.tree.now in
     let show = members look.home.now nodes in
-    let all = sym (grown_by_kids (may_retrieve look.home.now nodes look.o.now) c.args.parent nodes c.requires.tree) in
+    let all = sym (forest_of_by_kids (may_retrieve look.home.now nodes look.o.now) c.args.parent nodes c.requires.tree) in
     record {
       shown = ap (λ f. with_forest show (cut_forest f c.args.left.now) c.args.members.now) all;
       left = ap (λ f. c.args.left.now - forest_size f) all;

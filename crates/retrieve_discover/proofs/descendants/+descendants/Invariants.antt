@@ -2,7 +2,7 @@ use Rattle.std.proofs.Common.{◌≡◌, ◌-◌, ◌^◌, ◌+◌, drop}
 use Rattle.m2m_value.specs.Node.{HaveTextKeys}
 use Rattle.tree_model.specs.Tree.{children_of}
 use Rattle.retrieve_discover.specs.Contents.{may_retrieve, members, with_forest}
-use Rattle.retrieve_discover.specs.Descendants.{cut_forest, grown, forest_size}
+use Rattle.retrieve_discover.specs.Descendants.{cut_forest, forest_of, forest_size}
 use Rattle.retrieve_discover.proofs.ForestLemmas.{chain}
 use Rattle.retrieve_discover.proofs.descendants.+descendants.Given as goal
 
@@ -15,8 +15,8 @@ invariant-add_descendants-loop-k g l =
     let show = members l.look.home.now nodes in
     let left = chain goes nodes (drop l.k (children_of l.parent nodes)) in
     record {
-      shown : with_forest show (cut_forest left l.left) l.members ≡ with_forest show (cut_forest (grown goes l.parent nodes) l.fn.left) l.fn.members;
-      left : l.left - forest_size left ≡ l.fn.left - forest_size (grown goes l.parent nodes);
+      shown : with_forest show (cut_forest left l.left) l.members ≡ with_forest show (cut_forest (forest_of goes l.parent nodes) l.fn.left) l.fn.members;
+      left : l.left - forest_size left ≡ l.fn.left - forest_size (forest_of goes l.parent nodes);
       keys : HaveTextKeys l.fn.members → HaveTextKeys l.members;
     }
 

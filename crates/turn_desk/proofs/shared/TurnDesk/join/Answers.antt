@@ -1,6 +1,6 @@
 use Rattle.std.proofs.Common.{rules, subst, sym, refl}
 use Rattle.atomic_table.specs.Table.{Allows}
-use Rattle.turn_desk.specs.Shared.{Kept, Tells}
+use Rattle.turn_desk.specs.Shared.{Kept, TellsOneLog}
 use Rattle.turn_desk.proofs.SharedLemmas.{joins, tells, joined-part, idle-joined}
 use Rattle.turn_desk.proofs.shared.TurnDesk.join.Goals as goal
 
@@ -16,7 +16,7 @@ load-requires g c =
     let seat = c.join_seat.new.seat in (
       search rules,
       search rules,
-      subst (λ m. Allows (Kept g.O.Object.step shared.key.value) shared.table_id.slots seat.id m 1 (λ n. n) (λ _. Tells g.O.Object.step m))
+      subst (λ m. Allows (Kept g.O.Object.step shared.key.value) shared.table_id.slots seat.id m 1 (λ n. n) (λ _. TellsOneLog g.O.Object.step m))
           (sym c.join_seat.ensures.2)
           (tells _ _ _ _ _ refl (joined-part c.args.a.seat.me.0 c.args.b.seat.me.0 c.requires.first.1.part c.requires.second.1.whole)),
     )
