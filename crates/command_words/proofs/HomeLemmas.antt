@@ -1,5 +1,5 @@
 -- Homes that are admitted, and homes that aren't.
-use Rattle.std.proofs.Common.{◌≡◌, ℕ, ℤ, List, Bool, true, false, Option, Some, None, is_some, refl, sym, ap, ◌∙◌, if◌then◌else◌}
+use Rattle.std.proofs.Common.{◌≡◌, ℕ, ℤ, List, Option, Some, None, is_some, refl, ap, ◌∙◌, if◌then◌else◌}
 use Rattle.resource_model.specs.Home.{HomeData, first_bad}
 use Rattle.command_words.specs.Command.{admitted}
 

@@ -3,7 +3,7 @@ use Rattle.std.proofs.Common.{◌≡◌, ◌≤◌, ◌+◌, ℕ, Bool, true, fa
 use Rattle.std.proofs.lemmas.List.{drop-drop, drop_all, drop-map}
 use Rattle.std.specs.Str.{bytes_eq}
 use Rattle.std.specs.Option.{option_map_or}
-use Rattle.command_words.specs.Options.{Choice, in_front, in_one_word, in_two_words, first_of, choices, value_of, are_options}
+use Rattle.command_words.specs.Options.{Choice, in_front, in_one_word, in_two_words, first_of, choices, option_value, are_options}
 use Rattle.command_words.specs.Command.{Command, takes, command_said, words_say}
 
 -- an option in one word stands first
@@ -33,20 +33,20 @@ in_front_some o (Some others) os e = (others, (refl, cc (e)))
 
 -- another option stands first
 pub value_behind : (name : List ℕ) (o : Choice) (others : List Choice) → bytes_eq o.name name ≡ false
-    → value_of name (o ∷ others) ≡ value_of name others
+    → option_value name (o ∷ others) ≡ option_value name others
 value_behind name o others e =
     ap (λ (b : Bool). option_map (λ (x : Choice). x.value) (if b then Some o else find (λ (x : Choice). bytes_eq x.name name) others)) e
 
 -- the option stands first
 pub value_here : (name : List ℕ) (o : Choice) (others : List Choice) → bytes_eq o.name name ≡ true
-    → value_of name (o ∷ others) ≡ Some o.value
+    → option_value name (o ∷ others) ≡ Some o.value
 value_here name o others e =
     ap (λ (b : Bool). option_map (λ (x : Choice). x.value) (if b then Some o else find (λ (x : Choice). bytes_eq x.name name) others)) e
 
 -- What an option of this name says is what those that are left say, where all are options.
 abbrev pub IsLeft : List ℕ → List (List ℕ) → ℕ → Type 0
 IsLeft name words at = (os : List Choice) → choices words ≡ Some os
-    → (left : List Choice) × ((choices (drop at words) ≡ Some left) × (value_of name os ≡ value_of name left))
+    → (left : List Choice) × ((choices (drop at words) ≡ Some left) × (option_value name os ≡ option_value name left))
 
 pub left_first : (name : List ℕ) (words : List (List ℕ)) → IsLeft name words 0
 left_first name words os e = (os, (e, refl))
@@ -61,22 +61,22 @@ left_next name words at taken o left front other os e =
       behind.0,
       (
         ap choices (sym (drop-drop taken at words)) ∙ behind.1.0,
-        here.1.1 ∙ ap (value_of name) behind.1.1 ∙ value_behind name o behind.0 other,
+        here.1.1 ∙ ap (option_value name) behind.1.1 ∙ value_behind name o behind.0 other,
       ),
     )
 
 -- the option stands first
 pub left_found : (name : List ℕ) (words : List (List ℕ)) (at taken : ℕ) (o : Choice) → IsLeft name words at
     → choices (drop at words) ≡ in_front (Some o) (choices (drop taken (drop at words)))
-    → bytes_eq o.name name ≡ true → (os : List Choice) → choices words ≡ Some os → Some o.value ≡ value_of name os
+    → bytes_eq o.name name ≡ true → (os : List Choice) → choices words ≡ Some os → Some o.value ≡ option_value name os
 left_found name words at taken o left front found os e =
     let here = left os e in
     let behind = in_front_some o (choices (drop taken (drop at words))) here.0 (sym front ∙ here.1.0) in
-    sym (here.1.1 ∙ ap (value_of name) behind.1.1 ∙ value_here name o behind.0 found)
+    sym (here.1.1 ∙ ap (option_value name) behind.1.1 ∙ value_here name o behind.0 found)
 
 -- what is left is no option
 pub left_other : (name : List ℕ) (words : List (List ℕ)) (at : ℕ) → IsLeft name words at → choices (drop at words) ≡ None
-    → (os : List Choice) → choices words ≡ Some os → None ≡ value_of name os
+    → (os : List Choice) → choices words ≡ Some os → None ≡ option_value name os
 left_other name words at left none os e =
     let here = left os e in
     let bad : None ≡ Some here.0 = sym none ∙ here.1.0 in
@@ -84,12 +84,12 @@ left_other name words at left none os e =
 
 -- nothing is left
 pub left_nothing : (name : List ℕ) (words : List (List ℕ)) (at : ℕ) → IsLeft name words at → length words ≤ at
-    → (os : List Choice) → choices words ≡ Some os → None ≡ value_of name os
+    → (os : List Choice) → choices words ≡ Some os → None ≡ option_value name os
 left_nothing name words at left end os e =
     let here = left os e in
     let empty : Some [] ≡ Some here.0 = ap choices (sym (drop_all at words end)) ∙ here.1.0 in
     let none : [] ≡ here.0 = cc (empty) in
-    ap (value_of name) none ∙ sym here.1.1
+    ap (option_value name) none ∙ sym here.1.1
 
 -- ---- the options of a command
 
@@ -101,7 +101,7 @@ pub first_not_taken : (takes : List ℕ → Bool) (o : Choice) (rest : Option (L
     → false ≡ all_options takes (in_front (Some o) rest)
 first_not_taken takes o None e = refl
 first_not_taken takes o (Some os) e =
-    ap (λ (b : Bool). b && (not (is_some (value_of o.name os)) && are_options takes os)) (sym e)
+    ap (λ (b : Bool). b && (not (is_some (option_value o.name os)) && are_options takes os)) (sym e)
 
 and_false : (b : Bool) → false ≡ b && false
 and_false true = refl
@@ -109,7 +109,7 @@ and_false false = refl
 
 -- the option that stands first stands once more
 pub first_twice : (takes : List ℕ → Bool) (o : Choice) (rest : Option (List Choice))
-    → ((os : List Choice) → rest ≡ Some os → is_some (value_of o.name os) ≡ true)
+    → ((os : List Choice) → rest ≡ Some os → is_some (option_value o.name os) ≡ true)
     → false ≡ all_options takes (in_front (Some o) rest)
 first_twice takes o None twice = refl
 first_twice takes o (Some os) twice = and_false (takes o.name)
@@ -117,12 +117,12 @@ first_twice takes o (Some os) twice = and_false (takes o.name)
 
 -- it stands once, and the others are options
 pub first_once : (takes : List ℕ → Bool) (o : Choice) (rest : Option (List Choice)) → takes o.name ≡ true
-    → ((os : List Choice) → rest ≡ Some os → is_some (value_of o.name os) ≡ false)
+    → ((os : List Choice) → rest ≡ Some os → is_some (option_value o.name os) ≡ false)
     → all_options takes rest ≡ all_options takes (in_front (Some o) rest)
 first_once takes o None e once = refl
 first_once takes o (Some os) e once =
     ap (λ (b : Bool). not b && are_options takes os) (sym (once os refl))
-    ∙ ap (λ (b : Bool). b && (not (is_some (value_of o.name os)) && are_options takes os)) (sym e)
+    ∙ ap (λ (b : Bool). b && (not (is_some (option_value o.name os)) && are_options takes os)) (sym e)
 
 -- what is said where all are options
 pub said_by : (name : List ℕ) (words : List (List ℕ)) (said : Option Command) → all_options (takes name) (choices words) ≡ true

@@ -7,7 +7,7 @@ use Rattle.std.specs.Str.{bytes_eq}
 use Rattle.m2m_names.specs.Ids.{number_written}
 use Rattle.m2m_names.specs.Name.{is_one_of}
 use Rattle.resource_model.specs.Home.{HomeData, default_home, first_bad}
-use Rattle.command_words.specs.Options.{Choice, choices, value_of, are_options}
+use Rattle.command_words.specs.Options.{Choice, choices, option_value, are_options}
 use Rattle.command_words.specs.declared.command.Command as declared_command
 use Rattle.command_words.specs.declared.command.Serving as declared_serving
 use Rattle.command_words.specs.declared.command.Task as declared_task
@@ -42,19 +42,19 @@ takes command name = is_one_of home_options name
 -- ---- what the options say
 
 -- the CSE type that an option says, or else the usual one
-abbrev pub type_said : Option (List ℕ) → Option ℤ
-type_said None = Some default_home.cst
-type_said (Some text) = option_map (λ n. pos n) (number_in text)
+abbrev pub cse_type_said : Option (List ℕ) → Option ℤ
+cse_type_said None = Some default_home.cst
+cse_type_said (Some text) = option_map (λ n. pos n) (number_in text)
 
 -- the home that options say: each part that none of them says is the usual one
 abbrev pub home_said : List Choice → Option HomeData
 home_said os = option_map (λ cst. record {
-  sp = unwrap_or (value_of (codes "--sp") os) default_home.sp;
-  csi = unwrap_or (value_of (codes "--id") os) default_home.csi;
-  base = unwrap_or (value_of (codes "--base") os) default_home.base;
+  sp = unwrap_or (option_value (codes "--sp") os) default_home.sp;
+  csi = unwrap_or (option_value (codes "--id") os) default_home.csi;
+  base = unwrap_or (option_value (codes "--base") os) default_home.base;
   cst = cst;
-  admin = unwrap_or (value_of (codes "--admin") os) default_home.admin;
-}) (type_said (value_of (codes "--type") os))
+  admin = unwrap_or (option_value (codes "--admin") os) default_home.admin;
+}) (cse_type_said (option_value (codes "--type") os))
 
 -- where a server listens, and how many connections it accepts, where that is limited
 pub record Serving : Type 0 where
@@ -82,9 +82,9 @@ accept_said (Some text) = option_map (λ n. Some n) (count_in text)
 -- the server that options say
 abbrev pub serving_said : List Choice → Option Serving
 serving_said os = option_map (λ accept. record {
-  listen = unwrap_or (value_of (codes "--listen") os) usual_address;
+  listen = unwrap_or (option_value (codes "--listen") os) usual_address;
   accept = accept;
-}) (accept_said (value_of (codes "--accept") os))
+}) (accept_said (option_value (codes "--accept") os))
 
 -- ---- the command
 

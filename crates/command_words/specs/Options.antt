@@ -50,11 +50,11 @@ choices (word ∷ next ∷ words) = first_of (in_one_word word) (in_two_words wo
     (choices (next ∷ words)) (choices words)
 
 -- what the first of these options with this name says
-abbrev pub value_of : List ℕ → List Choice → Option (List ℕ)
-value_of name os = option_map (λ o. o.value) (find (λ o. bytes_eq o.name name) os)
+abbrev pub option_value : List ℕ → List Choice → Option (List ℕ)
+option_value name os = option_map (λ o. o.value) (find (λ o. bytes_eq o.name name) os)
 
 -- a command takes each of these options, and none of them stands twice
 abbrev pub are_options : (List ℕ → Bool) → List Choice → Bool
 are_options takes [] = true
 are_options takes (o ∷ os) =
-    takes o.name && (not (is_some (value_of o.name os)) && are_options takes os)
+    takes o.name && (not (is_some (option_value o.name os)) && are_options takes os)

@@ -6,7 +6,7 @@ ghost use Rattle.m2m_names.specs.Name.{is_one_of};
 ghost use Rattle.command_words.specs.Command as spec;
 
 use crate::home::HomeWords;
-use crate::options::{are_options, value_of};
+use crate::options::{are_options, option_value};
 use m2m_names::read_digits;
 use resource_model::{ADMIN, BASE, CSE_ID, CSE_TYPE, SERVICE_PROVIDER};
 
@@ -76,8 +76,8 @@ fn number_in(text: &[u8]) -> Option<u64>
     read_digits(&text[zeros_len(text)..])
 }
 
-fn type_said(said: Option<&str>) -> Option<i64>
-    ensures { result ≡ spec.type_said (option_map (λ text. text.now) said.entry) }
+fn cse_type_said(said: Option<&str>) -> Option<i64>
+    ensures { result ≡ spec.cse_type_said (option_map (λ text. text.now) said.entry) }
 {
     match said {
         Some(text) => Some(number_in(text.as_bytes())? as i64),
@@ -90,13 +90,13 @@ fn home_said<'a>(options: &[&'a str]) -> Option<HomeWords<'a>>
     ensures { (os : List Choice) → choices (map (λ word. word.now) options.now) ≡ Some os
         → option_map spec.home_by result ≡ spec.home_said os }
 {
-    let cst = type_said(value_of("--type", options))?;
+    let cst = cse_type_said(option_value("--type", options))?;
     Some(HomeWords {
-        sp: value_of("--sp", options).unwrap_or(SERVICE_PROVIDER),
-        csi: value_of("--id", options).unwrap_or(CSE_ID),
-        base: value_of("--base", options).unwrap_or(BASE),
+        sp: option_value("--sp", options).unwrap_or(SERVICE_PROVIDER),
+        csi: option_value("--id", options).unwrap_or(CSE_ID),
+        base: option_value("--base", options).unwrap_or(BASE),
         cst,
-        admin: value_of("--admin", options).unwrap_or(ADMIN),
+        admin: option_value("--admin", options).unwrap_or(ADMIN),
     })
 }
 
@@ -126,9 +126,9 @@ fn serving_said<'a>(options: &[&'a str]) -> Option<Serving<'a>>
     ensures { (os : List Choice) → choices (map (λ word. word.now) options.now) ≡ Some os
         → option_map spec.serving_by result ≡ spec.serving_said os }
 {
-    let accept = accept_said(value_of("--accept", options))?;
+    let accept = accept_said(option_value("--accept", options))?;
     Some(Serving {
-        listen: value_of("--listen", options).unwrap_or(USUAL_ADDRESS),
+        listen: option_value("--listen", options).unwrap_or(USUAL_ADDRESS),
         accept,
     })
 }

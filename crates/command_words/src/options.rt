@@ -45,9 +45,9 @@ fn first_choice<'a>(words: &[&'a str]) -> Option<(&'a str, &'a str, usize)>
 }
 
 /// What the first option with this name says.
-pub(crate) fn value_of<'a>(name: &str, words: &[&'a str]) -> Option<&'a str>
+pub(crate) fn option_value<'a>(name: &str, words: &[&'a str]) -> Option<&'a str>
     ensures { (os : List Choice) → choices (map (λ word. word.now) words.now) ≡ Some os
-        → option_map (λ value. value.now) result ≡ spec.value_of name.now os }
+        → option_map (λ value. value.now) result ≡ spec.option_value name.now os }
 {
     let mut at = 0;
     while at < words.len() {
@@ -76,7 +76,7 @@ pub(crate) fn are_options(command: &str, words: &[&str]) -> bool
     if !takes_option(command, name) {
         return false;
     }
-    if value_of(name, behind).is_some() {
+    if option_value(name, behind).is_some() {
         return false;
     }
     are_options(command, behind)

@@ -203,10 +203,7 @@ fn told_change(alloc: Global, change: Change<'_>) -> Result<String, OutOfMemory>
     }
 }
 
-fn told_changes<T: Tree>(
-    alloc: Global,
-    changes: Changes<'_, T>,
-) -> Result<Vec<u8>, OutOfMemory> {
+fn told_changes<T: Tree>(alloc: Global, changes: Changes<'_, T>) -> Result<Vec<u8>, OutOfMemory> {
     let mut out = Vec::new(alloc);
     for change in changes {
         out.extend_from_slice(told_change(alloc, change)?.as_bytes())?;

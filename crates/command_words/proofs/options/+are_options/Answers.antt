@@ -1,4 +1,4 @@
-use Rattle.std.proofs.Common.{◌≡◌, ◌-◌, length, take, drop, is_some, sym, ap, ◌∙◌, arith}
+use Rattle.std.proofs.Common.{◌-◌, length, take, drop, is_some, sym, ap, ◌∙◌, arith}
 use Rattle.std.proofs.lemmas.Grind.{common_steps}
 use Rattle.command_words.specs.Options.{choice, choices}
 use Rattle.command_words.specs.Command.{takes}
@@ -17,7 +17,7 @@ returns-then-is_some t c =
     c.in-Some.taken (grind (arith, common_steps)) in
     first_twice (takes c.args.command.now) (choice c.in-Some.name.now c.in-Some.field-0-1.now)
     (choices (drop c.in-Some.taken (texts c.args.words.now)))
-    (λ os e. ap is_some (sym (c.value_of.ensures os (behind ∙ e))) ∙ some_text c.value_of.result ∙ sym c.if-is_some.ensures)
+    (λ os e. ap is_some (sym (c.option_value.ensures os (behind ∙ e))) ∙ some_text c.option_value.result ∙ sym c.if-is_some.ensures)
     ∙ ap (all_options (takes c.args.command.now)) (sym c.in-Some.ensures.value)
 
 pub returns : goal.returns
@@ -27,5 +27,5 @@ returns t c =
     c.are_options.ensures ∙ ap (all_options (takes c.args.command.now)) behind
     ∙ first_once (takes c.args.command.now) (choice c.in-Some.name.now c.in-Some.field-0-1.now)
     (choices (drop c.in-Some.taken (texts c.args.words.now))) (sym c.if-not-takes_option.ensures)
-    (λ os e. ap is_some (sym (c.value_of.ensures os (behind ∙ e))) ∙ some_text c.value_of.result ∙ sym c.if-is_some.ensures)
+    (λ os e. ap is_some (sym (c.option_value.ensures os (behind ∙ e))) ∙ some_text c.option_value.result ∙ sym c.if-is_some.ensures)
     ∙ ap (all_options (takes c.args.command.now)) (sym c.in-Some.ensures.value)

@@ -1,4 +1,4 @@
-use Rattle.std.proofs.Common.{◌≡◌, ℕ, Err, Some, sym, ap, ◌∙◌, w64, rules}
+use Rattle.std.proofs.Common.{Err, sym, ap, ◌∙◌, w64, rules}
 use Rattle.std.proofs.lemmas.Int.{to_z-of_z}
 use Rattle.command_words.specs.Command.{home_by}
 use Rattle.command_words.proofs.HomeLemmas.{not_admitted, all_admitted, same_home}

@@ -1,8 +1,8 @@
-use Rattle.std.proofs.Common.{◌≡◌, ◌≤◌, ◌+◌, ◌-◌, ℕ, length, take, drop, map, option_map, sym, ap, ◌∙◌, rules, arith}
+use Rattle.std.proofs.Common.{◌-◌, length, take, drop, option_map, sym, ap, ◌∙◌, arith}
 use Rattle.std.proofs.lemmas.Grind.{common_steps}
 use Rattle.command_words.specs.Options.{choice}
 use Rattle.command_words.proofs.OptionLemmas.{texts, left_first, left_next, left_found, left_other, left_nothing, front_other, front_option}
-use Rattle.command_words.proofs.options.value_of.Goals as goal
+use Rattle.command_words.proofs.options.option_value.Goals as goal
 
 pub loop-at-init : goal.loop-at-init
 loop-at-init c = (omega arith, left_first c.args.name.now (texts c.args.words.now))

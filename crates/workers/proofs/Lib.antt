@@ -1,0 +1,3 @@
+mod GateLemmas
+mod SharesLemmas
+mod Sent

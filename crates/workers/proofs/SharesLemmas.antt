@@ -1,0 +1,309 @@
+-- Parts of seats that are split and joined, and what seats have seen.
+use Rattle.std.proofs.Common.{◌≡◌, ℕ, suc, ◌+◌, ◌*◌, ◌/◌, ◌<◌, ◌≤◌, nat_lt, true, false, List, [], ◌∷◌, ◌++◌, length, map, slice_index_or, take, drop, if◌then◌else◌, refl, sym, ap, ◌∙◌, subst, ⊎_elim, append_assoc, append-nil, length-append, mul_assoc, mul_comm, mul_right_comm, add-mul, arith}
+use Rattle.std.proofs.Math.Nat.{mul-div_cancel}
+use Rattle.std.proofs.lemmas.Bool.{le-ltb}
+use Rattle.std.proofs.lemmas.List.{map-append}
+use Rattle.turn_desk.specs.Entries.{Marked, all_entries}
+use Rattle.atomic_table.specs.Seated.{TableId}
+use Rattle.turn_desk.specs.declared.shared.DeskSeat.{DeskSeat}
+use Rattle.turn_desk.specs.declared.view.View.{View}
+use Rattle.turn_desk.specs.Seats.{IsSeated, known_to}
+use Rattle.turn_desk.specs.Shared.{Begins, AreInLine, longer, total, Weighed, halved, sibling, AreJoined, Grows, own_places}
+use Rattle.turn_desk.specs.Growing.{grows-nothing, grows-on}
+use Rattle.turn_desk.proofs.SharedLemmas.{total-snoc, total-double, weighed-double, weighed-snoc}
+use Rattle.std.specs.declared.result.Result.{Result}
+use Rattle.std.specs.declared.result.Result.TheVariants.{Ok, Err}
+use Rattle.std.specs.Prelude.{IfOk, IfErr}
+use Rattle.workers.specs.declared.sharing.Job.{Job}
+use Rattle.workers.specs.Jobs.{known_to_all}
+use Rattle.workers.specs.Shares.{HasGoneOn, HasPartOf, AddUpTo, HasGrown, HaveGrown, Carries, ComesOf, HasComeBack}
+
+-- ---- what was seen
+
+module _ {A : Type 0} where
+  begins-self : (xs : List A) → Begins xs xs
+  begins-self xs = ([], sym (append-nil xs))
+
+  begins-on : (xs ys zs : List A) → Begins ys xs → Begins zs ys → Begins zs xs
+  begins-on xs ys zs p q = (p.0 ++ q.0, q.1 ∙ ap (λ l. l ++ q.0) p.1 ∙ append_assoc xs p.0 q.0)
+
+  -- the longer of two in line begins with the first
+  begins-joined : (xs ys : List A) → AreInLine xs ys → Begins (longer xs ys) xs
+  begins-joined xs ys line =
+      ⊎_elim
+      (λ p.
+      let n : length xs ≡ length ys + length p.0 = ap length p.1 ∙ length-append ys p.0 in
+      let l : length ys ≤ length xs = omega (arith, n) in
+      subst (λ b. Begins (if b then ys else xs) xs) (sym (le-ltb (length xs) (length ys) l)) (begins-self xs))
+      (λ p. elim (nat_lt (length xs) (length ys)) as (λ b. Begins (if b then ys else xs) xs) [ true ↦ p | false ↦ begins-self xs ])
+      line
+
+module _ {X E R : Type 0} where
+  pub on_self : (v : View X E R) → HasGoneOn v v
+  on_self v = record { opening = refl; seen = begins-self v.seen; own = begins-self v.own }
+
+  pub on_on : (u v w : View X E R) → HasGoneOn u v → HasGoneOn v w → HasGoneOn u w
+  on_on u v w p q = record {
+    opening = q.opening ∙ p.opening;
+    seen = begins-on u.seen v.seen w.seen p.seen q.seen;
+    own = begins-on u.own v.own w.own p.own q.own;
+  }
+
+  pub on_halved : (v w : View X E R) → w ≡ halved v → HasGoneOn v w
+  on_halved v w e = subst (λ u. HasGoneOn v u) (sym e)
+      (record { opening = refl; seen = begins-self v.seen; own = begins-self v.own })
+
+  -- a seat that went on and was split
+  pub on_split : {v u w : View X E R} → HasGoneOn v u → w ≡ halved u → HasGoneOn v w
+  on_split {v} {u} {w} on e = on_on v u w on (on_halved u w e)
+
+  pub on_grown : (v w : View X E R) (more : List (Marked E R)) → Grows v more w → HasGoneOn v w
+  on_grown v w more g = record {
+    opening = g.opening;
+    seen = (all_entries more, g.seen);
+    own = (own_places (length v.seen) more, g.own);
+  }
+
+  -- a seat that did not ask
+  pub grown_self : (v : View X E R) → HasGrown v v
+  grown_self v = ([], grows-nothing v)
+
+  -- a seat that asked, and asked again
+  pub grown_on : {u v w : View X E R} → HasGrown u v → HasGrown v w → HasGrown u w
+  grown_on {u} {v} {w} p q = (p.0 ++ q.0, grows-on u v w p.0 q.0 p.1 q.1)
+
+  pub on_joined : (v w both : View X E R) → AreJoined v w both → HasGoneOn v both
+  on_joined v w both j = record {
+    opening = j.opening;
+    seen = subst (λ l. Begins l v.seen) (sym j.seen) (begins-joined v.seen w.seen j.line);
+    own = (w.own, j.own);
+  }
+
+-- ---- parts
+
+-- two fractions with the denominators c and d, added up
+cross : (a b c d number n m : ℕ) → a * number ≡ n * c → b * number ≡ m * d → (a * d + b * c) * number ≡ (n + m) * (c * d)
+cross a b c d number n m h g =
+    let p : a * d * number ≡ n * (c * d) = mul_right_comm a d number ∙ ap (λ x. x * d) h ∙ mul_assoc n c d in
+    let q : b * c * number ≡ m * (c * d) =
+    mul_right_comm b c number ∙ ap (λ x. x * c) g ∙ mul_assoc m d c ∙ ap (λ x. m * x) (mul_comm d c) in
+    add-mul (a * d) (b * c) number ∙ ap (λ x. x + b * c * number) p ∙ ap (λ x. n * (c * d) + x) q ∙ sym (add-mul n m (c * d))
+
+-- two that are equal so many times, which isn't never, are equal
+cancels : (a b number : ℕ) → 0 < number → a * number ≡ b * number → a ≡ b
+cancels a b number pos e = sym (mul-div_cancel a pos) ∙ ap (λ x. x / number) e ∙ mul-div_cancel b pos
+
+module _ {X E R : Type 0} where
+  -- one seat has its own part
+  pub add_alone : (v : View X E R) → 0 < v.whole → AddUpTo v (v ∷ [])
+  add_alone v pos = record {
+    weights = v.share ∷ [];
+    number = v.whole;
+    positive = pos;
+    weighed = (refl, tt);
+    all = ap (λ x. x * v.whole) (let e : v.share ≡ v.share + 0 = omega arith in e);
+  }
+
+  split-off : (v u : View X E R) (views : List (View X E R)) (number : ℕ) (weights : List ℕ)
+      → 0 < number → Weighed number (u ∷ views) weights → v.share * number ≡ total (λ n. n) weights * v.whole
+      → AddUpTo v (halved u ∷ (views ++ sibling u ∷ []))
+  split-off v u views number [] pos h all = absurd h
+  split-off v u views number (n ∷ ns) pos h all =
+      let twice : List ℕ = map (λ m. m * 2) ns in
+      let q : u.share * (number * 2) ≡ n * (u.whole * 2) = (let k = h.0 in grind (arith, k)) in
+      let d = total-double ns in
+      let s = total-snoc (λ m. m) twice n in
+      let t : total (λ m. m) (n ∷ (twice ++ n ∷ [])) ≡ (n + total (λ m. m) ns) * 2 = omega (arith, d, s) in
+      let a : v.share * (number * 2) ≡ (n + total (λ m. m) ns) * 2 * v.whole = grind (arith, all) in
+      record {
+        weights = n ∷ (twice ++ n ∷ []);
+        number = number * 2;
+        positive = omega (arith, pos);
+        weighed = (q, weighed-snoc (number * 2) views twice n (sibling u) q (weighed-double number views ns h.1));
+        all = a ∙ ap (λ x. x * v.whole) (sym t);
+      }
+
+  -- a seat is split into two
+  pub add_split : (v u kept other : View X E R) (views : List (View X E R)) → kept ≡ halved u → other ≡ sibling u
+      → AddUpTo v (u ∷ views) → AddUpTo v (kept ∷ (views ++ other ∷ []))
+  add_split v u kept other views p q a =
+      subst (λ k. AddUpTo v (k ∷ (views ++ other ∷ []))) (sym p)
+      (subst (λ o. AddUpTo v (halved u ∷ (views ++ o ∷ []))) (sym q)
+      (split-off v u views a.number a.weights a.positive a.weighed a.all))
+
+  -- a seat is split, and the other half is one job more
+  pub jobs_more : {J : Type 0} {v u kept : View X E R} (knows : J → View X E R) (jobs new : List J) (job : J)
+      → new ≡ jobs ++ job ∷ [] → AddUpTo v (u ∷ map knows jobs) → kept ≡ halved u → knows job ≡ sibling u
+      → AddUpTo v (kept ∷ map knows new)
+  jobs_more {v = v} {u = u} {kept = kept} knows jobs new job e a p q =
+      subst (λ l. AddUpTo v (kept ∷ map knows l)) (sym e)
+      (subst (λ l. AddUpTo v (kept ∷ l)) (sym (map-append knows jobs (job ∷ [])))
+      (add_split v u kept (knows job) (map knows jobs) p q a))
+
+  join-on : (v one two both : View X E R) (views : List (View X E R)) (number : ℕ) (weights : List ℕ)
+      → AreJoined one two both → 0 < number → Weighed number (one ∷ two ∷ views) weights
+      → v.share * number ≡ total (λ n. n) weights * v.whole → AddUpTo v (both ∷ views)
+  join-on v one two both views number [] j pos h all = absurd h
+  join-on v one two both views number (n ∷ []) j pos h all = absurd h.1
+  join-on v one two both views number (n ∷ m ∷ ns) j pos h all =
+      let c = cross one.share two.share one.whole two.whole number n m h.0 h.1.0 in
+      record {
+        weights = (n + m) ∷ ns;
+        number = number;
+        positive = pos;
+        weighed = (ap (λ x. x * number) j.share ∙ c ∙ ap (λ x. (n + m) * x) (sym j.whole), h.1.1);
+        all = all ∙ ap (λ x. x * v.whole)
+            (let e : n + (m + total (λ k. k) ns) ≡ n + m + total (λ k. k) ns = omega arith in e);
+      }
+
+  -- two seats are joined
+  pub add_join : (v one two both : View X E R) (views : List (View X E R)) → AreJoined one two both
+      → AddUpTo v (one ∷ two ∷ views) → AddUpTo v (both ∷ views)
+  add_join v one two both views j a = join-on v one two both views a.number a.weights j a.positive a.weighed a.all
+
+  weighed-grown : (number : ℕ) (vs ws : List (View X E R)) (weights : List ℕ) → HaveGrown vs ws
+      → Weighed number vs weights → Weighed number ws weights
+  weighed-grown number [] [] weights g h = h
+  weighed-grown number [] (w ∷ ws) weights g h = absurd g
+  weighed-grown number (v ∷ vs) [] weights g h = absurd g
+  weighed-grown number (v ∷ vs) (w ∷ ws) [] g h = absurd h
+  weighed-grown number (v ∷ vs) (w ∷ ws) (n ∷ ns) g h = (
+    ap (λ k. k * number) g.0.1.share ∙ h.0 ∙ ap (λ k. n * k) (sym g.0.1.whole),
+    weighed-grown number vs ws ns g.1 h.1,
+  )
+
+  weighed-behind : (number : ℕ) (u : View X E R) (vs ws : List (View X E R)) (weights : List ℕ)
+      → HaveGrown vs ws → Weighed number (u ∷ vs) weights → Weighed number (u ∷ ws) weights
+  weighed-behind number u vs ws [] g h = absurd h
+  weighed-behind number u vs ws (n ∷ ns) g h = (h.0, weighed-grown number vs ws ns g h.1)
+
+  -- seats that asked add up as before
+  pub carries_on : {u w : View X E R} {vs ws : List (View X E R)} → HaveGrown vs ws
+      → Carries (u ∷ ws) (w ∷ []) → Carries (u ∷ vs) (w ∷ [])
+  carries_on {u} {w} {vs} {ws} grown carries = λ v a. carries v (record {
+    weights = a.weights;
+    number = a.number;
+    positive = a.positive;
+    weighed = weighed-behind a.number u vs ws a.weights grown a.weighed;
+    all = a.all;
+  })
+
+  add_grown : (v w later : View X E R) → HasGrown w later → AddUpTo v (w ∷ []) → AddUpTo v (later ∷ [])
+  add_grown v w later grew a = record {
+    weights = a.weights;
+    number = a.number;
+    positive = a.positive;
+    weighed = weighed-grown a.number (w ∷ []) (later ∷ []) a.weights (grew, tt) a.weighed;
+    all = a.all;
+  }
+
+  last-part : (v u : View X E R) (number : ℕ) (weights : List ℕ) → 0 < number → Weighed number (u ∷ []) weights
+      → v.share * number ≡ total (λ n. n) weights * v.whole → HasPartOf v u
+  last-part v u number [] pos h all = absurd h
+  last-part v u number (n ∷ m ∷ ns) pos h all = absurd h.1
+  last-part v u number (n ∷ []) pos h all =
+      let w : n + 0 ≡ n = omega arith in
+      let a : v.share * number ≡ n * v.whole = all ∙ ap (λ x. x * v.whole) w in
+      cancels (u.share * v.whole) (v.share * u.whole) number pos
+      (mul_right_comm u.share v.whole number ∙ ap (λ x. x * v.whole) h.0 ∙ mul_right_comm n u.whole v.whole
+      ∙ ap (λ x. x * u.whole) (sym a) ∙ mul_right_comm v.share number u.whole)
+
+  -- one seat that has all has the part
+  pub add_last : (v u : View X E R) → AddUpTo v (u ∷ []) → HasPartOf v u
+  add_last v u a = last-part v u a.number a.weights a.positive a.weighed a.all
+
+-- a list of no length has nothing
+pub nothing_left : {A : Type 0} (xs : List A) → length xs ≡ 0 → xs ≡ []
+nothing_left [] e = refl
+nothing_left (x ∷ xs) e = absurd (omega arith)
+
+-- ---- a seat that comes back
+
+module _ {X E R : Type 0} {step : ℕ → E → X → R → X → Type 0} {desk : TableId} where
+  -- those that were split off asked, and were joined
+  pub comes_joined : {kept : View X E R} {before after : List (View X E R)} {seat : DeskSeat X E R}
+      → IsSeated step desk seat → HasGoneOn kept (known_to seat) → HaveGrown before after
+      → Carries (kept ∷ after) (known_to seat ∷ []) → ComesOf step desk kept before seat
+  comes_joined seated on grown parts = record {
+    seated = seated;
+    on = on;
+    parts = carries_on grown parts;
+  }
+
+  -- and then it asked
+  pub comes_on : {kept : View X E R} {others : List (View X E R)} {seat later : DeskSeat X E R}
+      → ComesOf step desk kept others seat → IsSeated step desk later
+      → HasGrown (known_to seat) (known_to later) → ComesOf step desk kept others later
+  comes_on {kept = kept} {others = others} {seat = seat} {later = later} comes seated grew = record {
+    seated = seated;
+    on = on_on kept (known_to seat) (known_to later) comes.on
+        (on_grown (known_to seat) (known_to later) grew.0 grew.1);
+    parts = λ v a. add_grown v (known_to seat) (known_to later) grew (comes.parts v a);
+  }
+
+  -- it came of one that was lent
+  pub come_back : {lent kept : View X E R} {others : List (View X E R)} {back : DeskSeat X E R}
+      → HasGoneOn lent kept → AddUpTo lent (kept ∷ others) → ComesOf step desk kept others back
+      → HasComeBack step desk lent back
+  come_back {lent = lent} {kept = kept} {back = back} split parts comes = record {
+    seated = comes.seated;
+    on = on_on lent kept (known_to back) split comes.on;
+    part = add_last lent (known_to back) (comes.parts lent parts);
+  }
+
+module _ {X E R : Type 0} (step : ℕ → E → X → R → X → Type 0) (desk : TableId) where
+  pub back_if_ok : {A Q : Type 0} {lent kept : View X E R} {others : List (View X E R)}
+      (r : Result (DeskSeat X E R × A) Q) → HasGoneOn lent kept → AddUpTo lent (kept ∷ others)
+      → IfOk r (λ p. ComesOf step desk kept others p.0) → IfOk r (λ p. HasComeBack step desk lent p.0)
+  back_if_ok (Ok p) split parts comes = come_back split parts comes
+  back_if_ok (Err e) split parts comes = tt
+
+  pub back_if_err : {A D F : Type 0} {lent kept : View X E R} {others : List (View X E R)}
+      (fact : DeskSeat X E R × D × F → Type 0) (r : Result A (DeskSeat X E R × D × F))
+      → HasGoneOn lent kept → AddUpTo lent (kept ∷ others)
+      → IfErr r (λ e. ComesOf step desk kept others e.0)
+      → IfErr r (λ e. fact e → HasComeBack step desk lent e.0)
+  back_if_err fact (Ok p) split parts comes = tt
+  back_if_err fact (Err e) split parts comes = λ _. come_back split parts comes
+
+-- a list that was written over by one of its length is that one
+written_over : {A : Type 0} (xs ys : List A) → length ys ≡ length xs
+    → xs ≡ take (length xs) (xs ++ drop (length xs) ys)
+written_over [] ys e = refl
+written_over (x ∷ xs) [] e = absurd (omega (arith, e))
+written_over {A} (x ∷ xs) (y ∷ ys) e = ap (λ (l : List A). x ∷ l) (written_over xs ys (omega (arith, e)))
+
+pub written_whole : {A : Type 0} (n : ℕ) (xs ys : List A) → length xs ≡ n → length ys ≡ n
+    → xs ≡ take n (xs ++ drop (length xs) ys)
+written_whole {A} n xs ys e f =
+    subst (λ (k : ℕ). xs ≡ take k (xs ++ drop (length xs) ys)) e (written_over xs ys (omega (arith, e, f)))
+
+-- ---- seats of jobs
+
+module _ {X B E R : Type 0} where
+  -- seats that are the same grew alike
+  pub grown_alike : {a b x y : Job X B E R} → a ≡ x → b ≡ y
+      → HasGrown (known_to a.seat) (known_to b.seat) → HasGrown (known_to x.seat) (known_to y.seat)
+  grown_alike {a = a} {y = y} p q h =
+      subst (λ (j : Job X B E R). HasGrown (known_to j.seat) (known_to y.seat)) p
+      (subst (λ (k : Job X B E R). HasGrown (known_to a.seat) (known_to k.seat)) q h)
+
+  -- each of them asked
+  pub grown_each : (js ks : List (Job X B E R)) → length ks ≡ length js
+      → ((i : ℕ) (d : Job X B E R) → i < length js
+      → HasGrown (known_to (slice_index_or js i d).seat) (known_to (slice_index_or ks i d).seat))
+      → HaveGrown (known_to_all js) (known_to_all ks)
+  grown_each [] [] len each = tt
+  grown_each [] (k ∷ ks) len each = absurd (omega (arith, len))
+  grown_each (j ∷ js) [] len each = absurd (omega (arith, len))
+  grown_each (j ∷ js) (k ∷ ks) len each = (
+    each 0 j (omega arith),
+    grown_each js ks (omega (arith, len)) (λ i d l. each (suc i) d (omega (arith, l))),
+  )
+
+  -- the same lists grew alike
+  pub grown_as : {js mid later ks : List (Job X B E R)} → mid ≡ js → later ≡ ks
+      → HaveGrown (known_to_all mid) (known_to_all later) → HaveGrown (known_to_all js) (known_to_all ks)
+  grown_as {js = js} {later = later} p q h =
+      subst (λ (l : List (Job X B E R)). HaveGrown (known_to_all js) (known_to_all l)) q
+      (subst (λ (l : List (Job X B E R)). HaveGrown (known_to_all l) (known_to_all later)) p h)

@@ -1,0 +1,7 @@
+use Rattle.turn_desk.specs.Seats.{IsSeated, known_to}
+use Rattle.workers.specs.Shares.{HasGrown}
+use Rattle.workers.proofs.serving.serve_rest.Given as goal
+
+abbrev pub invariant-loop : goal.invariant-loop
+invariant-loop g l =
+    IsSeated g.O.Object.step l.desk.table.shared.table_id l.seat × HasGrown (known_to l.initial.seat) (known_to l.seat)

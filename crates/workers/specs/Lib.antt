@@ -1,0 +1,3 @@
+pub mod Gate
+pub mod Shares
+pub mod Jobs

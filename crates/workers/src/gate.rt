@@ -1,0 +1,141 @@
+//! A door that workers share.
+ghost use Rattle.std.specs.Prelude.{◌≡◌, ℕ, Option, None, Some, IfNone, IfOk, IfErr};
+ghost use Rattle.workers.specs.declared.gate.Ending.TheVariants.{Fault};
+ghost use Rattle.workers.specs.Gate.{DoorTold, door_tells, silent_door, HasEnded, IsOneLess};
+ghost use Rattle.workers.specs.Gate.{Takes, ServesDoor};
+
+use m2m_io::Door;
+use std::marker::{Brand, Model, PhantomData};
+
+/// What a door told before workers shared it, and how many connections are to be accepted.
+pub trait Entrance {
+    ghost start: { DoorTold };
+
+    ghost accept: { Option ℕ };
+}
+
+impl Entrance for Brand {
+    ghost start = { silent_door };
+
+    ghost accept = { None };
+}
+
+/// Why a door gives no more connections.
+#[derive(Clone, Copy, Debug, PartialEq, Eq)]
+pub enum Ending {
+    /// It gave None.
+    Over,
+    /// As many connections were taken as were to be accepted.
+    Enough,
+    /// It failed.
+    Fault,
+}
+
+/// A door, how many connections it may still give, where that is limited, and why it gives no more.
+/// It is the door that told `J::start`, and `J::accept` connections are to be accepted.
+pub struct Gate<D: Door, J: Entrance> {
+    door: D,
+    left: Option<u64>,
+    ending: Option<Ending>,
+    of: PhantomData<J>,
+}
+
+impl<D: Door, J: Entrance> Model for Gate<D, J> {
+    ghost use Rattle.workers.specs.Gate.{GateData, door_tells, Guards};
+
+    ghost Value = { GateData D };
+
+    ghost view = { λ g. record { door = g.door; left = g.left; ending = g.ending } };
+
+    ghost invariant = { λ g. Guards J.accept J.start
+        (door_tells D.opened D.given D.ended D.faults g.door) g.left g.ending };
+}
+
+impl<D: Door, J: Entrance> Gate<D, J> {
+    /// A door from which nothing was taken yet.
+    pub fn new(door: D, accept: Option<u64>) -> Gate<D, J>
+        requires start { door_tells D.opened D.given D.ended D.faults door ≡ J.start }
+        requires accept { accept ≡ J.accept }
+        ensures { result.door ≡ door }
+    {
+        Gate {
+            door,
+            left: accept,
+            ending: None,
+            of: PhantomData,
+        }
+    }
+
+    // Takes a connection, so that so many may still be taken.
+    fn take(&mut self, left: Option<u64>) -> Option<D::Conn>
+        requires going { self.old.ending ≡ None }
+        requires less { IsOneLess self.old.left left }
+        ensures { IfNone result (HasEnded self.new.ending) }
+    {
+        match self.door.next() {
+            Ok(Some(conn)) => {
+                self.left = left;
+                Some(conn)
+            }
+            Ok(None) => {
+                self.ending = Some(Ending::Over);
+                None
+            }
+            Err(_) => {
+                self.ending = Some(Ending::Fault);
+                None
+            }
+        }
+    }
+
+    /// The next connection; None where the door gives no more, which isn't asked again then.
+    pub fn next(&mut self) -> Option<D::Conn>
+        ensures { IfNone result (HasEnded self.new.ending) }
+    {
+        if self.ending.is_some() {
+            return None;
+        }
+        match self.left {
+            None => self.take(None),
+            Some(0) => {
+                self.ending = Some(Ending::Enough);
+                None
+            }
+            Some(left) => self.take(Some(left - 1)),
+        }
+    }
+
+    /// The door, and why it gives no more connections, if that is so.
+    #[tactic(auto, using(crate::proofs::GateLemmas::takes))]
+    pub fn into_door(self) -> (D, Option<Ending>)
+        ensures ending { result.1 ≡ self.ending }
+        ensures takes { Takes J.accept result.1 J.start
+            (door_tells D.opened D.given D.ended D.faults result.0) }
+    {
+        let Gate {
+            door,
+            left: _,
+            ending,
+            of: _,
+        } = self;
+        (door, ending)
+    }
+
+    /// The door, which gives no more connections; at `Err` it failed.
+    #[tactic(auto, using(crate::proofs::GateLemmas::serves_over, crate::proofs::GateLemmas::serves_enough, crate::proofs::GateLemmas::takes_as))]
+    pub fn into_served(self) -> Result<D, D>
+        requires { HasEnded self.ending }
+        ensures ok { IfOk result (λ door. ServesDoor J.accept J.start
+            (door_tells D.opened D.given D.ended D.faults door)) }
+        ensures err { IfErr result (λ door. Takes J.accept (Some Fault) J.start
+            (door_tells D.opened D.given D.ended D.faults door)) }
+    {
+        let (door, ending) = self.into_door();
+        match ending {
+            Some(Ending::Over) => Ok(door),
+            Some(Ending::Enough) => Ok(door),
+            Some(Ending::Fault) => Err(door),
+            None => unreachable!(),
+        }
+    }
+}
