@@ -140,8 +140,8 @@ told_no_authority text wrong = no_authority_by text (is_authority text) refl wro
 
 pub refused_authority : {E : Type 0} (text : List ℕ) (error : UriError) (r : Result Bool E) → IfOk r (λ is. is ≡ false) → OnOk r (¬ (IsOutOfMemory error))
     → UnlessOutOfMemory error (¬ (IsAuthority text)) → IfOk r (λ is. is ≡ is_authority text)
-refused_authority text error (Ok is) no told wrong = no ∙ told_no_authority text (wrong told)
-refused_authority text error (Err e) no told wrong = tt
+refused_authority text error (Ok is) denied told wrong = denied ∙ told_no_authority text (wrong told)
+refused_authority text error (Err e) denied told wrong = tt
 
 pub authorities_are_of_uris : AuthoritiesAreOfUris
 authorities_are_of_uris text = (authority_from text, authority_to text)
