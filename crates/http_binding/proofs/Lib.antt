@@ -1,3 +1,4 @@
+pub mod AuthorityLemmas
 pub mod BackLemmas
 pub mod JoinLemmas
 pub mod LawLemmas

@@ -1,14 +1,17 @@
 -- The target of a request: its path and its query (RFC 9112, section 3.2), and the address that a
 -- path is (TS-0009, 6.2.2).
-use Rattle.std.specs.Prelude.{ℕ, ◌==◌, nat_eq, nat_lt, nat_le, Bool, true, false, ◌&&◌, ◌||◌, List}
-use Rattle.std.specs.Prelude.{[], ◌∷◌, length, drop, codes, Option, Some, None, if◌then◌else◌}
-use Rattle.std.specs.Prelude.{unwrap_or}
+use Rattle.std.specs.Prelude.{ℕ, ◌+◌, ◌-◌, ◌==◌, nat_eq, nat_lt, nat_le, Bool, true, false, not}
+use Rattle.std.specs.Prelude.{◌&&◌, ◌||◌, List, [], ◌∷◌, ◌++◌, length, take, drop, slice_index, codes}
+use Rattle.std.specs.Prelude.{Option, Some, None, if◌then◌else◌, unwrap_or}
 use Rattle.std.specs.List.{list_all, starts_with}
 use Rattle.std.specs.Option.{option_map_or}
 use Rattle.std.specs.Str.{is_utf8}
-use Rattle.http_uri.specs.ByteClasses.{slash, percent_sign, question_mark, is_path_byte}
-use Rattle.http_uri.specs.ByteClasses.{is_query_byte, split_once_front, split_once_back}
-use Rattle.http_uri.specs.Grammar.{path_of, query_of, without_fragment}
+use Rattle.http_uri.specs.ByteClasses.{slash, percent_sign, question_mark, at_sign, colon}
+use Rattle.http_uri.specs.ByteClasses.{left_bracket, right_bracket, is_path_byte, is_query_byte}
+use Rattle.http_uri.specs.ByteClasses.{is_authority_byte, is_delimiter, count_of}
+use Rattle.http_uri.specs.ByteClasses.{split_once_front, split_once_back}
+use Rattle.http_uri.specs.Grammar.{path_of, query_of, without_fragment, last_piece, scheme_len}
+use Rattle.http_uri.specs.Grammar.{authority_len}
 use Rattle.m2m_names.specs.Name.{is_filled}
 use Rattle.primitive_json.specs.Kinds.{target_limit}
 
@@ -39,10 +42,78 @@ is_origin_form target =
     starts_with nat_eq target (codes "/") && nat_le (length target) uri_limit
     && is_path_and_query (without_fragment target)
 
+-- ---- absolute-form
+
+-- what stands behind a scheme and `://`
+abbrev pub hierarchy_of : List ℕ → List ℕ
+hierarchy_of text = drop (scheme_len text + 3) text
+
+-- the authority, up to the next `/`, `?` or `#`
+abbrev pub authority_of : List ℕ → List ℕ
+authority_of text = take (authority_len (hierarchy_of text)) (hierarchy_of text)
+
+-- and what stands behind it
+abbrev pub tail_of : List ℕ → List ℕ
+tail_of text = drop (authority_len (hierarchy_of text)) (hierarchy_of text)
+
+-- the most bytes that a scheme has
+abbrev pub scheme_limit : ℕ
+scheme_limit = 64
+
+-- a scheme, and `://`
+abbrev pub has_scheme : List ℕ → Bool
+has_scheme text =
+    nat_le (scheme_len text) scheme_limit
+    && starts_with nat_eq (drop (scheme_len text) text) (codes "://")
+
+-- the byte may follow the front of an authority: at most eight colons stand in a piece, and one
+-- pair of brackets in all, with no `%` before it
+unfoldable pub may_follow : List ℕ → ℕ → Bool
+may_follow front b =
+    is_authority_byte b
+    && (not (b == colon) || nat_lt (count_of colon (last_piece front)) 8)
+    && (not (b == left_bracket)
+    || ((count_of left_bracket front == 0) && (count_of percent_sign (last_piece front) == 0)))
+    && (not (b == right_bracket)
+    || (nat_lt 0 (count_of left_bracket front) && (count_of right_bracket front == 0)))
+
+-- and so may each of these, one after another
+abbrev pub may_all_follow : List ℕ → List ℕ → Bool
+may_all_follow front [] = true
+may_all_follow front (b ∷ bytes) = may_follow front b && may_all_follow (front ++ b ∷ []) bytes
+
+-- userinfo, host and port: brackets are closed, and the last piece, which is host and port, has one
+-- colon at most, no `%`, and a byte behind an `@`
+unfoldable pub is_authority : List ℕ → Bool
+is_authority text =
+    nat_lt 0 (length text)
+    && may_all_follow [] text
+    && (count_of left_bracket text == count_of right_bracket text)
+    && nat_le (count_of colon (last_piece text)) 1
+    && (count_of percent_sign (last_piece text) == 0)
+    && not (slice_index text (length text - 1) == at_sign)
+
+-- nothing, or a path and perhaps a query; a fragment is dropped
+abbrev pub is_tail : List ℕ → Bool
+is_tail text =
+    (length text == 0)
+    || (is_delimiter (slice_index text 0) && is_path_and_query (without_fragment text))
+
+-- absolute-form: a scheme, `://`, an authority that the crate http_uri reads as one, and a tail (RFC
+-- 9112, section 3.2.2; RFC 3986, section 3)
+unfoldable pub is_absolute_form : List ℕ → Bool
+is_absolute_form target =
+    nat_le (length target) uri_limit && has_scheme target && is_tail (tail_of target)
+    && is_authority (authority_of target)
+
+-- ---- both forms
+
 -- the path and the query of a target
 abbrev pub target_parts : List ℕ → Option PathAndQuery
 target_parts target =
-    if is_origin_form target then Some (parts_of (without_fragment target)) else None
+    if is_origin_form target then Some (parts_of (without_fragment target))
+    else (if is_absolute_form target then Some (parts_of (without_fragment (tail_of target)))
+    else None)
 
 -- ---- the address that a path is
 

@@ -11,6 +11,7 @@
 //! and the body.
 #![tactic(auto)]
 
+mod absolute;
 mod fault;
 mod headers;
 mod laws;
@@ -27,7 +28,7 @@ pub use fault::BindFault;
 pub use headers::echo_id;
 pub use laws::{
     a_frame_binds_to_one_request, a_frame_binds_to_requests_of_their_kinds, a_reply_is_read_back,
-    the_echo_is_the_request_id,
+    authorities_are_of_uris, the_echo_is_the_request_id,
 };
 pub use reply::of_reply;
 pub use request::to_request;

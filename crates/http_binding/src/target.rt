@@ -8,6 +8,7 @@ ghost use Rattle.http_binding.specs.Binding.{target_of, said_by_target, ReadsAs}
 ghost use Rattle.http_binding.specs.Seen.{seen_parts, seen_target};
 ghost use Rattle.http_binding.specs.Targets as spec;
 
+use crate::absolute::{is_absolute_form, tail_of};
 use crate::{BindFault, OutOfMemory};
 use http_frames::Start;
 use m2m_names::is_filled;
@@ -16,7 +17,7 @@ use primitive_json::TARGET_LIMIT;
 use std::alloc::Global;
 
 /// A URI has at most so many bytes.
-const URI_LIMIT: usize = 65_534;
+pub(crate) const URI_LIMIT: usize = 65_534;
 
 /// The path of a target, and its query, where it has one.
 #[derive(Clone, Copy)]
@@ -109,7 +110,7 @@ fn parts_of(text: &[u8]) -> PathAndQuery<'_>
     }
 }
 
-fn is_path_and_query(text: &[u8]) -> bool
+pub(crate) fn is_path_and_query(text: &[u8]) -> bool
     ensures { result ≡ spec.is_path_and_query text.now }
 {
     are_of_path(before(b'?', text))
@@ -125,13 +126,15 @@ fn is_origin_form(target: &[u8]) -> bool
 }
 
 /// The path and the query of a target.
-fn target_parts(target: &[u8]) -> Option<PathAndQuery<'_>>
-    ensures { option_map seen_parts result ≡ spec.target_parts target.now }
+fn target_parts(alloc: Global, target: &[u8]) -> Result<Option<PathAndQuery<'_>>, OutOfMemory>
+    ensures { IfOk result (λ parts. option_map seen_parts parts ≡ spec.target_parts target.now) }
 {
     if is_origin_form(target) {
-        Some(parts_of(before(b'#', target)))
+        Ok(Some(parts_of(before(b'#', target))))
+    } else if is_absolute_form(alloc, target)? {
+        Ok(Some(parts_of(before(b'#', tail_of(target)))))
     } else {
-        None
+        Ok(None)
     }
 }
 
@@ -242,7 +245,7 @@ pub(crate) fn target_of(alloc: Global, start: &Start) -> Result<Target<'_>, Bind
     let Start::Ask { target, .. } = start else {
         return Err(BindFault::Target);
     };
-    match target_parts(target.entries()) {
+    match target_parts(alloc, target.entries())? {
         Some(parts) => said_by(alloc, parts),
         None => Err(BindFault::Target),
     }
