@@ -4,6 +4,7 @@ pub mod CreatedLemmas
 pub mod DeletionLemmas
 pub mod GrownLemmas
 pub mod InstanceLemmas
+pub mod JoinedLemmas
 pub mod JoiningLemmas
 pub mod KeptLemmas
 pub mod LeftLemmas

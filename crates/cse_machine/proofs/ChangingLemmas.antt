@@ -14,7 +14,7 @@ use Rattle.m2m_names.specs.declared.types.Ty.{Ty}
 use Rattle.m2m_names.specs.declared.codes.Rsc.{Rsc}
 use Rattle.m2m_names.specs.declared.codes.Rsc.TheVariants.{BadChild, Created, Deleted, NoPrivilege, NotFound, Updated}
 use Rattle.m2m_names.specs.declared.operations.Op.{Op}
-use Rattle.m2m_names.specs.declared.operations.Op.TheVariants.{Create, Update, Delete}
+use Rattle.m2m_names.specs.declared.operations.Op.TheVariants.{Create, Retrieve, Update, Delete, Notify}
 use Rattle.m2m_value.specs.Data.{Data, object, text, pairs_of, Entry}
 use Rattle.m2m_value.specs.View.{entries, member_of}
 use Rattle.m2m_value.proofs.Levels.{entries-pairs_of}
@@ -28,7 +28,7 @@ use Rattle.addressing.specs.Names.{structured_of}
 use Rattle.entity_model.specs.Entity.{EntityData}
 use Rattle.entity_model.specs.Places.{Effect, Place, first_fault, refusal, refused, answering, reply_to}
 use Rattle.entity_model.specs.Sound.{IsSoundEntity}
-use Rattle.request_rules.specs.Order.{fault_at, fault_on, places}
+use Rattle.request_rules.specs.Order.{creation_places, fault_at, fault_on, new_places, places}
 use Rattle.request_rules.specs.Creation.{new_resource}
 use Rattle.request_rules.specs.Order.{creation_by}
 use Rattle.request_rules.specs.Requests.{child_ty, named_by}
@@ -37,10 +37,11 @@ use Rattle.retrieve_discover.specs.Guard.{OthersAreShownByRight}
 use Rattle.retrieve_discover.specs.Told.{addresses_in, ids_below, listed_parts, references_in, shown_id, shown_reference, values_under}
 use Rattle.retrieve_discover.proofs.RightLemmas.{addresses_under, ids_under, references_under}
 use Rattle.retrieve_discover.proofs.ToldLemmas.{none_referred, none_under}
-use Rattle.create_delete.specs.Changing.{create_effect, created_content, delete_effect, done_by, performed, performed_at, told_rows, update_effect, updated_content, updated_resource}
+use Rattle.create_delete.specs.Changing.{create_effect, created_content, delete_effect, done_by, filling_of, performed, performed_at, told_rows, update_effect, updated_content, updated_resource}
 use Rattle.create_delete.specs.Guard.{IsRemovedByRight, NamesInOrder}
 use Rattle.create_delete.proofs.RightLemmas.{changes_by_right}
 use Rattle.create_delete.proofs.DeletionLemmas.{is_deletable, deletable, delete_done}
+use Rattle.create_delete.proofs.JoinedLemmas.{joined_home, joined_last, joined_next}
 use Rattle.create_delete.proofs.PerformedLemmas.{done_at, no_right, refused_at}
 use Rattle.cse_machine.specs.Answer.{addressed, changing, on_found, to_resource}
 use Rattle.cse_machine.specs.Guard.{is_success, DoesShow, HasRight, IsGuardedAlone}
@@ -133,10 +134,21 @@ not_served (place ∷ rest) f all is =
       | inr fails ↦ subst (λ (r : Rsc). is_success r ≡ false) (same_Some place.fault f (rw fails at is)) (not-true (is_success place.fault) both.0)
     ]
 
+new_refusals : (op : Op) (e : EntityData) (o : List ℕ) (request : RequestParts) (t : ResourceData) → list_all is_refusal (creation_places op e o request t) ≡ true
+new_refusals Create e o request t = by_child (child_ty request)
+  where
+    by_child : (x : Option Ty) → list_all is_refusal (option_map_or (λ (ty : Ty). new_places (creation_by e o request t ty)) x []) ≡ true
+    by_child None = refl
+    by_child (Some ty) = refl
+new_refusals Retrieve e o request t = refl
+new_refusals Update e o request t = refl
+new_refusals Delete e o request t = refl
+new_refusals Notify e o request t = refl
+
 all_refusals : (op : Op) (e : EntityData) (o : List ℕ) (request : RequestParts) (t : ResourceData) → list_all is_refusal (places op e o request t) ≡ true
 all_refusals op e o request t = elim (cases_Bool (is_subscribing request)) [
-  | inl subscribes ↦ rw subscribes refl
-  | inr other ↦ rw other refl
+  | inl subscribes ↦ rw subscribes (new_refusals op e o request t)
+  | inr other ↦ rw other (new_refusals op e o request t)
 ]
 
 pub fault_refuses : (op : Op) (e : EntityData) (o : List ℕ) (request : RequestParts) (n : ℕ) (t : ResourceData) (f : Rsc) → at n e.nodes ≡ Some t → fault_at op e o request n ≡ Some f → is_success f ≡ false
@@ -222,7 +234,11 @@ module _ (e : EntityData) (request : RequestParts) (t : ResourceData) (there : a
 
   created_kept : (ty : Option Ty) → IsKept e (option_map_or (λ (y : Ty). create_effect request (creation_by e who request t y)) ty (refused e request BadChild))
   created_kept None = still_kept e (refusal request BadChild)
-  created_kept (Some ty) = record { home = refl; last = refl; next = omega arith; unserved = λ none. absurd (true≢false none) }
+  created_kept (Some ty) =
+      let made = creation_by e who request t ty in
+      let r = new_resource made in
+      let f = filling_of made in
+      record { home = joined_home e r f; last = joined_last e r f; next = joined_next e r f; unserved = λ none. absurd (true≢false none) }
 
   created_told : (ty : Option Ty) → IsToldByRight e request (option_map_or (λ (y : Ty). create_effect request (creation_by e who request t y)) ty (refused e request BadChild)).reply
   created_told None = tells_nothing e request BadChild
