@@ -80,10 +80,10 @@ fn answer_served<T: Tree>(
     requires { IsTrue (spec.is_served request.now) }
     ensures reply { IfOk result (λ r. r ≡ (judged_at (form_places entity.old request.now)
         entity.old request.now
-        (named_by entity.old.home request.now.to entity.old.nodes)).reply) }
+        (spot_named entity.old.home request.now.to entity.old.nodes)).reply) }
     ensures after { OnOk result (entity.new ≡ (judged_at (form_places entity.old request.now)
         entity.old request.now
-        (named_by entity.old.home request.now.to entity.old.nodes)).after) }
+        (spot_named entity.old.home request.now.to entity.old.nodes)).after) }
     ensures err { OnErr result (entity.new ≡ entity.old) }
 {
     if !is_of_kinds(request) {
