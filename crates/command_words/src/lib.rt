@@ -9,7 +9,7 @@
 
 mod command;
 mod home;
-mod options;
+mod program;
 
 pub use command::{Command, Serving, Task, read_command};
 pub use home::HomeWords;
