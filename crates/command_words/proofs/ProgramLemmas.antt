@@ -5,9 +5,14 @@ use Rattle.std.specs.Option.{option_map_or}
 use Rattle.std.specs.List.{list_any}
 use Rattle.std.proofs.lemmas.Slice.Eq.{bytes_eq-Decides}
 use Rattle.m2m_names.specs.Name.{is_one_of}
-use Rattle.clap.specs.Kinds.{Kinds, or_else}
+use Rattle.std.specs.Prelude.{Box, unwrap_or}
+use Rattle.std.specs.Box.{box_value}
+use Rattle.clap.specs.Kinds.{IsAmong, Kinds, or_else}
+use Rattle.clap.specs.declared.error.kind.ErrorKind.{ErrorKind}
+use Rattle.clap.specs.declared.parser.matches.SubCommand.{SubCommand}
+use Rattle.clap.specs.declared.parser.matches.ArgMatches.TheViews.{out-SubCommand}
 use Rattle.clap.specs.Walk.{Names, Row, Rule, Text, Walk, answers_to, finished, idle, nothing_held, rows_after, settled, walk_from, walked}
-use Rattle.clap.specs.Simple.{App, Shape, built, entered, is_simple, label_of, names_of, rows_at, subcommand_of}
+use Rattle.clap.specs.Simple.{App, Shape, built, entered, is_simple, label_of, names_of, rows_at, subcommand_of, subcommand_rows}
 use Rattle.clap.specs.Faults.{check_fault, defaults_fault, entered_fault, fault_of, is_simple_and_free, level_fault, settle_fault, turn_fault, walk_fault}
 use Rattle.clap.proofs.OnLiterals.{clap_on_literals}
 use Rattle.command_words.specs.Options.{Choice, choices, value_of, are_options}
@@ -155,11 +160,11 @@ takes_replay n = or_false (is_one_of home_options n)
 
 any_append : {X : Type 0} (p : X → Bool) (xs ys : List X) → (list_any p xs || list_any p ys) ≡ list_any p (xs ++ ys)
 any_append p [] ys = refl
-any_append p (x ∷ xs) ys = go (p x)
+any_append p (x ∷ xs) ys = go (p x) (any_append p xs ys)
   where
-    go : (b : Bool) → ((b || list_any p xs) || list_any p ys) ≡ (b || list_any p (xs ++ ys))
-    go true = refl
-    go false = any_append p xs ys
+    go : (b : Bool) → (list_any p xs || list_any p ys) ≡ list_any p (xs ++ ys) → ((b || list_any p xs) || list_any p ys) ≡ (b || list_any p (xs ++ ys))
+    go true rest = refl
+    go false rest = rest
 
 takes_serve : (n : List ℕ) → spec.takes (codes "serve") n ≡ is_one_of (names_by servings) n
 takes_serve n = any_append (bytes_eq n) home_options serving_options
@@ -224,3 +229,39 @@ program_reads (name ∷ words) clean =
       ]
     ] in
     each (bytes_eq (codes "http") name) (bytes_eq (codes "replay") name) (bytes_eq (codes "serve") name) refl refl refl
+
+-- ---- what was found says it
+
+pub matches_say : (app : App) (words : List (List ℕ)) (rows : Option (List ℕ × List Row)) → app ≡ program → has_stray words ≡ false
+    → rows ≡ subcommand_of app words → fault_of app words ≡ [] → Says rows (words_say words)
+matches_say app words rows is clean same fault =
+    let read = program_reads words clean in
+    subst (λ r. Says r (words_say words)) (sym (same ∙ ap (λ a. subcommand_of a words) is)) (read.0 (ap (λ a. fault_of a words) (sym is) ∙ fault))
+
+pub faults_say : (app : App) (words : List (List ℕ)) (k : ErrorKind) → app ≡ program → has_stray words ≡ false
+    → IsAmong k (fault_of app words) → words_say words ≡ None
+faults_say app words k is clean among =
+    let read = program_reads words clean in
+    read.1 (λ none. subst (IsAmong k) (ap (λ a. fault_of a words) is ∙ none) among)
+
+module _ {Z : Type 0} where
+  pub name_of_rows : (o : Option (Box SubCommand Z)) → option_map (λ b. (out-SubCommand (box_value b)).name.now) o ≡ option_map (λ p. p.0) (subcommand_rows o)
+  name_of_rows None = refl
+  name_of_rows (Some b) = refl
+
+-- the name and the rows of what was found, one by one
+pub found_says : (sub : Option (List ℕ × List Row)) (name : List ℕ) (rows : List Row) → Some name ≡ option_map (λ p. p.0) sub → Some rows ≡ option_map (λ p. p.1) sub
+    → (said : Option Command) → Says sub said → (os : List Choice) × ((rows ≡ rows_by os) × (said ≡ command_said name os))
+found_says None name rows e f said h =
+    let bad : true ≡ false = ap is_some e in absurd (true≢false bad)
+found_says (Some p) name rows e f said h =
+    let n : name ≡ p.0 = ap (λ o. unwrap_or o name) e in
+    let r : rows ≡ p.1 = ap (λ o. unwrap_or o rows) f in (
+      h.0,
+      (r ∙ h.1.0, h.1.1 ∙ ap (λ t. command_said t h.0) (sym n)),
+    )
+
+pub none_says : (sub : Option (List ℕ × List Row)) → None ≡ option_map (λ p. p.0) sub → (said : Option Command) → Says sub said → None ≡ said
+none_says None e said h = sym h
+none_says (Some p) e said h =
+    let bad : true ≡ false = sym (ap is_some e) in absurd (true≢false bad)

@@ -21,11 +21,12 @@ stray_differs word text e f = go (bytes_eq word text) refl
 
 stray_none : (texts : List (List ℕ)) (word : List ℕ) → is_stray word ≡ true → list_all (λ t. not (is_stray t)) texts ≡ true → is_one_of texts word ≡ false
 stray_none [] word e all = refl
-stray_none (text ∷ texts) word e all = go (is_stray text) refl all
+stray_none (text ∷ texts) word e all = go (is_stray text) refl all (stray_none texts word e)
   where
-    go : (b : Bool) → is_stray text ≡ b → (not b && list_all (λ t. not (is_stray t)) texts) ≡ true → (bytes_eq word text || is_one_of texts word) ≡ false
-    go true f all = absurd (true≢false (sym all))
-    go false f all = ap₂ (λ a b. a || b) (stray_differs word text e f) (stray_none texts word e all)
+    go : (b : Bool) → is_stray text ≡ b → (not b && list_all (λ t. not (is_stray t)) texts) ≡ true
+        → (list_all (λ t. not (is_stray t)) texts ≡ true → is_one_of texts word ≡ false) → (bytes_eq word text || is_one_of texts word) ≡ false
+    go true f all rest = absurd (true≢false (sym all))
+    go false f all rest = ap₂ (λ a b. a || b) (stray_differs word text e f) (rest all)
 
 -- no command takes it
 stray_untaken : (name word : List ℕ) → is_stray word ≡ true → spec.takes name word ≡ false
@@ -114,7 +115,7 @@ module _ (name : List ℕ) where
       go false false p q f = stray_two word rest q f ih2 seen
 
   stray_options : (words : List (List ℕ)) → SaysNone words
-  stray_options [] e seen = absurd (true≢false (sym e))
+  stray_options [] = λ e seen. absurd (true≢false (sym e))
   stray_options (word ∷ []) = stray_step word [] (stray_options []) (stray_options [])
   stray_options (word ∷ word2 ∷ words) = stray_step word (word2 ∷ words) (stray_options (word2 ∷ words)) (stray_options words)
 

@@ -109,21 +109,21 @@ leaf name longs = record {
 
 found_long : (longs : List (List ℕ)) (long : List ℕ) → arg_by_long (map option_of longs) long ≡ (if is_one_of longs long then Some (option_of long) else None)
 found_long [] long = refl
-found_long (l ∷ longs) long = go (bytes_eq l long) refl ∙ ap (λ (b : Bool). if b || is_one_of longs long then Some (option_of long) else None) (same_sym l long)
+found_long (l ∷ longs) long = go (bytes_eq l long) refl (found_long longs long) ∙ ap (λ (b : Bool). if b || is_one_of longs long then Some (option_of long) else None) (same_sym l long)
   where
-    go : (b : Bool) → bytes_eq l long ≡ b → cond (b || false) (Some (option_of l)) (arg_by_long (map option_of longs) long)
-        ≡ (if b || is_one_of longs long then Some (option_of long) else None)
-    go true e = ap (λ t. Some (option_of t)) ((bytes_eq-Decides l long).0 e)
-    go false e = found_long longs long
+    go : (b : Bool) → bytes_eq l long ≡ b → arg_by_long (map option_of longs) long ≡ (if is_one_of longs long then Some (option_of long) else None)
+        → cond (b || false) (Some (option_of l)) (arg_by_long (map option_of longs) long) ≡ (if b || is_one_of longs long then Some (option_of long) else None)
+    go true e rest = ap (λ t. Some (option_of t)) ((bytes_eq-Decides l long).0 e)
+    go false e rest = rest
 
 found_id : (longs : List (List ℕ)) (long : List ℕ) → arg_by_id (map option_of longs) (dashed long) ≡ (if is_one_of longs long then Some (option_of long) else None)
 found_id [] long = refl
-found_id (l ∷ longs) long = go (bytes_eq l long) refl ∙ ap (λ (b : Bool). if b || is_one_of longs long then Some (option_of long) else None) (same_sym l long)
+found_id (l ∷ longs) long = go (bytes_eq l long) refl (found_id longs long) ∙ ap (λ (b : Bool). if b || is_one_of longs long then Some (option_of long) else None) (same_sym l long)
   where
-    go : (b : Bool) → bytes_eq l long ≡ b → cond b (Some (option_of l)) (arg_by_id (map option_of longs) (dashed long))
-        ≡ (if b || is_one_of longs long then Some (option_of long) else None)
-    go true e = ap (λ t. Some (option_of t)) ((bytes_eq-Decides l long).0 e)
-    go false e = found_id longs long
+    go : (b : Bool) → bytes_eq l long ≡ b → arg_by_id (map option_of longs) (dashed long) ≡ (if is_one_of longs long then Some (option_of long) else None)
+        → cond b (Some (option_of l)) (arg_by_id (map option_of longs) (dashed long)) ≡ (if b || is_one_of longs long then Some (option_of long) else None)
+    go true e rest = ap (λ t. Some (option_of t)) ((bytes_eq-Decides l long).0 e)
+    go false e rest = rest
 
 no_place : (longs : List (List ℕ)) (i : ℕ) → arg_by_index (map option_of longs) i ≡ None
 no_place [] i = refl
@@ -148,31 +148,32 @@ row_named name (o ∷ os) = ap (λ b. bytes_eq o.name name || b) (row_named name
 
 pub first_named : (name : List ℕ) (os : List Choice) → first_of name (rows_by os) ≡ value_of name os
 first_named name [] = refl
-first_named name (o ∷ os) = go (bytes_eq o.name name)
+first_named name (o ∷ os) = go (bytes_eq o.name name) (first_named name os)
   where
-    go : (b : Bool) → option_and_then (λ (r : Row). slice_get r.values 0) (cond b (Some (row_by o)) (find (λ (r : Row). bytes_eq r.id name) (rows_by os)))
+    go : (b : Bool) → first_of name (rows_by os) ≡ value_of name os → option_and_then (λ (r : Row). slice_get r.values 0) (cond b (Some (row_by o)) (find (λ (r : Row). bytes_eq r.id name) (rows_by os)))
         ≡ option_map (λ (x : Choice). x.value) (cond b (Some o) (find (λ (x : Choice). bytes_eq x.name name) os))
-    go true = refl
-    go false = first_named name os
+    go true rest = refl
+    go false rest = rest
 
 without_new : (name : List ℕ) (os : List Choice) → has_row name (rows_by os) ≡ false → without name (rows_by os) ≡ rows_by os
 without_new name [] e = refl
-without_new name (o ∷ os) e = go (bytes_eq o.name name) e
+without_new name (o ∷ os) e = go (bytes_eq o.name name) e (without_new name os)
   where
-    go : (b : Bool) → (b || has_row name (rows_by os)) ≡ false
+    go : (b : Bool) → (b || has_row name (rows_by os)) ≡ false → (has_row name (rows_by os) ≡ false → without name (rows_by os) ≡ rows_by os)
         → cond b (rows_by os) (row_by o ∷ without name (rows_by os)) ≡ rows_by (o ∷ os)
-    go true e = absurd (true≢false e)
-    go false e = ap (λ rs. row_by o ∷ rs) (without_new name os e)
+    go true e rest = absurd (true≢false e)
+    go false e rest = ap (λ rs. row_by o ∷ rs) (rest e)
 
 with_new : (name text : List ℕ) (os : List Choice) → has_row name (rows_by os) ≡ false
     → with_values name AsWritten CommandLine (text ∷ []) (rows_by os) ≡ rows_by (os ++ choice name text ∷ [])
 with_new name text [] e = refl
-with_new name text (o ∷ os) e = go (bytes_eq o.name name) e
+with_new name text (o ∷ os) e = go (bytes_eq o.name name) e (with_new name text os)
   where
     go : (b : Bool) → (b || has_row name (rows_by os)) ≡ false
+        → (has_row name (rows_by os) ≡ false → with_values name AsWritten CommandLine (text ∷ []) (rows_by os) ≡ rows_by (os ++ choice name text ∷ []))
         → cond b (more_values CommandLine (text ∷ []) (row_by o) ++ rows_by os) (row_by o ∷ with_values name AsWritten CommandLine (text ∷ []) (rows_by os)) ≡ rows_by (o ∷ (os ++ choice name text ∷ []))
-    go true e = absurd (true≢false e)
-    go false e = ap (λ rs. row_by o ∷ rs) (with_new name text os e)
+    go true e rest = absurd (true≢false e)
+    go false e rest = ap (λ rs. row_by o ∷ rs) (rest e)
 
 -- ---- one use of an option
 
@@ -384,14 +385,14 @@ module _ (name : List ℕ) (longs : List (List ℕ)) where
       let P : Bool → Type 0 = λ b. has_name (dashed n) seen ≡ b → ReadsFrom (between idle h) (word ∷ rest) (more takes seen (choices (word ∷ rest))) in
       let each : (b : Bool) → P b = λ b. elim b as P [
         | true ↦ λ e.
-            let use = use_again n v (settled rules h).rows (row true e) in
+            let used_fault = use_again n v (settled rules h).rows (row true e) in
             let bad : turn (between idle h) word ≢ [] = subst (λ k. k ≢ []) (sym (turn_is ∙ ap (λ k. or_else (or_else k (use_fault false (option_of n) (v ∷ []) (settled rules h).rows)) []) ready.0))
-            (fault_first (use_fault false (option_of n) (v ∷ []) (settled rules h).rows) [] use) in
+            (fault_first (use_fault false (option_of n) (v ∷ []) (settled rules h).rows) [] used_fault) in
             reads_none (between idle h) (word ∷ rest) (more takes seen (choices (word ∷ rest))) (bad_turn (between idle h) word rest bad)
             (ap (more takes seen) front ∙ more_again takes seen o (choices rest) has e)
         | false ↦ λ e.
-            let use = use_new n v (settled rules h).rows (row false e) in
-            let ok : turn (between idle h) word ≡ [] = turn_is ∙ ap₂ (λ k l. or_else (or_else k l) []) ready.0 use in
+            let used_fault = use_new n v (settled rules h).rows (row false e) in
+            let ok : turn (between idle h) word ≡ [] = turn_is ∙ ap₂ (λ k l. or_else (or_else k l) []) ready.0 used_fault in
             let seen_row : has_row (dashed n) (rows_by seen) ≡ false = row_named (dashed n) seen ∙ e in
             let rows : used (option_of n) (v ∷ []) (settled rules h).rows ≡ rows_by (seen ++ o ∷ []) = ap (used (option_of n) (v ∷ [])) ready.1 ∙ used_new n v seen seen_row in
             reads_next (between idle h) (between idle (reacted rules (option_of n) (v ∷ []) h)) word rest (more takes seen (choices (word ∷ rest))) (more takes (seen ++ o ∷ []) (choices rest))
@@ -496,7 +497,7 @@ module _ (name : List ℕ) (longs : List (List ℕ)) where
 
   all_words : (words : List (List ℕ)) → Goes words
   unfolding walk_fault
-  all_words [] clean h seen ready = (ready.0, ready.1 ∙ ap rows_by (sym (append-nil seen)))
+  all_words [] = λ clean h seen ready. (ready.0, ready.1 ∙ ap rows_by (sym (append-nil seen)))
   all_words (word ∷ []) = step word [] (all_words []) (all_words [])
   all_words (word ∷ word2 ∷ words) = step word (word2 ∷ words) (all_words (word2 ∷ words)) (all_words words)
 

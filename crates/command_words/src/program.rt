@@ -1,6 +1,7 @@
 //! The words as `clap` reads them.
 ghost use Rattle.std.specs.Prelude.{◌≡◌, None, IfOk, MatchOption, map, false};
-ghost use Rattle.clap.specs.Words.{app_of, fields_of, rule_of, subcommand_rows_of};
+ghost use Rattle.clap.specs.Words.{app_of, rule_of, subcommand_rows_of};
+ghost use Rattle.clap.specs.declared.builder.command.Command.TheViews.{out-Command as fields_of};
 ghost use Rattle.command_words.specs.Program as spec;
 ghost use Rattle.command_words.specs.Program.{Says};
 ghost use Rattle.command_words.specs.Command.{words_say};

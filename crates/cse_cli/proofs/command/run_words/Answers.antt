@@ -1,17 +1,20 @@
-use Rattle.std.proofs.Common.{◌≡◌, List, Some, refl, sym, ap, subst, ◌∙◌, inr}
+use Rattle.std.proofs.Common.{◌≡◌, List, Some, refl, sym, ap, subst, ◌∙◌, inl, inr, option_map}
 use Rattle.m2m_io.specs.Outside.{outside}
 use Rattle.resource_model.specs.Home.{HomeData}
-use Rattle.command_words.specs.Command.{http, replay, task_by, serving_by, home_by, command_by}
+use Rattle.command_words.specs.Command.{http, replay, task_by, serving_by, command_by}
 use Rattle.entity_model.specs.Opening.{opening}
 use Rattle.primitive_replay.proofs.TurnLemmas.{starved_first}
 use Rattle.cse_cli.specs.Run.{RunsHttp, RunsReplay}
-use Rattle.cse_cli.proofs.WordsLemmas.{texts, says, server_said, served_same, served_some}
+use Rattle.cse_cli.proofs.WordsLemmas.{texts, says, server_said, served_same}
 use Rattle.cse_cli.proofs.command.run_words.Goals as goal
 
 pub returns-in-Serve-clause-usage : goal.returns-in-Serve-clause-usage
 returns-in-Serve-clause-usage g c =
     let none = server_said (texts c.args.words.now) (command_by c.in-Some.command) (serving_by c.in-Serve.field-0) (sym (ap (option_map command_by) (sym c.in-Some.is) ∙ c.in-Ok.ensures)) (ap task_by c.in-Serve.is) in
-    (λ e. none, λ e. refl)
+    λ e. none
+
+pub returns-in-Serve-clause-refused : goal.returns-in-Serve-clause-refused
+returns-in-Serve-clause-refused g c = λ e. inl refl
 
 pub returns-in-Serve-clause-http : goal.returns-in-Serve-clause-http
 returns-in-Serve-clause-http g c = λ home e.
@@ -26,7 +29,12 @@ returns-in-Serve-clause-replay g c = λ home e.
 pub returns-in-Ok-Some-clause-usage : goal.returns-in-Ok-Some-clause-usage
 returns-in-Ok-Some-clause-usage g c =
     let here = says (texts c.args.words.now) (command_by c.in-Some.command) (Some c.in-Ok-Some.home) (sym (ap (option_map command_by) (sym c.in-Some.is) ∙ c.in-Ok.ensures)) (sym c.in-Ok-Some.ensures.made ∙ c.in-Ok-Some.field-0-is) in
-    (λ e. here ∙ c.run_task.ensures.usage.0 e, λ e. c.run_task.ensures.usage.1 (sym here ∙ e))
+    λ e. here ∙ c.run_task.ensures.usage.0 e
+
+pub returns-in-Ok-Some-clause-refused : goal.returns-in-Ok-Some-clause-refused
+returns-in-Ok-Some-clause-refused g c =
+    let here = says (texts c.args.words.now) (command_by c.in-Some.command) (Some c.in-Ok-Some.home) (sym (ap (option_map command_by) (sym c.in-Some.is) ∙ c.in-Ok.ensures)) (sym c.in-Ok-Some.ensures.made ∙ c.in-Ok-Some.field-0-is) in
+    λ e. inl (c.run_task.ensures.usage.1 (sym here ∙ e))
 
 pub returns-in-Ok-Some-clause-still : goal.returns-in-Ok-Some-clause-still
 returns-in-Ok-Some-clause-still g c = λ e.
@@ -48,9 +56,10 @@ returns-in-Ok-Some-clause-replay g c = λ given e.
     subst P same.1 (c.run_task.ensures.replay same.0)
 
 pub returns-in-Err-clause-usage : goal.returns-in-Err-clause-usage
-returns-in-Err-clause-usage g c =
-    let here = says (texts c.args.words.now) (command_by c.in-Some.command) (Some (home_by c.in-Some.command.home)) (sym (ap (option_map command_by) (sym c.in-Some.is) ∙ c.in-Ok.ensures)) c.in-Err.ensures.memory in
-    (λ e. absurd (cc (e)), λ e. absurd (served_some c.in-Some.command.task (home_by c.in-Some.command.home) c.in_default-task.not-Serve (sym here ∙ e)))
+returns-in-Err-clause-usage g c = λ e. absurd (cc (e))
+
+pub returns-in-Err-clause-refused : goal.returns-in-Err-clause-refused
+returns-in-Err-clause-refused g c = λ e. inr refl
 
 pub returns-in-Err-clause-http : goal.returns-in-Err-clause-http
 returns-in-Err-clause-http g c = λ home e. inr (record { status_is = refl; same = refl })
