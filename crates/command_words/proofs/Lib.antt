@@ -1,2 +1,5 @@
 mod HomeLemmas
 mod OptionLemmas
+mod WalkLemmas
+mod ProgramLemmas
+mod StrayLemmas

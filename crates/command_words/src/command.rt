@@ -1,14 +1,18 @@
 //! The command that words name.
 ghost use Rattle.std.specs.Prelude.{◌≡◌, ◌≤◌, ◌<◌, ◌^◌, ℕ, pos, List, Some, IfSome, length, map};
-ghost use Rattle.std.specs.Prelude.{option_map};
-ghost use Rattle.command_words.specs.Options.{Choice, choices};
-ghost use Rattle.m2m_names.specs.Name.{is_one_of};
+ghost use Rattle.std.specs.Prelude.{IfOk, option_map};
+ghost use Rattle.clap.specs.Words.{found_of, rows_of, subcommand_rows_of};
+ghost use Rattle.command_words.specs.Options.{Choice};
+ghost use Rattle.command_words.specs.Options as choices;
+ghost use Rattle.command_words.specs.Program.{Says, rows_by};
 ghost use Rattle.command_words.specs.Command as spec;
 
 use crate::home::HomeWords;
-use crate::options::{are_options, option_value};
+use crate::program::matches_of;
+use clap::ArgMatches;
 use m2m_names::read_digits;
 use resource_model::{ADMIN, BASE, CSE_ID, CSE_TYPE, SERVICE_PROVIDER};
+use std::alloc::{AllocError as OutOfMemory, Global};
 
 /// Where a server listens, and how many connections it accepts, where that is limited.
 #[derive(Clone, Copy, Debug)]
@@ -41,25 +45,6 @@ const USUAL_ADDRESS: &str = "127.0.0.1:8080";
 /// As many connections as a server can be told to accept.
 const MOST_ACCEPTED: u64 = 1_000_000_000;
 
-fn is_home_option(name: &str) -> bool
-    ensures { result ≡ is_one_of spec.home_options name.now }
-{
-    name == "--id" || name == "--base" || name == "--sp" || name == "--admin" || name == "--type"
-}
-
-fn is_serving_option(name: &str) -> bool
-    ensures { result ≡ is_one_of spec.serving_options name.now }
-{
-    name == "--listen" || name == "--accept"
-}
-
-/// Whether the command takes an option of this name.
-pub(crate) fn takes_option(command: &str, name: &str) -> bool
-    ensures { result ≡ spec.takes command.now name.now }
-{
-    is_home_option(name) || command == "serve" && is_serving_option(name)
-}
-
 /// How many bytes of the text are zeros in front of others.
 fn zeros_len(text: &[u8]) -> usize
     ensures value { result ≡ spec.zeros_len text.now }
@@ -85,9 +70,17 @@ fn cse_type_said(said: Option<&str>) -> Option<i64>
     }
 }
 
+/// What the option of this name says.
+fn option_value<'a>(name: &str, options: &ArgMatches<'a>) -> Option<&'a str>
+    ensures { (os : List Choice) → rows_of (found_of options.now) ≡ rows_by os
+        → option_map (λ value. value.now) result ≡ choices.option_value name.now os }
+{
+    options.get_str(name)
+}
+
 /// The home that options say.
-fn home_said<'a>(options: &[&'a str]) -> Option<HomeWords<'a>>
-    ensures { (os : List Choice) → choices (map (λ word. word.now) options.now) ≡ Some os
+fn home_said<'a>(options: &ArgMatches<'a>) -> Option<HomeWords<'a>>
+    ensures { (os : List Choice) → rows_of (found_of options.now) ≡ rows_by os
         → option_map spec.home_by result ≡ spec.home_said os }
 {
     let cst = cse_type_said(option_value("--type", options))?;
@@ -122,8 +115,8 @@ fn accept_said(said: Option<&str>) -> Option<Option<u64>>
 }
 
 /// The server that options say.
-fn serving_said<'a>(options: &[&'a str]) -> Option<Serving<'a>>
-    ensures { (os : List Choice) → choices (map (λ word. word.now) options.now) ≡ Some os
+fn serving_said<'a>(options: &ArgMatches<'a>) -> Option<Serving<'a>>
+    ensures { (os : List Choice) → rows_of (found_of options.now) ≡ rows_by os
         → option_map spec.serving_by result ≡ spec.serving_said os }
 {
     let accept = accept_said(option_value("--accept", options))?;
@@ -134,8 +127,8 @@ fn serving_said<'a>(options: &[&'a str]) -> Option<Serving<'a>>
 }
 
 /// The task of this name, with its options.
-fn task_said<'a>(name: &str, options: &[&'a str]) -> Option<Task<'a>>
-    ensures { (os : List Choice) → choices (map (λ word. word.now) options.now) ≡ Some os
+fn task_said<'a>(name: &str, options: &ArgMatches<'a>) -> Option<Task<'a>>
+    ensures { (os : List Choice) → rows_of (found_of options.now) ≡ rows_by os
         → option_map spec.task_by result ≡ spec.task_said name.now os }
 {
     if name == "http" {
@@ -149,8 +142,8 @@ fn task_said<'a>(name: &str, options: &[&'a str]) -> Option<Task<'a>>
     }
 }
 
-fn command_said<'a>(name: &str, options: &[&'a str]) -> Option<Command<'a>>
-    ensures { (os : List Choice) → choices (map (λ word. word.now) options.now) ≡ Some os
+fn command_said<'a>(name: &str, options: &ArgMatches<'a>) -> Option<Command<'a>>
+    ensures { (os : List Choice) → rows_of (found_of options.now) ≡ rows_by os
         → option_map spec.command_by result ≡ spec.command_said name.now os }
 {
     let task = task_said(name, options)?;
@@ -158,15 +151,26 @@ fn command_said<'a>(name: &str, options: &[&'a str]) -> Option<Command<'a>>
     Some(Command { task, home })
 }
 
-/// What the words say: the name of a command, and then options that it takes.
-pub fn read_command<'a>(words: &[&'a str]) -> Option<Command<'a>>
-    ensures { option_map spec.command_by result
-        ≡ spec.words_say (map (λ word. word.now) words.now) }
+/// The command that was found.
+fn command_found<'a>(matches: &ArgMatches<'a>) -> Option<Command<'a>>
+    ensures { (said : Option spec.Command) → Says (subcommand_rows_of matches.now) said
+        → option_map spec.command_by result ≡ said }
 {
-    let (name, options) = words.split_first()?;
-    if are_options(name, options) {
-        command_said(name, options)
-    } else {
-        None
+    let (name, options) = matches.subcommand()?;
+    command_said(name, options)
+}
+
+/// What the words say: the name of a command, and then options that it takes. An `Err` is want of
+/// memory.
+pub fn read_command<'a>(
+    alloc: Global,
+    words: &'a [&'a str],
+) -> Result<Option<Command<'a>>, OutOfMemory>
+    ensures { IfOk result (λ said. option_map spec.command_by said
+        ≡ spec.words_say (map (λ word. word.now) words.now)) }
+{
+    match matches_of(alloc, words)? {
+        Some(matches) => Ok(command_found(&matches)),
+        None => Ok(None),
     }
 }

@@ -1,5 +1,5 @@
 //! The command line.
-ghost use Rattle.std.specs.Prelude.{◌≡◌, ◌≢◌, ◌≤◌, ◌↔◌, Some, None, vec_len, map};
+ghost use Rattle.std.specs.Prelude.{◌≡◌, ◌≢◌, ◌≤◌, ◌↔◌, ◌⊎◌, Some, None, vec_len, map};
 ghost use Rattle.resource_model.specs.Home.{HomeData};
 ghost use Rattle.m2m_io.specs.Counts.{Rose};
 ghost use Rattle.m2m_io.specs.Outside.{outside};
@@ -61,15 +61,17 @@ fn run_task<S: Source, O: Sink, C: Clock, L: Link>(
 }
 
 /// Does what the words name, and tells nobody how it ended.
-fn run_words<S: Source, O: Sink, C: Clock, L: Link>(
+fn run_words<'a, S: Source, O: Sink, C: Clock, L: Link>(
     alloc: Global,
-    words: &[&str],
+    words: &'a [&'a str],
     input: &mut S,
     out: &mut O,
     first: &mut Bench<C, L>,
 ) -> Status
     ensures usage { result ≡ Status.Usage
-        ↔ command_of (map (λ word. word.now) words.now) ≡ None }
+        → command_of (map (λ word. word.now) words.now) ≡ None }
+    ensures refused { command_of (map (λ word. word.now) words.now) ≡ None
+        → (result ≡ Status.Usage) ⊎ (result ≡ Status.Memory) }
     ensures still { command_of (map (λ word. word.now) words.now) ≡ None
         → (input.new ≡ input.old) × (out.new ≡ out.old) × (first.new ≡ first.old) }
     ensures http { let old = outside (S.left input.old) (O.written out.old)
@@ -93,7 +95,10 @@ fn run_words<S: Source, O: Sink, C: Clock, L: Link>(
     ensures write_steady { result ≢ Status.WriteFault → O.faults out.new ≡ O.faults out.old }
     ensures link { L.faults first.new.link ≡ L.faults first.old.link }
 {
-    let Some(command) = read_command(words) else {
+    let Ok(said) = read_command(alloc, words) else {
+        return Status::Memory;
+    };
+    let Some(command) = said else {
         return Status::Usage;
     };
     if let Task::Serve(_) = command.task {
@@ -129,10 +134,13 @@ where
     L: Drop,
     requires benches { 2 ≤ vec_len benches }
 
-    // Every list of words that isn't one of these commands with its options is usage: then nothing
-    // is read or written to `out`, and no reading is taken and no exchange made.
+    // Every list of words that isn't one of these commands with its options is usage, unless memory
+    // runs out for reading it: then nothing is read or written to `out`, and no reading is taken and
+    // no exchange made.
     ensures usage { result.0 ≡ Status.Usage
-        ↔ command_of (map (λ word. word.now) words.now) ≡ None }
+        → command_of (map (λ word. word.now) words.now) ≡ None }
+    ensures refused { command_of (map (λ word. word.now) words.now) ≡ None
+        → (result.0 ≡ Status.Usage) ⊎ (result.0 ≡ Status.Memory) }
     ensures still { command_of (map (λ word. word.now) words.now) ≡ None
         → (input.new ≡ input.old) × (out.new ≡ out.old) × (first.new ≡ first.old) }
 
