@@ -3,7 +3,7 @@ use Rattle.std.proofs.Common.{◌≡◌, ◌≢◌, ◌≤◌, ◌<◌, ◌+◌,
 use Rattle.std.specs.Str.{bytes_eq}
 use Rattle.std.specs.List.{list_all, list_any, before_first, after_first, position_or_len}
 use Rattle.std.proofs.lemmas.Slice.Eq.{bytes_eq-Decides}
-use Rattle.command_words.specs.Options.{Choice, choice, is_equals, has_dash, in_front, in_one_word, in_two_words, first_of, choices, option_value, are_options}
+use Rattle.command_words.specs.Options.{Choice, choice, is_equals, has_dash, in_front, in_one_word, in_two_words, choices_by, choices, option_value, are_options}
 
 -- ---- tests
 
@@ -96,13 +96,13 @@ no_dash_before (c ∷ word) e = go (c == 61)
 pub one_word : (word : List ℕ) (behind : List (List ℕ)) (o : Choice) → in_one_word word ≡ Some o
     → choices (word ∷ behind) ≡ in_front (Some o) (choices behind)
 one_word word [] o e = ap (λ (w : Option Choice). in_front w (Some [])) e
-one_word word (next ∷ words) o e = ap (λ (w : Option Choice). first_of w (in_two_words word next) (choices (next ∷ words)) (choices words)) e
+one_word word (next ∷ words) o e = ap (λ (w : Option Choice). choices_by w (in_two_words word next) (choices (next ∷ words)) (choices words)) e
 
 -- an option in two words stands first
 pub two_words : (word next : List ℕ) (words : List (List ℕ)) (two : Option Choice) → in_one_word word ≡ None
     → in_two_words word next ≡ two → choices (word ∷ next ∷ words) ≡ in_front two (choices words)
 two_words word next words two e t =
-    ap (λ (w : Option Choice). first_of w (in_two_words word next) (choices (next ∷ words)) (choices words)) e
+    ap (λ (w : Option Choice). choices_by w (in_two_words word next) (choices (next ∷ words)) (choices words)) e
     ∙ ap (λ (w : Option Choice). in_front w (choices words)) t
 
 -- a word alone is none

@@ -1,5 +1,5 @@
 -- What `clap` makes of the words of a command line.
-use Rattle.std.proofs.Common.{◌≡◌, ◌≢◌, ◌+◌, ◌==◌, inl, inr, ℕ, Bool, true, false, true≢false, cond, not, ◌&&◌, ◌||◌, List, [], ◌∷◌, ◌++◌, append-nil, append_assoc, length, map, Option, Some, None, find, is_some, option_map, option_and_then, if◌then◌else◌, fold, refl, sym, ap, ap₂, subst, ◌∙◌, codes}
+use Rattle.std.proofs.Common.{◌≡◌, ◌≢◌, ◌+◌, ◌==◌, inl, inr, ℕ, Bool, true, false, true≢false, cond, not, ◌&&◌, ◌||◌, List, [], ◌∷◌, ◌++◌, append-nil, append_assoc, length, map, Option, Some, None, find, is_some, option_map, option_and_then, if◌then◌else◌, fold, drop, refl, sym, ap, ap₂, subst, ◌∙◌}
 use Rattle.std.specs.Str.{bytes_eq}
 use Rattle.std.specs.Option.{option_map_or}
 use Rattle.std.specs.List.{list_any}
@@ -17,7 +17,7 @@ use Rattle.clap.specs.Faults.{check_fault, defaults_fault, entered_fault, fault_
 use Rattle.clap.proofs.OnLiterals.{clap_on_literals}
 use Rattle.command_words.specs.Options.{Choice, choices, option_value, are_options}
 use Rattle.command_words.specs.Command as spec
-use Rattle.command_words.specs.Command.{Command, Task, command_said, home_options, serving_options, home_said, words_say}
+use Rattle.command_words.specs.Command.{Command, Task, http_word, replay_word, serve_word, command_said, home_options, serving_options, home_said, words_say}
 use Rattle.command_words.specs.Program.{Says, has_stray, is_stray, program, rows_by}
 use Rattle.command_words.proofs.OptionLemmas.{same_sym, fits, fits_nothing, more, or_false}
 use Rattle.command_words.proofs.WalkLemmas.{Reads, both_false, fault_alone, fault_first, fault_is, leaf, leaf_reads, names_by, plain_bare, plain_long, plain_short, view}
@@ -25,10 +25,10 @@ use Rattle.command_words.proofs.WalkLemmas.{Reads, both_false, fault_alone, faul
 -- ---- the program
 
 abbrev homes : List (List ℕ)
-homes = codes "id" ∷ codes "base" ∷ codes "sp" ∷ codes "admin" ∷ codes "type" ∷ []
+homes = map (λ name. drop 2 name) home_options
 
 abbrev servings : List (List ℕ)
-servings = codes "id" ∷ codes "base" ∷ codes "sp" ∷ codes "admin" ∷ codes "type" ∷ codes "listen" ∷ codes "accept" ∷ []
+servings = map (λ name. drop 2 name) (home_options ++ serving_options)
 
 abbrev whole : App
 whole = built program
@@ -94,17 +94,17 @@ enters name sub first ok found words =
       ap (λ (w : Walk). entered whole w.stopped) end ∙ ap (option_map (λ s. rows_at s words)) found,
     )
 
-enters_http : Enters (codes "http") (leaf (codes "http") homes)
+enters_http : Enters http_word (leaf http_word homes)
 unfolding clap_on_literals
-enters_http = enters (codes "http") (leaf (codes "http") homes) refl refl refl
+enters_http = enters http_word (leaf http_word homes) refl refl refl
 
-enters_replay : Enters (codes "replay") (leaf (codes "replay") homes)
+enters_replay : Enters replay_word (leaf replay_word homes)
 unfolding clap_on_literals
-enters_replay = enters (codes "replay") (leaf (codes "replay") homes) refl refl refl
+enters_replay = enters replay_word (leaf replay_word homes) refl refl refl
 
-enters_serve : Enters (codes "serve") (leaf (codes "serve") servings)
+enters_serve : Enters serve_word (leaf serve_word servings)
 unfolding clap_on_literals
-enters_serve = enters (codes "serve") (leaf (codes "serve") servings) refl refl refl
+enters_serve = enters serve_word (leaf serve_word servings) refl refl refl
 
 -- ---- what the words say
 
@@ -152,10 +152,10 @@ decided_at name longs words enter same clean =
     (decided_by name (level_fault (leaf name longs) [] nothing_held words false []) (rows_after (leaf name longs).rules [] words) (more u [] (choices words))
     (leaf_reads name longs words clean))))
 
-takes_http : (n : List ℕ) → spec.takes (codes "http") n ≡ is_one_of (names_by homes) n
+takes_http : (n : List ℕ) → spec.takes http_word n ≡ is_one_of (names_by homes) n
 takes_http n = or_false (is_one_of home_options n)
 
-takes_replay : (n : List ℕ) → spec.takes (codes "replay") n ≡ is_one_of (names_by homes) n
+takes_replay : (n : List ℕ) → spec.takes replay_word n ≡ is_one_of (names_by homes) n
 takes_replay n = or_false (is_one_of home_options n)
 
 any_append : {X : Type 0} (p : X → Bool) (xs ys : List X) → (list_any p xs || list_any p ys) ≡ list_any p (xs ++ ys)
@@ -166,12 +166,12 @@ any_append p (x ∷ xs) ys = go (p x) (any_append p xs ys)
     go true rest = refl
     go false rest = rest
 
-takes_serve : (n : List ℕ) → spec.takes (codes "serve") n ≡ is_one_of (names_by servings) n
+takes_serve : (n : List ℕ) → spec.takes serve_word n ≡ is_one_of (names_by servings) n
 takes_serve n = any_append (bytes_eq n) home_options serving_options
 
 -- ---- another name stands first
 
-module _ (name : List ℕ) (h : bytes_eq (codes "http") name ≡ false) (r : bytes_eq (codes "replay") name ≡ false) (s : bytes_eq (codes "serve") name ≡ false) where
+module _ (name : List ℕ) (h : bytes_eq http_word name ≡ false) (r : bytes_eq replay_word name ≡ false) (s : bytes_eq serve_word name ≡ false) where
   other_turn : is_stray name ≡ false → turn_fault top names start name ≢ []
   other_turn clean = elim (view name clean) as (λ _. turn_fault top names start name ≢ []) [
     | inl plain ↦
@@ -190,9 +190,9 @@ module _ (name : List ℕ) (h : bytes_eq (codes "http") name ≡ false) (r : byt
 
   no_task : (os : List Choice) → command_said name os ≡ None
   no_task os =
-      let h2 : bytes_eq name (codes "http") ≡ false = same_sym name (codes "http") ∙ h in
-      let r2 : bytes_eq name (codes "replay") ≡ false = same_sym name (codes "replay") ∙ r in
-      let s2 : bytes_eq name (codes "serve") ≡ false = same_sym name (codes "serve") ∙ s in
+      let h2 : bytes_eq name http_word ≡ false = same_sym name http_word ∙ h in
+      let r2 : bytes_eq name replay_word ≡ false = same_sym name replay_word ∙ r in
+      let s2 : bytes_eq name serve_word ≡ false = same_sym name serve_word ∙ s in
       rw (h2, r2, s2) refl
 
   pub other_said : (words : List (List ℕ)) → words_say (name ∷ words) ≡ None
@@ -217,18 +217,18 @@ program_reads (name ∷ words) clean =
     let parts = both_false (is_stray name) (has_stray words) clean in
     let P : List ℕ → Type 0 = λ n. Decided (fault_of program (n ∷ words)) (subcommand_of program (n ∷ words)) (words_say (n ∷ words)) in
     let named : (text : List ℕ) → bytes_eq text name ≡ true → P text → P name = λ text e p. subst P ((bytes_eq-Decides text name).0 e) p in
-    let Q : Bool → Bool → Bool → Type 0 = λ a b c. bytes_eq (codes "http") name ≡ a → bytes_eq (codes "replay") name ≡ b → bytes_eq (codes "serve") name ≡ c → P name in
+    let Q : Bool → Bool → Bool → Type 0 = λ a b c. bytes_eq http_word name ≡ a → bytes_eq replay_word name ≡ b → bytes_eq serve_word name ≡ c → P name in
     let each : (a b c : Bool) → Q a b c = λ a b c. elim a as (λ a. Q a b c) [
-      | true ↦ λ h r s. named (codes "http") h (decided_at (codes "http") homes words enters_http takes_http parts.1)
+      | true ↦ λ h r s. named http_word h (decided_at http_word homes words enters_http takes_http parts.1)
       | false ↦ elim b as (λ b. Q false b c) [
-        | true ↦ λ h r s. named (codes "replay") r (decided_at (codes "replay") homes words enters_replay takes_replay parts.1)
+        | true ↦ λ h r s. named replay_word r (decided_at replay_word homes words enters_replay takes_replay parts.1)
         | false ↦ elim c as (λ c. Q false false c) [
-          | true ↦ λ h r s. named (codes "serve") s (decided_at (codes "serve") servings words enters_serve takes_serve parts.1)
+          | true ↦ λ h r s. named serve_word s (decided_at serve_word servings words enters_serve takes_serve parts.1)
           | false ↦ λ h r s. (λ e. absurd (other_fault name h r s words parts.0 e), λ bad. other_said name h r s words)
         ]
       ]
     ] in
-    each (bytes_eq (codes "http") name) (bytes_eq (codes "replay") name) (bytes_eq (codes "serve") name) refl refl refl
+    each (bytes_eq http_word name) (bytes_eq replay_word name) (bytes_eq serve_word name) refl refl refl
 
 -- ---- what was found says it
 

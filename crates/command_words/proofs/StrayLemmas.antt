@@ -1,12 +1,12 @@
 -- Words that are no option and no value.
-use Rattle.std.proofs.Common.{◌≡◌, ◌+◌, ◌==◌, ℕ, suc, Bool, true, false, true≢false, cond, not, ◌&&◌, ◌||◌, List, [], ◌∷◌, ◌++◌, take, drop, Option, Some, None, option_and_then, if◌then◌else◌, refl, sym, ap, ap₂, subst, ◌∙◌, eqb-true, arith, codes}
+use Rattle.std.proofs.Common.{◌≡◌, ◌+◌, ◌==◌, ℕ, suc, Bool, true, false, true≢false, cond, not, ◌&&◌, ◌||◌, List, [], ◌∷◌, ◌++◌, take, drop, Option, Some, None, option_and_then, if◌then◌else◌, refl, sym, ap, ap₂, subst, ◌∙◌, eqb-true, arith}
 use Rattle.std.specs.Str.{bytes_eq}
 use Rattle.std.specs.List.{before_first, after_first, list_all, position_or_len}
 use Rattle.std.proofs.lemmas.Slice.Eq.{bytes_eq-Decides}
 use Rattle.m2m_names.specs.Name.{is_one_of}
 use Rattle.command_words.specs.Options.{Choice, choice, is_equals, has_dash, in_front, in_two_words, choices}
 use Rattle.command_words.specs.Command as spec
-use Rattle.command_words.specs.Command.{command_said, home_options, serving_options, words_say}
+use Rattle.command_words.specs.Command.{http_word, replay_word, serve_word, command_said, home_options, serving_options, words_say}
 use Rattle.command_words.specs.Program.{has_stray, is_stray}
 use Rattle.command_words.proofs.OptionLemmas.{all_before, first_unknown, has_equals, has_name, in_one, more, more_front, no_words, not_in_one, one_word, same_sym, two_words}
 use Rattle.command_words.proofs.ProgramLemmas.{other_said, said_by}
@@ -31,8 +31,8 @@ stray_none (text ∷ texts) word e all = go (is_stray text) refl all (stray_none
 -- no command takes it
 stray_untaken : (name word : List ℕ) → is_stray word ≡ true → spec.takes name word ≡ false
 stray_untaken name word e =
-    ap₂ (λ a b. a || (bytes_eq name (codes "serve") && b)) (stray_none home_options word e refl) (stray_none serving_options word e refl)
-    ∙ and_false (bytes_eq name (codes "serve"))
+    ap₂ (λ a b. a || (bytes_eq name serve_word && b)) (stray_none home_options word e refl) (stray_none serving_options word e refl)
+    ∙ and_false (bytes_eq name serve_word)
   where
     and_false : (b : Bool) → (b && false) ≡ false
     and_false true = refl
@@ -128,5 +128,5 @@ stray_says (name ∷ words) e = go (is_stray name) refl e
     differs text f p = same_sym text name ∙ stray_differs name text p f
 
     go : (s : Bool) → is_stray name ≡ s → (s || has_stray words) ≡ true → words_say (name ∷ words) ≡ None
-    go true p f = other_said name (differs (codes "http") refl p) (differs (codes "replay") refl p) (differs (codes "serve") refl p) words
+    go true p f = other_said name (differs http_word refl p) (differs replay_word refl p) (differs serve_word refl p) words
     go false p f = said_by name (spec.takes name) (λ n. refl) words ∙ ap (option_and_then (command_said name)) (stray_options name words f [])

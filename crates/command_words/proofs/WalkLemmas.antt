@@ -79,7 +79,7 @@ dashed long = 45 ∷ 45 ∷ long
 
 -- the option of this long name, as `clap` fills it in
 abbrev pub option_of : List ℕ → Rule
-option_of long = filled (option_rule (dashed long) long)
+option_of long = filled (option_rule (dashed long))
 
 -- the names of options
 abbrev pub names_by : List (List ℕ) → List (List ℕ)

@@ -2,7 +2,6 @@
 use Rattle.std.specs.Prelude.{ℕ, ◌==◌, nat_le, ◌&&◌, ◌||◌, pos, ℤ, Bool, List, [], ◌∷◌, drop, codes}
 use Rattle.std.specs.Prelude.{Option, Some, None, is_some, unwrap_or, option_map, option_and_then}
 use Rattle.std.specs.Prelude.{if◌then◌else◌}
-use Rattle.std.specs.List.{prefix_len}
 use Rattle.std.specs.Str.{bytes_eq}
 use Rattle.m2m_names.specs.Ids.{number_written}
 use Rattle.m2m_names.specs.Name.{is_one_of}
@@ -14,47 +13,72 @@ use Rattle.command_words.specs.declared.command.Task as declared_task
 use Rattle.command_words.specs.declared.command.Task.TheVariants as declared_tasks
 use Rattle.command_words.specs.declared.home.HomeWords as declared_home
 
--- ---- numbers
+-- ---- the words that have a meaning of their own
 
--- how many zeros stand in front
-abbrev pub zeros_len : List ℕ → ℕ
-zeros_len text = prefix_len (λ c. c == 48) text
+-- the commands
+abbrev pub http_word : List ℕ
+http_word = codes "http"
 
--- the number from 1 on that decimal digits spell
-abbrev pub number_in : List ℕ → Option ℕ
-number_in text = number_written (drop (zeros_len text) text)
+abbrev pub replay_word : List ℕ
+replay_word = codes "replay"
+
+abbrev pub serve_word : List ℕ
+serve_word = codes "serve"
+
+-- the options: what the entity is called, and who runs it
+abbrev pub id_option : List ℕ
+id_option = codes "--id"
+
+abbrev pub base_option : List ℕ
+base_option = codes "--base"
+
+abbrev pub sp_option : List ℕ
+sp_option = codes "--sp"
+
+abbrev pub admin_option : List ℕ
+admin_option = codes "--admin"
+
+abbrev pub type_option : List ℕ
+type_option = codes "--type"
+
+-- where a server listens, and how many connections it accepts
+abbrev pub listen_option : List ℕ
+listen_option = codes "--listen"
+
+abbrev pub accept_option : List ℕ
+accept_option = codes "--accept"
 
 -- ---- the options that a command takes
 
--- those that say what the entity is called and who runs it
+-- those that say a home
 abbrev pub home_options : List (List ℕ)
-home_options = codes "--id" ∷ codes "--base" ∷ codes "--sp" ∷ codes "--admin" ∷ codes "--type" ∷ []
+home_options = id_option ∷ base_option ∷ sp_option ∷ admin_option ∷ type_option ∷ []
 
--- those that say where a server listens, and how many connections it accepts
+-- those that only a server takes
 abbrev pub serving_options : List (List ℕ)
-serving_options = codes "--listen" ∷ codes "--accept" ∷ []
+serving_options = listen_option ∷ accept_option ∷ []
 
 -- the command takes an option of this name
 abbrev pub takes : List ℕ → List ℕ → Bool
 takes command name = is_one_of home_options name
-    || (bytes_eq command (codes "serve") && is_one_of serving_options name)
+    || (bytes_eq command serve_word && is_one_of serving_options name)
 
 -- ---- what the options say
 
 -- the CSE type that an option says, or else the usual one
 abbrev pub cse_type_said : Option (List ℕ) → Option ℤ
 cse_type_said None = Some default_home.cst
-cse_type_said (Some text) = option_map (λ n. pos n) (number_in text)
+cse_type_said (Some text) = option_map (λ n. pos n) (number_written text)
 
 -- the home that options say: each part that none of them says is the usual one
 abbrev pub home_said : List Choice → Option HomeData
 home_said os = option_map (λ cst. record {
-  sp = unwrap_or (option_value (codes "--sp") os) default_home.sp;
-  csi = unwrap_or (option_value (codes "--id") os) default_home.csi;
-  base = unwrap_or (option_value (codes "--base") os) default_home.base;
+  sp = unwrap_or (option_value sp_option os) default_home.sp;
+  csi = unwrap_or (option_value id_option os) default_home.csi;
+  base = unwrap_or (option_value base_option os) default_home.base;
   cst = cst;
-  admin = unwrap_or (option_value (codes "--admin") os) default_home.admin;
-}) (cse_type_said (option_value (codes "--type") os))
+  admin = unwrap_or (option_value admin_option os) default_home.admin;
+}) (cse_type_said (option_value type_option os))
 
 -- where a server listens, and how many connections it accepts, where that is limited
 pub record Serving : Type 0 where
@@ -72,7 +96,7 @@ most_accepted = 1_000_000_000
 -- how many connections a text says
 abbrev pub count_in : List ℕ → Option ℕ
 count_in text = option_and_then
-    (λ n. if nat_le n most_accepted then Some n else None) (number_in text)
+    (λ n. if nat_le 1 n && nat_le n most_accepted then Some n else None) (number_written text)
 
 -- the limit that an option says, or else none
 abbrev pub accept_said : Option (List ℕ) → Option (Option ℕ)
@@ -82,9 +106,9 @@ accept_said (Some text) = option_map (λ n. Some n) (count_in text)
 -- the server that options say
 abbrev pub serving_said : List Choice → Option Serving
 serving_said os = option_map (λ accept. record {
-  listen = unwrap_or (option_value (codes "--listen") os) usual_address;
+  listen = unwrap_or (option_value listen_option os) usual_address;
   accept = accept;
-}) (accept_said (option_value (codes "--accept") os))
+}) (accept_said (option_value accept_option os))
 
 -- ---- the command
 
@@ -96,9 +120,9 @@ pub data Task : Type 0 where
 
 -- the task of this name, with its options
 abbrev pub task_said : List ℕ → List Choice → Option Task
-task_said name os = if bytes_eq name (codes "http") then Some http
-    else if bytes_eq name (codes "replay") then Some replay
-    else if bytes_eq name (codes "serve") then option_map serve (serving_said os)
+task_said name os = if bytes_eq name http_word then Some http
+    else if bytes_eq name replay_word then Some replay
+    else if bytes_eq name serve_word then option_map serve (serving_said os)
     else None
 
 -- a task, and the home of the entity that it is for

@@ -37,16 +37,16 @@ in_front (Some first) rest = option_map (λ others. first ∷ others) rest
 
 -- the option that a word is, or that it is with the next one, in front of those behind the words
 -- that it takes: behind one, or behind two
-abbrev pub first_of : Option Choice → Option Choice → Option (List Choice) → Option (List Choice)
+abbrev pub choices_by : Option Choice → Option Choice → Option (List Choice) → Option (List Choice)
     → Option (List Choice)
-first_of (Some one) two behind_one behind_two = in_front (Some one) behind_one
-first_of None two behind_one behind_two = in_front two behind_two
+choices_by (Some one) two behind_one behind_two = in_front (Some one) behind_one
+choices_by None two behind_one behind_two = in_front two behind_two
 
 -- the options that these words are, in order, if they are
 abbrev pub choices : List (List ℕ) → Option (List Choice)
 choices [] = Some []
 choices (word ∷ []) = in_front (in_one_word word) (Some [])
-choices (word ∷ next ∷ words) = first_of (in_one_word word) (in_two_words word next)
+choices (word ∷ next ∷ words) = choices_by (in_one_word word) (in_two_words word next)
     (choices (next ∷ words)) (choices words)
 
 -- what the first of these options with this name says

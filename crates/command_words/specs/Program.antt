@@ -1,6 +1,6 @@
 -- The command line as `clap` is told of it, and what it finds in words.
-use Rattle.std.specs.Prelude.{◌≡◌, ◌==◌, ◌&&◌, ℕ, List, [], ◌∷◌, map, Bool, true, false, not, Option}
-use Rattle.std.specs.Prelude.{Some, None, codes}
+use Rattle.std.specs.Prelude.{◌≡◌, ◌==◌, ◌&&◌, ℕ, List, [], ◌∷◌, drop, map, fold, Bool, true}
+use Rattle.std.specs.Prelude.{false, not, Option, Some, None, codes}
 use Rattle.std.specs.List.{list_any}
 use Rattle.clap.specs.Words.{App, Row, Rule, new_app, new_rule, with_rule, with_subcommand}
 use Rattle.clap.specs.Simple.{on_top}
@@ -8,7 +8,8 @@ use Rattle.clap.specs.declared.builder.action.ArgAction.TheVariants.{Set}
 use Rattle.clap.specs.declared.builder.value_parser.Reading.TheVariants.{AsWritten}
 use Rattle.clap.specs.declared.parser.matches.ValueSource.TheVariants.{CommandLine}
 use Rattle.command_words.specs.Options.{Choice}
-use Rattle.command_words.specs.Command.{Command, command_said}
+use Rattle.command_words.specs.Command.{Command, command_said, home_options, serving_options}
+use Rattle.command_words.specs.Command.{http_word, replay_word, serve_word}
 
 -- ---- the words that `clap` isn't asked about
 
@@ -25,28 +26,19 @@ has_stray words = list_any is_stray words
 -- ---- the command line
 
 -- an option with one value, whose id is its name: two dashes and the long name
-abbrev pub option_rule : List ℕ → List ℕ → Rule
-option_rule name long = record (new_rule name) { long = Some long; action = Some Set }
+abbrev pub option_rule : List ℕ → Rule
+option_rule name = record (new_rule name) { long = Some (drop 2 name); action = Some Set }
 
-abbrev pub with_option : App → List ℕ → List ℕ → App
-with_option app name long = with_rule app (option_rule name long)
+abbrev pub with_option : App → List ℕ → App
+with_option app name = with_rule app (option_rule name)
 
 -- a command with the options that say a home
 abbrev pub homed : List ℕ → App
-homed name = with_option
-    (with_option
-    (with_option
-    (with_option
-    (with_option (new_app name) (codes "--id") (codes "id"))
-    (codes "--base") (codes "base"))
-    (codes "--sp") (codes "sp"))
-    (codes "--admin") (codes "admin"))
-    (codes "--type") (codes "type")
+homed name = fold with_option (new_app name) home_options
 
--- the command with the options that say where a server listens, too
+-- the command with those that only a server takes, too
 abbrev pub serving : App
-serving = with_option (with_option (homed (codes "serve")) (codes "--listen") (codes "listen"))
-    (codes "--accept") (codes "accept")
+serving = fold with_option (homed serve_word) serving_options
 
 -- no name of the program stands among the words, and nothing asks for help
 abbrev pub bare : App
@@ -59,8 +51,8 @@ bare = on_top (λ top. record top {
 abbrev pub program : App
 program = with_subcommand
     (with_subcommand
-    (with_subcommand bare (homed (codes "http")).top)
-    (homed (codes "replay")).top)
+    (with_subcommand bare (homed http_word).top)
+    (homed replay_word).top)
     serving.top
 
 -- ---- what is found

@@ -1,6 +1,5 @@
 //! The command that words name.
-ghost use Rattle.std.specs.Prelude.{◌≡◌, ◌≤◌, ◌<◌, ◌^◌, ℕ, pos, List, Some, IfSome, length, map};
-ghost use Rattle.std.specs.Prelude.{IfOk, option_map};
+ghost use Rattle.std.specs.Prelude.{◌≡◌, List, Option, IfOk, map, option_map};
 ghost use Rattle.clap.specs.Words.{found_of, rows_of, subcommand_rows_of};
 ghost use Rattle.command_words.specs.Options.{Choice};
 ghost use Rattle.command_words.specs.Options as choices;
@@ -8,6 +7,7 @@ ghost use Rattle.command_words.specs.Program.{Says, rows_by};
 ghost use Rattle.command_words.specs.Command as spec;
 
 use crate::home::HomeWords;
+use crate::names;
 use crate::program::matches_of;
 use clap::ArgMatches;
 use m2m_names::read_digits;
@@ -45,27 +45,11 @@ const USUAL_ADDRESS: &str = "127.0.0.1:8080";
 /// As many connections as a server can be told to accept.
 const MOST_ACCEPTED: u64 = 1_000_000_000;
 
-/// How many bytes of the text are zeros in front of others.
-fn zeros_len(text: &[u8]) -> usize
-    ensures value { result ≡ spec.zeros_len text.now }
-    ensures bound { result ≤ length text.now }
-{
-    text.iter().take_while(|byte| **byte == b'0').count()
-}
-
-/// The number from 1 on that decimal digits spell.
-fn number_in(text: &[u8]) -> Option<u64>
-    ensures value { result ≡ spec.number_in text.now }
-    ensures bound { IfSome result (λ n. n < 2 ^ 63) }
-{
-    read_digits(&text[zeros_len(text)..])
-}
-
 fn cse_type_said(said: Option<&str>) -> Option<i64>
     ensures { result ≡ spec.cse_type_said (option_map (λ text. text.now) said.entry) }
 {
     match said {
-        Some(text) => Some(number_in(text.as_bytes())? as i64),
+        Some(text) => Some(read_digits(text.as_bytes())? as i64),
         None => Some(CSE_TYPE),
     }
 }
@@ -83,13 +67,13 @@ fn home_said<'a>(options: &ArgMatches<'a>) -> Option<HomeWords<'a>>
     ensures { (os : List Choice) → rows_of (found_of options.now) ≡ rows_by os
         → option_map spec.home_by result ≡ spec.home_said os }
 {
-    let cst = cse_type_said(option_value("--type", options))?;
+    let cst = cse_type_said(option_value(names::TYPE, options))?;
     Some(HomeWords {
-        sp: option_value("--sp", options).unwrap_or(SERVICE_PROVIDER),
-        csi: option_value("--id", options).unwrap_or(CSE_ID),
-        base: option_value("--base", options).unwrap_or(BASE),
+        sp: option_value(names::SP, options).unwrap_or(SERVICE_PROVIDER),
+        csi: option_value(names::ID, options).unwrap_or(CSE_ID),
+        base: option_value(names::BASE, options).unwrap_or(BASE),
         cst,
-        admin: option_value("--admin", options).unwrap_or(ADMIN),
+        admin: option_value(names::ADMIN, options).unwrap_or(ADMIN),
     })
 }
 
@@ -97,8 +81,8 @@ fn home_said<'a>(options: &ArgMatches<'a>) -> Option<HomeWords<'a>>
 fn count_in(text: &[u8]) -> Option<u64>
     ensures { result ≡ spec.count_in text.now }
 {
-    let count = number_in(text)?;
-    if count <= MOST_ACCEPTED {
+    let count = read_digits(text)?;
+    if 1 <= count && count <= MOST_ACCEPTED {
         Some(count)
     } else {
         None
@@ -119,9 +103,9 @@ fn serving_said<'a>(options: &ArgMatches<'a>) -> Option<Serving<'a>>
     ensures { (os : List Choice) → rows_of (found_of options.now) ≡ rows_by os
         → option_map spec.serving_by result ≡ spec.serving_said os }
 {
-    let accept = accept_said(option_value("--accept", options))?;
+    let accept = accept_said(option_value(names::ACCEPT, options))?;
     Some(Serving {
-        listen: option_value("--listen", options).unwrap_or(USUAL_ADDRESS),
+        listen: option_value(names::LISTEN, options).unwrap_or(USUAL_ADDRESS),
         accept,
     })
 }
@@ -131,11 +115,11 @@ fn task_said<'a>(name: &str, options: &ArgMatches<'a>) -> Option<Task<'a>>
     ensures { (os : List Choice) → rows_of (found_of options.now) ≡ rows_by os
         → option_map spec.task_by result ≡ spec.task_said name.now os }
 {
-    if name == "http" {
+    if name == names::HTTP {
         Some(Task::Http)
-    } else if name == "replay" {
+    } else if name == names::REPLAY {
         Some(Task::Replay)
-    } else if name == "serve" {
+    } else if name == names::SERVE {
         Some(Task::Serve(serving_said(options)?))
     } else {
         None

@@ -9,6 +9,7 @@
 
 mod command;
 mod home;
+mod names;
 mod program;
 
 pub use command::{Command, Serving, Task, read_command};

@@ -1,11 +1,12 @@
 //! The words as `clap` reads them.
-ghost use Rattle.std.specs.Prelude.{◌≡◌, None, IfOk, MatchOption, map, false};
+ghost use Rattle.std.specs.Prelude.{◌≡◌, None, IfOk, MatchOption, take, drop, map, false, codes};
 ghost use Rattle.clap.specs.Words.{app_of, rule_of, subcommand_rows_of};
 ghost use Rattle.clap.specs.declared.builder.command.Command.TheViews.{out-Command as fields_of};
 ghost use Rattle.command_words.specs.Program as spec;
 ghost use Rattle.command_words.specs.Program.{Says};
 ghost use Rattle.command_words.specs.Command.{words_say};
 
+use crate::names;
 use clap::error::ErrorKind;
 use clap::{Arg, ArgAction, ArgMatches, Command};
 use std::alloc::{AllocError as OutOfMemory, Global};
@@ -28,12 +29,26 @@ fn has_stray(words: &[&str]) -> bool
     words.iter().any(|word| is_stray(word))
 }
 
+/// The name of an option as `clap` has it: without the two dashes in front.
+fn long_name(name: &str) -> &str
+    requires { take 2 name.now ≡ codes "--" }
+    ensures { result.now ≡ drop 2 name.now }
+{
+    match name.strip_prefix("--") {
+        Some(long) => long,
+        None => name,
+    }
+}
+
 /// An option with one value. Its id is its name.
-fn option<'a>(alloc: Global, name: &'a str, long: &'a str) -> Arg<'a>
-    ensures rule { rule_of result ≡ spec.option_rule name.entry.now long.entry.now }
+fn option<'a>(alloc: Global, name: &'a str) -> Arg<'a>
+    requires { take 2 name.now ≡ codes "--" }
+    ensures rule { rule_of result ≡ spec.option_rule name.entry.now }
     ensures local { result.global ≡ false }
 {
-    Arg::new(alloc, name).long(long).action(ArgAction::Set)
+    Arg::new(alloc, name)
+        .long(long_name(name))
+        .action(ArgAction::Set)
 }
 
 /// The command with one option more.
@@ -41,14 +56,14 @@ fn with_option<'a>(
     alloc: Global,
     command: Command<'a>,
     name: &'a str,
-    long: &'a str,
 ) -> Result<Command<'a>, OutOfMemory>
+    requires { take 2 name.now ≡ codes "--" }
     ensures app { IfOk result (λ made. app_of made
-        ≡ spec.with_option (app_of command.entry) name.entry.now long.entry.now) }
+        ≡ spec.with_option (app_of command.entry) name.entry.now) }
     ensures local { IfOk result (λ made.
         (fields_of made).has_globals ≡ (fields_of command.entry).has_globals) }
 {
-    command.arg(option(alloc, name, long))
+    command.arg(option(alloc, name))
 }
 
 /// A command with the options that say a home.
@@ -57,21 +72,21 @@ fn homed<'a>(alloc: Global, name: &'a str) -> Result<Command<'a>, OutOfMemory>
     ensures local { IfOk result (λ made. (fields_of made).has_globals ≡ false) }
 {
     let command = Command::new(alloc, name);
-    let command = with_option(alloc, command, "--id", "id")?;
-    let command = with_option(alloc, command, "--base", "base")?;
-    let command = with_option(alloc, command, "--sp", "sp")?;
-    let command = with_option(alloc, command, "--admin", "admin")?;
-    with_option(alloc, command, "--type", "type")
+    let command = with_option(alloc, command, names::ID)?;
+    let command = with_option(alloc, command, names::BASE)?;
+    let command = with_option(alloc, command, names::SP)?;
+    let command = with_option(alloc, command, names::ADMIN)?;
+    with_option(alloc, command, names::TYPE)
 }
 
-/// The command with the options that say where a server listens, too.
+/// The command with those that only a server takes, too.
 fn serving<'a>(alloc: Global) -> Result<Command<'a>, OutOfMemory>
     ensures app { IfOk result (λ made. app_of made ≡ spec.serving) }
     ensures local { IfOk result (λ made. (fields_of made).has_globals ≡ false) }
 {
-    let command = homed(alloc, "serve")?;
-    let command = with_option(alloc, command, "--listen", "listen")?;
-    with_option(alloc, command, "--accept", "accept")
+    let command = homed(alloc, names::SERVE)?;
+    let command = with_option(alloc, command, names::LISTEN)?;
+    with_option(alloc, command, names::ACCEPT)
 }
 
 /// The program with no command yet: no name of it stands among the words, and nothing asks for
@@ -89,8 +104,8 @@ fn bare<'a>(alloc: Global) -> Command<'a>
 fn command_line<'a>(alloc: Global) -> Result<Command<'a>, OutOfMemory>
     ensures { IfOk result (λ made. app_of made ≡ spec.program) }
 {
-    let http = homed(alloc, "http")?;
-    let replay = homed(alloc, "replay")?;
+    let http = homed(alloc, names::HTTP)?;
+    let replay = homed(alloc, names::REPLAY)?;
     let serve = serving(alloc)?;
     bare(alloc)
         .subcommand(http)?

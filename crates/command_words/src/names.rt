@@ -1,0 +1,21 @@
+//! The words that have a meaning of their own: the names of commands, and those of options.
+
+pub(crate) const HTTP: &str = "http";
+pub(crate) const REPLAY: &str = "replay";
+pub(crate) const SERVE: &str = "serve";
+
+/// The CSE-ID without its slash.
+pub(crate) const ID: &str = "--id";
+/// The name of the CSEBase.
+pub(crate) const BASE: &str = "--base";
+/// The service provider.
+pub(crate) const SP: &str = "--sp";
+/// The administrator.
+pub(crate) const ADMIN: &str = "--admin";
+/// The CSE type.
+pub(crate) const TYPE: &str = "--type";
+
+/// Where a server listens.
+pub(crate) const LISTEN: &str = "--listen";
+/// How many connections a server accepts.
+pub(crate) const ACCEPT: &str = "--accept";
