@@ -1,7 +1,7 @@
 -- Words that are no option and no value.
-use Rattle.std.proofs.Common.{◌≡◌, ◌+◌, ◌==◌, ℕ, suc, Bool, true, false, true≢false, cond, not, ◌&&◌, ◌||◌, List, [], ◌∷◌, ◌++◌, take, drop, Option, Some, None, option_and_then, if◌then◌else◌, refl, sym, ap, ap₂, subst, ◌∙◌, eqb-true, arith}
+use Rattle.std.proofs.Common.{◌≡◌, ◌+◌, ◌==◌, ℕ, suc, Bool, true, false, true≢false, cond, not, ◌&&◌, ◌||◌, List, [], ◌∷◌, ◌++◌, take, drop, Option, Some, None, option_and_then, if◌then◌else◌, map, Bor, refl, sym, ap, ap₂, subst, ◌∙◌, eqb-true, arith}
 use Rattle.std.specs.Str.{bytes_eq}
-use Rattle.std.specs.List.{before_first, after_first, list_all, position_or_len}
+use Rattle.std.specs.List.{before_first, after_first, list_all, list_any, position_or_len}
 use Rattle.std.proofs.lemmas.Slice.Eq.{bytes_eq-Decides}
 use Rattle.m2m_names.specs.Name.{is_one_of}
 use Rattle.command_words.specs.Options.{Choice, choice, is_equals, has_dash, in_front, in_two_words, choices}
@@ -118,6 +118,11 @@ module _ (name : List ℕ) where
   stray_options [] = λ e seen. absurd (true≢false (sym e))
   stray_options (word ∷ []) = stray_step word [] (stray_options []) (stray_options [])
   stray_options (word ∷ word2 ∷ words) = stray_step word (word2 ∷ words) (stray_options (word2 ∷ words)) (stray_options words)
+
+-- a stray text among words is one among their texts
+pub stray_texts : (words : List (Bor (List ℕ))) → list_any (λ word. is_stray word.now) words ≡ has_stray (map (λ word. word.now) words)
+stray_texts [] = refl
+stray_texts (word ∷ words) = ap (λ b. is_stray word.now || b) (stray_texts words)
 
 -- words with a stray one say nothing
 pub stray_says : (words : List (List ℕ)) → has_stray words ≡ true → words_say words ≡ None

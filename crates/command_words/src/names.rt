@@ -1,7 +1,9 @@
 //! The words that have a meaning of their own: the names of commands, and those of options.
 
 pub(crate) const HTTP: &str = "http";
+
 pub(crate) const REPLAY: &str = "replay";
+
 pub(crate) const SERVE: &str = "serve";
 
 /// The CSE-ID without its slash.

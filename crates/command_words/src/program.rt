@@ -1,5 +1,6 @@
 //! The words as `clap` reads them.
 ghost use Rattle.std.specs.Prelude.{◌≡◌, None, IfOk, MatchOption, take, drop, map, false, codes};
+ghost use Rattle.std.specs.List.{list_any};
 ghost use Rattle.clap.specs.Words.{app_of, rule_of, subcommand_rows_of};
 ghost use Rattle.clap.specs.declared.builder.command.Command.TheViews.{out-Command as fields_of};
 ghost use Rattle.command_words.specs.Program as spec;
@@ -24,7 +25,7 @@ fn is_stray(word: &str) -> bool
 }
 
 fn has_stray(words: &[&str]) -> bool
-    ensures { result ≡ spec.has_stray (map (λ word. word.now) words.now) }
+    ensures { result ≡ list_any (λ word. spec.is_stray word.now) words.now }
 {
     words.iter().any(|word| is_stray(word))
 }
