@@ -1,5 +1,5 @@
 -- Options that are read one after another.
-use Rattle.std.proofs.Common.{◌≡◌, ◌≢◌, ◌≤◌, ◌<◌, ◌+◌, ◌==◌, ℕ, zero, suc, Bool, true, false, true≢false, cond, not, ◌&&◌, ◌||◌, List, [], ◌∷◌, ◌++◌, append_assoc, length, take, drop, Option, Some, None, find, is_some, option_map, option_and_then, if◌then◌else◌, refl, sym, ap, subst, ◌∙◌, arith, nat_lt, eqb-true, lt-ltb}
+use Rattle.std.proofs.Common.{◌≡◌, ◌+◌, ◌==◌, ℕ, suc, Bool, true, false, true≢false, cond, not, ◌&&◌, ◌||◌, List, [], ◌∷◌, ◌++◌, append_assoc, length, take, drop, Option, Some, None, find, is_some, option_map, option_and_then, if◌then◌else◌, refl, sym, ap, ◌∙◌, arith, nat_lt, lt-ltb}
 use Rattle.std.specs.Str.{bytes_eq}
 use Rattle.std.specs.List.{list_all, list_any, before_first, after_first, position_or_len}
 use Rattle.std.proofs.lemmas.Slice.Eq.{bytes_eq-Decides}

@@ -8,7 +8,7 @@ use Rattle.command_words.specs.Options.{Choice, choice, is_equals, has_dash, in_
 use Rattle.command_words.specs.Command as spec
 use Rattle.command_words.specs.Command.{http_word, replay_word, serve_word, command_said, home_options, serving_options, words_say}
 use Rattle.command_words.specs.Program.{has_stray, is_stray}
-use Rattle.command_words.proofs.OptionLemmas.{all_before, first_unknown, has_equals, has_name, in_one, more, more_front, no_words, not_in_one, one_word, same_sym, two_words}
+use Rattle.command_words.proofs.OptionLemmas.{first_unknown, has_equals, has_name, in_one, more, more_front, not_in_one, one_word, same_sym, two_words}
 use Rattle.command_words.proofs.ProgramLemmas.{other_said, said_by}
 
 -- a stray word is none of these texts

@@ -1,23 +1,23 @@
 -- What `clap` makes of the words behind the name of a command.
-use Rattle.std.proofs.Common.{◌≡◌, ◌≢◌, ◌⊎◌, ◌+◌, ◌==◌, ℕ, Bool, true, false, true≢false, cond, not, ◌&&◌, ◌||◌, List, [], ◌∷◌, ◌++◌, append-nil, length, map, drop, Option, Some, None, find, is_some, option_map, option_and_then, if◌then◌else◌, fold, refl, sym, ap, ap₂, subst, ◌∙◌, inl, inr, arith, eqb-true, codes}
-use Rattle.std.specs.Prelude.{slice_get, unwrap_or, nat_lt}
+use Rattle.std.proofs.Common.{◌≡◌, ◌≢◌, ◌⊎◌, ◌==◌, ℕ, Bool, true, false, true≢false, cond, not, ◌&&◌, ◌||◌, List, [], ◌∷◌, ◌++◌, append-nil, map, drop, Option, Some, None, find, option_map, option_and_then, if◌then◌else◌, fold, refl, sym, ap, ap₂, subst, ◌∙◌, inl, inr, eqb-true}
+use Rattle.std.specs.Prelude.{slice_get}
 use Rattle.std.specs.Str.{bytes_eq}
 use Rattle.std.specs.Option.{option_map_or}
-use Rattle.std.specs.List.{list_all, list_any, before_first, after_first}
+use Rattle.std.specs.List.{list_any, before_first, after_first}
 use Rattle.std.proofs.lemmas.Slice.Eq.{bytes_eq-Decides}
 use Rattle.m2m_names.specs.Name.{is_one_of}
-use Rattle.clap.specs.Lexer.{long_of, short_of, has_byte}
+use Rattle.clap.specs.Lexer.{long_of, short_of}
 use Rattle.clap.specs.Kinds.{Kinds, check_kinds, or_else}
-use Rattle.clap.specs.Walk.{Held, Names, Outcome, Row, Rule, Step, Text, Waiting, Walk, idle, option, positional, after_flag, after_step, arg_by_id, arg_by_index, arg_by_long, at_row, first_of, has_row, long_met, more_values, nothing_held, pushed, reacted, settled, used, used_by_id, walked, with_values, without, with_default, finished, rows_after}
+use Rattle.clap.specs.Walk.{Held, Row, Rule, Step, Waiting, Walk, idle, option, positional, after_flag, after_step, arg_by_id, arg_by_index, arg_by_long, first_of, has_row, long_met, more_values, nothing_held, reacted, settled, used, used_by_id, walked, with_values, without, with_default, finished, rows_after}
 use Rattle.clap.specs.Simple.{Shape, filled}
 use Rattle.clap.specs.Takes.{is_given}
 use Rattle.clap.specs.Faults.{check_fault, given_default_fault, default_fault, defaults_fault, level_fault, long_fault, settle_fault, step_fault, turn_fault, use_fault, walk_fault}
 use Rattle.clap.specs.declared.error.kind.ErrorKind.TheVariants as kind
 use Rattle.clap.specs.declared.parser.matches.ValueSource.TheVariants.{CommandLine}
 use Rattle.clap.specs.declared.builder.value_parser.Reading.TheVariants.{AsWritten}
-use Rattle.command_words.specs.Options.{Choice, choice, is_equals, has_dash, in_front, in_one_word, in_two_words, choices, option_value}
+use Rattle.command_words.specs.Options.{Choice, choice, is_equals, has_dash, in_front, in_two_words, choices, option_value}
 use Rattle.command_words.specs.Program.{has_stray, is_stray, option_rule, row_by, rows_by}
-use Rattle.command_words.proofs.OptionLemmas.{same_sym, same_self, has_equals, in_one, not_in_one, all_before, before_dashes, after_dashes, no_dash_before, one_word, two_words, no_words, has_name, has_cons, more, more_taken, more_unknown, more_again, first_unknown}
+use Rattle.command_words.proofs.OptionLemmas.{same_sym, same_self, has_equals, in_one, not_in_one, all_before, before_dashes, after_dashes, no_dash_before, one_word, two_words, no_words, has_name, has_cons, more, more_taken, more_again, first_unknown}
 
 -- ---- faults
 

@@ -1,5 +1,5 @@
 -- What the words of a command line ask for.
-use Rattle.std.specs.Prelude.{ℕ, ◌==◌, nat_le, ◌&&◌, ◌||◌, pos, ℤ, Bool, List, [], ◌∷◌, drop, codes}
+use Rattle.std.specs.Prelude.{ℕ, nat_le, ◌&&◌, ◌||◌, pos, ℤ, Bool, List, [], ◌∷◌, codes}
 use Rattle.std.specs.Prelude.{Option, Some, None, is_some, unwrap_or, option_map, option_and_then}
 use Rattle.std.specs.Prelude.{if◌then◌else◌}
 use Rattle.std.specs.Str.{bytes_eq}

@@ -1,4 +1,4 @@
-use Rattle.std.proofs.Common.{◌≡◌, refl, sym, ap, ◌∙◌, false, inl, inr, map}
+use Rattle.std.proofs.Common.{◌≡◌, sym, ap, ◌∙◌, false, inl, inr, map}
 use Rattle.clap.specs.Simple.{is_simple}
 use Rattle.clap.specs.Faults.{is_simple_and_free}
 use Rattle.command_words.specs.Program.{has_stray}
