@@ -48,4 +48,4 @@ pub use reading::{read_reply, read_request, request_from};
 pub use reply::{Reply, ReplyParts};
 pub use request::{Request, RequestParts, When};
 pub use std::alloc::AllocError as OutOfMemory;
-pub use writing::{reply_into, write_reply, write_request};
+pub use writing::{expiry_text, reply_into, write_reply, write_request};
