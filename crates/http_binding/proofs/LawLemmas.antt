@@ -21,7 +21,7 @@ use Rattle.m2m_value.specs.Reading.{reading}
 use Rattle.m2m_value.specs.View.{as_object}
 use Rattle.filter_criteria.specs.Bounds.{IsMoment}
 use Rattle.primitive_json.specs.Bounds.{is_request_id, request_id_limit}
-use Rattle.primitive_json.specs.Kinds.{is_numeral, expiry_spelled, target_limit, result_contents}
+use Rattle.primitive_json.specs.Kinds.{is_numeral, expiry_spelled, target_limit, result_contents, is_among}
 use Rattle.primitive_json.specs.Laws.{IsWhenOfKind, IsShortWhen, IsOfKinds, HasShortExpiry}
 use Rattle.primitive_json.specs.Form.{is_only_read}
 use Rattle.primitive_json.specs.Members.{creates, retrieves, has_content, has_result}
@@ -43,14 +43,15 @@ use Rattle.http_binding.specs.declared.method.Method.{Method}
 use Rattle.http_binding.specs.declared.method.Method.TheVariants.{Get, Post, Put, Delete}
 use Rattle.http_binding.specs.Headers.{field_name, admits, is_some_text}
 use Rattle.http_binding.specs.MediaTypes.{TypeNumber, type_said, type_number, is_short_number}
-use Rattle.http_binding.specs.Targets.{PathAndQuery, TargetValues, target_parts, values_of, is_target}
+use Rattle.http_binding.specs.Targets.{PathAndQuery, TargetValues, target_parts, target_values, is_target}
 use Rattle.http_binding.proofs.QueryLemmas.{reads, IsSaid, said_on, nothing_is_said, filter_sound, filter_kinds, IsSaidFilter}
-use Rattle.http_binding.specs.Queries.{pairs_of, nothing_said, is_result, among}
+use Rattle.http_binding.specs.Queries.{decoded_pairs, nothing_said, is_result}
 use Rattle.http_binding.specs.declared.query.Query.{Query}
 use Rattle.filter_criteria.specs.Filters.{IsSoundFilter}
 use Rattle.filter_criteria.specs.Laws.{IsFilterOfKinds}
 use Rattle.filter_criteria.specs.declared.filter.FilterParts.{FilterParts}
-use Rattle.http_binding.specs.Binding.{method_of, said_by_target, target_of, lone_value, header_value, HeaderValues, header_values, required, unless_empty, Caller, caller_of, operation_of, query_of, kept_result, value_in, object_only, content_in, content_of, created_type, request_of, Binds, echo_of}
+use Rattle.http_binding.specs.Binding.{method_of, said_by_target, target_of, lone_value, header_value, HeaderValues, header_values, required, unless_empty, Caller, caller_of, query_of, kept_result, value_in, object_only, content_in, content_of, created_type, request_of, Binds, echo_of}
+use Rattle.http_binding.specs.Methods.{operation_of}
 
 pub binds_to_one : (frame : Frame) (request other : RequestParts) → Binds frame request → Binds frame other → request ≡ other
 binds_to_one frame request other h g = ap (λ r. result_unwrap_or r request) (sym h ∙ g)
@@ -69,7 +70,7 @@ chosen false first read fault h = absurd (false≢true (ap is_ok h))
 said_target : (parts : Option PathAndQuery) (target : TargetValues) → option_map_or said_by_target parts (Err bind.Target) ≡ Ok target → is_target target ≡ true
 said_target None target h = absurd (false≢true (ap is_ok h))
 said_target (Some parts) target h =
-    let p = passed (is_target (values_of parts)) (values_of parts) target _ h in
+    let p = passed (is_target (target_values parts)) (target_values parts) target _ h in
     subst (λ t. is_target t ≡ true) p.1 p.0
 
 targets : (start : Start) (target : TargetValues) → target_of start ≡ Ok target → is_target target ≡ true
@@ -146,11 +147,26 @@ created_by_post : (type : Option ℕ) → IsShort type → IsShort (created_type
 created_by_post None h = tt
 created_by_post (Some n) h = h
 
+none_by_get : (type : Option ℕ) → created_type (operation_of Get type) type ≡ None
+none_by_get None = refl
+none_by_get (Some n) = refl
+
+none_by_put : (type : Option ℕ) → created_type (operation_of Put type) type ≡ None
+none_by_put None = refl
+none_by_put (Some n) = refl
+
+none_by_delete : (type : Option ℕ) → created_type (operation_of Delete type) type ≡ None
+none_by_delete None = refl
+none_by_delete (Some n) = refl
+
+short_none : (number : Option ℕ) → number ≡ None → IsShort number
+short_none number none = subst IsShort (sym none) tt
+
 created_short : (method : Method) (lines : List Line) (value : Option (List ℕ)) → header_value (ContentType method) lines ≡ Ok value
     → IsShort (created_type (operation_of method (option_and_then type_number value)) (option_and_then type_number value))
-created_short Get lines value h = tt
-created_short Put lines value h = tt
-created_short Delete lines value h = tt
+created_short Get lines value h = short_none _ (none_by_get (option_and_then type_number value))
+created_short Put lines value h = short_none _ (none_by_put (option_and_then type_number value))
+created_short Delete lines value h = short_none _ (none_by_delete (option_and_then type_number value))
 created_short Post lines value h =
     created_by_post (option_and_then type_number value) (short_value value (admitted_any (ContentType Post) lines value h))
 
@@ -227,22 +243,22 @@ contents Retrieve body content h = no_content content h
 contents Removal body content h = no_content content h
 
 -- a type is there on a Create alone
-type_by_post : (type : Option ℕ) → is_some (created_type (operation_of Post type) type) ≡ creates (operation_of Post type)
-type_by_post None = refl
-type_by_post (Some n) = refl
-
 type_there : (method : Method) (type : Option ℕ) → is_some (created_type (operation_of method type) type) ≡ creates (operation_of method type)
-type_there Get type = refl
-type_there Put type = refl
-type_there Delete type = refl
-type_there Post type = type_by_post type
+type_there Get None = refl
+type_there Get (Some n) = refl
+type_there Put None = refl
+type_there Put (Some n) = refl
+type_there Delete None = refl
+type_there Delete (Some n) = refl
+type_there Post None = refl
+type_there Post (Some n) = refl
 
 -- ---- the query
 
 queries : (op : Op) (query : List ℕ) (q : Query) → query_of op query ≡ Ok q → IsSaid op q
-queries op query q h = said_on op (pairs_of query) nothing_said q (nothing_is_said op) h
+queries op query q h = said_on op (decoded_pairs query) nothing_said q (nothing_is_said op) h
 
-result_kind : (op : Op) (number : Option ℤ) → IfSome number (λ z. is_result op z ≡ true) → IfSome (kept_result op number) (λ z. among (result_contents op) z ≡ true)
+result_kind : (op : Op) (number : Option ℤ) → IfSome number (λ z. is_result op z ≡ true) → IfSome (kept_result op number) (λ z. is_among (result_contents op) z ≡ true)
 result_kind Create number h = h
 result_kind Retrieve number h = h
 result_kind Update number h = h
