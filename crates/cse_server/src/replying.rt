@@ -12,7 +12,7 @@ ghost use Rattle.cse_server.specs.Talk.{last_reply};
 ghost use Rattle.cse_server.specs.Way.{RepliesOver};
 
 use cse_machine::Outcome;
-use http_binding::{ReplyRoom, echo_id, write_reply};
+use http_binding::{ReplyRoom, echo_id, write_reply_text};
 use http_frames::{Frame, PutFault};
 use m2m_io::{Connection, Link};
 use m2m_names::Rsc;
@@ -95,7 +95,7 @@ pub(crate) fn put_reply<X: Connection>(
     ensures read_faults { X.Source.faults conn.new ≡ X.Source.faults conn.old }
     ensures holds { (X.kept_by_read conn.new).holds ≡ (X.kept_by_read conn.old).holds }
 {
-    write_reply(alloc, reply, close, room, conn)
+    write_reply_text(alloc, reply, close, room, conn)
 }
 
 /// Writes the last reply of a connection on which no frame can stand.

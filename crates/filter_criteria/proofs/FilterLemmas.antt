@@ -8,10 +8,10 @@ use Rattle.m2m_value.specs.Shapes.{as_count, is_label, is_label_text}
 use Rattle.m2m_value.specs.View.{as_text, as_number, member_of}
 use Rattle.m2m_value.proofs.Levels.{entries-pairs_of}
 use Rattle.filter_criteria.specs.Bounds.{IsMoment}
-use Rattle.filter_criteria.specs.Conditions.{read_moment, label_of, read_usage, alternatives, all_of, row_of_condition, name_of_condition, condition_named, is_of, is_condition, is_filter, all_conditions, moment_for, count_for, usage_in, labels_in, types_in, filter_in}
+use Rattle.filter_criteria.specs.Conditions.{read_moment, label_of, usage_number, read_usage, alternatives, all_of, row_of_condition, name_of_condition, condition_named, is_of, is_condition, is_filter, all_conditions, moment_for, count_for, usage_in, labels_in, types_in, filter_in}
 use Rattle.filter_criteria.specs.Values.{members_in, read_type_number, NamedValue, present, object_of, count_data, moment_data}
 use Rattle.filter_criteria.specs.Laws.{IsFilterOfKinds}
-use Rattle.filter_criteria.specs.Writing.{filled_list, usage_number, condition_value, written_condition, written_filter}
+use Rattle.filter_criteria.specs.Writing.{filled_list, condition_value, written_condition, written_filter}
 use Rattle.filter_criteria.proofs.PartLemmas.{where_kept, where_passes, passes_along, each_back, moment_back, moment_last, AllBack, list_back, list_passes, all_back, all_pass as each_passes}
 use Rattle.filter_criteria.proofs.Present.{names, member_of-present, members_in-object_of, all_pass, all_rows}
 use Rattle.filter_criteria.specs.declared.condition.Condition.{Condition}

@@ -14,6 +14,34 @@ pub enum FilterUsage {
     Conditional,
 }
 
+impl FilterUsage {
+    ghost use Rattle.std.specs.Prelude.{◌≡◌};
+    ghost use Rattle.filter_criteria.specs.Conditions as spec;
+
+    /// All uses, in the order of their numbers.
+    const ALL: [FilterUsage; 2] = [FilterUsage::Discovery, FilterUsage::Conditional];
+
+    /// Its number (TS-0004, 6.3.4.2.31).
+    pub fn number(self) -> i64
+        ensures { result ≡ spec.usage_number self }
+    {
+        match self {
+            FilterUsage::Discovery => 1,
+            FilterUsage::Conditional => 2,
+        }
+    }
+
+    /// The use of a number.
+    pub fn numbered(number: i64) -> Option<FilterUsage>
+        ensures { result ≡ spec.usage_numbered number }
+    {
+        FilterUsage::ALL
+            .iter()
+            .copied()
+            .find(|usage| usage.number() == number)
+    }
+}
+
 /// The fields of a filter, by their short names (TS-0004, 8.2.5). Moments are in seconds since
 /// 1970, sizes in bytes; an empty list is no condition.
 #[derive(Debug, Drop)]

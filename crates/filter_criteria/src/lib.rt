@@ -34,7 +34,7 @@ pub use m2m_value::Labels;
 pub use reading::{is_filter, labelled, labels_from, plain_filter};
 pub use std::alloc::AllocError as OutOfMemory;
 pub use values::{
-    members_in, moment_value, owned_text, push_member, read_type_number, sorted_object, text_value,
-    value_at,
+    members_in, moment_text, moment_value, owned_text, push_member, read_type_number,
+    sorted_object, text_value, value_at,
 };
 pub use writing::write_filter;

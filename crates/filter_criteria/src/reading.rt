@@ -26,11 +26,7 @@ fn read_moment(value: &Val) -> Option<u64>
 fn read_usage(value: &Val) -> Option<FilterUsage>
     ensures { result ≡ spec.read_usage value.now }
 {
-    match value.as_num()? {
-        1 => Some(FilterUsage::Discovery),
-        2 => Some(FilterUsage::Conditional),
-        _ => None,
-    }
+    FilterUsage::numbered(value.as_num()?)
 }
 
 /// The values of which one is to hold: the elements of a list, and any other value alone.

@@ -3,6 +3,7 @@
 ghost use Rattle.std.specs.Prelude.{◌≡◌, ◌++◌, ◌∷◌, [], IfOk, IfSome, IsSome, OnErr, OnOk};
 ghost use Rattle.std.specs.Prelude.{IsUtf8, option_and_then};
 ghost use Rattle.std.specs.Option.{option_copied};
+ghost use Rattle.m2m_names.specs.Stamps.{timestamp};
 ghost use Rattle.m2m_value.specs.Data as plain;
 ghost use Rattle.m2m_value.specs.Data.{pairs_of};
 ghost use Rattle.m2m_value.specs.Node.{AreSorted, HaveTextKeys};
@@ -62,14 +63,23 @@ pub fn text_value(alloc: Global, text: &Text) -> Result<Val, OutOfMemory>
     Ok(Val::of_text(text.copy(alloc)?))
 }
 
+/// The timestamp of the moment.
+pub fn moment_text(alloc: Global, at: u64) -> Result<Text, OutOfMemory>
+    requires { IsMoment at }
+    ensures value { IfOk result (λ text. text ≡ timestamp at) }
+    ensures utf8 { IfOk result IsUtf8 }
+{
+    let mut stamp = [0; 15];
+    let _written = write_stamp(at, &mut stamp);
+    Ok(Text::from_slice(alloc, &stamp)?)
+}
+
 /// The timestamp of the moment as a value.
 pub fn moment_value(alloc: Global, at: u64) -> Result<Val, OutOfMemory>
     requires { IsMoment at }
     ensures { IfOk result (λ v. v ≡ spec.moment_data at) }
 {
-    let mut stamp = [0; 15];
-    let _written = write_stamp(at, &mut stamp);
-    Ok(Val::of_text(Text::from_slice(alloc, &stamp)?))
+    Ok(Val::of_text(moment_text(alloc, at)?))
 }
 
 /// Puts a member behind the others, where it has a value. Where memory runs out, the others stay.

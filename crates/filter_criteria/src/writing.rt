@@ -4,6 +4,7 @@ ghost use Rattle.std.specs.List.{AllByRecursion};
 ghost use Rattle.std.specs.Option.{ForSome};
 ghost use Rattle.m2m_value.specs.Data as plain;
 ghost use Rattle.filter_criteria.specs.Bounds.{IsMoment, IsCount};
+ghost use Rattle.filter_criteria.specs.Conditions.{usage_number};
 ghost use Rattle.filter_criteria.specs.Filters.{IsSoundFilter};
 ghost use Rattle.filter_criteria.specs.Values as shared;
 ghost use Rattle.filter_criteria.specs.Writing as spec;
@@ -35,11 +36,10 @@ fn count_there(n: Option<u64>) -> Option<Val>
 }
 
 fn usage_there(usage: Option<FilterUsage>) -> Option<Val>
-    ensures { result ≡ option_map (λ u. plain.number (spec.usage_number u)) usage }
+    ensures { result ≡ option_map (λ u. plain.number (usage_number u)) usage }
 {
     match usage {
-        Some(FilterUsage::Discovery) => Some(Val::of_num(1)),
-        Some(FilterUsage::Conditional) => Some(Val::of_num(2)),
+        Some(usage) => Some(Val::of_num(usage.number())),
         None => None,
     }
 }

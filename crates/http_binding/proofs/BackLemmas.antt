@@ -1,20 +1,17 @@
 -- The frame of a reply is sound, so that it is read back from its text.
-use Rattle.std.proofs.Common.{◌≡◌, ℕ, zero, suc, ◌*◌, ◌<◌, ◌≤◌, ◌^◌, Bool, true, false, ◌&&◌, leb, ltb, List, [], ◌∷◌, ◌++◌, length, reverse, codes, Option, Some, None, IsTrue, IfSome, refl, sym, ap, subst, ◌∙◌, arith}
+use Rattle.std.proofs.Common.{◌≡◌, ℕ, zero, suc, ◌*◌, ◌<◌, ◌≤◌, ◌^◌, Bool, true, false, ◌&&◌, leb, List, [], ◌∷◌, ◌++◌, length, codes, Option, Some, None, IsTrue, IfSome, refl, sym, ap, subst, ◌∙◌, arith}
 use Rattle.std.specs.Prelude.{All}
 use Rattle.std.specs.Fmt.{decimal}
 use Rattle.std.specs.Char.{is_ascii_digit, is_ascii_graphic}
-use Rattle.std.specs.Int.{is_in_range, IsInRange}
+use Rattle.std.specs.Int.{is_in_range}
 use Rattle.std.specs.List.{list_all, flat_map}
-use Rattle.std.specs.Str.Parse.{AllDigits}
-use Rattle.std.proofs.lemmas.Bool.{and_parts, and_from, le-leb, leb-true, ltb-true, cond-true, cond-false}
-use Rattle.std.proofs.lemmas.Bool.Decides.{Decides-below_and, nat_tests}
+use Rattle.std.proofs.lemmas.Bool.{and_parts, leb-true, cond-true}
+use Rattle.std.proofs.lemmas.Bool.Decides.{Decides-below_and}
 use Rattle.std.proofs.lemmas.Fmt.{decimal_is_IsNumeral, length-decimal-le}
-use Rattle.std.proofs.lemmas.List.{length-append, reverse-reverse}
+use Rattle.std.proofs.lemmas.List.{length-append}
 use Rattle.std.proofs.lemmas.List.Elements.{All-nil, All-cons, All-head, All-tail, All-append, All-weaker}
-use Rattle.std.proofs.lemmas.List.Sums.{AllPass-from_list_all, list_all-from_AllPass}
-use Rattle.std.proofs.lemmas.Str.Parse.{digit_from_value}
-use Rattle.httparse.specs.Grammar.{AllPass, is_token, is_token_byte, is_value_byte, is_ows, skip_ows, trim_ows}
-use Rattle.httparse.proofs.TrimLemmas.{AllPass-reverse}
+use Rattle.std.proofs.lemmas.List.Sums.{AllPass-from_list_all}
+use Rattle.httparse.specs.Grammar.{AllPass, is_token, is_token_byte}
 use Rattle.m2m_names.specs.StatusCodes.{rsc_row}
 use Rattle.m2m_names.specs.declared.codes.Rsc.{Rsc}
 use Rattle.m2m_names.proofs.StatusLemmas.{number_in_range, http_in_range}
@@ -33,62 +30,19 @@ use Rattle.http_frames.proofs.TextLemmas.{written_is_read}
 use Rattle.http_binding.specs.declared.headers.Field.TheVariants.{Id}
 use Rattle.http_binding.specs.Headers.{field_name, type_field, code_field, length_field, connection_field}
 use Rattle.http_binding.specs.Replying.{body_of, id_lines, type_lines, close_lines, reply_lines, reply_frame, reply_text}
+use Rattle.http_binding.specs.MediaTypes.{json_type}
 use Rattle.http_binding.specs.Laws.{IsWithinLimits}
-
--- a printable character but space may stand in a value, and is no white space
-graphic_value : (b : ℕ) → IsTrue (is_ascii_graphic b) → IsTrue (is_value_byte b)
-graphic_value b h = grind (arith, nat_tests, h)
-
-graphic_apart : (b : ℕ) → IsTrue (is_ascii_graphic b) → is_ows b ≡ false
-graphic_apart b h = grind (arith, nat_tests, h)
-
-skip_nothing : (value : List ℕ) → AllPass is_ascii_graphic value → skip_ows value ≡ value
-skip_nothing [] all = refl
-skip_nothing (b ∷ value) all = cond-false _ _ _ (graphic_apart b (All-head (λ c. IsTrue (is_ascii_graphic c)) b value all))
-
-trim_nothing : (value : List ℕ) → AllPass is_ascii_graphic value → trim_ows value ≡ value
-unfolding trim_ows
-trim_nothing value all =
-    let front = skip_nothing value all in
-    let back = skip_nothing (reverse value) (AllPass-reverse is_ascii_graphic value all) in
-    rw (front, back, reverse-reverse)
+use Rattle.http_binding.proofs.GraphicLemmas.{line_is, decimal_graphic, length_is}
 
 -- a line of the grammar, and not long
 abbrev IsShortLine : Line → Type 0
 IsShortLine line = IsLine line × (length (line_text line) ≤ 160)
 
 short_line : (name value : List ℕ) → IsTrue (is_token name) → length name ≤ 16 → AllPass is_ascii_graphic value → length value ≤ 128 → IsShortLine (name, value)
-short_line name value token narrow all short =
-    let parts = and_parts (ltb 0 (length name)) (list_all is_token_byte name) token in (
-      (
-        (ltb-true 0 (length name) parts.0, AllPass-from_list_all is_token_byte name parts.1),
-        All-weaker (λ b. IsTrue (is_ascii_graphic b)) (λ b. IsTrue (is_value_byte b)) graphic_value value all,
-        trim_nothing value all,
-      ),
-      omega (arith, length-append name (58 ∷ 32 ∷ value ++ 13 ∷ 10 ∷ []), length-append value (13 ∷ 10 ∷ [])),
-    )
-
--- what holds of each digit holds of each byte of a numeral
-digits_pass : (test : ℕ → Bool) → ((c : ℕ) → IsInRange 48 57 c → IsTrue (test c)) → (ds : List ℕ) → AllDigits 10 ds → AllPass test ds
-digits_pass test f [] all = All-nil (λ c. IsTrue (test c))
-digits_pass test f (c ∷ ds) all = All-cons (λ c. IsTrue (test c)) c ds (f c (digit_from_value c all.0)) (digits_pass test f ds all.1)
-
-digit_graphic : (c : ℕ) → IsInRange 48 57 c → IsTrue (is_ascii_graphic c)
-digit_graphic c h = and_from _ _ (le-leb 33 c (omega (arith, h.0))) (le-leb c 126 (omega (arith, h.1)))
-
-digit_is : (c : ℕ) → IsInRange 48 57 c → IsTrue (is_ascii_digit c)
-digit_is c h = and_from _ _ (le-leb 48 c h.0) (le-leb c 57 h.1)
-
-decimal_graphic : (n : ℕ) → n < 2 ^ 64 → AllPass is_ascii_graphic (decimal n)
-decimal_graphic n small = digits_pass is_ascii_graphic digit_graphic (decimal n) (decimal_is_IsNumeral n small).0.1
-
--- a length of seven digits at most is a value of Content-Length, and is worth what it is
-length_is : (n : ℕ) → n < 10 ^ 7 → is_length (decimal n) ≡ true
-length_is n small =
-    let numeral = (decimal_is_IsNumeral n (omega arith)).0 in
-    and_from _ _ (le-leb 1 (length (decimal n)) (omega (arith, numeral.0)))
-    (and_from _ _ (le-leb (length (decimal n)) 18 (omega (arith, length-decimal-le 7 n (omega arith) small (omega arith))))
-    (list_all-from_AllPass is_ascii_digit (decimal n) (digits_pass is_ascii_digit digit_is (decimal n) numeral.1)))
+short_line name value token narrow all short = (
+  line_is name value token all,
+  omega (arith, length-append name (58 ∷ 32 ∷ value ++ 13 ∷ 10 ∷ []), length-append value (13 ∷ 10 ∷ [])),
+)
 
 http_small : (rsc : Rsc) → (rsc_row rsc).http < 1000
 http_small rsc = omega (arith, (http_in_range rsc).1)
@@ -118,7 +72,7 @@ short_type : (content : Option Data) → All IsShortLine (type_lines content)
 unfolding is_token_byte
 short_type None = All-nil IsShortLine
 short_type (Some content) =
-    let value = codes "application/json" in
+    let value = json_type in
     All-cons IsShortLine (type_field, value) [] (short_line (type_field) value refl (omega arith) (AllPass-from_list_all is_ascii_graphic value refl) (omega arith)) (All-nil IsShortLine)
 
 short_close : (close : Bool) → All IsShortLine (close_lines close)
@@ -131,7 +85,7 @@ short_close true =
 short_number : (name : List ℕ) (n : ℕ) → IsTrue (is_token name) → length name ≤ 16 → n < 10 ^ 7 → IsShortLine (name, decimal n)
 short_number name n token narrow small =
     let long = length-decimal-le 7 n (omega arith) small (omega arith) in
-    short_line name (decimal n) token narrow (decimal_graphic n (omega arith)) (omega arith)
+    short_line name (decimal n) token narrow (decimal_graphic n) (omega arith)
 
 -- the length of a body within the limit has seven digits at most
 body_small : (n : ℕ) → n ≤ body_limit Reply → n < 10 ^ 7

@@ -21,10 +21,12 @@ use Rattle.m2m_value.specs.Reading.{reading}
 use Rattle.m2m_value.specs.View.{as_object}
 use Rattle.filter_criteria.specs.Bounds.{IsMoment}
 use Rattle.primitive_json.specs.Bounds.{is_request_id, request_id_limit}
-use Rattle.primitive_json.specs.Kinds.{is_numeral, expiry_spelled, target_limit, result_contents}
+use Rattle.primitive_json.specs.Kinds.{is_numeral, expiry_spelled, target_limit, result_contents, is_among}
 use Rattle.primitive_json.specs.Laws.{IsWhenOfKind, IsShortWhen, IsOfKinds, HasShortExpiry}
-use Rattle.primitive_json.specs.Members.{creates, retrieves, has_content}
+use Rattle.primitive_json.specs.Form.{is_only_read}
+use Rattle.primitive_json.specs.Members.{creates, retrieves, has_content, has_result}
 use Rattle.primitive_json.specs.Requests.{IsSoundWhen}
+use Rattle.primitive_json.proofs.FormLemmas.{joined_kinds}
 use Rattle.primitive_json.proofs.Numerals.{numeral_bound}
 use Rattle.primitive_json.specs.declared.request.RequestParts.{RequestParts}
 use Rattle.primitive_json.specs.declared.request.When.{When}
@@ -41,14 +43,15 @@ use Rattle.http_binding.specs.declared.method.Method.{Method}
 use Rattle.http_binding.specs.declared.method.Method.TheVariants.{Get, Post, Put, Delete}
 use Rattle.http_binding.specs.Headers.{field_name, admits, is_some_text}
 use Rattle.http_binding.specs.MediaTypes.{TypeNumber, type_said, type_number, is_short_number}
-use Rattle.http_binding.specs.Targets.{PathAndQuery, TargetValues, target_parts, values_of, is_target}
+use Rattle.http_binding.specs.Targets.{PathAndQuery, TargetValues, target_parts, target_values, is_target}
 use Rattle.http_binding.proofs.QueryLemmas.{reads, IsSaid, said_on, nothing_is_said, filter_sound, filter_kinds, IsSaidFilter}
-use Rattle.http_binding.specs.Queries.{pairs_of, nothing_said, is_result, among}
+use Rattle.http_binding.specs.Queries.{decoded_pairs, nothing_said, is_result}
 use Rattle.http_binding.specs.declared.query.Query.{Query}
 use Rattle.filter_criteria.specs.Filters.{IsSoundFilter}
 use Rattle.filter_criteria.specs.Laws.{IsFilterOfKinds}
 use Rattle.filter_criteria.specs.declared.filter.FilterParts.{FilterParts}
-use Rattle.http_binding.specs.Binding.{method_of, said_by_target, target_of, lone_value, header_value, HeaderValues, header_values, required, unless_empty, Caller, caller_of, operation_of, query_of, kept_result, value_in, object_only, content_in, content_of, created_type, request_of, Binds, echo_of}
+use Rattle.http_binding.specs.Binding.{method_of, said_by_target, target_of, lone_value, header_value, HeaderValues, header_values, required, unless_empty, Caller, caller_of, query_of, kept_result, value_in, object_only, content_in, content_of, created_type, request_of, Binds, echo_of}
+use Rattle.http_binding.specs.Methods.{operation_of}
 
 pub binds_to_one : (frame : Frame) (request other : RequestParts) → Binds frame request → Binds frame other → request ≡ other
 binds_to_one frame request other h g = ap (λ r. result_unwrap_or r request) (sym h ∙ g)
@@ -67,7 +70,7 @@ chosen false first read fault h = absurd (false≢true (ap is_ok h))
 said_target : (parts : Option PathAndQuery) (target : TargetValues) → option_map_or said_by_target parts (Err bind.Target) ≡ Ok target → is_target target ≡ true
 said_target None target h = absurd (false≢true (ap is_ok h))
 said_target (Some parts) target h =
-    let p = passed (is_target (values_of parts)) (values_of parts) target _ h in
+    let p = passed (is_target (target_values parts)) (target_values parts) target _ h in
     subst (λ t. is_target t ≡ true) p.1 p.0
 
 targets : (start : Start) (target : TargetValues) → target_of start ≡ Ok target → is_target target ≡ true
@@ -144,11 +147,26 @@ created_by_post : (type : Option ℕ) → IsShort type → IsShort (created_type
 created_by_post None h = tt
 created_by_post (Some n) h = h
 
+none_by_get : (type : Option ℕ) → created_type (operation_of Get type) type ≡ None
+none_by_get None = refl
+none_by_get (Some n) = refl
+
+none_by_put : (type : Option ℕ) → created_type (operation_of Put type) type ≡ None
+none_by_put None = refl
+none_by_put (Some n) = refl
+
+none_by_delete : (type : Option ℕ) → created_type (operation_of Delete type) type ≡ None
+none_by_delete None = refl
+none_by_delete (Some n) = refl
+
+short_none : (number : Option ℕ) → number ≡ None → IsShort number
+short_none number none = subst IsShort (sym none) tt
+
 created_short : (method : Method) (lines : List Line) (value : Option (List ℕ)) → header_value (ContentType method) lines ≡ Ok value
     → IsShort (created_type (operation_of method (option_and_then type_number value)) (option_and_then type_number value))
-created_short Get lines value h = tt
-created_short Put lines value h = tt
-created_short Delete lines value h = tt
+created_short Get lines value h = short_none _ (none_by_get (option_and_then type_number value))
+created_short Put lines value h = short_none _ (none_by_put (option_and_then type_number value))
+created_short Delete lines value h = short_none _ (none_by_delete (option_and_then type_number value))
 created_short Post lines value h =
     created_by_post (option_and_then type_number value) (short_value value (admitted_any (ContentType Post) lines value h))
 
@@ -225,27 +243,34 @@ contents Retrieve body content h = no_content content h
 contents Removal body content h = no_content content h
 
 -- a type is there on a Create alone
-type_by_post : (type : Option ℕ) → is_some (created_type (operation_of Post type) type) ≡ creates (operation_of Post type)
-type_by_post None = refl
-type_by_post (Some n) = refl
-
 type_there : (method : Method) (type : Option ℕ) → is_some (created_type (operation_of method type) type) ≡ creates (operation_of method type)
-type_there Get type = refl
-type_there Put type = refl
-type_there Delete type = refl
-type_there Post type = type_by_post type
+type_there Get None = refl
+type_there Get (Some n) = refl
+type_there Put None = refl
+type_there Put (Some n) = refl
+type_there Delete None = refl
+type_there Delete (Some n) = refl
+type_there Post None = refl
+type_there Post (Some n) = refl
 
 -- ---- the query
 
 queries : (op : Op) (query : List ℕ) (q : Query) → query_of op query ≡ Ok q → IsSaid op q
-queries op query q h = said_on op (pairs_of query) nothing_said q (nothing_is_said op) h
+queries op query q h = said_on op (decoded_pairs query) nothing_said q (nothing_is_said op) h
 
-result_kind : (op : Op) (number : Option ℤ) → IfSome number (λ z. is_result op z ≡ true) → IfSome (kept_result op number) (λ z. among (result_contents op) z ≡ true)
+result_kind : (op : Op) (number : Option ℤ) → IfSome number (λ z. is_result op z ≡ true) → IfSome (kept_result op number) (λ z. is_among (result_contents op) z ≡ true)
 result_kind Create number h = h
 result_kind Retrieve number h = h
 result_kind Update number h = h
 result_kind Removal number h = h
 result_kind Notify number h = tt
+
+result_read : (op : Op) (number : Option ℤ) → is_only_read (has_result op) (kept_result op number) ≡ true
+result_read Create number = refl
+result_read Retrieve number = refl
+result_read Update number = refl
+result_read Removal number = refl
+result_read Notify number = refl
 
 conditions_kind : (op : Op) (fc : Option FilterParts) → IfSome fc (λ f. (retrieves op ≡ true) × IsSaidFilter f) → IfSome fc (λ f. (retrieves op ≡ true) × IsFilterOfKinds f)
 conditions_kind op None h = tt
@@ -308,7 +333,7 @@ IsKind request = IsOfKinds request × HasShortExpiry request
 pub binds_to_kinds : (frame : Frame) (request : RequestParts) → Binds frame request → IsOfKinds request × HasShortExpiry request
 binds_to_kinds frame request h =
     let s = says frame request h in
-    let kinds : IsOfKinds (request_of (operation_of s.method s.caller.type) s.target.to s.caller s.query s.content) = record {
+    let kinds : IsOfKinds (request_of (operation_of s.method s.caller.type) s.target.to s.caller s.query s.content) = joined_kinds _ (record {
       to = (and_parts (is_filled target_limit s.target.to) _ s.target_is).0;
       fr = s.caller_is.originator;
       rqi = s.caller_is.id;
@@ -318,9 +343,10 @@ binds_to_kinds frame request h =
       pc_there = s.content_is.1;
       rqet = timely_kind s.caller.expiry s.caller_is.expiry;
       rcn = result_kind (operation_of s.method s.caller.type) s.query.rcn s.query_is.rcn;
+      rcn_read = result_read (operation_of s.method s.caller.type) s.query.rcn;
       fc = conditions_kind (operation_of s.method s.caller.type) s.query.fc s.query_is.fc;
       drt = s.query_is.drt;
-    } in
+    }) in
     subst IsKind s.request_is (kinds, timely_short s.caller.expiry s.caller_is.expiry)
 
 pub echo_is_id : (frame : Frame) (request : RequestParts) → Binds frame request → echo_of frame ≡ Some request.rqi

@@ -26,7 +26,7 @@ use Rattle.filter_criteria.specs.declared.condition.Sort.{Sort}
 use Rattle.filter_criteria.specs.declared.condition.Sort.TheVariants.{Moment, Count, Labels, Types, Use}
 use Rattle.filter_criteria.specs.declared.filter.FilterParts.{FilterParts}
 use Rattle.filter_criteria.specs.declared.filter.FilterUsage.{FilterUsage}
-use Rattle.primitive_json.specs.Kinds.{is_numeral, number_spelled, address_forms}
+use Rattle.primitive_json.specs.Kinds.{is_numeral, number_spelled, address_forms, is_among}
 use Rattle.primitive_json.specs.Members.{retrieves}
 use Rattle.primitive_json.proofs.Numerals.{numeral_bound}
 use Rattle.http_binding.specs.declared.fault.BindFault.{BindFault}
@@ -35,7 +35,7 @@ use Rattle.http_binding.specs.declared.query.Key.{Key}
 use Rattle.http_binding.specs.declared.query.Key.TheVariants.{ResultContent, ResponseType, DesiredForm, Unread, OfFilter}
 use Rattle.http_binding.specs.declared.query.Query.{Query}
 use Rattle.http_binding.specs.Binding.{and_then, said_by}
-use Rattle.http_binding.specs.Queries.{Pair, key_named, whole_spelled, among, is_result, result_spelled, form_spelled, usage_spelled, words_of, spells_label, labels_spelled, type_spelled, is_type_text, types_spelled, placed, no_conditions, with_moment, with_number, with_usage, with_labels, with_types, with_sort, with_condition, nothing_said, with_result, with_response, with_form, with_filter, with_key, said_more, with_pair}
+use Rattle.http_binding.specs.Queries.{Pair, key_named, whole_spelled, is_result, result_spelled, form_spelled, usage_spelled, words_of, spells_label, labels_spelled, type_spelled, is_type_text, types_spelled, placed, no_conditions, with_moment, with_number, with_usage, with_labels, with_types, with_sort, with_condition, nothing_said, with_result, with_response, with_form, with_filter, with_key, said_more, pair_said}
 
 -- what a chain that gives a value has read first, and what it has gone on to
 pub record Reads {T U : Type 0} (part : Result T BindFault) (next : T → Result U BindFault) (value : U) : Type 0 where
@@ -210,7 +210,7 @@ filter_kinds f h = record { crb = h.crb; cra = h.cra; ms = h.ms; us = h.us; exb 
 pub record IsSaid (op : Op) (q : Query) : Type 0 where
   pub rcn : IfSome q.rcn (λ z. is_result op z ≡ true)
   pub fc : IfSome q.fc (λ f. (retrieves op ≡ true) × IsSaidFilter f)
-  pub drt : IfSome q.drt (λ z. among address_forms z ≡ true)
+  pub drt : IfSome q.drt (λ z. is_among address_forms z ≡ true)
 
 result_said : (op : Op) (s : List ℕ) (q : Query) → IsSaid op q → IfSome (with_result (result_spelled op s) q) (IsSaid op)
 result_said op s q h =
@@ -225,8 +225,8 @@ response_said op number q h =
 
 form_said : (op : Op) (s : List ℕ) (q : Query) → IsSaid op q → IfSome (with_form (form_spelled s) q) (IsSaid op)
 form_said op s q h =
-    mapped (λ o. IfSome o (λ z. among address_forms z ≡ true)) (IsSaid op) (λ o. record q { drt = o }) (placed q.drt (form_spelled s))
-    (placed_holds (λ z. among address_forms z ≡ true) q.drt (form_spelled s) h.drt (where_passes (among address_forms) (whole_spelled s)))
+    mapped (λ o. IfSome o (λ z. is_among address_forms z ≡ true)) (IsSaid op) (λ o. record q { drt = o }) (placed q.drt (form_spelled s))
+    (placed_holds (λ z. is_among address_forms z ≡ true) q.drt (form_spelled s) h.drt (where_passes (is_among address_forms) (whole_spelled s)))
     (λ o fits. record { rcn = h.rcn; fc = h.fc; drt = fits })
 
 filter_held : (op : Op) (fc : Option FilterParts) → IfSome fc (λ f. (retrieves op ≡ true) × IsSaidFilter f) → IsSaidFilter (unwrap_or fc no_conditions)
@@ -262,7 +262,7 @@ pair_by op (Some said) fault q h is = subst (IsSaid op) (ap (λ r. result_unwrap
 pub said_on : (op : Op) (pairs : List Pair) (q last : Query) → IsSaid op q → said_by op pairs q ≡ Ok last → IsSaid op last
 said_on op [] q last h is = subst (IsSaid op) (ap (λ r. result_unwrap_or r q) is) h
 said_on op (pair ∷ pairs) q last h is =
-    let next = reads (with_pair op pair q) (said_by op pairs) last is in
+    let next = reads (pair_said op pair q) (said_by op pairs) last is in
     let good = pair_by op (said_more op pair q) _ next.first (more_by op (key_named pair.0) pair.1 q h) next.read in
     said_on op pairs next.first last good next.rest
 
@@ -272,17 +272,17 @@ nothing_is_said op = record { rcn = tt; fc = tt; drt = tt }
 -- ---- pair by pair
 
 at_pair : (op : Op) (pairs : List Pair) (i : ℕ) (pair : Pair) (q : Query) → i < length pairs → pair ≡ get_or pairs i pair
-    → said_by op (drop i pairs) q ≡ and_then (with_pair op pair q) (said_by op (drop (i + 1) pairs))
+    → said_by op (drop i pairs) q ≡ and_then (pair_said op pair q) (said_by op (drop (i + 1) pairs))
 at_pair op pairs i pair q h is =
-    ap (λ ps. said_by op ps q) (drop_more pairs i pair h) ∙ ap (λ p. and_then (with_pair op p q) (said_by op (drop (i + 1) pairs))) (sym is)
+    ap (λ ps. said_by op ps q) (drop_more pairs i pair h) ∙ ap (λ p. and_then (pair_said op p q) (said_by op (drop (i + 1) pairs))) (sym is)
 
 pub pair_good : (op : Op) (pairs : List Pair) (i : ℕ) (pair : Pair) (q next : Query) (told : Result Query BindFault) → told ≡ said_by op (drop i pairs) q
-    → i < length pairs → pair ≡ get_or pairs i pair → with_pair op pair q ≡ Ok next → told ≡ said_by op (drop (i + 1) pairs) next
+    → i < length pairs → pair ≡ get_or pairs i pair → pair_said op pair q ≡ Ok next → told ≡ said_by op (drop (i + 1) pairs) next
 pair_good op pairs i pair q next told so h is good =
     so ∙ at_pair op pairs i pair q h is ∙ ap (λ r. and_then r (said_by op (drop (i + 1) pairs))) good
 
 pub pair_bad : (op : Op) (pairs : List Pair) (i : ℕ) (pair : Pair) (q : Query) (told : Result Query BindFault) (fault : BindFault) → told ≡ said_by op (drop i pairs) q
-    → i < length pairs → pair ≡ get_or pairs i pair → (fault ≡ bind.OutOfMemory) ⊎ (with_pair op pair q ≡ Err fault) → (fault ≡ bind.OutOfMemory) ⊎ (told ≡ Err fault)
+    → i < length pairs → pair ≡ get_or pairs i pair → (fault ≡ bind.OutOfMemory) ⊎ (pair_said op pair q ≡ Err fault) → (fault ≡ bind.OutOfMemory) ⊎ (told ≡ Err fault)
 pair_bad op pairs i pair q told fault so h is (inl memory) = inl memory
 pair_bad op pairs i pair q told fault so h is (inr bad) =
     inr (so ∙ at_pair op pairs i pair q h is ∙ ap (λ r. and_then r (said_by op (drop (i + 1) pairs))) bad)

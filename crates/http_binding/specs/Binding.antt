@@ -1,11 +1,9 @@
 -- The request that a frame binds to, or the first fault of the frame (TS-0009, 6.2 to 6.5).
-use Rattle.std.specs.Prelude.{◌≡◌, ℕ, ℤ, ◌⊎◌, List, [], ◌∷◌, bytes_eq, codes, is_some, Option, Some}
+use Rattle.std.specs.Prelude.{◌≡◌, ℕ, ℤ, ◌⊎◌, List, [], ◌∷◌, is_some, Option, Some}
 use Rattle.std.specs.Prelude.{None, Result, Ok, Err, if◌then◌else◌, option_and_then}
 use Rattle.std.specs.Option.{option_map_or}
 use Rattle.std.specs.Result.{result_unwrap_or}
 use Rattle.m2m_names.specs.declared.operations.Op.{Op}
-use Rattle.m2m_names.specs.declared.operations.Op.TheVariants.{Create, Retrieve, Update, Delete}
-use Rattle.m2m_names.specs.declared.operations.Op.TheVariants.{Notify}
 use Rattle.m2m_value.specs.Data.{Data}
 use Rattle.m2m_value.specs.Reading.{reading}
 use Rattle.m2m_value.specs.View.{as_object}
@@ -26,12 +24,12 @@ use Rattle.http_binding.specs.declared.headers.Field.{Field}
 use Rattle.http_binding.specs.declared.headers.Field.TheVariants.{Origin, Id, Expiry, ContentType}
 use Rattle.http_binding.specs.declared.headers.Field.TheVariants.{ContentEncoding}
 use Rattle.http_binding.specs.declared.method.Method.{Method}
-use Rattle.http_binding.specs.declared.method.Method.TheVariants as by
 use Rattle.http_binding.specs.declared.query.Query.{Query}
 use Rattle.http_binding.specs.Headers.{field_name, admits, is_some_text}
 use Rattle.http_binding.specs.MediaTypes.{type_number}
-use Rattle.http_binding.specs.Queries.{Pair, pairs_of, nothing_said, with_pair}
-use Rattle.http_binding.specs.Targets.{PathAndQuery, TargetValues, target_parts, values_of}
+use Rattle.http_binding.specs.Methods.{method_named, operation_of}
+use Rattle.http_binding.specs.Queries.{Pair, decoded_pairs, nothing_said, pair_said}
+use Rattle.http_binding.specs.Targets.{PathAndQuery, TargetValues, target_parts, target_values}
 use Rattle.http_binding.specs.Targets.{is_target}
 
 -- what is read next, of the value of a part; the fault of a part ends the reading
@@ -42,22 +40,15 @@ and_then (Err fault) next = Err fault
 
 -- ---- the start line
 
--- the methods that are served; they are compared exactly (TS-0009, 6.2.1; RFC 9110, section 9.1)
-abbrev pub method_named : List ℕ → Result Method BindFault
-method_named name =
-    if bytes_eq name (codes "GET") then Ok by.Get
-    else (if bytes_eq name (codes "POST") then Ok by.Post
-    else (if bytes_eq name (codes "PUT") then Ok by.Put
-    else (if bytes_eq name (codes "DELETE") then Ok by.Delete else Err bind.Method)))
-
 abbrev pub method_of : Start → Result Method BindFault
-method_of (Ask name target minor) = method_named name
+method_of (Ask name target minor) =
+    option_map_or (λ method. Ok method) (method_named name) (Err bind.Method)
 method_of (Answer status minor) = Err bind.Method
 
 -- what the path and the query of a target say
 abbrev pub said_by_target : PathAndQuery → Result TargetValues BindFault
 said_by_target parts =
-    if is_target (values_of parts) then Ok (values_of parts) else Err bind.Target
+    if is_target (target_values parts) then Ok (target_values parts) else Err bind.Target
 
 abbrev pub target_of : Start → Result TargetValues BindFault
 target_of (Ask name target minor) =
@@ -124,24 +115,16 @@ caller_of method lines =
       type = option_and_then type_number values.type;
     })
 
--- the operation that a method asks for (TS-0009, 6.2.1): a POST with a type is a Create, and
--- without one a Notify
-abbrev pub operation_of : Method → Option ℕ → Op
-operation_of by.Get type = Retrieve
-operation_of by.Post type = if is_some type then Create else Notify
-operation_of by.Put type = Update
-operation_of by.Delete type = Delete
-
 -- ---- the query and the body
 
 -- what the pairs say behind what was said, one after another, or the fault of the first that is bad
 abbrev pub said_by : Op → List Pair → Query → Result Query BindFault
 said_by op [] q = Ok q
-said_by op (pair ∷ pairs) q = and_then (with_pair op pair q) (said_by op pairs)
+said_by op (pair ∷ pairs) q = and_then (pair_said op pair q) (said_by op pairs)
 
 -- what a query says on an operation
 abbrev pub query_of : Op → List ℕ → Result Query BindFault
-query_of op query = said_by op (pairs_of query) nothing_said
+query_of op query = said_by op (decoded_pairs query) nothing_said
 
 -- the value that was read of a body
 abbrev pub value_in : Result Data ValFault → Result Data BindFault

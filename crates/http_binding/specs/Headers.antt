@@ -9,21 +9,22 @@ use Rattle.http_binding.specs.declared.headers.Field.{Field}
 use Rattle.http_binding.specs.declared.headers.Field.TheVariants.{Origin, Id, Expiry, ContentType}
 use Rattle.http_binding.specs.declared.headers.Field.TheVariants.{ContentEncoding}
 
+-- the name of the field that tells the type of a content
+abbrev pub type_field : List ℕ
+type_field = codes "Content-Type"
+
 -- the name of a field that is read in a request, as it is written; names are compared without
 -- regard to case
 abbrev pub field_name : Field → List ℕ
 field_name Origin = codes "X-M2M-Origin"
 field_name Id = codes "X-M2M-RI"
 field_name Expiry = codes "X-M2M-RET"
-field_name (ContentType method) = codes "Content-Type"
+field_name (ContentType method) = type_field
 field_name ContentEncoding = codes "Content-Encoding"
 
 -- the names of other fields that are written, or read in a reply
 abbrev pub code_field : List ℕ
 code_field = codes "X-M2M-RSC"
-
-abbrev pub type_field : List ℕ
-type_field = codes "Content-Type"
 
 abbrev pub length_field : List ℕ
 length_field = codes "Content-Length"

@@ -1,8 +1,10 @@
 -- Laws of the binding.
-use Rattle.std.specs.Prelude.{◌≡◌, ◌≤◌, ◌↔◌, ℕ, Bool, List, ◌++◌, length, IsTrue, Some, IfSome}
+use Rattle.std.specs.Prelude.{◌≡◌, ◌≤◌, ◌↔◌, ℕ, Bool, List, ◌++◌, length, IsTrue, Option, Some}
+use Rattle.std.specs.Prelude.{is_some, option_map}
 use Rattle.http_uri.specs.Grammar.{IsAuthority}
-use Rattle.primitive_json.specs.Bounds.{is_request_id}
-use Rattle.primitive_json.specs.Laws.{IsOfKinds, HasShortExpiry}
+use Rattle.m2m_names.specs.declared.operations.Op.{Op}
+use Rattle.primitive_json.specs.Laws.{IsOfKinds, HasShortExpiry, IsReplyOfKinds}
+use Rattle.primitive_json.specs.Members.{creates}
 use Rattle.primitive_json.specs.declared.request.RequestParts.{RequestParts}
 use Rattle.primitive_json.specs.declared.reply.ReplyParts.{ReplyParts}
 use Rattle.http_frames.specs.declared.frame.Frame.{Frame}
@@ -11,6 +13,7 @@ use Rattle.http_frames.specs.Frame.{body_limit}
 use Rattle.http_frames.specs.Stream.{BeginsWithFrame}
 use Rattle.http_frames.specs.Text.{IsSoundFrame}
 use Rattle.http_binding.specs.Binding.{Binds, echo_of}
+use Rattle.http_binding.specs.Methods.{method_named, method_text, operation_of}
 use Rattle.http_binding.specs.Replying.{body_of, reply_frame, reply_text}
 use Rattle.http_binding.specs.Targets.{is_authority}
 
@@ -19,6 +22,13 @@ abbrev pub BindsToOne : Type 0
 BindsToOne =
     (frame : Frame) (request other : RequestParts) → Binds frame request → Binds frame other
     → request ≡ other
+
+-- The method that asks for an operation, beside the type that is to be created where the operation
+-- creates one, is read as that operation.
+abbrev pub OperationIsReadBack : Type 0
+OperationIsReadBack =
+    (op : Op) (type : Option ℕ) → is_some type ≡ creates op
+    → option_map (λ method. operation_of method type) (method_named (method_text op)) ≡ Some op
 
 -- A frame binds to requests alone whose parameters are of their kinds (TS-0004, 8.2.2), and whose
 -- milliseconds have at most 18 digits.
@@ -40,7 +50,7 @@ AuthoritiesAreOfUris = (text : List ℕ) → IsTrue (is_authority text) ↔ IsAu
 -- The identifier that the reply repeats, if it does, is one, and its body is no longer than a
 -- frame's may be.
 pub record IsWithinLimits (reply : ReplyParts) : Type 0 where
-  pub rqi : IfSome reply.rqi (λ id. IsTrue (is_request_id id))
+  pub rqi : IsReplyOfKinds reply
   pub body : length (body_of reply.pc) ≤ body_limit Reply
 
 -- The frame of such a reply is sound, and stands at the front of its text, whatever follows.

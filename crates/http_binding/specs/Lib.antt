@@ -1,5 +1,6 @@
 pub mod Faults
 pub mod MediaTypes
+pub mod Methods
 pub mod Headers
 pub mod Targets
 pub mod Queries

@@ -39,11 +39,15 @@ abbrev pub parameters_of : List ℕ → List (List ℕ)
 parameters_of value =
     option_map_or (slice_split (λ b. b == semicolon)) (split_once_back semicolon value) []
 
+-- the type of content that is written
+abbrev pub json_type : List ℕ
+json_type = codes "application/json"
+
 -- the types that a content may have; they are compared without regard to case
 abbrev pub media_types : List (List ℕ)
 media_types =
-    codes "application/json" ∷ codes "application/vnd.onem2m-res+json"
-    ∷ codes "application/vnd.onem2m-ntfy+json" ∷ []
+    json_type ∷ codes "application/vnd.onem2m-res+json" ∷ codes "application/vnd.onem2m-ntfy+json"
+    ∷ []
 
 abbrev pub is_media_type : List ℕ → Bool
 is_media_type text = list_any (is_same_name text) media_types
@@ -51,6 +55,14 @@ is_media_type text = list_any (is_same_name text) media_types
 -- what a type of content says of the type that is to be created: its number, or nothing
 abbrev pub TypeNumber : Type 0
 TypeNumber = Option ℕ
+
+-- the parameter that says it
+abbrev pub type_parameter : List ℕ
+type_parameter = codes "ty"
+
+-- the byte between the name of a parameter and its value
+abbrev pub equals_sign : ℕ
+equals_sign = 61
 
 -- 1 to 5 digits
 abbrev pub is_type_digits : List ℕ → Bool
@@ -62,16 +74,16 @@ type_digits_said digits =
     if is_type_digits digits then Some (Some (digits_value 10 digits)) else None
 
 -- what is said with one more parameter, behind what was said before: a parameter has a name and a
--- value, on the two sides of the first `=`; other names than `ty` are unread
+-- value, on the two sides of the first `=`; other names are unread
 abbrev pub parameter_said : TypeNumber → List ℕ → List ℕ → Option TypeNumber
 parameter_said before name value =
     if (length name == 0) then None
-    else (if bytes_eq name (codes "ty") then type_digits_said value else Some before)
+    else (if bytes_eq name type_parameter then type_digits_said value else Some before)
 
 abbrev pub piece_said : TypeNumber → List ℕ → Option TypeNumber
 piece_said before piece =
-    option_map_or (parameter_said before (split_once_front 61 piece)) (split_once_back 61 piece)
-    None
+    option_map_or (parameter_said before (split_once_front equals_sign piece))
+    (split_once_back equals_sign piece) None
 
 abbrev pub next_said : Option TypeNumber → List ℕ → Option TypeNumber
 next_said before piece =

@@ -2,9 +2,8 @@
 use Rattle.std.specs.Prelude.{ℕ, ◌==◌, Bool, not, ◌&&◌, ◌||◌, ℤ, pos, List, [], ◌∷◌, ◌++◌, map}
 use Rattle.std.specs.Prelude.{bytes_eq, codes, Option, Some, None, option_map, option_and_then}
 use Rattle.std.specs.Prelude.{unwrap_or, is_some, if◌then◌else◌, Result, Ok, Err}
-use Rattle.std.specs.List.{list_all, list_any, filter_map, slice_split}
+use Rattle.std.specs.List.{list_all, filter_map, slice_split}
 use Rattle.std.specs.Option.{option_map_or}
-use Rattle.std.specs.Ordering.{int_eq}
 use Rattle.std.specs.Str.{is_utf8}
 use Rattle.std.specs.Str.Lossy.{utf8_lossy}
 use Rattle.form_urlencoded.specs.Form as form
@@ -31,7 +30,7 @@ use Rattle.filter_criteria.specs.declared.condition.Sort.TheVariants.{Moment, Co
 use Rattle.filter_criteria.specs.declared.condition.Sort.TheVariants.{Use}
 use Rattle.filter_criteria.specs.declared.filter.FilterParts.{FilterParts}
 use Rattle.filter_criteria.specs.declared.filter.FilterUsage.{FilterUsage}
-use Rattle.primitive_json.specs.Kinds.{number_spelled, result_contents, address_forms}
+use Rattle.primitive_json.specs.Kinds.{number_spelled, is_among, result_contents, address_forms}
 use Rattle.primitive_json.specs.Members.{retrieves, has_result, name_of_member}
 use Rattle.primitive_json.specs.declared.member.Member.TheVariants as members
 use Rattle.http_binding.specs.declared.fault.BindFault.{BindFault}
@@ -55,8 +54,8 @@ abbrev pub decoded_pair : Pair → Pair
 decoded_pair pair = (decoded pair.0, decoded pair.1)
 
 -- the pairs of a query, as a form has them (URL Standard, section 5.1)
-abbrev pub pairs_of : List ℕ → List Pair
-pairs_of query = map decoded_pair (form.raw_pairs query)
+abbrev pub decoded_pairs : List ℕ → List Pair
+decoded_pairs query = map decoded_pair (form.raw_pairs query)
 
 -- ---- the keys
 
@@ -82,19 +81,16 @@ key_named name =
 abbrev pub whole_spelled : List ℕ → Option ℤ
 whole_spelled s = option_map pos (number_spelled s)
 
-abbrev pub among : List ℤ → ℤ → Bool
-among numbers z = list_any (λ n. int_eq n z) numbers
-
 -- the content of the result: one of those of the operation, where it has any, else any number
 abbrev pub is_result : Op → ℤ → Bool
-is_result op z = not (has_result op) || among (result_contents op) z
+is_result op z = not (has_result op) || is_among (result_contents op) z
 
 abbrev pub result_spelled : Op → List ℕ → Option ℤ
 result_spelled op s = where_it (is_result op) (whole_spelled s)
 
 -- the form of the addresses that a discovery gives
 abbrev pub form_spelled : List ℕ → Option ℤ
-form_spelled s = where_it (among address_forms) (whole_spelled s)
+form_spelled s = where_it (is_among address_forms) (whole_spelled s)
 
 -- how a filter is used
 abbrev pub usage_spelled : List ℕ → Option FilterUsage
@@ -222,6 +218,6 @@ abbrev pub said_more : Op → Pair → Query → Option Query
 said_more op pair q = option_and_then (λ key. with_key op key pair.1 q) (key_named pair.0)
 
 -- the same, or the key of a pair that is bad
-abbrev pub with_pair : Op → Pair → Query → Result Query BindFault
-with_pair op pair q =
+abbrev pub pair_said : Op → Pair → Query → Result Query BindFault
+pair_said op pair q =
     option_map_or (λ said. Ok said) (said_more op pair q) (Err (bind.Query pair.0))

@@ -13,6 +13,7 @@ use Rattle.http_frames.specs.Text.{frame_text}
 use Rattle.http_binding.specs.declared.headers.Field.TheVariants.{Id}
 use Rattle.http_binding.specs.Headers.{field_name, code_field, type_field, length_field}
 use Rattle.http_binding.specs.Headers.{connection_field}
+use Rattle.http_binding.specs.MediaTypes.{json_type}
 
 -- the body: the compact JSON text of the content, where there is some (TS-0009, 6.5)
 abbrev pub body_of : Option Data → List ℕ
@@ -27,7 +28,7 @@ id_lines (Some id) = (field_name Id, id) ∷ []
 -- the line that tells the type of the content
 abbrev pub type_lines : Option Data → List Line
 type_lines None = []
-type_lines (Some content) = (type_field, codes "application/json") ∷ []
+type_lines (Some content) = (type_field, json_type) ∷ []
 
 -- the line that says that the connection closes (RFC 9112, section 9.6)
 abbrev pub close_lines : Bool → List Line

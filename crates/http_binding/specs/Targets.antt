@@ -22,8 +22,8 @@ pub record PathAndQuery : Type 0 where
   pub path : List ℕ
   pub query : Option (List ℕ)
 
-abbrev pub parts_of : List ℕ → PathAndQuery
-parts_of text = record { path = path_of text; query = query_of text }
+abbrev pub split_target : List ℕ → PathAndQuery
+split_target text = record { path = path_of text; query = query_of text }
 
 -- a path and perhaps a query, of the bytes that these may have
 abbrev pub is_path_and_query : List ℕ → Bool
@@ -111,8 +111,8 @@ is_absolute_form target =
 -- the path and the query of a target
 abbrev pub target_parts : List ℕ → Option PathAndQuery
 target_parts target =
-    if is_origin_form target then Some (parts_of (without_fragment target))
-    else (if is_absolute_form target then Some (parts_of (without_fragment (tail_of target)))
+    if is_origin_form target then Some (split_target (without_fragment target))
+    else (if is_absolute_form target then Some (split_target (without_fragment (tail_of target)))
     else None)
 
 -- ---- the address that a path is
@@ -165,8 +165,8 @@ pub record TargetValues : Type 0 where
   pub to : List ℕ
   pub query : List ℕ
 
-abbrev pub values_of : PathAndQuery → TargetValues
-values_of parts = record {
+abbrev pub target_values : PathAndQuery → TargetValues
+target_values parts = record {
   to = address_of_path (with_tildes parts.path);
   query = unwrap_or parts.query [];
 }

@@ -9,6 +9,7 @@ ghost use Rattle.http_binding.specs.declared.fault.BindFault.TheVariants as faul
 
 use crate::media_type::{admits_type, type_number};
 use crate::method::Method;
+use crate::names::{CODING_FIELD, EXPIRY_FIELD, ID_FIELD, ORIGIN_FIELD, TYPE_FIELD};
 use crate::{BindFault, OutOfMemory};
 use http_frames::{Found, Frame, Lines};
 use m2m_names::is_originator;
@@ -32,11 +33,11 @@ impl Field {
         ensures { result.now ≡ spec.field_name self }
     {
         match self {
-            Field::Origin => b"X-M2M-Origin",
-            Field::Id => b"X-M2M-RI",
-            Field::Expiry => b"X-M2M-RET",
-            Field::ContentType(_) => b"Content-Type",
-            Field::ContentEncoding => b"Content-Encoding",
+            Field::Origin => ORIGIN_FIELD.as_bytes(),
+            Field::Id => ID_FIELD.as_bytes(),
+            Field::Expiry => EXPIRY_FIELD.as_bytes(),
+            Field::ContentType(_) => TYPE_FIELD.as_bytes(),
+            Field::ContentEncoding => CODING_FIELD.as_bytes(),
         }
     }
 

@@ -4,6 +4,7 @@ ghost use Rattle.http_binding.specs.Laws.{
   BindsToOne,
   BindsToKinds,
   EchoIsId,
+  OperationIsReadBack,
   ReplyIsReadBack,
 };
 
@@ -32,4 +33,10 @@ pub fn the_echo_is_the_request_id()
 /// repeats is one and its body is within the limit of a frame's.
 pub fn a_reply_is_read_back()
     ensures { ReplyIsReadBack }
+{}
+
+/// The method that asks for an operation is read as that operation: the two directions of one table
+/// (TS-0009, 6.2.1).
+pub fn an_operation_is_read_back()
+    ensures { OperationIsReadBack }
 {}

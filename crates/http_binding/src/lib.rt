@@ -1,7 +1,7 @@
 //! The HTTP binding of oneM2M (TS-0009), between frames and primitives: `to_request` gives the
 //! request that a frame binds to, or the first fault of the frame; `echo_id` the identifier that a
 //! reply to it repeats, also where it binds to none; `of_reply` the frame of a reply, and
-//! `write_reply` its bytes. Callers see the binding as a function of the frame (`binding`, the
+//! `write_reply_text` its bytes. Callers see the binding as a function of the frame (`binding`, the
 //! chain of the parts of a request in the order of their faults), and the bytes of a reply as those
 //! of its frame (`reply_text`). They answer a frame that binds to nothing themselves, and say
 //! whether the connection closes behind a reply.
@@ -15,8 +15,10 @@ mod absolute;
 mod fault;
 mod headers;
 mod laws;
+mod lines;
 mod media_type;
 mod method;
+mod names;
 mod query;
 mod reply;
 mod request;
@@ -28,10 +30,14 @@ pub use fault::BindFault;
 pub use headers::echo_id;
 pub use laws::{
     a_frame_binds_to_one_request, a_frame_binds_to_requests_of_their_kinds, a_reply_is_read_back,
-    authorities_are_of_uris, the_echo_is_the_request_id,
+    an_operation_is_read_back, authorities_are_of_uris, the_echo_is_the_request_id,
 };
+pub use lines::{body_of, push_close, push_field, push_length};
+pub use method::method_text;
+pub use names::{CODE_FIELD, EXPIRY_FIELD, ID_FIELD, JSON_TYPE, ORIGIN_FIELD, TYPE_FIELD};
 pub use reply::of_reply;
-pub use request::to_request;
+pub use request::{created_type, to_request};
 pub use room::ReplyRoom;
 pub use std::alloc::AllocError as OutOfMemory;
-pub use writing::write_reply;
+pub use target::index_of;
+pub use writing::write_reply_text;

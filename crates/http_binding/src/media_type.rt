@@ -5,6 +5,7 @@ ghost use Rattle.http_frames.specs.Lines.{is_same_name};
 ghost use Rattle.http_binding.specs.MediaTypes as spec;
 
 use crate::method::Method;
+use crate::names::{JSON_TYPE, TYPE_PARAMETER};
 use crate::target::{before, behind};
 use m2m_names::{are_digits, is_filled, is_type_number};
 use primitive_json::digits_number;
@@ -52,7 +53,7 @@ fn is_named(text: &[u8], name: &[u8]) -> bool
 fn is_media_type(text: &[u8]) -> bool
     ensures { result ≡ spec.is_media_type text.now }
 {
-    is_named(text, b"application/json")
+    is_named(text, JSON_TYPE.as_bytes())
         || is_named(text, b"application/vnd.onem2m-res+json")
         || is_named(text, b"application/vnd.onem2m-ntfy+json")
 }
@@ -80,7 +81,7 @@ fn parameter_said(before: TypeNumber, name: &[u8], value: &[u8]) -> Option<TypeN
 {
     if name.is_empty() {
         None
-    } else if name == b"ty".as_slice() {
+    } else if name == TYPE_PARAMETER.as_bytes() {
         type_digits_said(value)
     } else {
         Some(before)

@@ -10,7 +10,9 @@ use filter_criteria::{Condition, FilterParts, FilterUsage, Sort};
 use form_urlencoded::{decode, raw_pairs};
 use m2m_names::{Op, is_type_number, read_stamp};
 use m2m_value::{Labels, Numbers, Text, is_label_text};
-use primitive_json::{Member, number_spelled, result_contents};
+use primitive_json::{
+    Member, address_forms, has_result, is_among, number_spelled, result_contents, retrieves,
+};
 use std::alloc::Global;
 
 /// A key and its value.
@@ -71,22 +73,11 @@ fn whole_spelled(text: &[u8]) -> Option<i64>
     Some(number_spelled(text)? as i64)
 }
 
-fn is_among(numbers: &[i64], number: i64) -> bool
-    ensures { result ≡ spec.among numbers.now number }
-{
-    numbers.contains(&number)
-}
-
 /// Whether the content of the result may be so.
 fn is_result(op: Op, number: i64) -> bool
     ensures { result ≡ spec.is_result op number }
 {
-    match op {
-        Op::Create | Op::Retrieve | Op::Update | Op::Delete => {
-            is_among(result_contents(op), number)
-        }
-        Op::Notify => true,
-    }
+    !has_result(op) || is_among(result_contents(op), number)
 }
 
 fn result_spelled(op: Op, text: &[u8]) -> Option<i64>
@@ -104,7 +95,7 @@ fn form_spelled(text: &[u8]) -> Option<i64>
     ensures { result ≡ spec.form_spelled text.now }
 {
     let number = whole_spelled(text)?;
-    if is_among(&[1, 2], number) {
+    if is_among(address_forms(), number) {
         Some(number)
     } else {
         None
@@ -114,11 +105,7 @@ fn form_spelled(text: &[u8]) -> Option<i64>
 fn usage_spelled(text: &[u8]) -> Option<FilterUsage>
     ensures { result ≡ spec.usage_spelled text.now }
 {
-    match whole_spelled(text)? {
-        1 => Some(FilterUsage::Discovery),
-        2 => Some(FilterUsage::Conditional),
-        _ => None,
-    }
+    FilterUsage::numbered(whole_spelled(text)?)
 }
 
 /// What stands between single spaces.
@@ -459,9 +446,7 @@ fn with_key(
         Key::ResponseType => Ok(with_response(query, whole_spelled(text))),
         Key::DesiredForm => Ok(with_form(query, form_spelled(text))),
         Key::Unread => Ok(Some(query)),
-        Key::OfFilter(condition) if matches!(op, Op::Retrieve) => {
-            with_filter(alloc, query, condition, text)
-        }
+        Key::OfFilter(condition) if retrieves(op) => with_filter(alloc, query, condition, text),
         Key::OfFilter(_) => Ok(None),
     }
 }
@@ -477,8 +462,8 @@ fn said_more(alloc: Global, op: Op, query: Query, pair: &Pair) -> Result<Option<
 }
 
 /// The query with what one more pair says.
-fn with_pair(alloc: Global, op: Op, query: Query, pair: &Pair) -> Result<Query, BindFault>
-    ensures { ReadsAs (λ said. said) result (spec.with_pair op pair.now query) }
+fn pair_said(alloc: Global, op: Op, query: Query, pair: &Pair) -> Result<Query, BindFault>
+    ensures { ReadsAs (λ said. said) result (spec.pair_said op pair.now query) }
 {
     match said_more(alloc, op, query, pair)? {
         Some(said) => Ok(said),
@@ -497,7 +482,7 @@ fn said_by(alloc: Global, op: Op, pairs: &[Pair]) -> Result<Query, BindFault>
         drt: None,
     };
     for pair in pairs {
-        query = with_pair(alloc, op, query, pair)?;
+        query = pair_said(alloc, op, query, pair)?;
     }
     Ok(query)
 }
@@ -518,8 +503,8 @@ fn decoded_pair(alloc: Global, key: &[u8], value: &[u8]) -> Result<Pair, OutOfMe
 }
 
 /// The pairs of a query.
-fn pairs_of(alloc: Global, query: &[u8]) -> Result<Vec<Pair>, OutOfMemory>
-    ensures { IfOk result (λ pairs. pairs.items ≡ spec.pairs_of query.now) }
+fn decoded_pairs(alloc: Global, query: &[u8]) -> Result<Vec<Pair>, OutOfMemory>
+    ensures { IfOk result (λ pairs. pairs.items ≡ spec.decoded_pairs query.now) }
 {
     let mut pairs = Vec::new(alloc);
     let mut left = raw_pairs(query);
@@ -533,6 +518,6 @@ fn pairs_of(alloc: Global, query: &[u8]) -> Result<Vec<Pair>, OutOfMemory>
 pub(crate) fn query_of(alloc: Global, op: Op, query: &[u8]) -> Result<Query, BindFault>
     ensures { ReadsAs (λ said. said) result (query_of op query.now) }
 {
-    let pairs = pairs_of(alloc, query)?;
+    let pairs = decoded_pairs(alloc, query)?;
     said_by(alloc, op, &pairs)
 }

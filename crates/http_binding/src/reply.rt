@@ -3,71 +3,28 @@ ghost use Rattle.std.specs.Prelude.{◌≡◌, ◌++◌, ◌∷◌, [], IfOk, On
 ghost use Rattle.std.specs.Fmt.{decimal};
 ghost use Rattle.m2m_names.specs.StatusCodes.{rsc_row};
 ghost use Rattle.http_binding.specs.Headers.{code_field, length_field};
-ghost use Rattle.http_binding.specs.Replying.{body_of, id_lines, type_lines, close_lines};
+ghost use Rattle.http_binding.specs.Replying.{body_of, id_lines, type_lines};
 ghost use Rattle.http_binding.specs.Replying.{reply_lines, reply_frame};
 
 use crate::OutOfMemory;
+use crate::lines::{Line, body_of, push_close, push_field, push_length, push_number_field};
+use crate::names::{CODE_FIELD, ID_FIELD, JSON_TYPE, TYPE_FIELD};
 use http_frames::{Frame, Lines, Start};
-use m2m_value::{Text, Val, write};
+use m2m_value::{Text, Val};
 use primitive_json::{Reply, ReplyParts};
 use std::alloc::Global;
-
-/// A line of a head, with a name and a value.
-type Line = (Text, Text);
 
 /// The minor version of HTTP that replies have.
 const MINOR: u8 = 1;
 
-/// Room for most contents.
-const CONTENT_ROOM: usize = 512;
-
 /// A reply has at most so many lines.
 const MOST_LINES: usize = 5;
-
-/// The bytes of the body.
-fn body_text(alloc: Global, content: &Option<Val>) -> Result<Vec<u8>, OutOfMemory>
-    ensures { IfOk result (λ bytes. bytes.items ≡ body_of content.now) }
-{
-    let Some(value) = content else {
-        return Ok(Vec::new(alloc));
-    };
-    let mut bytes = Vec::with_capacity(alloc, CONTENT_ROOM)?;
-    write(value, &mut bytes)?;
-    Ok(bytes)
-}
-
-/// Puts one line behind the others.
-fn push_line(
-    alloc: Global,
-    lines: &mut Vec<Line>,
-    name: &str,
-    value: &[u8],
-) -> Result<(), OutOfMemory>
-    ensures { OnOk result (lines.new.items ≡ lines.old.items ++ (name.now, value.now) ∷ []) }
-{
-    let name = Text::from_slice(alloc, name.as_bytes())?;
-    lines.push((name, Text::from_slice(alloc, value)?))?;
-    Ok(())
-}
-
-/// Puts one line with a number behind the others.
-fn push_number(
-    alloc: Global,
-    lines: &mut Vec<Line>,
-    name: &str,
-    n: usize,
-) -> Result<(), OutOfMemory>
-    ensures { OnOk result (lines.new.items ≡ lines.old.items ++ (name.now, decimal n) ∷ []) }
-{
-    let digits = format!(in alloc; "{n}")?;
-    push_line(alloc, lines, name, digits.as_bytes())
-}
 
 /// Puts the line with the number of a status code behind the others.
 fn push_code(alloc: Global, lines: &mut Vec<Line>, code: u16) -> Result<(), OutOfMemory>
     ensures { OnOk result (lines.new.items ≡ lines.old.items ++ (code_field, decimal code) ∷ []) }
 {
-    push_number(alloc, lines, "X-M2M-RSC", usize::from(code))
+    push_number_field(alloc, lines, CODE_FIELD, usize::from(code))
 }
 
 /// Puts the line with the request's identifier behind the others, where there is one.
@@ -75,7 +32,7 @@ fn push_id(alloc: Global, lines: &mut Vec<Line>, id: &Option<Text>) -> Result<()
     ensures { OnOk result (lines.new.items ≡ lines.old.items ++ id_lines id.now) }
 {
     match id {
-        Some(id) => push_line(alloc, lines, "X-M2M-RI", id.entries()),
+        Some(id) => push_field(alloc, lines, ID_FIELD, id.entries()),
         None => Ok(()),
     }
 }
@@ -85,19 +42,9 @@ fn push_type(alloc: Global, lines: &mut Vec<Line>, content: &Option<Val>) -> Res
     ensures { OnOk result (lines.new.items ≡ lines.old.items ++ type_lines content.now) }
 {
     match content {
-        Some(_) => push_line(alloc, lines, "Content-Type", b"application/json"),
+        Some(_) => push_field(alloc, lines, TYPE_FIELD, JSON_TYPE.as_bytes()),
         None => Ok(()),
     }
-}
-
-/// Puts the line that says that the connection closes behind the others, where it does.
-fn push_close(alloc: Global, lines: &mut Vec<Line>, close: bool) -> Result<(), OutOfMemory>
-    ensures { OnOk result (lines.new.items ≡ lines.old.items ++ close_lines close) }
-{
-    if close {
-        push_line(alloc, lines, "Connection", b"close")?;
-    }
-    Ok(())
 }
 
 /// The lines that speak of the primitive.
@@ -125,7 +72,7 @@ fn push_body(
         ≡ lines.old.items ++ (type_lines reply.now.pc ++ (length_field, decimal len) ∷ [])) }
 {
     push_type(alloc, lines, &reply.pc)?;
-    push_number(alloc, lines, "Content-Length", len)
+    push_length(alloc, lines, len)
 }
 
 /// The lines of a reply whose body has so many bytes.
@@ -151,7 +98,7 @@ pub fn of_reply(alloc: Global, reply: &Reply, close: bool) -> Result<Frame, OutO
     ensures { IfOk result (λ frame. frame ≡ reply_frame reply.now close) }
 {
     let parts = reply.parts();
-    let body = body_text(alloc, &parts.pc)?;
+    let body = body_of(alloc, &parts.pc)?;
     let lines = lines_of(alloc, parts, body.len(), close)?;
     Ok(Frame {
         start: Start::Answer {

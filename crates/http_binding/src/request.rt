@@ -73,12 +73,13 @@ fn content_of(alloc: Global, op: Op, body: &[u8]) -> Result<Option<Val>, BindFau
 }
 
 /// The number of the type that is to be created, on a Create.
-fn created_type(op: Op, ty: Option<u32>) -> Option<u32>
+pub fn created_type(op: Op, ty: Option<u32>) -> Option<u32>
     ensures { result ≡ spec.created_type op ty }
 {
-    match op {
-        Op::Create => ty,
-        Op::Retrieve | Op::Update | Op::Delete | Op::Notify => None,
+    if primitive_json::creates(op) {
+        ty
+    } else {
+        None
     }
 }
 
@@ -86,9 +87,10 @@ fn created_type(op: Op, ty: Option<u32>) -> Option<u32>
 fn kept_result(op: Op, number: Option<i64>) -> Option<i64>
     ensures { result ≡ spec.kept_result op number }
 {
-    match op {
-        Op::Create | Op::Retrieve | Op::Update | Op::Delete => number,
-        Op::Notify => None,
+    if primitive_json::has_result(op) {
+        number
+    } else {
+        None
     }
 }
 

@@ -58,7 +58,7 @@ fn are_of_query(text: &[u8]) -> bool
 }
 
 /// Where the mark first stands, or the length.
-pub(crate) fn place_of(mark: u8, text: &[u8]) -> usize
+pub(crate) fn index_of(mark: u8, text: &[u8]) -> usize
     ensures value { result ≡ uri.index_of mark text.now }
     ensures within { result ≤ length text.now }
 {
@@ -69,14 +69,14 @@ pub(crate) fn place_of(mark: u8, text: &[u8]) -> usize
 pub(crate) fn before(mark: u8, text: &[u8]) -> &[u8]
     ensures { result.now ≡ uri.split_once_front mark text.now }
 {
-    &text[..place_of(mark, text)]
+    &text[..index_of(mark, text)]
 }
 
 /// What stands behind the first mark, if there is one.
 pub(crate) fn behind(mark: u8, text: &[u8]) -> Option<&[u8]>
     ensures { option_copied result ≡ uri.split_once_back mark text.now }
 {
-    let place = place_of(mark, text);
+    let place = index_of(mark, text);
     if place < text.len() {
         Some(&text[place + 1..])
     } else {
@@ -95,14 +95,14 @@ pub(crate) fn is_text(bytes: &[u8]) -> bool
 
 /// The path of a text, which is `/` where the text has none.
 fn path_of(text: &[u8]) -> &[u8]
-    ensures { result.now ≡ (spec.parts_of text.now).path }
+    ensures { result.now ≡ (spec.split_target text.now).path }
 {
     let path = before(b'?', text);
     if path.is_empty() { b"/" } else { path }
 }
 
-fn parts_of(text: &[u8]) -> PathAndQuery<'_>
-    ensures { seen_parts result ≡ spec.parts_of text.now }
+fn split_target(text: &[u8]) -> PathAndQuery<'_>
+    ensures { seen_parts result ≡ spec.split_target text.now }
 {
     PathAndQuery {
         path: path_of(text),
@@ -130,9 +130,9 @@ fn target_parts(alloc: Global, target: &[u8]) -> Result<Option<PathAndQuery<'_>>
     ensures { IfOk result (λ parts. option_map seen_parts parts ≡ spec.target_parts target.now) }
 {
     if is_origin_form(target) {
-        Ok(Some(parts_of(before(b'#', target))))
+        Ok(Some(split_target(before(b'#', target))))
     } else if is_absolute_form(alloc, target)? {
-        Ok(Some(parts_of(before(b'#', tail_of(target)))))
+        Ok(Some(split_target(before(b'#', tail_of(target)))))
     } else {
         Ok(None)
     }

@@ -278,7 +278,7 @@ fn reply_bytes(
 
 /// Writes a reply by one call of the sink (TS-0009, 6.3 to 6.5). It says whether the connection
 /// closes behind it. It is written in the room of those before it.
-pub fn write_reply<K: Sink>(
+pub fn write_reply_text<K: Sink>(
     alloc: Global,
     reply: &Reply,
     close: bool,

@@ -1,20 +1,16 @@
 -- The frame of a request is sound, so that it is read back from its text.
-use Rattle.std.proofs.Common.{◌≡◌, ℕ, ◌+◌, ◌/◌, ◌%◌, ◌<◌, ◌≤◌, ◌^◌, Bool, true, false, ◌&&◌, ◌==◌, nat_le, nat_lt, leb, ltb, List, [], ◌∷◌, ◌++◌, length, reverse, codes, Option, Some, None, IsTrue, IfSome, refl, sym, ap, subst, ◌∙◌, arith}
+use Rattle.std.proofs.Common.{◌≡◌, ℕ, ◌+◌, ◌/◌, ◌%◌, ◌<◌, ◌≤◌, ◌^◌, Bool, true, false, ◌&&◌, ◌==◌, nat_le, nat_lt, List, [], ◌∷◌, ◌++◌, length, codes, Option, Some, None, IsTrue, IfSome, refl, sym, ap, subst, ◌∙◌, arith}
 use Rattle.std.specs.Prelude.{All}
 use Rattle.std.specs.Fmt.{decimal}
 use Rattle.std.specs.Char.{is_ascii_digit, is_ascii_graphic}
-use Rattle.std.specs.Int.{is_in_range, IsInRange}
+use Rattle.std.specs.Int.{is_in_range}
 use Rattle.std.specs.List.{list_all}
-use Rattle.std.specs.Str.Parse.{AllDigits}
-use Rattle.std.proofs.lemmas.Bool.{and_parts, and_from, le-leb, leb-true, ltb-true, eqb-true, cond-true, cond-false}
+use Rattle.std.proofs.lemmas.Bool.{and_parts, leb-true, ltb-true, eqb-true, cond-true}
 use Rattle.std.proofs.lemmas.Bool.Decides.{nat_tests}
-use Rattle.std.proofs.lemmas.Fmt.{decimal_is_IsNumeral, length-decimal-le}
-use Rattle.std.proofs.lemmas.List.{reverse-reverse}
-use Rattle.std.proofs.lemmas.List.Elements.{All-nil, All-cons, All-head, All-append, All-weaker}
-use Rattle.std.proofs.lemmas.List.Sums.{AllPass-from_list_all, list_all-from_AllPass}
-use Rattle.std.proofs.lemmas.Str.Parse.{digit_from_value}
-use Rattle.httparse.specs.Grammar.{AllPass, IsToken, is_token, is_token_byte, is_value_byte, is_ows, skip_ows, trim_ows}
-use Rattle.httparse.proofs.TrimLemmas.{AllPass-reverse}
+use Rattle.std.proofs.lemmas.Fmt.{decimal_is_IsNumeral}
+use Rattle.std.proofs.lemmas.List.Elements.{All-nil, All-cons, All-append, All-weaker}
+use Rattle.std.proofs.lemmas.List.Sums.{AllPass-from_list_all}
+use Rattle.httparse.specs.Grammar.{AllPass, IsToken, is_token_byte}
 use Rattle.m2m_names.specs.Name.{is_filled, is_originator, originator_limit}
 use Rattle.m2m_names.specs.Calendar.{is_date, days_of_month}
 use Rattle.m2m_names.specs.Stamps.{Stamp, is_stamp, is_fraction, stamp_bytes, timestamp, two, four, IsTimestamp}
@@ -24,7 +20,9 @@ use Rattle.m2m_names.proofs.CalendarLemmas.{days_of_month_bounds}
 use Rattle.m2m_names.proofs.StampReadingLemmas.{timestamp_is}
 use Rattle.m2m_value.specs.Data.{Data}
 use Rattle.primitive_json.specs.Bounds.{is_request_id, request_id_limit}
-use Rattle.primitive_json.specs.Laws.{IsWhenOfKind, IsShortWhen, IsOfKinds, HasShortExpiry}
+use Rattle.primitive_json.specs.Laws.{IsWhenOfKind}
+use Rattle.primitive_json.proofs.FormLemmas.{kinds_apart}
+use Rattle.primitive_json.specs.Writing.{expiry_text}
 use Rattle.primitive_json.specs.declared.request.RequestParts.{RequestParts}
 use Rattle.primitive_json.specs.declared.request.When.{When}
 use Rattle.primitive_json.specs.declared.request.When.TheVariants.{At, Millis}
@@ -38,74 +36,17 @@ use Rattle.http_frames.specs.Stream.{BeginsWithFrame}
 use Rattle.http_frames.specs.Text.{frame_text, IsLine, IsSoundFrame}
 use Rattle.http_frames.proofs.TextLemmas.{written_is_read}
 use Rattle.http_binding.specs.Binding.{created_type}
-use Rattle.http_binding.specs.Headers.{type_field, length_field, connection_field}
+use Rattle.http_binding.specs.declared.headers.Field.TheVariants.{Origin, Id, Expiry}
+use Rattle.http_binding.specs.Headers.{field_name, type_field, length_field, connection_field}
+use Rattle.http_binding.specs.MediaTypes.{json_type, semicolon, type_parameter, equals_sign}
+use Rattle.http_binding.specs.Methods.{method_text}
 use Rattle.http_binding.specs.Replying.{body_of, id_lines, close_lines}
+use Rattle.http_binding.proofs.GraphicLemmas.{Graphic, digit_graphic, decimal_graphic, length_is, token_is, line_is}
 use Rattle.http_client_binding.specs.declared.target.Aim.{Aim}
-use Rattle.http_client_binding.specs.Asking.{method_text, target_text, host_field, origin_field, origin_lines, expiry_field, expiry_text, expiry_lines, content_type, content_lines, caller_lines, body_lines, request_frame}
+use Rattle.http_client_binding.specs.Asking.{target_text, host_field, origin_lines, expiry_lines, content_type, content_lines, caller_lines, body_lines, request_frame}
 use Rattle.http_client_binding.specs.TargetWriting.{host_of}
 use Rattle.http_client_binding.specs.Laws.{IsSendable}
 use Rattle.http_client_binding.proofs.UrlLemmas.{host_passes}
-
--- ---- texts of printable characters
-
-abbrev Graphic : ℕ → Type 0
-Graphic b = IsTrue (is_ascii_graphic b)
-
--- a printable character but space may stand in a value, and is no white space
-graphic_value : (b : ℕ) → Graphic b → IsTrue (is_value_byte b)
-graphic_value b h = grind (arith, nat_tests, h)
-
-graphic_apart : (b : ℕ) → Graphic b → is_ows b ≡ false
-graphic_apart b h = grind (arith, nat_tests, h)
-
-skip_nothing : (value : List ℕ) → AllPass is_ascii_graphic value → skip_ows value ≡ value
-skip_nothing [] all = refl
-skip_nothing (b ∷ value) all = cond-false _ _ _ (graphic_apart b (All-head Graphic b value all))
-
-trim_nothing : (value : List ℕ) → AllPass is_ascii_graphic value → trim_ows value ≡ value
-unfolding trim_ows
-trim_nothing value all =
-    let front = skip_nothing value all in
-    let back = skip_nothing (reverse value) (AllPass-reverse is_ascii_graphic value all) in
-    rw (front, back, reverse-reverse)
-
-token_is : (name : List ℕ) → IsTrue (is_token name) → IsToken name
-token_is name token =
-    let parts = and_parts (ltb 0 (length name)) (list_all is_token_byte name) token in
-    (ltb-true 0 (length name) parts.0, AllPass-from_list_all is_token_byte name parts.1)
-
-line_is : (name value : List ℕ) → IsTrue (is_token name) → AllPass is_ascii_graphic value → IsLine (name, value)
-line_is name value token all = (
-  token_is name token,
-  All-weaker Graphic (λ b. IsTrue (is_value_byte b)) graphic_value value all,
-  trim_nothing value all,
-)
-
--- ---- numbers
-
-digits_pass : (test : ℕ → Bool) → ((c : ℕ) → IsInRange 48 57 c → IsTrue (test c)) → (ds : List ℕ) → AllDigits 10 ds → AllPass test ds
-digits_pass test f [] all = All-nil (λ c. IsTrue (test c))
-digits_pass test f (c ∷ ds) all = All-cons (λ c. IsTrue (test c)) c ds (f c (digit_from_value c all.0)) (digits_pass test f ds all.1)
-
-near_graphic : (low high c : ℕ) → IsInRange low high c → 33 ≤ low → high ≤ 126 → Graphic c
-near_graphic low high c h from to = and_from _ _ (le-leb 33 c (omega (arith, h.0))) (le-leb c 126 (omega (arith, h.1)))
-
-digit_is : (c : ℕ) → IsInRange 48 57 c → IsTrue (is_ascii_digit c)
-digit_is c h = and_from _ _ (le-leb 48 c h.0) (le-leb c 57 h.1)
-
-digit_graphic : (c : ℕ) → IsInRange 48 57 c → Graphic c
-digit_graphic c h = near_graphic 48 57 c h (omega arith) (omega arith)
-
-decimal_graphic : (n : ℕ) → n < 2 ^ 64 → AllPass is_ascii_graphic (decimal n)
-decimal_graphic n small = digits_pass is_ascii_graphic digit_graphic (decimal n) (decimal_is_IsNumeral n small).0.1
-
--- a length of seven digits at most is a value of Content-Length, and is worth what it is
-length_is : (n : ℕ) → n < 10 ^ 7 → is_length (decimal n) ≡ true
-length_is n small =
-    let numeral = (decimal_is_IsNumeral n (omega arith)).0 in
-    and_from _ _ (le-leb 1 (length (decimal n)) (omega (arith, numeral.0)))
-    (and_from _ _ (le-leb (length (decimal n)) 18 (omega (arith, length-decimal-le 7 n (omega arith) small (omega arith))))
-    (list_all-from_AllPass is_ascii_digit (decimal n) (digits_pass is_ascii_digit digit_is (decimal n) numeral.1)))
 
 -- ---- timestamps
 
@@ -165,61 +106,55 @@ unfolding is_token_byte
 origin_is None h = All-nil IsLine
 origin_is (Some s) h =
     let all = (and_parts (is_filled originator_limit s) (list_all is_ascii_graphic s) h).1 in
-    All-cons IsLine (origin_field, s) [] (line_is (origin_field) s refl (AllPass-from_list_all is_ascii_graphic s all)) (All-nil IsLine)
+    All-cons IsLine (field_name Origin, s) [] (line_is (field_name Origin) s refl (AllPass-from_list_all is_ascii_graphic s all)) (All-nil IsLine)
 
 id_is : (rqi : List ℕ) → IsTrue (is_request_id rqi) → All IsLine (id_lines (Some rqi))
 unfolding is_token_byte
 id_is rqi h =
     let all = (and_parts (is_in_range 1 request_id_limit (length rqi)) (list_all is_ascii_graphic rqi) h).1 in
-    All-cons IsLine (codes "X-M2M-RI", rqi) [] (line_is (codes "X-M2M-RI") rqi refl (AllPass-from_list_all is_ascii_graphic rqi all)) (All-nil IsLine)
+    All-cons IsLine (field_name Id, rqi) [] (line_is (field_name Id) rqi refl (AllPass-from_list_all is_ascii_graphic rqi all)) (All-nil IsLine)
 
-expiry_graphic : (when : When) → IsWhenOfKind when → IsShortWhen when → AllPass is_ascii_graphic (expiry_text when)
-expiry_graphic (At at) h g = text_graphic (timestamp at) at (timestamp_is at h)
-expiry_graphic (Millis n) h g = decimal_graphic n (omega (arith, g))
+expiry_graphic : (when : When) → IsWhenOfKind when → AllPass is_ascii_graphic (expiry_text when)
+expiry_graphic (At at) h = text_graphic (timestamp at) at (timestamp_is at h)
+expiry_graphic (Millis n) h = decimal_graphic n
 
-expiry_is : (when : Option When) → IfSome when IsWhenOfKind → IfSome when IsShortWhen → All IsLine (expiry_lines when)
+expiry_is : (when : Option When) → IfSome when IsWhenOfKind → All IsLine (expiry_lines when)
 unfolding is_token_byte
-expiry_is None h g = All-nil IsLine
-expiry_is (Some when) h g =
-    All-cons IsLine (expiry_field, expiry_text when) [] (line_is (expiry_field) (expiry_text when) refl (expiry_graphic when h g)) (All-nil IsLine)
+expiry_is None h = All-nil IsLine
+expiry_is (Some when) h =
+    All-cons IsLine (field_name Expiry, expiry_text when) [] (line_is (field_name Expiry) (expiry_text when) refl (expiry_graphic when h)) (All-nil IsLine)
 
-type_graphic : (type : Option ℕ) → IfSome type (λ n. IsTrue (nat_le n 65_535)) → AllPass is_ascii_graphic (content_type type)
-type_graphic None h = AllPass-from_list_all is_ascii_graphic (codes "application/json") refl
-type_graphic (Some n) h =
-    let small : n ≤ 65_535 = leb-true n 65_535 h in
-    All-append Graphic (codes "application/json;ty=") (decimal n) (AllPass-from_list_all is_ascii_graphic (codes "application/json;ty=") refl) (decimal_graphic n (omega arith))
+type_graphic : (type : Option ℕ) → AllPass is_ascii_graphic (content_type type)
+type_graphic None = AllPass-from_list_all is_ascii_graphic json_type refl
+type_graphic (Some n) =
+    let front = json_type ++ semicolon ∷ type_parameter ++ equals_sign ∷ [] in
+    All-append Graphic front (decimal n) (AllPass-from_list_all is_ascii_graphic front refl) (decimal_graphic n)
 
-content_is : (type : Option ℕ) (content : Option Data) → IfSome type (λ n. IsTrue (nat_le n 65_535)) → All IsLine (content_lines type content)
+content_is : (type : Option ℕ) (content : Option Data) → All IsLine (content_lines type content)
 unfolding is_token_byte
-content_is type None h = All-nil IsLine
-content_is type (Some content) h =
-    All-cons IsLine (type_field, content_type type) [] (line_is type_field (content_type type) refl (type_graphic type h)) (All-nil IsLine)
+content_is type None = All-nil IsLine
+content_is type (Some content) =
+    All-cons IsLine (type_field, content_type type) [] (line_is type_field (content_type type) refl (type_graphic type)) (All-nil IsLine)
 
 ending_is : (n : ℕ) → n < 10 ^ 7 → All IsLine ((length_field, decimal n) ∷ close_lines true)
 unfolding is_token_byte
 ending_is n small =
     let value = codes "close" in
-    All-cons IsLine (length_field, decimal n) (close_lines true) (line_is length_field (decimal n) refl (decimal_graphic n (omega arith)))
+    All-cons IsLine (length_field, decimal n) (close_lines true) (line_is length_field (decimal n) refl (decimal_graphic n))
     (All-cons IsLine (connection_field, value) [] (line_is connection_field value refl (AllPass-from_list_all is_ascii_graphic value refl)) (All-nil IsLine))
-
-type_short : (op : Op) (type : Option ℕ) → IfSome type (λ n. IsTrue (nat_le n 65_535)) → IfSome (created_type op type) (λ n. IsTrue (nat_le n 65_535))
-type_short Create type h = h
-type_short Retrieve type h = tt
-type_short Update type h = tt
-type_short Removal type h = tt
-type_short Notify type h = tt
 
 lines_are : (r : RequestParts) (url : List ℕ) (aim : Aim) → IsSendable r url aim → All IsLine (caller_lines r url ++ body_lines r)
 unfolding is_token_byte
 lines_are r url aim h =
+    let kinds = kinds_apart r h.kinds in
     let id = id_lines (Some r.rqi) in
     let behind = id ++ expiry_lines r.rqet in
     let last = (length_field, decimal (length (body_of r.pc))) ∷ close_lines true in
     All-append IsLine (caller_lines r url) (body_lines r)
     (All-cons IsLine (host_field, host_of url) (origin_lines r.fr ++ behind) (line_is host_field (host_of url) refl (host_passes url h.is_url))
     (All-append IsLine (origin_lines r.fr) behind (origin_is r.fr h.kinds.fr)
-    (All-append IsLine id (expiry_lines r.rqet) (id_is r.rqi h.kinds.rqi) (expiry_is r.rqet h.kinds.rqet h.expiry))))
-    (All-append IsLine (content_lines (created_type r.op r.ty) r.pc) last (content_is (created_type r.op r.ty) r.pc (type_short r.op r.ty h.kinds.ty)) (ending_is (length (body_of r.pc)) (omega (arith, h.body))))
+    (All-append IsLine id (expiry_lines r.rqet) (id_is r.rqi kinds.rqi) (expiry_is r.rqet h.kinds.rqet))))
+    (All-append IsLine (content_lines (created_type r.op r.ty) r.pc) last (content_is (created_type r.op r.ty) r.pc) (ending_is (length (body_of r.pc)) (omega (arith, h.body))))
 
 -- how many they are, and what they say of the body
 abbrev lines_with : List ℕ → Option (List ℕ) → List ℕ → Option When → Option ℕ → Option Data → List ℕ → List Line

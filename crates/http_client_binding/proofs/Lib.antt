@@ -1,3 +1,4 @@
+pub mod AddressLemmas
 pub mod AskLemmas
 pub mod LineLemmas
 pub mod QueryLemmas

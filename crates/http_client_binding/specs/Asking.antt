@@ -2,33 +2,24 @@
 use Rattle.std.specs.Prelude.{ℕ, true, List, [], ◌∷◌, ◌++◌, length, codes, Option, Some, None}
 use Rattle.std.specs.Fmt.{decimal}
 use Rattle.http_uri.specs.Grammar.{or_slash}
-use Rattle.m2m_names.specs.Stamps.{timestamp}
-use Rattle.m2m_names.specs.declared.operations.Op.{Op}
-use Rattle.m2m_names.specs.declared.operations.Op.TheVariants.{Create, Retrieve, Update, Delete}
-use Rattle.m2m_names.specs.declared.operations.Op.TheVariants.{Notify}
 use Rattle.m2m_value.specs.Data.{Data}
+use Rattle.primitive_json.specs.Writing.{expiry_text}
 use Rattle.primitive_json.specs.declared.request.RequestParts.{RequestParts}
 use Rattle.primitive_json.specs.declared.request.When.{When}
-use Rattle.primitive_json.specs.declared.request.When.TheVariants.{At, Millis}
 use Rattle.http_frames.specs.declared.frame.Start.TheVariants.{Ask}
 use Rattle.http_frames.specs.declared.frame.Frame.{Frame}
 use Rattle.http_frames.specs.Lines.{Line}
 use Rattle.http_binding.specs.Binding.{created_type}
-use Rattle.http_binding.specs.Headers.{type_field, length_field}
+use Rattle.http_binding.specs.Headers.{field_name, type_field, length_field}
+use Rattle.http_binding.specs.MediaTypes.{json_type, semicolon, type_parameter, equals_sign}
+use Rattle.http_binding.specs.Methods.{method_text}
 use Rattle.http_binding.specs.Replying.{body_of, id_lines, close_lines}
+use Rattle.http_binding.specs.declared.headers.Field.TheVariants.{Origin, Expiry}
 use Rattle.http_client_binding.specs.declared.target.Aim.{Aim}
 use Rattle.http_client_binding.specs.declared.target.Aim.TheVariants.{Direct, Peer}
 use Rattle.http_client_binding.specs.TargetWriting.{host_of, path_and_query_of, root_path}
 use Rattle.http_client_binding.specs.TargetWriting.{path_of_address}
 use Rattle.http_client_binding.specs.QueryWriting.{query_text, query_part}
-
--- the method of an operation (TS-0009, 6.2.1)
-abbrev pub method_text : Op → List ℕ
-method_text Create = codes "POST"
-method_text Retrieve = codes "GET"
-method_text Update = codes "PUT"
-method_text Delete = codes "DELETE"
-method_text Notify = codes "POST"
 
 -- the target: that of the URL alone, or that of the request at the entity to which the URL leads
 abbrev pub target_text : RequestParts → List ℕ → Aim → List ℕ
@@ -42,30 +33,20 @@ target_text r url Peer =
 abbrev pub host_field : List ℕ
 host_field = codes "Host"
 
--- the names of the fields that say who asks, and when the request expires
-abbrev pub origin_field : List ℕ
-origin_field = codes "X-M2M-Origin"
-
-abbrev pub expiry_field : List ℕ
-expiry_field = codes "X-M2M-RET"
-
+-- the lines that say who asks, and when the request expires
 abbrev pub origin_lines : Option (List ℕ) → List Line
 origin_lines None = []
-origin_lines (Some originator) = (origin_field, originator) ∷ []
-
--- when a request expires: a timestamp, or milliseconds by their digits
-abbrev pub expiry_text : When → List ℕ
-expiry_text (At at) = timestamp at
-expiry_text (Millis n) = decimal n
+origin_lines (Some originator) = (field_name Origin, originator) ∷ []
 
 abbrev pub expiry_lines : Option When → List Line
 expiry_lines None = []
-expiry_lines (Some when) = (expiry_field, expiry_text when) ∷ []
+expiry_lines (Some when) = (field_name Expiry, expiry_text when) ∷ []
 
 -- the type of the content, with the number of the type that is to be created
 abbrev pub content_type : Option ℕ → List ℕ
-content_type None = codes "application/json"
-content_type (Some number) = codes "application/json;ty=" ++ decimal number
+content_type None = json_type
+content_type (Some number) =
+    json_type ++ semicolon ∷ type_parameter ++ equals_sign ∷ decimal number
 
 abbrev pub content_lines : Option ℕ → Option Data → List Line
 content_lines type None = []

@@ -1,10 +1,10 @@
 -- Laws of the binding on the side that asks.
-use Rattle.std.specs.Prelude.{◌≡◌, ◌<◌, ◌≤◌, ℕ, Bool, List, ◌++◌, length, IsTrue, IsUtf8, IfSome, Ok}
+use Rattle.std.specs.Prelude.{◌≡◌, ◌<◌, ◌≤◌, ℕ, Bool, List, ◌++◌, length, IsTrue, IsUtf8, IfSome}
+use Rattle.std.specs.Prelude.{Ok}
 use Rattle.httparse.specs.Grammar.{AllPass, is_uri_byte}
 use Rattle.m2m_value.specs.Data.{depth}
 use Rattle.m2m_value.specs.Sound.{IsSound}
-use Rattle.primitive_json.specs.Bounds.{is_request_id}
-use Rattle.primitive_json.specs.Laws.{IsOfKinds, HasShortExpiry}
+use Rattle.primitive_json.specs.Laws.{IsOfKinds, IsReplyOfKinds}
 use Rattle.primitive_json.specs.Notes.{IsSomeUrl}
 use Rattle.primitive_json.specs.declared.request.RequestParts.{RequestParts}
 use Rattle.primitive_json.specs.declared.reply.ReplyParts.{ReplyParts}
@@ -13,21 +13,31 @@ use Rattle.http_frames.specs.Frame.{head_limit, body_limit}
 use Rattle.http_frames.specs.Stream.{BeginsWithFrame}
 use Rattle.http_frames.specs.Text.{IsSoundFrame, head_text, frame_text}
 use Rattle.http_binding.specs.Replying.{body_of, reply_frame}
+use Rattle.http_binding.specs.Targets.{address_of_path}
 use Rattle.http_client_binding.specs.declared.target.Aim.{Aim}
 use Rattle.http_client_binding.specs.ReplyReading.{reply_in}
 use Rattle.http_client_binding.specs.Asking.{target_text, request_frame}
+use Rattle.http_client_binding.specs.TargetWriting.{path_of_address, has_own_path}
 
--- The identifier of a reply, if it has one, is one, and its content is no deeper than a text is
--- read.
+-- how deep a text is read
+abbrev pub reading_depth : ℕ
+reading_depth = 127
+
+-- The identifier of a reply is of its kind, and its content no deeper than a text is read.
 pub record IsTold (reply : ReplyParts) : Type 0 where
-  pub rqi : IfSome reply.rqi (λ id. IsTrue (is_request_id id))
-  pub pc : IfSome reply.pc (λ content. IsSound content × (depth content ≤ 127))
+  pub rqi : IsReplyOfKinds reply
+  pub pc : IfSome reply.pc (λ content. IsSound content × (depth content ≤ reading_depth))
 
 -- The frame of such a reply says the reply.
 abbrev pub ReplyIsSaid : Type 0
 ReplyIsSaid =
     (reply : ReplyParts) (close : Bool) → IsTold reply
     → reply_in (reply_frame reply close) ≡ Ok reply
+
+-- An address is read back from its path, where it has one of its own.
+abbrev pub AddressIsReadBack : Type 0
+AddressIsReadBack =
+    (to : List ℕ) → IsTrue (has_own_path to) → address_of_path (path_of_address to) ≡ to
 
 -- the text may be the target of a request (RFC 9112, section 3.2)
 abbrev pub IsTargetText : List ℕ → Type 0
@@ -37,7 +47,6 @@ IsTargetText text = (0 < length text) × AllPass is_uri_byte text × IsUtf8 text
 -- grammar, and its head and its body are no longer than a frame's may be.
 pub record IsSendable (r : RequestParts) (url : List ℕ) (aim : Aim) : Type 0 where
   pub kinds : IsOfKinds r
-  pub expiry : HasShortExpiry r
   pub is_url : IsSomeUrl url
   pub target : IsTargetText (target_text r url aim)
   pub head : length (head_text (request_frame r url aim)) ≤ head_limit

@@ -1,12 +1,12 @@
 -- The query of a request (TS-0009, 6.2.2.3): its pairs, as a form writes them.
-use Rattle.std.specs.Prelude.{ℕ, ℤ, List, [], ◌∷◌, ◌++◌, map, codes, Option, Some, None}
+use Rattle.std.specs.Prelude.{ℕ, ℤ, List, [], ◌∷◌, ◌++◌, map, Option, Some, None, option_map}
 use Rattle.std.specs.Prelude.{if◌then◌else◌}
 use Rattle.std.specs.Fmt.{decimal, signed_decimal}
 use Rattle.std.specs.List.{flat_map}
 use Rattle.form_urlencoded.specs.Form.{extend_pairs}
 use Rattle.http_uri.specs.ByteClasses.{question_mark}
 use Rattle.m2m_names.specs.Stamps.{timestamp}
-use Rattle.filter_criteria.specs.Conditions.{name_of_condition}
+use Rattle.filter_criteria.specs.Conditions.{name_of_condition, usage_number}
 use Rattle.filter_criteria.specs.declared.condition.Condition.{Condition}
 use Rattle.filter_criteria.specs.declared.condition.Condition.TheVariants.{CreatedAfter}
 use Rattle.filter_criteria.specs.declared.condition.Condition.TheVariants.{CreatedBefore}
@@ -19,8 +19,8 @@ use Rattle.filter_criteria.specs.declared.condition.Condition.TheVariants.{State
 use Rattle.filter_criteria.specs.declared.condition.Condition.TheVariants.{SizeAbove, SizeBelow}
 use Rattle.filter_criteria.specs.declared.condition.Condition.TheVariants.{OneType, UnmodifiedSince}
 use Rattle.filter_criteria.specs.declared.filter.FilterParts.{FilterParts}
-use Rattle.filter_criteria.specs.declared.filter.FilterUsage.{FilterUsage}
-use Rattle.filter_criteria.specs.declared.filter.FilterUsage.TheVariants.{Discovery, Conditional}
+use Rattle.primitive_json.specs.Members.{name_of_member}
+use Rattle.primitive_json.specs.declared.member.Member.TheVariants.{DesiredForm, ResultContent}
 use Rattle.primitive_json.specs.declared.request.RequestParts.{RequestParts}
 use Rattle.http_binding.specs.Headers.{is_some_text}
 use Rattle.http_binding.specs.Queries.{Pair}
@@ -35,11 +35,6 @@ abbrev pub count_texts : Option ℕ → List (List ℕ)
 count_texts None = []
 count_texts (Some n) = decimal n ∷ []
 
-abbrev pub usage_texts : Option FilterUsage → List (List ℕ)
-usage_texts None = []
-usage_texts (Some Discovery) = codes "1" ∷ []
-usage_texts (Some Conditional) = codes "2" ∷ []
-
 abbrev pub whole_texts : Option ℤ → List (List ℕ)
 whole_texts None = []
 whole_texts (Some z) = signed_decimal z ∷ []
@@ -50,7 +45,7 @@ condition_texts f CreatedAfter = moment_texts f.cra
 condition_texts f CreatedBefore = moment_texts f.crb
 condition_texts f ExpireAfter = moment_texts f.exa
 condition_texts f ExpireBefore = moment_texts f.exb
-condition_texts f Usage = usage_texts f.fu
+condition_texts f Usage = whole_texts (option_map usage_number f.fu)
 condition_texts f OneLabel = f.lbl
 condition_texts f Limit = count_texts f.lim
 condition_texts f ModifiedSince = moment_texts f.ms
@@ -85,8 +80,8 @@ filter_pairs (Some f) = flat_map (condition_pairs f) written_order
 -- there
 abbrev pub query_pairs : RequestParts → List Pair
 query_pairs r =
-    pairs_at (codes "rcn") (whole_texts r.rcn) ++ filter_pairs r.fc
-    ++ pairs_at (codes "drt") (whole_texts r.drt)
+    pairs_at (name_of_member ResultContent) (whole_texts r.rcn) ++ filter_pairs r.fc
+    ++ pairs_at (name_of_member DesiredForm) (whole_texts r.drt)
 
 -- ---- the query
 

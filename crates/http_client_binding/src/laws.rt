@@ -1,10 +1,16 @@
 //! Laws of the definitions.
-ghost use Rattle.http_client_binding.specs.Laws.{ReplyIsSaid, RequestIsReadBack};
+ghost use Rattle.http_client_binding.specs.Laws.{AddressIsReadBack, ReplyIsSaid, RequestIsReadBack};
 
 /// The frame of a reply says the reply, where its identifier is one and its content no deeper than
 /// a text is read.
 pub fn a_reply_is_said_by_its_frame()
     ensures { ReplyIsSaid }
+{}
+
+/// An address is read back from the path that is written of it, where that path stands for no other:
+/// the two directions of one rule (TS-0009, 6.2.2.2).
+pub fn an_address_is_read_back()
+    ensures { AddressIsReadBack }
 {}
 
 /// The text of a request is read back as its frame, whatever follows, where its parameters are of

@@ -1,9 +1,10 @@
 //! The query of a request.
-ghost use Rattle.std.specs.Prelude.{◌≡◌, ◌++◌, IfOk, OnOk, map};
+ghost use Rattle.std.specs.Prelude.{◌≡◌, ◌++◌, IfOk, OnOk, map, option_map};
 ghost use Rattle.std.specs.Fmt.{decimal};
 ghost use Rattle.std.specs.Option.{ForSome};
 ghost use Rattle.form_urlencoded.specs.Form as form;
 ghost use Rattle.filter_criteria.specs.Bounds.{IsMoment};
+ghost use Rattle.filter_criteria.specs.Conditions.{usage_number};
 ghost use Rattle.filter_criteria.specs.Filters.{IsSoundFilter};
 ghost use Rattle.http_client_binding.specs.QueryWriting as spec;
 
@@ -13,7 +14,7 @@ use form_urlencoded::byte_serialize;
 use itoa::Buffer;
 use m2m_names::write_stamp;
 use m2m_value::Text;
-use primitive_json::RequestParts;
+use primitive_json::{Member, RequestParts};
 use std::alloc::Global;
 
 /// The conditions in the order in which they are written.
@@ -107,18 +108,6 @@ fn append_count(out: &mut Vec<u8>, key: &str, n: Option<u64>) -> Result<(), OutO
     }
 }
 
-/// Appends the pair that says how a filter is used, where that is said.
-fn append_usage(out: &mut Vec<u8>, key: &str, usage: Option<FilterUsage>) -> Result<(), OutOfMemory>
-    ensures { OnOk result (out.new.items
-        ≡ form.extend_pairs out.old.items (spec.pairs_at key.now (spec.usage_texts usage))) }
-{
-    match usage {
-        Some(FilterUsage::Discovery) => append_pair(out, key, b"1"),
-        Some(FilterUsage::Conditional) => append_pair(out, key, b"2"),
-        None => Ok(()),
-    }
-}
-
 /// Appends a pair for each label.
 fn append_labels(out: &mut Vec<u8>, key: &str, labels: &[Text]) -> Result<(), OutOfMemory>
     ensures { OnOk result (out.new.items
@@ -141,6 +130,16 @@ fn append_types(out: &mut Vec<u8>, key: &str, types: &[u64]) -> Result<(), OutOf
     Ok(())
 }
 
+/// The number of a use, where there is one.
+fn number_of_use(usage: Option<FilterUsage>) -> Option<i64>
+    ensures { result ≡ option_map usage_number usage }
+{
+    match usage {
+        Some(usage) => Some(usage.number()),
+        None => None,
+    }
+}
+
 /// Appends what a filter has of a condition.
 fn append_condition(
     out: &mut Vec<u8>,
@@ -157,7 +156,7 @@ fn append_condition(
         Condition::CreatedBefore => append_moment(out, key, filter.crb),
         Condition::ExpireAfter => append_moment(out, key, filter.exa),
         Condition::ExpireBefore => append_moment(out, key, filter.exb),
-        Condition::Usage => append_usage(out, key, filter.fu),
+        Condition::Usage => append_whole(out, key, number_of_use(filter.fu)),
         Condition::OneLabel => append_labels(out, key, filter.lbl.entries()),
         Condition::Limit => append_count(out, key, filter.lim),
         Condition::ModifiedSince => append_moment(out, key, filter.ms),
@@ -198,8 +197,8 @@ pub(crate) fn query_text(alloc: Global, request: &RequestParts) -> Result<Vec<u8
     ensures { IfOk result (λ query. query.items ≡ spec.query_text request.now) }
 {
     let mut query = Vec::new(alloc);
-    append_whole(&mut query, "rcn", request.rcn)?;
+    append_whole(&mut query, Member::ResultContent.name(), request.rcn)?;
     append_filter(&mut query, &request.fc)?;
-    append_whole(&mut query, "drt", request.drt)?;
+    append_whole(&mut query, Member::DesiredForm.name(), request.drt)?;
     Ok(query)
 }

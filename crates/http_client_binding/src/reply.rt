@@ -8,15 +8,12 @@ ghost use Rattle.http_frames.specs.Lines.{values_named};
 ghost use Rattle.http_client_binding.specs.ReplyReading as spec;
 
 use crate::{BindFault, OutOfMemory};
-use http_binding::echo_id;
+use http_binding::{CODE_FIELD, echo_id};
 use http_frames::{Found, Frame, Lines};
 use m2m_names::{Rsc, are_digits};
 use m2m_value::{Text, Val, ValFault, read};
 use primitive_json::{Reply, ReplyParts};
 use std::alloc::Global;
-
-/// The name of the field that tells the status code.
-const CODE: &[u8] = b"X-M2M-RSC";
 
 /// The value of a decimal digit.
 fn digit(byte: u8) -> u16
@@ -79,7 +76,7 @@ fn code_spelled(text: &[u8]) -> Option<Rsc>
 fn lone_code(lines: &Lines) -> Option<Rsc>
     ensures { result ≡ spec.lone_code (values_named code_field lines.now) }
 {
-    match lines.find(CODE) {
+    match lines.find(CODE_FIELD.as_bytes()) {
         Found::One(value) => code_spelled(value),
         Found::Absent | Found::Repeated => None,
     }
@@ -91,7 +88,7 @@ fn code_in(alloc: Global, lines: &Lines) -> Result<Rsc, BindFault>
 {
     match lone_code(lines) {
         Some(code) => Ok(code),
-        None => Err(BindFault::Header(Text::from_slice(alloc, CODE)?)),
+        None => Err(BindFault::Header(Text::from_slice(alloc, CODE_FIELD.as_bytes())?)),
     }
 }
 

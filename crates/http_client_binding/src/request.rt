@@ -1,8 +1,7 @@
 //! The frame of a request.
-ghost use Rattle.std.specs.Prelude.{◌≡◌, ◌++◌, ◌∷◌, [], true, IfOk, OnOk, Some, length, string_bytes};
+ghost use Rattle.std.specs.Prelude.{◌≡◌, ◌++◌, ◌∷◌, true, IfOk, OnOk, length, string_bytes};
 ghost use Rattle.std.specs.Fmt.{decimal};
 ghost use Rattle.std.specs.Option.{ForSome};
-ghost use Rattle.http_binding.specs.Binding.{created_type};
 ghost use Rattle.http_binding.specs.Headers.{length_field};
 ghost use Rattle.http_binding.specs.Replying.{body_of, close_lines};
 ghost use Rattle.primitive_json.specs.Notes.{IsSomeUrl};
@@ -11,10 +10,13 @@ ghost use Rattle.http_client_binding.specs.Asking as spec;
 
 use crate::OutOfMemory;
 use crate::target::{Aim, host_of, target_of};
+use http_binding::{
+    EXPIRY_FIELD, ID_FIELD, JSON_TYPE, ORIGIN_FIELD, TYPE_FIELD, body_of, created_type,
+    method_text, push_close, push_field, push_length,
+};
 use http_frames::{Frame, Lines, Start};
-use m2m_names::{Op, write_stamp};
-use m2m_value::{Text, Val, write};
-use primitive_json::{Request, RequestParts, When};
+use m2m_value::{Text, Val};
+use primitive_json::{Request, RequestParts, When, expiry_text};
 use std::alloc::Global;
 
 /// A line of a head, with a name and a value.
@@ -23,23 +25,11 @@ type Line = (Text, Text);
 /// The minor version of HTTP that requests have.
 const MINOR: u8 = 1;
 
-/// Room for most contents.
-const CONTENT_ROOM: usize = 512;
+/// The name of the field that says which host is asked (RFC 9110, section 7.2).
+const HOST_FIELD: &str = "Host";
 
 /// A request has at most so many lines.
 const MOST_LINES: usize = 7;
-
-/// The method of an operation.
-fn method_of(op: Op) -> &'static [u8]
-    ensures { result.now ≡ spec.method_text op }
-{
-    match op {
-        Op::Create | Op::Notify => b"POST",
-        Op::Retrieve => b"GET",
-        Op::Update => b"PUT",
-        Op::Delete => b"DELETE",
-    }
-}
 
 /// What a message begins with that asks for a target.
 fn start_of(
@@ -53,36 +43,10 @@ fn start_of(
         ≡ (spec.request_frame request.now url.now aim).start) }
 {
     Ok(Start::Ask {
-        method: Text::from_slice(alloc, method_of(request.op))?,
+        method: Text::from_slice(alloc, method_text(request.op).as_bytes())?,
         target: target_of(alloc, request, url, aim)?,
         minor: MINOR,
     })
-}
-
-/// The bytes of the body.
-fn body_text(alloc: Global, content: &Option<Val>) -> Result<Vec<u8>, OutOfMemory>
-    ensures { IfOk result (λ bytes. bytes.items ≡ body_of content.now) }
-{
-    let Some(value) = content else {
-        return Ok(Vec::new(alloc));
-    };
-    let mut bytes = Vec::with_capacity(alloc, CONTENT_ROOM)?;
-    write(value, &mut bytes)?;
-    Ok(bytes)
-}
-
-/// Puts one line behind the others.
-fn push_line(
-    alloc: Global,
-    lines: &mut Vec<Line>,
-    name: &str,
-    value: &[u8],
-) -> Result<(), OutOfMemory>
-    ensures { OnOk result (lines.new.items ≡ lines.old.items ++ (name.now, value.now) ∷ []) }
-{
-    let name = Text::from_slice(alloc, name.as_bytes())?;
-    lines.push((name, Text::from_slice(alloc, value)?))?;
-    Ok(())
 }
 
 /// Puts the line with the originator behind the others, where there is one.
@@ -95,23 +59,8 @@ fn push_origin(
         ≡ lines.old.items ++ spec.origin_lines originator.now) }
 {
     match originator {
-        Some(originator) => push_line(alloc, lines, "X-M2M-Origin", originator.entries()),
+        Some(originator) => push_field(alloc, lines, ORIGIN_FIELD, originator.entries()),
         None => Ok(()),
-    }
-}
-
-/// When a request expires, as a text.
-fn expiry_text(alloc: Global, when: When) -> Result<Vec<u8>, OutOfMemory>
-    requires { IsSoundWhen when }
-    ensures { IfOk result (λ text. text.items ≡ spec.expiry_text when) }
-{
-    match when {
-        When::At(at) => {
-            let mut stamp = [0; 15];
-            let _written = write_stamp(at, &mut stamp);
-            Vec::from_slice(alloc, &stamp)
-        }
-        When::Millis(millis) => Ok(format!(in alloc; "{millis}")?.into_bytes()),
     }
 }
 
@@ -123,7 +72,7 @@ fn push_expiry(alloc: Global, lines: &mut Vec<Line>, when: Option<When>) -> Resu
     match when {
         Some(when) => {
             let text = expiry_text(alloc, when)?;
-            push_line(alloc, lines, "X-M2M-RET", &text)
+            push_field(alloc, lines, EXPIRY_FIELD, text.entries())
         }
         None => Ok(()),
     }
@@ -141,9 +90,9 @@ fn push_caller(
     ensures { OnOk result (lines.new.items
         ≡ lines.old.items ++ spec.caller_lines request.now url.now) }
 {
-    push_line(alloc, lines, "Host", host_of(url))?;
+    push_field(alloc, lines, HOST_FIELD, host_of(url))?;
     push_origin(alloc, lines, &request.fr)?;
-    push_line(alloc, lines, "X-M2M-RI", request.rqi.entries())?;
+    push_field(alloc, lines, ID_FIELD, request.rqi.entries())?;
     push_expiry(alloc, lines, request.rqet)
 }
 
@@ -153,7 +102,7 @@ fn content_type(alloc: Global, number: Option<u32>) -> Result<String, OutOfMemor
 {
     match number {
         Some(number) => format!(in alloc; "application/json;ty={number}"),
-        None => String::from_str(alloc, "application/json"),
+        None => String::from_str(alloc, JSON_TYPE),
     }
 }
 
@@ -170,56 +119,19 @@ fn push_type(
     match content {
         Some(_) => {
             let text = content_type(alloc, number)?;
-            push_line(alloc, lines, "Content-Type", text.as_bytes())
+            push_field(alloc, lines, TYPE_FIELD, text.as_bytes())
         }
         None => Ok(()),
     }
 }
 
-/// The number of the type that is to be created, on a Create.
-fn type_of(request: &RequestParts) -> Option<u32>
-    ensures { result ≡ created_type request.now.op request.now.ty }
-{
-    match request.op {
-        Op::Create => request.ty,
-        Op::Retrieve | Op::Update | Op::Delete | Op::Notify => None,
-    }
-}
-
-/// Puts one line with a number behind the others.
-fn push_number(
-    alloc: Global,
-    lines: &mut Vec<Line>,
-    name: &str,
-    n: usize,
-) -> Result<(), OutOfMemory>
-    ensures { OnOk result (lines.new.items ≡ lines.old.items ++ (name.now, decimal n) ∷ []) }
-{
-    let digits = format!(in alloc; "{n}")?;
-    push_line(alloc, lines, name, digits.as_bytes())
-}
-
-/// Puts the line that says how long the body is behind the others.
-fn push_length(alloc: Global, lines: &mut Vec<Line>, len: usize) -> Result<(), OutOfMemory>
-    ensures { OnOk result (lines.new.items ≡ lines.old.items ++ (length_field, decimal len) ∷ []) }
-{
-    push_number(alloc, lines, "Content-Length", len)
-}
-
-/// Puts the line that says that the connection closes behind the others.
-fn push_close(alloc: Global, lines: &mut Vec<Line>) -> Result<(), OutOfMemory>
-    ensures { OnOk result (lines.new.items ≡ lines.old.items ++ close_lines true) }
-{
-    push_line(alloc, lines, "Connection", b"close")
-}
-
-/// Puts both behind the others.
+/// Puts the lines that say how long the body is, and that the connection closes, behind the others.
 fn push_ending(alloc: Global, lines: &mut Vec<Line>, len: usize) -> Result<(), OutOfMemory>
     ensures { OnOk result (lines.new.items
         ≡ lines.old.items ++ ((length_field, decimal len) ∷ close_lines true)) }
 {
     push_length(alloc, lines, len)?;
-    push_close(alloc, lines)
+    push_close(alloc, lines, true)
 }
 
 /// Puts the lines that speak of a body of so many bytes behind the others.
@@ -232,7 +144,12 @@ fn push_body(
     requires { len ≡ length (body_of request.now.pc) }
     ensures { OnOk result (lines.new.items ≡ lines.old.items ++ spec.body_lines request.now) }
 {
-    push_type(alloc, lines, type_of(request), &request.pc)?;
+    push_type(
+        alloc,
+        lines,
+        created_type(request.op, request.ty),
+        &request.pc,
+    )?;
     push_ending(alloc, lines, len)
 }
 
@@ -267,7 +184,7 @@ pub fn of_request(
     ensures { IfOk result (λ frame. frame ≡ spec.request_frame request.now url.now aim) }
 {
     let parts = request.parts();
-    let body = body_text(alloc, &parts.pc)?;
+    let body = body_of(alloc, &parts.pc)?;
     let lines = lines_of(alloc, parts, url, body.len())?;
     Ok(Frame {
         start: start_of(alloc, parts, url, aim)?,

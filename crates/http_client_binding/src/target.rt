@@ -1,6 +1,5 @@
 //! The target of a request, of a URL and of the address of the request.
-ghost use Rattle.std.specs.Prelude.{◌≡◌, ◌≤◌, ◌++◌, IfOk, OnOk, length};
-ghost use Rattle.http_uri.specs.ByteClasses as uri;
+ghost use Rattle.std.specs.Prelude.{◌≡◌, ◌++◌, IfOk, OnOk};
 ghost use Rattle.http_uri.specs.Grammar.{or_slash};
 ghost use Rattle.primitive_json.specs.Notes.{IsSomeUrl};
 ghost use Rattle.http_client_binding.specs.Asking.{target_text};
@@ -9,6 +8,7 @@ ghost use Rattle.http_client_binding.specs.TargetWriting as spec;
 
 use crate::OutOfMemory;
 use crate::query::query_text;
+use http_binding::index_of;
 use m2m_value::Text;
 use primitive_json::RequestParts;
 use std::alloc::Global;
@@ -33,21 +33,13 @@ fn behind_scheme(url: &[u8]) -> &[u8]
     &url[SCHEME_LEN..]
 }
 
-/// Where the mark first stands, or the length.
-fn place_of(mark: u8, text: &[u8]) -> usize
-    ensures value { result ≡ uri.index_of mark text.now }
-    ensures within { result ≤ length text.now }
-{
-    text.iter().take_while(|byte| **byte != mark).count()
-}
-
 /// The host of a URL, with its port where it has one, as they are written.
 pub(crate) fn host_of(url: &[u8]) -> &[u8]
     requires { IsSomeUrl url.now }
     ensures { result.now ≡ spec.host_of url.now }
 {
     let rest = behind_scheme(url);
-    &rest[..place_of(b'/', rest)]
+    &rest[..index_of(b'/', rest)]
 }
 
 /// The path of a URL with its query.
@@ -56,7 +48,7 @@ fn path_and_query_of(url: &[u8]) -> &[u8]
     ensures { result.now ≡ spec.path_and_query_of url.now }
 {
     let rest = behind_scheme(url);
-    &rest[place_of(b'/', rest)..]
+    &rest[index_of(b'/', rest)..]
 }
 
 fn without_last_slash(path: &[u8]) -> &[u8]
@@ -75,7 +67,7 @@ fn root_path(url: &[u8]) -> &[u8]
     ensures { result.now ≡ spec.root_path url.now }
 {
     let path = path_and_query_of(url);
-    without_last_slash(&path[..place_of(b'?', path)])
+    without_last_slash(&path[..index_of(b'?', path)])
 }
 
 /// Appends the path of an address.

@@ -30,10 +30,13 @@ only_where is_there value = if is_there then value else None
 
 -- ---- the parts
 
--- when a request expires: a timestamp, or milliseconds by their digits in a text
+-- when a request expires: a timestamp, or milliseconds by their digits
+abbrev pub expiry_text : When → List ℕ
+expiry_text (At at) = timestamp at
+expiry_text (Millis n) = decimal n
+
 abbrev pub expiry_data : When → Data
-expiry_data (At at) = text (timestamp at)
-expiry_data (Millis n) = text (decimal n)
+expiry_data when = text (expiry_text when)
 
 -- ---- a request
 

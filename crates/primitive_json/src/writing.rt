@@ -1,5 +1,5 @@
 //! Requests and replies as values.
-ghost use Rattle.std.specs.Prelude.{◌≡◌, IfOk, option_map};
+ghost use Rattle.std.specs.Prelude.{◌≡◌, IfOk, IsUtf8, option_map};
 ghost use Rattle.std.specs.Fmt.{decimal};
 ghost use Rattle.std.specs.Option.{ForSome};
 ghost use Rattle.m2m_names.specs.StatusCodes.{rsc_row};
@@ -11,26 +11,36 @@ ghost use Rattle.primitive_json.specs.Writing as spec;
 use crate::member::Member;
 use crate::reply::{PC, RQI, RSC, Reply, ReplyParts};
 use crate::request::{Request, RequestParts, When, copied_content};
-use filter_criteria::{moment_value, push_member, sorted_object, text_value, write_filter};
+use filter_criteria::{moment_text, push_member, sorted_object, text_value, write_filter};
 use m2m_names::{Op, Rsc};
 use m2m_value::{Text, Val};
 use std::alloc::{AllocError as OutOfMemory, Global};
 
-fn numeral_value(alloc: Global, n: u64) -> Result<Val, OutOfMemory>
-    ensures { IfOk result (λ v. v ≡ plain.text (decimal n)) }
+fn numeral_text(alloc: Global, n: u64) -> Result<Text, OutOfMemory>
+    ensures value { IfOk result (λ text. text ≡ decimal n) }
+    ensures utf8 { IfOk result IsUtf8 }
 {
     let numeral = format!(in alloc; "{n}")?;
-    Ok(Val::of_text(Text::of(numeral.into_bytes())))
+    Ok(Text::of(numeral.into_bytes()))
+}
+
+/// When a request expires: a timestamp, or milliseconds by their digits.
+pub fn expiry_text(alloc: Global, when: When) -> Result<Text, OutOfMemory>
+    requires { IsSoundWhen when }
+    ensures value { IfOk result (λ text. text ≡ spec.expiry_text when) }
+    ensures utf8 { IfOk result IsUtf8 }
+{
+    match when {
+        When::At(at) => moment_text(alloc, at),
+        When::Millis(millis) => numeral_text(alloc, millis),
+    }
 }
 
 fn when_value(alloc: Global, when: When) -> Result<Val, OutOfMemory>
     requires { IsSoundWhen when }
     ensures { IfOk result (λ v. v ≡ spec.expiry_data when) }
 {
-    match when {
-        When::At(at) => moment_value(alloc, at),
-        When::Millis(millis) => numeral_value(alloc, millis),
-    }
+    Ok(Val::of_text(expiry_text(alloc, when)?))
 }
 
 fn expiry_value(alloc: Global, when: Option<When>) -> Result<Option<Val>, OutOfMemory>

@@ -1,7 +1,7 @@
 //! A reply as its frame and as its bytes, which tell its length in bytes. What binds to which
 //! request stands in the cases.
 use crate::texts::{show, text};
-use http_binding::{ReplyRoom, of_reply, write_reply};
+use http_binding::{ReplyRoom, of_reply, write_reply_text};
 use http_frames::write_frame;
 use m2m_io::MemSink;
 use m2m_names::Rsc;
@@ -37,7 +37,7 @@ pub(crate) fn as_frame(alloc: Global, reply: &Reply) -> Result<MemSink, Fail> {
 
 fn as_bytes(alloc: Global, reply: &Reply) -> Result<MemSink, Fail> {
     let mut sink = MemSink::new(Vec::new(alloc), Vec::new(alloc));
-    write_reply(alloc, reply, true, &mut ReplyRoom::new(alloc), &mut sink)?;
+    write_reply_text(alloc, reply, true, &mut ReplyRoom::new(alloc), &mut sink)?;
     Ok(sink)
 }
 

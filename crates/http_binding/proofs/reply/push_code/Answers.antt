@@ -5,5 +5,5 @@ use Rattle.http_binding.proofs.reply.push_code.Goals as goal
 
 pub returns : goal.returns
 returns c =
-    subst (λ n. OnOk c.push_number.result (c.push_number.new.lines.items ≡ c.args.lines.now.items ++ (code_field, decimal n) ∷ []))
-    c.from.ensures c.push_number.ensures
+    subst (λ n. OnOk c.push_number_field.result (c.push_number_field.new.lines.items ≡ c.args.lines.now.items ++ (code_field, decimal n) ∷ []))
+    c.from.ensures c.push_number_field.ensures

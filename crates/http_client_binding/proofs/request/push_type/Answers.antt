@@ -5,6 +5,6 @@ use Rattle.http_client_binding.proofs.request.push_type.Goals as goal
 
 pub returns-in_ok-text-in-Some : goal.returns-in_ok-text-in-Some
 returns-in_ok-text-in-Some c =
-    subst (λ content. OnOk c.push_line.result (c.push_line.new.lines.items ≡ c.args.lines.now.items ++ content_lines c.args.number content)) (sym c.in-Some.is)
-    (subst (λ value. OnOk c.push_line.result (c.push_line.new.lines.items ≡ c.args.lines.now.items ++ (type_field, value) ∷ []))
-    (c.as_bytes.ensures.value ∙ c.in_ok-text-in-Some.ensures) c.push_line.ensures)
+    subst (λ content. OnOk c.push_field.result (c.push_field.new.lines.items ≡ c.args.lines.now.items ++ content_lines c.args.number content)) (sym c.in-Some.is)
+    (subst (λ value. OnOk c.push_field.result (c.push_field.new.lines.items ≡ c.args.lines.now.items ++ (type_field, value) ∷ []))
+    (c.as_bytes.ensures.value ∙ c.in_ok-text-in-Some.ensures) c.push_field.ensures)

@@ -2,7 +2,7 @@ use Rattle.std.proofs.Common.{◌≡◌, ◌++◌, map, length}
 use Rattle.form_urlencoded.specs.Form.{raw_pairs}
 use Rattle.form_urlencoded.specs.Parse.{raw_pairs_left}
 use Rattle.http_binding.specs.Queries.{decoded_pair}
-use Rattle.http_binding.proofs.query.pairs_of.Given as goal
+use Rattle.http_binding.proofs.query.decoded_pairs.Given as goal
 
 -- the pairs so far, and those that are left
 abbrev pub invariant-loop-pair : goal.invariant-loop-pair
