@@ -15,6 +15,7 @@ use cse_machine::{Event, Outcome};
 use http_binding::{BindFault, ReplyRoom, to_request};
 use http_frames::{Frame, FrameFault, Inbox, Next, PutFault};
 use m2m_io::{Clock, Connection, Link};
+use m2m_value::Scratch;
 use primitive_json::{Reply, Request};
 use std::alloc::{AllocError as OutOfMemory, Global};
 use turn_desk::Desk;
@@ -50,10 +51,14 @@ impl From<PutFault> for Ended {
 }
 
 /// The request that a frame binds to, if any.
-fn asked_by(alloc: Global, frame: &Frame) -> Result<Option<Request>, OutOfMemory>
+fn asked_by(
+    alloc: Global,
+    scratch: &mut Scratch,
+    frame: &Frame,
+) -> Result<Option<Request>, OutOfMemory>
     ensures { IfOk result (λ r. r ≡ request_in frame.now) }
 {
-    match to_request(alloc, frame) {
+    match to_request(alloc, scratch, frame) {
         Ok(request) => Ok(Some(request)),
         Err(BindFault::OutOfMemory) => Err(OutOfMemory),
         Err(_) => Ok(None),
@@ -100,6 +105,7 @@ fn answer<D, X, C, L>(
     conn: &mut X,
     clock: &mut C,
     link: &mut L,
+    scratch: &mut Scratch,
     room: &mut ReplyRoom,
     place: u64,
     frame: &Frame,
@@ -126,7 +132,7 @@ where
     ensures holds { (X.kept_by_read conn.new).holds ≡ (X.kept_by_read conn.old).holds }
     ensures link { L.faults link.new ≡ L.faults link.old }
 {
-    let Ok(request) = asked_by(alloc, frame) else {
+    let Ok(request) = asked_by(alloc, scratch, frame) else {
         return Some(Ended::Memory);
     };
     let Ok(reply) = reply_to(alloc, desk, seat, clock, link, frame, request) else {
@@ -188,6 +194,7 @@ fn serve_next<D, X, C, L>(
     clock: &mut C,
     link: &mut L,
     inbox: &mut Inbox,
+    scratch: &mut Scratch,
     room: &mut ReplyRoom,
     place: u64,
 ) -> Option<Ended>
@@ -225,7 +232,9 @@ where
 {
     match read_next(alloc, conn, inbox) {
         Ok(Next::Message(frame)) => {
-            let ended = answer(alloc, desk, seat, conn, clock, link, room, place, &frame);
+            let ended = answer(
+                alloc, desk, seat, conn, clock, link, scratch, room, place, &frame,
+            );
             inbox.give_back(frame);
             ended
         }
@@ -285,10 +294,20 @@ where
     let Ok(mut inbox) = Inbox::new(alloc) else {
         return Ended::Memory;
     };
+    let mut scratch = Scratch::new(alloc);
     let mut room = ReplyRoom::new(alloc);
     for place in 1..MOST_FRAMES + 1 {
         if let Some(ended) = serve_next(
-            alloc, desk, seat, conn, clock, link, &mut inbox, &mut room, place,
+            alloc,
+            desk,
+            seat,
+            conn,
+            clock,
+            link,
+            &mut inbox,
+            &mut scratch,
+            &mut room,
+            place,
         ) {
             return ended;
         }

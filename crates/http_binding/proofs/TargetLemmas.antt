@@ -1,11 +1,14 @@
 -- A path with its tildes, place by place.
 use Rattle.std.proofs.Common.{◌≡◌, ℕ, ◌+◌, ◌-◌, ◌≤◌, ◌<◌, Bool, true, false, List, [], ◌∷◌, ◌++◌, length, take, drop, get_or, refl, sym, ap, ◌∙◌, arith, append_assoc}
+use Rattle.std.specs.Prelude.{◌==◌, ◌&&◌, not}
 use Rattle.std.specs.Bool.{if◌then◌else◌}
+use Rattle.std.specs.List.{list_all}
 use Rattle.std.specs.Str.{IsUtf8, is_utf8}
-use Rattle.std.proofs.lemmas.Bool.{false≢true}
+use Rattle.std.proofs.lemmas.Bool.{and_parts, false≢true}
 use Rattle.std.proofs.lemmas.List.{take_all, length-drop, drop-drop, get_or-drop, append-nil}
 use Rattle.std.proofs.lemmas.Str.{IsUtf8-from_is_utf8, is_utf8-from_IsUtf8}
-use Rattle.http_binding.specs.Targets.{is_coded_tilde, begins_coded, with_tildes}
+use Rattle.http_uri.specs.ByteClasses.{percent_sign}
+use Rattle.http_binding.specs.Targets.{is_coded_tilde, is_uncoded_byte, begins_coded, with_tildes}
 
 then_is : {T : Type 0} (test : Bool) (x y : T) → test ≡ true → (if test then x else y) ≡ x
 then_is true x y h = refl
@@ -36,6 +39,21 @@ plain_step [] h more = absurd (omega arith)
 plain_step (a ∷ []) h more = refl
 plain_step (a ∷ b ∷ []) h more = refl
 plain_step (a ∷ b ∷ c ∷ path) h more = else_is (is_coded_tilde a b c) _ _ h
+
+-- where no byte is coded
+no_tilde : (p q rest : Bool) → not p ≡ true → (p && q && rest) ≡ false
+no_tilde false q rest h = refl
+no_tilde true q rest h = absurd (false≢true h)
+
+pub tildes_kept : (path : List ℕ) → list_all is_uncoded_byte path ≡ true → with_tildes path ≡ path
+unfolding with_tildes
+tildes_kept [] h = refl
+tildes_kept (a ∷ []) h = refl
+tildes_kept (a ∷ b ∷ []) h = refl
+tildes_kept (a ∷ b ∷ c ∷ path) h =
+    let parts = and_parts (is_uncoded_byte a) (list_all is_uncoded_byte (b ∷ c ∷ path)) h in
+    else_is (is_coded_tilde a b c) _ _ (no_tilde (a == percent_sign) _ _ parts.0)
+    ∙ ap (λ r. a ∷ r) (tildes_kept (b ∷ c ∷ path) parts.1)
 
 pub tildes_end : (path : List ℕ) → length path ≤ 0 → with_tildes path ≡ []
 unfolding with_tildes

@@ -128,6 +128,10 @@ begins_coded (a ∷ []) = false
 begins_coded (a ∷ b ∷ []) = false
 begins_coded (a ∷ b ∷ c ∷ path) = is_coded_tilde a b c
 
+-- a byte at which no coded byte begins
+abbrev pub is_uncoded_byte : ℕ → Bool
+is_uncoded_byte byte = not (byte == percent_sign)
+
 -- the path with `~` for each `%7E` and `%7e` (RFC 3986, section 2.3); nothing else is decoded
 unfoldable pub with_tildes : List ℕ → List ℕ
 with_tildes [] = []

@@ -16,7 +16,7 @@ use crate::{BindFault, OutOfMemory};
 use filter_criteria::{Filter, FilterParts};
 use http_frames::Frame;
 use m2m_names::Op;
-use m2m_value::{Text, Val, ValFault, read};
+use m2m_value::{Scratch, Text, Val, ValFault, read_in};
 use primitive_json::{Member, Request, RequestParts};
 use std::alloc::Global;
 
@@ -31,10 +31,10 @@ fn copy_of(alloc: Global, text: Option<&[u8]>) -> Result<Option<Text>, OutOfMemo
 }
 
 /// The value that a body is.
-fn value_in(alloc: Global, body: &[u8]) -> Result<Val, BindFault>
+fn value_in(alloc: Global, scratch: &mut Scratch, body: &[u8]) -> Result<Val, BindFault>
     ensures { ReadsAs (λ value. value) result (spec.value_in (reading body.now)) }
 {
-    match read(alloc, body) {
+    match read_in(alloc, scratch, body) {
         Ok(value) => Ok(value),
         Err(ValFault::OutOfMemory) => Err(BindFault::OutOfMemory),
         Err(fault) => Err(BindFault::Body(fault)),
@@ -53,21 +53,26 @@ fn object_only(value: Val) -> Result<Option<Val>, BindFault>
 }
 
 /// The content that a body is.
-fn content_in(alloc: Global, body: &[u8]) -> Result<Option<Val>, BindFault>
+fn content_in(alloc: Global, scratch: &mut Scratch, body: &[u8]) -> Result<Option<Val>, BindFault>
     ensures { ReadsAs (λ content. content) result (spec.content_in body.now) }
 {
     if body.is_empty() {
         return Err(BindFault::Missing(Text::from_slice(alloc, Member::Content.name().as_bytes())?));
     }
-    object_only(value_in(alloc, body)?)
+    object_only(value_in(alloc, scratch, body)?)
 }
 
 /// The content that a body has, on an operation that has one.
-fn content_of(alloc: Global, op: Op, body: &[u8]) -> Result<Option<Val>, BindFault>
+fn content_of(
+    alloc: Global,
+    scratch: &mut Scratch,
+    op: Op,
+    body: &[u8],
+) -> Result<Option<Val>, BindFault>
     ensures { ReadsAs (λ content. content) result (spec.content_of op body.now) }
 {
     match op {
-        Op::Create | Op::Update | Op::Notify => content_in(alloc, body),
+        Op::Create | Op::Update | Op::Notify => content_in(alloc, scratch, body),
         Op::Retrieve | Op::Delete => Ok(None),
     }
 }
@@ -140,8 +145,9 @@ fn request_of(
 /// The request that a frame binds to (TS-0009, 6.2 to 6.5), or why it binds to none: the first of
 /// its faults, in the order of method, target, header fields as they stand in the table, the
 /// identifier where it is missing, the pairs of the query, and the body. The texts that the request
-/// keeps are copied, the body is read into its content, and nothing else of the frame is kept.
-pub fn to_request(alloc: Global, frame: &Frame) -> Result<Request, BindFault>
+/// keeps are copied, the body is read into its content in the room of those before it, and nothing else
+/// of the frame is kept.
+pub fn to_request(alloc: Global, scratch: &mut Scratch, frame: &Frame) -> Result<Request, BindFault>
     ensures { ReadsAs (λ request. request) result (binding frame.now) }
 {
     let method = Method::of(&frame.start)?;
@@ -149,6 +155,6 @@ pub fn to_request(alloc: Global, frame: &Frame) -> Result<Request, BindFault>
     let caller = caller_of(alloc, method, &frame.lines)?;
     let op = method.operation(caller.ty);
     let query = query_of(alloc, op, target.query)?;
-    let content = content_of(alloc, op, frame.body.entries())?;
+    let content = content_of(alloc, scratch, op, frame.body.entries())?;
     Ok(request_of(alloc, op, target.to, caller, query, content)?)
 }

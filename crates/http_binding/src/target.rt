@@ -213,10 +213,21 @@ fn address_of_world(alloc: Global, path: &[u8]) -> Result<Text, OutOfMemory>
     Ok(Text::of(text))
 }
 
+/// Whether nothing in the path is coded.
+fn are_uncoded(path: &[u8]) -> bool
+    ensures { result ≡ list_all spec.is_uncoded_byte path.now }
+{
+    path.iter().all(|byte| *byte != b'%')
+}
+
 /// The same, of a path in which `%7E` stands for `~`.
+#[tactic(auto, using(crate::proofs::TargetLemmas::tildes_kept))]
 fn read_address(alloc: Global, path: &[u8]) -> Result<Text, OutOfMemory>
     ensures { IfOk result (λ text. text ≡ spec.address_of_path (spec.with_tildes path.now)) }
 {
+    if are_uncoded(path) {
+        return address_of_path(alloc, path);
+    }
     let path = with_tildes(alloc, path)?;
     address_of_path(alloc, &path)
 }
