@@ -154,7 +154,6 @@ fn plain_front(text: &[u8]) -> usize
 
 /// Appends what stands for the bytes of a text: those at its front that stand for themselves go
 /// out at once.
-#[tactic(auto, using(crate::proofs::Plain::plain_first))]
 fn write_inside(text: &[u8], out: &mut Vec<u8>) -> Result<(), OutOfMemory>
     ensures ok { OnOk result (out.new.items ≡ out.old.items ++ flat_map escaped text.now) }
     ensures err { OnErr result (BeginsWith out.old.items out.new.items) }
