@@ -1,8 +1,9 @@
 -- The conditions of a filter, as a table, and the filter that members make (TS-0004, 8.2.5).
-use Rattle.std.specs.Prelude.{ℕ, ◌==◌, Bool, false, ℤ, pos, List, [], ◌∷◌, Option, Some, None, find}
-use Rattle.std.specs.Prelude.{is_some, if◌then◌else◌, codes, option_and_then}
+use Rattle.std.specs.Prelude.{ℕ, Bool, false, ℤ, pos, List, [], ◌∷◌, Option, Some, None, find}
+use Rattle.std.specs.Prelude.{is_some, codes, option_and_then}
 use Rattle.std.specs.List.{list_all, filter_map}
 use Rattle.std.specs.Option.{option_map_or}
+use Rattle.std.specs.Ordering.{int_eq}
 use Rattle.std.specs.Str.{bytes_eq}
 use Rattle.m2m_names.specs.StampReading.{moment_at}
 use Rattle.m2m_value.specs.Data.{Data, null, boolean, number, text, list, object, Entry}
@@ -37,11 +38,17 @@ read_moment d = option_and_then moment_at (as_text d)
 abbrev pub label_of : Data → Option (List ℕ)
 label_of d = where_it is_label_text (as_text d)
 
--- how a filter is used, by its number (TS-0004, 6.3.4.2.31)
+-- the number that stands for a use of filters (TS-0004, 6.3.4.2.31)
+abbrev pub usage_number : FilterUsage → ℤ
+usage_number Discovery = pos 1
+usage_number Conditional = pos 2
+
+abbrev pub all_usages : List FilterUsage
+all_usages = Discovery ∷ Conditional ∷ []
+
+-- the use of a number
 abbrev pub usage_numbered : ℤ → Option FilterUsage
-usage_numbered (pos n) =
-    if n == 1 then Some Discovery else (if n == 2 then Some Conditional else None)
-usage_numbered z = None
+usage_numbered z = find (λ usage. int_eq (usage_number usage) z) all_usages
 
 abbrev pub read_usage : Data → Option FilterUsage
 read_usage d = option_and_then usage_numbered (as_number d)

@@ -1,5 +1,5 @@
 -- What is read as a filter is of its kinds, and is read back from the value that is written of it.
-use Rattle.std.specs.Prelude.{◌≡◌, IsTrue, IfSome, List}
+use Rattle.std.specs.Prelude.{◌≡◌, Bool, ◌&&◌, IsTrue, IfSome, List}
 use Rattle.std.specs.List.{list_all}
 use Rattle.m2m_names.specs.Types.{is_type_number}
 use Rattle.m2m_value.specs.Data.{Entry}
@@ -10,6 +10,16 @@ use Rattle.filter_criteria.specs.Values.{members_in}
 use Rattle.filter_criteria.specs.Writing.{written_filter}
 use Rattle.filter_criteria.specs.declared.filter.FilterParts.{FilterParts}
 
+-- its labels are of their kind, and its types are numbers of types
+abbrev pub has_labels : FilterParts → Bool
+has_labels f = list_all is_label_text f.lbl
+
+abbrev pub has_type_numbers : FilterParts → Bool
+has_type_numbers f = list_all is_type_number f.ty
+
+abbrev pub are_fit_conditions : FilterParts → Bool
+are_fit_conditions f = has_labels f && has_type_numbers f
+
 -- each condition of the filter is of its kind
 pub record IsFilterOfKinds (f : FilterParts) : Type 0 where
   pub crb : IfSome f.crb IsMoment
@@ -18,8 +28,8 @@ pub record IsFilterOfKinds (f : FilterParts) : Type 0 where
   pub us : IfSome f.us IsMoment
   pub exb : IfSome f.exb IsMoment
   pub exa : IfSome f.exa IsMoment
-  pub lbl : IsTrue (list_all is_label_text f.lbl)
-  pub ty : IsTrue (list_all is_type_number f.ty)
+  pub lbl : IsTrue (has_labels f)
+  pub ty : IsTrue (has_type_numbers f)
 
 -- the filter that members make is of its kinds
 abbrev pub FiltersAreOfKinds : Type 0

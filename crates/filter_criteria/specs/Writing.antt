@@ -1,7 +1,8 @@
 -- Filters as values (TS-0004, 8.2.5): the conditions that are there, in byte order of their names.
-use Rattle.std.specs.Prelude.{ℕ, ℤ, pos, List, [], ◌∷◌, map, Option, Some, None, option_map}
+use Rattle.std.specs.Prelude.{ℕ, List, [], ◌∷◌, map, Option, Some, None, option_map}
 use Rattle.m2m_value.specs.Data.{Data, number, text, list, elements_of}
 use Rattle.filter_criteria.specs.Conditions.{all_conditions, name_of_condition}
+pub use Rattle.filter_criteria.specs.Conditions.{usage_number}
 use Rattle.filter_criteria.specs.Values.{NamedValue, object_of, count_data, moment_data}
 use Rattle.filter_criteria.specs.declared.condition.Condition.{Condition}
 use Rattle.filter_criteria.specs.declared.condition.Condition.TheVariants.{CreatedAfter}
@@ -16,17 +17,11 @@ use Rattle.filter_criteria.specs.declared.condition.Condition.TheVariants.{SizeA
 use Rattle.filter_criteria.specs.declared.condition.Condition.TheVariants.{OneType}
 use Rattle.filter_criteria.specs.declared.condition.Condition.TheVariants.{UnmodifiedSince}
 use Rattle.filter_criteria.specs.declared.filter.FilterParts.{FilterParts}
-use Rattle.filter_criteria.specs.declared.filter.FilterUsage.{FilterUsage}
-use Rattle.filter_criteria.specs.declared.filter.FilterUsage.TheVariants.{Discovery, Conditional}
 
 -- a list with an element at least
 abbrev pub filled_list : List Data → Option Data
 filled_list [] = None
 filled_list (d ∷ ds) = Some (list (elements_of (d ∷ ds)))
-
-abbrev pub usage_number : FilterUsage → ℤ
-usage_number Discovery = pos 1
-usage_number Conditional = pos 2
 
 -- what is written of a condition
 abbrev pub condition_value : FilterParts → Condition → Option Data

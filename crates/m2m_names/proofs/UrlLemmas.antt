@@ -1,5 +1,5 @@
 -- What is read is a URL, and each URL is read.
-use Rattle.std.proofs.Common.{◌≡◌, Bool, true, false, ◌&&◌, ℕ, ◌+◌, ◌≤◌, ◌∙◌, sym, ap, refl, cond, List, [], ◌∷◌, ◌++◌, length, take, drop, Some, arith, IsTrue, ◌==◌, nat_le, append_assoc, length-append, codes, suc}
+use Rattle.std.proofs.Common.{◌≡◌, Bool, true, false, ◌&&◌, ℕ, ◌+◌, ◌≤◌, ◌∙◌, sym, ap, refl, cond, List, [], ◌∷◌, ◌++◌, length, take, drop, Some, arith, IsTrue, ◌==◌, nat_le, append_assoc, length-append, suc}
 use Rattle.std.specs.Char.{is_ascii_digit}
 use Rattle.std.specs.Int.{is_in_range}
 use Rattle.std.specs.List.{list_all, prefix_len}
@@ -11,7 +11,7 @@ use Rattle.std.proofs.lemmas.Option.{cond_some, same_Some}
 use Rattle.std.proofs.lemmas.Slice.Eq.{bytes_eq-Decides}
 use Rattle.std.proofs.Math.Seq.{drop-append_seam, take-append_seam}
 use Rattle.m2m_names.specs.Steps.{◌>>=◌}
-use Rattle.m2m_names.specs.Urls.{is_host_byte, is_path_byte, number_of, is_host, is_port_value, is_port_number, is_port, is_path, IsUrl}
+use Rattle.m2m_names.specs.Urls.{scheme, is_host_byte, is_path_byte, number_of, is_host, is_port_value, is_port_number, is_port, is_path, IsUrl}
 use Rattle.m2m_names.specs.UrlReading.{past_scheme, host_at, port_digits_at, port_at, host_end_at}
 use Rattle.m2m_names.proofs.StepLemmas.{bind_some, bind_again}
 
@@ -166,9 +166,6 @@ port_again (b ∷ digits) path port_is path_is =
     rw (h.0, read, one) refl
 
 -- ---- the whole
-
-abbrev scheme : List ℕ
-scheme = codes "http://"
 
 scheme_takes : (text rest : List ℕ) → past_scheme text ≡ Some rest → text ≡ scheme ++ rest
 scheme_takes text rest e =

@@ -1,6 +1,7 @@
 pub mod Attributes
 pub mod Calendar
 pub mod Ids
+pub mod Members
 pub mod Name
 pub mod Operations
 pub mod StampReading

@@ -29,12 +29,28 @@ is_name text = is_filled name_limit text && list_all is_unreserved text
 
 -- the names of virtual resources (TS-0001, 9.6): the newest and the oldest instance, the fan-out
 -- point, the poll point
+abbrev pub newest_name : List ℕ
+newest_name = codes "la"
+
+abbrev pub oldest_name : List ℕ
+oldest_name = codes "ol"
+
+abbrev pub fan_name : List ℕ
+fan_name = codes "fopt"
+
+abbrev pub poll_name : List ℕ
+poll_name = codes "pcu"
+
 abbrev pub virtual_names : List (List ℕ)
-virtual_names = codes "la" ∷ codes "ol" ∷ codes "fopt" ∷ codes "pcu" ∷ []
+virtual_names = newest_name ∷ oldest_name ∷ fan_name ∷ poll_name ∷ []
+
+-- what stands for the CSEBase (TS-0001, 9.3.1)
+abbrev pub base_mark : List ℕ
+base_mark = codes "-"
 
 -- the texts that stand for a part of an address (TS-0009, 6.2.2; RFC 3986, 5.2.4)
 abbrev pub address_marks : List (List ℕ)
-address_marks = codes "-" ∷ codes "~" ∷ codes "_" ∷ codes "." ∷ codes ".." ∷ []
+address_marks = base_mark ∷ codes "~" ∷ codes "_" ∷ codes "." ∷ codes ".." ∷ []
 
 -- one of these texts
 abbrev pub is_one_of : List (List ℕ) → List ℕ → Bool

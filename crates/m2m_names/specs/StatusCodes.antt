@@ -23,10 +23,14 @@ pub record RscRow : Type 0 where
 abbrev pub rsc_entry : ℕ → ℕ → RscRow
 rsc_entry number http = record { number = number; http = http }
 
+-- the number says that a request was served (TS-0004, 6.6.3)
+abbrev pub is_success_number : ℕ → Bool
+is_success_number n = is_in_range 2000 2999 n
+
 -- the HTTP status of a number that has no name goes by its thousand
 abbrev pub http_status_of_other : ℕ → ℕ
 http_status_of_other n =
-    if is_in_range 2000 2999 n then 200 else (if is_in_range 4000 4999 n then 400 else 500)
+    if is_success_number n then 200 else (if is_in_range 4000 4999 n then 400 else 500)
 
 -- the table: a row for each status code
 abbrev pub rsc_row : Rsc → RscRow
@@ -50,6 +54,10 @@ rsc_row NotAcceptable = rsc_entry 5207 406
 rsc_row TooManyMembers = rsc_entry 6010 400
 rsc_row WrongMember = rsc_entry 6011 400
 rsc_row (Other o) = rsc_entry o.number (http_status_of_other o.number)
+
+-- the status says that a request was served
+abbrev pub is_success : Rsc → Bool
+is_success rsc = is_success_number (rsc_row rsc).number
 
 -- all status codes that have a name, in the order of their numbers
 abbrev pub named_codes : List Rsc

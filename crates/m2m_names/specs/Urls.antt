@@ -19,18 +19,33 @@ is_path_byte b = is_ascii_graphic b && not (b == 35)
 abbrev pub number_of : List ℕ → ℕ
 number_of digits = fold (λ n b. n * 10 + (b - 48)) 0 digits
 
+-- the scheme, and how many bytes it has
+abbrev pub scheme : List ℕ
+scheme = codes "http://"
+
+abbrev pub scheme_len : ℕ
+scheme_len = 7
+
+-- how many bytes a host may have
+abbrev pub is_host_len : ℕ → Bool
+is_host_len n = is_in_range 1 253 n
+
 -- 1 to 253 bytes of a host
 abbrev pub is_host : List ℕ → Bool
-is_host bytes = is_in_range 1 253 (length bytes) && list_all is_host_byte bytes
+is_host bytes = is_host_len (length bytes) && list_all is_host_byte bytes
 
 -- the number of a port: 1 to 65,535
 abbrev pub is_port_value : ℕ → Bool
 is_port_value n = is_in_range 1 65_535 n
 
+-- how many digits it may have
+abbrev pub is_port_len : ℕ → Bool
+is_port_len n = is_in_range 1 5 n
+
 -- 1 to 5 digits of such a number
 abbrev pub is_port_number : List ℕ → Bool
 is_port_number digits =
-    is_in_range 1 5 (length digits) && list_all is_ascii_digit digits
+    is_port_len (length digits) && list_all is_ascii_digit digits
     && is_port_value (number_of digits)
 
 -- nothing, or `:` and the number of a port
@@ -55,6 +70,6 @@ pub record IsUrl (text : List ℕ) (host_end : ℕ) : Type 0 where
   pub host_is : IsTrue (is_host host)
   pub port_is : IsTrue (is_port port)
   pub path_is : IsTrue (is_path path)
-  pub bytes : text ≡ codes "http://" ++ host ++ port ++ path
-  pub ends : host_end ≡ 7 + length host + length port
+  pub bytes : text ≡ scheme ++ host ++ port ++ path
+  pub ends : host_end ≡ scheme_len + length host + length port
   pub short : length text ≤ point_limit

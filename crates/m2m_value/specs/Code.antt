@@ -36,21 +36,21 @@ abbrev mutual
   pair_marks_onto (pair k d ps) rest = (8, (pos 0, k)) ∷ marks_onto d (pair_marks_onto ps rest)
 
 -- a value goes in front of the list after it
-abbrev with_element : Data → List Data → List Data
-with_element d (list es ∷ rest) = list (element d es) ∷ rest
-with_element d _ = []
+abbrev onto_elements : Data → List Data → List Data
+onto_elements d (list es ∷ rest) = list (element d es) ∷ rest
+onto_elements d _ = []
 
-abbrev with_pair : List ℕ → Data → List Data → List Data
-with_pair k d (object ps ∷ rest) = object (pair k d ps) ∷ rest
-with_pair k d _ = []
+abbrev onto_pairs : List ℕ → Data → List Data → List Data
+onto_pairs k d (object ps ∷ rest) = object (pair k d ps) ∷ rest
+onto_pairs k d _ = []
 
 abbrev joined_element : List Data → List Data
 joined_element [] = []
-joined_element (d ∷ rest) = with_element d rest
+joined_element (d ∷ rest) = onto_elements d rest
 
 abbrev joined_pair : List ℕ → List Data → List Data
 joined_pair k [] = []
-joined_pair k (d ∷ rest) = with_pair k d rest
+joined_pair k (d ∷ rest) = onto_pairs k d rest
 
 abbrev step : ℕ → ℤ → List ℕ → List Data → List Data
 step kind z s after =
@@ -62,22 +62,22 @@ step kind z s after =
     (cond (kind == 7) (object no_pairs ∷ after) (joined_pair s after))))))))
 
 -- the values that the marks stand for
-abbrev pub values_of : List Mark → List Data
-values_of [] = []
-values_of (m ∷ ms) = step m.0 m.1.0 m.1.1 (values_of ms)
+abbrev pub values_marked : List Mark → List Data
+values_marked [] = []
+values_marked (m ∷ ms) = step m.0 m.1.0 m.1.1 (values_marked ms)
 
 abbrev first : List Data → Data
 first [] = null
 first (d ∷ ds) = d
 
 truth_back : (b : Bool) (rest : List Mark) →
-    values_of (truth_mark b ∷ rest) ≡ boolean b ∷ values_of rest
+    values_marked (truth_mark b ∷ rest) ≡ boolean b ∷ values_marked rest
 truth_back false rest = refl
 truth_back true rest = refl
 
 mutual
   pub marks_back : (d : Data) (rest : List Mark) →
-      values_of (marks_onto d rest) ≡ d ∷ values_of rest
+      values_marked (marks_onto d rest) ≡ d ∷ values_marked rest
   marks_back null rest = refl
   marks_back (boolean b) rest = truth_back b rest
   marks_back (number z) rest = refl
@@ -86,22 +86,22 @@ mutual
   marks_back (object ps) rest = pair_marks_back ps rest
 
   pub element_marks_back : (es : Elements) (rest : List Mark) →
-      values_of (element_marks_onto es rest) ≡ list es ∷ values_of rest
+      values_marked (element_marks_onto es rest) ≡ list es ∷ values_marked rest
   element_marks_back no_elements rest = refl
   element_marks_back (element d es) rest =
       ap joined_element (marks_back d (element_marks_onto es rest))
-      ∙ ap (with_element d) (element_marks_back es rest)
+      ∙ ap (onto_elements d) (element_marks_back es rest)
 
   pub pair_marks_back : (ps : Pairs) (rest : List Mark) →
-      values_of (pair_marks_onto ps rest) ≡ object ps ∷ values_of rest
+      values_marked (pair_marks_onto ps rest) ≡ object ps ∷ values_marked rest
   pair_marks_back no_pairs rest = refl
   pair_marks_back (pair k d ps) rest = ap (joined_pair k) (marks_back d (pair_marks_onto ps rest))
-      ∙ ap (with_pair k d) (pair_marks_back ps rest)
+      ∙ ap (onto_pairs k d) (pair_marks_back ps rest)
 
 abbrev pub data_code : Coded Data
 data_code =
     code_by (List Mark) (coded_list (coded× coded_ℕ (coded× coded_ℤ (coded_list coded_ℕ))))
-    (λ d. marks_onto d []) (λ ms. first (values_of ms)) (λ d. ap first (marks_back d []))
+    (λ d. marks_onto d []) (λ ms. first (values_marked ms)) (λ d. ap first (marks_back d []))
 
 abbrev pub entry_code : Coded Entry
 entry_code = coded× (coded_list coded_ℕ) data_code

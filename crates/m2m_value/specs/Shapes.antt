@@ -1,5 +1,5 @@
 -- What values are: texts, counts, lists and objects of such.
-use Rattle.std.specs.Prelude.{◌&&◌, ℕ, ℤ, pos, negsuc, nat_lt, Bool, true, false, List, length}
+use Rattle.std.specs.Prelude.{◌-◌, ◌^◌, ◌&&◌, ℕ, ℤ, pos, negsuc, nat_lt, Bool, true, false, List, length}
 use Rattle.std.specs.Prelude.{Option, Some, None, option_and_then}
 use Rattle.std.specs.List.{list_all}
 use Rattle.std.specs.Option.{option_map_or}
@@ -11,6 +11,10 @@ use Rattle.m2m_value.specs.View.{as_list, as_number, as_object, as_text, member_
 abbrev pub count_of : ℤ → Option ℕ
 count_of (pos n) = Some n
 count_of (negsuc n) = None
+
+-- the largest count that a value has
+abbrev pub largest_count : ℕ
+largest_count = 2 ^ 63 - 1
 
 -- the value as a count
 abbrev pub as_count : Data → Option ℕ
