@@ -24,6 +24,8 @@ use Rattle.filter_criteria.proofs.PartLemmas.{where_kept, where_passes, passes_a
 use Rattle.filter_criteria.proofs.Present.{member_of-present, members_in-object_of, none_fails, all_rows}
 use Rattle.primitive_json.specs.Kinds.{is_number_among, address_forms, read_operation, result_contents, read_response_type, read_expiry}
 use Rattle.primitive_json.specs.Laws.{IsWhenOfKind, IsShortWhen, IsOfKinds, HasShortExpiry}
+use Rattle.primitive_json.proofs.FormLemmas.{KindByKind, joined_kinds, kinds_apart}
+use Rattle.primitive_json.specs.Form.{is_only_read}
 use Rattle.primitive_json.specs.Members.{creates, retrieves, has_content, has_result, all_members, name_of_member, is_read, is_needed}
 use Rattle.primitive_json.specs.Reading.{read_as, is_good, is_missing, missing_member, bad_entry, request_fault, value_read, operation_in, request_made, request_of_members, read_request}
 use Rattle.primitive_json.specs.Writing.{only_where, expiry_data, member_value, written_member, written_request}
@@ -62,7 +64,7 @@ mapped f None b h = h
 mapped f (Some a) b h = h
 
 -- what must be there is written
-written_if_needed : (r : RequestParts) → IsOfKinds r → (member : Member) → is_needed (Some r.op) member && is_none (member_value r member) ≡ false
+written_if_needed : (r : RequestParts) → KindByKind r → (member : Member) → is_needed (Some r.op) member && is_none (member_value r member) ≡ false
 written_if_needed r kinds DesiredForm = refl
 written_if_needed r kinds FilterCriteria = refl
 written_if_needed r kinds Originator = refl
@@ -93,7 +95,7 @@ if_kept : {A : Type 0} (Q : A → Type 0) (b : Bool) (o : Option A) → IfSome o
 if_kept Q true o h = h
 if_kept Q false o h = tt
 
-each_good : (r : RequestParts) → IsOfKinds r → HasShortExpiry r → (member : Member) → IfSome (member_value r member) (λ d. is_good (Some r.op) (name_of_member member, d) ≡ true)
+each_good : (r : RequestParts) → KindByKind r → HasShortExpiry r → (member : Member) → IfSome (member_value r member) (λ d. is_good (Some r.op) (name_of_member member, d) ≡ true)
 each_good r kinds short DesiredForm =
     if_some number (λ z. list_any (λ n. int_eq n z) address_forms ≡ true) (λ d. is_good (Some r.op) (name_of_member DesiredForm, d) ≡ true)
     (λ z h. h) r.drt kinds.drt
@@ -178,7 +180,10 @@ both_none None None a b = refl
 both_none None (Some e) a b = cc
 both_none (Some m) e a b = cc
 
-module _ (r : RequestParts) (kinds : IsOfKinds r) (short : HasShortExpiry r) where
+module _ (r : RequestParts) (is : IsOfKinds r) (short : HasShortExpiry r) where
+  kinds : KindByKind r
+  kinds = kinds_apart r is
+
   abbrev es : List Entry
   es = present (map (written_member r) all_members)
 
@@ -243,7 +248,11 @@ filter_read : (retrieved : Type 0) (o : Option Data) → ((d : Data) → o ≡ S
 filter_read retrieved None h = tt
 filter_read retrieved (Some d) h = (h d refl, filter_of_kinds (members_in d))
 
-kinds_of : (op : Op) (es : List Entry) → request_fault (Some op) es ≡ None → IsOfKinds (request_made op es)
+read_if : {A : Type 0} (b : Bool) (read : Data → Option A) (o : Option Data) → is_only_read b (option_and_then read (only_where b o)) ≡ true
+read_if true read o = refl
+read_if false read o = refl
+
+kinds_of : (op : Op) (es : List Entry) → request_fault (Some op) es ≡ None → KindByKind (request_made op es)
 kinds_of op es h =
     let to = needed_is_there (Some op) es Target h refl in
     let rqi = needed_is_there (Some op) es RequestId h refl in
@@ -260,6 +269,7 @@ kinds_of op es h =
       pc_there = kept_there (has_content op) (member_of (name_of_member Content) es) (λ has. needed_is_there (Some op) es Content h has);
       rqet = passes_along IsWhenOfKind read_expiry when_of_kind (value_read op Expiry es);
       rcn = read_along as_number (λ z. list_any (λ n. int_eq n z) (result_contents op)) (has_result op) (member_of (name_of_member ResultContent) es) (λ read d found. fitting (Some op) es ResultContent d h read found);
+      rcn_read = read_if (has_result op) as_number (member_of (name_of_member ResultContent) es);
       fc = filter_read (retrieves op ≡ true) (member_of (name_of_member FilterCriteria) es) (λ d found. (and_parts (retrieves op) (is_filter d) (fitting (Some op) es FilterCriteria d h refl found)).0);
       drt = read_along as_number (λ z. list_any (λ n. int_eq n z) address_forms) true (member_of (name_of_member DesiredForm) es) (λ read d found. fitting (Some op) es DesiredForm d h refl found);
     }
@@ -271,4 +281,4 @@ request_of_kinds d r is =
     let known = operation_is_known es parts.0 in
     let fault : request_fault (Some known.0) es ≡ None = ap (λ (o : Option Op). request_fault o es) (sym known.1) ∙ parts.0 in
     let made : request_made known.0 es ≡ r = ap (λ (o : Option Op). request_made (unwrap_or o Create) es) (sym known.1) ∙ parts.1 in
-    subst IsOfKinds made (kinds_of known.0 es fault)
+    subst IsOfKinds made (joined_kinds (request_made known.0 es) (kinds_of known.0 es fault))

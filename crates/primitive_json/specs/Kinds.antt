@@ -42,9 +42,11 @@ is_id_text d = is_text_of is_request_id d
 -- ---- numbers
 
 -- one of these numbers
+abbrev pub is_among : List ℤ → ℤ → Bool
+is_among numbers z = list_any (λ n. int_eq n z) numbers
+
 abbrev pub is_number_among : List ℤ → Data → Bool
-is_number_among numbers d =
-    option_map_or (λ z. list_any (λ n. int_eq n z) numbers) (as_number d) false
+is_number_among numbers d = option_map_or (is_among numbers) (as_number d) false
 
 -- the operation that a number stands for: 1 to 5
 abbrev pub read_operation : Data → Option Op

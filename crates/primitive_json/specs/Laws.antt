@@ -1,17 +1,12 @@
 -- What is read is of its kinds, and is read back from the value that is written of it.
-use Rattle.std.specs.Prelude.{◌≡◌, ℕ, ◌<◌, ◌^◌, Bool, IsTrue, Option, IfSome, is_some, Ok}
-use Rattle.std.specs.Prelude.{⊤}
-use Rattle.std.specs.List.{list_all, list_any}
-use Rattle.std.specs.Ordering.{int_eq}
+use Rattle.std.specs.Prelude.{◌≡◌, ◌<◌, ◌^◌, IsTrue, IfSome, Ok, ⊤}
 use Rattle.m2m_names.specs.Name.{is_filled, is_originator}
-use Rattle.m2m_names.specs.Types.{is_type_number}
 use Rattle.m2m_value.specs.Data.{Data}
-use Rattle.m2m_value.specs.View.{as_object}
 use Rattle.filter_criteria.specs.Bounds.{IsMoment}
 use Rattle.filter_criteria.specs.Laws.{IsFilterOfKinds}
 use Rattle.primitive_json.specs.Bounds.{is_request_id}
-use Rattle.primitive_json.specs.Kinds.{result_contents, address_forms, target_limit}
-use Rattle.primitive_json.specs.Members.{creates, retrieves, has_content}
+use Rattle.primitive_json.specs.Form.{has_form, has_no_more}
+use Rattle.primitive_json.specs.Kinds.{numeral_limit, target_limit}
 use Rattle.primitive_json.specs.Reading.{read_request, read_reply}
 use Rattle.primitive_json.specs.Writing.{written_request, written_reply}
 use Rattle.primitive_json.specs.declared.request.RequestParts.{RequestParts}
@@ -27,22 +22,17 @@ IsWhenOfKind (Millis n) = ⊤
 -- each parameter is of its kind, and those are there that the operation needs, and no others that
 -- it doesn't read
 pub record IsOfKinds (r : RequestParts) : Type 0 where
+  pub form : IsTrue (has_form r)
+  pub no_more : IsTrue (has_no_more r)
   pub to : IsTrue (is_filled target_limit r.to)
   pub fr : IfSome r.fr (λ s. IsTrue (is_originator s))
-  pub rqi : IsTrue (is_request_id r.rqi)
-  pub ty : IfSome r.ty (λ n. IsTrue (is_type_number n))
-  pub ty_there : is_some r.ty ≡ creates r.op
-  pub pc : IfSome r.pc (λ d. IsTrue (is_some (as_object d)))
-  pub pc_there : is_some r.pc ≡ has_content r.op
   pub rqet : IfSome r.rqet IsWhenOfKind
-  pub rcn : IfSome r.rcn (λ z. IsTrue (list_any (λ n. int_eq n z) (result_contents r.op)))
-  pub fc : IfSome r.fc (λ f. IsTrue (retrieves r.op) × IsFilterOfKinds f)
-  pub drt : IfSome r.drt (λ z. IsTrue (list_any (λ n. int_eq n z) address_forms))
+  pub fc : IfSome r.fc IsFilterOfKinds
 
 -- milliseconds have at most 18 digits
 abbrev pub IsShortWhen : When → Type 0
 IsShortWhen (At at) = ⊤
-IsShortWhen (Millis n) = n < 10 ^ 18
+IsShortWhen (Millis n) = n < 10 ^ numeral_limit
 
 abbrev pub HasShortExpiry : RequestParts → Type 0
 HasShortExpiry r = IfSome r.rqet IsShortWhen

@@ -1,4 +1,5 @@
 pub mod Bounds
+pub mod Form
 pub mod Kinds
 pub mod Laws
 pub mod Members

@@ -1,25 +1,36 @@
 //! The first fault of a value that is no request, or no reply.
-ghost use Rattle.std.specs.Prelude.{◌≡◌, Some, None, not, option_map};
+ghost use Rattle.std.specs.Prelude.{◌≡◌, Some, None, false, not, option_map};
 ghost use Rattle.std.specs.List.{find};
-ghost use Rattle.std.specs.Option.{option_copied};
+ghost use Rattle.std.specs.Option.{option_copied, option_map_or};
 ghost use Rattle.filter_criteria.specs.Values as shared;
+ghost use Rattle.primitive_json.specs.Members as members;
 ghost use Rattle.primitive_json.specs.Reading as spec;
 
 use crate::fault::Fault;
 use crate::kinds::*;
-use crate::member::{Member, MemberKind, is_unread};
+use crate::member::{Member, MemberKind, is_unread, retrieves};
 use crate::reply::{RQI, RSC};
 use filter_criteria::{is_filter, members_in, read_type_number, value_at};
 use m2m_names::Op;
 use m2m_value::{Text, Val};
+
+/// Whether the operation is known, and retrieves.
+fn does_retrieve(op: Option<Op>) -> bool
+    ensures { result ≡ option_map_or members.retrieves op false }
+{
+    match op {
+        Some(op) => retrieves(op),
+        None => false,
+    }
+}
 
 /// Whether the value is of the kind, on the operation as far as that is known.
 fn is_of_kind(op: Option<Op>, kind: MemberKind, value: &Val) -> bool
     ensures { result ≡ spec.is_of_kind op kind value.now }
 {
     match kind {
-        MemberKind::AddressForm => is_number_among(&[1, 2], value),
-        MemberKind::FilterObject => matches!(op, Some(Op::Retrieve)) && is_filter(value),
+        MemberKind::AddressForm => is_number_among(address_forms(), value),
+        MemberKind::FilterObject => does_retrieve(op) && is_filter(value),
         MemberKind::OriginatorText => is_originator_text(value),
         MemberKind::OperationNumber => read_operation(value).is_some(),
         MemberKind::AnyObject => value.as_obj().is_some(),

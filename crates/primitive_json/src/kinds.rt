@@ -41,11 +41,17 @@ pub fn is_id_text(value: &Val) -> bool
 }
 
 /// Whether it is one of these numbers.
+pub fn is_among(numbers: &[i64], number: i64) -> bool
+    ensures { result ≡ spec.is_among numbers.now number }
+{
+    numbers.contains(&number)
+}
+
 pub fn is_number_among(numbers: &[i64], value: &Val) -> bool
     ensures { result ≡ spec.is_number_among numbers.now value.now }
 {
     match value.as_num() {
-        Some(number) => numbers.contains(&number),
+        Some(number) => is_among(numbers, number),
         None => false,
     }
 }
@@ -67,6 +73,13 @@ pub fn result_contents(op: Op) -> &'static [i64]
         Op::Delete => &[0],
         Op::Notify => &[],
     }
+}
+
+/// The numbers of the forms of addresses: structured and unstructured.
+pub fn address_forms() -> &'static [i64]
+    ensures { result.now ≡ spec.address_forms }
+{
+    &[1, 2]
 }
 
 pub fn read_response_type(value: &Val) -> Option<i64>

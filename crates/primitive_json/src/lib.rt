@@ -19,6 +19,7 @@
 
 mod bounds;
 mod fault;
+mod form;
 mod judging;
 mod kept;
 mod kinds;
@@ -33,13 +34,15 @@ mod writing;
 pub use bounds::is_request_id;
 pub use fault::{Fault, PrimFault};
 pub use filter_criteria::{Filter, FilterParts, FilterUsage, is_count, is_moment};
+pub use form::has_form;
 pub use judging::{reply_fault, request_fault};
 pub use kinds::{
-    TARGET_LIMIT, digits_number, expiry_spelled, is_numeral, number_spelled, result_contents,
+    TARGET_LIMIT, address_forms, digits_number, expiry_spelled, is_among, is_numeral,
+    number_spelled, result_contents,
 };
 pub use laws::{replies_are_read_back, requests_are_read_back};
 pub use m2m_value::Labels;
-pub use member::Member;
+pub use member::{Member, creates, has_content, has_result, retrieves};
 pub use note::{Dest, Kind, Note, NoteParts};
 pub use reading::{read_reply, read_request, request_from};
 pub use reply::{Reply, ReplyParts};

@@ -74,6 +74,34 @@ struct Row {
     needed: bool,
 }
 
+/// Whether the operation creates a resource.
+pub fn creates(op: Op) -> bool
+    ensures { result ≡ spec.creates op }
+{
+    matches!(op, Op::Create)
+}
+
+/// Whether it retrieves, and so may have a filter.
+pub fn retrieves(op: Op) -> bool
+    ensures { result ≡ spec.retrieves op }
+{
+    matches!(op, Op::Retrieve)
+}
+
+/// Whether it has content.
+pub fn has_content(op: Op) -> bool
+    ensures { result ≡ spec.has_content op }
+{
+    matches!(op, Op::Create | Op::Update | Op::Notify)
+}
+
+/// Whether the content of its result can be chosen.
+pub fn has_result(op: Op) -> bool
+    ensures { result ≡ spec.has_result op }
+{
+    !matches!(op, Op::Notify)
+}
+
 /// Whether the name is that of a member that is accepted and never read.
 pub fn is_unread(name: &[u8]) -> bool
     ensures { result ≡ is_one_unread name.now }
@@ -88,16 +116,12 @@ impl Scope {
     fn covers(self, op: Option<Op>) -> bool
         ensures { result ≡ spec.covers self op }
     {
-        match self {
-            Scope::Always => true,
-            Scope::OnCreate => matches!(op, Some(Op::Create)),
-            Scope::WithContent => matches!(op, Some(Op::Create | Op::Update | Op::Notify)),
-            Scope::WithResult => {
-                matches!(
-                    op,
-                    Some(Op::Create | Op::Retrieve | Op::Update | Op::Delete)
-                )
-            }
+        match (self, op) {
+            (Scope::Always, _) => true,
+            (_, None) => false,
+            (Scope::OnCreate, Some(op)) => creates(op),
+            (Scope::WithContent, Some(op)) => has_content(op),
+            (Scope::WithResult, Some(op)) => has_result(op),
         }
     }
 }
