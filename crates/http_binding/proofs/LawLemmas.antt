@@ -23,8 +23,10 @@ use Rattle.filter_criteria.specs.Bounds.{IsMoment}
 use Rattle.primitive_json.specs.Bounds.{is_request_id, request_id_limit}
 use Rattle.primitive_json.specs.Kinds.{is_numeral, expiry_spelled, target_limit, result_contents}
 use Rattle.primitive_json.specs.Laws.{IsWhenOfKind, IsShortWhen, IsOfKinds, HasShortExpiry}
-use Rattle.primitive_json.specs.Members.{creates, retrieves, has_content}
+use Rattle.primitive_json.specs.Form.{is_only_read}
+use Rattle.primitive_json.specs.Members.{creates, retrieves, has_content, has_result}
 use Rattle.primitive_json.specs.Requests.{IsSoundWhen}
+use Rattle.primitive_json.proofs.FormLemmas.{joined_kinds}
 use Rattle.primitive_json.proofs.Numerals.{numeral_bound}
 use Rattle.primitive_json.specs.declared.request.RequestParts.{RequestParts}
 use Rattle.primitive_json.specs.declared.request.When.{When}
@@ -247,6 +249,13 @@ result_kind Update number h = h
 result_kind Removal number h = h
 result_kind Notify number h = tt
 
+result_read : (op : Op) (number : Option ℤ) → is_only_read (has_result op) (kept_result op number) ≡ true
+result_read Create number = refl
+result_read Retrieve number = refl
+result_read Update number = refl
+result_read Removal number = refl
+result_read Notify number = refl
+
 conditions_kind : (op : Op) (fc : Option FilterParts) → IfSome fc (λ f. (retrieves op ≡ true) × IsSaidFilter f) → IfSome fc (λ f. (retrieves op ≡ true) × IsFilterOfKinds f)
 conditions_kind op None h = tt
 conditions_kind op (Some f) h = (h.0, filter_kinds f h.1)
@@ -308,7 +317,7 @@ IsKind request = IsOfKinds request × HasShortExpiry request
 pub binds_to_kinds : (frame : Frame) (request : RequestParts) → Binds frame request → IsOfKinds request × HasShortExpiry request
 binds_to_kinds frame request h =
     let s = says frame request h in
-    let kinds : IsOfKinds (request_of (operation_of s.method s.caller.type) s.target.to s.caller s.query s.content) = record {
+    let kinds : IsOfKinds (request_of (operation_of s.method s.caller.type) s.target.to s.caller s.query s.content) = joined_kinds _ (record {
       to = (and_parts (is_filled target_limit s.target.to) _ s.target_is).0;
       fr = s.caller_is.originator;
       rqi = s.caller_is.id;
@@ -318,9 +327,10 @@ binds_to_kinds frame request h =
       pc_there = s.content_is.1;
       rqet = timely_kind s.caller.expiry s.caller_is.expiry;
       rcn = result_kind (operation_of s.method s.caller.type) s.query.rcn s.query_is.rcn;
+      rcn_read = result_read (operation_of s.method s.caller.type) s.query.rcn;
       fc = conditions_kind (operation_of s.method s.caller.type) s.query.fc s.query_is.fc;
       drt = s.query_is.drt;
-    } in
+    }) in
     subst IsKind s.request_is (kinds, timely_short s.caller.expiry s.caller_is.expiry)
 
 pub echo_is_id : (frame : Frame) (request : RequestParts) → Binds frame request → echo_of frame ≡ Some request.rqi

@@ -25,6 +25,7 @@ use Rattle.m2m_names.proofs.StampReadingLemmas.{timestamp_is}
 use Rattle.m2m_value.specs.Data.{Data}
 use Rattle.primitive_json.specs.Bounds.{is_request_id, request_id_limit}
 use Rattle.primitive_json.specs.Laws.{IsWhenOfKind, IsShortWhen, IsOfKinds, HasShortExpiry}
+use Rattle.primitive_json.proofs.FormLemmas.{kinds_apart}
 use Rattle.primitive_json.specs.declared.request.RequestParts.{RequestParts}
 use Rattle.primitive_json.specs.declared.request.When.{When}
 use Rattle.primitive_json.specs.declared.request.When.TheVariants.{At, Millis}
@@ -212,14 +213,15 @@ type_short Notify type h = tt
 lines_are : (r : RequestParts) (url : List ℕ) (aim : Aim) → IsSendable r url aim → All IsLine (caller_lines r url ++ body_lines r)
 unfolding is_token_byte
 lines_are r url aim h =
+    let kinds = kinds_apart r h.kinds in
     let id = id_lines (Some r.rqi) in
     let behind = id ++ expiry_lines r.rqet in
     let last = (length_field, decimal (length (body_of r.pc))) ∷ close_lines true in
     All-append IsLine (caller_lines r url) (body_lines r)
     (All-cons IsLine (host_field, host_of url) (origin_lines r.fr ++ behind) (line_is host_field (host_of url) refl (host_passes url h.is_url))
     (All-append IsLine (origin_lines r.fr) behind (origin_is r.fr h.kinds.fr)
-    (All-append IsLine id (expiry_lines r.rqet) (id_is r.rqi h.kinds.rqi) (expiry_is r.rqet h.kinds.rqet h.expiry))))
-    (All-append IsLine (content_lines (created_type r.op r.ty) r.pc) last (content_is (created_type r.op r.ty) r.pc (type_short r.op r.ty h.kinds.ty)) (ending_is (length (body_of r.pc)) (omega (arith, h.body))))
+    (All-append IsLine id (expiry_lines r.rqet) (id_is r.rqi kinds.rqi) (expiry_is r.rqet h.kinds.rqet h.expiry))))
+    (All-append IsLine (content_lines (created_type r.op r.ty) r.pc) last (content_is (created_type r.op r.ty) r.pc (type_short r.op r.ty kinds.ty)) (ending_is (length (body_of r.pc)) (omega (arith, h.body))))
 
 -- how many they are, and what they say of the body
 abbrev lines_with : List ℕ → Option (List ℕ) → List ℕ → Option When → Option ℕ → Option Data → List ℕ → List Line
