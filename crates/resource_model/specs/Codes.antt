@@ -11,14 +11,14 @@ use Rattle.resource_model.specs.Resource.{ResourceData}
 abbrev pub rows_code : Coded (List Row)
 rows_code = coded_list (coded× attr.the_row.coded data_code)
 
-abbrev Parts : Type 0
-Parts = ℕ × (Ty × (List ℕ × (ℕ × (List ℕ × (ℕ × (ℕ × (ℕ × List Row)))))))
+abbrev ResourceParts : Type 0
+ResourceParts = ℕ × (Ty × (List ℕ × (ℕ × (List ℕ × (ℕ × (ℕ × (ℕ × List Row)))))))
 
-abbrev parts_of : ResourceData → Parts
-parts_of r = (r.number, (r.ty, (r.name, (r.parent, (r.owner, (r.ct, (r.lt, (r.et, r.attrs))))))))
+abbrev resource_parts : ResourceData → ResourceParts
+resource_parts r = (r.number, (r.ty, (r.name, (r.parent, (r.owner, (r.ct, (r.lt, (r.et, r.attrs))))))))
 
-abbrev of_parts : Parts → ResourceData
-of_parts p = record {
+abbrev of_resource_parts : ResourceParts → ResourceData
+of_resource_parts p = record {
   number = p.0;
   ty = p.1.0;
   name = p.1.1.0;
@@ -32,9 +32,9 @@ of_parts p = record {
 
 abbrev pub resource_code : Coded ResourceData
 resource_code =
-    code_by Parts
+    code_by ResourceParts
     (coded× coded_ℕ
     (coded× ty.the_row.coded
     (coded× (coded_list coded_ℕ) (coded× coded_ℕ (coded× (coded_list coded_ℕ)
     (coded× coded_ℕ (coded× coded_ℕ (coded× coded_ℕ rows_code))))))))
-    parts_of of_parts (λ _. refl)
+    resource_parts of_resource_parts (λ _. refl)

@@ -2,8 +2,8 @@
 use Rattle.resource_model.specs.Resource.{ResourceData}
 use Rattle.resource_model.specs.declared.resource.Resource.TheInside.{Inside}
 
-abbrev pub whole : Inside → ResourceData
-whole r = record {
+abbrev pub resource_kept : Inside → ResourceData
+resource_kept r = record {
   number = r.number;
   ty = r.ty;
   name = r.name;

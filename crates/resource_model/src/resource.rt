@@ -1,6 +1,7 @@
 //! A resource, and a change of one.
 ghost use Rattle.std.specs.Prelude.{◌≡◌, ◌<◌, ◌≤◌, ◌^◌, IfOk, IsOk, IsSome, OnOk, OnErr};
 ghost use Rattle.std.specs.Prelude.{IsUtf8, option_map};
+ghost use Rattle.m2m_names.specs.Ids as ids;
 ghost use Rattle.m2m_names.specs.Stamps.{last_moment};
 ghost use Rattle.resource_model.specs.Attributes.{value_of, with_value, without_value};
 ghost use Rattle.resource_model.specs.Resource.{ResourceData, is_ty, ae_id, cse_id, id_of};
@@ -18,6 +19,15 @@ pub struct Moments {
     pub ct: u64,
     pub lt: u64,
     pub et: u64,
+}
+
+/// The resource identifier of a type and a number: the short word of the type, and the number.
+pub fn id_text(alloc: Global, ty: Ty, number: u64) -> Result<Text, OutOfMemory>
+    ensures value { IfOk result (λ t. t ≡ ids.id_text ty number) }
+    ensures utf8 { IfOk result (λ t. IsUtf8 t) }
+{
+    let id = format!(in alloc; "{}{}", ty.word(), number)?;
+    Ok(Text::of(id.into_bytes()))
 }
 
 /// A resource (TS-0001, 9.6).
@@ -40,12 +50,12 @@ impl Model for Resource {
 
     ghost coded = { resource_code };
 
-    ghost use Rattle.resource_model.specs.Parts.{whole};
+    ghost use Rattle.resource_model.specs.Parts.{resource_kept};
     ghost use Rattle.resource_model.specs.Resource.{IsResource};
 
-    ghost view = { whole };
+    ghost view = { resource_kept };
 
-    ghost invariant = { λ r. IsResource (whole r) };
+    ghost invariant = { λ r. IsResource (resource_kept r) };
 }
 
 impl Resource {
@@ -190,8 +200,7 @@ impl Resource {
         ensures value { IfOk result (λ t. t ≡ id_of self.now) }
         ensures utf8 { IfOk result (λ t. IsUtf8 t) }
     {
-        let id = format!(in alloc; "{}{}", self.ty.word(), self.number)?;
-        Ok(Text::of(id.into_bytes()))
+        id_text(alloc, self.ty, self.number)
     }
 
     /// It was last changed at this moment.
