@@ -8,6 +8,7 @@ use Rattle.std.specs.List.{slice_split, starts_with}
 use Rattle.m2m_names.specs.Name.{is_name}
 use Rattle.m2m_names.specs.Urls.{point_limit}
 use Rattle.resource_model.specs.Home.{HomeData}
+use Rattle.tree_model.specs.Shown.{own_cse_id}
 use Rattle.addressing.specs.declared.addr.Addr.{Addr}
 use Rattle.addressing.specs.declared.addr.Addr.TheVariants.{Local, Foreign, OtherProvider}
 use Rattle.addressing.specs.declared.addr.AddrFault.{AddrFault}
@@ -112,7 +113,7 @@ GivesAddress (Err fault) told =
 -- what it prints as: segments with a slash between them; the CSE-ID where there is none; a foreign
 -- address by its text
 abbrev pub printed : HomeData → Addr → List ℕ
-printed home (Local []) = 47 ∷ home.csi
+printed home (Local []) = own_cse_id home
 printed home (Local (segment ∷ segments)) = joined (segment ∷ segments)
 printed home (Foreign text) = text
 printed home OtherProvider = []

@@ -1,8 +1,8 @@
 -- What holds of addresses on every list.
-use Rattle.std.specs.Prelude.{ℕ, Bool, List, Option, None, Result, Ok, Err}
-use Rattle.std.specs.List.{list_all}
+use Rattle.std.specs.Prelude.{ℕ, List, Option, None, Result, Ok, Err}
 use Rattle.resource_model.specs.Home.{HomeData}
-use Rattle.resource_model.specs.Resource.{ResourceData, has_free_name}
+use Rattle.resource_model.specs.Resource.{ResourceData}
+pub use Rattle.tree_model.specs.Tree.{have_free_names}
 use Rattle.addressing.specs.Addresses.{address_of}
 use Rattle.addressing.specs.Names.{spot_of}
 use Rattle.addressing.specs.declared.addr.Addr.{Addr}
@@ -20,7 +20,3 @@ named_here (Err fault) nodes = None
 -- what a text names
 abbrev pub spot_named : HomeData → List ℕ → List ResourceData → Option Spot
 spot_named home text nodes = named_here (address_of home text) nodes
-
--- each resource has a name that addresses nothing else
-abbrev pub have_free_names : List ResourceData → Bool
-have_free_names nodes = list_all has_free_name nodes

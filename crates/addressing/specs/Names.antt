@@ -1,10 +1,10 @@
 -- What an address names (TS-0001, 9.3.1 and 9.6), on the list of resources.
 use Rattle.std.specs.Prelude.{ℕ, ◌+◌, Bool, true, false, ◌&&◌, List, [], ◌∷◌, length, bytes_eq}
-use Rattle.std.specs.Prelude.{codes}
 use Rattle.std.specs.Prelude.{if◌then◌else◌, map, reverse, Option, Some, None, option_and_then}
 use Rattle.std.specs.Prelude.{option_map}
 use Rattle.std.specs.Option.{option_map_or, option_or}
 use Rattle.m2m_names.specs.Ids.{id_parts}
+use Rattle.m2m_names.specs.Name.{base_mark, fan_name, newest_name, oldest_name, poll_name}
 use Rattle.m2m_names.specs.declared.types.Ty.{Ty}
 use Rattle.m2m_names.specs.declared.types.Ty.TheVariants.{Group, PollingChannel}
 use Rattle.resource_model.specs.Resource.{ResourceData, is_ty}
@@ -35,7 +35,7 @@ base_of nodes = first_number (children_of 0 nodes)
 -- `-` is the CSEBase, and so is its name
 abbrev pub base_named : List ℕ → List ResourceData → Option ℕ
 base_named segment nodes =
-    if bytes_eq segment (codes "-") then base_of nodes else child_of 0 segment nodes
+    if bytes_eq segment base_mark then base_of nodes else child_of 0 segment nodes
 
 -- a resource id is the resource of its number, where that is of its type
 abbrev pub id_named : List ℕ → List ResourceData → Option ℕ
@@ -54,15 +54,15 @@ first_named segment nodes =
 -- `la` and `ol` name the newest and the oldest instance, any other name the child
 abbrev pub next_named : ℕ → List ℕ → List ResourceData → Option ℕ
 next_named n name nodes =
-    if bytes_eq name (codes "la") then instance_of true n nodes else
-    if bytes_eq name (codes "ol") then instance_of false n nodes else child_of n name nodes
+    if bytes_eq name newest_name then instance_of true n nodes else
+    if bytes_eq name oldest_name then instance_of false n nodes else child_of n name nodes
 
 -- `fopt` behind a group, and `pcu` behind a polling channel
 abbrev pub is_fan : ℕ → List ℕ → List ResourceData → Bool
-is_fan n name nodes = bytes_eq name (codes "fopt") && is_at Group n nodes
+is_fan n name nodes = bytes_eq name fan_name && is_at Group n nodes
 
 abbrev pub is_poll : ℕ → List ℕ → List ResourceData → Bool
-is_poll n name nodes = bytes_eq name (codes "pcu") && is_at PollingChannel n nodes
+is_poll n name nodes = bytes_eq name poll_name && is_at PollingChannel n nodes
 
 -- the poll point, behind which nothing stands
 abbrev pub poll_point : ℕ → List (List ℕ) → Option Spot

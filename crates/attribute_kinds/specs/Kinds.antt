@@ -5,6 +5,7 @@ use Rattle.std.specs.Char.{is_ascii_graphic}
 use Rattle.std.specs.Int.{is_in_range}
 use Rattle.std.specs.List.{list_all}
 use Rattle.std.specs.Option.{option_map_or}
+use Rattle.m2m_names.specs.Members.{acr_name, acor_name, acop_name}
 use Rattle.m2m_names.specs.Name.{is_filled, is_free_name, is_name, is_originator}
 use Rattle.m2m_names.specs.Operations.{all_bits}
 use Rattle.m2m_names.specs.StampReading.{moment_at}
@@ -42,15 +43,15 @@ is_notification_target ds = (length ds == 1) && list_all (is_text_of is_point) d
 -- the six bits (TS-0001, 9.6.2.1)
 abbrev pub is_rule : List Entry → Bool
 is_rule es =
-    are_keys_among (codes "acor" ∷ codes "acop" ∷ []) es
-    && has_member (codes "acor") (is_some_of (is_text_of is_originator)) es
-    && has_member (codes "acop") (is_count_of (is_in_range 0 all_bits)) es
+    are_keys_among (acor_name ∷ acop_name ∷ []) es
+    && has_member acor_name (is_some_of (is_text_of is_originator)) es
+    && has_member acop_name (is_count_of (is_in_range 0 all_bits)) es
 
 -- access control rules: exactly `acr`, a list of them (TS-0001, 9.6.2)
 abbrev pub is_rules : List Entry → Bool
 is_rules es =
-    are_keys_among (codes "acr" ∷ []) es
-    && has_member (codes "acr") (is_list_of (is_object_of is_rule)) es
+    are_keys_among (acr_name ∷ []) es
+    && has_member acr_name (is_list_of (is_object_of is_rule)) es
 
 -- criteria of notification: at most `net`, a list, not empty, of kinds of event, 1 to 4, and `atr`,
 -- a list of labels (TS-0001, 9.6.8)

@@ -5,8 +5,8 @@ ghost use Rattle.attribute_kinds.specs.Kinds.{has_kind};
 use crate::lists::{is_cse_ids, is_labels, is_notification_target, is_points, is_texts};
 use crate::objects::{is_criteria, is_rules};
 use crate::values::{
-    is_bool, is_content, is_count, is_cse_id, is_member_type, is_name, is_number_within,
-    is_originator, is_stamp, is_text,
+    is_bool, is_content, is_count_value, is_cse_id, is_member_type, is_name_value,
+    is_number_within, is_originator_value, is_stamp, is_text,
 };
 use m2m_value::Val;
 
@@ -53,17 +53,17 @@ impl Kind {
         ensures { result ≡ has_kind self value.now }
     {
         match self {
-            Kind::Name => is_name(value),
+            Kind::Name => is_name_value(value),
             Kind::Stamp => is_stamp(value),
             Kind::Text => is_text(value),
             Kind::Label => value.is_label(),
             Kind::Labels => is_labels(value),
             Kind::Bool => is_bool(value),
-            Kind::Count => is_count(value),
+            Kind::Count => is_count_value(value),
             Kind::OneOf(from, to) => is_number_within(from, to, value),
             Kind::CseId => is_cse_id(value),
             Kind::CseIds => is_cse_ids(value),
-            Kind::Originator => is_originator(value),
+            Kind::Originator => is_originator_value(value),
             Kind::Policies => is_texts(value),
             Kind::Points => is_points(value),
             Kind::Target => is_notification_target(value),

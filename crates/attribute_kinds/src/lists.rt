@@ -8,7 +8,7 @@ ghost use Rattle.m2m_value.specs.View as views;
 ghost use Rattle.m2m_value.specs.Shapes as shapes;
 ghost use Rattle.attribute_kinds.specs.Kinds as spec;
 
-use crate::values::{is_cse_id, is_number_within, is_originator, is_point, is_text, list_in};
+use crate::values::{is_cse_id, is_number_within, is_originator_value, is_point, is_text, list_in};
 use m2m_value::Val;
 
 fn are_labels(values: &[Val]) -> bool
@@ -32,7 +32,7 @@ fn are_texts(values: &[Val]) -> bool
 fn are_originators(values: &[Val]) -> bool
     ensures { result ≡ list_all (shapes.is_text_of names.is_originator) values.now }
 {
-    values.iter().all(|value| is_originator(value))
+    values.iter().all(|value| is_originator_value(value))
 }
 
 fn are_event_kinds(values: &[Val]) -> bool

@@ -43,7 +43,7 @@ pub fn is_content(value: &Val) -> bool
     !value.is_null()
 }
 
-pub fn is_count(value: &Val) -> bool
+pub fn is_count_value(value: &Val) -> bool
     ensures { result ≡ spec.has_kind Count value.now }
 {
     value.as_count().is_some()
@@ -76,7 +76,7 @@ pub fn is_member_type(value: &Val) -> bool
     }
 }
 
-pub fn is_name(value: &Val) -> bool
+pub fn is_name_value(value: &Val) -> bool
     ensures { result ≡ shapes.is_text_of names.is_free_name value.now }
 {
     match text_in(value) {
@@ -94,7 +94,7 @@ pub fn is_stamp(value: &Val) -> bool
     }
 }
 
-pub fn is_originator(value: &Val) -> bool
+pub fn is_originator_value(value: &Val) -> bool
     ensures { result ≡ shapes.is_text_of names.is_originator value.now }
 {
     match text_in(value) {

@@ -18,12 +18,12 @@ home_code =
     (λ p. record { sp = p.0; csi = p.1.0; base = p.1.1.0; cst = p.1.1.1.0; admin = p.1.1.1.1 })
     (λ _. refl)
 
-abbrev Parts : Type 0
-Parts = HomeData × (List ResourceData × (ℕ × ℕ))
+abbrev EntityParts : Type 0
+EntityParts = HomeData × (List ResourceData × (ℕ × ℕ))
 
 abbrev pub entity_code : Coded EntityData
 entity_code =
-    code_by Parts (coded× home_code (coded× (coded_list resource_code) (coded× coded_ℕ coded_ℕ)))
+    code_by EntityParts (coded× home_code (coded× (coded_list resource_code) (coded× coded_ℕ coded_ℕ)))
     (λ e. (e.home, (e.nodes, (e.next, e.last))))
     (λ p. record { home = p.0; nodes = p.1.0; next = p.1.1.0; last = p.1.1.1 })
     (λ _. refl)

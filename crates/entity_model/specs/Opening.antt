@@ -1,5 +1,6 @@
 -- The entity that nothing has happened to yet.
 use Rattle.std.specs.Prelude.{ℕ, List, [], ◌∷◌, codes}
+use Rattle.m2m_names.specs.Ids.{id_text}
 use Rattle.m2m_names.specs.Operations.{all_bits}
 use Rattle.m2m_names.specs.Stamps.{last_moment}
 use Rattle.m2m_names.specs.declared.attributes.Attr.TheVariants.{Acpi, Pv, Pvs}
@@ -11,6 +12,10 @@ use Rattle.resource_model.specs.Resource.{ResourceData}
 use Rattle.policy_eval.specs.Rules.{written_rule, written_rules}
 use Rattle.policy_eval.specs.Rights.{create_bit}
 use Rattle.entity_model.specs.Entity.{EntityData, cut}
+
+-- the number of the administrator's policy
+abbrev pub admin_policy : ℕ
+admin_policy = 2
 
 -- the administrator may do all
 abbrev pub admin_rule : HomeData → Data
@@ -32,7 +37,8 @@ policy_rows home = (Pv, opening_pv home) ∷ (Pvs, opening_pvs home) ∷ []
 
 -- the CSEBase is judged by that policy
 abbrev pub opening_rows : List Row
-opening_rows = (Acpi, list (elements_of (text (codes "acp2") ∷ []))) ∷ []
+opening_rows =
+    (Acpi, list (elements_of (text (id_text AccessControlPolicy admin_policy) ∷ []))) ∷ []
 
 -- the CSEBase (TS-0001, 9.6.3)
 abbrev pub opening_base : HomeData → ℕ → ResourceData
@@ -51,7 +57,7 @@ opening_base home moment = record {
 -- the administrator's policy (TS-0001, 9.6.2)
 abbrev pub opening_policy : HomeData → ℕ → ResourceData
 opening_policy home moment = record {
-  number = 2;
+  number = admin_policy;
   ty = AccessControlPolicy;
   name = codes "acpAdmin";
   parent = 1;

@@ -3,9 +3,11 @@ use Rattle.std.specs.Prelude.{Bool, ℤ, pos, List, [], ◌∷◌, Option, Some,
 use Rattle.std.specs.Prelude.{if◌then◌else◌}
 use Rattle.std.specs.Option.{option_map_or}
 use Rattle.m2m_names.specs.declared.codes.Rsc.{Rsc}
+use Rattle.m2m_names.specs.declared.codes.Rsc.TheVariants.{NotFound}
 use Rattle.m2m_value.specs.Data.{Data}
 use Rattle.primitive_json.specs.declared.reply.ReplyParts.{ReplyParts}
 use Rattle.primitive_json.specs.declared.request.RequestParts.{RequestParts}
+use Rattle.resource_model.specs.Resource.{ResourceData}
 use Rattle.entity_model.specs.Entity.{EntityData}
 
 -- a reply to a request, which has its identifier (TS-0001, 8.1.3)
@@ -15,6 +17,10 @@ reply_to request rsc content = record { rsc = rsc; rqi = Some request.rqi; pc = 
 -- a refusal has no content
 abbrev pub refusal : RequestParts → Rsc → ReplyParts
 refusal request rsc = reply_to request rsc None
+
+-- the status where the resource isn't there that an address names (TS-0004, 7.3.3)
+abbrev pub absent : Rsc
+absent = NotFound
 
 -- the result content that a request asks for: the attributes, where it says none (TS-0001, 8.1.2)
 abbrev pub wanted_content : Option ℤ → ℤ
@@ -32,6 +38,11 @@ answering e reply = record { reply = reply; after = e }
 -- a refusal leaves the entity as it is
 abbrev pub refused : EntityData → RequestParts → Rsc → Effect
 refused e request rsc = answering e (refusal request rsc)
+
+-- what comes of a request on the resource that was found, if one was
+abbrev pub on_found : EntityData → RequestParts → (ResourceData → Effect) → Option ResourceData
+    → Effect
+on_found e request effect found = option_map_or effect found (refused e request absent)
 
 -- a place in the order of refusals: what has to hold there, and the status where it doesn't
 pub record Place : Type 0 where

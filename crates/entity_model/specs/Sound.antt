@@ -1,5 +1,5 @@
 -- Which entities are sound: what holds of an entity at every moment.
-use Rattle.std.specs.Prelude.{◌≡◌, ℕ, ◌-◌, ◌^◌, ◌≤◌, nat_le, nat_lt, Bool, true, false, not, ◌&&◌}
+use Rattle.std.specs.Prelude.{◌≡◌, ℕ, ◌≤◌, nat_le, nat_lt, Bool, true, false, not, ◌&&◌}
 use Rattle.std.specs.Prelude.{◌||◌, List, [], ◌∷◌, ◌++◌, length, is_some}
 use Rattle.std.specs.Prelude.{option_and_then, IsTrue}
 use Rattle.std.specs.List.{filter_map, list_all, list_any}
@@ -8,6 +8,7 @@ use Rattle.std.specs.Str.{bytes_eq}
 use Rattle.m2m_names.specs.declared.attributes.Attr.TheVariants.{Acpi, Macp, St}
 use Rattle.m2m_names.specs.declared.types.Ty.TheVariants.{Container, ContentInstance, CseBase}
 use Rattle.m2m_value.specs.Data.{Data}
+use Rattle.m2m_value.specs.Shapes.{largest_count}
 use Rattle.m2m_value.specs.View.{as_text}
 use Rattle.resource_model.specs.Attributes.{value_of}
 use Rattle.resource_model.specs.Home.{HomeData, IsHome}
@@ -15,7 +16,7 @@ use Rattle.resource_model.specs.Resource.{ResourceData, is_ty, cse_id}
 pub use Rattle.resource_model.specs.Resource.{has_free_name}
 use Rattle.tree_model.specs.Shown.{own_cse_id}
 use Rattle.tree_model.specs.Tree.{channels_of, instances_of, instance_size, sizes_of, depth}
-use Rattle.tree_model.specs.Tree.{are_below, is_well_formed}
+use Rattle.tree_model.specs.Tree.{are_below, have_free_names, is_well_formed}
 use Rattle.attribute_rules.specs.Kinds.{are_kinds}
 use Rattle.container_limits.specs.Limits.{are_within, limits_of}
 use Rattle.policy_eval.specs.Rules.{policy_number, ids_at}
@@ -95,13 +96,13 @@ spares_first picks (r ∷ nodes) = not (picks r)
 pub record IsSoundEntity (e : EntityData) : Type 0 where
   -- numbers are given out in order, and none twice
   pub numbers : IsTrue (are_below e.next e.nodes)
-  pub next : e.next ≤ 2 ^ 63 - 1
+  pub next : e.next ≤ largest_count
   pub ids : IsTrue (list_all (has_known_ids e.next) e.nodes)
   -- the resources are a tree, each under a type that takes it
   pub tree : IsTrue (is_well_formed e.nodes)
   pub base : IsTrue (begins_with_base e.home e.nodes)
   -- each has a name that addresses nothing else, and the home is one
-  pub names : IsTrue (list_all has_free_name e.nodes)
+  pub names : IsTrue (have_free_names e.nodes)
   pub home : IsHome e.home
   pub depth : IsTrue (list_all (is_shallow e.nodes) e.nodes)
   pub count : length e.nodes ≤ greatest_count

@@ -8,8 +8,12 @@ ghost use Rattle.entity_model.specs.Opening as spec;
 
 use m2m_names::{Attr, LAST_MOMENT, Ty};
 use m2m_value::{Items, Members, Text, Val};
+use resource_model::id_text;
 use std::alloc::{AllocError as OutOfMemory, Global};
 use tree_model::{Attrs, Home, Moments, Resource, Tree};
+
+/// The number of the administrator's policy.
+const ADMIN_POLICY: u64 = 2;
 
 // A list of one text.
 fn list_of(alloc: Global, text: Text) -> Result<Val, OutOfMemory>
@@ -88,7 +92,10 @@ fn base_attrs(alloc: Global) -> Result<Attrs, OutOfMemory>
     let mut attrs = Attrs::new(alloc);
     attrs.set(
         Attr::Acpi,
-        list_of(alloc, Text::from_slice(alloc, b"acp2")?)?,
+        list_of(
+            alloc,
+            id_text(alloc, Ty::AccessControlPolicy, ADMIN_POLICY)?,
+        )?,
     )?;
     Ok(attrs)
 }
@@ -123,7 +130,15 @@ fn opening_policy(alloc: Global, home: &Home, moment: u64) -> Result<Resource, O
     let owner = home.admin().copy(alloc)?;
     let attrs = policy_attrs(alloc, home)?;
     let moments = moments_from(moment);
-    Ok(Resource::of(2, Ty::AccessControlPolicy, name, 1, owner, moments, attrs))
+    Ok(Resource::of(
+        ADMIN_POLICY,
+        Ty::AccessControlPolicy,
+        name,
+        1,
+        owner,
+        moments,
+        attrs,
+    ))
 }
 
 fn put_last<T: Tree>(tree: &mut T, resource: Resource) -> Result<(), OutOfMemory>

@@ -1,19 +1,20 @@
 -- The rules of a resource.
 use Rattle.std.specs.Prelude.{ℕ, nat_le, nat_lt, ℤ, pos, negsuc, Bool, List, [], ◌∷◌, length, map}
-use Rattle.std.specs.Prelude.{codes, Option, Some, None, option_and_then, unwrap_or, if◌then◌else◌}
+use Rattle.std.specs.Prelude.{Option, Some, None, option_and_then, unwrap_or, if◌then◌else◌}
 use Rattle.std.specs.List.{filter_map, flat_map}
 use Rattle.std.specs.Option.{option_map_or}
 use Rattle.m2m_names.specs.declared.attributes.Attr.{Attr}
-use Rattle.m2m_names.specs.declared.attributes.Attr.TheVariants.{Acpi, Aei, Csi, Macp, Pv, Pvs}
+use Rattle.m2m_names.specs.declared.attributes.Attr.TheVariants.{Acpi, Macp, Pv, Pvs}
 use Rattle.m2m_names.specs.declared.types.Ty.TheVariants.{AccessControlPolicy, Ae, ContentInstance}
-use Rattle.m2m_names.specs.declared.types.Ty.TheVariants.{PollingChannel, RemoteCse}
+use Rattle.m2m_names.specs.declared.types.Ty.TheVariants.{PollingChannel}
 use Rattle.m2m_names.specs.declared.types.Ty.{Ty}
 use Rattle.m2m_names.specs.Ids.{id_parts}
+use Rattle.m2m_names.specs.Members.{acr_name, acor_name, acop_name}
 use Rattle.m2m_names.specs.Operations.{all_bits}
 use Rattle.m2m_value.specs.Data.{Data, number, text, list, object, elements_of, pairs_of}
 use Rattle.m2m_value.specs.View.{as_list, as_number, as_object, as_text, member_of}
-use Rattle.resource_model.specs.Attributes.{value_of, text_at}
-use Rattle.resource_model.specs.Resource.{ResourceData, is_ty}
+use Rattle.resource_model.specs.Attributes.{value_of}
+use Rattle.resource_model.specs.Resource.{ResourceData, is_ty, ae_id, cse_id}
 use Rattle.tree_model.specs.Tree.{at}
 
 -- ---- rules as they are written
@@ -40,11 +41,11 @@ sum_of_bits (negsuc n) = 0
 abbrev pub written_rule : List ℕ → ℕ → Data
 written_rule who bits =
     object (pairs_of (
-    (codes "acop", number (pos bits)) ∷ (codes "acor", list (elements_of (text who ∷ []))) ∷ []))
+    (acop_name, number (pos bits)) ∷ (acor_name, list (elements_of (text who ∷ []))) ∷ []))
 
 -- the value of `pv` or `pvs` that has these rules
 abbrev pub written_rules : List Data → Data
-written_rules rules = object (pairs_of ((codes "acr", list (elements_of rules)) ∷ []))
+written_rules rules = object (pairs_of ((acr_name, list (elements_of rules)) ∷ []))
 
 -- the member of an object
 abbrev pub member_at : List ℕ → Data → Option Data
@@ -64,12 +65,12 @@ texts_of ds = filter_map as_text ds
 -- a rule as it is written: its `acor` and its `acop` (TS-0004, 7.4.2)
 abbrev pub stated_rule : Data → Rule
 stated_rule d =
-    rule_for (named (texts_of (listed_in (member_at (codes "acor") d))))
-    (option_map_or sum_of_bits (member_number (codes "acop") d) 0)
+    rule_for (named (texts_of (listed_in (member_at acor_name d))))
+    (option_map_or sum_of_bits (member_number acop_name d) 0)
 
 -- the rules of `pv` or `pvs`: its `acr`
 abbrev pub rules_in : Option Data → List Rule
-rules_in d = map stated_rule (listed_in (option_and_then (member_at (codes "acr")) d))
+rules_in d = map stated_rule (listed_in (option_and_then (member_at acr_name) d))
 
 -- ---- the policies that a list of resource ids names
 
@@ -123,9 +124,7 @@ linked_rules attr nodes r =
 
 -- the AE-ID or CSE-ID of an application entity or of a remote CSE
 abbrev pub registree : ResourceData → Option (List ℕ)
-registree r =
-    if is_ty r.ty Ae then text_at Aei r.attrs else
-    if is_ty r.ty RemoteCse then text_at Csi r.attrs else None
+registree r = if is_ty r.ty Ae then ae_id r else cse_id r
 
 -- a polling channel is its parent's alone (TS-0001, 9.6.21)
 abbrev pub channel_rules : ResourceData → List Rule

@@ -123,10 +123,8 @@ pub fn registree(resource: &Resource) -> Option<&[u8]>
     ensures { option_map (λ t. t.now) result ≡ spec.registree resource.now }
 {
     if resource.is(Ty::Ae) {
-        return Some(resource.attrs().text(Attr::Aei)?.entries());
+        Some(resource.ae_id()?.entries())
+    } else {
+        Some(resource.cse_id()?.entries())
     }
-    if resource.is(Ty::RemoteCse) {
-        return Some(resource.attrs().text(Attr::Csi)?.entries());
-    }
-    None
 }

@@ -1,5 +1,5 @@
 -- The attributes of a resource as they are shown (TS-0001, 9.6; TS-0004, 7.4 and 8.2.3).
-use Rattle.std.specs.Prelude.{ℕ, ◌-◌, ◌^◌, min, pos, List, [], ◌∷◌, ◌++◌, length, map, codes}
+use Rattle.std.specs.Prelude.{ℕ, min, pos, List, [], ◌∷◌, ◌++◌, length, map, codes}
 use Rattle.std.specs.Prelude.{if◌then◌else◌}
 use Rattle.std.specs.Option.{option_map_or}
 use Rattle.m2m_names.specs.Attributes.{attr_short}
@@ -12,6 +12,7 @@ use Rattle.m2m_names.specs.declared.attributes.Attr.TheVariants.{Ty as TyAttr}
 use Rattle.m2m_names.specs.declared.types.Ty.{Ty}
 use Rattle.m2m_names.specs.declared.types.Ty.TheVariants.{CseBase, Container, Group}
 use Rattle.m2m_value.specs.Data.{Data, number, text, list, object, Entry, elements_of, pairs_of}
+use Rattle.m2m_value.specs.Shapes.{largest_count}
 use Rattle.resource_model.specs.Attributes.{Row, value_of, with_value}
 use Rattle.resource_model.specs.Home.{HomeData}
 use Rattle.resource_model.specs.Resource.{ResourceData, is_ty, id_of}
@@ -19,7 +20,7 @@ use Rattle.tree_model.specs.Tree.{at, instances_of, sizes_of}
 
 -- a count as a value, which ends at the largest that a value has
 abbrev pub shown_count : ℕ → Data
-shown_count n = number (pos (min n (2 ^ 63 - 1)))
+shown_count n = number (pos (min n largest_count))
 
 -- the number of a type as a value
 abbrev pub shown_ty : Ty → Data

@@ -15,7 +15,8 @@ use Rattle.m2m_names.specs.declared.types.Ty.TheVariants.{CseBase, ContentInstan
 use Rattle.m2m_names.specs.declared.types.Ty.TheVariants.{Subscription}
 use Rattle.m2m_value.specs.Data.{number}
 use Rattle.resource_model.specs.Attributes.{count_at, value_of, with_value}
-use Rattle.resource_model.specs.Resource.{ResourceData, is_ty, has_number, ae_id, cse_id}
+use Rattle.resource_model.specs.Resource.{ResourceData, is_ty, has_number, has_free_name, ae_id}
+use Rattle.resource_model.specs.Resource.{cse_id}
 
 -- ---- what stands in a list
 
@@ -141,6 +142,10 @@ line_of n nodes = line_from n (reverse nodes)
 abbrev pub depth : ℕ → List ResourceData → ℕ
 depth n nodes = length (line_of n nodes)
 
+-- it is the resource of the number, or stands below it
+abbrev pub is_at_or_below : ℕ → List ResourceData → ResourceData → Bool
+is_at_or_below n nodes r = list_any (has_number n) (line_of r.number nodes)
+
 -- ---- changes
 
 -- the resource takes the place of the one of its number
@@ -245,6 +250,10 @@ are_quiet until nodes = list_all (is_quiet nodes until) nodes
 -- every number is below this one
 abbrev pub are_below : ℕ → List ResourceData → Bool
 are_below n nodes = list_all (λ s. nat_lt s.number n) nodes
+
+-- each has a name that addresses nothing else
+abbrev pub have_free_names : List ResourceData → Bool
+have_free_names nodes = list_all has_free_name nodes
 
 -- it is the first resource, the CSEBase
 abbrev pub is_root : List ResourceData → ResourceData → Bool
