@@ -1,5 +1,5 @@
 -- What a Create makes (TS-0001, 9.6.1.3 and 10.2.1; TS-0004, 7.3.3 and 7.4).
-use Rattle.std.specs.Prelude.{ℕ, pos, ◌+◌, ◌-◌, ◌^◌, min, nat_eq, nat_le, nat_lt, Bool, true, not}
+use Rattle.std.specs.Prelude.{ℕ, pos, ◌+◌, min, nat_eq, nat_le, nat_lt, Bool, true, not}
 use Rattle.std.specs.Prelude.{◌&&◌, ◌||◌, List, [], ◌∷◌, ◌++◌, length, codes, bytes_eq, Option}
 use Rattle.std.specs.Prelude.{Some, unwrap_or, if◌then◌else◌}
 use Rattle.std.specs.Fmt.{decimal}
@@ -8,7 +8,6 @@ use Rattle.std.specs.Option.{option_map_or}
 use Rattle.m2m_names.specs.Attributes.{attr_short}
 use Rattle.m2m_names.specs.Ids.{id_text}
 use Rattle.m2m_names.specs.Name.{is_name}
-use Rattle.m2m_names.specs.Stamps.{last_moment}
 use Rattle.m2m_names.specs.Types.{ty_row}
 use Rattle.m2m_names.specs.declared.attributes.Attr.TheVariants.{Acpi, Aei, Con, Cr, Cs, Csi, Macp}
 use Rattle.m2m_names.specs.declared.attributes.Attr.TheVariants.{Mbs, Mia, Mni, Rn, St}
@@ -16,6 +15,7 @@ use Rattle.m2m_names.specs.declared.types.Ty.{Ty}
 use Rattle.m2m_names.specs.declared.types.Ty.TheVariants.{Ae, Container, ContentInstance}
 use Rattle.m2m_names.specs.declared.types.Ty.TheVariants.{PollingChannel, RemoteCse}
 use Rattle.m2m_value.specs.Data.{Data, Entry, number, text}
+use Rattle.m2m_value.specs.Shapes.{largest_count}
 use Rattle.m2m_value.specs.Spelling.{capped, size_of}
 use Rattle.m2m_value.specs.View.{member_of}
 use Rattle.resource_model.specs.Attributes.{Row, count_at}
@@ -27,7 +27,7 @@ use Rattle.attribute_rules.specs.Contents.{named_text, wanted_in}
 use Rattle.container_limits.specs.Limits.{is_within}
 use Rattle.entity_model.specs.Entity.{EntityData}
 use Rattle.request_rules.specs.Policies.{link_row}
-use Rattle.request_rules.specs.Requests.{named_expiry}
+use Rattle.request_rules.specs.Requests.{expiry_for}
 use Rattle.entity_model.specs.Sound.{largest_size, greatest_depth, greatest_count}
 
 -- A creation: in which entity, by whom, of which type, under which parent, and the attributes that
@@ -68,15 +68,15 @@ ae_stem o = if bytes_eq o (codes "S") then codes "S" else codes "C"
 
 -- the AE-ID of a new application entity: its originator, or a new one with its resource id
 -- (TS-0001, 10.2.2.2)
-abbrev pub ae_id_for : List ℕ → List ℕ → List ℕ
-ae_id_for o id = if is_ae_id o then o else ae_stem o ++ id
+abbrev pub ae_id_for : List ℕ → ℕ → List ℕ
+ae_id_for o n = if is_ae_id o then o else ae_stem o ++ id_text Ae n
 
 abbrev pub new_ae_id : Creation → List ℕ
-new_ae_id c = ae_id_for c.o (id_text Ae c.e.next)
+new_ae_id c = ae_id_for c.o c.e.next
 
 -- who owns it: an application entity owns itself, and all else its originator
 abbrev pub owner_for : List ℕ → Ty → ℕ → List ℕ
-owner_for o ty n = if is_ty ty Ae then ae_id_for o (id_text Ae n) else o
+owner_for o ty n = if is_ty ty Ae then ae_id_for o n else o
 
 abbrev pub new_owner : Creation → List ℕ
 new_owner c = owner_for c.o c.ty c.e.next
@@ -122,18 +122,21 @@ takes_instance container size =
 abbrev pub is_small : Creation → Bool
 is_small c = not (is_ty c.ty ContentInstance) || takes_instance c.parent (new_size c)
 
--- a number is left, the tree isn't full, and the parent isn't at the greatest depth (the limits are
--- the profile's)
+-- the tree isn't full, a number is left, and the resource of the number, below which one more is to
+-- stand, isn't at the greatest depth (the limits are the profile's)
+abbrev pub has_place : EntityData → ℕ → Bool
+has_place e parent =
+    nat_lt (length e.nodes) greatest_count && nat_lt e.next largest_count
+    && nat_lt (depth parent e.nodes) greatest_depth
+
 abbrev pub has_room : Creation → Bool
-has_room c =
-    nat_lt (length c.e.nodes) greatest_count && nat_lt c.e.next (2 ^ 63 - 1)
-    && nat_lt (depth c.parent.number c.e.nodes) greatest_depth && is_small c
+has_room c = has_place c.e c.parent.number && is_small c
 
 -- ---- the resource
 
 -- the state tag after one more change, which stays at the greatest (TS-0001, 9.6.1.3.2)
 abbrev pub next_state : ResourceData → ℕ
-next_state r = min (unwrap_or (count_at St r.attrs) 0 + 1) (2 ^ 63 - 1)
+next_state r = min (unwrap_or (count_at St r.attrs) 0 + 1) largest_count
 
 -- what the CSE gives the resource besides: an application entity its AE-ID; a container the state
 -- tag that it begins with; an instance its size, and the state tag that its container has then
@@ -166,6 +169,6 @@ new_resource c = record {
   owner = new_owner c;
   ct = c.e.last;
   lt = c.e.last;
-  et = unwrap_or (named_expiry c.named) last_moment;
+  et = expiry_for c.named;
   attrs = new_rows c;
 }

@@ -5,7 +5,7 @@ use Rattle.std.specs.Option.{option_map_or}
 use Rattle.m2m_names.specs.declared.codes.Rsc.{Rsc}
 use Rattle.m2m_names.specs.declared.codes.Rsc.TheVariants.{BadChild, BadRequest, Conflict}
 use Rattle.m2m_names.specs.declared.codes.Rsc.TheVariants.{NoPrivilege, NotAcceptable, NotAllowed}
-use Rattle.m2m_names.specs.declared.codes.Rsc.TheVariants.{NotFound, NotSubscribable}
+use Rattle.m2m_names.specs.declared.codes.Rsc.TheVariants.{NotSubscribable}
 use Rattle.m2m_names.specs.declared.operations.Op.{Op}
 use Rattle.m2m_names.specs.declared.operations.Op.TheVariants.{Create, Retrieve, Update, Delete}
 use Rattle.m2m_names.specs.declared.operations.Op.TheVariants.{Notify}
@@ -16,7 +16,7 @@ use Rattle.resource_model.specs.Resource.{ResourceData}
 use Rattle.tree_model.specs.Tree.{at}
 use Rattle.request_rules.specs.Creation.{Creation, creation_of, is_unique, has_room}
 use Rattle.entity_model.specs.Entity.{EntityData}
-use Rattle.entity_model.specs.Places.{Place, first_fault, unless}
+use Rattle.entity_model.specs.Places.{Place, absent, first_fault, unless}
 use Rattle.request_rules.specs.Policies.{links_live}
 use Rattle.request_rules.specs.Requests.{is_for, takes_child, child_ty, admits_content, named_for}
 use Rattle.request_rules.specs.Requests.{named_by, named_expiry}
@@ -85,4 +85,4 @@ fault_on op e o request target = first_fault (places op e o request target)
 -- on the resource of a number, which is looked up once
 abbrev pub fault_at : Op → EntityData → List ℕ → RequestParts → ℕ → Option Rsc
 fault_at op e o request n =
-    option_map_or (fault_on op e o request) (at n e.nodes) (Some NotFound)
+    option_map_or (fault_on op e o request) (at n e.nodes) (Some absent)

@@ -2,6 +2,7 @@
 use Rattle.std.specs.Prelude.{ℕ, Bool, true, false, ◌&&◌, ◌||◌, List, [], not, Option, Some, None}
 use Rattle.std.specs.Prelude.{option_and_then, unwrap_or}
 use Rattle.std.specs.Option.{option_map_or}
+use Rattle.m2m_names.specs.Stamps.{last_moment}
 use Rattle.m2m_names.specs.Types.{ty_of_number, does_take}
 use Rattle.m2m_names.specs.declared.attributes.Attr.TheVariants.{Aa, At}
 use Rattle.m2m_names.specs.declared.operations.Op.{Op}
@@ -84,3 +85,7 @@ admits_content Notify request r = true
 -- the moment of expiry that these attributes name
 abbrev pub named_expiry : List Entry → Option ℕ
 named_expiry es = (wanted_in es).et
+
+-- and the last one, where they name none
+abbrev pub expiry_for : List Entry → ℕ
+expiry_for es = unwrap_or (named_expiry es) last_moment

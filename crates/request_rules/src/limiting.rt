@@ -1,5 +1,5 @@
 //! The limits on what is created.
-ghost use Rattle.std.specs.Prelude.{◌≡◌, ℕ, ◌-◌, ◌^◌, nat_lt, List, length, not, ◌&&◌, ◌||◌};
+ghost use Rattle.std.specs.Prelude.{◌≡◌, ℕ, nat_lt, List, not, ◌||◌};
 ghost use Rattle.std.specs.Prelude.{IsTrue};
 ghost use Rattle.m2m_names.specs.declared.types.Ty.TheVariants.{ContentInstance};
 ghost use Rattle.resource_model.specs.Resource.{is_ty};
@@ -7,7 +7,6 @@ ghost use Rattle.tree_model.specs.Tree.{depth, is_tree};
 ghost use Rattle.container_limits.specs.Limits as limits;
 ghost use Rattle.request_rules.specs.Creation as spec;
 ghost use Rattle.request_rules.specs.Creation.{creation_of};
-ghost use Rattle.entity_model.specs.Sound as sound;
 
 use entity_model::Entity;
 use m2m_names::{Attr, Ty};
@@ -89,10 +88,7 @@ fn is_small(ty: Ty, parent: &Resource, members: &Members) -> bool
 
 // Whether there is room for one more resource below another.
 fn has_place<T: Tree>(entity: &Entity<T>, parent: &Resource) -> bool
-    ensures { result
-        ≡ (nat_lt (length entity.now.nodes) sound.greatest_count
-        && nat_lt entity.now.next (2 ^ 63 - 1)
-        && nat_lt (depth parent.now.number entity.now.nodes) sound.greatest_depth) }
+    ensures { result ≡ spec.has_place entity.now parent.now.number }
 {
     entity.tree.len() < GREATEST_COUNT
         && entity.next < LAST_NUMBER

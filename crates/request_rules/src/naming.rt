@@ -9,16 +9,8 @@ ghost use Rattle.request_rules.specs.Creation as spec;
 
 use m2m_names::{Attr, Ty, is_name};
 use m2m_value::{Members, Text};
+use resource_model::id_text;
 use std::alloc::{AllocError as OutOfMemory, Global};
-
-/// The resource id of a type and a number.
-pub(crate) fn id_text(alloc: Global, ty: Ty, number: u64) -> Result<Text, OutOfMemory>
-    ensures value { IfOk result (λ t. t ≡ ids.id_text ty number) }
-    ensures utf8 { IfOk result (λ t. IsUtf8 t) }
-{
-    let id = format!(in alloc; "{}{}", ty.word(), number)?;
-    Ok(Text::of(id.into_bytes()))
-}
 
 /// The name that a resource of a type and a number has where none is given.
 pub(crate) fn own_name(alloc: Global, ty: Ty, number: u64) -> Result<Text, OutOfMemory>
@@ -64,7 +56,7 @@ pub(crate) fn given_ae_id(alloc: Global, o: &[u8], id: &Text) -> Result<Text, Ou
 /// The AE-ID of a new application entity of a number.
 pub fn new_ae_id(alloc: Global, o: &[u8], number: u64) -> Result<Text, OutOfMemory>
     requires { IsTrue (is_originator o.now) }
-    ensures value { IfOk result (λ t. t ≡ spec.ae_id_for o.now (ids.id_text Ae number)) }
+    ensures value { IfOk result (λ t. t ≡ spec.ae_id_for o.now number) }
     ensures utf8 { IfOk result (λ t. IsUtf8 t) }
 {
     if is_ae_id(o) {

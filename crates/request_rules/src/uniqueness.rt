@@ -54,7 +54,7 @@ fn has_free_cse_id<T: Tree>(
 fn has_free_ae_id<T: Tree>(alloc: Global, entity: &Entity<T>, o: &[u8]) -> Result<bool, OutOfMemory>
     requires { IsTrue (is_originator o.now) }
     ensures { IfOk result (λ b. b
-        ≡ not (trees.has_ae_id (Some (spec.ae_id_for o.now (ids.id_text Ae entity.now.next)))
+        ≡ not (trees.has_ae_id (Some (spec.ae_id_for o.now entity.now.next))
         entity.now.nodes)) }
 {
     let aei = new_ae_id(alloc, o, entity.next)?;
