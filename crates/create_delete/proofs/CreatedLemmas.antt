@@ -22,7 +22,7 @@ use Rattle.resource_model.specs.Attributes.{Row, count_at, is_attr, value_of, wi
 use Rattle.resource_model.specs.Resource.{ResourceData, is_ty, ae_id, cse_id}
 use Rattle.resource_model.proofs.AttributeLemmas.{value-with_value_same}
 use Rattle.tree_model.specs.Shown.{with_rows, own_cse_id}
-use Rattle.tree_model.specs.Tree.{at, age_end, depth, due_under, may_stand, has_ae_id, has_child, has_channel, has_cse_id, is_due, is_placed, lesser, same_text, instance_size}
+use Rattle.tree_model.specs.Tree.{at, age_end, due_under, may_stand, has_ae_id, has_child, has_channel, has_cse_id, is_due, is_placed, lesser, same_text, instance_size}
 use Rattle.tree_model.proofs.ShownLemmas.{with_rows-append}
 use Rattle.tree_model.proofs.TreeLemmas.{at_has}
 use Rattle.attribute_rules.specs.Admission.{attributes_in}
@@ -31,30 +31,28 @@ use Rattle.attribute_rules.proofs.ValueLemmas.{value_wanted}
 use Rattle.container_limits.specs.Limits.{is_within}
 use Rattle.policy_eval.specs.Rules.{listed_in, ids_at}
 use Rattle.entity_model.specs.Entity.{EntityData, last_reading}
-use Rattle.entity_model.specs.Sound.{is_known_id, largest_size, greatest_count, greatest_depth, IsSoundEntity}
-use Rattle.request_rules.specs.Creation.{Creation, creator_rows, given_rows, has_room, is_below, is_free_cse_id, is_single, is_small, new_ae_id, new_name, new_resource, new_rows, new_size, next_state, takes_instance}
+use Rattle.entity_model.specs.Sound.{is_known_id, largest_size, IsSoundEntity}
+use Rattle.request_rules.specs.Creation.{Creation, creator_rows, given_rows, has_place, has_room, is_below, is_free_cse_id, is_single, is_small, new_ae_id, new_name, new_resource, new_rows, new_size, next_state, takes_instance}
 use Rattle.request_rules.specs.Policies.{link_row}
 use Rattle.request_rules.specs.Requests.{named_expiry}
 use Rattle.create_delete.specs.Changing.{filling_of, pushed_out}
 use Rattle.create_delete.specs.Joining.{IsAllowed, MayJoin}
 use Rattle.create_delete.specs.Newcomer.{IsFilling, IsNewcomer}
 use Rattle.create_delete.proofs.NewcomerLemmas.{lacks_creator, lacks_given, lacks_link, link_known, new_kinds, new_name_is_free, state_small, wanted_none}
+use Rattle.create_delete.proofs.RoomLemmas.{place_for}
 use Rattle.create_delete.proofs.RowLemmas.{value_unset}
 
 -- ---- what the limits say
 
 record HasRoom (c : Creation) : Type 0 where
-  count : length c.e.nodes < greatest_count
+  place : has_place c.e c.parent.number ≡ true
   few : c.e.next < 2 ^ 63 - 1
-  depth : depth c.parent.number c.e.nodes < greatest_depth
   small : is_small c ≡ true
 
 room_for : (c : Creation) → has_room c ≡ true → HasRoom c
 room_for c room =
-    let a = and_parts ((nat_lt (length c.e.nodes) greatest_count && nat_lt c.e.next (2 ^ 63 - 1)) && nat_lt (depth c.parent.number c.e.nodes) greatest_depth) (is_small c) room in
-    let b = and_parts (nat_lt (length c.e.nodes) greatest_count && nat_lt c.e.next (2 ^ 63 - 1)) (nat_lt (depth c.parent.number c.e.nodes) greatest_depth) a.0 in
-    let d = and_parts (nat_lt (length c.e.nodes) greatest_count) (nat_lt c.e.next (2 ^ 63 - 1)) b.0 in
-    record { count = ltb-true _ _ d.0; few = ltb-true _ _ d.1; depth = ltb-true _ _ b.1; small = a.1 }
+    let parts = and_parts (has_place c.e c.parent.number) (is_small c) room in
+    record { place = parts.0; few = (place_for c.e c.parent.number parts.0).few; small = parts.1 }
 
 takes_it : (c : Creation) → is_small c ≡ true → is_ty c.ty ContentInstance ≡ true → takes_instance c.parent (new_size c) ≡ true
 takes_it c small instance = rw instance at small
@@ -260,12 +258,10 @@ module _ (c : Creation) (sound : IsSoundEntity c.e) (originator : is_originator 
       let few : c.e.next < 2 ^ 63 - 1 = room.few in
       record {
         number = refl;
-        few = few;
         fits = and_from _ _ fitting taken;
         name = new_name_is_free c (omega arith) may.admitted;
         ids = list_all-append (is_known_id c.e.next) (ids_at Acpi r) (ids_at Macp r) ∙ and_from _ _ acpi_known macp_known;
-        depth = room.depth;
-        count = room.count;
+        room = room.place;
         kinds = new_kinds c originator (omega arith) (λ is. let small : new_size c ≤ 1048576 = small_size is in omega arith) may.admitted;
         tag = tagged;
         apart = cse_free.1;

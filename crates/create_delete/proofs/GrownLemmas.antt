@@ -28,6 +28,7 @@ use Rattle.create_delete.specs.Newcomer.{IsNewcomer}
 use Rattle.entity_model.specs.Sound.{is_known_id, has_known_ids, has_free_name, has_size, has_state_tag, is_shallow, is_within_limits, begins_with_base, cse_ids, are_distinct, has_one_channel, IsSoundEntity}
 use Rattle.entity_model.proofs.SoundLemmas.{all_weaker, IsFramed, framed_from, sound_framed}
 use Rattle.tree_model.specs.Shown.{own_cse_id}
+use Rattle.create_delete.proofs.RoomLemmas.{place_for}
 
 -- ---- tests over a list
 
@@ -222,8 +223,9 @@ framed_grown e r framed new =
     let tree = tree_from_well_formed e.nodes framed.tree in
     let parts = and_parts (may_stand e.nodes r) _ new.fits in
     let next : IsNext e.nodes r = next_fits e.nodes r parts.0 in
-    let small : e.next < 2 ^ 63 - 1 = new.few in
-    let few : length e.nodes < 100000 = new.count in
+    let place = place_for e r.parent new.room in
+    let small : e.next < 2 ^ 63 - 1 = place.few in
+    let few : length e.nodes < 100000 = place.count in
     let longer : length (e.nodes ++ r ∷ []) ≡ length e.nodes + 1 = length-append e.nodes (r ∷ []) in
     record {
       numbers = below_grown e.next e.nodes r framed.numbers new.number;
@@ -233,7 +235,7 @@ framed_grown e r framed new =
       base = base_grown e.home e.nodes r framed.base;
       names = all_grown has_free_name e.nodes r framed.names new.name;
       home = framed.home;
-      depth = shallow_grown e.nodes r tree next.number new.depth framed.depth;
+      depth = shallow_grown e.nodes r tree next.number place.depth framed.depth;
       count = omega arith;
       kinds = all_grown are_kinds e.nodes r framed.kinds new.kinds;
       tags = all_grown has_state_tag e.nodes r framed.tags new.tag;

@@ -20,6 +20,7 @@ pub mod ResultLemmas
 pub mod RightCreateLemmas
 pub mod RightLemmas
 pub mod RightUpdateLemmas
+pub mod RoomLemmas
 pub mod RowLemmas
 pub mod TellingLemmas
 pub mod ThoseLemmas

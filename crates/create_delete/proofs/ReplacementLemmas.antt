@@ -7,7 +7,6 @@ use Rattle.std.proofs.lemmas.List.Folds.{list_all-append}
 use Rattle.std.specs.List.{list_all}
 use Rattle.std.specs.Option.{option_map_or}
 use Rattle.m2m_names.specs.Attributes.{attr_short}
-use Rattle.m2m_names.specs.StampReading.{moment_at}
 use Rattle.m2m_names.specs.Stamps.{last_moment}
 use Rattle.m2m_names.specs.declared.attributes.Attr.{Attr}
 use Rattle.m2m_names.specs.declared.attributes.Attr.TheVariants.{Acpi, Aei, Csi, Et, Macp, St}
@@ -17,6 +16,8 @@ use Rattle.m2m_names.proofs.TypeLemmas.{same_type}
 use Rattle.m2m_value.specs.Data.{Data, Entry, number}
 use Rattle.m2m_value.specs.Node.{AreSorted}
 use Rattle.m2m_value.specs.View.{as_text, member_of}
+use Rattle.attribute_rules.specs.Admission.{is_named}
+use Rattle.request_rules.specs.Requests.{expiry_for, named_expiry}
 use Rattle.resource_model.specs.Attributes.{Row, is_attr, value_of}
 use Rattle.resource_model.specs.Resource.{ResourceData, is_ty, ae_id, cse_id}
 use Rattle.resource_model.proofs.AttributeLemmas.{value-with_value_same}
@@ -160,15 +161,15 @@ module _ (e : EntityData) (es : List Entry) (r : ResourceData) (sound : IsSoundE
   lasted = (let quiet : is_due e.nodes e.last r ≡ false = not-true _ not_due in leb-false r.et e.last (rw (types.0, types.1) at quiet))
 
   expires : e.last < expiry_after es r.et
-  expires = by_member (member_of (attr_short Et) es) may.later
+  expires = by_named (is_named Et es)
     where
       by_moment : (o : Option ℕ) → option_map_or (nat_lt e.last) o true ≡ true → e.last < unwrap_or o last_moment
       by_moment None t = (let most : e.last ≤ last_reading = sound.last in omega arith)
       by_moment (Some m) t = ltb-true e.last m t
 
-      by_member : (o : Option Data) → option_map_or (nat_lt e.last) (option_and_then moment_at (option_and_then as_text o)) true ≡ true → e.last < option_map_or (λ d. unwrap_or (option_and_then moment_at (as_text d)) last_moment) o r.et
-      by_member None t = lasted
-      by_member (Some d) t = by_moment (option_and_then moment_at (as_text d)) t
+      by_named : (b : Bool) → e.last < (if b then expiry_for es else r.et)
+      by_named true = by_moment (named_expiry es) may.later
+      by_named false = lasted
 
   pub replacement : IsReplacement e now
   replacement = record {

@@ -1,7 +1,7 @@
 -- The changes that an operation makes, one after another: what subscriptions and announced
 -- resources are told of (TS-0001, 9.6.8 and 9.6.26).
-use Rattle.std.specs.Prelude.{ℕ, Bool, not, List, [], ◌∷◌, ◌++◌, map, filter, Option, Some, None}
-use Rattle.std.specs.List.{filter_map, list_any}
+use Rattle.std.specs.Prelude.{ℕ, not, List, [], ◌∷◌, ◌++◌, map, filter, Option, Some, None}
+use Rattle.std.specs.List.{filter_map}
 use Rattle.std.specs.Option.{option_map_or}
 use Rattle.m2m_names.specs.Attributes.{attr_of_short}
 use Rattle.m2m_names.specs.declared.attributes.Attr.{Attr}
@@ -10,10 +10,11 @@ use Rattle.m2m_names.specs.declared.operations.Op.TheVariants.{Create, Retrieve,
 use Rattle.m2m_names.specs.declared.operations.Op.TheVariants.{Notify}
 use Rattle.m2m_value.specs.Data.{Entry}
 use Rattle.primitive_json.specs.declared.request.RequestParts.{RequestParts}
-use Rattle.resource_model.specs.Resource.{ResourceData, has_number}
+use Rattle.resource_model.specs.Resource.{ResourceData}
 use Rattle.resource_model.specs.declared.resource.Change.{Change}
 use Rattle.resource_model.specs.declared.resource.Change.TheVariants.{Created, Updated, Deleted}
-use Rattle.tree_model.specs.Tree.{at, has, line_of}
+use Rattle.tree_model.specs.Tree.{at, has}
+pub use Rattle.tree_model.specs.Tree.{is_at_or_below}
 use Rattle.entity_model.specs.Entity.{EntityData}
 use Rattle.request_rules.specs.Order.{fault_at}
 use Rattle.request_rules.specs.Requests.{named_by}
@@ -77,10 +78,6 @@ change_of (Deleted r) = deleted r.now
 -- the resources of these numbers, in the order of the numbers
 abbrev pub those_of : List ℕ → List ResourceData → List ResourceData
 those_of numbers nodes = filter_map (λ n. at n nodes) numbers
-
--- it is the resource of the number, or stands below it
-abbrev pub is_at_or_below : ℕ → List ResourceData → ResourceData → Bool
-is_at_or_below n nodes r = list_any (has_number n) (line_of r.number nodes)
 
 -- the changes that come first, if one is given
 abbrev pub first_of : Option Change → List ChangeData

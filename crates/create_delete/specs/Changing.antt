@@ -1,25 +1,21 @@
 -- What a Create, an Update and a Delete leave, and what they reply (TS-0001, 10.2; TS-0004, 7.3.3
 -- and 7.5.2).
 use Rattle.std.specs.Prelude.{ℕ, ℤ, pos, nat_eq, Bool, ◌||◌, List, [], ◌∷◌, ◌++◌}
-use Rattle.std.specs.Prelude.{◌+◌, codes, filter, Option, Some, None, option_and_then, unwrap_or}
-use Rattle.std.specs.Prelude.{if◌then◌else◌}
+use Rattle.std.specs.Prelude.{◌+◌, codes, filter, Option, Some, None, if◌then◌else◌}
 use Rattle.std.specs.List.{list_any}
 use Rattle.std.specs.Option.{option_map_or}
 use Rattle.std.specs.Ordering.{int_eq}
-use Rattle.m2m_names.specs.Attributes.{attr_short}
-use Rattle.m2m_names.specs.StampReading.{moment_at}
-use Rattle.m2m_names.specs.Stamps.{last_moment}
+use Rattle.m2m_names.specs.Members.{rce_name}
 use Rattle.m2m_names.specs.Types.{ty_member}
 use Rattle.m2m_names.specs.declared.attributes.Attr.{Attr}
 use Rattle.m2m_names.specs.declared.attributes.Attr.TheVariants.{Acpi, Et, Lt, Macp, St}
 use Rattle.m2m_names.specs.declared.codes.Rsc.TheVariants.{BadChild, Created, Deleted, NotAllowed}
-use Rattle.m2m_names.specs.declared.codes.Rsc.TheVariants.{NotFound, Updated}
+use Rattle.m2m_names.specs.declared.codes.Rsc.TheVariants.{Updated}
 use Rattle.m2m_names.specs.declared.operations.Op.{Op}
 use Rattle.m2m_names.specs.declared.operations.Op.TheVariants.{Create, Retrieve, Update, Delete}
 use Rattle.m2m_names.specs.declared.operations.Op.TheVariants.{Notify}
 use Rattle.m2m_names.specs.declared.types.Ty.TheVariants.{Container, ContentInstance}
 use Rattle.m2m_value.specs.Data.{Data, Entry, number, object, pairs_of, text}
-use Rattle.m2m_value.specs.View.{as_text, member_of}
 use Rattle.primitive_json.specs.declared.request.RequestParts.{RequestParts}
 use Rattle.resource_model.specs.Attributes.{Row, is_attr}
 use Rattle.resource_model.specs.Resource.{ResourceData, has_number, is_ty}
@@ -32,9 +28,10 @@ use Rattle.tree_model.specs.Tree.{at, instances_of, replaced, restamped_at, with
 use Rattle.request_rules.specs.Creation.{Creation, new_resource, new_size, next_state}
 use Rattle.entity_model.specs.Entity.{EntityData}
 use Rattle.request_rules.specs.Order.{creation_by, places}
-use Rattle.entity_model.specs.Places.{Effect, refused, reply_to, unless_refused, wanted_content}
+use Rattle.entity_model.specs.Places.{Effect, on_found, refused, reply_to, unless_refused}
+use Rattle.entity_model.specs.Places.{wanted_content}
 use Rattle.request_rules.specs.Policies.{link_row}
-use Rattle.request_rules.specs.Requests.{child_ty, named_by}
+use Rattle.request_rules.specs.Requests.{child_ty, expiry_for, named_by}
 use Rattle.create_delete.specs.declared.joining.Filling.{Filling}
 
 -- ---- what limits push out
@@ -90,7 +87,7 @@ address_last e r = text (structured_of r.number (e.nodes ++ r ∷ []))
 abbrev pub attributes_and_address : EntityData → ResourceData → Data
 attributes_and_address e r =
     object (pairs_of ((
-      codes "m2m:rce",
+      rce_name,
       object (pairs_of (
           (ty_member r.ty, object (pairs_of (members_of (shown_rows e.home e.nodes r))))
           ∷ (codes "uri", address_last e r) ∷ [])),
@@ -117,9 +114,7 @@ create_effect request c = record {
 -- the moment of expiry after an update: the one that is named, the last one where it is cleared,
 -- else the one before
 abbrev pub expiry_after : List Entry → ℕ → ℕ
-expiry_after es et =
-    option_map_or (λ d. unwrap_or (option_and_then moment_at (as_text d)) last_moment)
-    (member_of (attr_short Et) es) et
+expiry_after es et = if is_named Et es then expiry_for es else et
 
 -- a container counts its changes
 abbrev pub state_row : ResourceData → List Row
@@ -197,4 +192,4 @@ performed op e o request target =
 -- what comes of it on the resource of a number, which is looked up once
 abbrev pub performed_at : Op → EntityData → List ℕ → RequestParts → ℕ → Effect
 performed_at op e o request n =
-    option_map_or (performed op e o request) (at n e.nodes) (refused e request NotFound)
+    on_found e request (performed op e o request) (at n e.nodes)

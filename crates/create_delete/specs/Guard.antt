@@ -1,7 +1,6 @@
 -- What an operation may change, and by what right (TS-0001, 9.6.2).
 use Rattle.std.specs.Prelude.{◌≡◌, ◌≢◌, ◌⊎◌, ℕ, Bool, false, List, [], ◌∷◌, Some, None}
 use Rattle.std.specs.Prelude.{IsTrue, if◌then◌else◌}
-use Rattle.std.specs.List.{list_any}
 use Rattle.m2m_names.specs.Operations.{op_row}
 use Rattle.m2m_names.specs.declared.attributes.Attr.{Attr}
 use Rattle.m2m_names.specs.declared.attributes.Attr.TheVariants.{Acpi, St}
@@ -14,8 +13,8 @@ use Rattle.m2m_value.specs.Data.{Entry}
 use Rattle.m2m_value.specs.Node.{AreSorted}
 use Rattle.primitive_json.specs.declared.request.RequestParts.{RequestParts}
 use Rattle.resource_model.specs.Attributes.{value_of}
-use Rattle.resource_model.specs.Resource.{ResourceData, has_number, is_ty}
-use Rattle.tree_model.specs.Tree.{at, is_instance, line_of}
+use Rattle.resource_model.specs.Resource.{ResourceData, is_ty}
+use Rattle.tree_model.specs.Tree.{at, is_at_or_below, is_instance}
 use Rattle.policy_eval.specs.Alike.{is_attr_in}
 use Rattle.policy_eval.specs.Rights.{relinks}
 use Rattle.entity_model.specs.Entity.{EntityData}
@@ -82,7 +81,7 @@ may_push_out Notify e o n = false
 -- the target that the operation may push out.
 abbrev pub IsRemovedByRight : Op → EntityData → List ℕ → ℕ → ResourceData → Type 0
 IsRemovedByRight op before o n r =
-    (IsTrue (list_any (has_number n) (line_of r.number before.nodes))
+    (IsTrue (is_at_or_below n before.nodes r)
     × IsTrue (is_granted before o (op_row Delete).bit n))
     ⊎ (IsTrue (is_instance n r) × IsTrue (may_push_out op before o n))
 

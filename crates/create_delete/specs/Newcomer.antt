@@ -1,31 +1,26 @@
 -- What a resource has to be to come last in a sound entity, or to take the place of one (TS-0001,
 -- 9.6).
-use Rattle.std.specs.Prelude.{◌≡◌, ℕ, ◌-◌, ◌^◌, ◌<◌, bytes_eq, true, false, length, option_map}
-use Rattle.std.specs.Prelude.{Some}
-use Rattle.std.specs.Prelude.{IsTrue}
+use Rattle.std.specs.Prelude.{◌≡◌, ℕ, ◌^◌, ◌<◌, bytes_eq, true, false, option_map, Some, IsTrue}
 use Rattle.std.specs.Option.{option_map_or}
 use Rattle.m2m_names.specs.declared.types.Ty.TheVariants.{ContentInstance, PollingChannel}
 use Rattle.resource_model.specs.Resource.{ResourceData, is_ty, cse_id}
-use Rattle.tree_model.specs.Tree.{at, depth, fits_in, has_channel, is_due, instance_size, standing}
+use Rattle.tree_model.specs.Tree.{at, fits_in, has_channel, is_due, instance_size, standing}
 use Rattle.attribute_rules.specs.Kinds.{are_kinds}
-use Rattle.request_rules.specs.Creation.{takes_instance}
+use Rattle.request_rules.specs.Creation.{has_place, takes_instance}
 use Rattle.entity_model.specs.Entity.{EntityData}
-use Rattle.entity_model.specs.Sound.{greatest_count, greatest_depth, has_free_name, has_known_ids}
-use Rattle.entity_model.specs.Sound.{has_size, has_state_tag}
+use Rattle.entity_model.specs.Sound.{has_free_name, has_known_ids, has_size, has_state_tag}
 use Rattle.tree_model.specs.Shown.{own_cse_id}
 
--- It has the next number, which isn't the last one. Its parent is there and takes it, its name, its
--- AE-ID and its CSE-ID are free, its name addresses nothing else, and its policies are known. No
--- limit is passed, its attributes are those of its type, a container has its state tag, and it
--- isn't due yet. What its parent holds besides is said apart.
+-- It has the next number, and there is place for it. Its parent is there and takes it, its name, its
+-- AE-ID and its CSE-ID are free, its name addresses nothing else, and its policies are known. Its
+-- attributes are those of its type, a container has its state tag, and it isn't due yet. What its
+-- parent holds besides is said apart.
 pub record IsNewcomer (e : EntityData) (r : ResourceData) : Type 0 where
   pub number : r.number ≡ e.next
-  pub few : e.next < 2 ^ 63 - 1
+  pub room : IsTrue (has_place e r.parent)
   pub fits : IsTrue (fits_in e.nodes r)
   pub name : IsTrue (has_free_name r)
   pub ids : IsTrue (has_known_ids e.next r)
-  pub depth : depth r.parent e.nodes < greatest_depth
-  pub count : length e.nodes < greatest_count
   pub kinds : IsTrue (are_kinds r)
   pub tag : IsTrue (has_state_tag r)
   pub apart : option_map_or (bytes_eq (own_cse_id e.home)) (cse_id r) false ≡ false
