@@ -9,6 +9,7 @@ use Rattle.std.proofs.lemmas.Bool.{and_parts}
 use Rattle.std.proofs.lemmas.List.{append-nil}
 use Rattle.std.proofs.lemmas.List.Elements.{All-contains, All-from_recursion}
 use Rattle.m2m_names.specs.Attributes.{attr_short}
+use Rattle.m2m_names.specs.Members.{rce_name, uril_name}
 use Rattle.m2m_names.specs.declared.attributes.Attr.TheVariants.{Ri}
 use Rattle.m2m_names.specs.declared.codes.Rsc.{Rsc}
 use Rattle.m2m_names.specs.declared.codes.Rsc.TheVariants.{NoPrivilege, NotFound}
@@ -43,7 +44,7 @@ use Rattle.retrieve_discover.proofs.ToldLemmas.{AllOf, AllUnder, kept_beside, me
 -- ---- what an object under the name of a type tells
 
 unframed_under : (ty : Ty) (ms : List Entry) → unframed (under_type ty ms) ≡ under_type ty ms
-unframed_under ty ms = rw (off_types (codes "m2m:rce") refl ty) refl
+unframed_under ty ms = rw (off_types rce_name refl ty) refl
 
 pub ids_under : (ty : Ty) (ms : List Entry) → ids_below (under_type ty ms) ≡ map shown_id (values_under (pairs_of ms))
 ids_under ty ms = ap ids_shown (unframed_under ty ms) ∙ ap (map shown_id) (append-nil (values_under (pairs_of ms)))
@@ -55,7 +56,7 @@ references_under ty ms =
     ∙ ap (λ es. map shown_reference (listed_parts (member_of (codes "ch") es))) (entries-pairs_of ms)
 
 pub addresses_under : (ty : Ty) (ms : List Entry) → addresses_in (under_type ty ms) ≡ []
-addresses_under ty ms = rw (off_types (codes "m2m:uril") refl ty) refl
+addresses_under ty ms = rw (off_types uril_name refl ty) refl
 
 -- ---- lists of addresses
 

@@ -5,6 +5,7 @@ use Rattle.std.specs.BTreeMap.{insert_entry}
 use Rattle.std.specs.Cmp.Lexicographic.{slice_cmp}
 use Rattle.std.specs.List.{list_all}
 use Rattle.std.specs.Ordering.{int_eq, nat_cmp}
+use Rattle.m2m_names.specs.Members.{ch_name, val_name}
 use Rattle.m2m_names.specs.Types.{ty_member}
 use Rattle.m2m_value.specs.Data.{Data, Entry, list, object, text, elements_of, pairs_of}
 use Rattle.m2m_value.specs.View.{member_of}
@@ -49,7 +50,7 @@ referred home nodes o n =
 abbrev pub reference : Bool → List ResourceData → ResourceData → Data
 reference by_id nodes r = object (pairs_of (
     (codes "nm", text r.name) ∷ (codes "typ", shown_ty r.ty)
-    ∷ (codes "val", address by_id nodes r) ∷ []))
+    ∷ (val_name, address by_id nodes r) ∷ []))
 
 abbrev pub references : HomeData → List ResourceData → List ℕ → Bool → ℕ → Data
 references home nodes o by_id n =
@@ -97,11 +98,11 @@ whole home nodes o r = under_type r.ty
 
 abbrev pub with_references : HomeData → List ResourceData → List ℕ → Bool → ResourceData → Data
 with_references home nodes o by_id r = under_type r.ty
-    (with_member (codes "ch") (references home nodes o by_id r.number) (members home nodes r))
+    (with_member ch_name (references home nodes o by_id r.number) (members home nodes r))
 
 abbrev pub references_alone : HomeData → List ResourceData → List ℕ → Bool → ResourceData → Data
 references_alone home nodes o by_id r =
-    under_type r.ty ((codes "ch", references home nodes o by_id r.number) ∷ [])
+    under_type r.ty ((ch_name, references home nodes o by_id r.number) ∷ [])
 
 abbrev pub content : HomeData → List ResourceData → List ℕ → Bool → Option ℤ → ResourceData → Data
 content home nodes o by_id rcn r =

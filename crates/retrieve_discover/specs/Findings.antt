@@ -1,7 +1,8 @@
 -- What a discovery finds (TS-0001, 10.2.6; TS-0004, 7.5.2).
-use Rattle.std.specs.Prelude.{ℕ, min, Bool, ◌&&◌, List, [], ◌∷◌, map, filter, take, codes, Option}
+use Rattle.std.specs.Prelude.{ℕ, min, Bool, ◌&&◌, List, [], ◌∷◌, map, filter, take, Option}
 use Rattle.std.specs.Prelude.{unwrap_or, if◌then◌else◌}
 use Rattle.std.specs.Option.{option_map_or}
+use Rattle.m2m_names.specs.Members.{uril_name}
 use Rattle.m2m_value.specs.Data.{Data, list, object, text, elements_of, pairs_of}
 use Rattle.filter_criteria.specs.declared.filter.FilterParts.{FilterParts}
 use Rattle.resource_model.specs.Home.{HomeData}
@@ -44,7 +45,7 @@ address by_id nodes r = text (address_in by_id nodes r)
 
 -- a list of addresses (TS-0004, 8.4)
 abbrev pub address_list : List Data → Data
-address_list addresses = object (pairs_of ((codes "m2m:uril", list (elements_of addresses)) ∷ []))
+address_list addresses = object (pairs_of ((uril_name, list (elements_of addresses)) ∷ []))
 
 -- what is found by a filter, by its addresses; without a filter nothing is
 abbrev pub found_addresses : HomeData → List ResourceData → List ℕ → Bool → Option FilterParts →

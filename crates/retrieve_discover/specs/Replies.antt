@@ -8,6 +8,7 @@ use Rattle.m2m_value.specs.Data.{Data}
 use Rattle.primitive_json.specs.declared.reply.ReplyParts.{ReplyParts}
 use Rattle.primitive_json.specs.declared.request.RequestParts.{RequestParts}
 pub use Rattle.entity_model.specs.Places.{reply_to, refusal}
+use Rattle.entity_model.specs.Places.{absent}
 use Rattle.resource_model.specs.Home.{HomeData}
 use Rattle.resource_model.specs.Resource.{ResourceData}
 use Rattle.policy_eval.specs.Rights.{grants}
@@ -45,4 +46,4 @@ retrieved_of home nodes o request r =
 -- of the resource of the number
 abbrev pub retrieved : HomeData → List ResourceData → List ℕ → RequestParts → ℕ → ReplyParts
 retrieved home nodes o request n =
-    option_map_or (retrieved_of home nodes o request) (at n nodes) (refusal request NotFound)
+    option_map_or (retrieved_of home nodes o request) (at n nodes) (refusal request absent)

@@ -1,9 +1,10 @@
 -- What the content of a reply tells of resources other than the one that it shows first.
-use Rattle.std.specs.Prelude.{ℕ, Bool, List, [], ◌∷◌, ◌++◌, filter, map, bytes_eq, codes, Option}
+use Rattle.std.specs.Prelude.{ℕ, Bool, List, [], ◌∷◌, ◌++◌, filter, map, bytes_eq, Option}
 use Rattle.std.specs.Prelude.{option_and_then, unwrap_or, is_some, if◌then◌else◌}
 use Rattle.std.specs.List.{flat_map, list_any}
 use Rattle.std.specs.Option.{option_map_or}
 use Rattle.m2m_names.specs.Attributes.{attr_short}
+use Rattle.m2m_names.specs.Members.{ch_name, rce_name, uril_name, val_name}
 use Rattle.m2m_names.specs.Types.{all_types, ty_member}
 use Rattle.m2m_names.specs.declared.attributes.Attr.TheVariants.{Ri}
 use Rattle.m2m_value.specs.Data.{Data, null, boolean, number, text, list, object, Elements}
@@ -70,7 +71,7 @@ values_below (object ps) = values_under ps
 -- a content without the frame that the reply to a Create may put round the new resource and its
 -- address (TS-0004, 7.5.2)
 abbrev pub unframed : Data → Data
-unframed content = unwrap_or (member_at (codes "m2m:rce") content) content
+unframed content = unwrap_or (member_at rce_name content) content
 
 -- the resource ids of those that are shown below the first (TS-0004, 7.5.2)
 abbrev pub shown_id : Data → List ℕ
@@ -84,12 +85,12 @@ ids_below content = ids_shown (unframed content)
 
 -- the addresses of the children that it refers to
 abbrev pub shown_reference : Data → List ℕ
-shown_reference d = text_in (member_at (codes "val") d)
+shown_reference d = text_in (member_at val_name d)
 
 abbrev pub references_shown : Data → List (List ℕ)
 references_shown inner =
     map shown_reference
-    (flat_map (λ d. listed_parts (member_at (codes "ch") d)) (member_values inner))
+    (flat_map (λ d. listed_parts (member_at ch_name d)) (member_values inner))
 
 abbrev pub references_in : Data → List (List ℕ)
 references_in content = references_shown (unframed content)
@@ -97,4 +98,4 @@ references_in content = references_shown (unframed content)
 -- the addresses that were found (TS-0004, 7.5.2)
 abbrev pub addresses_in : Data → List (List ℕ)
 addresses_in content =
-    map (λ d. unwrap_or (as_text d) []) (listed_parts (member_at (codes "m2m:uril") content))
+    map (λ d. unwrap_or (as_text d) []) (listed_parts (member_at uril_name content))
