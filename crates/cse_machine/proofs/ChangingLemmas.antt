@@ -38,12 +38,12 @@ use Rattle.retrieve_discover.specs.Told.{addresses_in, ids_below, listed_parts, 
 use Rattle.retrieve_discover.proofs.RightLemmas.{addresses_under, ids_under, references_under}
 use Rattle.retrieve_discover.proofs.ToldLemmas.{none_referred, none_under}
 use Rattle.create_delete.specs.Changing.{create_effect, created_content, delete_effect, done_by, filling_of, performed, performed_at, told_rows, update_effect, updated_content, updated_resource}
-use Rattle.create_delete.specs.Guard.{IsRemovedByRight, NamesInOrder}
+use Rattle.create_delete.specs.Guard.{ChangesByRight, NamesInOrder}
 use Rattle.create_delete.proofs.RightLemmas.{changes_by_right}
 use Rattle.create_delete.proofs.DeletionLemmas.{is_deletable, deletable, delete_done}
 use Rattle.create_delete.proofs.JoinedLemmas.{joined_home, joined_last, joined_next}
 use Rattle.create_delete.proofs.PerformedLemmas.{done_at, no_right, refused_at}
-use Rattle.cse_machine.specs.Answer.{addressed, changing, on_found, to_resource}
+use Rattle.cse_machine.specs.Answer.{addressed, changing, operated_on, to_resource}
 use Rattle.cse_machine.specs.Guard.{is_success, DoesShow, HasRight, IsGuardedAlone}
 use Rattle.cse_machine.specs.Rights.{claimed_originator}
 
@@ -59,25 +59,25 @@ changing_at op e request t there =
 abbrev performed_of : Op → EntityData → RequestParts → List ℕ → Option ResourceData → Effect
 performed_of op e request o found = option_map_or (performed op e o request) found (refused e request NotFound)
 
-create_found : (e : EntityData) (request : RequestParts) (found : Option ResourceData) → on_found Create e request found ≡ performed_of Create e request (claimed_originator e.home request) found
+create_found : (e : EntityData) (request : RequestParts) (found : Option ResourceData) → operated_on Create e request found ≡ performed_of Create e request (claimed_originator e.home request) found
 unfolding changing
 create_found e request None = refl
 create_found e request (Some t) = refl
 
-update_found : (e : EntityData) (request : RequestParts) (found : Option ResourceData) → on_found Update e request found ≡ performed_of Update e request (claimed_originator e.home request) found
+update_found : (e : EntityData) (request : RequestParts) (found : Option ResourceData) → operated_on Update e request found ≡ performed_of Update e request (claimed_originator e.home request) found
 unfolding changing
 update_found e request None = refl
 update_found e request (Some t) = refl
 
-delete_found : (e : EntityData) (request : RequestParts) (found : Option ResourceData) → on_found Delete e request found ≡ performed_of Delete e request (claimed_originator e.home request) found
+delete_found : (e : EntityData) (request : RequestParts) (found : Option ResourceData) → operated_on Delete e request found ≡ performed_of Delete e request (claimed_originator e.home request) found
 unfolding changing
 delete_found e request None = refl
 delete_found e request (Some t) = refl
 
 -- of what is at a number, for its originator
-changes_to : (op : Op) (e : EntityData) (request : RequestParts) (o : List ℕ) (n : ℕ) → ((found : Option ResourceData) → on_found op e request found ≡ performed_of op e request (claimed_originator e.home request) found) → claimed_originator e.home request ≡ o → request.op ≡ op → to_resource e request (at n e.nodes) ≡ performed_at op e o request n
+changes_to : (op : Op) (e : EntityData) (request : RequestParts) (o : List ℕ) (n : ℕ) → ((found : Option ResourceData) → operated_on op e request found ≡ performed_of op e request (claimed_originator e.home request) found) → claimed_originator e.home request ≡ o → request.op ≡ op → to_resource e request (at n e.nodes) ≡ performed_at op e o request n
 changes_to op e request o n found by is =
-    ap (λ (p : Op). on_found p e request (at n e.nodes)) is
+    ap (λ (p : Op). operated_on p e request (at n e.nodes)) is
     ∙ found (at n e.nodes)
     ∙ ap (λ (t : List ℕ). performed_of op e request t (at n e.nodes)) by
 
@@ -273,15 +273,11 @@ module _ (e : EntityData) (request : RequestParts) (t : ResourceData) (there : a
       record {
         shown = shows_by_right op e request t there named is;
         others = told;
-        created = λ r new.
-            let made = by.created r new in
-            subst (λ (n : ℕ). is_granted e who (op_row Create).bit n ≡ true) (sym made.0) made.1;
-        changed = by.changed;
-        removed = λ r gone. record {
+        changes = inr (record {
           target = t;
           named = named;
-          right = subst (λ (p : Op). IsRemovedByRight p e who t.number r) (sym is) (by.removed r gone);
-        };
+          right = subst (λ (p : Op). ChangesByRight p e who t.number (performed_at op e who request t.number).after) (sym is) by;
+        });
       }
 
 -- ---- a Delete

@@ -1,7 +1,6 @@
 -- Nothing is shown or changed but by a grant.
 use Rattle.std.proofs.Common.{◌≡◌, ℕ, List, Bool, true, false, cond, Option, Some, None, inl, inr, refl, sym, ap, subst, ◌∙◌}
 use Rattle.std.proofs.lemmas.Bool.{false≢true, true≢false}
-use Rattle.std.proofs.lemmas.Option.{same_Some, none-some}
 use Rattle.m2m_names.specs.Name.{is_originator}
 use Rattle.m2m_names.specs.declared.codes.Rsc.{Rsc}
 use Rattle.m2m_names.specs.declared.operations.Op.{Op}
@@ -21,7 +20,7 @@ use Rattle.create_delete.specs.Changing.{delete_effect, performed_at}
 use Rattle.create_delete.specs.Guard.{NamesInOrder}
 use Rattle.create_delete.proofs.RightLemmas.{stays_sound}
 use Rattle.cse_machine.specs.Answer.{addressed, changing, does_serve, operated_by, reading_reply, effect_of}
-use Rattle.cse_machine.specs.Guard.{is_success, DoesShow, HasRight, IsNew, IsGone, IsChanged, IsGuardedAlone, fanned, IsGuardedAt, IsGuarded}
+use Rattle.cse_machine.specs.Guard.{is_success, DoesShow, HasRight, IsGuardedAlone, fanned, IsGuardedAt, IsGuarded}
 use Rattle.cse_machine.specs.Rights.{claimed_originator, has_right}
 use Rattle.cse_machine.proofs.ChangingLemmas.{changing_at, IsToldByRight, tells_nothing, shows_none, IsKept, still_kept, change_guarded, create_kept, create_told, delete_kept, delete_served, delete_told, update_kept, update_told}
 use Rattle.cse_machine.proofs.OwnLemmas.{apart_addresses}
@@ -29,25 +28,9 @@ use Rattle.cse_machine.proofs.WayLemmas.{IsOperated, Reading, refused_read, read
 
 -- ---- where nothing changes
 
-none_new : (nodes : List ResourceData) (r : ResourceData) → IsNew nodes nodes r → ⊥
-none_new nodes r new = none-some r (sym new.0 ∙ new.1)
-
-none_gone : (nodes : List ResourceData) (r : ResourceData) → IsGone nodes nodes r → ⊥
-none_gone nodes r gone = none-some r (sym gone.1 ∙ gone.0)
-
-none_changed : (nodes : List ResourceData) (r s : ResourceData) → IsChanged nodes nodes r s → ⊥
-none_changed nodes r s changed =
-    changed.differs (same_Some s r (sym changed.is ∙ ap (λ (n : ℕ). at n nodes) changed.same ∙ changed.was))
-
 -- a reply that leaves the entity as it is
 still : (e : EntityData) (request : RequestParts) (reply : ReplyParts) → (DoesShow reply → HasRight e request) → IsToldByRight e request reply → IsGuardedAlone e request reply e
-still e request reply shown others = record {
-  shown = shown;
-  others = others;
-  created = λ r new. absurd (none_new e.nodes r new);
-  changed = λ r s change. absurd (none_changed e.nodes r s change);
-  removed = λ r gone. absurd (none_gone e.nodes r gone);
-}
+still e request reply shown others = record { shown = shown; others = others; changes = inl refl }
 
 -- ---- what comes of a request
 

@@ -2,7 +2,6 @@ pub mod PlaceLemmas
 pub mod OwnLemmas
 pub mod WayLemmas
 pub mod ChangingLemmas
-pub mod FormLemmas
 pub mod GuardLemmas
 pub mod HistoryLemmas
 pub mod SightLemmas

@@ -44,7 +44,7 @@ use Rattle.retrieve_discover.specs.Replies.{discovered, retrieved}
 use Rattle.retrieve_discover.proofs.AnswerLemmas.{retrieved-seen}
 use Rattle.retrieve_discover.proofs.SightLemmas.{discovered-seen}
 use Rattle.create_delete.specs.Changing.{delete_effect, performed}
-use Rattle.cse_machine.specs.Answer.{is_served, first_places, changing, operated_by, on_found, reading_reply, to_resource, at_spot, effect_of}
+use Rattle.cse_machine.specs.Answer.{is_served, first_places, changing, operated_by, operated_on, reading_reply, to_resource, at_spot, effect_of}
 use Rattle.request_rules.specs.Rights.{is_discovery}
 use Rattle.cse_machine.specs.Rights.{claimed_originator}
 use Rattle.cse_machine.specs.Sight.{sight, shape, does_cover, IsRequestBy, SightHasItsShape, EqualSightsHaveOneShape}
@@ -170,7 +170,7 @@ module _ (e : EntityData) (o : List ℕ) (well : is_well_formed e.nodes ≡ true
   operated_seen Delete request r covered by = delete_seen request r by
   operated_seen Notify request r covered by = absurd (false≢true covered)
 
-  found_seen : (op : Op) (request : RequestParts) (found : Option ResourceData) → does_cover op ≡ true → claimed_originator e.home request ≡ o → AreSeenAlike o (on_found op seeing request (option_map see found)) (on_found op e request found)
+  found_seen : (op : Op) (request : RequestParts) (found : Option ResourceData) → does_cover op ≡ true → claimed_originator e.home request ≡ o → AreSeenAlike o (operated_on op seeing request (option_map see found)) (operated_on op e request found)
   found_seen op request None covered by = record { reply = refl; after = sight_twice }
   found_seen op request (Some r) covered by = operated_seen op request r covered by
 

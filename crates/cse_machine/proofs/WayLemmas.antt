@@ -19,7 +19,7 @@ use Rattle.entity_model.specs.Entity.{EntityData}
 use Rattle.entity_model.specs.Places.{Effect, refusal, refused}
 use Rattle.retrieve_discover.specs.Replies.{discovered, retrieved, retrieved_of}
 use Rattle.cse_machine.specs.Answer.{does_serve, is_served, has_originator, has_address, is_in_time, is_blocking, operated_by, reading_reply, resource_at, addressed, to_resource, at_spot, effect_of}
-use Rattle.cse_machine.specs.Form.{is_of_kinds}
+use Rattle.primitive_json.specs.Form.{has_form}
 use Rattle.cse_machine.specs.Guard.{is_success, fan_group, fanned}
 use Rattle.request_rules.specs.Rights.{is_discovery}
 use Rattle.cse_machine.specs.Rights.{claimed_originator}
@@ -60,8 +60,8 @@ module _ (e : EntityData) (request : RequestParts) where
   on_spot : (spot : Option Spot) → does_serve request.op request ≡ true → has_originator e.home request ≡ true → spot_named e.home request.to e.nodes ≡ spot → Ways (at_spot e request spot)
   on_spot None served by is = inl (NotFound, refl, refl)
   on_spot (Some (Resource n)) served by is = on_resource n (at n e.nodes) served by is refl
-  on_spot (Some (Fan group rest)) served by is = inl (BadRequest, refl, refl)
-  on_spot (Some (Poll channel)) served by is = inl (BadRequest, refl, refl)
+  on_spot (Some (Fan group rest)) served by is = inl (NotFound, refl, refl)
+  on_spot (Some (Poll channel)) served by is = inl (NotFound, refl, refl)
 
   abbrev spot_is : Option Spot
   spot_is = spot_named e.home request.to e.nodes
@@ -69,7 +69,7 @@ module _ (e : EntityData) (request : RequestParts) where
   pub two_ways : Ways (effect_of e request)
   two_ways = elim (cases_Bool (is_served request)) [
     | inr f ↦ inl (BadRequest, refl, rw f refl)
-    | inl s ↦ elim (cases_Bool (is_of_kinds request)) [
+    | inl s ↦ elim (cases_Bool (has_form request)) [
       | inr f ↦ inl (BadRequest, refl, rw (s, f) refl)
       | inl k ↦ elim (cases_Bool (has_originator e.home request)) [
         | inr f ↦ inl (BadRequest, refl, rw (s, k, f) refl)

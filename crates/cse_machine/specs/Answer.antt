@@ -1,11 +1,10 @@
 -- What a CSE answers a request (TS-0001, 10.2; TS-0004, 7.2 and 7.3.3).
 use Rattle.std.specs.Prelude.{◌≡◌, ℕ, pos, nat_lt, Bool, true, false, not, ◌&&◌, List, [], ◌∷◌}
-use Rattle.std.specs.Prelude.{codes, Option, Some, None, is_ok, is_some, option_and_then}
-use Rattle.std.specs.Prelude.{unwrap_or, if◌then◌else◌}
+use Rattle.std.specs.Prelude.{Option, Some, is_ok, is_some, option_and_then, if◌then◌else◌}
 use Rattle.std.specs.Option.{option_map_or}
 use Rattle.std.specs.Ordering.{int_eq}
 use Rattle.m2m_names.specs.declared.codes.Rsc.TheVariants.{BadRequest, Internal, NonBlocking}
-use Rattle.m2m_names.specs.declared.codes.Rsc.TheVariants.{NotFound, RequestTimeout}
+use Rattle.m2m_names.specs.declared.codes.Rsc.TheVariants.{RequestTimeout}
 use Rattle.m2m_names.specs.declared.operations.Op.{Op}
 use Rattle.m2m_names.specs.declared.operations.Op.TheVariants.{Create, Retrieve, Update, Delete}
 use Rattle.m2m_names.specs.declared.operations.Op.TheVariants.{Notify}
@@ -16,6 +15,8 @@ use Rattle.m2m_names.specs.declared.types.Ty.TheVariants.{PollingChannel, Remote
 use Rattle.m2m_names.specs.declared.types.Ty.TheVariants.{AccessControlPolicyAnnc, AeAnnc}
 use Rattle.m2m_names.specs.declared.types.Ty.TheVariants.{ContainerAnnc, ContentInstanceAnnc}
 use Rattle.m2m_names.specs.declared.types.Ty.TheVariants.{GroupAnnc}
+use Rattle.primitive_json.specs.Form.{has_form}
+use Rattle.primitive_json.specs.Laws.{IsOfKinds}
 use Rattle.primitive_json.specs.Members.{creates}
 use Rattle.primitive_json.specs.declared.reply.ReplyParts.{ReplyParts}
 use Rattle.primitive_json.specs.declared.request.RequestParts.{RequestParts}
@@ -26,11 +27,11 @@ use Rattle.resource_model.specs.Resource.{ResourceData, is_ty}
 use Rattle.tree_model.specs.Tree.{at}
 use Rattle.addressing.specs.Addresses.{address_of}
 use Rattle.addressing.specs.Laws.{spot_named}
+use Rattle.addressing.specs.Names.{spot_resource}
 use Rattle.addressing.specs.Short.{short_of}
 use Rattle.addressing.specs.declared.spot.Spot.{Spot}
-use Rattle.addressing.specs.declared.spot.Spot.TheVariants.{Resource, Fan, Poll}
 use Rattle.entity_model.specs.Entity.{EntityData}
-use Rattle.entity_model.specs.Places.{refusal, Effect, answering, refused, Place, unless}
+use Rattle.entity_model.specs.Places.{refusal, Effect, answering, on_found, Place, unless}
 use Rattle.entity_model.specs.Places.{unless_refused}
 use Rattle.retrieve_discover.specs.Replies.{discovered, retrieved}
 use Rattle.create_delete.specs.Changing.{performed}
@@ -39,8 +40,7 @@ use Rattle.cse_machine.specs.declared.event.Outcome.{Outcome}
 use Rattle.cse_machine.specs.declared.event.Outcome.TheVariants.{Done}
 use Rattle.request_rules.specs.Requests.{child_ty}
 use Rattle.request_rules.specs.Rights.{is_discovery}
-use Rattle.cse_machine.specs.Form.{is_of_kinds}
-use Rattle.cse_machine.specs.Rights.{claimed_originator}
+use Rattle.cse_machine.specs.Rights.{asking, claimed_originator}
 
 -- the reply where memory ran out
 abbrev pub starved : RequestParts → ReplyParts
@@ -88,10 +88,10 @@ abbrev pub is_registration : RequestParts → Bool
 is_registration request =
     creates request.op && option_map_or (λ ty. is_ty ty Ae) (child_ty request) false
 
--- whom it says that asks; an application entity that registers without a word of it asks as `C`
+-- whom it says that asks; only an application entity that registers needs no word of it
 abbrev pub said_originator : RequestParts → Option (List ℕ)
 said_originator request =
-    if is_registration request then Some (unwrap_or request.fr (codes "C")) else request.fr
+    if is_registration request then Some (asking request) else request.fr
 
 -- it says who asks, by a text that has a short form (TS-0001, 7.2 and 8.1.2)
 abbrev pub has_originator : HomeData → RequestParts → Bool
@@ -129,10 +129,15 @@ originator_places e request =
     unless (has_originator e.home request) BadRequest ∷ address_places e request
 
 abbrev pub form_places : EntityData → RequestParts → List Place
-form_places e request = unless (is_of_kinds request) BadRequest ∷ originator_places e request
+form_places e request = unless (has_form request) BadRequest ∷ originator_places e request
 
 abbrev pub first_places : EntityData → RequestParts → List Place
 first_places e request = unless (is_served request) BadRequest ∷ form_places e request
+
+-- A request of its kinds isn't refused for its form; so is each of them that is read from a value or
+-- from a frame.
+abbrev pub KindsHaveTheForm : Type 0
+KindsHaveTheForm = (request : RequestParts) → IsOfKinds request → has_form request ≡ true
 
 -- ---- one operation
 
@@ -161,31 +166,25 @@ operated_by Notify e request target = changing Notify e request target
 
 -- the resource at what an address names
 abbrev pub resource_at : List ResourceData → Spot → Option ResourceData
-resource_at nodes (Resource n) = at n nodes
-resource_at nodes (Fan group rest) = None
-resource_at nodes (Poll channel) = None
+resource_at nodes spot = option_and_then (λ n. at n nodes) (spot_resource spot)
 
 -- the resource that an address names (TS-0001, 9.3.1)
 abbrev pub addressed : EntityData → List ℕ → Option ResourceData
 addressed e to = option_and_then (resource_at e.nodes) (spot_named e.home to e.nodes)
 
 -- what an operation gives on the resource that was found, if one was
-abbrev pub on_found : Op → EntityData → RequestParts → Option ResourceData → Effect
-on_found op e request None = refused e request NotFound
-on_found op e request (Some target) = operated_by op e request target
+abbrev pub operated_on : Op → EntityData → RequestParts → Option ResourceData → Effect
+operated_on op e request found = on_found e request (operated_by op e request) found
 
 -- what a request to a resource gives
 abbrev pub to_resource : EntityData → RequestParts → Option ResourceData → Effect
-to_resource e request found = on_found request.op e request found
+to_resource e request found = operated_on request.op e request found
 
--- what a request gives at what its address names. That this is nothing comes before any right; so
--- does a foreign address, as no request goes on to another CSE yet. Fan-out points and poll points
--- aren't served yet.
+-- what a request gives at what its address names. That this is no resource comes before any right;
+-- so does a foreign address, as no request goes on to another CSE yet, and so do fan-out points and
+-- poll points, as they aren't served yet.
 abbrev pub at_spot : EntityData → RequestParts → Option Spot → Effect
-at_spot e request None = to_resource e request None
-at_spot e request (Some (Resource n)) = to_resource e request (at n e.nodes)
-at_spot e request (Some (Fan group rest)) = refused e request BadRequest
-at_spot e request (Some (Poll channel)) = refused e request BadRequest
+at_spot e request spot = to_resource e request (option_and_then (resource_at e.nodes) spot)
 
 -- what comes of a request at what its address names, unless one of these places refuses it
 abbrev pub judged_at : List Place → EntityData → RequestParts → Option Spot → Effect

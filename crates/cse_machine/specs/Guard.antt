@@ -1,16 +1,16 @@
 -- What a request may show, and what it may change.
 use Rattle.std.specs.Prelude.{◌≡◌, ◌≢◌, ◌⊎◌, ℕ, ◌≤◌, Bool, true, false, List, [], ◌∷◌, ◌++◌, Option, Some}
 use Rattle.std.specs.Prelude.{None, option_and_then, IsTrue, codes, map}
-use Rattle.std.specs.Int.{is_in_range}
 use Rattle.std.specs.List.{All}
 use Rattle.m2m_names.specs.Operations.{op_row}
-use Rattle.m2m_names.specs.StatusCodes.{rsc_row}
-use Rattle.m2m_names.specs.declared.codes.Rsc.{Rsc}
+pub use Rattle.m2m_names.specs.StatusCodes.{is_success}
 use Rattle.m2m_names.specs.declared.codes.Rsc.TheVariants.{Deleted, Ok as Fine}
-use Rattle.m2m_names.specs.declared.operations.Op.TheVariants.{Create, Retrieve, Delete}
+use Rattle.m2m_names.specs.declared.operations.Op.TheVariants.{Retrieve, Delete}
 use Rattle.m2m_value.specs.Data.{Data, text, list, object, elements_of, pairs_of}
 use Rattle.filter_criteria.specs.Values.{object_of}
+use Rattle.primitive_json.specs.Members.{name_of_member}
 use Rattle.primitive_json.specs.Writing.{reply_rows}
+use Rattle.primitive_json.specs.declared.member.Member.TheVariants.{Target}
 use Rattle.primitive_json.specs.declared.reply.ReplyParts.{ReplyParts}
 use Rattle.primitive_json.specs.declared.request.RequestParts.{RequestParts}
 use Rattle.resource_model.specs.Resource.{ResourceData}
@@ -24,22 +24,17 @@ use Rattle.entity_model.specs.Places.{reply_to}
 use Rattle.entity_model.specs.Sound.{IsSoundEntity}
 use Rattle.retrieve_discover.specs.Guard.{OthersAreShownByRight}
 use Rattle.create_delete.specs.Changing.{delete_effect}
-use Rattle.create_delete.specs.Guard.{IsChangedByRight, IsRemovedByRight}
-pub use Rattle.create_delete.specs.Guard.{IsChanged, IsGone, IsNew}
+use Rattle.create_delete.specs.Guard.{ChangesByRight}
 use Rattle.cse_machine.specs.declared.event.Event.{Event}
 use Rattle.cse_machine.specs.declared.event.Event.TheVariants.{Ask}
 use Rattle.cse_machine.specs.declared.event.Outcome.{Outcome}
 use Rattle.cse_machine.specs.declared.event.Outcome.TheVariants.{Done, Starved}
 use Rattle.cse_machine.specs.Answer.{addressed}
 use Rattle.cse_machine.specs.History.{History, HistoryLeaves}
-use Rattle.cse_machine.specs.Rights.{claimed_originator, has_privilege, has_right}
+use Rattle.cse_machine.specs.Rights.{claimed_originator, has_right}
 use Rattle.cse_machine.specs.Step.{Step}
 
 -- ---- what is shown
-
--- the status says that the request was served (TS-0004, 6.6.3)
-abbrev pub is_success : Rsc → Bool
-is_success rsc = is_in_range 2000 2999 (rsc_row rsc).number
 
 -- the reply shows something: it has content, or it says that the request was served
 abbrev pub DoesShow : ReplyParts → Type 0
@@ -52,15 +47,16 @@ pub record HasRight (e : EntityData) (request : RequestParts) : Type 0 where
   pub named : addressed e request.to ≡ Some target
   pub right : IsTrue (has_right e request target.number)
 
--- ---- what is removed
+-- ---- what is changed
 
--- the resource is gone by right from what the request addresses
-pub record IsRemovedAsAddressed (before : EntityData) (request : RequestParts)
-    (r : ResourceData) : Type 0 where
+-- on the resource that its address names the operation changes nothing but by a grant to the
+-- originator of the request
+pub record ChangesAsAddressed (before : EntityData) (request : RequestParts)
+    (after : EntityData) : Type 0 where
   pub target : ResourceData
   pub named : addressed before request.to ≡ Some target
-  pub right : IsRemovedByRight request.op before (claimed_originator before.home request)
-      target.number r
+  pub right : ChangesByRight request.op before (claimed_originator before.home request)
+      target.number after
 
 -- ---- what is guarded
 
@@ -71,12 +67,7 @@ pub record IsGuardedAlone (before : EntityData) (request : RequestParts) (reply 
   pub shown : DoesShow reply → HasRight before request
   pub others : OthersAreShownByRight before.home before.nodes
       (claimed_originator before.home request) reply
-  pub created : (r : ResourceData) → IsNew before.nodes after.nodes r
-      → IsTrue (has_privilege Create before request r.parent)
-  pub changed : (r s : ResourceData) → IsChanged before.nodes after.nodes r s
-      → IsChangedByRight before (claimed_originator before.home request) after r s
-  pub removed : (r : ResourceData) → IsGone before.nodes after.nodes r
-      → IsRemovedAsAddressed before request r
+  pub changes : (after ≡ before) ⊎ ChangesAsAddressed before request after
 
 -- ---- a fan-out
 
@@ -110,7 +101,7 @@ AreGuarded before (single ∷ singles) after =
 -- what the reply to a fan-out tells of one operation: its reply, and where it went (TS-0004, 7.5.2)
 abbrev pub gathered_one : Single → Data
 gathered_one single =
-    object_of (reply_rows single.reply ++ (codes "to", Some (text single.request.to)) ∷ [])
+    object_of (reply_rows single.reply ++ (name_of_member Target, Some (text single.request.to)) ∷ [])
 
 -- an object of one member
 abbrev pub object_with : List ℕ → Data → Data

@@ -1,5 +1,4 @@
 pub mod Rights
-pub mod Form
 pub mod Answer
 pub mod Step
 pub mod History

@@ -1,22 +1,19 @@
 -- Whom a request is judged as, and the right that it needs (TS-0001, 9.6.2).
 use Rattle.std.specs.Prelude.{ℕ, Bool, List, unwrap_or, codes}
-use Rattle.m2m_names.specs.Operations.{op_row}
-use Rattle.m2m_names.specs.declared.operations.Op.{Op}
 use Rattle.primitive_json.specs.declared.request.RequestParts.{RequestParts}
 use Rattle.resource_model.specs.Home.{HomeData}
 use Rattle.addressing.specs.Short.{shortened}
 use Rattle.entity_model.specs.Entity.{EntityData}
-use Rattle.request_rules.specs.Rights.{is_granted, may_do}
+use Rattle.request_rules.specs.Rights.{may_do}
 
--- whom a request is judged as, in the short form (TS-0001, 7.2): without an originator as `C`, from
--- an application entity that registers (TS-0001, 10.2.2.2)
+-- who asks: without a word of it `C`, as from an application entity that registers (TS-0001,
+-- 10.2.2.2)
+abbrev pub asking : RequestParts → List ℕ
+asking request = unwrap_or request.fr (codes "C")
+
+-- whom a request is judged as, in the short form (TS-0001, 7.2)
 abbrev pub claimed_originator : HomeData → RequestParts → List ℕ
-claimed_originator home request = shortened home (unwrap_or request.fr (codes "C"))
-
--- the originator of the request has the right to do this operation to the resource of the number
-abbrev pub has_privilege : Op → EntityData → RequestParts → ℕ → Bool
-has_privilege op e request n =
-    is_granted e (claimed_originator e.home request) (op_row op).bit n
+claimed_originator home request = shortened home (asking request)
 
 -- the originator has the right that the request needs on the resource of the number
 abbrev pub has_right : EntityData → RequestParts → ℕ → Bool

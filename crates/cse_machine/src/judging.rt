@@ -12,11 +12,10 @@ ghost use Rattle.request_rules.specs.Rights.{sole};
 ghost use Rattle.create_delete.specs.Guard.{NamesInOrder};
 ghost use Rattle.cse_machine.specs.Answer as spec;
 
-use crate::form::creates;
 use entity_model::Entity;
 use m2m_names::{Op, Ty};
 use m2m_value::{Members, Val};
-use primitive_json::{Request, When};
+use primitive_json::{Request, When, creates};
 use request_rules::child_ty;
 use tree_model::Tree;
 

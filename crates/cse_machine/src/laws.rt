@@ -1,5 +1,5 @@
 //! Laws of the machine, over its definitions.
-ghost use Rattle.cse_machine.specs.Form.{KindsHaveTheForm};
+ghost use Rattle.cse_machine.specs.Answer.{KindsHaveTheForm};
 ghost use Rattle.cse_machine.specs.Guard.{StepsAreGuarded, HistoriesAreGuarded};
 ghost use Rattle.cse_machine.specs.Guard.{RefusalsChangeNothing, RetrievesChangeNoResource};
 ghost use Rattle.cse_machine.specs.Guard.{WantOfMemoryChangesNothing};

@@ -1,34 +1,30 @@
 //! One event after another.
-ghost use Rattle.std.specs.Prelude.{◌≡◌, ◌<◌, IfOk, IfSome, IsTrue, Ok, OnErr, OnOk, option_map};
+ghost use Rattle.std.specs.Prelude.{◌≡◌, IfOk, IfSome, IsTrue, Ok, OnErr, OnOk, option_map};
 ghost use Rattle.std.specs.Prelude.{option_and_then};
 ghost use Rattle.m2m_names.specs.Name.{is_originator};
 ghost use Rattle.m2m_names.specs.declared.operations.Op.TheVariants.{Retrieve};
 ghost use Rattle.tree_model.specs.Tree.{at, has};
 ghost use Rattle.addressing.specs.Addresses.{GivesAddress, address_of};
 ghost use Rattle.addressing.specs.Laws.{spot_named, named_here};
-ghost use Rattle.addressing.specs.Names.{IsLocal, segments_of, spot_of};
 ghost use Rattle.addressing.specs.Short.{short_of};
 ghost use Rattle.cse_machine.specs.Answer.{address_places, at_spot, effect_of, judged_at};
-ghost use Rattle.cse_machine.specs.Answer.{form_places, on_found, reading_reply, time_places};
+ghost use Rattle.cse_machine.specs.Answer.{form_places, operated_on, reading_reply, time_places};
 ghost use Rattle.cse_machine.specs.Answer.{to_resource};
 ghost use Rattle.cse_machine.specs.Answer as spec;
 ghost use Rattle.cse_machine.specs.Rights.{claimed_originator};
 ghost use Rattle.cse_machine.specs.Step.{Step};
 
 use crate::event::{Event, Outcome};
-use crate::form::is_of_kinds;
 use crate::judging::{is_blocking, is_in_time, is_served, said_originator, tell_order};
-use addressing::{Addr, AddrFault, Spot, parse, resolve, short_fr};
+use addressing::{Addr, AddrFault, Spot, name_spot, parse, short_fr};
 use create_delete::{create, delete, update};
 use entity_model::{Entity, refuse, sweep};
 use m2m_names::{Op, Rsc};
-use primitive_json::{Reply, Request};
+use primitive_json::{Reply, Request, has_form};
 use request_rules::{find, is_discovery};
 use retrieve_discover::{discover, retrieve};
 use std::alloc::{AllocError as OutOfMemory, Global};
-use std::marker::Brand;
-use std::sync::ledger::{Blank, Ledger};
-use tree_model::{Steps, Tree};
+use tree_model::Tree;
 
 /// Takes one event at a reading of the clock, in seconds since 1970: what is due by then is
 /// removed, and the request is answered on what is left. Where memory runs out, nothing has changed
@@ -86,7 +82,7 @@ fn answer_served<T: Tree>(
         (spot_named entity.old.home request.now.to entity.old.nodes)).after) }
     ensures err { OnErr result (entity.new ≡ entity.old) }
 {
-    if !is_of_kinds(request) {
+    if !has_form(request) {
         return refuse(alloc, request, Rsc::BadRequest);
     }
     match originator(entity, request) {
@@ -162,7 +158,7 @@ fn answer_at<T: Tree>(
     if !is_blocking(request) {
         return refuse(alloc, request, Rsc::NonBlocking);
     }
-    let spot = named(entity, addr);
+    let spot = name_spot(&entity.tree, addr);
     reach(alloc, entity, request, o, spot)
 }
 
@@ -182,32 +178,9 @@ fn reach<T: Tree>(
     ensures err { OnErr result (entity.new ≡ entity.old) }
 {
     match spot {
-        None => refuse(alloc, request, Rsc::NotFound),
         Some(Spot::Resource(number)) => operate(alloc, entity, request, o, number),
-        Some(Spot::Fan { .. }) => refuse(alloc, request, Rsc::BadRequest),
-        Some(Spot::Poll(_)) => refuse(alloc, request, Rsc::BadRequest),
+        Some(Spot::Fan { .. } | Spot::Poll(_)) | None => refuse(alloc, request, Rsc::NotFound),
     }
-}
-
-// What an address names here. Steps aren't counted.
-fn named<T: Tree>(entity: &Entity<T>, addr: &Addr) -> Option<Spot>
-    ensures { result ≡ named_here (Ok addr.now) entity.now.nodes }
-{
-    match addr {
-        Addr::Local(_) => resolved::<T, Brand>(&entity.tree, addr, Blank::new(1)),
-        _ => None,
-    }
-}
-
-fn resolved<T: Tree, L: Ledger>(tree: &T, addr: &Addr, blank: Blank) -> Option<Spot>
-    requires local { IsLocal addr.now }
-    requires name { blank.name ≡ L.name }
-    requires parts { blank.parts ≡ L.parts }
-    requires some { 0 < blank.parts }
-    ensures { result ≡ spot_of (segments_of addr.now) (T.nodes tree.now) }
-{
-    let mut steps = Steps::<L>::new(blank);
-    resolve(tree, addr, &mut steps)
 }
 
 // What it gives on the resource of a number.
@@ -247,7 +220,7 @@ fn read<T: Tree>(
     requires originator { IsTrue (is_originator o.now) }
     requires claimed { claimed_originator entity.now.home request.now ≡ o.now }
     ensures { IfOk result (λ r. r
-        ≡ (on_found Retrieve entity.now request.now (at number entity.now.nodes)).reply) }
+        ≡ (operated_on Retrieve entity.now request.now (at number entity.now.nodes)).reply) }
 {
     match find(entity, number) {
         Some(target) => read_resource(alloc, entity, request, o, target.number()),

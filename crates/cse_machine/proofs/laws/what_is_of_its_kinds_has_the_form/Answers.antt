@@ -1,5 +1,4 @@
-use Rattle.cse_machine.proofs.FormLemmas.{has_the_form}
 use Rattle.cse_machine.proofs.laws.what_is_of_its_kinds_has_the_form.Goals as goal
 
 pub returns : goal.returns
-returns c = has_the_form
+returns c = λ request is. is.form
