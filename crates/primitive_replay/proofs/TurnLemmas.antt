@@ -19,7 +19,7 @@ use Rattle.cse_server.proofs.WayLemmas.{Tells-nil}
 use Rattle.primitive_replay.specs.Front.{HasNoEnd, held_limit}
 use Rattle.primitive_replay.specs.Script.{AsksLines, StopsRightly, Replays, ReplaysFrom, Writes, WritesMost, reply_line, script}
 use Rattle.primitive_replay.specs.Stream.{BeginsBadly, BeginsWithLines, LeadsTo, NextIs, HoldsLittle}
-use Rattle.primitive_replay.specs.Way.{RepliesTo, GoesOn, WritesReply, TakesLine, fault_status}
+use Rattle.primitive_replay.specs.Way.{RepliesTo, ReplaysUpTo, WritesReply, TakesLine, fault_status}
 use Rattle.primitive_replay.specs.declared.fault.LineFault.{LineFault}
 use Rattle.primitive_replay.specs.declared.fault.LineFault.TheVariants.{Bad, ReadFault as Unread, OutOfMemory as Starved}
 use Rattle.primitive_replay.specs.declared.line.Line.{Line}
@@ -104,7 +104,7 @@ little held left few = record { held = held; rest_is = refl; few = few }
 pub line_goes : (place reading now : ℕ) (before after : EntityData) (old on : Outside) (line : Line)
     → LeadsTo place old.left (line ∷ []) on.left
     → TakesLine reading now before after old.exchanges on.exchanges old.written on.written line None
-    → GoesOn place (place + 1) reading now before after old on
+    → ReplaysUpTo place (place + 1) reading now before after old on
 line_goes place reading now before after old on line leads t = record {
   heard = line ∷ [];
   asks = t.asks;
@@ -179,7 +179,7 @@ pub line_next : (place reading now : ℕ) (before after : EntityData) (stream : 
     → LeadsTo place stream (line ∷ []) (prepend_known held left)
     → TakesLine reading now before after told more old new line status
     → MatchOption status
-    (GoesOn place (place + 1) reading now before after (outside stream old None told) (outside (prepend_known held left) new None more))
+    (ReplaysUpTo place (place + 1) reading now before after (outside stream old None told) (outside (prepend_known held left) new None more))
     (ReplaysFrom place reading before after (outside stream old None told) (outside left new None more))
 line_next place reading now before after stream held left old new told more line None few leads t =
     line_goes place reading now before after (outside stream old None told) (outside (prepend_known held left) new None more) line leads t
@@ -267,7 +267,7 @@ fault_ends fault place reading e stream held left out told few next none = recor
 -- ---- before the first line
 
 pub goes_none : (place reading : ℕ) (e : EntityData) (held : List ℕ) (left out : Option (List ℕ)) (told : Option (List Exchange)) → held ≡ []
-    → GoesOn place place reading reading e e (outside left out None told) (outside (prepend_known held left) out None told)
+    → ReplaysUpTo place place reading reading e e (outside left out None told) (outside (prepend_known held left) out None told)
 goes_none place reading e held left out told empty = record {
   heard = [];
   asks = asks_nothing reading e told;

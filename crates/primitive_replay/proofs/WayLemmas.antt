@@ -23,7 +23,7 @@ use Rattle.cse_server.proofs.RepliesLemmas.{gives-append}
 use Rattle.cse_server.proofs.WayLemmas.{Tells-append}
 use Rattle.primitive_replay.specs.Script.{request_on, requests_on, next_reading, reading_behind, readings_on, AsksLines, reply_line, script, WritesMost, Writes, StopsRightly, ReplaysFrom}
 use Rattle.primitive_replay.specs.Stream.{AreLines, BeginsWithLines, LeadsTo}
-use Rattle.primitive_replay.specs.Way.{GoesOn}
+use Rattle.primitive_replay.specs.Way.{ReplaysUpTo}
 use Rattle.primitive_replay.specs.declared.line.Line.{Line}
 use Rattle.primitive_replay.specs.declared.line.Line.TheVariants.{Empty, Reading, Ask}
 
@@ -154,10 +154,10 @@ Writes-then BadStream old put new rs ss a b = absurd b
 
 -- ---- what goes on, and then goes on or ends
 
-pub GoesOn-then : (place between next reading then now : ℕ) (before entity after : EntityData) (old mid new : Outside)
-    → GoesOn place between reading then before entity old mid → GoesOn between next then now entity after mid new
-    → GoesOn place next reading now before after old new
-GoesOn-then place between next reading then now before entity after old mid new a b = record {
+pub ReplaysUpTo-then : (place between next reading then now : ℕ) (before entity after : EntityData) (old mid new : Outside)
+    → ReplaysUpTo place between reading then before entity old mid → ReplaysUpTo between next then now entity after mid new
+    → ReplaysUpTo place next reading now before after old new
+ReplaysUpTo-then place between next reading then now before entity after old mid new a b = record {
   heard = a.heard ++ b.heard;
   asks = asks-append reading then before entity after old.exchanges mid.exchanges new.exchanges a.heard b.heard a.reads a.asks b.asks;
   places = sym (joined_place place between a.heard b.heard a.places) ∙ b.places;
@@ -167,7 +167,7 @@ GoesOn-then place between next reading then now before entity after old mid new 
 }
 
 pub Replays-then : (place between reading then : ℕ) (before entity after : EntityData) (old mid new : Outside) (status : Status)
-    → GoesOn place between reading then before entity old mid → ReplaysFrom between then entity after mid new status
+    → ReplaysUpTo place between reading then before entity old mid → ReplaysFrom between then entity after mid new status
     → ReplaysFrom place reading before after old new status
 Replays-then place between reading then before entity after old mid new status a b = record {
   heard = a.heard ++ b.heard;

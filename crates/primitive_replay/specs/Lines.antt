@@ -32,9 +32,9 @@ abbrev pub request_of_text : List ℕ → Option RequestParts
 request_of_text text = option_and_then request_of_value (result_ok (reading text))
 
 -- what a line is: nothing stands on it; or `@` (64) and a reading; or a request
-abbrev pub line_of : List ℕ → Option Line
-line_of [] = Some Empty
-line_of (b ∷ text) =
+abbrev pub line_read : List ℕ → Option Line
+line_read [] = Some Empty
+line_read (b ∷ text) =
     if b == 64 then option_map Reading (number_spelled text)
     else option_map Ask (request_of_text (b ∷ text))
 
@@ -42,7 +42,7 @@ line_of (b ∷ text) =
 -- many bytes, or stands behind the last line that there may be
 abbrev pub line_at : ℕ → List ℕ → Option Line
 line_at place text =
-    if nat_le place most_lines && nat_le (length text) line_limit then line_of text else None
+    if nat_le place most_lines && nat_le (length text) line_limit then line_read text else None
 
 -- what a line is told to be, unless memory runs out
 abbrev pub GivesLine : Result Line LineFault → Option Line → Type 0

@@ -55,7 +55,7 @@ pub record TakesLine (reading now : ℕ) (before after : EntityData)
   pub said : WritesReply status old new (script asks.replies)
 
 -- It goes on: the lines from this place up to the next were taken and answered.
-pub record GoesOn (place next reading now : ℕ) (before after : EntityData)
+pub record ReplaysUpTo (place next reading now : ℕ) (before after : EntityData)
     (old new : Outside) : Type 0 where
   pub heard : List Line
   pub asks : AsksLines reading before after old.exchanges new.exchanges heard

@@ -59,8 +59,8 @@ fn request_line(
     }
 }
 
-fn line_of(alloc: Global, scratch: &mut Scratch, text: &[u8]) -> Result<Option<Line>, OutOfMemory>
-    ensures { IfOk result (λ line. line ≡ spec.line_of text.now) }
+fn line_read(alloc: Global, scratch: &mut Scratch, text: &[u8]) -> Result<Option<Line>, OutOfMemory>
+    ensures { IfOk result (λ line. line ≡ spec.line_read text.now) }
 {
     if text.is_empty() {
         return Ok(Some(Line::Empty));
@@ -84,7 +84,7 @@ pub(crate) fn line_at(
     if place > MOST_LINES || text.len() > LINE_LIMIT {
         return Err(LineFault::Bad);
     }
-    match line_of(alloc, scratch, text)? {
+    match line_read(alloc, scratch, text)? {
         Some(line) => Ok(line),
         None => Err(LineFault::Bad),
     }

@@ -7,7 +7,7 @@ ghost use Rattle.entity_model.specs.Opening.{opening};
 ghost use Rattle.primitive_replay.specs.Front.{held_limit};
 ghost use Rattle.primitive_replay.specs.Lines.{most_lines};
 ghost use Rattle.primitive_replay.specs.Script.{Replays, ReplaysFrom};
-ghost use Rattle.primitive_replay.specs.Way.{GoesOn, TakesLine, fault_status};
+ghost use Rattle.primitive_replay.specs.Way.{ReplaysUpTo, TakesLine, fault_status};
 
 use crate::answer::{put_reply, reply_to};
 use crate::fault::LineFault;
@@ -80,7 +80,7 @@ fn replay_next<T: Tree, S: Source, O: Sink, L: Link>(
         let new = outside (S.left input.new) (O.written out.new) None (L.exchanges link.new) in
         let on = record new { left = prepend_known held.new (S.left input.new) } in
         MatchOption result
-        (GoesOn place (place + 1) reading.old reading.new entity.old entity.new old on)
+        (ReplaysUpTo place (place + 1) reading.old reading.new entity.old entity.new old on)
         (ReplaysFrom place reading.old entity.old entity.new old new) }
     ensures place { result ≡ None → place ≤ most_lines }
     ensures read_count { S.faults input.old ≤ S.faults input.new }

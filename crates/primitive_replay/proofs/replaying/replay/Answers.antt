@@ -4,9 +4,9 @@ use Rattle.m2m_io.specs.Outside.{outside}
 use Rattle.m2m_io.specs.declared.status.Status.TheVariants.{ReadFault, WriteFault}
 use Rattle.entity_model.specs.Entity.{EntityData}
 use Rattle.entity_model.specs.Opening.{opening}
-use Rattle.primitive_replay.specs.Way.{GoesOn}
+use Rattle.primitive_replay.specs.Way.{ReplaysUpTo}
 use Rattle.primitive_replay.proofs.TurnLemmas.{goes_none, is_none, next_goes, starved_first}
-use Rattle.primitive_replay.proofs.WayLemmas.{GoesOn-then, Replays-then}
+use Rattle.primitive_replay.proofs.WayLemmas.{ReplaysUpTo-then, Replays-then}
 use Rattle.primitive_replay.proofs.replaying.replay.Goals as goal
 
 pub returns-in_default-clause-replays : goal.returns-in_default-clause-replays
@@ -24,7 +24,7 @@ returns-in_default-opened-clause-replays g c = record {
 pub loop-place-init : goal.loop-place-init
 loop-place-init g c = record {
   place = omega arith;
-  goes = subst (λ (e : EntityData). GoesOn 1 1 0 0 (opening c.args.home 0) e
+  goes = subst (λ (e : EntityData). ReplaysUpTo 1 1 0 0 (opening c.args.home 0) e
       (outside (g.S.Source.left c.args.input.now) (g.O.Sink.written c.args.out.now) None (g.L.Link.exchanges c.args.link.now))
       (outside (prepend_known c.in-Ok.held (g.S.Source.left c.args.input.now)) (g.O.Sink.written c.args.out.now) None (g.L.Link.exchanges c.args.link.now)))
       (sym c.in-Ok-opened.ensures)
@@ -48,7 +48,7 @@ loop-place-preserved g c =
     let few = c.replay_next.ensures.place (is_none c.replay_next.result on) in
     record {
       place = omega (arith, few);
-      goes = GoesOn-then 1 c.loop-place.place (c.loop-place.place + 1) 0 c.loop-place.reading c.replay_next.new.reading (opening c.args.home 0) c.loop-place.entity c.replay_next.new.entity _ _ _ c.loop-place.invariant.goes next;
+      goes = ReplaysUpTo-then 1 c.loop-place.place (c.loop-place.place + 1) 0 c.loop-place.reading c.replay_next.new.reading (opening c.args.home 0) c.loop-place.entity c.replay_next.new.entity _ _ _ c.loop-place.invariant.goes next;
       read_steady = c.replay_next.ensures.read_steady (on ReadFault) ∙ c.loop-place.invariant.read_steady;
       write_steady = c.replay_next.ensures.write_steady (on WriteFault) ∙ c.loop-place.invariant.write_steady;
       link = c.replay_next.ensures.link ∙ c.loop-place.invariant.link;
