@@ -1,6 +1,6 @@
 -- Soundness: of the entity as it opens, and of what a removal leaves.
-use Rattle.std.specs.Prelude.{◌==◌, nat_le}
-use Rattle.std.proofs.Common.{◌≡◌, ℕ, ◌-◌, ◌^◌, ◌≤◌, List, [], ◌∷◌, ◌++◌, length, take, Bool, true, false, cond, not, ◌&&◌, ◌||◌, Option, Some, None, if◌then◌else◌, inl, inr, refl, sym, ap, ◌∙◌, subst, arith, bytes_eq}
+use Rattle.std.specs.Prelude.{◌==◌, nat_le, nat_lt}
+use Rattle.std.proofs.Common.{◌≡◌, ℕ, ◌-◌, ◌^◌, ◌<◌, ◌≤◌, List, [], ◌∷◌, ◌++◌, length, take, Bool, true, false, cond, not, ◌&&◌, ◌||◌, Option, Some, None, if◌then◌else◌, inl, inr, refl, sym, ap, ◌∙◌, subst, arith, bytes_eq}
 use Rattle.std.proofs.lemmas.Bool.{cases_Bool, and_parts, and_from, or_cases, or_parts, or_from, or_left, or_right, not-true, not_from_false, leb-true, le-leb, both_ways, false_from_ne_true, eq-eqb}
 use Rattle.std.proofs.lemmas.List.{append-nil}
 use Rattle.std.proofs.lemmas.List.Elements.{filter-append}
@@ -13,7 +13,8 @@ use Rattle.m2m_names.specs.declared.types.Ty.{Ty}
 use Rattle.m2m_names.specs.declared.types.Ty.TheVariants.{AccessControlPolicy, Ae, Container, ContentInstance, CseBase, Group, PollingChannel, RemoteCse, Subscription, AccessControlPolicyAnnc, AeAnnc, ContainerAnnc, ContentInstanceAnnc, GroupAnnc}
 use Rattle.resource_model.specs.Attributes.{count_at}
 use Rattle.resource_model.specs.Home.{HomeData, IsHome, is_base_name, is_cse_type}
-use Rattle.resource_model.specs.Resource.{ResourceData, is_ty, cse_id}
+use Rattle.resource_model.specs.Resource.{ResourceData, id_of, is_ty, cse_id}
+use Rattle.m2m_value.specs.Data.{text}
 use Rattle.tree_model.specs.Shown.{own_cse_id}
 use Rattle.tree_model.specs.Tree.{at, has, are_below, stays, staying, without, is_spared, is_kin, is_instance, instance_size, is_due_under, is_due, age_end, live, is_root, is_taken, fits_in, is_well_formed, is_tree}
 use Rattle.tree_model.proofs.ChangeLemmas.{count-without, sum-without, no_deeper}
@@ -27,7 +28,8 @@ use Rattle.attribute_rules.specs.Kinds.{are_kinds}
 use Rattle.container_limits.specs.Limits.{is_within}
 use Rattle.entity_model.specs.Entity.{EntityData, last_reading, cut, event_moment, swept}
 use Rattle.entity_model.specs.Opening.{opening_base, opening_policy, opening_nodes, opening}
-use Rattle.entity_model.specs.Sound.{has_known_ids, has_free_name, has_size, has_state_tag, is_shallow, is_within_limits, begins_with_base, cse_ids, are_distinct, has_one_channel, spares_first, greatest_count, IsSoundEntity}
+use Rattle.policy_eval.proofs.NameLemmas.{policy_number-id_of}
+use Rattle.entity_model.specs.Sound.{is_known_id, has_known_ids, has_free_name, has_size, has_state_tag, is_shallow, is_within_limits, begins_with_base, cse_ids, are_distinct, has_one_channel, spares_first, greatest_count, IsSoundEntity}
 use Rattle.entity_model.proofs.RemovalLemmas.{staying_length}
 
 -- ---- tests over a list
@@ -312,11 +314,22 @@ policy_kinds home moment admitted = rw admitted refl
 opening_kinds : (home : HomeData) (moment : ℕ) → is_originator home.admin ≡ true → list_all are_kinds (opening_base home moment ∷ opening_policy home moment ∷ []) ≡ true
 opening_kinds home moment admitted = and_from (are_kinds (opening_base home moment)) _ refl (and_from (are_kinds (opening_policy home moment)) _ (policy_kinds home moment admitted) refl)
 
+-- the policy that the CSEBase names is there
+opening_known : (home : HomeData) (moment : ℕ) → is_known_id 3 (text (id_of (opening_policy home moment))) ≡ true
+opening_known home moment =
+    let small : 2 < 2 ^ 63 = omega arith in
+    ap (λ (o : Option ℕ). option_map_or (λ n. nat_lt n 3) o true) (policy_number-id_of (opening_policy home moment) refl small)
+
+opening_ids : (home : HomeData) (moment : ℕ) → list_all (has_known_ids 3) (opening_nodes home moment) ≡ true
+opening_ids home moment =
+    and_from (has_known_ids 3 (opening_base home moment)) (list_all (has_known_ids 3) (opening_policy home moment ∷ []))
+    (and_from (is_known_id 3 (text (id_of (opening_policy home moment)))) true (opening_known home moment) refl) refl
+
 pub sound_opening : (home : HomeData) (reading : ℕ) → IsHome home → IsSoundEntity (opening home reading)
 sound_opening home reading is = record {
   numbers = refl;
   next = omega arith;
-  ids = refl;
+  ids = opening_ids home (cut reading);
   tree = refl;
   base = (bytes_eq-Decides home.base home.base).1 refl;
   names = opening_names home (cut reading) (base_admitted home is);
