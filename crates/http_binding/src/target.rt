@@ -58,7 +58,7 @@ fn are_of_query(text: &[u8]) -> bool
 }
 
 /// Where the mark first stands, or the length.
-pub(crate) fn index_of(mark: u8, text: &[u8]) -> usize
+pub fn index_of(mark: u8, text: &[u8]) -> usize
     ensures value { result ≡ uri.index_of mark text.now }
     ensures within { result ≤ length text.now }
 {
