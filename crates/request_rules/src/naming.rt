@@ -1,23 +1,39 @@
 //! Names and identifiers of what is created.
 ghost use Rattle.std.specs.Prelude.{◌≡◌, ◌++◌, IfOk, IfSome, IsTrue, IsUtf8};
 ghost use Rattle.std.specs.Prelude.{option_map, unwrap_or};
+ghost use Rattle.std.specs.Fmt.{decimal};
 ghost use Rattle.m2m_names.specs.Ids as ids;
 ghost use Rattle.m2m_names.specs.Name.{is_originator};
 ghost use Rattle.m2m_names.specs.declared.types.Ty.TheVariants.{Ae};
 ghost use Rattle.attribute_rules.specs.Contents.{named_text};
 ghost use Rattle.request_rules.specs.Creation as spec;
 
+use itoa::Buffer;
 use m2m_names::{Attr, Ty, is_name};
 use m2m_value::{Members, Text};
 use std::alloc::{AllocError as OutOfMemory, Global};
+
+/// Room for a short word, a mark and a number.
+const ROOM: usize = 32;
+
+/// A word, a mark behind it, and a number in decimal digits.
+fn numbered(alloc: Global, word: &str, mark: &str, number: u64) -> Result<Text, OutOfMemory>
+    ensures value { IfOk result (λ t. t ≡ word.now ++ mark.now ++ decimal number) }
+    ensures utf8 { IfOk result (λ t. IsUtf8 t) }
+{
+    let mut text = String::with_capacity(alloc, ROOM)?;
+    text.push_str(word)?;
+    text.push_str(mark)?;
+    text.push_str(Buffer::new().format(number))?;
+    Ok(Text::of(text.into_bytes()))
+}
 
 /// The resource id of a type and a number.
 pub(crate) fn id_text(alloc: Global, ty: Ty, number: u64) -> Result<Text, OutOfMemory>
     ensures value { IfOk result (λ t. t ≡ ids.id_text ty number) }
     ensures utf8 { IfOk result (λ t. IsUtf8 t) }
 {
-    let id = format!(in alloc; "{}{}", ty.word(), number)?;
-    Ok(Text::of(id.into_bytes()))
+    numbered(alloc, ty.word(), "", number)
 }
 
 /// The name that a resource of a type and a number has where none is given.
@@ -25,8 +41,7 @@ pub(crate) fn own_name(alloc: Global, ty: Ty, number: u64) -> Result<Text, OutOf
     ensures value { IfOk result (λ t. t ≡ spec.own_name ty number) }
     ensures utf8 { IfOk result (λ t. IsUtf8 t) }
 {
-    let name = format!(in alloc; "{}_{}", ty.word(), number)?;
-    Ok(Text::of(name.into_bytes()))
+    numbered(alloc, ty.word(), "_", number)
 }
 
 /// The text that a content names at an attribute.
