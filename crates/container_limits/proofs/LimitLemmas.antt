@@ -1,16 +1,17 @@
 -- What the limits leave, and what goes.
 use Rattle.std.specs.Prelude.{nat_lt}
 use Rattle.std.proofs.Common.{◌≡◌, ℕ, zero, suc, ◌+◌, ◌-◌, ◌<◌, ◌≤◌, List, [], ◌∷◌, ◌++◌, length, map, take, drop, Bool, true, false, not, ◌&&◌, ◌||◌, Option, Some, None, option_to_list, unwrap_or, inl, inr, refl, sym, ap, ◌∙◌, arith, append_assoc, length-append}
-use Rattle.std.proofs.lemmas.Bool.{cases_Bool, or_parts, ltb-true, ltb-false}
+use Rattle.std.proofs.lemmas.Bool.{cases_Bool, or_parts, false≢true, ltb-true, ltb-false}
 use Rattle.std.proofs.lemmas.List.{append-nil, drop_all, map-append, take-append-drop}
 use Rattle.std.proofs.lemmas.List.Elements.{filter-append}
 use Rattle.std.proofs.lemmas.List.Filters.{length-filter_both, sum_by-filter_both}
 use Rattle.std.proofs.lemmas.List.Sums.{sum_by-append}
 use Rattle.std.proofs.Math.Numerals.{suc-eq-add-one}
 use Rattle.std.specs.List.{filter, list_any, slice_get, sum_by}
+use Rattle.std.specs.Option.{is_none}
 use Rattle.resource_model.specs.Resource.{ResourceData}
 use Rattle.tree_model.specs.Tree.{has, instance_size}
-use Rattle.container_limits.specs.Limits.{is_within, do_fit, suffixes, longest_fit, is_due_by, lasts, goes, going, kept, evicted, numbers_of}
+use Rattle.container_limits.specs.Limits.{is_within, is_unlimited, do_fit, suffixes, longest_fit, is_due_by, lasts, goes, going, kept, evicted, numbers_of}
 use Rattle.container_limits.specs.declared.limits.Limits.{Limits}
 use Rattle.tree_model.proofs.OrderLemmas.{ascend}
 use Rattle.container_limits.proofs.PlaceLemmas.{drop_step, lacked_all}
@@ -166,6 +167,21 @@ gone_start rs outside mia moment now none =
     ap (λ (ns : List ℕ). ns ++ numbers_of (going (outside - 0) mia moment rs)) none ∙ ap (λ (n : ℕ). numbers_of (going n mia moment rs)) same
 
 -- where the rest has none that goes, the numbers so far are all
+-- where it is known that none is due, and none stands outside, none goes
+pub gone_none : (rs : List ResourceData) (outside : ℕ) (mia : Option ℕ) (moment : ℕ) → outside ≡ 0 → list_any (is_due_by mia moment) rs ≡ false → numbers_of (going outside mia moment rs) ≡ []
+gone_none rs outside mia moment first none =
+    ap (λ (n : ℕ). numbers_of (going n mia moment rs)) first ∙ ap numbers_of (none_end mia moment rs none)
+
+-- without limits on their count and sizes, all stay
+unlimited_by : (mni mbs mia new : Option ℕ) (rs : List ResourceData) → (is_none mni && is_none mbs) ≡ true → longest_fit (record { mni = mni; mbs = mbs; mia = mia }) new rs ≡ rs
+unlimited_by None None mia new [] h = refl
+unlimited_by None None mia new (r ∷ rs) h = refl
+unlimited_by None (Some most) mia new rs h = absurd (false≢true h)
+unlimited_by (Some most) mbs mia new rs h = absurd (false≢true h)
+
+pub fit_unlimited : (limits : Limits) (new : Option ℕ) (rs : List ResourceData) → is_unlimited limits ≡ true → longest_fit limits new rs ≡ rs
+fit_unlimited limits new rs h = unlimited_by limits.mni limits.mbs limits.mia new rs h
+
 pub gone_quiet : (rs : List ResourceData) (k outside : ℕ) (mia : Option ℕ) (moment : ℕ) (now all : List ℕ) → outside ≤ k → list_any (is_due_by mia moment) rs ≡ false → now ++ numbers_of (going (outside - k) mia moment (drop k rs)) ≡ all → now ≡ all
 gone_quiet rs k outside mia moment now all past none rest =
     let zero_left : outside - k ≡ 0 = omega arith in

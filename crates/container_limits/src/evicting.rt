@@ -6,7 +6,7 @@ ghost use Rattle.container_limits.specs.Limits.{lasts, goes, going, kept, evicte
 ghost use Rattle.container_limits.specs.Limits.{IsQuiet};
 
 use crate::instances::{is_quiet, lasting_total, total, with_new, without};
-use crate::limits::{Limits, Total, is_due_by, is_total_within};
+use crate::limits::{Limits, Total, is_due_by, is_total_within, is_unlimited};
 use m2m_value::Numbers;
 use resource_model::Resource;
 use std::alloc::{AllocError as OutOfMemory, Global};
@@ -36,8 +36,29 @@ pub fn evictions<T: Tree>(
     Ok(Numbers::of(gone(alloc, tree, container, limits.mia, moment, outside, quiet)?))
 }
 
-// How many of the oldest instances stand before those that stay.
+// How many of the oldest instances stand before those that stay. Where neither the count nor the sum
+// of sizes has a limit, none is looked at.
 fn count_outside<T: Tree>(
+    tree: &T,
+    container: u64,
+    limits: Limits,
+    new_size: Option<u64>,
+    moment: u64,
+    quiet: bool,
+) -> u64
+    requires { IsQuiet quiet limits.mia moment (instances_of container (T.nodes tree.now)) }
+    ensures { kept limits new_size moment (instances_of container (T.nodes tree.now))
+        ≡ filter (lasts limits.mia moment) (drop result
+        (instances_of container (T.nodes tree.now))) }
+{
+    if is_unlimited(limits) {
+        return 0;
+    }
+    count_before_fit(tree, container, limits, new_size, moment, quiet)
+}
+
+// The same, by going over the oldest ones until the rest is within the limits.
+fn count_before_fit<T: Tree>(
     tree: &T,
     container: u64,
     limits: Limits,
@@ -85,8 +106,31 @@ fn total_of<T: Tree>(tree: &T, container: u64, mia: Option<u64>, moment: u64, qu
     }
 }
 
-// The numbers of the oldest ones, and of those after them that are due.
+// The numbers of the oldest ones, and of those after them that are due. Where it is known that none
+// goes, none is looked at.
 fn gone<T: Tree>(
+    alloc: Global,
+    tree: &T,
+    container: u64,
+    mia: Option<u64>,
+    moment: u64,
+    outside: u64,
+    quiet: bool,
+) -> Result<Vec<u64>, OutOfMemory>
+    requires { IsQuiet quiet mia moment (instances_of container (T.nodes tree.now)) }
+    ensures value { IfOk result (λ v. v.items
+        ≡ numbers_of (going outside mia moment (instances_of container (T.nodes tree.now)))) }
+    ensures memory { OnErr result
+        (numbers_of (going outside mia moment (instances_of container (T.nodes tree.now))) ≢ []) }
+{
+    if outside == 0 && quiet {
+        return Ok(Vec::new(alloc));
+    }
+    some_gone(alloc, tree, container, mia, moment, outside, quiet)
+}
+
+// The same, by going over the instances.
+fn some_gone<T: Tree>(
     alloc: Global,
     tree: &T,
     container: u64,

@@ -3,6 +3,7 @@ pub mod BodyLemmas
 pub mod ChunkLemmas
 pub mod FrameLemmas
 pub mod HeadLemmas
+pub mod HeldLemmas
 pub mod InboxLemmas
 pub mod LinesLemmas
 pub mod LookLemmas

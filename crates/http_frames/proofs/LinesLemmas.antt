@@ -7,18 +7,12 @@ use Rattle.std.proofs.lemmas.Slice.Eq.{bytes_eq-Decides}
 use Rattle.std.proofs.lemmas.Bool.Decides.{same_from_decides}
 use Rattle.http_frames.specs.declared.lines.Found.{Found}
 use Rattle.http_frames.specs.declared.lines.Found.TheVariants.{Absent, One, Repeated}
-use Rattle.http_frames.specs.Lines.{Line, is_same_name, values_named, IfOne, IsFound, found_with}
+use Rattle.http_frames.specs.Lines.{Line, is_same_name, values_named, IfOne, IsFound, found_as, found_with_line, found_with}
 
 -- what is found once these values come behind what was found so far
 abbrev pub found_behind : Found (List ℕ) → List (List ℕ) → Found (List ℕ)
 found_behind found [] = found
 found_behind found (value ∷ values) = found_behind (found_with found value) values
-
--- the same with what its value stands for
-abbrev pub found_as : {T : Type 0} → (T → List ℕ) → Found T → Found (List ℕ)
-found_as view Absent = Absent
-found_as view (One value) = One (view value)
-found_as view Repeated = Repeated
 
 pub found_as-with : {T : Type 0} (view : T → List ℕ) (found : Found T) (value : T)
     → found_as view (found_with found value) ≡ found_with (found_as view found) (view value)
@@ -88,6 +82,39 @@ ScansTo-other view name lines i found next line inside is other e so_far =
     let more = values_named_more name lines i line inside is ∙ ap (λ b. cond b (line.1 ∷ rest) rest) other in
     ap (λ (f : Found _). found_behind (found_as view f) rest) e
     ∙ sym (ap (found_behind (found_as view found)) more) ∙ so_far
+
+-- what is found with one more line, which has the name or another
+pub line_same : {T : Type 0} (view : T → List ℕ) (found next : Found T) (value : T) (name : List ℕ) (line : Line)
+    → is_same_name line.0 name ≡ true → next ≡ found_with found value → view value ≡ line.1
+    → found_as view next ≡ found_with_line (found_as view found) name line
+line_same view found next value name line same e shown =
+    ap (found_as view) e ∙ found_as-with view found value ∙ ap (λ v. found_with (found_as view found) v) shown
+    ∙ sym (ap (λ b. cond b (found_with (found_as view found) line.1) (found_as view found)) same)
+
+pub line_other : {T : Type 0} (view : T → List ℕ) (found next : Found T) (name : List ℕ) (line : Line)
+    → is_same_name line.0 name ≡ false → next ≡ found → found_as view next ≡ found_with_line (found_as view found) name line
+line_other view found next name line other e =
+    ap (found_as view) e ∙ sym (ap (λ b. cond b (found_with (found_as view found) line.1) (found_as view found)) other)
+
+-- one more line, whatever name it has
+next_by : {T : Type 0} (view : T → List ℕ) (name : List ℕ) (lines : List Line) (i : ℕ) (found next : Found T) (line : Line)
+    (same : Bool) → i < length lines → line ≡ get_or lines i line → is_same_name line.0 name ≡ same
+    → found_as view next ≡ cond same (found_with (found_as view found) line.1) (found_as view found)
+    → ScansTo view name lines i found → ScansTo view name lines (i + 1) next
+next_by view name lines i found next line true inside is same e so_far =
+    let rest = values_named name (drop (i + 1) lines) in
+    let more = values_named_more name lines i line inside is ∙ ap (λ b. cond b (line.1 ∷ rest) rest) same in
+    ap (λ (f : Found _). found_behind f rest) e ∙ sym (ap (found_behind (found_as view found)) more) ∙ so_far
+next_by view name lines i found next line false inside is same e so_far =
+    let rest = values_named name (drop (i + 1) lines) in
+    let more = values_named_more name lines i line inside is ∙ ap (λ b. cond b (line.1 ∷ rest) rest) same in
+    ap (λ (f : Found _). found_behind f rest) e ∙ sym (ap (found_behind (found_as view found)) more) ∙ so_far
+
+pub ScansTo-next : {T : Type 0} (view : T → List ℕ) (name : List ℕ) (lines : List Line) (i : ℕ) (found next : Found T)
+    (line : Line) → i < length lines → line ≡ get_or lines i line → found_as view next ≡ found_with_line (found_as view found) name line
+    → ScansTo view name lines i found → ScansTo view name lines (i + 1) next
+ScansTo-next view name lines i found next line inside is e so_far =
+    next_by view name lines i found next line (is_same_name line.0 name) inside is refl e so_far
 
 -- no line is left
 pub ScansTo-end : {T : Type 0} (view : T → List ℕ) (name : List ℕ) (lines : List Line) (i : ℕ) (found : Found T)

@@ -31,6 +31,17 @@ found_with Absent value = One value
 found_with (One first) value = Repeated
 found_with Repeated value = Repeated
 
+-- the same with what its value stands for
+abbrev pub found_as : {T : Type 0} → (T → List ℕ) → Found T → Found (List ℕ)
+found_as view Absent = Absent
+found_as view (One value) = One (view value)
+found_as view Repeated = Repeated
+
+-- what is found once one more line comes behind what was found
+abbrev pub found_with_line : Found (List ℕ) → List ℕ → Line → Found (List ℕ)
+found_with_line found name line =
+    if is_same_name line.0 name then found_with found line.1 else found
+
 -- P of the value, if there is just one
 abbrev pub IfOne : {T : Type 0} → Found T → (T → Type 0) → Type 0
 IfOne Absent P = ⊤

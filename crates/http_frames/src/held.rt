@@ -1,6 +1,6 @@
 //! The bytes that were read and are not yet given.
 ghost use Rattle.std.specs.Prelude.{◌≡◌, ◌≢◌, ◌+◌, ◌<◌, ◌≤◌, [], Ok, Err, false, IsTrue, IfOk};
-ghost use Rattle.std.specs.Prelude.{OnOk, OnErr, length, drop, vec_len, vec_capacity};
+ghost use Rattle.std.specs.Prelude.{OnOk, OnErr, length, take, drop};
 ghost use Rattle.std.specs.Io.KnownBytes.{IsAtEnd};
 ghost use Rattle.m2m_io.specs.Counts.{Rose};
 ghost use Rattle.http_frames.specs.Inbox.{Reads};
@@ -17,50 +17,126 @@ const PIECE: usize = 4_096;
 /// Room for the longest head and a piece, so that few streams need more.
 const ROOM: usize = 20_480;
 
-/// The bytes that were read and are not yet given. Of those that are given some stay at the front
-/// until room is needed, and no more than there was room for from the start.
+/// The bytes that were read and are not yet given: those of `bytes` from `start` to `end`. What
+/// stands behind them is room that reads write to, so that what they give needs no copy there. Of
+/// the bytes that are given some stay at the front until room is needed, and no more than there was
+/// room for from the start.
 #[derive(Debug, Drop)]
 pub(crate) struct Held {
     bytes: Vec<u8>,
     start: usize,
-    piece: Vec<u8>,
+    end: usize,
 }
 
 impl Model for Held {
-    ghost use Rattle.std.specs.Prelude.{◌≡◌, ◌≤◌, List, ℕ, length, drop};
+    ghost use Rattle.std.specs.Prelude.{◌≤◌, List, ℕ, length, take, drop};
 
     ghost Value = { List ℕ };
 
-    ghost view = { λ h. drop h.start h.bytes.items };
+    ghost view = { λ h. drop h.start (take h.end h.bytes.items) };
 
-    ghost invariant = { λ h. (h.start ≤ length h.bytes.items) × (h.start ≤ 20480)
-        × (length h.piece.items ≡ 4096) };
+    ghost invariant = { λ h. (h.start ≤ h.end) × (h.end ≤ length h.bytes.items)
+        × (h.start ≤ 20480) };
 }
 
-/// Moves the bytes from `start` on to the front.
-fn move_to_front(bytes: &mut Vec<u8>, start: &mut usize)
-    requires { start.old ≤ length bytes.old.items }
-    ensures bytes { bytes.new.items ≡ drop start.old bytes.old.items }
-    ensures start { start.new ≡ 0 }
+/// Takes the first `n` bytes away.
+fn drop_front(bytes: &mut Vec<u8>, n: usize)
+    requires { n ≤ length bytes.old.items }
+    ensures { bytes.new.items ≡ drop n bytes.old.items }
 {
-    let len = bytes.len() - *start;
-    bytes.copy_within(*start.., 0);
+    let len = bytes.len() - n;
+    bytes.copy_within(n.., 0);
     bytes.truncate(len);
+}
+
+/// Moves the bytes from `start` to `end` to the front, with nothing behind them.
+fn move_to_front(bytes: &mut Vec<u8>, start: &mut usize, end: &mut usize)
+    requires ordered { start.old ≤ end.old }
+    requires within { end.old ≤ length bytes.old.items }
+    ensures bytes { bytes.new.items ≡ drop start.old (take end.old bytes.old.items) }
+    ensures start { start.new ≡ 0 }
+    ensures end { end.new ≡ length bytes.new.items }
+{
+    bytes.truncate(*end);
+    drop_front(bytes, *start);
+    *end -= *start;
     *start = 0;
 }
 
-/// Makes room for a piece behind the bytes.
-fn make_room(bytes: &mut Vec<u8>, start: &mut usize) -> Result<(), AllocError>
-    requires { start.old ≤ length bytes.old.items }
-    ensures bytes { drop start.new bytes.new.items ≡ drop start.old bytes.old.items }
-    ensures start { start.new ≤ length bytes.new.items }
+/// Moves the bytes to the front, where there is no room for a piece behind all that is there.
+fn use_front(bytes: &mut Vec<u8>, start: &mut usize, end: &mut usize)
+    requires ordered { start.old ≤ end.old }
+    requires within { end.old ≤ length bytes.old.items }
+    ensures bytes { drop start.new (take end.new bytes.new.items)
+        ≡ drop start.old (take end.old bytes.old.items) }
+    ensures ordered { start.new ≤ end.new }
+    ensures within { end.new ≤ length bytes.new.items }
     ensures given { start.new ≤ start.old }
-    ensures room { OnOk result (vec_len bytes.new + piece_limit ≤ vec_capacity bytes.new) }
 {
     if bytes.capacity().saturating_sub(bytes.len()) < PIECE {
-        move_to_front(bytes, start);
+        move_to_front(bytes, start, end);
     }
-    bytes.reserve(PIECE)
+}
+
+/// Makes room for a piece behind the bytes, where there isn't any.
+#[tactic(auto, using(crate::proofs::HeldLemmas::front_kept))]
+fn make_more_room(bytes: &mut Vec<u8>, start: &mut usize, end: &mut usize) -> Result<(), AllocError>
+    requires ordered { start.old ≤ end.old }
+    requires within { end.old ≤ length bytes.old.items }
+    ensures bytes { drop start.new (take end.new bytes.new.items)
+        ≡ drop start.old (take end.old bytes.old.items) }
+    ensures ordered { start.new ≤ end.new }
+    ensures within { end.new ≤ length bytes.new.items }
+    ensures given { start.new ≤ start.old }
+    ensures room { OnOk result (end.new + piece_limit ≤ length bytes.new.items) }
+{
+    use_front(bytes, start, end);
+    bytes.extend_from_slice(&[0; PIECE])
+}
+
+/// Makes room for a piece behind the bytes.
+fn make_room(bytes: &mut Vec<u8>, start: &mut usize, end: &mut usize) -> Result<(), AllocError>
+    requires ordered { start.old ≤ end.old }
+    requires within { end.old ≤ length bytes.old.items }
+    ensures bytes { drop start.new (take end.new bytes.new.items)
+        ≡ drop start.old (take end.old bytes.old.items) }
+    ensures ordered { start.new ≤ end.new }
+    ensures within { end.new ≤ length bytes.new.items }
+    ensures given { start.new ≤ start.old }
+    ensures room { OnOk result (end.new + piece_limit ≤ length bytes.new.items) }
+{
+    if bytes.len() - *end < PIECE {
+        make_more_room(bytes, start, end)
+    } else {
+        Ok(())
+    }
+}
+
+/// Reads once, right behind the bytes, where there is room for a piece.
+fn read_behind<S: Source>(
+    bytes: &mut [u8],
+    end: &mut usize,
+    src: &mut S,
+) -> Result<usize, FrameFault>
+    requires { end.old + piece_limit ≤ length bytes.old }
+    ensures reads { Reads (S.left src.old) (S.left src.new) (take end.old bytes.old)
+        (take end.new bytes.new) }
+    ensures len { length bytes.new ≡ length bytes.old }
+    ensures end { end.new ≤ length bytes.new }
+    ensures further { end.old ≤ end.new }
+    ensures count { IfOk result (λ n. end.new ≡ end.old + n) }
+    ensures most { IfOk result (λ n. n ≤ piece_limit) }
+    ensures at_end { result ≡ Ok 0 → IsAtEnd (S.left src.new) }
+    ensures err { OnErr result (take end.new bytes.new ≡ take end.old bytes.old) }
+    ensures faults { S.faults src.old ≤ S.faults src.new }
+    ensures beside { S.kept_by_read src.new ≡ S.kept_by_read src.old }
+    ensures cause { result ≡ Err FrameFault.ReadFault → Rose (S.faults src.old) (S.faults src.new) }
+    ensures steady { result ≢ Err FrameFault.ReadFault → S.faults src.new ≡ S.faults src.old }
+    ensures other { result ≢ Err FrameFault.NoFrame }
+{
+    let n = src.read(&mut bytes[*end..*end + PIECE])?;
+    *end += n;
+    Ok(n)
 }
 
 impl Held {
@@ -70,14 +146,15 @@ impl Held {
         Ok(Held {
             bytes: Vec::with_capacity(alloc, ROOM)?,
             start: 0,
-            piece: vec![in alloc; 0; PIECE]?,
+            end: 0,
         })
     }
 
+    #[tactic(auto, using(crate::proofs::HeldLemmas::moved))]
     pub(crate) fn bytes(&self) -> &[u8]
         ensures { result.now ≡ self.now }
     {
-        &self.bytes[self.start..]
+        &self.bytes[self.start..self.end]
     }
 
     /// Gives the first `n` bytes away, and after a long message the room that it needed.
@@ -87,7 +164,7 @@ impl Held {
     {
         self.start += n;
         if self.start > ROOM {
-            move_to_front(&mut self.bytes, &mut self.start);
+            move_to_front(&mut self.bytes, &mut self.start, &mut self.end);
             self.bytes.shrink_to(ROOM);
         }
     }
@@ -106,10 +183,8 @@ impl Held {
         ensures steady { result ≢ Err FrameFault.ReadFault → S.faults src.new ≡ S.faults src.old }
         ensures other { result ≢ Err FrameFault.NoFrame }
     {
-        make_room(&mut self.bytes, &mut self.start)?;
-        let n = src.read(&mut self.piece)?;
-        self.bytes.extend_from_slice(&self.piece[..n]).unwrap();
-        Ok(n)
+        make_room(&mut self.bytes, &mut self.start, &mut self.end)?;
+        read_behind(&mut self.bytes, &mut self.end, src)
     }
 
     /// Reads until so many bytes are held, and answers whether they are: they aren't only at the

@@ -1,6 +1,7 @@
 //! The header lines of a message.
 ghost use Rattle.std.specs.Prelude.{◌≡◌};
-ghost use Rattle.http_frames.specs.Lines.{IsFound, found_with, values_named};
+ghost use Rattle.http_frames.specs.Lines.{IsFound, found_as, found_with, found_with_line};
+ghost use Rattle.http_frames.specs.Lines.{values_named};
 
 use m2m_value::Text;
 use std::marker::Model;
@@ -42,6 +43,20 @@ impl<T: Copy> Found<T> {
     }
 }
 
+impl<'a> Found<&'a [u8]> {
+    /// With one more line behind what was found of a name.
+    pub fn and_line(self, name: &[u8], line: &'a (Text, Text)) -> Found<&'a [u8]>
+        ensures { found_as (λ value. value.now) result
+            ≡ found_with_line (found_as (λ value. value.now) self.entry) name.now line.now }
+    {
+        if line.0.entries().eq_ignore_ascii_case(name) {
+            self.and(line.1.entries())
+        } else {
+            self
+        }
+    }
+}
+
 impl Lines {
     pub fn of(lines: Vec<(Text, Text)>) -> Lines
         ensures { result ≡ lines.items }
@@ -67,10 +82,8 @@ impl Lines {
         ensures { IsFound (λ value. value.now) result (values_named name.now self.now) }
     {
         let mut found = Found::Absent;
-        for (other, value) in &self.lines {
-            if other.entries().eq_ignore_ascii_case(name) {
-                found = found.and(value.entries());
-            }
+        for line in &self.lines {
+            found = found.and_line(name, line);
         }
         found
     }

@@ -36,13 +36,13 @@ impl Rooms {
         }
     }
 
-    /// An empty buffer.
-    fn buffer(&mut self, alloc: Global) -> Vec<u8>
-        ensures { result.items ≡ [] }
+    /// An empty buffer: one that is kept, or a new one with room for so many bytes.
+    fn buffer(&mut self, alloc: Global, len: usize) -> Result<Vec<u8>, AllocError>
+        ensures { IfOk result (λ buffer. buffer.items ≡ []) }
     {
         match self.buffers.pop() {
-            Some(buffer) => buffer,
-            None => Vec::new(alloc),
+            Some(buffer) => Ok(buffer),
+            None => Vec::with_capacity(alloc, len.max(LEAST_ROOM)),
         }
     }
 
@@ -50,8 +50,7 @@ impl Rooms {
     pub(crate) fn text(&mut self, alloc: Global, bytes: &[u8]) -> Result<Text, AllocError>
         ensures { IfOk result (λ text. text ≡ bytes.now) }
     {
-        let mut buffer = self.buffer(alloc);
-        buffer.reserve(bytes.len().max(LEAST_ROOM))?;
+        let mut buffer = self.buffer(alloc, bytes.len())?;
         buffer.extend_from_slice(bytes)?;
         Ok(Text::of(buffer))
     }

@@ -1,5 +1,5 @@
 //! Names and identifiers of what is created.
-ghost use Rattle.std.specs.Prelude.{◌≡◌, ◌++◌, IfOk, IfSome, IsTrue, IsUtf8};
+ghost use Rattle.std.specs.Prelude.{◌≡◌, IfOk, IfSome, IsTrue, IsUtf8};
 ghost use Rattle.std.specs.Prelude.{option_map, unwrap_or};
 ghost use Rattle.m2m_names.specs.Ids as ids;
 ghost use Rattle.m2m_names.specs.Name.{is_originator};
@@ -9,7 +9,7 @@ ghost use Rattle.request_rules.specs.Creation as spec;
 
 use m2m_names::{Attr, Ty, is_name};
 use m2m_value::{Members, Text};
-use resource_model::id_text;
+use resource_model::numbered;
 use std::alloc::{AllocError as OutOfMemory, Global};
 
 /// The name that a resource of a type and a number has where none is given.
@@ -17,8 +17,7 @@ pub(crate) fn own_name(alloc: Global, ty: Ty, number: u64) -> Result<Text, OutOf
     ensures value { IfOk result (λ t. t ≡ spec.own_name ty number) }
     ensures utf8 { IfOk result (λ t. IsUtf8 t) }
 {
-    let name = format!(in alloc; "{}_{}", ty.word(), number)?;
-    Ok(Text::of(name.into_bytes()))
+    numbered(alloc, ty.word(), "_", number)
 }
 
 /// The text that a content names at an attribute.

@@ -12,5 +12,5 @@ mod resource;
 
 pub use attrs::{AttrSet, Attrs};
 pub use home::{ADMIN, BASE, CSE_ID, CSE_TYPE, Home, HomeFault, LAST_CSE_TYPE, SERVICE_PROVIDER};
-pub use resource::{Change, Moments, Resource, id_text};
+pub use resource::{Change, Moments, Resource, id_text, numbered};
 pub use std::alloc::AllocError as OutOfMemory;

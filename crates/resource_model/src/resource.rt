@@ -1,12 +1,14 @@
 //! A resource, and a change of one.
 ghost use Rattle.std.specs.Prelude.{◌≡◌, ◌<◌, ◌≤◌, ◌^◌, IfOk, IsOk, IsSome, OnOk, OnErr};
-ghost use Rattle.std.specs.Prelude.{IsUtf8, option_map};
+ghost use Rattle.std.specs.Prelude.{◌++◌, IsUtf8, option_map};
+ghost use Rattle.std.specs.Fmt.{decimal};
 ghost use Rattle.m2m_names.specs.Ids as ids;
 ghost use Rattle.m2m_names.specs.Stamps.{last_moment};
 ghost use Rattle.resource_model.specs.Attributes.{value_of, with_value, without_value};
 ghost use Rattle.resource_model.specs.Resource.{ResourceData, is_ty, ae_id, cse_id, id_of};
 
 use crate::attrs::{AttrSet, Attrs};
+use itoa::Buffer;
 use m2m_names::{Attr, Ty};
 use m2m_value::{Text, Val};
 use std::alloc::{AllocError as OutOfMemory, Global};
@@ -21,13 +23,27 @@ pub struct Moments {
     pub et: u64,
 }
 
+/// Room for a short word, a mark and a number, in bytes.
+const ROOM: usize = 32;
+
+/// A word, a mark behind it, and a number in decimal digits.
+pub fn numbered(alloc: Global, word: &str, mark: &str, number: u64) -> Result<Text, OutOfMemory>
+    ensures value { IfOk result (λ t. t ≡ word.now ++ mark.now ++ decimal number) }
+    ensures utf8 { IfOk result (λ t. IsUtf8 t) }
+{
+    let mut text = String::with_capacity(alloc, ROOM)?;
+    text.push_str(word)?;
+    text.push_str(mark)?;
+    text.push_str(Buffer::new().format(number))?;
+    Ok(Text::of(text.into_bytes()))
+}
+
 /// The resource identifier of a type and a number: the short word of the type, and the number.
 pub fn id_text(alloc: Global, ty: Ty, number: u64) -> Result<Text, OutOfMemory>
     ensures value { IfOk result (λ t. t ≡ ids.id_text ty number) }
     ensures utf8 { IfOk result (λ t. IsUtf8 t) }
 {
-    let id = format!(in alloc; "{}{}", ty.word(), number)?;
-    Ok(Text::of(id.into_bytes()))
+    numbered(alloc, ty.word(), "", number)
 }
 
 /// A resource (TS-0001, 9.6).

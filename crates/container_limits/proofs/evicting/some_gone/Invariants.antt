@@ -1,7 +1,7 @@
 use Rattle.std.proofs.Common.{◌≡◌, ◌++◌, ◌-◌, drop}
 use Rattle.tree_model.specs.Tree.{instances_of}
 use Rattle.container_limits.specs.Limits.{going, numbers_of}
-use Rattle.container_limits.proofs.evicting.gone.Given as goal
+use Rattle.container_limits.proofs.evicting.some_gone.Given as goal
 
 -- the numbers so far and those of the rest are those of all
 abbrev pub invariant-loop-k : goal.invariant-loop-k

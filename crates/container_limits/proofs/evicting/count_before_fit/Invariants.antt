@@ -2,7 +2,7 @@ use Rattle.std.proofs.Common.{◌≡◌, ◌+◌, length, drop, option_to_list, 
 use Rattle.std.specs.List.{filter, sum_by}
 use Rattle.tree_model.specs.Tree.{instances_of, instance_size}
 use Rattle.container_limits.specs.Limits.{lasts, kept, longest_fit}
-use Rattle.container_limits.proofs.evicting.count_outside.Given as goal
+use Rattle.container_limits.proofs.evicting.count_before_fit.Given as goal
 
 -- the totals are those of what is left, and what stays is what stays of that
 abbrev pub invariant-loop-k : goal.invariant-loop-k

@@ -1,5 +1,0 @@
-use Rattle.std.proofs.lemmas.Str.{IsUtf8-had}
-use Rattle.request_rules.proofs.naming.own_name.Goals as goal
-
-pub returns-clause-utf8 : goal.returns-clause-utf8
-returns-clause-utf8 c = rw (c.of.ensures, c.into_bytes.ensures.value) (IsUtf8-had _ c.in_ok-name.name.ok)
