@@ -1,5 +1,5 @@
 //! Names and identifiers of what is created.
-ghost use Rattle.std.specs.Prelude.{◌≡◌, IfOk, IfSome, IsTrue, IsUtf8};
+ghost use Rattle.std.specs.Prelude.{◌≡◌, ◌++◌, IfOk, IfSome, IsTrue, IsUtf8};
 ghost use Rattle.std.specs.Prelude.{option_map, unwrap_or};
 ghost use Rattle.m2m_names.specs.Ids as ids;
 ghost use Rattle.m2m_names.specs.Name.{is_originator};
