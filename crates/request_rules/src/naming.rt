@@ -9,7 +9,7 @@ ghost use Rattle.request_rules.specs.Creation as spec;
 
 use m2m_names::{Attr, Ty, is_name};
 use m2m_value::{Members, Text};
-use resource_model::numbered;
+use resource_model::{id_text, numbered};
 use std::alloc::{AllocError as OutOfMemory, Global};
 
 /// The name that a resource of a type and a number has where none is given.
