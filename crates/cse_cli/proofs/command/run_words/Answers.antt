@@ -69,3 +69,9 @@ returns-in-Err-clause-replay g c = λ home e. record {
   replays = record { after = opening home 0; all = starved_first (opening home 0) _ _ _ _ };
   still = refl;
 }
+
+pub returns-in_default-clause-replay : goal.returns-in_default-clause-replay
+returns-in_default-clause-replay g c = λ home e. record {
+  replays = record { after = opening home 0; all = starved_first (opening home 0) _ _ _ _ };
+  still = refl;
+}
