@@ -1,4 +1,4 @@
-use Rattle.std.proofs.Common.{◌≡◌, List, Some, refl, sym, ap, subst, ◌∙◌, inl, inr, option_map}
+use Rattle.std.proofs.Common.{Some, refl, sym, ap, subst, ◌∙◌, inl, inr, option_map}
 use Rattle.m2m_io.specs.Outside.{outside}
 use Rattle.resource_model.specs.Home.{HomeData}
 use Rattle.command_words.specs.Command.{http, replay, task_by, serving_by, command_by}
