@@ -1,4 +1,4 @@
-use Rattle.std.proofs.Common.{◌≡◌, List, Some, refl, sym, ap, subst, ◌∙◌, inl, inr, option_map}
+use Rattle.std.proofs.Common.{Some, refl, sym, ap, subst, ◌∙◌, inl, inr, option_map}
 use Rattle.m2m_io.specs.Outside.{outside}
 use Rattle.resource_model.specs.Home.{HomeData}
 use Rattle.command_words.specs.Command.{http, replay, task_by, serving_by, command_by}
@@ -66,6 +66,12 @@ returns-in-Err-clause-http g c = λ home e. inr (record { status_is = refl; same
 
 pub returns-in-Err-clause-replay : goal.returns-in-Err-clause-replay
 returns-in-Err-clause-replay g c = λ home e. record {
+  replays = record { after = opening home 0; all = starved_first (opening home 0) _ _ _ _ };
+  still = refl;
+}
+
+pub returns-in_default-clause-replay : goal.returns-in_default-clause-replay
+returns-in_default-clause-replay g c = λ home e. record {
   replays = record { after = opening home 0; all = starved_first (opening home 0) _ _ _ _ };
   still = refl;
 }
