@@ -1,10 +1,11 @@
 -- The text of a value: compact JSON (RFC 8259), with no blank outside of texts.
 use Rattle.std.specs.Prelude.{ℕ, ◌+◌, ◌-◌, ◌^◌, min, ◌/◌, ◌%◌, ◌==◌, nat_lt, List, [], ◌∷◌, ◌++◌}
-use Rattle.std.specs.Prelude.{length, flat_map, Bool, true, false, if◌then◌else◌, Option, Some}
-use Rattle.std.specs.Prelude.{None, codes}
+use Rattle.std.specs.Prelude.{length, flat_map, Bool, true, false, not, ◌&&◌, if◌then◌else◌, Option}
+use Rattle.std.specs.Prelude.{Some, None, codes}
 use Rattle.std.specs.Char.{digit_char}
 use Rattle.std.specs.Fmt.{signed_decimal}
 use Rattle.std.specs.Map.{lookup}
+use Rattle.std.specs.Option.{is_none}
 use Rattle.m2m_value.specs.Data.{Data, null, boolean, number, text, list, object, Elements}
 use Rattle.m2m_value.specs.Data.{no_elements, element, Pairs, no_pairs, pair}
 
@@ -29,6 +30,10 @@ escaped_by None byte = if nat_lt byte 32 then long_escape byte else byte ∷ []
 -- what stands for a byte in a text (section 7)
 abbrev pub escaped : ℕ → List ℕ
 escaped byte = escaped_by (short_escape byte) byte
+
+-- a byte that stands for itself
+abbrev pub is_plain : ℕ → Bool
+is_plain byte = not (nat_lt byte 32) && is_none (short_escape byte)
 
 -- a text between its quotation marks
 abbrev pub quoted : List ℕ → List ℕ

@@ -1,16 +1,18 @@
 //! From a value to its text.
-ghost use Rattle.std.specs.Prelude.{◌≡◌, ◌<◌, ◌≤◌, ◌++◌, ◌∷◌, [], OnOk, OnErr};
+ghost use Rattle.std.specs.Prelude.{◌≡◌, ◌<◌, ◌≤◌, ◌++◌, ◌∷◌, [], OnOk, OnErr, flat_map, length};
 ghost use Rattle.std.specs.Char.{digit_char};
 ghost use Rattle.std.specs.Fmt.{decimal, signed_decimal};
+ghost use Rattle.std.specs.List.{prefix_len};
 ghost use Rattle.m2m_value.specs.Data.{depth, elements_of, pairs_of};
 ghost use Rattle.m2m_value.specs.Node.{AreSorted};
 ghost use Rattle.m2m_value.specs.Reading.{reading};
 ghost use Rattle.m2m_value.specs.Sound.{IsSound, AreSound, HaveSound, BeginsWith};
-ghost use Rattle.m2m_value.specs.Spelling.{short_escape, escaped, quoted, comma_at, text_of};
-ghost use Rattle.m2m_value.specs.Spelling.{elements_from, pairs_from};
+ghost use Rattle.m2m_value.specs.Spelling.{short_escape, escaped, is_plain, quoted, comma_at};
+ghost use Rattle.m2m_value.specs.Spelling.{text_of, elements_from, pairs_from};
 
 use crate::text::Text;
 use crate::value::{Items, Members, Node, Val};
+use itoa::Buffer;
 use std::alloc::AllocError as OutOfMemory;
 
 /// Appends the compact text of the value, or leaves `out` as it was.
@@ -112,15 +114,17 @@ fn write_number(n: i64, out: &mut Vec<u8>) -> Result<(), OutOfMemory>
     write_digits(n.unsigned_abs(), out)
 }
 
+/// Appends a number in decimal digits.
+#[tactic(auto, using(std::proofs::lemmas::Fmt::decimal_digit))]
 fn write_digits(n: u64, out: &mut Vec<u8>) -> Result<(), OutOfMemory>
     ensures ok { OnOk result (out.new.items ≡ out.old.items ++ decimal n) }
-    ensures err { OnErr result (BeginsWith out.old.items out.new.items) }
+    ensures err { OnErr result (out.new.items ≡ out.old.items) }
 {
-    if n >= 10 {
-        write_digits(n / 10, out)?;
+    if n < 10 {
+        Ok(out.push(b'0' + n as u8)?)
+    } else {
+        out.extend_from_slice(Buffer::new().format(n).as_bytes())
     }
-    out.push(b'0' + (n % 10) as u8)?;
-    Ok(())
 }
 
 fn write_text(text: &[u8], out: &mut Vec<u8>) -> Result<(), OutOfMemory>
@@ -128,10 +132,45 @@ fn write_text(text: &[u8], out: &mut Vec<u8>) -> Result<(), OutOfMemory>
     ensures err { OnErr result (BeginsWith out.old.items out.new.items) }
 {
     out.push(b'"')?;
+    write_inside(text, out)?;
+    out.push(b'"')?;
+    Ok(())
+}
+
+/// Whether the byte stands for itself.
+fn is_plain(byte: u8) -> bool
+    ensures { result ≡ is_plain byte }
+{
+    byte >= 32 && short_escape(byte).is_none()
+}
+
+/// How many bytes at the front stand for themselves.
+fn plain_front(text: &[u8]) -> usize
+    ensures value { result ≡ prefix_len is_plain text.now }
+    ensures within { result ≤ length text.now }
+{
+    text.iter().take_while(|byte| is_plain(**byte)).count()
+}
+
+/// Appends what stands for the bytes of a text: those at its front that stand for themselves go
+/// out at once.
+fn write_inside(text: &[u8], out: &mut Vec<u8>) -> Result<(), OutOfMemory>
+    ensures ok { OnOk result (out.new.items ≡ out.old.items ++ flat_map escaped text.now) }
+    ensures err { OnErr result (BeginsWith out.old.items out.new.items) }
+{
+    let plain = plain_front(text);
+    out.extend_from_slice(&text[..plain])?;
+    write_escaped(&text[plain..], out)
+}
+
+/// Appends what stands for the bytes of a text, one after another.
+fn write_escaped(text: &[u8], out: &mut Vec<u8>) -> Result<(), OutOfMemory>
+    ensures ok { OnOk result (out.new.items ≡ out.old.items ++ flat_map escaped text.now) }
+    ensures err { OnErr result (BeginsWith out.old.items out.new.items) }
+{
     for byte in text {
         write_byte(*byte, out)?;
     }
-    out.push(b'"')?;
     Ok(())
 }
 

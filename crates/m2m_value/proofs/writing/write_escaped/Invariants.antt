@@ -1,7 +1,7 @@
 use Rattle.std.proofs.Common.{◌≡◌, ◌++◌, drop, flat_map}
 use Rattle.m2m_value.specs.Sound.{BeginsWith}
 use Rattle.m2m_value.specs.Spelling.{escaped}
-use Rattle.m2m_value.proofs.writing.write_text.Given as goal
+use Rattle.m2m_value.proofs.writing.write_escaped.Given as goal
 
 abbrev pub invariant-loop-byte : goal.invariant-loop-byte
 invariant-loop-byte l =
