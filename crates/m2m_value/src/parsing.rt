@@ -13,6 +13,7 @@ ghost use Rattle.serde_json.specs.View.{view, number_view, items_view, members_v
 use fast_float::Numeral;
 use json::{Reader, Scratch};
 use serde_json::{Map, Number, Value};
+use simdutf8::basic::from_utf8;
 use std::alloc::Global;
 
 /// Lists and objects stand at most so deep.
@@ -23,7 +24,7 @@ pub(crate) fn parse_in(alloc: Global, scratch: &mut Scratch, bytes: &[u8]) -> Op
     ensures utf8 { IfSome result (λ v. IsUtf8 bytes.now) }
     ensures ok { IfSome result (λ v. read_text bytes.now ≡ Some (view v)) }
 {
-    let text = std::str::from_utf8(bytes).ok()?;
+    let text = from_utf8(bytes).ok()?;
     parse_text(alloc, scratch, text)
 }
 
