@@ -1,11 +1,13 @@
 //! The header fields of a request, and what lines say of each.
 ghost use Rattle.std.specs.Prelude.{◌≡◌, ◌⊎◌, IfOk, IfSome, IsUtf8};
 ghost use Rattle.std.specs.Option.{option_copied};
+ghost use Rattle.http_frames.specs.Lines.{IsFound, values_named};
 ghost use Rattle.http_binding.specs.Headers as spec;
 ghost use Rattle.http_binding.specs.Binding.{header_value, header_values};
 ghost use Rattle.http_binding.specs.Seen.{seen_values, seen_caller};
 ghost use Rattle.http_binding.specs.Binding.{required, unless_empty, caller_of, echo_of, ReadsAs};
 ghost use Rattle.http_binding.specs.declared.fault.BindFault.TheVariants as fault;
+ghost use Rattle.http_binding.specs.declared.headers.Field.TheVariants as fields;
 
 use crate::media_type::{admits_type, type_number};
 use crate::method::Method;
@@ -79,11 +81,18 @@ impl Field {
         }
     }
 
-    /// What the lines say of the field.
-    fn value(self, alloc: Global, lines: &Lines) -> Result<Option<&[u8]>, BindFault>
+    /// What the lines say of the field, of whose values this was found.
+    fn value<'a>(
+        self,
+        alloc: Global,
+        lines: &'a Lines,
+        found: Found<&'a [u8]>,
+    ) -> Result<Option<&'a [u8]>, BindFault>
+        requires { IsFound (λ value. value.now) found
+            (values_named (spec.field_name self) lines.now) }
         ensures { ReadsAs option_copied result (header_value self lines.now) }
     {
-        match lines.find(self.name()) {
+        match found {
             Found::Absent => Ok(None),
             Found::One(value) if self.admits(value) => Ok(Some(value)),
             Found::One(_) | Found::Repeated => Err(self.malformed(alloc)),
@@ -99,6 +108,16 @@ impl Field {
             None => Err(self.absent(alloc)),
         }
     }
+}
+
+/// What lines have of the name of each field.
+#[derive(Clone, Copy)]
+struct FieldLines<'a> {
+    origin: Found<&'a [u8]>,
+    id: Found<&'a [u8]>,
+    expiry: Found<&'a [u8]>,
+    ty: Found<&'a [u8]>,
+    encoding: Found<&'a [u8]>,
 }
 
 /// What lines say of each field, where they do.
@@ -120,6 +139,40 @@ pub(crate) struct Caller<'a> {
     pub(crate) ty: Option<u32>,
 }
 
+/// What the lines have of the name of each field, by one pass over them.
+fn field_lines(method: Method, lines: &[(Text, Text)]) -> FieldLines<'_>
+    ensures origin { IsFound (λ value. value.now) result.origin
+        (values_named (spec.field_name fields.Origin) lines.now) }
+    ensures id { IsFound (λ value. value.now) result.id
+        (values_named (spec.field_name fields.Id) lines.now) }
+    ensures expiry { IsFound (λ value. value.now) result.expiry
+        (values_named (spec.field_name fields.Expiry) lines.now) }
+    ensures ty { IsFound (λ value. value.now) result.ty
+        (values_named (spec.field_name (fields.ContentType method)) lines.now) }
+    ensures encoding { IsFound (λ value. value.now) result.encoding
+        (values_named (spec.field_name fields.ContentEncoding) lines.now) }
+{
+    let mut origin = Found::Absent;
+    let mut id = Found::Absent;
+    let mut expiry = Found::Absent;
+    let mut ty = Found::Absent;
+    let mut encoding = Found::Absent;
+    for line in lines {
+        origin = origin.and_line(Field::Origin.name(), line);
+        id = id.and_line(Field::Id.name(), line);
+        expiry = expiry.and_line(Field::Expiry.name(), line);
+        ty = ty.and_line(Field::ContentType(method).name(), line);
+        encoding = encoding.and_line(Field::ContentEncoding.name(), line);
+    }
+    FieldLines {
+        origin,
+        id,
+        expiry,
+        ty,
+        encoding,
+    }
+}
+
 /// The fields in the order in which their faults are told.
 fn header_values(
     alloc: Global,
@@ -128,11 +181,12 @@ fn header_values(
 ) -> Result<HeaderValues<'_>, BindFault>
     ensures { ReadsAs seen_values result (header_values method lines.now) }
 {
-    let origin = Field::Origin.value(alloc, lines)?;
-    let id = Field::Id.value(alloc, lines)?;
-    let expiry = Field::Expiry.value(alloc, lines)?;
-    let ty = Field::ContentType(method).value(alloc, lines)?;
-    Field::ContentEncoding.value(alloc, lines)?;
+    let found = field_lines(method, lines.entries());
+    let origin = Field::Origin.value(alloc, lines, found.origin)?;
+    let id = Field::Id.value(alloc, lines, found.id)?;
+    let expiry = Field::Expiry.value(alloc, lines, found.expiry)?;
+    let ty = Field::ContentType(method).value(alloc, lines, found.ty)?;
+    Field::ContentEncoding.value(alloc, lines, found.encoding)?;
     Ok(HeaderValues {
         origin,
         id,
