@@ -9,16 +9,25 @@ use Rattle.http_binding.specs.declared.headers.Field.{Field}
 use Rattle.http_binding.specs.declared.headers.Field.TheVariants.{Origin, Id, Expiry, ContentType}
 use Rattle.http_binding.specs.declared.headers.Field.TheVariants.{ContentEncoding}
 
--- the name of the field that tells the type of a content
+-- the names of the fields that say who asks, which request it is, when it expires, and of which type
+-- its content is, as they are written; names are compared without regard to case
+abbrev pub origin_field : List ℕ
+origin_field = codes "X-M2M-Origin"
+
+abbrev pub id_field : List ℕ
+id_field = codes "X-M2M-RI"
+
+abbrev pub expiry_field : List ℕ
+expiry_field = codes "X-M2M-RET"
+
 abbrev pub type_field : List ℕ
 type_field = codes "Content-Type"
 
--- the name of a field that is read in a request, as it is written; names are compared without
--- regard to case
+-- the name of a field that is read in a request
 abbrev pub field_name : Field → List ℕ
-field_name Origin = codes "X-M2M-Origin"
-field_name Id = codes "X-M2M-RI"
-field_name Expiry = codes "X-M2M-RET"
+field_name Origin = origin_field
+field_name Id = id_field
+field_name Expiry = expiry_field
 field_name (ContentType method) = type_field
 field_name ContentEncoding = codes "Content-Encoding"
 

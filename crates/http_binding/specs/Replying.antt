@@ -10,8 +10,7 @@ use Rattle.http_frames.specs.declared.frame.Start.TheVariants.{Answer}
 use Rattle.http_frames.specs.declared.frame.Frame.{Frame}
 use Rattle.http_frames.specs.Lines.{Line}
 use Rattle.http_frames.specs.Text.{frame_text}
-use Rattle.http_binding.specs.declared.headers.Field.TheVariants.{Id}
-use Rattle.http_binding.specs.Headers.{field_name, code_field, type_field, length_field}
+use Rattle.http_binding.specs.Headers.{id_field, code_field, type_field, length_field}
 use Rattle.http_binding.specs.Headers.{connection_field}
 use Rattle.http_binding.specs.MediaTypes.{json_type}
 
@@ -23,7 +22,7 @@ body_of (Some content) = json.text_of content
 -- the line that repeats the request's identifier
 abbrev pub id_lines : Option (List ℕ) → List Line
 id_lines None = []
-id_lines (Some id) = (field_name Id, id) ∷ []
+id_lines (Some id) = (id_field, id) ∷ []
 
 -- the line that tells the type of the content
 abbrev pub type_lines : Option Data → List Line

@@ -36,8 +36,7 @@ use Rattle.http_frames.specs.Stream.{BeginsWithFrame}
 use Rattle.http_frames.specs.Text.{frame_text, IsLine, IsSoundFrame}
 use Rattle.http_frames.proofs.TextLemmas.{written_is_read}
 use Rattle.http_binding.specs.Binding.{created_type}
-use Rattle.http_binding.specs.declared.headers.Field.TheVariants.{Origin, Id, Expiry}
-use Rattle.http_binding.specs.Headers.{field_name, type_field, length_field, connection_field}
+use Rattle.http_binding.specs.Headers.{origin_field, id_field, expiry_field, type_field, length_field, connection_field}
 use Rattle.http_binding.specs.MediaTypes.{json_type, semicolon, type_parameter, equals_sign}
 use Rattle.http_binding.specs.Methods.{method_text}
 use Rattle.http_binding.specs.Replying.{body_of, id_lines, close_lines}
@@ -106,13 +105,13 @@ unfolding is_token_byte
 origin_is None h = All-nil IsLine
 origin_is (Some s) h =
     let all = (and_parts (is_filled originator_limit s) (list_all is_ascii_graphic s) h).1 in
-    All-cons IsLine (field_name Origin, s) [] (line_is (field_name Origin) s refl (AllPass-from_list_all is_ascii_graphic s all)) (All-nil IsLine)
+    All-cons IsLine (origin_field, s) [] (line_is origin_field s refl (AllPass-from_list_all is_ascii_graphic s all)) (All-nil IsLine)
 
 id_is : (rqi : List ℕ) → IsTrue (is_request_id rqi) → All IsLine (id_lines (Some rqi))
 unfolding is_token_byte
 id_is rqi h =
     let all = (and_parts (is_in_range 1 request_id_limit (length rqi)) (list_all is_ascii_graphic rqi) h).1 in
-    All-cons IsLine (field_name Id, rqi) [] (line_is (field_name Id) rqi refl (AllPass-from_list_all is_ascii_graphic rqi all)) (All-nil IsLine)
+    All-cons IsLine (id_field, rqi) [] (line_is (id_field) rqi refl (AllPass-from_list_all is_ascii_graphic rqi all)) (All-nil IsLine)
 
 expiry_graphic : (when : When) → IsWhenOfKind when → AllPass is_ascii_graphic (expiry_text when)
 expiry_graphic (At at) h = text_graphic (timestamp at) at (timestamp_is at h)
@@ -122,7 +121,7 @@ expiry_is : (when : Option When) → IfSome when IsWhenOfKind → All IsLine (ex
 unfolding is_token_byte
 expiry_is None h = All-nil IsLine
 expiry_is (Some when) h =
-    All-cons IsLine (field_name Expiry, expiry_text when) [] (line_is (field_name Expiry) (expiry_text when) refl (expiry_graphic when h)) (All-nil IsLine)
+    All-cons IsLine (expiry_field, expiry_text when) [] (line_is (expiry_field) (expiry_text when) refl (expiry_graphic when h)) (All-nil IsLine)
 
 type_graphic : (type : Option ℕ) → AllPass is_ascii_graphic (content_type type)
 type_graphic None = AllPass-from_list_all is_ascii_graphic json_type refl

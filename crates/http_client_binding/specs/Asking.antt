@@ -10,11 +10,10 @@ use Rattle.http_frames.specs.declared.frame.Start.TheVariants.{Ask}
 use Rattle.http_frames.specs.declared.frame.Frame.{Frame}
 use Rattle.http_frames.specs.Lines.{Line}
 use Rattle.http_binding.specs.Binding.{created_type}
-use Rattle.http_binding.specs.Headers.{field_name, type_field, length_field}
+use Rattle.http_binding.specs.Headers.{origin_field, expiry_field, type_field, length_field}
 use Rattle.http_binding.specs.MediaTypes.{json_type, semicolon, type_parameter, equals_sign}
 use Rattle.http_binding.specs.Methods.{method_text}
 use Rattle.http_binding.specs.Replying.{body_of, id_lines, close_lines}
-use Rattle.http_binding.specs.declared.headers.Field.TheVariants.{Origin, Expiry}
 use Rattle.http_client_binding.specs.declared.target.Aim.{Aim}
 use Rattle.http_client_binding.specs.declared.target.Aim.TheVariants.{Direct, Peer}
 use Rattle.http_client_binding.specs.TargetWriting.{host_of, path_and_query_of, root_path}
@@ -36,11 +35,11 @@ host_field = codes "Host"
 -- the lines that say who asks, and when the request expires
 abbrev pub origin_lines : Option (List ℕ) → List Line
 origin_lines None = []
-origin_lines (Some originator) = (field_name Origin, originator) ∷ []
+origin_lines (Some originator) = (origin_field, originator) ∷ []
 
 abbrev pub expiry_lines : Option When → List Line
 expiry_lines None = []
-expiry_lines (Some when) = (field_name Expiry, expiry_text when) ∷ []
+expiry_lines (Some when) = (expiry_field, expiry_text when) ∷ []
 
 -- the type of the content, with the number of the type that is to be created
 abbrev pub content_type : Option ℕ → List ℕ
