@@ -9,7 +9,7 @@ use Rattle.primitive_json.specs.declared.request.RequestParts.{RequestParts}
 use Rattle.http_frames.specs.declared.frame.Frame.{Frame}
 use Rattle.http_binding.specs.Binding.{binding, echo_of}
 use Rattle.http_binding.specs.Replying.{reply_text}
-use Rattle.http_binding.specs.declared.fault.BindFault.{BindFault}
+use Rattle.http_target.specs.declared.fault.BindFault.{BindFault}
 use Rattle.cse_server.specs.Closing.{closes}
 
 -- ---- the requests

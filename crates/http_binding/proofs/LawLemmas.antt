@@ -35,22 +35,23 @@ use Rattle.http_frames.specs.declared.frame.Frame.{Frame}
 use Rattle.http_frames.specs.declared.frame.Start.{Start}
 use Rattle.http_frames.specs.declared.frame.Start.TheVariants.{Ask, Answer}
 use Rattle.http_frames.specs.Lines.{Line, values_named}
-use Rattle.http_binding.specs.declared.fault.BindFault.{BindFault}
-use Rattle.http_binding.specs.declared.fault.BindFault.TheVariants as bind
+use Rattle.http_target.specs.declared.fault.BindFault.{BindFault}
+use Rattle.http_target.specs.declared.fault.BindFault.TheVariants as bind
 use Rattle.http_binding.specs.declared.headers.Field.{Field}
 use Rattle.http_binding.specs.declared.headers.Field.TheVariants.{Origin, Id, Expiry, ContentType, ContentEncoding}
 use Rattle.http_binding.specs.declared.method.Method.{Method}
 use Rattle.http_binding.specs.declared.method.Method.TheVariants.{Get, Post, Put, Delete}
 use Rattle.http_binding.specs.Headers.{field_name, admits, is_some_text}
 use Rattle.http_binding.specs.MediaTypes.{TypeNumber, type_said, type_number, is_short_number}
-use Rattle.http_binding.specs.Targets.{PathAndQuery, TargetValues, target_parts, target_values, is_target}
-use Rattle.http_binding.proofs.QueryLemmas.{reads, IsSaid, said_on, nothing_is_said, filter_sound, filter_kinds, IsSaidFilter}
-use Rattle.http_binding.specs.Queries.{decoded_pairs, nothing_said, is_result}
-use Rattle.http_binding.specs.declared.query.Query.{Query}
+use Rattle.http_target.specs.Targets.{PathAndQuery, TargetValues, target_parts, target_values, is_target}
+use Rattle.http_target.proofs.QueryLemmas.{reads, IsSaid, said_on, nothing_is_said, filter_sound, filter_kinds, IsSaidFilter}
+use Rattle.http_target.specs.Queries.{decoded_pairs, nothing_said, is_result}
+use Rattle.http_target.specs.declared.query.Query.{Query}
 use Rattle.filter_criteria.specs.Filters.{IsSoundFilter}
 use Rattle.filter_criteria.specs.Laws.{IsFilterOfKinds}
 use Rattle.filter_criteria.specs.declared.filter.FilterParts.{FilterParts}
-use Rattle.http_binding.specs.Binding.{method_of, said_by_target, target_of, lone_value, header_value, HeaderValues, header_values, required, unless_empty, Caller, caller_of, query_of, kept_result, value_in, object_only, content_in, content_of, created_type, request_of, Binds, echo_of}
+use Rattle.http_binding.specs.Binding.{method_of, lone_value, header_value, HeaderValues, header_values, required, unless_empty, Caller, caller_of, kept_result, value_in, object_only, content_in, content_of, created_type, request_of, Binds, echo_of}
+use Rattle.http_target.specs.Said.{said_by_target, target_of, query_of}
 use Rattle.http_binding.specs.Methods.{operation_of}
 
 pub binds_to_one : (frame : Frame) (request other : RequestParts) → Binds frame request → Binds frame other → request ≡ other

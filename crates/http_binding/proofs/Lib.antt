@@ -1,11 +1,7 @@
-pub mod AuthorityLemmas
 pub mod BackLemmas
 pub mod GraphicLemmas
 pub mod JoinLemmas
 pub mod LawLemmas
 pub mod MethodLemmas
-pub mod QueryLemmas
 pub mod ReplyLemmas
-pub mod TargetLemmas
 pub mod TypeLemmas
-pub mod WordLemmas

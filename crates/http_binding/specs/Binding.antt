@@ -1,5 +1,5 @@
 -- The request that a frame binds to, or the first fault of the frame (TS-0009, 6.2 to 6.5).
-use Rattle.std.specs.Prelude.{◌≡◌, ℕ, ℤ, ◌⊎◌, List, [], ◌∷◌, is_some, Option, Some}
+use Rattle.std.specs.Prelude.{◌≡◌, ℕ, ℤ, List, [], ◌∷◌, is_some, Option, Some}
 use Rattle.std.specs.Prelude.{None, Result, Ok, Err, if◌then◌else◌, option_and_then}
 use Rattle.std.specs.Option.{option_map_or}
 use Rattle.std.specs.Result.{result_unwrap_or}
@@ -18,25 +18,18 @@ use Rattle.http_frames.specs.declared.frame.Start.{Start}
 use Rattle.http_frames.specs.declared.frame.Start.TheVariants.{Ask, Answer}
 use Rattle.http_frames.specs.declared.frame.Frame.{Frame}
 use Rattle.http_frames.specs.Lines.{Line, values_named}
-use Rattle.http_binding.specs.declared.fault.BindFault.{BindFault}
-use Rattle.http_binding.specs.declared.fault.BindFault.TheVariants as bind
+use Rattle.http_target.specs.Chain.{and_then}
+use Rattle.http_target.specs.Said.{target_of, query_of}
+use Rattle.http_target.specs.declared.fault.BindFault.{BindFault}
+use Rattle.http_target.specs.declared.fault.BindFault.TheVariants as bind
 use Rattle.http_binding.specs.declared.headers.Field.{Field}
 use Rattle.http_binding.specs.declared.headers.Field.TheVariants.{Origin, Id, Expiry, ContentType}
 use Rattle.http_binding.specs.declared.headers.Field.TheVariants.{ContentEncoding}
 use Rattle.http_binding.specs.declared.method.Method.{Method}
-use Rattle.http_binding.specs.declared.query.Query.{Query}
+use Rattle.http_target.specs.declared.query.Query.{Query}
 use Rattle.http_binding.specs.Headers.{field_name, admits, is_some_text}
 use Rattle.http_binding.specs.MediaTypes.{type_number}
 use Rattle.http_binding.specs.Methods.{method_named, operation_of}
-use Rattle.http_binding.specs.Queries.{Pair, decoded_pairs, nothing_said, pair_said}
-use Rattle.http_binding.specs.Targets.{PathAndQuery, TargetValues, target_parts, target_values}
-use Rattle.http_binding.specs.Targets.{is_target}
-
--- what is read next, of the value of a part; the fault of a part ends the reading
-abbrev pub and_then :
-    {T U : Type 0} → Result T BindFault → (T → Result U BindFault) → Result U BindFault
-and_then (Ok value) next = next value
-and_then (Err fault) next = Err fault
 
 -- ---- the start line
 
@@ -44,16 +37,6 @@ abbrev pub method_of : Start → Result Method BindFault
 method_of (Ask name target minor) =
     option_map_or (λ method. Ok method) (method_named name) (Err bind.Method)
 method_of (Answer status minor) = Err bind.Method
-
--- what the path and the query of a target say
-abbrev pub said_by_target : PathAndQuery → Result TargetValues BindFault
-said_by_target parts =
-    if is_target (target_values parts) then Ok (target_values parts) else Err bind.Target
-
-abbrev pub target_of : Start → Result TargetValues BindFault
-target_of (Ask name target minor) =
-    option_map_or said_by_target (target_parts target) (Err bind.Target)
-target_of (Answer status minor) = Err bind.Target
 
 -- ---- the header lines
 
@@ -115,16 +98,7 @@ caller_of method lines =
       type = option_and_then type_number values.type;
     })
 
--- ---- the query and the body
-
--- what the pairs say behind what was said, one after another, or the fault of the first that is bad
-abbrev pub said_by : Op → List Pair → Query → Result Query BindFault
-said_by op [] q = Ok q
-said_by op (pair ∷ pairs) q = and_then (pair_said op pair q) (said_by op pairs)
-
--- what a query says on an operation
-abbrev pub query_of : Op → List ℕ → Result Query BindFault
-query_of op query = said_by op (decoded_pairs query) nothing_said
+-- ---- the body
 
 -- the value that was read of a body
 abbrev pub value_in : Result Data ValFault → Result Data BindFault
@@ -188,8 +162,3 @@ Binds frame request = binding frame ≡ Ok request
 -- without a fault
 abbrev pub echo_of : Frame → Option (List ℕ)
 echo_of frame = result_unwrap_or (header_value Id frame.lines) None
-
--- What is answered is what is told, seen so, unless memory ran out.
-abbrev pub ReadsAs : {T U : Type 0} → (T → U) → Result T BindFault → Result U BindFault → Type 0
-ReadsAs view (Ok value) told = told ≡ Ok (view value)
-ReadsAs view (Err fault) told = (fault ≡ bind.OutOfMemory) ⊎ (told ≡ Err fault)

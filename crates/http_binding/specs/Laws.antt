@@ -1,7 +1,6 @@
 -- Laws of the binding.
-use Rattle.std.specs.Prelude.{◌≡◌, ◌≤◌, ◌↔◌, ℕ, Bool, List, ◌++◌, length, IsTrue, Option, Some}
+use Rattle.std.specs.Prelude.{◌≡◌, ◌≤◌, ℕ, Bool, List, ◌++◌, length, IsTrue, Option, Some}
 use Rattle.std.specs.Prelude.{is_some, option_map}
-use Rattle.http_uri.specs.Grammar.{IsAuthority}
 use Rattle.m2m_names.specs.declared.operations.Op.{Op}
 use Rattle.primitive_json.specs.Laws.{IsOfKinds, HasShortExpiry, IsReplyOfKinds}
 use Rattle.primitive_json.specs.Members.{creates}
@@ -15,7 +14,6 @@ use Rattle.http_frames.specs.Text.{IsSoundFrame}
 use Rattle.http_binding.specs.Binding.{Binds, echo_of}
 use Rattle.http_binding.specs.Methods.{method_named, method_text, operation_of}
 use Rattle.http_binding.specs.Replying.{body_of, reply_frame, reply_text}
-use Rattle.http_binding.specs.Targets.{is_authority}
 
 -- A frame binds to at most one request.
 abbrev pub BindsToOne : Type 0
@@ -42,10 +40,6 @@ abbrev pub EchoIsId : Type 0
 EchoIsId =
     (frame : Frame) (request : RequestParts) → Binds frame request
     → echo_of frame ≡ Some request.rqi
-
--- What is taken for an authority is what the crate http_uri reads as one.
-abbrev pub AuthoritiesAreOfUris : Type 0
-AuthoritiesAreOfUris = (text : List ℕ) → IsTrue (is_authority text) ↔ IsAuthority text
 
 -- The identifier that the reply repeats, if it does, is one, and its body is no longer than a
 -- frame's may be.

@@ -1,9 +1,6 @@
-pub mod Faults
 pub mod MediaTypes
 pub mod Methods
 pub mod Headers
-pub mod Targets
-pub mod Queries
 pub mod Binding
 pub mod Seen
 pub mod Replying

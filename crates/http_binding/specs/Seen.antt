@@ -2,10 +2,7 @@
 use Rattle.std.specs.Option.{option_copied}
 use Rattle.http_binding.specs.declared.headers.HeaderValues as declared
 use Rattle.http_binding.specs.declared.headers.Caller as lent
-use Rattle.http_binding.specs.declared.target.PathAndQuery as split
-use Rattle.http_binding.specs.declared.target.Target as aimed
 use Rattle.http_binding.specs.Binding.{HeaderValues, Caller}
-use Rattle.http_binding.specs.Targets.{PathAndQuery, TargetValues}
 
 abbrev pub seen_values : declared.HeaderValues → HeaderValues
 seen_values values = record {
@@ -22,9 +19,3 @@ seen_caller caller = record {
   expiry = caller.expiry;
   type = caller.ty;
 }
-
-abbrev pub seen_parts : split.PathAndQuery → PathAndQuery
-seen_parts parts = record { path = parts.path.now; query = option_copied parts.query }
-
-abbrev pub seen_target : aimed.Target → TargetValues
-seen_target target = record { to = target.to; query = target.query.now }

@@ -5,9 +5,10 @@ ghost use Rattle.http_frames.specs.Lines.{IsFound, values_named};
 ghost use Rattle.http_binding.specs.Headers as spec;
 ghost use Rattle.http_binding.specs.Binding.{header_value, header_values};
 ghost use Rattle.http_binding.specs.Seen.{seen_values, seen_caller};
-ghost use Rattle.http_binding.specs.Binding.{required, unless_empty, caller_of, echo_of, ReadsAs};
-ghost use Rattle.http_binding.specs.declared.fault.BindFault.TheVariants as fault;
+ghost use Rattle.http_binding.specs.Binding.{required, unless_empty, caller_of, echo_of};
 ghost use Rattle.http_binding.specs.declared.headers.Field.TheVariants as fields;
+ghost use Rattle.http_target.specs.Chain.{ReadsAs};
+ghost use Rattle.http_target.specs.declared.fault.BindFault.TheVariants as fault;
 
 use crate::media_type::{admits_type, type_number};
 use crate::method::Method;

@@ -1,6 +1,5 @@
 //! Laws of the definitions.
 ghost use Rattle.http_binding.specs.Laws.{
-  AuthoritiesAreOfUris,
   BindsToOne,
   BindsToKinds,
   EchoIsId,
@@ -17,11 +16,6 @@ pub fn a_frame_binds_to_one_request()
 /// operation needs, and no others that it doesn't read.
 pub fn a_frame_binds_to_requests_of_their_kinds()
     ensures { BindsToKinds }
-{}
-
-/// What is taken for the authority of a target is what the crate `http_uri` reads as one.
-pub fn authorities_are_of_uris()
-    ensures { AuthoritiesAreOfUris }
 {}
 
 /// The identifier that is told of a frame that binds is the request's.

@@ -6,31 +6,27 @@
 //! of its frame (`reply_text`). They answer a frame that binds to nothing themselves, and say
 //! whether the connection closes behind a reply.
 //!
-//! The parts of a request each have a module: the method, the target with the address that a path
-//! is, the header fields with the type of the content, the query with the conditions of a filter,
-//! and the body.
+//! The parts of a request each have a module: the method, the header fields with the type of the
+//! content, and the body; the target, with the address that a path is, and the query, with the
+//! conditions of a filter, stand in the crate http_target.
 #![tactic(auto)]
 
-mod absolute;
-mod fault;
 mod headers;
 mod laws;
 mod lines;
 mod media_type;
 mod method;
 mod names;
-mod query;
 mod reply;
 mod request;
 mod room;
-mod target;
 mod writing;
 
-pub use fault::BindFault;
 pub use headers::echo_id;
+pub use http_target::{BindFault, authorities_are_of_uris, index_of};
 pub use laws::{
     a_frame_binds_to_one_request, a_frame_binds_to_requests_of_their_kinds, a_reply_is_read_back,
-    an_operation_is_read_back, authorities_are_of_uris, the_echo_is_the_request_id,
+    an_operation_is_read_back, the_echo_is_the_request_id,
 };
 pub use lines::{body_of, push_close, push_field, push_length};
 pub use method::method_text;
@@ -39,5 +35,4 @@ pub use reply::of_reply;
 pub use request::{created_type, to_request};
 pub use room::ReplyRoom;
 pub use std::alloc::AllocError as OutOfMemory;
-pub use target::index_of;
 pub use writing::write_reply_text;

@@ -6,7 +6,7 @@ ghost use Rattle.http_binding.specs.MediaTypes as spec;
 
 use crate::method::Method;
 use crate::names::{JSON_TYPE, TYPE_PARAMETER};
-use crate::target::{before, behind};
+use http_target::{before, behind};
 use m2m_names::{are_digits, is_filled, is_type_number};
 use primitive_json::digits_number;
 

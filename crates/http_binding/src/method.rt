@@ -1,6 +1,7 @@
 //! The methods of requests, as a table.
 ghost use Rattle.std.specs.Prelude.{◌≡◌, find};
-ghost use Rattle.http_binding.specs.Binding.{method_of, ReadsAs};
+ghost use Rattle.http_binding.specs.Binding.{method_of};
+ghost use Rattle.http_target.specs.Chain.{ReadsAs};
 ghost use Rattle.http_binding.specs.Methods as spec;
 
 use crate::BindFault;

@@ -6,7 +6,7 @@ use Rattle.std.proofs.lemmas.Bool.{and_parts, cond-true, cond-false, false≢tru
 use Rattle.std.proofs.lemmas.Bool.Decides.{Decides-eqb}
 use Rattle.std.proofs.lemmas.Slice.Eq.{starts_is}
 use Rattle.http_uri.specs.ByteClasses.{slash}
-use Rattle.http_binding.specs.Targets.{has_segment, is_of_sp, has_provider, is_of_world, address_of_path}
+use Rattle.http_target.specs.Targets.{has_segment, is_of_sp, has_provider, is_of_world, address_of_path}
 use Rattle.http_client_binding.specs.TargetWriting.{path_of_address, has_own_path}
 
 -- what stands at the front, and what behind it

@@ -5,7 +5,7 @@ use Rattle.std.specs.List.{fold, flat_map}
 use Rattle.std.proofs.lemmas.List.{map_more, take_more, take_all, flat_map_more}
 use Rattle.std.proofs.lemmas.List.Sums.{fold_push, fold-append}
 use Rattle.form_urlencoded.specs.Form.{append_pair, extend_pairs}
-use Rattle.http_binding.specs.Queries.{Pair}
+use Rattle.http_target.specs.Queries.{Pair}
 use Rattle.http_client_binding.specs.QueryWriting.{pairs_at}
 
 -- the form after one more pair

@@ -25,9 +25,10 @@ use Rattle.primitive_json.proofs.Numerals.{own}
 use Rattle.http_frames.specs.declared.frame.Start.TheVariants.{Answer}
 use Rattle.http_frames.specs.declared.frame.Frame.{Frame}
 use Rattle.http_frames.specs.Lines.{Line, is_same_name, values_named}
-use Rattle.http_binding.specs.declared.fault.BindFault.{BindFault}
-use Rattle.http_binding.specs.declared.fault.BindFault.TheVariants as bind
-use Rattle.http_binding.specs.Binding.{and_then, value_in, echo_of}
+use Rattle.http_target.specs.declared.fault.BindFault.{BindFault}
+use Rattle.http_target.specs.declared.fault.BindFault.TheVariants as bind
+use Rattle.http_binding.specs.Binding.{value_in, echo_of}
+use Rattle.http_target.specs.Chain.{and_then}
 use Rattle.http_binding.specs.Headers.{code_field, length_field, is_some_text}
 use Rattle.http_client_binding.specs.Laws.{IsTold}
 use Rattle.http_client_binding.specs.ReplyReading.{is_code_text, code_spelled, lone_code, code_in, some_content, content_said, reply_in}

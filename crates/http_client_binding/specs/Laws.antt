@@ -13,7 +13,7 @@ use Rattle.http_frames.specs.Frame.{head_limit, body_limit}
 use Rattle.http_frames.specs.Stream.{BeginsWithFrame}
 use Rattle.http_frames.specs.Text.{IsSoundFrame, head_text, frame_text}
 use Rattle.http_binding.specs.Replying.{body_of, reply_frame}
-use Rattle.http_binding.specs.Targets.{address_of_path}
+use Rattle.http_target.specs.Targets.{address_of_path}
 use Rattle.http_client_binding.specs.declared.target.Aim.{Aim}
 use Rattle.http_client_binding.specs.ReplyReading.{reply_in}
 use Rattle.http_client_binding.specs.Asking.{target_text, request_frame}

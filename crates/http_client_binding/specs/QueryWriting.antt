@@ -23,7 +23,7 @@ use Rattle.primitive_json.specs.Members.{name_of_member}
 use Rattle.primitive_json.specs.declared.member.Member.TheVariants.{DesiredForm, ResultContent}
 use Rattle.primitive_json.specs.declared.request.RequestParts.{RequestParts}
 use Rattle.http_binding.specs.Headers.{is_some_text}
-use Rattle.http_binding.specs.Queries.{Pair}
+use Rattle.http_target.specs.Queries.{Pair}
 
 -- ---- the texts of values
 

@@ -13,9 +13,10 @@ use Rattle.m2m_value.specs.Reading.{reading}
 use Rattle.primitive_json.specs.declared.reply.ReplyParts.{ReplyParts}
 use Rattle.http_frames.specs.declared.frame.Frame.{Frame}
 use Rattle.http_frames.specs.Lines.{Line, values_named}
-use Rattle.http_binding.specs.declared.fault.BindFault.{BindFault}
-use Rattle.http_binding.specs.declared.fault.BindFault.TheVariants.{Header}
-use Rattle.http_binding.specs.Binding.{and_then, value_in, echo_of}
+use Rattle.http_target.specs.declared.fault.BindFault.{BindFault}
+use Rattle.http_target.specs.declared.fault.BindFault.TheVariants.{Header}
+use Rattle.http_binding.specs.Binding.{value_in, echo_of}
+use Rattle.http_target.specs.Chain.{and_then}
 use Rattle.http_binding.specs.Headers.{code_field, is_some_text}
 
 -- four digits

@@ -5,7 +5,7 @@ use Rattle.std.specs.Prelude.{Bool, not, ◌&&◌, slice_index, if◌then◌else
 use Rattle.std.specs.List.{starts_with}
 use Rattle.http_uri.specs.ByteClasses.{slash, question_mark, index_of, split_once_front}
 use Rattle.m2m_names.specs.Urls.{scheme_len}
-use Rattle.http_binding.specs.Targets.{has_segment, is_of_sp, has_provider, is_of_world}
+use Rattle.http_target.specs.Targets.{has_segment, is_of_sp, has_provider, is_of_world}
 
 -- ---- the parts of a URL
 

@@ -2,7 +2,8 @@
 ghost use Rattle.std.specs.Prelude.{◌≡◌, ◌+◌, ◌*◌, ◌<◌, ◌==◌, IfOk, IfSome, IsTrue, IsUtf8, length};
 ghost use Rattle.std.specs.Char.{digit_value, is_ascii_digit};
 ghost use Rattle.std.specs.Str.Parse.{digits_value};
-ghost use Rattle.http_binding.specs.Binding.{echo_of, ReadsAs};
+ghost use Rattle.http_binding.specs.Binding.{echo_of};
+ghost use Rattle.http_target.specs.Chain.{ReadsAs};
 ghost use Rattle.http_binding.specs.Headers.{code_field};
 ghost use Rattle.http_frames.specs.Lines.{values_named};
 ghost use Rattle.http_client_binding.specs.ReplyReading as spec;

@@ -1,5 +1,0 @@
-use Rattle.http_binding.proofs.AuthorityLemmas.{authorities_are_of_uris}
-use Rattle.http_binding.proofs.laws.authorities_are_of_uris.Goals as goal
-
-pub returns : goal.returns
-returns c = authorities_are_of_uris

@@ -1,0 +1,4 @@
+pub mod AuthorityLemmas
+pub mod QueryLemmas
+pub mod TargetLemmas
+pub mod WordLemmas

@@ -1,0 +1,223 @@
+-- The query of a request (TS-0009, 6.2.2.3): its pairs, and what they say.
+use Rattle.std.specs.Prelude.{ℕ, ◌==◌, Bool, not, ◌&&◌, ◌||◌, ℤ, pos, List, [], ◌∷◌, ◌++◌, map}
+use Rattle.std.specs.Prelude.{bytes_eq, codes, Option, Some, None, option_map, option_and_then}
+use Rattle.std.specs.Prelude.{unwrap_or, is_some, if◌then◌else◌, Result, Ok, Err}
+use Rattle.std.specs.List.{list_all, filter_map, slice_split}
+use Rattle.std.specs.Option.{option_map_or}
+use Rattle.std.specs.Str.{is_utf8}
+use Rattle.std.specs.Str.Lossy.{utf8_lossy}
+use Rattle.form_urlencoded.specs.Form as form
+use Rattle.m2m_names.specs.Name.{is_one_of}
+use Rattle.m2m_names.specs.StampReading.{moment_at}
+use Rattle.m2m_names.specs.Types.{is_type_number}
+use Rattle.m2m_names.specs.declared.operations.Op.{Op}
+use Rattle.m2m_value.specs.Shapes.{is_label_text}
+use Rattle.filter_criteria.specs.Conditions.{condition_named, row_of_condition, usage_numbered}
+use Rattle.filter_criteria.specs.Values.{where_it}
+use Rattle.filter_criteria.specs.declared.condition.Condition.{Condition}
+use Rattle.filter_criteria.specs.declared.condition.Condition.TheVariants.{CreatedAfter}
+use Rattle.filter_criteria.specs.declared.condition.Condition.TheVariants.{CreatedBefore}
+use Rattle.filter_criteria.specs.declared.condition.Condition.TheVariants.{ExpireAfter}
+use Rattle.filter_criteria.specs.declared.condition.Condition.TheVariants.{ExpireBefore}
+use Rattle.filter_criteria.specs.declared.condition.Condition.TheVariants.{Limit}
+use Rattle.filter_criteria.specs.declared.condition.Condition.TheVariants.{ModifiedSince}
+use Rattle.filter_criteria.specs.declared.condition.Condition.TheVariants.{StateTagBigger}
+use Rattle.filter_criteria.specs.declared.condition.Condition.TheVariants.{StateTagSmaller}
+use Rattle.filter_criteria.specs.declared.condition.Condition.TheVariants.{SizeAbove, SizeBelow}
+use Rattle.filter_criteria.specs.declared.condition.Condition.TheVariants.{UnmodifiedSince}
+use Rattle.filter_criteria.specs.declared.condition.Sort.{Sort}
+use Rattle.filter_criteria.specs.declared.condition.Sort.TheVariants.{Moment, Count, Labels, Types}
+use Rattle.filter_criteria.specs.declared.condition.Sort.TheVariants.{Use}
+use Rattle.filter_criteria.specs.declared.filter.FilterParts.{FilterParts}
+use Rattle.filter_criteria.specs.declared.filter.FilterUsage.{FilterUsage}
+use Rattle.primitive_json.specs.Kinds.{number_spelled, is_among, result_contents, address_forms}
+use Rattle.primitive_json.specs.Members.{retrieves, has_result, name_of_member}
+use Rattle.primitive_json.specs.declared.member.Member.TheVariants as members
+use Rattle.http_target.specs.declared.fault.BindFault.{BindFault}
+use Rattle.http_target.specs.declared.fault.BindFault.TheVariants as bind
+use Rattle.http_target.specs.declared.query.Key.{Key}
+use Rattle.http_target.specs.declared.query.Key.TheVariants.{ResultContent, ResponseType}
+use Rattle.http_target.specs.declared.query.Key.TheVariants.{DesiredForm, Unread, OfFilter}
+use Rattle.http_target.specs.declared.query.Query.{Query}
+
+-- ---- the pairs
+
+-- a key and a value
+abbrev pub Pair : Type 0
+Pair = List ℕ × List ℕ
+
+-- the text that a key or a value stands for: what is no UTF-8 in it becomes U+FFFD
+abbrev pub decoded : List ℕ → List ℕ
+decoded bytes = utf8_lossy (form.decode bytes)
+
+abbrev pub decoded_pair : Pair → Pair
+decoded_pair pair = (decoded pair.0, decoded pair.1)
+
+-- the pairs of a query, as a form has them (URL Standard, section 5.1)
+abbrev pub decoded_pairs : List ℕ → List Pair
+decoded_pairs query = map decoded_pair (form.raw_pairs query)
+
+-- ---- the keys
+
+-- the keys that are accepted and never read (the profile's)
+abbrev pub unread_keys : List (List ℕ)
+unread_keys = codes "da" ∷ codes "rp" ∷ []
+
+abbrev pub is_unread : List ℕ → Bool
+is_unread name = is_one_of unread_keys name
+
+-- what a key stands for, where it stands for anything
+abbrev pub key_named : List ℕ → Option Key
+key_named name =
+    if bytes_eq name (name_of_member members.ResultContent) then Some ResultContent
+    else (if bytes_eq name (name_of_member members.ResponseType) then Some ResponseType
+    else (if bytes_eq name (name_of_member members.DesiredForm) then Some DesiredForm
+    else (if is_unread name then Some Unread
+    else option_map OfFilter (condition_named name))))
+
+-- ---- the values
+
+-- the number that 1 to 18 digits write, as one with a sign
+abbrev pub whole_spelled : List ℕ → Option ℤ
+whole_spelled s = option_map pos (number_spelled s)
+
+-- the content of the result: one of those of the operation, where it has any, else any number
+abbrev pub is_result : Op → ℤ → Bool
+is_result op z = not (has_result op) || is_among (result_contents op) z
+
+abbrev pub result_spelled : Op → List ℕ → Option ℤ
+result_spelled op s = where_it (is_result op) (whole_spelled s)
+
+-- the form of the addresses that a discovery gives
+abbrev pub form_spelled : List ℕ → Option ℤ
+form_spelled s = where_it (is_among address_forms) (whole_spelled s)
+
+-- how a filter is used
+abbrev pub usage_spelled : List ℕ → Option FilterUsage
+usage_spelled s = option_and_then usage_numbered (whole_spelled s)
+
+-- what stands between single spaces
+abbrev pub words_of : List ℕ → List (List ℕ)
+words_of s = slice_split (λ b. b == 32) s
+
+-- a label, which is UTF-8
+abbrev pub spells_label : List ℕ → Bool
+spells_label s = is_label_text s && is_utf8 s
+
+-- the labels that the words of a text are, where each is one
+abbrev pub labels_spelled : List ℕ → Option (List (List ℕ))
+labels_spelled s = if list_all spells_label (words_of s) then Some (words_of s) else None
+
+-- the number of a type
+abbrev pub type_spelled : List ℕ → Option ℕ
+type_spelled s = where_it is_type_number (number_spelled s)
+
+abbrev pub is_type_text : List ℕ → Bool
+is_type_text s = is_some (type_spelled s)
+
+-- the numbers of types that the words of a text are, where each is one
+abbrev pub types_spelled : List ℕ → Option (List ℕ)
+types_spelled s =
+    if list_all is_type_text (words_of s) then Some (filter_map type_spelled (words_of s)) else None
+
+-- ---- what the pairs say
+
+-- a place that is empty, with a value that is there: a key stands once
+abbrev pub placed : {A : Type 0} → Option A → Option A → Option (Option A)
+placed place None = None
+placed None (Some value) = Some (Some value)
+placed (Some old) (Some value) = None
+
+-- a filter without conditions
+abbrev pub no_conditions : FilterParts
+no_conditions = record {
+  crb = None;
+  cra = None;
+  ms = None;
+  us = None;
+  sts = None;
+  stb = None;
+  exb = None;
+  exa = None;
+  lbl = [];
+  ty = [];
+  sza = None;
+  szb = None;
+  fu = None;
+  lim = None;
+}
+
+-- the filter with one more condition on a moment, on a number, or on its use
+abbrev pub with_moment : Condition → Option ℕ → FilterParts → Option FilterParts
+with_moment CreatedAfter at f = option_map (λ o. record f { cra = o }) (placed f.cra at)
+with_moment CreatedBefore at f = option_map (λ o. record f { crb = o }) (placed f.crb at)
+with_moment ExpireAfter at f = option_map (λ o. record f { exa = o }) (placed f.exa at)
+with_moment ExpireBefore at f = option_map (λ o. record f { exb = o }) (placed f.exb at)
+with_moment ModifiedSince at f = option_map (λ o. record f { ms = o }) (placed f.ms at)
+with_moment UnmodifiedSince at f = option_map (λ o. record f { us = o }) (placed f.us at)
+with_moment condition at f = None
+
+abbrev pub with_number : Condition → Option ℕ → FilterParts → Option FilterParts
+with_number Limit n f = option_map (λ o. record f { lim = o }) (placed f.lim n)
+with_number StateTagBigger n f = option_map (λ o. record f { stb = o }) (placed f.stb n)
+with_number StateTagSmaller n f = option_map (λ o. record f { sts = o }) (placed f.sts n)
+with_number SizeAbove n f = option_map (λ o. record f { sza = o }) (placed f.sza n)
+with_number SizeBelow n f = option_map (λ o. record f { szb = o }) (placed f.szb n)
+with_number condition n f = None
+
+abbrev pub with_usage : Option FilterUsage → FilterParts → Option FilterParts
+with_usage usage f = option_map (λ o. record f { fu = o }) (placed f.fu usage)
+
+-- the filter with more labels, or more types, behind those before, where there are any
+abbrev pub with_labels : Option (List (List ℕ)) → FilterParts → Option FilterParts
+with_labels labels f = option_map (λ more. record f { lbl = f.lbl ++ more }) labels
+
+abbrev pub with_types : Option (List ℕ) → FilterParts → Option FilterParts
+with_types types f = option_map (λ more. record f { ty = f.ty ++ more }) types
+
+-- the filter with what a text says of a condition of this sort
+abbrev pub with_sort : Sort → Condition → List ℕ → FilterParts → Option FilterParts
+with_sort Moment condition s f = with_moment condition (moment_at s) f
+with_sort Count condition s f = with_number condition (number_spelled s) f
+with_sort Labels condition s f = with_labels (labels_spelled s) f
+with_sort Types condition s f = with_types (types_spelled s) f
+with_sort Use condition s f = with_usage (usage_spelled s) f
+
+-- the filter with one more condition, where the text is that of its sort
+abbrev pub with_condition : Condition → List ℕ → FilterParts → Option FilterParts
+with_condition condition s f = with_sort (row_of_condition condition).sort condition s f
+
+-- a query that says nothing
+abbrev pub nothing_said : Query
+nothing_said = record { rcn = None; rt = None; fc = None; drt = None }
+
+abbrev pub with_result : Option ℤ → Query → Option Query
+with_result number q = option_map (λ o. record q { rcn = o }) (placed q.rcn number)
+
+abbrev pub with_response : Option ℤ → Query → Option Query
+with_response number q = option_map (λ o. record q { rt = o }) (placed q.rt number)
+
+abbrev pub with_form : Option ℤ → Query → Option Query
+with_form number q = option_map (λ o. record q { drt = o }) (placed q.drt number)
+
+abbrev pub with_filter : Condition → List ℕ → Query → Option Query
+with_filter condition s q =
+    option_map (λ f. record q { fc = Some f })
+    (with_condition condition s (unwrap_or q.fc no_conditions))
+
+-- the query with what one more key says: conditions stand on a Retrieve alone (the profile's)
+abbrev pub with_key : Op → Key → List ℕ → Query → Option Query
+with_key op ResultContent s q = with_result (result_spelled op s) q
+with_key op ResponseType s q = with_response (whole_spelled s) q
+with_key op DesiredForm s q = with_form (form_spelled s) q
+with_key op Unread s q = Some q
+with_key op (OfFilter condition) s q = if retrieves op then with_filter condition s q else None
+
+-- the query with what one more pair says, where it has a key that is served
+abbrev pub said_more : Op → Pair → Query → Option Query
+said_more op pair q = option_and_then (λ key. with_key op key pair.1 q) (key_named pair.0)
+
+-- the same, or the key of a pair that is bad
+abbrev pub pair_said : Op → Pair → Query → Result Query BindFault
+pair_said op pair q =
+    option_map_or (λ said. Ok said) (said_more op pair q) (Err (bind.Query pair.0))

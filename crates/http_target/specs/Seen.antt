@@ -1,0 +1,11 @@
+-- What contracts see of the parts of a target that are lent by a frame.
+use Rattle.std.specs.Option.{option_copied}
+use Rattle.http_target.specs.declared.target.PathAndQuery as split
+use Rattle.http_target.specs.declared.target.Target as aimed
+use Rattle.http_target.specs.Targets.{PathAndQuery, TargetValues}
+
+abbrev pub seen_parts : split.PathAndQuery → PathAndQuery
+seen_parts parts = record { path = parts.path.now; query = option_copied parts.query }
+
+abbrev pub seen_target : aimed.Target → TargetValues
+seen_target target = record { to = target.to; query = target.query.now }
