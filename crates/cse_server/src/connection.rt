@@ -12,7 +12,7 @@ ghost use Rattle.cse_server.specs.Way.{Goes, Hears, Refuses, Turns};
 use crate::closing::{MOST_FRAMES, closes};
 use crate::replying::{put_last_reply, put_reply, refusal_of, reply_by};
 use cse_machine::{Event, Outcome};
-use http_binding::{BindFault, ReplyRoom, to_request};
+use http_binding::{BindFault, ReplyRoom, to_request_in};
 use http_frames::{Frame, FrameFault, Inbox, Next, PutFault};
 use m2m_io::{Clock, Connection, Link};
 use m2m_value::Scratch;
@@ -58,7 +58,7 @@ fn asked_by(
 ) -> Result<Option<Request>, OutOfMemory>
     ensures { IfOk result (λ r. r ≡ request_in frame.now) }
 {
-    match to_request(alloc, scratch, frame) {
+    match to_request_in(alloc, scratch, frame) {
         Ok(request) => Ok(Some(request)),
         Err(BindFault::OutOfMemory) => Err(OutOfMemory),
         Err(_) => Ok(None),

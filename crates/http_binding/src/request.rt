@@ -145,9 +145,19 @@ fn request_of(
 /// The request that a frame binds to (TS-0009, 6.2 to 6.5), or why it binds to none: the first of
 /// its faults, in the order of method, target, header fields as they stand in the table, the
 /// identifier where it is missing, the pairs of the query, and the body. The texts that the request
-/// keeps are copied, the body is read into its content in the room of those before it, and nothing else
-/// of the frame is kept.
-pub fn to_request(alloc: Global, scratch: &mut Scratch, frame: &Frame) -> Result<Request, BindFault>
+/// keeps are copied, the body is read into its content, and nothing else of the frame is kept.
+pub fn to_request(alloc: Global, frame: &Frame) -> Result<Request, BindFault>
+    ensures { ReadsAs (λ request. request) result (binding frame.now) }
+{
+    to_request_in(alloc, &mut Scratch::new(alloc), frame)
+}
+
+/// The same, where a body is read in the room of those before it.
+pub fn to_request_in(
+    alloc: Global,
+    scratch: &mut Scratch,
+    frame: &Frame,
+) -> Result<Request, BindFault>
     ensures { ReadsAs (λ request. request) result (binding frame.now) }
 {
     let method = Method::of(&frame.start)?;

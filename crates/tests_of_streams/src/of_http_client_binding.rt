@@ -1,13 +1,13 @@
 //! Requests as their frames, and a reply that is read again from its frame.
 use crate::of_http_binding::{WRITTEN, as_frame, conflict, parsed};
 use crate::texts::show;
-use http_binding::of_reply;
+use http_binding::{of_reply, to_request};
 use http_client_binding::{Aim, of_request, to_reply};
-use http_frames::write_frame;
+use http_frames::{Frame, write_frame};
 use m2m_io::MemSink;
 use m2m_names::read_url;
-use primitive_json::read_request;
-use std::alloc::AllocGlobal;
+use primitive_json::{Request, read_request};
+use std::alloc::{AllocGlobal, Global};
 use std::process::Abort;
 use std::test::Fail;
 
@@ -30,30 +30,48 @@ const AS_CREATED: &str = "POST /n?b=1 HTTP/1.1\r\nHost: 127.0.0.1\r\nX-M2M-RI: r
     Content-Type: application/json;ty=3\r\nContent-Length: 14\r\nConnection: close\r\n\r\n\
     {\"m2m:cnt\":{}}";
 
-/// What is written of a request to a URL.
-fn asked(
+/// The frame of a request to a URL.
+fn sent(
     rt: &(impl Abort + AllocGlobal),
-    json: &str,
+    request: &Request,
     url: &[u8],
     aim: Aim,
-) -> Result<MemSink, Fail> {
+) -> Result<Frame, Fail> {
+    read_url(url).expect(rt, "a URL");
+    Ok(of_request(rt.alloc(), request, url, aim)?)
+}
+
+/// The frame of a request that a JSON text is.
+fn asked(rt: &(impl Abort + AllocGlobal), json: &str, url: &[u8], aim: Aim) -> Result<Frame, Fail> {
     let value = parsed(rt.alloc(), json)?;
     let request = read_request(rt.alloc(), &value)?;
-    read_url(url).expect(rt, "a URL");
-    let frame = of_request(rt.alloc(), &request, url, aim)?;
-    let mut sink = MemSink::new(Vec::new(rt.alloc()), Vec::new(rt.alloc()));
-    write_frame(rt.alloc(), &frame, &mut sink)?;
+    sent(rt, &request, url, aim)
+}
+
+/// What is written of a frame.
+fn put(alloc: Global, frame: &Frame) -> Result<MemSink, Fail> {
+    let mut sink = MemSink::new(Vec::new(alloc), Vec::new(alloc));
+    write_frame(alloc, frame, &mut sink)?;
     Ok(sink)
 }
 
 #[test]
 fn a_request_asks_for_its_address_or_for_the_path_of_a_url(rt: HostRuntime) -> Result<(), Fail> {
-    let sink = asked(&rt, FORWARDED, b"http://127.0.0.1:8081", Aim::Peer)?;
-    assert_eq!(rt; show(sink.written()), AS_FORWARDED);
-    let sink = asked(&rt, DISCOVERED, b"http://mn.example/in/?b=1", Aim::Peer)?;
-    assert_eq!(rt; show(sink.written()), AS_DISCOVERED);
-    let sink = asked(&rt, CREATED, b"http://127.0.0.1/n?b=1", Aim::Direct)?;
-    assert_eq!(rt; show(sink.written()), AS_CREATED);
+    let frame = asked(&rt, FORWARDED, b"http://127.0.0.1:8081", Aim::Peer)?;
+    assert_eq!(rt; show(put(rt.alloc(), &frame)?.written()), AS_FORWARDED);
+    let frame = asked(&rt, DISCOVERED, b"http://mn.example/in/?b=1", Aim::Peer)?;
+    assert_eq!(rt; show(put(rt.alloc(), &frame)?.written()), AS_DISCOVERED);
+    let frame = asked(&rt, CREATED, b"http://127.0.0.1/n?b=1", Aim::Direct)?;
+    assert_eq!(rt; show(put(rt.alloc(), &frame)?.written()), AS_CREATED);
+    Ok(())
+}
+
+#[test]
+fn a_request_is_read_from_its_frame(rt: HostRuntime) -> Result<(), Fail> {
+    let frame = asked(&rt, FORWARDED, b"http://127.0.0.1:8081", Aim::Peer)?;
+    let request = to_request(rt.alloc(), &frame)?;
+    let again = sent(&rt, &request, b"http://127.0.0.1:8081", Aim::Peer)?;
+    assert_eq!(rt; show(put(rt.alloc(), &again)?.written()), AS_FORWARDED);
     Ok(())
 }
 

@@ -1,5 +1,5 @@
 use Rattle.http_binding.proofs.LawLemmas.{originator_utf8, id_utf8, expiry_sound, query_sound}
-use Rattle.http_binding.proofs.request.to_request.Goals as goal
+use Rattle.http_binding.proofs.request.to_request_in.Goals as goal
 
 pub request_of-requires-clause-originator : goal.request_of-requires-clause-originator
 request_of-requires-clause-originator c = originator_utf8 _ c.args.frame.now.lines _ c.in_ok-caller.ensures
