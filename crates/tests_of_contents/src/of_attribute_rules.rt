@@ -2,8 +2,8 @@
 use crate::lines::{parsed, parts, word};
 use attribute_rules::*;
 use m2m_names::{Attr, Ty};
-use m2m_value::{Val, write};
-use resource_model::{Attrs, OutOfMemory};
+use m2m_value::{Text, Val, write};
+use resource_model::{Attrs, Moments, OutOfMemory, Resource};
 use std::alloc::{AllocGlobal, Global};
 use std::process::Abort;
 use std::test::Fail;
@@ -100,6 +100,7 @@ creates ae "api":"N1","rn":"n","rr":false,"srv":["2a"] => yes
 updates ae "aa":null,"apn":null,"at":null,"et":null,"lbl":null,"poa":null,"rr":false => yes
 updates ae "srv":null => yes
 creates cnt  => yes
+keeps cnt "mia":1,"mni":2 => yes
 creates cnt "aa":[],"acpi":[],"at":[],"cr":null,"et":"20240229T235959","lbl":[],"mbs":0 => yes
 creates cnt "mia":1,"mni":2,"rn":"n" => yes
 updates cnt "aa":null,"at":null,"et":null,"lbl":null,"mbs":null,"mia":null,"mni":null => yes
@@ -359,6 +360,32 @@ fn creation(alloc: Global, ty: Ty, content: Val) -> Result<String, OutOfMemory> 
     }
 }
 
+// A resource of these attributes.
+fn resource(alloc: Global, ty: Ty, attrs: Attrs) -> Resource {
+    let moments = Moments {
+        ct: 0,
+        lt: 0,
+        et: 0,
+    };
+    let name = Text::of(Vec::new(alloc));
+    let owner = Text::of(Vec::new(alloc));
+    Resource::of(1, ty, name, 0, owner, moments, attrs)
+}
+
+// Whether these attributes are of the kinds that the type keeps.
+fn kept(alloc: Global, ty: Ty, attrs: Attrs) -> Result<String, OutOfMemory> {
+    let kept = keeps_kinds(&resource(alloc, ty, attrs));
+    word(alloc, if kept { "yes" } else { "no" })
+}
+
+// Whether what a creation by this content wants is kept.
+fn keeps(alloc: Global, ty: Ty, content: Val) -> Result<String, OutOfMemory> {
+    match admit_create(alloc, ty, content) {
+        Ok(wanted) => kept(alloc, ty, wanted.attrs),
+        Err(fault) => fault_text(alloc, fault),
+    }
+}
+
 // What an update changes: the attributes that it gives a value, and those that it clears.
 fn changes(alloc: Global, edit: &Edit) -> Result<String, OutOfMemory> {
     let sets = values(alloc, &edit.sets)?;
@@ -379,6 +406,7 @@ fn told(alloc: Global, asked: &str, ty: Ty, text: &str) -> Result<String, OutOfM
         "columns" => columns(alloc, ty),
         "value" => value(alloc, ty, text),
         "creates" => creates(alloc, ty, text),
+        "keeps" => keeps(alloc, ty, content(alloc, ty, text)?),
         "updates" => updates(alloc, ty, text),
         "create" => creation(alloc, ty, content(alloc, ty, text)?),
         "update" => update(alloc, ty, content(alloc, ty, text)?),

@@ -1,6 +1,7 @@
 //! Requests and replies read from JSON and written again, and the first faults of values that are
 //! none.
 use crate::lines::{parsed, parts, spelled, word};
+use filter_criteria::{is_count, is_moment};
 use m2m_value::{Text, Val};
 use primitive_json::*;
 use std::alloc::{AllocGlobal, Global};
@@ -114,7 +115,11 @@ reply {"rsc":"2000"} => bad rsc
 id r => yes
 id  => no
 id r 1 => no
-id é => no"#;
+id é => no
+moment 253402300799 => yes
+moment 253402300800 => no
+count 9223372036854775807 => yes
+count 9223372036854775808 => no"#;
 
 /// The kind of a fault, and the name in it.
 fn fault_text(alloc: Global, kind: &str, name: &Text) -> Result<String, OutOfMemory> {
@@ -175,12 +180,17 @@ fn reply(alloc: Global, text: &str) -> Result<String, OutOfMemory> {
     }
 }
 
+fn yes_or_no(alloc: Global, fact: bool) -> Result<String, OutOfMemory> {
+    word(alloc, if fact { "yes" } else { "no" })
+}
+
 fn told(alloc: Global, asked: &str, text: &str) -> Result<String, OutOfMemory> {
     match asked {
         "read" => read_again(alloc, text),
         "reply" => reply(alloc, text),
-        _ if is_request_id(text.as_bytes()) => word(alloc, "yes"),
-        _ => word(alloc, "no"),
+        "moment" => yes_or_no(alloc, is_moment(text.parse::<u64>().unwrap_or(0))),
+        "count" => yes_or_no(alloc, is_count(text.parse::<u64>().unwrap_or(0))),
+        _ => yes_or_no(alloc, is_request_id(text.as_bytes())),
     }
 }
 

@@ -4,7 +4,7 @@ use plain_tree::ListTree;
 use std::alloc::{AllocError, Global};
 use tree_model::{
     Resource, Tree, child_at, child_named, has_ae, has_channel, has_child, has_cse, instance_at,
-    may_restamp, over, stands_in, subscription_at,
+    may_replace, may_restamp, over, stands_in, subscription_at,
 };
 
 const CONTAINER: &str = "{\"m2m:cnt\":{\"cbs\":13,\"cni\":2,\"ct\":\"19700101T000140\",\
@@ -85,12 +85,21 @@ fn are_there(tree: &ListTree, parent: u64, name: &[u8]) -> [bool; 4] {
     ]
 }
 
+// Whether a resource is there, and may stand in its own place.
+fn may_stay(tree: &ListTree, number: u64) -> bool {
+    match tree.get(number) {
+        Some(resource) => may_replace(tree, resource),
+        None => false,
+    }
+}
+
 #[test]
 fn finds_entities(rt: HostRuntime) -> Result<(), AllocError> {
     let tree = sample(rt.alloc())?;
     assert_eq!(rt; (tree.ae(b"CDev"), tree.cse(b"/id-mn")), (Some(3), None));
     assert_eq!(rt; are_there(&tree, 3, b"CDev"), [true, false, true, false]);
     assert_eq!(rt; are_there(&tree, 4, b"new"), [false, false, false, true]);
+    assert!(rt; may_stay(&tree, 4) && !may_stay(&tree, 100));
     Ok(())
 }
 

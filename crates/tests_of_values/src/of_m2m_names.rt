@@ -191,7 +191,10 @@ form !!!!!!!!!!!!!!!!!!!!!!!!!!!!!!!!!!!!!!!!!!!!!!!!!!!!!!!!!!!!!!!!!!!!!!!!!!!
 form !!!!!!!!!!!!!!!!!!!!!!!!!!!!!!!!!!!!!!!!!!!!!!!!!!!!!!!!!!!!!!!!!!!!!!!!!!!!!!!!\
     !!!!!!!!!!!!!!!!!!!!!!!!!!!!!!!!!!!!!!!!!!!!!!!!!!!!!!!!!!!!!!!!!!!!!!!!!!!!!!!!\
     !!!!!!!!!!!!!!!!!!!!!!!!!!!!!!!!!!!!!!!!!!!!!!!!!!!!!!!!!!!!!!!!!!!!!!!!!!!!!!!!\
-    !!!!!!!!!!!!!!!!! => is";
+    !!!!!!!!!!!!!!!!! => is
+local C => yes
+local /id-in/C => no
+local  => no";
 
 fn operation(alloc: Global, text: &str) -> Result<String, AllocError> {
     match Op::from_number(text.parse::<i64>().unwrap_or(0)) {
@@ -271,6 +274,11 @@ fn form(alloc: Global, text: &str) -> Result<String, AllocError> {
     format!(in alloc; "is{name}{free}{id}{originator}")
 }
 
+fn local(alloc: Global, text: &str) -> Result<String, AllocError> {
+    let local = is_local_originator(text.as_bytes());
+    word(alloc, if local { "yes" } else { "no" })
+}
+
 fn told(alloc: Global, asked: &str, text: &str) -> Result<String, AllocError> {
     match asked {
         "operation" => operation(alloc, text),
@@ -282,6 +290,7 @@ fn told(alloc: Global, asked: &str, text: &str) -> Result<String, AllocError> {
         "url" => number(alloc, host_end(text)),
         "id" => id(alloc, text),
         "form" => form(alloc, text),
+        "local" => local(alloc, text),
         _ => word(alloc, "none"),
     }
 }

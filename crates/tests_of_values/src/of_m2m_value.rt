@@ -37,7 +37,9 @@ size {"a":"\u0001","b":[1,-2]} => 25
 depth 127 => read
 depth 128 => not JSON
 twice a => 2
-list a => same"#;
+list a => same
+truth yes => true
+truth no => false"#;
 
 fn fault_word(fault: ValFault) -> &'static str {
     match fault {
@@ -127,6 +129,7 @@ fn told(alloc: Global, asked: &str, text: &str) -> Result<String, OutOfMemory> {
         "depth" => depth(alloc, text),
         "twice" => twice(alloc, text),
         "list" => list(alloc, text),
+        "truth" => spelled(alloc, &Val::of_bool(text == "yes")),
         _ => word(alloc, "no such word"),
     }
 }

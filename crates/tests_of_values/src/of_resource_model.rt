@@ -94,7 +94,7 @@ fn homes_keep_their_names(rt: HostRuntime) -> Result<(), Fail> {
     Ok(())
 }
 
-/// A container with two attributes.
+/// A container with two attributes, which expires at 9.
 fn container(alloc: Global) -> Result<Resource, OutOfMemory> {
     let moments = Moments {
         ct: 1,
@@ -107,6 +107,7 @@ fn container(alloc: Global) -> Result<Resource, OutOfMemory> {
     let mut made = Resource::of(4, Ty::Container, name, 3, owner, moments, attrs);
     made.set(Attr::Mni, Val::of_num(4))?;
     made.set(Attr::Mbs, Val::of_num(5))?;
+    made.set_et(9);
     Ok(made)
 }
 
@@ -119,7 +120,8 @@ fn counts(resource: &Resource) -> (Option<u64>, Option<u64>) {
 fn copied(alloc: Global, resource: &mut Resource) -> Result<Option<Text>, OutOfMemory> {
     let copy = resource.copy(alloc)?;
     resource.clear(Attr::Mbs);
-    if counts(&copy) == (Some(4), Some(5)) && counts(resource) == (Some(4), None) {
+    let kept = copy.et() == 9 && counts(&copy) == (Some(4), Some(5));
+    if kept && counts(resource) == (Some(4), None) {
         Ok(Some(copy.id(alloc)?))
     } else {
         Ok(None)
