@@ -174,7 +174,7 @@ impl Reader {
         if !self.cases.is_empty() {
             return Err(Wrong::Why("texts stand above the first case"));
         }
-        if !is_text_name(rest) || self.text_of(rest).is_some() {
+        if !is_text_name(rest) || self.text_named(rest).is_some() {
             return Err(Wrong::Why("no name, or one that another text has"));
         }
         let name = String::from_str(self.alloc, rest)?;
@@ -182,7 +182,7 @@ impl Reader {
         Ok(())
     }
 
-    fn text_of(&self, name: &str) -> Option<&NamedText> {
+    fn text_named(&self, name: &str) -> Option<&NamedText> {
         self.texts.iter().find(|text| text.name.as_str() == name)
     }
 
@@ -221,7 +221,7 @@ impl Reader {
 
     /// Appends the text of this name.
     fn push_text(&self, to: &mut Vec<u8>, name: &str) -> Result<(), Wrong> {
-        match self.text_of(name) {
+        match self.text_named(name) {
             None => Err(Wrong::Why("no text has this name")),
             Some(text) => Ok(to.extend_from_slice(&text.bytes)?),
         }
@@ -427,11 +427,11 @@ fn read_cuts(alloc: Global, rest: &str) -> Result<Cuts, Wrong> {
         return Ok(Cuts::Turns);
     }
     if let Some(count) = rest.strip_suffix("*") {
-        return Ok(Cuts::Every(count_of(count)?));
+        return Ok(Cuts::Every(cut_size(count)?));
     }
     let mut cuts = Vec::new(alloc);
     for word in rest.split_whitespace() {
-        cuts.push(count_of(word)?)?;
+        cuts.push(cut_size(word)?)?;
     }
     if cuts.is_empty() {
         return Err(Wrong::Why("no number"));
@@ -440,7 +440,7 @@ fn read_cuts(alloc: Global, rest: &str) -> Result<Cuts, Wrong> {
 }
 
 /// How many bytes a read gives.
-fn count_of(word: &str) -> Result<usize, Wrong> {
+fn cut_size(word: &str) -> Result<usize, Wrong> {
     match number_of(word)? {
         0 => Err(Wrong::Why("a read gives something")),
         count => Ok(count),
