@@ -1,4 +1,4 @@
-// What the limits of a container push out.
+//! What the limits of a container push out.
 ghost use Rattle.std.specs.Prelude.{◌≡◌, ◌≢◌, ◌^◌, ◌<◌, [], ◌∷◌, ◌++◌, length, filter, sum_by};
 ghost use Rattle.std.specs.Prelude.{drop, option_map, option_to_list, IfOk, OnOk, OnErr};
 ghost use Rattle.tree_model.specs.Tree.{instances_of, instance_size};
