@@ -1,4 +1,4 @@
-// The kinds of attribute values.
+//! The kinds of attribute values.
 ghost use Rattle.std.specs.Prelude.{◌≡◌};
 ghost use Rattle.attribute_kinds.specs.Kinds.{has_kind};
 

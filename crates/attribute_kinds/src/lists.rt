@@ -1,4 +1,4 @@
-// Values that are lists.
+//! Values that are lists.
 ghost use Rattle.std.specs.Prelude.{◌≡◌, is_some, false};
 ghost use Rattle.std.specs.Int.{is_in_range};
 ghost use Rattle.std.specs.List.{list_all};
@@ -47,6 +47,7 @@ fn are_points(values: &[Val]) -> bool
     values.iter().all(|value| is_point(value))
 }
 
+/// A list of labels.
 pub fn is_labels(value: &Val) -> bool
     ensures { result ≡ shapes.is_list_of shapes.is_label value.now }
 {
@@ -56,6 +57,7 @@ pub fn is_labels(value: &Val) -> bool
     }
 }
 
+/// A list of CSE-IDs.
 pub fn is_cse_ids(value: &Val) -> bool
     ensures { result ≡ shapes.is_list_of (shapes.is_text_of spec.is_cse_id) value.now }
 {
@@ -65,6 +67,7 @@ pub fn is_cse_ids(value: &Val) -> bool
     }
 }
 
+/// A list of texts.
 pub fn is_texts(value: &Val) -> bool
     ensures { result ≡ shapes.is_list_of (λ d. is_some (views.as_text d)) value.now }
 {
@@ -74,6 +77,7 @@ pub fn is_texts(value: &Val) -> bool
     }
 }
 
+/// A list of points of contact.
 pub fn is_points(value: &Val) -> bool
     ensures { result ≡ shapes.is_list_of (shapes.is_text_of spec.is_point) value.now }
 {
@@ -83,6 +87,7 @@ pub fn is_points(value: &Val) -> bool
     }
 }
 
+/// A list of one point of contact.
 pub fn is_notification_target(value: &Val) -> bool
     ensures { result ≡ option_map_or spec.is_notification_target (views.as_list value.now) false }
 {

@@ -1,4 +1,4 @@
-// Values that are objects.
+//! Values that are objects.
 ghost use Rattle.std.specs.Prelude.{◌≡◌, ◌∷◌, [], codes};
 ghost use Rattle.std.specs.Int.{is_in_range};
 ghost use Rattle.std.specs.List.{list_all};
@@ -111,6 +111,7 @@ fn have_rules(members: &Members) -> bool
     }
 }
 
+/// The rules of a policy: an object of a list of rules.
 pub fn is_rules(value: &Val) -> bool
     ensures { result ≡ shapes.is_object_of spec.is_rules value.now }
 {
@@ -146,6 +147,7 @@ fn make_criteria(members: &Members) -> bool
     have_criteria_keys(members) && may_have_event_kinds(members) && may_have_labels(members)
 }
 
+/// What a subscription looks for: kinds of event and names of attributes, each if it has them.
 pub fn is_criteria(value: &Val) -> bool
     ensures { result ≡ shapes.is_object_of spec.is_criteria value.now }
 {

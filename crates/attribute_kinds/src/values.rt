@@ -1,4 +1,4 @@
-// Values that are texts, counts, and lists of such.
+//! Values that are texts, counts, and lists of such.
 ghost use Rattle.std.specs.Prelude.{◌≡◌, is_some, option_map};
 ghost use Rattle.std.specs.Int.{is_in_range};
 ghost use Rattle.m2m_names.specs.Name as names;
@@ -25,30 +25,35 @@ pub fn list_in(value: &Val) -> Option<&[Val]>
     Some(value.as_list()?.entries())
 }
 
+/// A text.
 pub fn is_text(value: &Val) -> bool
     ensures { result ≡ is_some (views.as_text value.now) }
 {
     value.as_text().is_some()
 }
 
+/// True or false.
 pub fn is_bool(value: &Val) -> bool
     ensures { result ≡ is_some (views.as_boolean value.now) }
 {
     value.as_bool().is_some()
 }
 
+/// Any value but null.
 pub fn is_content(value: &Val) -> bool
     ensures { result ≡ spec.is_content value.now }
 {
     !value.is_null()
 }
 
+/// A whole number from 0 on.
 pub fn is_count_value(value: &Val) -> bool
     ensures { result ≡ spec.has_kind Count value.now }
 {
     value.as_count().is_some()
 }
 
+/// A whole number within these bounds.
 pub fn is_number_within(from: u64, to: u64, value: &Val) -> bool
     ensures { result ≡ shapes.is_count_of (is_in_range from to) value.now }
 {
@@ -67,6 +72,7 @@ fn type_of(n: u64) -> Option<Ty>
         .find(|ty| u64::from(ty.number()) == n)
 }
 
+/// The number of a type, or 0 for members of any.
 pub fn is_member_type(value: &Val) -> bool
     ensures { result ≡ shapes.is_count_of spec.is_member_type value.now }
 {
@@ -76,6 +82,7 @@ pub fn is_member_type(value: &Val) -> bool
     }
 }
 
+/// A name that a resource may be given.
 pub fn is_name_value(value: &Val) -> bool
     ensures { result ≡ shapes.is_text_of names.is_free_name value.now }
 {
@@ -85,6 +92,7 @@ pub fn is_name_value(value: &Val) -> bool
     }
 }
 
+/// A timestamp (TS-0004, 6.3.3).
 pub fn is_stamp(value: &Val) -> bool
     ensures { result ≡ shapes.is_text_of spec.is_stamp_text value.now }
 {
@@ -94,6 +102,7 @@ pub fn is_stamp(value: &Val) -> bool
     }
 }
 
+/// An originator.
 pub fn is_originator_value(value: &Val) -> bool
     ensures { result ≡ shapes.is_text_of names.is_originator value.now }
 {
@@ -112,6 +121,7 @@ fn is_cse_id_text(text: &[u8]) -> bool
     }
 }
 
+/// A CSE-ID, with its slash.
 pub fn is_cse_id(value: &Val) -> bool
     ensures { result ≡ shapes.is_text_of spec.is_cse_id value.now }
 {
@@ -127,6 +137,7 @@ fn is_point_text(text: &[u8]) -> bool
     is_filled(text, POINT_LIMIT) && are_graphic(text)
 }
 
+/// A point of contact: a text without blanks, of a limited length.
 pub fn is_point(value: &Val) -> bool
     ensures { result ≡ shapes.is_text_of spec.is_point value.now }
 {

@@ -56,6 +56,7 @@ pub enum Writing {
 }
 
 impl Optionality {
+    /// Whether a request may name it.
     pub fn is_permitted(self) -> bool
         ensures { result ≡ spec.is_permitted self }
     {
@@ -65,6 +66,7 @@ impl Optionality {
         }
     }
 
+    /// Whether a request has to name it.
     pub fn is_mandatory(self) -> bool
         ensures { result ≡ spec.is_mandatory self }
     {

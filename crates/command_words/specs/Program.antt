@@ -41,8 +41,8 @@ abbrev pub serving : App
 serving = fold with_option (homed serve_word) serving_options
 
 -- no name of the program stands among the words, and nothing asks for help
-abbrev pub bare : App
-bare = on_top (λ top. record top {
+abbrev pub bare_program : App
+bare_program = on_top (λ top. record top {
   no_binary_name = true;
   disable_help_flag = true;
   disable_help_subcommand = true;
@@ -51,7 +51,7 @@ bare = on_top (λ top. record top {
 abbrev pub program : App
 program = with_subcommand
     (with_subcommand
-    (with_subcommand bare (homed http_word).top)
+    (with_subcommand bare_program (homed http_word).top)
     (homed replay_word).top)
     serving.top
 
@@ -72,6 +72,6 @@ rows_by os = map row_by os
 
 -- A command's name and rows say this: the rows are those of options, and it is what the command and
 -- the options say.
-abbrev pub Says : Option (List ℕ × List Row) → Option Command → Type 0
-Says None said = said ≡ None
-Says (Some p) said = (os : List Choice) × ((p.1 ≡ rows_by os) × (said ≡ command_said p.0 os))
+abbrev pub SaysCommand : Option (List ℕ × List Row) → Option Command → Type 0
+SaysCommand None said = said ≡ None
+SaysCommand (Some p) said = (os : List Choice) × ((p.1 ≡ rows_by os) × (said ≡ command_said p.0 os))

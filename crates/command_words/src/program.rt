@@ -4,7 +4,7 @@ ghost use Rattle.std.specs.List.{list_any};
 ghost use Rattle.clap.specs.Words.{app_of, rule_of, subcommand_rows_of};
 ghost use Rattle.clap.specs.declared.builder.command.Command.TheViews.{out-Command as fields_of};
 ghost use Rattle.command_words.specs.Program as spec;
-ghost use Rattle.command_words.specs.Program.{Says};
+ghost use Rattle.command_words.specs.Program.{SaysCommand};
 ghost use Rattle.command_words.specs.Command.{words_say};
 
 use crate::names;
@@ -92,8 +92,8 @@ fn serving<'a>(alloc: Global) -> Result<Command<'a>, OutOfMemory>
 
 /// The program with no command yet: no name of it stands among the words, and nothing asks for
 /// help.
-fn bare<'a>(alloc: Global) -> Command<'a>
-    ensures { app_of result ≡ spec.bare }
+fn bare_program<'a>(alloc: Global) -> Command<'a>
+    ensures { app_of result ≡ spec.bare_program }
 {
     Command::new(alloc, "cse")
         .no_binary_name(true)
@@ -108,7 +108,7 @@ fn command_line<'a>(alloc: Global) -> Result<Command<'a>, OutOfMemory>
     let http = homed(alloc, names::HTTP)?;
     let replay = homed(alloc, names::REPLAY)?;
     let serve = serving(alloc)?;
-    bare(alloc)
+    bare_program(alloc)
         .subcommand(http)?
         .subcommand(replay)?
         .subcommand(serve)
@@ -121,7 +121,7 @@ pub(crate) fn matches_of<'a>(
 ) -> Result<Option<ArgMatches<'a>>, OutOfMemory>
     ensures { IfOk result (λ said.
         MatchOption said (words_say (map (λ word. word.now) words.now) ≡ None)
-        (λ found. Says (subcommand_rows_of found)
+        (λ found. SaysCommand (subcommand_rows_of found)
         (words_say (map (λ word. word.now) words.now)))) }
 {
     if has_stray(words) {

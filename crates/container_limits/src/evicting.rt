@@ -1,4 +1,4 @@
-// What the limits of a container push out.
+//! What the limits of a container push out.
 ghost use Rattle.std.specs.Prelude.{◌≡◌, ◌≢◌, ◌^◌, ◌<◌, [], ◌∷◌, ◌++◌, length, filter, sum_by};
 ghost use Rattle.std.specs.Prelude.{drop, option_map, option_to_list, IfOk, OnOk, OnErr};
 ghost use Rattle.tree_model.specs.Tree.{instances_of, instance_size};
@@ -36,8 +36,8 @@ pub fn evictions<T: Tree>(
     Ok(Numbers::of(gone(alloc, tree, container, limits.mia, moment, outside, quiet)?))
 }
 
-// How many of the oldest instances stand before those that stay. Where neither the count nor the sum
-// of sizes has a limit, none is looked at.
+// How many of the oldest instances stand before those that stay. Where neither the count nor the
+// sum of sizes has a limit, none is looked at.
 fn count_outside<T: Tree>(
     tree: &T,
     container: u64,

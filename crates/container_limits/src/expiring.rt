@@ -1,4 +1,4 @@
-// What is overdue.
+//! What is overdue.
 ghost use Rattle.std.specs.Prelude.{◌≡◌, ◌≢◌, ◌++◌, [], ◌∷◌, filter, slice_get, not, option_map};
 ghost use Rattle.std.specs.Prelude.{option_to_list, Some, IsTrue, IfOk, OnOk, OnErr};
 ghost use Rattle.tree_model.specs.Tree.{at, has, live, is_tree};

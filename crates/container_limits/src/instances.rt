@@ -1,4 +1,4 @@
-// The instances of a container, one by one, and what they add up to.
+//! The instances of a container, one by one, and what they add up to.
 ghost use Rattle.std.specs.Prelude.{◌≡◌, ◌+◌, ◌-◌, ◌^◌, ◌<◌, length, filter, sum_by};
 ghost use Rattle.std.specs.Prelude.{option_map, option_to_list, unwrap_or};
 ghost use Rattle.tree_model.specs.Tree.{instances_of, instance_size};

@@ -1,4 +1,4 @@
-// What holds of every container's instances.
+//! What holds of every container's instances.
 ghost use Rattle.std.specs.Prelude.{◌≡◌, ℕ, ◌≤◌, List, [], ◌++◌, length, IsTrue, Option};
 ghost use Rattle.resource_model.specs.Resource.{ResourceData};
 ghost use Rattle.container_limits.specs.Limits.{do_fit, longest_fit};

@@ -1,4 +1,4 @@
-// The limits of a container.
+//! The limits of a container.
 ghost use Rattle.std.specs.Prelude.{◌≡◌};
 ghost use Rattle.tree_model.specs.Tree as trees;
 ghost use Rattle.container_limits.specs.Limits as spec;

@@ -105,7 +105,8 @@ created_content rcn e r =
 
 abbrev pub create_effect : RequestParts → Creation → Effect
 create_effect request c = record {
-  reply = reply_to request Created (created_content (wanted_content request.rcn) c.e (new_resource c));
+  reply = reply_to request Created
+      (created_content (wanted_content request.rcn) c.e (new_resource c));
   after = after_joining c.e (new_resource c) (filling_of c);
 }
 

@@ -11,10 +11,10 @@ use Rattle.entity_model.specs.Entity.{EntityData}
 use Rattle.entity_model.specs.Sound.{has_free_name, has_known_ids, has_size, has_state_tag}
 use Rattle.tree_model.specs.Shown.{own_cse_id}
 
--- It has the next number, and there is place for it. Its parent is there and takes it, its name, its
--- AE-ID and its CSE-ID are free, its name addresses nothing else, and its policies are known. Its
--- attributes are those of its type, a container has its state tag, and it isn't due yet. What its
--- parent holds besides is said apart.
+-- It has the next number, and there is place for it. Its parent is there and takes it, its name,
+-- its AE-ID and its CSE-ID are free, its name addresses nothing else, and its policies are known.
+-- Its attributes are those of its type, a container has its state tag, and it isn't due yet. What
+-- its parent holds besides is said apart.
 pub record IsNewcomer (e : EntityData) (r : ResourceData) : Type 0 where
   pub number : r.number ≡ e.next
   pub room : IsTrue (has_place e r.parent)

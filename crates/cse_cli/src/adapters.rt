@@ -18,6 +18,7 @@ pub struct StdIn<R> {
 }
 
 impl<R: Read> StdIn<R> {
+    /// Reads from the reader, with no fault as yet.
     pub fn new(reader: R) -> Self
         ensures left { ⟦<StdIn<R> as Source>⟧.left result ≡ R.remaining reader }
         ensures faults { ⟦<StdIn<R> as Source>⟧.faults result ≡ 0 }
@@ -53,6 +54,7 @@ pub struct StdOut<W> {
 }
 
 impl<W: Write> StdOut<W> {
+    /// Writes to the writer, with no fault as yet.
     pub fn new(writer: W) -> Self
         ensures written { ⟦<StdOut<W> as Sink>⟧.written result ≡ W.contents writer }
         ensures faults { ⟦<StdOut<W> as Sink>⟧.faults result ≡ 0 }
@@ -106,6 +108,7 @@ pub struct SystemClock<R> {
 }
 
 impl<R: time::Clock> SystemClock<R> {
+    /// The clock of the runtime.
     pub fn new(rt: R) -> Self
         ensures silent { ⟦<SystemClock<R> as Clock>⟧.readings result ≡ None }
     {

@@ -135,8 +135,8 @@ where
     requires benches { 2 ≤ vec_len benches }
 
     // Every list of words that isn't one of these commands with its options is usage, unless memory
-    // runs out for reading it: then nothing is read or written to `out`, and no reading is taken and
-    // no exchange made.
+    // runs out for reading it: then nothing is read or written to `out`, and no reading is taken
+    // and no exchange made.
     ensures usage { result.0 ≡ Status.Usage
         → command_of (map (λ word. word.now) words.now) ≡ None }
     ensures refused { command_of (map (λ word. word.now) words.now) ≡ None
@@ -144,9 +144,9 @@ where
     ensures still { command_of (map (λ word. word.now) words.now) ≡ None
         → (input.new ≡ input.old) × (out.new ≡ out.old) × (first.new ≡ first.old) }
 
-    // At `http` an entity with the home that the words say opens at the first reading that the clock
-    // of `first` gives in this call. Then `out` gets exactly the replies that the machine gives the
-    // requests of `input`, one after another, as far as the status says.
+    // At `http` an entity with the home that the words say opens at the first reading that the
+    // clock of `first` gives in this call. Then `out` gets exactly the replies that the machine
+    // gives the requests of `input`, one after another, as far as the status says.
     ensures http { let old = outside (S.left input.old) (O.written out.old)
         (C.readings first.old.clock) (L.exchanges first.old.link) in
         let new = outside (S.left input.new) (O.written out.new)

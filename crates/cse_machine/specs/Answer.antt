@@ -134,8 +134,8 @@ form_places e request = unless (has_form request) BadRequest ∷ originator_plac
 abbrev pub first_places : EntityData → RequestParts → List Place
 first_places e request = unless (is_served request) BadRequest ∷ form_places e request
 
--- A request of its kinds isn't refused for its form; so is each of them that is read from a value or
--- from a frame.
+-- A request of its kinds isn't refused for its form; so is each of them that is read from a value
+-- or from a frame.
 abbrev pub KindsHaveTheForm : Type 0
 KindsHaveTheForm = (request : RequestParts) → IsOfKinds request → has_form request ≡ true
 

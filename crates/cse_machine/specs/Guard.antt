@@ -1,5 +1,6 @@
 -- What a request may show, and what it may change.
-use Rattle.std.specs.Prelude.{◌≡◌, ◌≢◌, ◌⊎◌, ℕ, ◌≤◌, Bool, true, false, List, [], ◌∷◌, ◌++◌, Option, Some}
+use Rattle.std.specs.Prelude.{◌≡◌, ◌≢◌, ◌⊎◌, ℕ, ◌≤◌, Bool, true, false, List, [], ◌∷◌, ◌++◌}
+use Rattle.std.specs.Prelude.{Option, Some}
 use Rattle.std.specs.Prelude.{None, option_and_then, IsTrue, codes, map}
 use Rattle.std.specs.List.{All}
 use Rattle.m2m_names.specs.Operations.{op_row}
@@ -101,7 +102,8 @@ AreGuarded before (single ∷ singles) after =
 -- what the reply to a fan-out tells of one operation: its reply, and where it went (TS-0004, 7.5.2)
 abbrev pub gathered_one : Single → Data
 gathered_one single =
-    object_of (reply_rows single.reply ++ (name_of_member Target, Some (text single.request.to)) ∷ [])
+    object_of
+    (reply_rows single.reply ++ (name_of_member Target, Some (text single.request.to)) ∷ [])
 
 -- an object of one member
 abbrev pub object_with : List ℕ → Data → Data
@@ -190,8 +192,8 @@ DeletesTakeTheirTarget =
     × (reply ≡ reply_to request Deleted None)
     × (after ≡ (delete_effect (swept reading before) request target).after)
 
--- Whatever happens, an entity keeps its home; its moment is that of the event, or stays where memory
--- ran out before the expiry; and its next number doesn't fall.
+-- Whatever happens, an entity keeps its home; its moment is that of the event, or stays where
+-- memory ran out before the expiry; and its next number doesn't fall.
 pub record IsSameEntity (reading : ℕ) (before after : EntityData) : Type 0 where
   pub home : after.home ≡ before.home
   pub last : (after.last ≡ event_moment before.last reading) ⊎ (after ≡ before)

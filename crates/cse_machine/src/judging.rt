@@ -1,4 +1,4 @@
-// What is told of a request before what its address names.
+//! What is told of a request before what its address names.
 ghost use Rattle.std.specs.Prelude.{◌≡◌, false, IfSome, List, Some, option_and_then, option_map};
 ghost use Rattle.std.specs.Option.{option_map_or};
 ghost use Rattle.m2m_names.specs.declared.types.Ty.{Ty};

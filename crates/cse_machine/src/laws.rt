@@ -52,8 +52,8 @@ pub fn what_is_refused_or_read_changes_nothing()
     ensures starved { WantOfMemoryChangesNothing }
 {}
 
-/// A step keeps the home and the moment of the event, and the next number doesn't fall; a Delete that
-/// is served takes its target and what stands below that, and changes nothing else.
+/// A step keeps the home and the moment of the event, and the next number doesn't fall; a Delete
+/// that is served takes its target and what stands below that, and changes nothing else.
 pub fn a_step_changes_what_is_asked_alone()
     ensures entity { StepsKeepTheEntity }
     ensures deleted { DeletesTakeTheirTarget }

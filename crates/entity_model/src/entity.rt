@@ -1,4 +1,4 @@
-// The entity.
+//! The entity.
 ghost use Rattle.std.specs.Prelude.{◌≡◌, [], IfOk};
 ghost use Rattle.entity_model.specs.Opening.{opening};
 

@@ -1,4 +1,4 @@
-// What holds of every entity.
+//! What holds of every entity.
 ghost use Rattle.std.specs.Prelude.{◌≡◌, ℕ, ◌≤◌, List, Bool, IsTrue, filter, take};
 ghost use Rattle.m2m_names.specs.declared.types.Ty.TheVariants.{CseBase};
 ghost use Rattle.resource_model.specs.Home.{HomeData, IsHome};

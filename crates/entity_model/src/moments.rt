@@ -1,4 +1,4 @@
-// The moment of an event.
+//! The moment of an event.
 ghost use Rattle.std.specs.Prelude.{◌≡◌};
 ghost use Rattle.entity_model.specs.Entity as spec;
 

@@ -1,4 +1,4 @@
-// The resources of an entity as it opens.
+//! The resources of an entity as it opens.
 ghost use Rattle.std.specs.Prelude.{◌≡◌, ◌≤◌, [], ◌∷◌, ◌++◌, IfOk, OnOk, IsUtf8, IsTrue};
 ghost use Rattle.m2m_names.specs.Stamps.{last_moment};
 ghost use Rattle.m2m_value.specs.Data as json;

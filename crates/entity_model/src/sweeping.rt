@@ -1,4 +1,4 @@
-// The expiry.
+//! The expiry.
 ghost use Rattle.std.specs.Prelude.{◌≡◌, OnOk, OnErr, IsTrue};
 ghost use Rattle.tree_model.specs.Tree.{is_tree, live};
 ghost use Rattle.entity_model.specs.Entity as spec;

@@ -9,8 +9,8 @@ use Rattle.http_binding.specs.declared.headers.Field.{Field}
 use Rattle.http_binding.specs.declared.headers.Field.TheVariants.{Origin, Id, Expiry, ContentType}
 use Rattle.http_binding.specs.declared.headers.Field.TheVariants.{ContentEncoding}
 
--- the names of the fields that say who asks, which request it is, when it expires, and of which type
--- its content is, as they are written; names are compared without regard to case
+-- the names of the fields that say who asks, which request it is, when it expires, and of which
+-- type its content is, as they are written; names are compared without regard to case
 abbrev pub origin_field : List ℕ
 origin_field = codes "X-M2M-Origin"
 

@@ -3,6 +3,7 @@ use Rattle.std.specs.Prelude.{◌≡◌, ◌<◌, ◌≤◌, ℕ, Bool, List, �
 use Rattle.std.specs.Prelude.{Ok}
 use Rattle.httparse.specs.Grammar.{AllPass, is_uri_byte}
 use Rattle.m2m_value.specs.Data.{depth}
+use Rattle.m2m_value.specs.Reading.{reading_depth}
 use Rattle.m2m_value.specs.Sound.{IsSound}
 use Rattle.primitive_json.specs.Laws.{IsOfKinds, IsReplyOfKinds}
 use Rattle.primitive_json.specs.Notes.{IsSomeUrl}
@@ -18,10 +19,6 @@ use Rattle.http_client_binding.specs.declared.target.Aim.{Aim}
 use Rattle.http_client_binding.specs.ReplyReading.{reply_in}
 use Rattle.http_client_binding.specs.Asking.{target_text, request_frame}
 use Rattle.http_client_binding.specs.TargetWriting.{path_of_address, has_own_path}
-
--- how deep a text is read
-abbrev pub reading_depth : ℕ
-reading_depth = 127
 
 -- The identifier of a reply is of its kind, and its content no deeper than a text is read.
 pub record IsTold (reply : ReplyParts) : Type 0 where

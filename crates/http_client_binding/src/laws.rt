@@ -7,15 +7,15 @@ pub fn a_reply_is_said_by_its_frame()
     ensures { ReplyIsSaid }
 {}
 
-/// An address is read back from the path that is written of it, where that path stands for no other:
-/// the two directions of one rule (TS-0009, 6.2.2.2).
+/// An address is read back from the path that is written of it, where that path stands for no
+/// other: the two directions of one rule (TS-0009, 6.2.2.2).
 pub fn an_address_is_read_back()
     ensures { AddressIsReadBack }
 {}
 
 /// The text of a request is read back as its frame, whatever follows, where its parameters are of
-/// their kinds, its target is one of the grammar, and its head and its body are within the limits of
-/// a frame's.
+/// their kinds, its target is one of the grammar, and its head and its body are within the limits
+/// of a frame's.
 pub fn a_request_is_read_back()
     ensures { RequestIsReadBack }
 {}

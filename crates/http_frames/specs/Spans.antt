@@ -16,7 +16,7 @@ use Rattle.http_frames.specs.declared.look.FrameSpans.{FrameSpans}
 use Rattle.http_frames.specs.declared.body.Coding.{Coding}
 use Rattle.http_frames.specs.declared.body.Coding.TheVariants as coding
 use Rattle.http_frames.specs.Lines.{Line}
-use Rattle.http_frames.specs.Body.{Framing, counted, chunked, refused, framing_of, CarriesBody}
+use Rattle.http_frames.specs.Body.{Framing, counted, chunked, refused, framing_of}
 use Rattle.http_frames.specs.ChunkLooks.{AreChunksAt}
 use Rattle.http_frames.specs.Frame.{head_limit, lines_limit, body_limit, IsHead, IsFrame}
 
@@ -25,10 +25,6 @@ abbrev pub framing_as : Option Coding → Framing
 framing_as (Some (coding.Counted n)) = counted n
 framing_as (Some coding.Chunked) = chunked
 framing_as None = refused
-
--- no bytes carry a body within the limit
-pub record CarriesNoBody (limit : ℕ) (framing : Framing) : Type 0 where
-  pub none : (carried body : List ℕ) → ¬ (CarriesBody limit framing carried body)
 
 -- what the spans of a start line cover
 abbrev pub start_at : List ℕ → StartSpans → Start

@@ -58,18 +58,21 @@ impl<'a> Found<&'a [u8]> {
 }
 
 impl Lines {
+    /// The lines, each a name and a value; it takes no memory.
     pub fn of(lines: Vec<(Text, Text)>) -> Lines
         ensures { result ≡ lines.items }
     {
         Lines { lines }
     }
 
+    /// The lines, each a name and a value, in order.
     pub fn into_vec(self) -> Vec<(Text, Text)>
         ensures { result.items ≡ self }
     {
         self.lines
     }
 
+    /// The lines, each a name and a value, in order.
     pub fn entries(&self) -> &[(Text, Text)]
         ensures { result.now ≡ self.now }
     {

@@ -22,7 +22,8 @@ pub(crate) struct Rooms {
     buffers: Vec<Vec<u8>>,
     lines: Vec<(Text, Text)>,
     ghost few: { length buffers.items ≤ 131 },
-    ghost small: { All (λ buffer. (buffer.items ≡ []) × (vec_capacity buffer ≤ 256)) buffers.items },
+    ghost small: { All (λ buffer. (buffer.items ≡ []) × (vec_capacity buffer ≤ 256))
+        buffers.items },
     ghost none: { lines.items ≡ [] },
     ghost little: { vec_capacity lines ≤ 64 },
 }

@@ -1,7 +1,8 @@
 -- The target of a request: its path and its query (RFC 9112, section 3.2), and the address that a
 -- path is (TS-0009, 6.2.2).
 use Rattle.std.specs.Prelude.{ℕ, ◌+◌, ◌-◌, ◌==◌, nat_eq, nat_lt, nat_le, Bool, true, false, not}
-use Rattle.std.specs.Prelude.{◌&&◌, ◌||◌, List, [], ◌∷◌, ◌++◌, length, take, drop, slice_index, codes}
+use Rattle.std.specs.Prelude.{◌&&◌, ◌||◌, List, [], ◌∷◌, ◌++◌, length, take, drop, slice_index}
+use Rattle.std.specs.Prelude.{codes}
 use Rattle.std.specs.Prelude.{Option, Some, None, if◌then◌else◌, unwrap_or}
 use Rattle.std.specs.List.{list_all, starts_with}
 use Rattle.std.specs.Option.{option_map_or}
@@ -99,8 +100,8 @@ is_tail text =
     (length text == 0)
     || (is_delimiter (slice_index text 0) && is_path_and_query (without_fragment text))
 
--- absolute-form: a scheme, `://`, an authority that the crate http_uri reads as one, and a tail (RFC
--- 9112, section 3.2.2; RFC 3986, section 3)
+-- absolute-form: a scheme, `://`, an authority that the crate http_uri reads as one, and a tail
+-- (RFC 9112, section 3.2.2; RFC 3986, section 3)
 unfoldable pub is_absolute_form : List ℕ → Bool
 is_absolute_form target =
     nat_le (length target) uri_limit && has_scheme target && is_tail (tail_of target)

@@ -40,4 +40,6 @@ host_end_at bytes = do
   rest ← past_scheme bytes
   host ← host_at rest
   port ← port_at host.1
-  if is_path port.1 && nat_le (length bytes) point_limit then Some (scheme_len + host.0 + port.0) else None
+  if is_path port.1 && nat_le (length bytes) point_limit
+      then Some (scheme_len + host.0 + port.0)
+      else None

@@ -48,7 +48,11 @@ abbrev pub value_if : Option json.Data → Result Data ValFault
 value_if None = Err NotJson
 value_if (Some d) = value_of d
 
--- the value that the bytes spell: none where they are no UTF-8, or no JSON, or deeper than 127
+-- how deep a text is read
+abbrev pub reading_depth : ℕ
+reading_depth = 127
+
+-- the value that the bytes spell: none where they are no UTF-8, or no JSON, or deeper than that
 abbrev pub reading : List ℕ → Result Data ValFault
 reading bytes = value_if (if is_utf8 bytes then read bytes else None)
 

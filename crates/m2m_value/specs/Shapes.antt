@@ -1,5 +1,6 @@
 -- What values are: texts, counts, lists and objects of such.
-use Rattle.std.specs.Prelude.{◌-◌, ◌^◌, ◌&&◌, ℕ, ℤ, pos, negsuc, nat_lt, Bool, true, false, List, length}
+use Rattle.std.specs.Prelude.{◌-◌, ◌^◌, ◌&&◌, ℕ, ℤ, pos, negsuc, nat_lt, Bool, true, false, List}
+use Rattle.std.specs.Prelude.{length}
 use Rattle.std.specs.Prelude.{Option, Some, None, option_and_then}
 use Rattle.std.specs.List.{list_all}
 use Rattle.std.specs.Option.{option_map_or}

@@ -13,10 +13,10 @@
 //! each list and object), and then one pass over the values, not the bytes: texts and keys are
 //! moved, and each list and object is allocated once, at its length. `read` clears 16 KiB of
 //! room of its own first; `read_in` has the caller's `Scratch`, which is kept from read to read and
-//! grows to the longest text, and takes one more allocation for each list and object. A write is one
-//! pass over the value, and its bytes go straight to the end of `out`: no allocation where there is
-//! room for them, and otherwise those by which a vector grows, some fifteen from nothing to 64 KiB.
-//! A size is one pass over the value, without memory.
+//! grows to the longest text, and takes one more allocation for each list and object. A write is
+//! one pass over the value, and its bytes go straight to the end of `out`: no allocation where
+//! there is room for them, and otherwise those by which a vector grows, some fifteen from nothing
+//! to 64 KiB. A size is one pass over the value, without memory.
 #![tactic(auto)]
 
 mod copy;

@@ -4,7 +4,7 @@ ghost use Rattle.serde_json.specs.View.{view, number_view, items_view, members_v
 ghost use Rattle.m2m_value.specs.Data.{depth, elements_of, pairs_of};
 ghost use Rattle.m2m_value.specs.Node.{HaveTextKeys};
 ghost use Rattle.m2m_value.specs.Reading.{whole_of, value_of, elements_in, pairs_in, reading};
-ghost use Rattle.m2m_value.specs.Reading.{Gives};
+ghost use Rattle.m2m_value.specs.Reading.{Gives, reading_depth};
 
 use crate::fault::ValFault;
 use crate::parsing::parse_in;
@@ -18,7 +18,7 @@ use std::alloc::Global;
 /// faults in numbers the first is told: lists in order, members in the order of their keys.
 pub fn read(alloc: Global, bytes: &[u8]) -> Result<Val, ValFault>
     ensures value { Gives (λ v. v) result (reading bytes.now) }
-    ensures nests { IfOk result (λ v. depth v ≤ 127) }
+    ensures nests { IfOk result (λ v. depth v ≤ reading_depth) }
 {
     match Value::from_slice(alloc, bytes) {
         Ok(value) => kept(alloc, value),
@@ -30,7 +30,7 @@ pub fn read(alloc: Global, bytes: &[u8]) -> Result<Val, ValFault>
 /// The same, in room that is kept from one read to the next.
 pub fn read_in(alloc: Global, scratch: &mut Scratch, bytes: &[u8]) -> Result<Val, ValFault>
     ensures value { Gives (λ v. v) result (reading bytes.now) }
-    ensures nests { IfOk result (λ v. depth v ≤ 127) }
+    ensures nests { IfOk result (λ v. depth v ≤ reading_depth) }
 {
     match parse_in(alloc, scratch, bytes) {
         Some(value) => kept(alloc, value),

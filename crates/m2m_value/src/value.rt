@@ -124,24 +124,28 @@ impl Val {
         Val { node }
     }
 
+    /// Null.
     pub fn null() -> Val
         ensures { result ≡ plain.null }
     {
         Val::of(Node::Null)
     }
 
+    /// True or false.
     pub fn of_bool(b: bool) -> Val
         ensures { result ≡ plain.boolean b }
     {
         Val::of(Node::Bool(b))
     }
 
+    /// A whole number.
     pub fn of_num(n: i64) -> Val
         ensures { result ≡ plain.number n }
     {
         Val::of(Node::Num(n))
     }
 
+    /// A text, which is moved.
     pub fn of_text(text: Text) -> Val
         requires { IsUtf8 text }
         ensures { result ≡ plain.text text }
@@ -149,12 +153,14 @@ impl Val {
         Val::of(Node::Text(text))
     }
 
+    /// A list of values, which are moved.
     pub fn of_list(items: Items) -> Val
         ensures { result ≡ plain.list (elements_of items) }
     {
         Val::of(Node::List(items))
     }
 
+    /// An object of members, which are moved.
     pub fn of_obj(members: Members) -> Val
         requires { HaveTextKeys members }
         ensures { result ≡ plain.object (pairs_of members) }
@@ -178,12 +184,14 @@ impl Val {
         self.node
     }
 
+    /// Whether it is null.
     pub fn is_null(&self) -> bool
         ensures { IsTrue result ↔ (self.now ≡ plain.null) }
     {
         matches!(self.node, Node::Null)
     }
 
+    /// The truth value that it is.
     pub fn as_bool(&self) -> Option<bool>
         ensures { result ≡ as_boolean self.now }
     {
@@ -194,6 +202,7 @@ impl Val {
         }
     }
 
+    /// The whole number that it is.
     pub fn as_num(&self) -> Option<i64>
         ensures { result ≡ as_number self.now }
     {
@@ -204,6 +213,7 @@ impl Val {
         }
     }
 
+    /// The text that it is.
     pub fn as_text(&self) -> Option<&Text>
         ensures value { option_map (λ t. t.now) result ≡ as_text self.now }
         ensures utf8 { IfSome result (λ t. IsUtf8 t.now) }
@@ -215,6 +225,7 @@ impl Val {
         }
     }
 
+    /// The list that it is.
     pub fn as_list(&self) -> Option<&Items>
         ensures { option_map (λ i. i.now) result ≡ as_list self.now }
     {
@@ -225,6 +236,7 @@ impl Val {
         }
     }
 
+    /// The object that it is.
     pub fn as_obj(&self) -> Option<&Members>
         ensures value { option_map (λ m. m.now) result ≡ as_object self.now }
         ensures texts { IfSome result (λ m. HaveTextKeys m.now) }
@@ -245,12 +257,14 @@ impl Items {
         Items { values }
     }
 
+    /// The values, in order.
     pub fn into_vec(self) -> Vec<Val>
         ensures { result.items ≡ self }
     {
         self.values
     }
 
+    /// The values, in order.
     pub fn entries(&self) -> &[Val]
         ensures { result.now ≡ self.now }
     {
@@ -277,6 +291,7 @@ impl Members {
         Members { entries }
     }
 
+    /// The members, in the order of their keys.
     pub fn into_vec(self) -> Vec<(Text, Val)>
         ensures entries { result.items ≡ self }
         ensures sorted { AreSorted self }
@@ -284,6 +299,7 @@ impl Members {
         self.entries
     }
 
+    /// The members, in the order of their keys.
     pub fn entries(&self) -> &[(Text, Val)]
         ensures all { result.now ≡ self.now }
         ensures sorted { AreSorted self.now }

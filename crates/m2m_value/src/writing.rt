@@ -5,7 +5,7 @@ ghost use Rattle.std.specs.Fmt.{decimal, signed_decimal};
 ghost use Rattle.std.specs.List.{prefix_len};
 ghost use Rattle.m2m_value.specs.Data.{depth, elements_of, pairs_of};
 ghost use Rattle.m2m_value.specs.Node.{AreSorted};
-ghost use Rattle.m2m_value.specs.Reading.{reading};
+ghost use Rattle.m2m_value.specs.Reading.{reading, reading_depth};
 ghost use Rattle.m2m_value.specs.Sound.{IsSound, AreSound, HaveSound, BeginsWith};
 ghost use Rattle.m2m_value.specs.Spelling.{short_escape, escaped, is_plain, quoted, comma_at};
 ghost use Rattle.m2m_value.specs.Spelling.{text_of, elements_from, pairs_from};
@@ -21,7 +21,7 @@ pub fn write(value: &Val, out: &mut Vec<u8>) -> Result<(), OutOfMemory>
     ensures err { OnErr result (out.new.items ≡ out.old.items) }
 
     // The text is read as the value.
-    ensures reads_back { OnOk result (depth value.now ≤ 127
+    ensures reads_back { OnOk result (depth value.now ≤ reading_depth
         → reading (text_of value.now) ≡ Ok value.now) }
 {
     let before = out.len();

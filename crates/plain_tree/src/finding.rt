@@ -1,4 +1,4 @@
-// What a list of resources has, found by a walk.
+//! What a list of resources has, found by a walk.
 ghost use Rattle.std.specs.Prelude.{◌≡◌, ◌^◌, ◌<◌, length, find, reverse};
 ghost use Rattle.tree_model.specs.Tree.{is_child, is_kin, is_ae, is_cse, resource_number};
 ghost use Rattle.tree_model.specs.Tree.{number_at};

@@ -1,4 +1,4 @@
-// The plain tree.
+//! The plain tree.
 ghost use Rattle.std.specs.Prelude.{◌≡◌, []};
 
 use crate::finding::{

@@ -1,4 +1,4 @@
-// The list of resources that every tree keeps.
+//! The list of resources that every tree keeps.
 ghost use Rattle.std.specs.Prelude.{◌≡◌, ◌+◌, ◌^◌, ◌<◌, ◌≤◌, IsSome, List, [], ◌∷◌, ◌++◌, length};
 ghost use Rattle.std.specs.Prelude.{slice_get, IsTrue, OnOk, OnErr, IfErr, Some, option_map};
 ghost use Rattle.m2m_names.specs.Stamps.{last_moment};

@@ -1,4 +1,4 @@
-// Where the parents of resources stand.
+//! Where the parents of resources stand.
 use std::alloc::{AllocError as OutOfMemory, Global};
 
 // Of a resource: the place of its parent, and the place that the last removal gave it, or where it

@@ -1,4 +1,4 @@
-// Where a number stands among resources whose numbers ascend.
+//! Where a number stands among resources whose numbers ascend.
 ghost use Rattle.std.specs.Prelude.{◌≡◌, ◌-◌, ◌==◌, ◌||◌, nat_lt, true, false, None, option_map};
 ghost use Rattle.std.specs.Prelude.{MatchResult, slice_get};
 ghost use Rattle.std.specs.Bool.{OnTrue};

@@ -1,4 +1,4 @@
-// Removals in place, and when what is left is due.
+//! Removals in place, and when what is left is due.
 ghost use Rattle.std.specs.Prelude.{◌≡◌, nat_le, false, IsTrue, is_some, option_map};
 ghost use Rattle.std.specs.Option.{option_map_or};
 ghost use Rattle.plain_tree.specs.Removal.{picks_of, picks_under};

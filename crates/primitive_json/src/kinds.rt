@@ -16,6 +16,7 @@ pub const TARGET_LIMIT: usize = 1_024;
 /// The most digits of a count of milliseconds.
 const NUMERAL_LIMIT: usize = 18;
 
+/// A text that the target of a request may be: not empty, within its limit.
 pub fn is_address_text(value: &Val) -> bool
     ensures { result ≡ spec.is_address_text value.now }
 {
@@ -24,6 +25,7 @@ pub fn is_address_text(value: &Val) -> bool
         .is_some_and(|text| is_filled(text.entries(), TARGET_LIMIT))
 }
 
+/// A text that is an originator.
 pub fn is_originator_text(value: &Val) -> bool
     ensures { result ≡ spec.is_originator_text value.now }
 {
@@ -32,6 +34,7 @@ pub fn is_originator_text(value: &Val) -> bool
         .is_some_and(|text| is_originator(text.entries()))
 }
 
+/// A text that is the identifier of a request.
 pub fn is_id_text(value: &Val) -> bool
     ensures { result ≡ spec.is_id_text value.now }
 {
@@ -47,6 +50,7 @@ pub fn is_among(numbers: &[i64], number: i64) -> bool
     numbers.contains(&number)
 }
 
+/// One of these numbers.
 pub fn is_number_among(numbers: &[i64], value: &Val) -> bool
     ensures { result ≡ spec.is_number_among numbers.now value.now }
 {
@@ -56,6 +60,7 @@ pub fn is_number_among(numbers: &[i64], value: &Val) -> bool
     }
 }
 
+/// The operation of a number.
 pub fn read_operation(value: &Val) -> Option<Op>
     ensures { result ≡ spec.read_operation value.now }
 {
@@ -82,6 +87,7 @@ pub fn address_forms() -> &'static [i64]
     &[1, 2]
 }
 
+/// The number of a response type: of an object, its `rtv`.
 pub fn read_response_type(value: &Val) -> Option<i64>
     ensures { result ≡ spec.read_response_type value.now }
 {
@@ -134,6 +140,7 @@ pub fn expiry_spelled(text: &[u8]) -> Option<When>
     }
 }
 
+/// A time of expiry: a count of milliseconds, or what a text spells.
 pub fn read_expiry(value: &Val) -> Option<When>
     ensures value { result ≡ spec.read_expiry value.now }
     ensures sound { IfSome result IsSoundWhen }
@@ -144,6 +151,7 @@ pub fn read_expiry(value: &Val) -> Option<When>
     }
 }
 
+/// The status of a number of four digits at most.
 pub fn read_status(value: &Val) -> Option<Rsc>
     ensures { result ≡ spec.read_status value.now }
 {

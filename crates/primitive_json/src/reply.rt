@@ -7,11 +7,13 @@ use m2m_value::{Text, Val};
 use std::alloc::{AllocError as OutOfMemory, Global};
 use std::marker::Model;
 
-/// The short names of the parameters of a reply.
+/// The short name of the status of a reply.
 pub const RSC: &str = "rsc";
 
+/// The short name of the identifier of the request.
 pub const RQI: &str = "rqi";
 
+/// The short name of the content.
 pub const PC: &str = "pc";
 
 /// The parameters of a reply, by their short names (TS-0001, 8.1.3; TS-0004, 8.2.2).

@@ -32,13 +32,14 @@ pub(crate) struct Held {
 
 impl Model for Held {
     ghost use Rattle.std.specs.Prelude.{◌≡◌, ◌≤◌, List, ℕ, length, drop};
+    ghost use Rattle.primitive_replay.specs.Front.{held_limit, piece_limit};
 
     ghost Value = { List ℕ };
 
     ghost view = { λ h. drop h.start h.bytes.items };
 
-    ghost invariant = { λ h. (h.start ≤ length h.bytes.items) × (length h.bytes.items ≤ 135169)
-        × (length h.piece.items ≡ 4096) };
+    ghost invariant = { λ h. (h.start ≤ length h.bytes.items)
+        × (length h.bytes.items ≤ held_limit) × (length h.piece.items ≡ piece_limit) };
 }
 
 /// Moves the bytes from `start` on to the front.

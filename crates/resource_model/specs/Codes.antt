@@ -15,7 +15,8 @@ abbrev ResourceParts : Type 0
 ResourceParts = ℕ × (Ty × (List ℕ × (ℕ × (List ℕ × (ℕ × (ℕ × (ℕ × List Row)))))))
 
 abbrev resource_parts : ResourceData → ResourceParts
-resource_parts r = (r.number, (r.ty, (r.name, (r.parent, (r.owner, (r.ct, (r.lt, (r.et, r.attrs))))))))
+resource_parts r =
+    (r.number, (r.ty, (r.name, (r.parent, (r.owner, (r.ct, (r.lt, (r.et, r.attrs))))))))
 
 abbrev of_resource_parts : ResourceParts → ResourceData
 of_resource_parts p = record {

@@ -44,6 +44,7 @@ impl Attrs {
         }
     }
 
+    /// The attributes with their values, in their order; it takes no memory.
     pub fn of(entries: Vec<(Attr, Val)>) -> Attrs
         requires { AreInOrder entries.items }
         ensures { result ≡ entries.items }
@@ -51,6 +52,7 @@ impl Attrs {
         Attrs { rows: entries }
     }
 
+    /// The attributes with their values, in their order.
     pub fn into_vec(self) -> Vec<(Attr, Val)>
         ensures entries { result.items ≡ self }
         ensures order { AreInOrder self }
@@ -58,6 +60,7 @@ impl Attrs {
         self.rows
     }
 
+    /// The attributes with their values, in their order.
     pub fn entries(&self) -> &[(Attr, Val)]
         ensures all { result.now ≡ self.now }
         ensures order { AreInOrder self.now }
@@ -233,18 +236,21 @@ impl Model for AttrSet {
 }
 
 impl AttrSet {
+    /// The names; it takes no memory.
     pub fn of(entries: Vec<Attr>) -> AttrSet
         ensures { result ≡ entries.items }
     {
         AttrSet { names: entries }
     }
 
+    /// The names.
     pub fn into_vec(self) -> Vec<Attr>
         ensures { result.items ≡ self }
     {
         self.names
     }
 
+    /// The names.
     pub fn entries(&self) -> &[Attr]
         ensures { result.now ≡ self.now }
     {

@@ -116,6 +116,7 @@ impl Resource {
         }
     }
 
+    /// The number in its resource id.
     pub fn number(&self) -> u64
         ensures value { result ≡ self.now.number }
         ensures count { result < 2 ^ 63 }
@@ -123,6 +124,7 @@ impl Resource {
         self.number
     }
 
+    /// Its type.
     pub fn ty(&self) -> Ty
         ensures { result ≡ self.now.ty }
     {
@@ -136,6 +138,7 @@ impl Resource {
         self.ty.number() == ty.number()
     }
 
+    /// Its name.
     pub fn name(&self) -> &Text
         ensures value { result.now ≡ self.now.name }
         ensures utf8 { IsUtf8 result.now }
@@ -183,6 +186,7 @@ impl Resource {
         self.moments.et
     }
 
+    /// Its attributes.
     pub fn attrs(&self) -> &Attrs
         ensures { result.now ≡ self.now.attrs }
     {

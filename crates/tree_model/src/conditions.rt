@@ -1,4 +1,4 @@
-// What a caller may test before it changes a tree.
+//! What a caller may test before it changes a tree.
 ghost use Rattle.std.specs.Prelude.{◌≡◌, ◌-◌, ◌↔◌, [], not, nat_lt, ◌&&◌, length, slice_get};
 ghost use Rattle.std.specs.Prelude.{is_some, true, false, IsTrue, Some, option_map};
 ghost use Rattle.std.specs.Option.{option_map_or};

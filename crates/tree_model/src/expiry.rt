@@ -1,4 +1,4 @@
-// When resources are due.
+//! When resources are due.
 ghost use Rattle.std.specs.Prelude.{◌≡◌, ◌<◌, ◌^◌, IfSome, option_map};
 ghost use Rattle.m2m_names.specs.declared.attributes.Attr.TheVariants.{Mia};
 ghost use Rattle.resource_model.specs.Attributes.{count_at};

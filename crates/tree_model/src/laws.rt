@@ -1,4 +1,4 @@
-// What holds of every tree, whatever keeps it.
+//! What holds of every tree, whatever keeps it.
 ghost use Rattle.std.specs.Prelude.{◌≡◌, ℕ, ◌<◌, List, [], ◌∷◌, ◌++◌, filter, Bool, IsTrue, Some};
 ghost use Rattle.std.specs.Prelude.{length, option_map};
 ghost use Rattle.std.specs.Option.{option_or};

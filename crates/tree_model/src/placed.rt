@@ -1,4 +1,4 @@
-// The children of a resource, one by one.
+//! The children of a resource, one by one.
 ghost use Rattle.std.specs.Prelude.{◌≡◌, Some, IfSome, option_map, slice_get};
 ghost use Rattle.tree_model.specs.Tree.{at, children_of, instances_of, subs_of};
 

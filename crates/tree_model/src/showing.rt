@@ -1,4 +1,4 @@
-// The attributes of a resource as they are shown.
+//! The attributes of a resource as they are shown.
 ghost use Rattle.std.specs.Prelude.{◌≡◌, ◌≤◌, ◌++◌, codes, map, IfOk, OnOk, IsUtf8};
 ghost use Rattle.m2m_names.specs.Attributes.{attr_short};
 ghost use Rattle.m2m_names.specs.Stamps.{last_moment};

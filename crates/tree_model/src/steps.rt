@@ -1,4 +1,4 @@
-// Steps that are counted, at no cost.
+//! Steps that are counted, at no cost.
 ghost use Rattle.std.specs.Prelude.{◌≡◌, ◌+◌, ◌<◌};
 ghost use Rattle.tree_model.specs.Tree.{child_of};
 

@@ -1,4 +1,4 @@
-// What a tree is, whatever keeps it.
+//! What a tree is, whatever keeps it.
 ghost use Rattle.std.specs.Prelude.{◌≡◌, ℕ, ◌+◌, ◌^◌, ◌<◌, ◌≤◌, List, [], ◌∷◌, ◌++◌, length};
 ghost use Rattle.std.specs.Prelude.{slice_get, IsTrue, OnOk, OnErr, IfErr, Some, option_map};
 ghost use Rattle.m2m_names.specs.Stamps.{last_moment};

@@ -1,4 +1,4 @@
-// Going over a tree.
+//! Going over a tree.
 ghost use Rattle.std.specs.Prelude.{◌≡◌};
 ghost use Rattle.std.specs.Iterator.{YieldsFirstRef, item_count};
 

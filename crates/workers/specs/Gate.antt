@@ -68,7 +68,8 @@ EndsAs (Some Enough) accept count start now =
 EndsAs (Some Fault) accept count start now =
     Rose start.faults now.faults × TellsStill start.ended now.ended
 
--- Connections were taken from a door, none more than are to be accepted, and why no more are, if so.
+-- Connections were taken from a door, none more than are to be accepted, and why no more are, if
+-- so.
 pub record TakesConnections (accept : Option ℕ) (ending : Option Ending) (start now : DoorTold)
     : Type 0 where
   pub count : ℕ
