@@ -23,7 +23,8 @@ EntityParts = HomeData × (List ResourceData × (ℕ × ℕ))
 
 abbrev pub entity_code : Coded EntityData
 entity_code =
-    code_by EntityParts (coded× home_code (coded× (coded_list resource_code) (coded× coded_ℕ coded_ℕ)))
+    code_by EntityParts
+    (coded× home_code (coded× (coded_list resource_code) (coded× coded_ℕ coded_ℕ)))
     (λ e. (e.home, (e.nodes, (e.next, e.last))))
     (λ p. record { home = p.0; nodes = p.1.0; next = p.1.1.0; last = p.1.1.1 })
     (λ _. refl)
