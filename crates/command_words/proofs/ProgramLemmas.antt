@@ -18,7 +18,7 @@ use Rattle.clap.proofs.OnLiterals.{clap_on_literals}
 use Rattle.command_words.specs.Options.{Choice, choices, option_value, are_options}
 use Rattle.command_words.specs.Command as spec
 use Rattle.command_words.specs.Command.{Command, Task, http_word, replay_word, serve_word, command_said, home_options, serving_options, home_said, words_say}
-use Rattle.command_words.specs.Program.{Says, has_stray, is_stray, program, rows_by}
+use Rattle.command_words.specs.Program.{SaysCommand, has_stray, is_stray, program, rows_by}
 use Rattle.command_words.proofs.OptionLemmas.{same_sym, fits, fits_nothing, more, or_false}
 use Rattle.command_words.proofs.WalkLemmas.{Reads, both_false, fault_alone, fault_first, fault_is, leaf, leaf_reads, names_by, plain_bare, plain_long, plain_short, view}
 
@@ -132,7 +132,7 @@ said_by name u same words = all (choices words)
 
 -- where no fault comes, the rows say what the words say; where one comes, the words say nothing
 abbrev pub Decided : Kinds → Option (List ℕ × List Row) → Option Command → Type 0
-Decided fault sub said = (fault ≡ [] → Says sub said) × (fault ≢ [] → said ≡ None)
+Decided fault sub said = (fault ≡ [] → SaysCommand sub said) × (fault ≢ [] → said ≡ None)
 
 decided_by : (name : List ℕ) (fault : Kinds) (rows : List Row) (os : Option (List Choice)) → Reads fault rows os
     → Decided fault (Some (name, rows)) (option_and_then (command_said name) os)
@@ -233,10 +233,10 @@ program_reads (name ∷ words) clean =
 -- ---- what was found says it
 
 pub matches_say : (app : App) (words : List (List ℕ)) (rows : Option (List ℕ × List Row)) → app ≡ program → has_stray words ≡ false
-    → rows ≡ subcommand_of app words → fault_of app words ≡ [] → Says rows (words_say words)
+    → rows ≡ subcommand_of app words → fault_of app words ≡ [] → SaysCommand rows (words_say words)
 matches_say app words rows is clean same fault =
     let read = program_reads words clean in
-    subst (λ r. Says r (words_say words)) (sym (same ∙ ap (λ a. subcommand_of a words) is)) (read.0 (ap (λ a. fault_of a words) (sym is) ∙ fault))
+    subst (λ r. SaysCommand r (words_say words)) (sym (same ∙ ap (λ a. subcommand_of a words) is)) (read.0 (ap (λ a. fault_of a words) (sym is) ∙ fault))
 
 pub faults_say : (app : App) (words : List (List ℕ)) (k : ErrorKind) → app ≡ program → has_stray words ≡ false
     → IsAmong k (fault_of app words) → words_say words ≡ None
@@ -251,7 +251,7 @@ module _ {Z : Type 0} where
 
 -- the name and the rows of what was found, one by one
 pub found_says : (sub : Option (List ℕ × List Row)) (name : List ℕ) (rows : List Row) → Some name ≡ option_map (λ p. p.0) sub → Some rows ≡ option_map (λ p. p.1) sub
-    → (said : Option Command) → Says sub said → (os : List Choice) × ((rows ≡ rows_by os) × (said ≡ command_said name os))
+    → (said : Option Command) → SaysCommand sub said → (os : List Choice) × ((rows ≡ rows_by os) × (said ≡ command_said name os))
 found_says None name rows e f said h =
     let bad : true ≡ false = ap is_some e in absurd (true≢false bad)
 found_says (Some p) name rows e f said h =
@@ -261,7 +261,7 @@ found_says (Some p) name rows e f said h =
       (r ∙ h.1.0, h.1.1 ∙ ap (λ t. command_said t h.0) (sym n)),
     )
 
-pub none_says : (sub : Option (List ℕ × List Row)) → None ≡ option_map (λ p. p.0) sub → (said : Option Command) → Says sub said → None ≡ said
+pub none_says : (sub : Option (List ℕ × List Row)) → None ≡ option_map (λ p. p.0) sub → (said : Option Command) → SaysCommand sub said → None ≡ said
 none_says None e said h = sym h
 none_says (Some p) e said h =
     let bad : true ≡ false = sym (ap is_some e) in absurd (true≢false bad)

@@ -72,6 +72,6 @@ rows_by os = map row_by os
 
 -- A command's name and rows say this: the rows are those of options, and it is what the command and
 -- the options say.
-abbrev pub Says : Option (List ℕ × List Row) → Option Command → Type 0
-Says None said = said ≡ None
-Says (Some p) said = (os : List Choice) × ((p.1 ≡ rows_by os) × (said ≡ command_said p.0 os))
+abbrev pub SaysCommand : Option (List ℕ × List Row) → Option Command → Type 0
+SaysCommand None said = said ≡ None
+SaysCommand (Some p) said = (os : List Choice) × ((p.1 ≡ rows_by os) × (said ≡ command_said p.0 os))

@@ -3,7 +3,7 @@ ghost use Rattle.std.specs.Prelude.{◌≡◌, List, Option, IfOk, map, option_m
 ghost use Rattle.clap.specs.Words.{found_of, rows_of, subcommand_rows_of};
 ghost use Rattle.command_words.specs.Options.{Choice};
 ghost use Rattle.command_words.specs.Options as choices;
-ghost use Rattle.command_words.specs.Program.{Says, rows_by};
+ghost use Rattle.command_words.specs.Program.{SaysCommand, rows_by};
 ghost use Rattle.command_words.specs.Command as spec;
 
 use crate::home::HomeWords;
@@ -137,7 +137,7 @@ fn command_said<'a>(name: &str, options: &ArgMatches<'a>) -> Option<Command<'a>>
 
 /// The command that was found.
 fn command_found<'a>(matches: &ArgMatches<'a>) -> Option<Command<'a>>
-    ensures { (said : Option spec.Command) → Says (subcommand_rows_of matches.now) said
+    ensures { (said : Option spec.Command) → SaysCommand (subcommand_rows_of matches.now) said
         → option_map spec.command_by result ≡ said }
 {
     let (name, options) = matches.subcommand()?;

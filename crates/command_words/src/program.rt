@@ -4,7 +4,7 @@ ghost use Rattle.std.specs.List.{list_any};
 ghost use Rattle.clap.specs.Words.{app_of, rule_of, subcommand_rows_of};
 ghost use Rattle.clap.specs.declared.builder.command.Command.TheViews.{out-Command as fields_of};
 ghost use Rattle.command_words.specs.Program as spec;
-ghost use Rattle.command_words.specs.Program.{Says};
+ghost use Rattle.command_words.specs.Program.{SaysCommand};
 ghost use Rattle.command_words.specs.Command.{words_say};
 
 use crate::names;
@@ -121,7 +121,7 @@ pub(crate) fn matches_of<'a>(
 ) -> Result<Option<ArgMatches<'a>>, OutOfMemory>
     ensures { IfOk result (λ said.
         MatchOption said (words_say (map (λ word. word.now) words.now) ≡ None)
-        (λ found. Says (subcommand_rows_of found)
+        (λ found. SaysCommand (subcommand_rows_of found)
         (words_say (map (λ word. word.now) words.now)))) }
 {
     if has_stray(words) {
