@@ -5,8 +5,8 @@
 //! function of the entity without what is due and of the request, and want of memory as the one
 //! free answer. Every request may be asked. Those that aren't served yet (`is_served` of
 //! `specs/Answer`) are answered as malformed: a Notify, and the creation of another type than
-//! accessControlPolicy, AE, container and contentInstance. Fan-out points and poll points name nothing
-//! yet. A content that asks for copies isn't admitted yet.
+//! accessControlPolicy, AE, container and contentInstance. Fan-out points and poll points name
+//! nothing yet. A content that asks for copies isn't admitted yet.
 //!
 //! Laws over every history stand on functions without a body. What is shown or changed is so by a
 //! grant to the originator; and an originator is answered by no more than it sees, in the requests
