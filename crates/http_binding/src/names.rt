@@ -1,4 +1,5 @@
-//! The names of header fields, and the type of the content that is written (TS-0009, 6.4; RFC 9110).
+//! The names of header fields, and the type of the content that is written (TS-0009, 6.4; RFC
+//! 9110).
 
 /// Who asks.
 pub const ORIGIN_FIELD: &str = "X-M2M-Origin";
