@@ -1,8 +1,12 @@
-//! The adapters of the real devices.
+//! The adapters of the real devices, and an entity that comes back from a desk.
 ghost use Rattle.std.specs.Prelude.{◌≤◌, IfOk};
 
 use cse_cli::{StdIn, StdOut, SystemClock};
+use cse_server::Served;
+use entity_model::Entity;
 use m2m_io::{Clock, Failed, Sink, Source};
+use plain_tree::ListTree;
+use resource_model::Home;
 use std::alloc::{AllocError, Global};
 use std::io::{Error, ErrorKind, Read, Write};
 use std::test::Fail;
@@ -93,5 +97,19 @@ fn the_clock_counts_seconds(rt: HostRuntime) -> Result<(), Fail> {
     let reading = SystemClock::new(rt).now();
     let after = time::Clock::since_1970(&rt)?.as_secs();
     assert!(rt; before <= reading && reading <= after, "{reading}");
+    Ok(())
+}
+
+/// An entity that opened at 5, taken back from a desk.
+fn taken_back(alloc: Global) -> Result<Entity<ListTree>, AllocError> {
+    let home = Home::with_defaults(alloc)?;
+    let entity = Entity::open(alloc, home, ListTree::new(alloc), 5)?;
+    Ok(Served::new(alloc, entity).into_entity())
+}
+
+#[test]
+fn an_entity_comes_back_from_a_desk(rt: HostRuntime) -> Result<(), Fail> {
+    let entity = taken_back(rt.alloc())?;
+    assert_eq!(rt; entity.last, 5);
     Ok(())
 }
