@@ -1,7 +1,7 @@
 -- Streams that were lent to a connection, and how it ended.
 use Rattle.std.proofs.Common.{◌≡◌, ℕ, List, ◌∷◌, [], Option, get_or, refl, sym, ap, subst}
 use Rattle.m2m_io.specs.declared.status.Status.{Status}
-use Rattle.m2m_io.specs.declared.status.Status.TheVariants.{ReadFault, WriteFault}
+use Rattle.m2m_io.specs.declared.status.Status.TheVariants.{ReadFault, WriteFault, Usage}
 use Rattle.m2m_io.specs.Link.{Exchange}
 use Rattle.m2m_io.specs.Outside.{Outside, outside}
 use Rattle.turn_desk.specs.Entries.{Marked}
@@ -52,6 +52,17 @@ ended_writing NoFrame e = absurd (subst IsWriting (sym e) tt)
 ended_writing EndedReading e = absurd (subst IsWriting (sym e) tt)
 ended_writing EndedWriting e = refl
 ended_writing EndedStarved e = absurd (subst IsWriting (sym e) tt)
+
+abbrev IsUsage : Status → Type 0
+IsUsage Usage = Unit {0}
+IsUsage _ = ⊥
+
+pub never_usage : (ended : Ended) → status_of ended ≡ Usage → ⊥
+never_usage Closed e = subst IsUsage (sym e) tt
+never_usage NoFrame e = subst IsUsage (sym e) tt
+never_usage EndedReading e = subst IsUsage (sym e) tt
+never_usage EndedWriting e = subst IsUsage (sym e) tt
+never_usage EndedStarved e = subst IsUsage (sym e) tt
 
 -- ---- the same connection, by other names
 

@@ -1,2 +1,3 @@
 mod Writing
 mod HttpLemmas
+mod WordsLemmas

@@ -1,17 +1,18 @@
--- The words of a command line.
-use Rattle.std.specs.Prelude.{ℕ, List, [], ◌∷◌, Option, Some, None, codes, if◌then◌else◌}
-use Rattle.std.specs.Str.{bytes_eq}
-use Rattle.cse_cli.specs.declared.command.Command.{Command}
-use Rattle.cse_cli.specs.declared.command.Command.TheVariants.{Http, Replay}
+-- The words of a command line, as far as what they ask for is served.
+use Rattle.std.specs.Prelude.{ℕ, List, Option, Some, None, option_and_then}
+use Rattle.resource_model.specs.Home.{HomeData}
+use Rattle.command_words.specs.Command.{Command, Task, http, replay, serve, command_in}
 
--- the command of this name
-abbrev pub command_named : List ℕ → Option Command
-command_named word =
-    if bytes_eq word (codes "http") then Some Http
-    else (if bytes_eq word (codes "replay") then Some Replay else None)
+-- a command at a home
+abbrev pub command_at : Task → HomeData → Command
+command_at task home = record { task = task; home = home }
 
--- the command of a command line: its one word names it, as no command has options so far
+-- the command of this task, where it is served: a server for many isn't yet
+abbrev pub served : Task → HomeData → Option Command
+served http home = Some (command_at http home)
+served replay home = Some (command_at replay home)
+served (serve serving) home = None
+
+-- the command of a command line, where it is served
 abbrev pub command_of : List (List ℕ) → Option Command
-command_of [] = None
-command_of (word ∷ []) = command_named word
-command_of (word ∷ next ∷ words) = None
+command_of words = option_and_then (λ said. served said.task said.home) (command_in words)

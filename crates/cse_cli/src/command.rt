@@ -1,49 +1,62 @@
 //! The command line.
 ghost use Rattle.std.specs.Prelude.{◌≡◌, ◌≢◌, ◌≤◌, ◌↔◌, Some, None, vec_len, map};
+ghost use Rattle.resource_model.specs.Home.{HomeData};
 ghost use Rattle.m2m_io.specs.Counts.{Rose};
 ghost use Rattle.m2m_io.specs.Outside.{outside};
 ghost use Rattle.m2m_io.specs.Status.{status_line};
 ghost use Rattle.m2m_io.specs.Told.{AppendsUnlessFault};
+ghost use Rattle.command_words.specs.Command as asked;
+ghost use Rattle.command_words.specs.Command.{task_by};
 ghost use Rattle.cse_cli.specs.Words as spec;
+ghost use Rattle.cse_cli.specs.Words.{command_at, command_of};
 ghost use Rattle.cse_cli.specs.Run.{RunsHttp, RunsReplay};
 
 use crate::http::serve_streams;
 use crate::replay::replay_lines;
+use command_words::{Task, read_command};
 use cse_server::Bench;
 use m2m_io::{Clock, Door, Link, Sink, Source, Status};
 use std::alloc::Global;
 use std::sync::Wait;
 use std::thread::Threads;
 use std::time;
+use tree_model::Home;
 
-/// What the program can do.
-#[derive(Clone, Copy, Debug, PartialEq, Eq)]
-pub enum Command {
-    /// Serves standard input and output as one connection.
-    Http,
-    /// Answers the lines of standard input.
-    Replay,
-}
-
-fn command_named(word: &str) -> Option<Command>
-    ensures { result ≡ spec.command_named word.now }
+/// Does a task at this home, and tells nobody how it ended.
+fn run_task<S: Source, O: Sink, C: Clock, L: Link>(
+    alloc: Global,
+    task: Task,
+    home: Home,
+    input: &mut S,
+    out: &mut O,
+    first: &mut Bench<C, L>,
+) -> Status
+    ensures usage { result ≡ Status.Usage ↔ spec.served (task_by task.entry) home ≡ None }
+    ensures still { spec.served (task_by task.entry) home ≡ None
+        → (input.new ≡ input.old) × (out.new ≡ out.old) × (first.new ≡ first.old) }
+    ensures http { let old = outside (S.left input.old) (O.written out.old)
+        (C.readings first.old.clock) (L.exchanges first.old.link) in
+        let new = outside (S.left input.new) (O.written out.new)
+        (C.readings first.new.clock) (L.exchanges first.new.link) in
+        task_by task.entry ≡ asked.http → RunsHttp home old new result }
+    ensures replay { let old = outside (S.left input.old) (O.written out.old)
+        (C.readings first.old.clock) (L.exchanges first.old.link) in
+        let new = outside (S.left input.new) (O.written out.new)
+        (C.readings first.new.clock) (L.exchanges first.new.link) in
+        task_by task.entry ≡ asked.replay → RunsReplay home old new result }
+    ensures read_count { S.faults input.old ≤ S.faults input.new }
+    ensures read_cause { result ≡ Status.ReadFault
+        → Rose (S.faults input.old) (S.faults input.new) }
+    ensures read_steady { result ≢ Status.ReadFault → S.faults input.new ≡ S.faults input.old }
+    ensures write_count { O.faults out.old ≤ O.faults out.new }
+    ensures write_cause { result ≡ Status.WriteFault → Rose (O.faults out.old) (O.faults out.new) }
+    ensures write_steady { result ≢ Status.WriteFault → O.faults out.new ≡ O.faults out.old }
+    ensures link { L.faults first.new.link ≡ L.faults first.old.link }
 {
-    if word == "http" {
-        Some(Command::Http)
-    } else if word == "replay" {
-        Some(Command::Replay)
-    } else {
-        None
-    }
-}
-
-/// The command of these words.
-fn command_of(words: &[&str]) -> Option<Command>
-    ensures { result ≡ spec.command_of (map (λ word. word.now) words.now) }
-{
-    match words {
-        [word] => command_named(word),
-        _ => None,
+    match task {
+        Task::Http => serve_streams(alloc, home, input, out, first),
+        Task::Replay => replay_lines(alloc, home, input, out, first),
+        Task::Serve(_) => Status::Usage,
     }
 }
 
@@ -56,21 +69,21 @@ fn run_words<S: Source, O: Sink, C: Clock, L: Link>(
     first: &mut Bench<C, L>,
 ) -> Status
     ensures usage { result ≡ Status.Usage
-        ↔ spec.command_of (map (λ word. word.now) words.now) ≡ None }
-    ensures still { spec.command_of (map (λ word. word.now) words.now) ≡ None
+        ↔ command_of (map (λ word. word.now) words.now) ≡ None }
+    ensures still { command_of (map (λ word. word.now) words.now) ≡ None
         → (input.new ≡ input.old) × (out.new ≡ out.old) × (first.new ≡ first.old) }
     ensures http { let old = outside (S.left input.old) (O.written out.old)
         (C.readings first.old.clock) (L.exchanges first.old.link) in
         let new = outside (S.left input.new) (O.written out.new)
         (C.readings first.new.clock) (L.exchanges first.new.link) in
-        spec.command_of (map (λ word. word.now) words.now) ≡ Some Command.Http
-        → RunsHttp old new result }
+        (home : HomeData) → command_of (map (λ word. word.now) words.now)
+        ≡ Some (command_at asked.http home) → RunsHttp home old new result }
     ensures replay { let old = outside (S.left input.old) (O.written out.old)
         (C.readings first.old.clock) (L.exchanges first.old.link) in
         let new = outside (S.left input.new) (O.written out.new)
         (C.readings first.new.clock) (L.exchanges first.new.link) in
-        spec.command_of (map (λ word. word.now) words.now) ≡ Some Command.Replay
-        → RunsReplay old new result }
+        (home : HomeData) → command_of (map (λ word. word.now) words.now)
+        ≡ Some (command_at asked.replay home) → RunsReplay home old new result }
     ensures read_count { S.faults input.old ≤ S.faults input.new }
     ensures read_cause { result ≡ Status.ReadFault
         → Rose (S.faults input.old) (S.faults input.new) }
@@ -80,10 +93,16 @@ fn run_words<S: Source, O: Sink, C: Clock, L: Link>(
     ensures write_steady { result ≢ Status.WriteFault → O.faults out.new ≡ O.faults out.old }
     ensures link { L.faults first.new.link ≡ L.faults first.old.link }
 {
-    match command_of(words) {
-        Some(Command::Http) => serve_streams(alloc, input, out, first),
-        Some(Command::Replay) => replay_lines(alloc, input, out, first),
-        None => Status::Usage,
+    let Some(command) = read_command(words) else {
+        return Status::Usage;
+    };
+    if let Task::Serve(_) = command.task {
+        return Status::Usage;
+    }
+    match command.home.home(alloc) {
+        Ok(Some(home)) => run_task(alloc, command.task, home, input, out, first),
+        Ok(None) => Status::Usage,
+        Err(_) => Status::Memory,
     }
 }
 
@@ -92,7 +111,7 @@ fn run_words<S: Source, O: Sink, C: Clock, L: Link>(
 /// connection or one list of lines; `err` gets the text of the status as a line; `first` is the
 /// bench of such a command, and `benches` are those of the workers. So far the commands are `http`,
 /// which serves `input` and `out` as one connection, and `replay`, which answers the lines of
-/// `input`.
+/// `input`. The options behind either say the home of the entity.
 pub fn run<R, S: Source, O: Sink, E: Sink, D: Door + Send, C: Clock + Send, L: Link + Send>(
     rt: &R,
     alloc: Global,
@@ -110,32 +129,32 @@ where
     L: Drop,
     requires benches { 2 ≤ vec_len benches }
 
-    // Every list of words but the one `http` and the one `replay` is usage: then nothing is read or
-    // written to `out`, and no reading is taken and no exchange made.
+    // Every list of words that isn't one of these commands with its options is usage: then nothing
+    // is read or written to `out`, and no reading is taken and no exchange made.
     ensures usage { result.0 ≡ Status.Usage
-        ↔ spec.command_of (map (λ word. word.now) words.now) ≡ None }
-    ensures still { spec.command_of (map (λ word. word.now) words.now) ≡ None
+        ↔ command_of (map (λ word. word.now) words.now) ≡ None }
+    ensures still { command_of (map (λ word. word.now) words.now) ≡ None
         → (input.new ≡ input.old) × (out.new ≡ out.old) × (first.new ≡ first.old) }
 
-    // At `http` an entity opens at the first reading that the clock of `first` gives in this call.
-    // Then `out` gets exactly the replies that the machine gives the requests of `input`, one after
-    // another, as far as the status says.
+    // At `http` an entity with the home that the words say opens at the first reading that the clock
+    // of `first` gives in this call. Then `out` gets exactly the replies that the machine gives the
+    // requests of `input`, one after another, as far as the status says.
     ensures http { let old = outside (S.left input.old) (O.written out.old)
         (C.readings first.old.clock) (L.exchanges first.old.link) in
         let new = outside (S.left input.new) (O.written out.new)
         (C.readings first.new.clock) (L.exchanges first.new.link) in
-        spec.command_of (map (λ word. word.now) words.now) ≡ Some Command.Http
-        → RunsHttp old new result.0 }
+        (home : HomeData) → command_of (map (λ word. word.now) words.now)
+        ≡ Some (command_at asked.http home) → RunsHttp home old new result.0 }
 
-    // At `replay` an entity opens at the reading 0, and `out` gets exactly the script of the lines
-    // of `input`, as far as the status says: BadLine where the line of that number is the first bad
-    // one.
+    // At `replay` an entity with the home that the words say opens at the reading 0, and `out` gets
+    // exactly the script of the lines of `input`, as far as the status says: BadLine where the line
+    // of that number is the first bad one.
     ensures replay { let old = outside (S.left input.old) (O.written out.old)
         (C.readings first.old.clock) (L.exchanges first.old.link) in
         let new = outside (S.left input.new) (O.written out.new)
         (C.readings first.new.clock) (L.exchanges first.new.link) in
-        spec.command_of (map (λ word. word.now) words.now) ≡ Some Command.Replay
-        → RunsReplay old new result.0 }
+        (home : HomeData) → command_of (map (λ word. word.now) words.now)
+        ≡ Some (command_at asked.replay home) → RunsReplay home old new result.0 }
 
     // A fault is answered where the stream failed in this call, and only there.
     ensures read_count { S.faults input.old ≤ S.faults input.new }

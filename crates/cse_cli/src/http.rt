@@ -2,9 +2,8 @@
 ghost use Rattle.std.specs.Prelude.{◌≡◌, ◌≢◌, ◌≤◌, IfOk};
 ghost use Rattle.m2m_io.specs.Counts.{Rose};
 ghost use Rattle.m2m_io.specs.Outside.{outside};
-ghost use Rattle.resource_model.specs.Home.{default_home};
 ghost use Rattle.entity_model.specs.Opening.{opening};
-ghost use Rattle.cse_cli.specs.Run.{RunsHttp, status_of};
+ghost use Rattle.cse_cli.specs.Run.{ServesStreams, status_of};
 
 use cse_server::{Bench, Ended, Served, Wire, serve_connection};
 use entity_model::Entity;
@@ -26,18 +25,19 @@ fn status_of(ended: Ended) -> Status
     }
 }
 
-/// The entity with the default home, as it opens at a reading of the clock.
-fn opened(alloc: Global, reading: u64) -> Result<Served<ListTree>, OutOfMemory>
-    ensures { IfOk result (λ served. served ≡ opening default_home reading) }
+/// The entity with this home, as it opens at a reading of the clock.
+fn opened(alloc: Global, home: Home, reading: u64) -> Result<Served<ListTree>, OutOfMemory>
+    ensures { IfOk result (λ served. served ≡ opening home reading) }
 {
-    let home = Home::with_defaults(alloc)?;
     let entity = Entity::open(alloc, home, ListTree::new(alloc), reading)?;
     Ok(Served::new(alloc, entity))
 }
 
-/// Opens an entity at the clock's first reading, and serves input and output as one connection.
+/// Opens an entity with this home at the clock's first reading, and serves input and output as one
+/// connection.
 pub(crate) fn serve_streams<S: Source, O: Sink, C: Clock, L: Link>(
     alloc: Global,
+    home: Home,
     input: &mut S,
     out: &mut O,
     bench: &mut Bench<C, L>,
@@ -46,7 +46,8 @@ pub(crate) fn serve_streams<S: Source, O: Sink, C: Clock, L: Link>(
         (C.readings bench.old.clock) (L.exchanges bench.old.link) in
         let new = outside (S.left input.new) (O.written out.new)
         (C.readings bench.new.clock) (L.exchanges bench.new.link) in
-        RunsHttp old new result }
+        ServesStreams home old new result }
+    ensures command { result ≢ Status.Usage }
     ensures read_count { S.faults input.old ≤ S.faults input.new }
     ensures read_cause { result ≡ Status.ReadFault
         → Rose (S.faults input.old) (S.faults input.new) }
@@ -57,7 +58,7 @@ pub(crate) fn serve_streams<S: Source, O: Sink, C: Clock, L: Link>(
     ensures link { L.faults bench.new.link ≡ L.faults bench.old.link }
 {
     let reading = bench.clock.now();
-    let Ok(served) = opened(alloc, reading) else {
+    let Ok(served) = opened(alloc, home, reading) else {
         return Status::Memory;
     };
     let mut seat = OwnSeat::new(served);

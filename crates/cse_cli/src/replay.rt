@@ -10,10 +10,11 @@ use primitive_replay::replay;
 use std::alloc::Global;
 use tree_model::Home;
 
-/// Replays the lines of the input against an entity with the default home. No reading of the clock
-/// is taken, as the lines say the readings.
+/// Replays the lines of the input against an entity with this home. No reading of the clock is
+/// taken, as the lines say the readings.
 pub(crate) fn replay_lines<S: Source, O: Sink, C: Clock, L: Link>(
     alloc: Global,
+    home: Home,
     input: &mut S,
     out: &mut O,
     bench: &mut Bench<C, L>,
@@ -22,7 +23,7 @@ pub(crate) fn replay_lines<S: Source, O: Sink, C: Clock, L: Link>(
         (C.readings bench.old.clock) (L.exchanges bench.old.link) in
         let new = outside (S.left input.new) (O.written out.new)
         (C.readings bench.new.clock) (L.exchanges bench.new.link) in
-        RunsReplay old new result }
+        RunsReplay home old new result }
     ensures command { result ≢ Status.Usage }
     ensures read_count { S.faults input.old ≤ S.faults input.new }
     ensures read_cause { result ≡ Status.ReadFault
@@ -34,8 +35,5 @@ pub(crate) fn replay_lines<S: Source, O: Sink, C: Clock, L: Link>(
     ensures clock { bench.new.clock ≡ bench.old.clock }
     ensures link { L.faults bench.new.link ≡ L.faults bench.old.link }
 {
-    let Ok(home) = Home::with_defaults(alloc) else {
-        return Status::Memory;
-    };
     replay(alloc, home, input, out, &mut bench.link)
 }

@@ -3,8 +3,8 @@ use Rattle.m2m_io.specs.Counts.{Rose}
 use Rattle.m2m_io.specs.Outside.{outside}
 use Rattle.turn_desk.specs.Growth.{IsOwnRun}
 use Rattle.cse_machine.specs.Step.{Step}
-use Rattle.cse_cli.specs.Run.{RunsHttp, status_of}
-use Rattle.cse_cli.proofs.HttpLemmas.{first_name, second_name, after_lent, after_both, ended_reading, ended_writing, serves_same}
+use Rattle.cse_cli.specs.Run.{ServesStreams, status_of}
+use Rattle.cse_cli.proofs.HttpLemmas.{first_name, second_name, after_lent, after_both, ended_reading, ended_writing, never_usage, serves_same}
 use Rattle.cse_cli.proofs.http.serve_streams.Goals as goal
 
 pub returns-in_default-clause-runs : goal.returns-in_default-clause-runs
@@ -19,7 +19,7 @@ pub returns-clause-runs : goal.returns-clause-runs
 returns-clause-runs g c =
     let read_name = first_name _ _ _ _ c.serve_connection-ended.ensures.holds in
     let put_name = second_name _ _ _ _ c.serve_connection-ended.ensures.holds in
-    after_both (λ i o. RunsHttp (outside (g.S.Source.left c.args.input.now) (g.O.Sink.written c.args.out.now) (g.C.Clock.readings c.args.bench.now.clock) (g.L.Link.exchanges c.args.bench.now.link)) (outside (g.S.Source.left i) (g.O.Sink.written o) (g.C.Clock.readings c.serve_connection-ended.new.clock) (g.L.Link.exchanges c.serve_connection-ended.new.link)) c.status_of.result)
+    after_both (λ i o. ServesStreams c.args.home (outside (g.S.Source.left c.args.input.now) (g.O.Sink.written c.args.out.now) (g.C.Clock.readings c.args.bench.now.clock) (g.L.Link.exchanges c.args.bench.now.link)) (outside (g.S.Source.left i) (g.O.Sink.written o) (g.C.Clock.readings c.serve_connection-ended.new.clock) (g.L.Link.exchanges c.serve_connection-ended.new.link)) c.status_of.result)
     c.new-wire.result.input.ghost_name c.serve_connection-ended.new.conn.input.ghost_name c.new-wire.result.out.ghost_name c.serve_connection-ended.new.conn.out.ghost_name
     _ c.serve_connection-ended.new.conn.input.now _ c.serve_connection-ended.new.conn.out.now read_name (search rules) put_name (search rules)
     (record {
@@ -65,3 +65,6 @@ returns-clause-write_steady g c = λ other.
     after_lent (λ o. g.O.Sink.faults o ≡ g.O.Sink.faults c.args.out.now)
     c.new-wire.result.out.ghost_name c.serve_connection-ended.new.conn.out.ghost_name _ c.serve_connection-ended.new.conn.out.now names (search rules)
     (c.serve_connection-ended.ensures.write_steady (λ e. other (c.status_of.ensures ∙ ap status_of e)) ∙ ap g.O.Sink.faults c.new-wire.ensures.writes)
+
+pub returns-clause-command : goal.returns-clause-command
+returns-clause-command g c = λ e. never_usage c.serve_connection-ended.result (sym c.status_of.ensures ∙ e)
