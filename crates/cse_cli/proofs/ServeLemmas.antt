@@ -1,6 +1,5 @@
 -- A server, from its words to its door.
 use Rattle.std.proofs.Common.{◌≡◌, ℕ, ◌*◌, List, [], ◌∷◌, Bool, true, false, Option, Some, None, codes, refl, sym, ap, subst, ◌∙◌, inl, inr, ⊎_elim, arith}
-use Rattle.std.proofs.lemmas.Slice.Eq.{bytes_eq-Decides}
 use Rattle.m2m_io.specs.Counts.{Rose}
 use Rattle.m2m_io.specs.Told.{Tells, TellsStill}
 use Rattle.m2m_io.specs.declared.status.Status.{Status}
@@ -11,16 +10,7 @@ use Rattle.turn_desk.specs.Seats.{known_to}
 use Rattle.turn_desk.specs.Shared.{newcomer, IsWhole}
 use Rattle.workers.specs.Gate.{DoorTold}
 use Rattle.workers.specs.Shares.{HasPartOf, HasComeBack}
-use Rattle.command_words.specs.Serving.{serving}
-use Rattle.cse_cli.specs.Words.{is_http}
 use Rattle.cse_cli.specs.Serve.{OpensAndServes, TakesNothing, ServesOpen, RunsServe}
-
--- the words of `http` ask for no server
-pub http_serves_nothing : (words : List (List ℕ)) → is_http words ≡ true → serving words ≡ None
-http_serves_nothing [] h = absurd h
-http_serves_nothing (word ∷ []) h = subst (λ (w : List ℕ). serving (w ∷ []) ≡ None)
-    (sym ((bytes_eq-Decides word (codes "http")).0 h)) refl
-http_serves_nothing (word ∷ next ∷ words) h = absurd h
 
 module _ {X E R : Type 0} {step : ℕ → E → X → R → X → Type 0} {desk : TableId} where
   whole-part : (object : X) (lent back : View X E R) → lent ≡ newcomer object → HasPartOf lent back → IsWhole back

@@ -5,6 +5,7 @@ ghost use Rattle.workers.specs.Gate.{door_tells};
 ghost use Rattle.cse_cli.specs.Serve.{RunsServe, ServesOpen};
 
 use crate::http::opened;
+use command_words::Serving;
 use cse_machine::{Event, Outcome};
 use cse_server::Bench;
 use http_workers::{ServeFault, serve};
@@ -12,6 +13,7 @@ use m2m_io::{Clock, Door, Link, Status};
 use std::alloc::Global;
 use std::sync::Wait;
 use std::thread::Threads;
+use tree_model::Home;
 use turn_desk::{Object, TurnDesk};
 
 /// Serves the connections of an open door, of which so many are accepted at most, at a desk of this
@@ -37,6 +39,7 @@ where
     ensures serves { ServesOpen accept (door_tells D.opened D.given D.ended D.faults door)
         (door_tells D.opened D.given D.ended D.faults result.1) result.0 }
     ensures first { first.new ≡ first.old }
+    ensures command { result.0 ≢ Status.Usage }
 {
     let Ok((desk, seat)) = TurnDesk::new(own_rt, alloc, object) else {
         return (Status::Memory, door);
@@ -57,14 +60,14 @@ where
     }
 }
 
-/// Opens an entity at the clock's first reading, opens the door at an address, and serves its
-/// connections, of which so many are accepted at most.
+/// Opens an entity with this home at the clock's first reading, opens the door where the words say,
+/// and serves its connections, of which as many are accepted at most as they say.
 #[tactic(auto, using(crate::proofs::ServeLemmas::runs_open, crate::proofs::ServeLemmas::takes_nothing))]
 pub(crate) fn serve_door<R, D, C, L>(
     rt: &R,
     alloc: Global,
-    listen: &[u8],
-    accept: Option<u64>,
+    home: Home,
+    serving: Serving<'_>,
     mut door: D,
     first: &mut Bench<C, L>,
     benches: Vec<Bench<C, L>>,
@@ -75,21 +78,22 @@ where
     C: Clock + Send + Drop,
     L: Link + Send + Drop,
     requires benches { 2 ≤ vec_len benches }
-    ensures serves { RunsServe accept (door_tells D.opened D.given D.ended D.faults door)
+    ensures serves { RunsServe serving.accept (door_tells D.opened D.given D.ended D.faults door)
         (door_tells D.opened D.given D.ended D.faults result.1) result.0 }
     ensures clock { (reading : ℕ) × Tells (λ given. given ++ reading ∷ [])
         (C.readings first.old.clock) (C.readings first.new.clock) }
     ensures link { first.new.link ≡ first.old.link }
+    ensures command { result.0 ≢ Status.Usage }
 {
     let reading = first.clock.now();
-    let Ok(served) = opened(alloc, reading) else {
+    let Ok(served) = opened(alloc, home, reading) else {
         return (Status::Memory, door);
     };
     let Ok(own_rt) = rt.clone() else {
         return (Status::Memory, door);
     };
-    if door.open(listen).is_err() {
+    if door.open(serving.listen.as_bytes()).is_err() {
         return (Status::ReadFault, door);
     }
-    serve_at_desk(rt, own_rt, alloc, served, door, accept, first, benches)
+    serve_at_desk(rt, own_rt, alloc, served, door, serving.accept, first, benches)
 }
