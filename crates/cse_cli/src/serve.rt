@@ -95,5 +95,14 @@ where
     if door.open(serving.listen.as_bytes()).is_err() {
         return (Status::ReadFault, door);
     }
-    serve_at_desk(rt, own_rt, alloc, served, door, serving.accept, first, benches)
+    serve_at_desk(
+        rt,
+        own_rt,
+        alloc,
+        served,
+        door,
+        serving.accept,
+        first,
+        benches,
+    )
 }
