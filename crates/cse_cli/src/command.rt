@@ -6,13 +6,16 @@ ghost use Rattle.m2m_io.specs.Outside.{outside};
 ghost use Rattle.m2m_io.specs.Status.{status_line};
 ghost use Rattle.m2m_io.specs.Told.{AppendsUnlessFault};
 ghost use Rattle.command_words.specs.Command as asked;
-ghost use Rattle.command_words.specs.Command.{task_by};
+ghost use Rattle.command_words.specs.Command.{Serving, command_in, serve, task_by};
 ghost use Rattle.cse_cli.specs.Words as spec;
 ghost use Rattle.cse_cli.specs.Words.{command_at, command_of};
 ghost use Rattle.cse_cli.specs.Run.{RunsHttp, RunsReplay};
+ghost use Rattle.cse_cli.specs.Serve.{RunsServe};
+ghost use Rattle.workers.specs.Gate.{door_tells};
 
 use crate::http::serve_streams;
 use crate::replay::replay_lines;
+use crate::serve::serve_door;
 use command_words::{Task, read_command};
 use cse_server::Bench;
 use m2m_io::{Clock, Door, Link, Sink, Source, Status};
@@ -60,7 +63,7 @@ fn run_task<S: Source, O: Sink, C: Clock, L: Link>(
     }
 }
 
-/// Does what the words name, and tells nobody how it ended.
+/// Does what the words name with the streams, and tells nobody how it ended.
 fn run_words<S: Source, O: Sink, C: Clock, L: Link>(
     alloc: Global,
     words: &[&str],
@@ -106,12 +109,77 @@ fn run_words<S: Source, O: Sink, C: Clock, L: Link>(
     }
 }
 
+/// Does what the words name, and tells nobody how it ended.
+fn run_command<R, S: Source, O: Sink, D: Door + Send, C: Clock + Send, L: Link + Send>(
+    rt: &R,
+    alloc: Global,
+    words: &[&str],
+    input: &mut S,
+    out: &mut O,
+    door: D,
+    first: &mut Bench<C, L>,
+    benches: Vec<Bench<C, L>>,
+) -> (Status, D)
+where
+    R: Wait + Threads + Clone + Drop + Sync,
+    C: Drop,
+    L: Drop,
+    requires benches { 2 ≤ vec_len benches }
+    ensures usage { result.0 ≡ Status.Usage
+        ↔ command_in (map (λ word. word.now) words.now) ≡ None }
+    ensures nothing { command_in (map (λ word. word.now) words.now) ≡ None
+        → first.new ≡ first.old }
+    ensures still { command_of (map (λ word. word.now) words.now) ≡ None
+        → (input.new ≡ input.old) × (out.new ≡ out.old) }
+    ensures http { let old = outside (S.left input.old) (O.written out.old)
+        (C.readings first.old.clock) (L.exchanges first.old.link) in
+        let new = outside (S.left input.new) (O.written out.new)
+        (C.readings first.new.clock) (L.exchanges first.new.link) in
+        (home : HomeData) → command_of (map (λ word. word.now) words.now)
+        ≡ Some (command_at asked.http home) → RunsHttp home old new result.0 }
+    ensures replay { let old = outside (S.left input.old) (O.written out.old)
+        (C.readings first.old.clock) (L.exchanges first.old.link) in
+        let new = outside (S.left input.new) (O.written out.new)
+        (C.readings first.new.clock) (L.exchanges first.new.link) in
+        (home : HomeData) → command_of (map (λ word. word.now) words.now)
+        ≡ Some (command_at asked.replay home) → RunsReplay home old new result.0 }
+    ensures serve { (serving : Serving) (home : HomeData)
+        → command_in (map (λ word. word.now) words.now) ≡ Some (command_at (serve serving) home)
+        → RunsServe serving.accept (door_tells D.opened D.given D.ended D.faults door)
+        (door_tells D.opened D.given D.ended D.faults result.1) result.0 }
+    ensures door { ((serving : Serving) (home : HomeData)
+        → command_in (map (λ word. word.now) words.now) ≢ Some (command_at (serve serving) home))
+        → result.1 ≡ door }
+    ensures read_count { S.faults input.old ≤ S.faults input.new }
+    ensures read_cause { command_of (map (λ word. word.now) words.now) ≢ None
+        → result.0 ≡ Status.ReadFault → Rose (S.faults input.old) (S.faults input.new) }
+    ensures read_steady { result.0 ≢ Status.ReadFault → S.faults input.new ≡ S.faults input.old }
+    ensures write_count { O.faults out.old ≤ O.faults out.new }
+    ensures write_cause { result.0 ≡ Status.WriteFault
+        → Rose (O.faults out.old) (O.faults out.new) }
+    ensures write_steady { result.0 ≢ Status.WriteFault → O.faults out.new ≡ O.faults out.old }
+    ensures link { L.faults first.new.link ≡ L.faults first.old.link }
+{
+    let Some(command) = read_command(words) else {
+        return (Status::Usage, door);
+    };
+    let Task::Serve(serving) = command.task else {
+        return (run_words(alloc, words, input, out, first), door);
+    };
+    match command.home.home(alloc) {
+        Ok(Some(home)) => serve_door(rt, alloc, home, serving, door, first, benches),
+        Ok(None) => (Status::Usage, door),
+        Err(_) => (Status::Memory, door),
+    }
+}
+
 /// Runs the command that the words name, and answers with the status and the door. The words are
 /// those behind the program's name. `input` and `out` are the streams of a command that has one
 /// connection or one list of lines; `err` gets the text of the status as a line; `first` is the
-/// bench of such a command, and `benches` are those of the workers. So far the commands are `http`,
-/// which serves `input` and `out` as one connection, and `replay`, which answers the lines of
-/// `input`. The options behind either say the home of the entity.
+/// bench of such a command, and `benches` are those of the workers. `http` serves `input` and `out`
+/// as one connection, `replay` answers the lines of `input`, and `serve` opens the door and serves
+/// its connections, each by a worker. The options say the home of the entity, and at `serve` where
+/// the door is opened and how many connections are accepted.
 pub fn run<R, S: Source, O: Sink, E: Sink, D: Door + Send, C: Clock + Send, L: Link + Send>(
     rt: &R,
     alloc: Global,
@@ -132,9 +200,13 @@ where
     // Every list of words that isn't one of these commands with its options is usage: then nothing
     // is read or written to `out`, and no reading is taken and no exchange made.
     ensures usage { result.0 ≡ Status.Usage
-        ↔ command_of (map (λ word. word.now) words.now) ≡ None }
+        ↔ command_in (map (λ word. word.now) words.now) ≡ None }
+    ensures nothing { command_in (map (λ word. word.now) words.now) ≡ None
+        → first.new ≡ first.old }
+
+    // Nor is anything read or written to `out` at `serve`.
     ensures still { command_of (map (λ word. word.now) words.now) ≡ None
-        → (input.new ≡ input.old) × (out.new ≡ out.old) × (first.new ≡ first.old) }
+        → (input.new ≡ input.old) × (out.new ≡ out.old) }
 
     // At `http` an entity with the home that the words say opens at the first reading that the clock
     // of `first` gives in this call. Then `out` gets exactly the replies that the machine gives the
@@ -156,10 +228,22 @@ where
         (home : HomeData) → command_of (map (λ word. word.now) words.now)
         ≡ Some (command_at asked.replay home) → RunsReplay home old new result.0 }
 
-    // A fault is answered where the stream failed in this call, and only there.
+    // At `serve` the door is opened, and its connections are served until it gives no more. All is
+    // well where it gave None, or as many connections as are to be accepted; a read fault is one of
+    // the door. At every other command the door comes back as it was.
+    ensures serve { (serving : Serving) (home : HomeData)
+        → command_in (map (λ word. word.now) words.now) ≡ Some (command_at (serve serving) home)
+        → RunsServe serving.accept (door_tells D.opened D.given D.ended D.faults door)
+        (door_tells D.opened D.given D.ended D.faults result.1) result.0 }
+    ensures door { ((serving : Serving) (home : HomeData)
+        → command_in (map (λ word. word.now) words.now) ≢ Some (command_at (serve serving) home))
+        → result.1 ≡ door }
+
+    // At `http` and `replay` a fault is answered where the stream failed in this call, and only
+    // there.
     ensures read_count { S.faults input.old ≤ S.faults input.new }
-    ensures read_cause { result.0 ≡ Status.ReadFault
-        → Rose (S.faults input.old) (S.faults input.new) }
+    ensures read_cause { command_of (map (λ word. word.now) words.now) ≢ None
+        → result.0 ≡ Status.ReadFault → Rose (S.faults input.old) (S.faults input.new) }
     ensures read_steady { result.0 ≢ Status.ReadFault → S.faults input.new ≡ S.faults input.old }
     ensures write_count { O.faults out.old ≤ O.faults out.new }
     ensures write_cause { result.0 ≡ Status.WriteFault
@@ -171,12 +255,10 @@ where
     ensures err { AppendsUnlessFault (E.written err.old) (E.written err.new)
         (E.faults err.old) (E.faults err.new) (status_line result.0) }
 
-    // No exchange over the link of `first` failed, as none was made, and the door comes back as it
-    // was.
+    // No exchange over the link of `first` failed, as none was made.
     ensures link { L.faults first.new.link ≡ L.faults first.old.link }
-    ensures door { result.1 ≡ door }
 {
-    let status = run_words(alloc, words, input, out, first);
+    let (status, door) = run_command(rt, alloc, words, input, out, door, first, benches);
     let _ = status.put_line(err);
     (status, door)
 }
