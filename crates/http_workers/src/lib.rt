@@ -9,7 +9,7 @@
 ghost use Rattle.std.specs.Prelude.{◌≡◌, ◌≤◌, vec_len, Some, IfOk, IfErr};
 ghost use Rattle.turn_desk.specs.Seats.{IsSeated, known_to};
 ghost use Rattle.workers.specs.declared.gate.Ending.TheVariants.{Fault};
-ghost use Rattle.workers.specs.Gate.{Takes, ServesDoor, door_tells};
+ghost use Rattle.workers.specs.Gate.{TakesConnections, ServesDoor, door_tells};
 ghost use Rattle.workers.specs.Shares.{HasComeBack};
 
 use cse_machine::{Event, Outcome};
@@ -24,6 +24,7 @@ use workers::{Service, serve_with};
 
 /// Attends to a connection as HTTP: its frames are answered by what the desk answers their
 /// requests.
+#[derive(Drop)]
 struct HttpService {
     alloc: Global,
 }
@@ -80,7 +81,7 @@ where
     ensures back_at_fault { IfErr result (λ e. e.2 ≡ ServeFault.DoorFault
         → HasComeBack O.step desk.now.table.shared.table_id (known_to seat) e.0) }
     ensures fault { IfErr result (λ e. e.2 ≡ ServeFault.DoorFault
-        → Takes accept (Some Fault) (door_tells D.opened D.given D.ended D.faults door)
+        → TakesConnections accept (Some Fault) (door_tells D.opened D.given D.ended D.faults door)
         (door_tells D.opened D.given D.ended D.faults e.1)) }
 
     // Memory runs out before anything is done.

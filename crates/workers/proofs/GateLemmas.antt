@@ -4,7 +4,7 @@ use Rattle.m2m_io.specs.Counts.{Rose}
 use Rattle.m2m_io.specs.Told.{Tells, TellsStill}
 use Rattle.workers.specs.declared.gate.Ending.{Ending}
 use Rattle.workers.specs.declared.gate.Ending.TheVariants.{Over, Enough, Fault}
-use Rattle.workers.specs.Gate.{DoorTold, AtMostAccepted, CountsDown, Guards, Takes, ServesDoor, IsOneLess}
+use Rattle.workers.specs.Gate.{DoorTold, AtMostAccepted, CountsDown, Guards, TakesConnections, ServesDoor, IsOneLess}
 
 module _ {T : Type 0} where
   -- what is told after two calls
@@ -29,17 +29,25 @@ counts-start : (accept : Option ℕ) → CountsDown accept 0 accept
 counts-start None = tt
 counts-start (Some most) = omega arith
 
+within : (accept left : Option ℕ) (count : ℕ) → CountsDown accept count left → AtMostAccepted accept count
+within None left count h = tt
+within (Some most) None count h = absurd h
+within (Some most) (Some n) count h = omega (arith, h)
+
 -- nothing was taken yet
 pub guards-start : (accept left : Option ℕ) (start now : DoorTold) → now ≡ start → left ≡ accept
     → Guards accept start now left None
 guards-start accept left start now e l =
     subst (λ d. Guards accept start d left None) (sym e)
     (subst (λ k. Guards accept start start k None) (sym l) (record {
-      count = 0;
+      takes = record {
+        count = 0;
+        few = within accept accept 0 (counts-start accept);
+        given = tells-same (λ given. given + 0) start.given (λ x. let h : x + 0 ≡ x = omega arith in h);
+        opened = tells-same (λ x. x) start.opened (λ x. refl);
+        ends = (refl, tells-same (λ x. x) start.ended (λ x. refl));
+      };
       counted = counts-start accept;
-      given = tells-same (λ given. given + 0) start.given (λ x. let h : x + 0 ≡ x = omega arith in h);
-      opened = tells-same (λ x. x) start.opened (λ x. refl);
-      ends = (refl, tells-same (λ x. x) start.ended (λ x. refl));
     }))
 
 counts-more : (accept left less : Option ℕ) (count : ℕ) → IsOneLess left less → CountsDown accept count left
@@ -57,15 +65,23 @@ pub guards-more : (accept left less : Option ℕ) (start before now : DoorTold)
     → Tells (λ given. given + 1) before.given now.given → TellsStill before.opened now.opened
     → TellsStill before.ended now.ended → now.faults ≡ before.faults
     → Guards accept start now less None
-guards-more accept left less start before now g l given opened ended faults = record {
-  count = g.count + 1;
-  counted = counts-more accept left less g.count l g.counted;
-  given = tells-as (λ x. x + g.count + 1) (λ x. x + (g.count + 1)) start.given now.given
-      (λ x. let h : x + g.count + 1 ≡ x + (g.count + 1) = omega arith in h)
-      (tells-on (λ x. x + g.count) (λ x. x + 1) start.given before.given now.given g.given given);
-  opened = tells-on (λ x. x) (λ x. x) start.opened before.opened now.opened g.opened opened;
-  ends = (faults ∙ g.ends.0, tells-on (λ x. x) (λ x. x) start.ended before.ended now.ended g.ends.1 ended);
-}
+guards-more accept left less start before now g l given opened ended faults =
+    let count = g.takes.count in
+    let counted : CountsDown accept (count + 1) less = counts-more accept left less count l g.counted in record {
+      takes = record {
+        count = count + 1;
+        few = within accept less (count + 1) counted;
+        given = tells-as (λ x. x + count + 1) (λ x. x + (count + 1)) start.given now.given
+            (λ x. let h : x + count + 1 ≡ x + (count + 1) = omega arith in h)
+            (tells-on (λ x. x + count) (λ x. x + 1) start.given before.given now.given g.takes.given given);
+        opened = tells-on (λ x. x) (λ x. x) start.opened before.opened now.opened g.takes.opened opened;
+        ends = (
+          faults ∙ g.takes.ends.0,
+          tells-on (λ x. x) (λ x. x) start.ended before.ended now.ended g.takes.ends.1 ended,
+        );
+      };
+      counted = counted;
+    }
 
 -- the door gave None
 pub guards-over : (accept left : Option ℕ) (start before now : DoorTold)
@@ -74,11 +90,17 @@ pub guards-over : (accept left : Option ℕ) (start before now : DoorTold)
     → Tells (λ _. true) before.ended now.ended → now.faults ≡ before.faults
     → Guards accept start now left (Some Over)
 guards-over accept left start before now g given opened ended faults = record {
-  count = g.count;
+  takes = record {
+    count = g.takes.count;
+    few = g.takes.few;
+    given = tells-on (λ x. x + g.takes.count) (λ x. x) start.given before.given now.given g.takes.given given;
+    opened = tells-on (λ x. x) (λ x. x) start.opened before.opened now.opened g.takes.opened opened;
+    ends = (
+      faults ∙ g.takes.ends.0,
+      tells-on (λ x. x) (λ _. true) start.ended before.ended now.ended g.takes.ends.1 ended,
+    );
+  };
   counted = g.counted;
-  given = tells-on (λ x. x + g.count) (λ x. x) start.given before.given now.given g.given given;
-  opened = tells-on (λ x. x) (λ x. x) start.opened before.opened now.opened g.opened opened;
-  ends = (faults ∙ g.ends.0, tells-on (λ x. x) (λ _. true) start.ended before.ended now.ended g.ends.1 ended);
 }
 
 -- the door failed
@@ -88,14 +110,17 @@ pub guards-fault : (accept left : Option ℕ) (start before now : DoorTold)
     → TellsStill before.ended now.ended → Rose before.faults now.faults
     → Guards accept start now left (Some Fault)
 guards-fault accept left start before now g given opened ended rose = record {
-  count = g.count;
+  takes = record {
+    count = g.takes.count;
+    few = g.takes.few;
+    given = tells-on (λ x. x + g.takes.count) (λ x. x) start.given before.given now.given g.takes.given given;
+    opened = tells-on (λ x. x) (λ x. x) start.opened before.opened now.opened g.takes.opened opened;
+    ends = (
+      subst (λ k. Rose k now.faults) g.takes.ends.0 rose,
+      tells-on (λ x. x) (λ x. x) start.ended before.ended now.ended g.takes.ends.1 ended,
+    );
+  };
   counted = g.counted;
-  given = tells-on (λ x. x + g.count) (λ x. x) start.given before.given now.given g.given given;
-  opened = tells-on (λ x. x) (λ x. x) start.opened before.opened now.opened g.opened opened;
-  ends = (
-    subst (λ k. Rose k now.faults) g.ends.0 rose,
-    tells-on (λ x. x) (λ x. x) start.ended before.ended now.ended g.ends.1 ended,
-  );
 }
 
 all-taken : (accept : Option ℕ) (count : ℕ) → CountsDown accept count (Some 0) → accept ≡ Some count
@@ -106,39 +131,30 @@ all-taken (Some most) count h = ap Some (let e : most ≡ count = omega (arith, 
 pub guards-enough : (accept left : Option ℕ) (start now : DoorTold)
     → Guards accept start now left None → left ≡ Some 0 → Guards accept start now left (Some Enough)
 guards-enough accept left start now g none = record {
-  count = g.count;
+  takes = record {
+    count = g.takes.count;
+    few = g.takes.few;
+    given = g.takes.given;
+    opened = g.takes.opened;
+    ends = (
+      g.takes.ends.0,
+      g.takes.ends.1,
+      all-taken accept g.takes.count (subst (λ k. CountsDown accept g.takes.count k) none g.counted),
+    );
+  };
   counted = g.counted;
-  given = g.given;
-  opened = g.opened;
-  ends = (g.ends.0, g.ends.1, all-taken accept g.count (subst (λ k. CountsDown accept g.count k) none g.counted));
-}
-
-within : (accept left : Option ℕ) (count : ℕ) → CountsDown accept count left → AtMostAccepted accept count
-within None left count h = tt
-within (Some most) None count h = absurd h
-within (Some most) (Some n) count h = omega (arith, h)
-
--- no more were taken than are to be accepted
-pub takes : {accept left : Option ℕ} {ending : Option Ending} {start now : DoorTold}
-    → Guards accept start now left ending → Takes accept ending start now
-takes {accept} {left} g = record {
-  count = g.count;
-  few = within accept left g.count g.counted;
-  given = g.given;
-  opened = g.opened;
-  ends = g.ends;
 }
 
 -- a door that ended so
 pub takes_as : {accept : Option ℕ} {ending other : Option Ending} {start now : DoorTold}
-    → Takes accept ending start now → ending ≡ other → Takes accept other start now
-takes_as {accept} {ending} {other} {start} {now} t e = subst (λ k. Takes accept k start now) e t
+    → TakesConnections accept ending start now → ending ≡ other → TakesConnections accept other start now
+takes_as {accept} {ending} {other} {start} {now} t e = subst (λ k. TakesConnections accept k start now) e t
 
 -- a door that gave None, or as many as were to be accepted, was served to its end
 pub serves_over : {accept : Option ℕ} {ending : Option Ending} {start now : DoorTold}
-    → Takes accept ending start now → ending ≡ Some Over → ServesDoor accept start now
+    → TakesConnections accept ending start now → ending ≡ Some Over → ServesDoor accept start now
 serves_over t e = inl (takes_as t e)
 
 pub serves_enough : {accept : Option ℕ} {ending : Option Ending} {start now : DoorTold}
-    → Takes accept ending start now → ending ≡ Some Enough → ServesDoor accept start now
+    → TakesConnections accept ending start now → ending ≡ Some Enough → ServesDoor accept start now
 serves_enough t e = inr (takes_as t e)

@@ -16,7 +16,7 @@ use Rattle.std.specs.declared.result.Result.TheVariants.{Ok, Err}
 use Rattle.std.specs.Prelude.{IfOk, IfErr}
 use Rattle.workers.specs.declared.sharing.Job.{Job}
 use Rattle.workers.specs.Jobs.{known_to_all}
-use Rattle.workers.specs.Shares.{HasGoneOn, HasPartOf, AddUpTo, HasGrown, HaveGrown, Carries, ComesOf, HasComeBack}
+use Rattle.workers.specs.Shares.{HasGoneOn, HasPartOf, AddUpTo, HasGrown, HaveGrown, Carries, IsJoinedOf, HasComeBack}
 
 -- ---- what was seen
 
@@ -223,7 +223,7 @@ module _ {X E R : Type 0} {step : ℕ → E → X → R → X → Type 0} {desk 
   -- those that were split off asked, and were joined
   pub comes_joined : {kept : View X E R} {before after : List (View X E R)} {seat : DeskSeat X E R}
       → IsSeated step desk seat → HasGoneOn kept (known_to seat) → HaveGrown before after
-      → Carries (kept ∷ after) (known_to seat ∷ []) → ComesOf step desk kept before seat
+      → Carries (kept ∷ after) (known_to seat ∷ []) → IsJoinedOf step desk kept before seat
   comes_joined seated on grown parts = record {
     seated = seated;
     on = on;
@@ -232,8 +232,8 @@ module _ {X E R : Type 0} {step : ℕ → E → X → R → X → Type 0} {desk 
 
   -- and then it asked
   pub comes_on : {kept : View X E R} {others : List (View X E R)} {seat later : DeskSeat X E R}
-      → ComesOf step desk kept others seat → IsSeated step desk later
-      → HasGrown (known_to seat) (known_to later) → ComesOf step desk kept others later
+      → IsJoinedOf step desk kept others seat → IsSeated step desk later
+      → HasGrown (known_to seat) (known_to later) → IsJoinedOf step desk kept others later
   comes_on {kept = kept} {others = others} {seat = seat} {later = later} comes seated grew = record {
     seated = seated;
     on = on_on kept (known_to seat) (known_to later) comes.on
@@ -243,7 +243,7 @@ module _ {X E R : Type 0} {step : ℕ → E → X → R → X → Type 0} {desk 
 
   -- it came of one that was lent
   pub come_back : {lent kept : View X E R} {others : List (View X E R)} {back : DeskSeat X E R}
-      → HasGoneOn lent kept → AddUpTo lent (kept ∷ others) → ComesOf step desk kept others back
+      → HasGoneOn lent kept → AddUpTo lent (kept ∷ others) → IsJoinedOf step desk kept others back
       → HasComeBack step desk lent back
   come_back {lent = lent} {kept = kept} {back = back} split parts comes = record {
     seated = comes.seated;
@@ -254,14 +254,14 @@ module _ {X E R : Type 0} {step : ℕ → E → X → R → X → Type 0} {desk 
 module _ {X E R : Type 0} (step : ℕ → E → X → R → X → Type 0) (desk : TableId) where
   pub back_if_ok : {A Q : Type 0} {lent kept : View X E R} {others : List (View X E R)}
       (r : Result (DeskSeat X E R × A) Q) → HasGoneOn lent kept → AddUpTo lent (kept ∷ others)
-      → IfOk r (λ p. ComesOf step desk kept others p.0) → IfOk r (λ p. HasComeBack step desk lent p.0)
+      → IfOk r (λ p. IsJoinedOf step desk kept others p.0) → IfOk r (λ p. HasComeBack step desk lent p.0)
   back_if_ok (Ok p) split parts comes = come_back split parts comes
   back_if_ok (Err e) split parts comes = tt
 
   pub back_if_err : {A D F : Type 0} {lent kept : View X E R} {others : List (View X E R)}
       (fact : DeskSeat X E R × D × F → Type 0) (r : Result A (DeskSeat X E R × D × F))
       → HasGoneOn lent kept → AddUpTo lent (kept ∷ others)
-      → IfErr r (λ e. ComesOf step desk kept others e.0)
+      → IfErr r (λ e. IsJoinedOf step desk kept others e.0)
       → IfErr r (λ e. fact e → HasComeBack step desk lent e.0)
   back_if_err fact (Ok p) split parts comes = tt
   back_if_err fact (Err e) split parts comes = λ _. come_back split parts comes

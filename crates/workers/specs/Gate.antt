@@ -68,25 +68,23 @@ EndsAs (Some Enough) accept count start now =
 EndsAs (Some Fault) accept count start now =
     Rose start.faults now.faults × TellsStill start.ended now.ended
 
--- From a door that told `start` so many connections were taken, and so many may be still.
-pub record Guards (accept : Option ℕ) (start now : DoorTold) (left : Option ℕ)
-    (ending : Option Ending) : Type 0 where
-  pub count : ℕ
-  pub counted : CountsDown accept count left
-  pub given : Tells (λ given. given + count) start.given now.given
-  pub opened : TellsStill start.opened now.opened
-  pub ends : EndsAs ending accept count start now
-
--- Connections were taken from a door, none more than are to be accepted, until it ended so.
-pub record Takes (accept : Option ℕ) (ending : Option Ending) (start now : DoorTold) : Type 0 where
+-- Connections were taken from a door, none more than are to be accepted, and why no more are, if so.
+pub record TakesConnections (accept : Option ℕ) (ending : Option Ending) (start now : DoorTold)
+    : Type 0 where
   pub count : ℕ
   pub few : AtMostAccepted accept count
   pub given : Tells (λ given. given + count) start.given now.given
   pub opened : TellsStill start.opened now.opened
   pub ends : EndsAs ending accept count start now
 
+-- Connections were taken from a door that told `start`, and so many may be still.
+pub record Guards (accept : Option ℕ) (start now : DoorTold) (left : Option ℕ)
+    (ending : Option Ending) : Type 0 where
+  pub takes : TakesConnections accept ending start now
+  pub counted : CountsDown accept takes.count left
+
 -- The door was served to its end: it gave None, or as many connections as were to be accepted, and
 -- it didn't fail.
 abbrev pub ServesDoor : Option ℕ → DoorTold → DoorTold → Type 0
 ServesDoor accept start now =
-    Takes accept (Some Over) start now ⊎ Takes accept (Some Enough) start now
+    TakesConnections accept (Some Over) start now ⊎ TakesConnections accept (Some Enough) start now

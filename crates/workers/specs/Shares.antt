@@ -44,7 +44,7 @@ module _ {X E R : Type 0} where
 
   -- A seat has come of this one and of those that were split off it: it is of this desk and stands
   -- between two questions, went on from this one, and has the parts of all.
-  pub record ComesOf (step : ℕ → E → X → R → X → Type 0) (desk : TableId)
+  pub record IsJoinedOf (step : ℕ → E → X → R → X → Type 0) (desk : TableId)
       (kept : View X E R) (others : List (View X E R)) (seat : DeskSeat X E R) : Type 0 where
     pub seated : IsSeated step desk seat
     pub on : HasGoneOn kept (known_to seat)

@@ -2,7 +2,7 @@
 ghost use Rattle.std.specs.Prelude.{◌≡◌, ℕ, Option, None, Some, IfNone, IfOk, IfErr};
 ghost use Rattle.workers.specs.declared.gate.Ending.TheVariants.{Fault};
 ghost use Rattle.workers.specs.Gate.{DoorTold, door_tells, silent_door, HasEnded, IsOneLess};
-ghost use Rattle.workers.specs.Gate.{Takes, ServesDoor};
+ghost use Rattle.workers.specs.Gate.{TakesConnections, ServesDoor};
 
 use m2m_io::Door;
 use std::marker::{Brand, Model, PhantomData};
@@ -106,10 +106,9 @@ impl<D: Door, J: Entrance> Gate<D, J> {
     }
 
     /// The door, and why it gives no more connections, if that is so.
-    #[tactic(auto, using(crate::proofs::GateLemmas::takes))]
     pub fn into_door(self) -> (D, Option<Ending>)
         ensures ending { result.1 ≡ self.ending }
-        ensures takes { Takes J.accept result.1 J.start
+        ensures takes { TakesConnections J.accept result.1 J.start
             (door_tells D.opened D.given D.ended D.faults result.0) }
     {
         let Gate {
@@ -127,7 +126,7 @@ impl<D: Door, J: Entrance> Gate<D, J> {
         requires { HasEnded self.ending }
         ensures ok { IfOk result (λ door. ServesDoor J.accept J.start
             (door_tells D.opened D.given D.ended D.faults door)) }
-        ensures err { IfErr result (λ door. Takes J.accept (Some Fault) J.start
+        ensures err { IfErr result (λ door. TakesConnections J.accept (Some Fault) J.start
             (door_tells D.opened D.given D.ended D.faults door)) }
     {
         let (door, ending) = self.into_door();

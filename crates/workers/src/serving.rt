@@ -2,10 +2,10 @@
 ghost use Rattle.std.specs.Prelude.{◌≡◌, ◌<◌, ◌≤◌, vec_len, Some, IfOk, IfErr};
 ghost use Rattle.turn_desk.specs.Seats.{IsSeated, known_to};
 ghost use Rattle.workers.specs.declared.gate.Ending.TheVariants.{Fault};
-ghost use Rattle.workers.specs.Gate.{HasEnded, Takes, ServesDoor, door_tells};
+ghost use Rattle.workers.specs.Gate.{HasEnded, TakesConnections, ServesDoor, door_tells};
 ghost use Rattle.std.specs.Fork.{AcceptsEach, ChangesEach};
 ghost use Rattle.workers.specs.Jobs.{known_to_all, AreSeated};
-ghost use Rattle.workers.specs.Shares.{HasGrown, HaveGrown, ComesOf, HasComeBack};
+ghost use Rattle.workers.specs.Shares.{HasGrown, HaveGrown, IsJoinedOf, HasComeBack};
 
 use crate::gate::{Entrance, Gate};
 use crate::service::Service;
@@ -156,7 +156,7 @@ where
     B: Send + Drop,
     requires seat { IsSeated O.step desk.now.table.shared.table_id seat }
     requires jobs { AreSeated O.step desk.now.table.shared.table_id jobs.items }
-    ensures { ComesOf O.step desk.now.table.shared.table_id (known_to seat)
+    ensures { IsJoinedOf O.step desk.now.table.shared.table_id (known_to seat)
         (known_to_all jobs.items) result }
 {
     work_all(rt, desk, gate, service, &mut jobs);
@@ -184,7 +184,7 @@ where
     B: Send + Drop,
     requires seat { IsSeated O.step desk.now.table.shared.table_id seat }
     requires jobs { AreSeated O.step desk.now.table.shared.table_id jobs.items }
-    ensures comes { ComesOf O.step desk.now.table.shared.table_id (known_to seat)
+    ensures comes { IsJoinedOf O.step desk.now.table.shared.table_id (known_to seat)
         (known_to_all jobs.items) result.0 }
     ensures ended { HasEnded result.1.ending }
 {
@@ -219,13 +219,13 @@ where
     requires jobs { AreSeated O.step desk.now.table.shared.table_id jobs.items }
     requires start { door_tells D.opened D.given D.ended D.faults door ≡ J.start }
     requires accept { accept ≡ J.accept }
-    ensures comes { IfOk result (λ r. ComesOf O.step desk.now.table.shared.table_id
+    ensures comes { IfOk result (λ r. IsJoinedOf O.step desk.now.table.shared.table_id
         (known_to seat) (known_to_all jobs.items) r.0) }
     ensures ok { IfOk result (λ r. ServesDoor J.accept J.start
         (door_tells D.opened D.given D.ended D.faults r.1)) }
-    ensures comes_at_fault { IfErr result (λ e. ComesOf O.step desk.now.table.shared.table_id
+    ensures comes_at_fault { IfErr result (λ e. IsJoinedOf O.step desk.now.table.shared.table_id
         (known_to seat) (known_to_all jobs.items) e.0) }
-    ensures fault { IfErr result (λ e. Takes J.accept (Some Fault) J.start
+    ensures fault { IfErr result (λ e. TakesConnections J.accept (Some Fault) J.start
         (door_tells D.opened D.given D.ended D.faults e.1)) }
     ensures cause { IfErr result (λ e. e.2 ≡ ServeFault.DoorFault) }
 {
@@ -268,7 +268,7 @@ where
     ensures back_at_fault { IfErr result (λ e. e.2 ≡ ServeFault.DoorFault
         → HasComeBack O.step desk.now.table.shared.table_id (known_to seat) e.0) }
     ensures fault { IfErr result (λ e. e.2 ≡ ServeFault.DoorFault
-        → Takes J.accept (Some Fault) J.start
+        → TakesConnections J.accept (Some Fault) J.start
         (door_tells D.opened D.given D.ended D.faults e.1)) }
     ensures memory { IfErr result (λ e. e.2 ≡ ServeFault.OutOfMemory
         → (e.0 ≡ seat) × (e.1 ≡ door)) }
@@ -321,7 +321,7 @@ where
     ensures back_at_fault { IfErr result (λ e. e.2 ≡ ServeFault.DoorFault
         → HasComeBack O.step desk.now.table.shared.table_id (known_to seat) e.0) }
     ensures fault { IfErr result (λ e. e.2 ≡ ServeFault.DoorFault
-        → Takes accept (Some Fault) (door_tells D.opened D.given D.ended D.faults door)
+        → TakesConnections accept (Some Fault) (door_tells D.opened D.given D.ended D.faults door)
         (door_tells D.opened D.given D.ended D.faults e.1)) }
 
     // Memory runs out before anything is done.
