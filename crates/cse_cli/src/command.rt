@@ -1,5 +1,6 @@
 //! The command line.
-ghost use Rattle.std.specs.Prelude.{◌≡◌, ◌≢◌, ◌≤◌, ◌↔◌, Some, None, vec_len, map};
+ghost use Rattle.std.specs.Prelude.{◌≡◌, ◌≢◌, ◌≤◌, ◌↔◌, Some, None, vec_len, map, option_map};
+ghost use Rattle.std.specs.Prelude.{IfOk, IfErr};
 ghost use Rattle.resource_model.specs.Home.{HomeData};
 ghost use Rattle.m2m_io.specs.Counts.{Rose};
 ghost use Rattle.m2m_io.specs.Outside.{outside};
@@ -7,8 +8,7 @@ ghost use Rattle.m2m_io.specs.Status.{status_line};
 ghost use Rattle.m2m_io.specs.Told.{AppendsUnlessFault};
 ghost use Rattle.command_words.specs.Command as asked;
 ghost use Rattle.command_words.specs.Command.{Serving, command_in, serve, task_by};
-ghost use Rattle.cse_cli.specs.Words as spec;
-ghost use Rattle.cse_cli.specs.Words.{command_at, command_of};
+ghost use Rattle.cse_cli.specs.Words.{command_at};
 ghost use Rattle.cse_cli.specs.Run.{RunsHttp, RunsReplay};
 ghost use Rattle.cse_cli.specs.Serve.{RunsServe};
 ghost use Rattle.workers.specs.Gate.{door_tells};
@@ -19,98 +19,87 @@ use crate::serve::serve_door;
 use command_words::{Task, read_command};
 use cse_server::Bench;
 use m2m_io::{Clock, Door, Link, Sink, Source, Status};
-use std::alloc::Global;
+use std::alloc::{AllocError as OutOfMemory, Global};
 use std::sync::Wait;
 use std::thread::Threads;
 use std::time;
 use tree_model::Home;
 
+/// What the words ask for, and the home of the entity that it is for; None where they are no
+/// command.
+fn asked_by<'a>(
+    alloc: Global,
+    words: &[&'a str],
+) -> Result<Option<(Task<'a>, Home)>, OutOfMemory>
+    ensures asked { IfOk result (λ said. option_map (λ s. command_at (task_by s.0) s.1) said
+        ≡ command_in (map (λ word. word.now) words.now)) }
+    ensures memory { IfErr result
+        (λ _. command_in (map (λ word. word.now) words.now) ≢ None) }
+{
+    let Some(command) = read_command(words) else {
+        return Ok(None);
+    };
+    match command.home.home(alloc) {
+        Ok(Some(home)) => Ok(Some((command.task, home))),
+        Ok(None) => Ok(None),
+        Err(_) => Err(OutOfMemory),
+    }
+}
+
 /// Does a task at this home, and tells nobody how it ended.
-fn run_task<S: Source, O: Sink, C: Clock, L: Link>(
+fn run_task<R, S: Source, O: Sink, D: Door + Send, C: Clock + Send, L: Link + Send>(
+    rt: &R,
     alloc: Global,
     task: Task,
     home: Home,
     input: &mut S,
     out: &mut O,
+    door: D,
     first: &mut Bench<C, L>,
-) -> Status
-    ensures usage { result ≡ Status.Usage ↔ spec.served (task_by task.entry) home ≡ None }
-    ensures still { spec.served (task_by task.entry) home ≡ None
-        → (input.new ≡ input.old) × (out.new ≡ out.old) × (first.new ≡ first.old) }
+    benches: Vec<Bench<C, L>>,
+) -> (Status, D)
+where
+    R: Wait + Threads + Clone + Drop + Sync,
+    C: Drop,
+    L: Drop,
+    requires benches { 2 ≤ vec_len benches }
+    ensures command { result.0 ≢ Status.Usage }
+    ensures still { (serving : Serving) → task_by task.entry ≡ serve serving
+        → (input.new ≡ input.old) × (out.new ≡ out.old) × (first.new.link ≡ first.old.link) }
     ensures http { let old = outside (S.left input.old) (O.written out.old)
         (C.readings first.old.clock) (L.exchanges first.old.link) in
         let new = outside (S.left input.new) (O.written out.new)
         (C.readings first.new.clock) (L.exchanges first.new.link) in
-        task_by task.entry ≡ asked.http → RunsHttp home old new result }
+        task_by task.entry ≡ asked.http → RunsHttp home old new result.0 }
     ensures replay { let old = outside (S.left input.old) (O.written out.old)
         (C.readings first.old.clock) (L.exchanges first.old.link) in
         let new = outside (S.left input.new) (O.written out.new)
         (C.readings first.new.clock) (L.exchanges first.new.link) in
-        task_by task.entry ≡ asked.replay → RunsReplay home old new result }
+        task_by task.entry ≡ asked.replay → RunsReplay home old new result.0 }
+    ensures serve { (serving : Serving) → task_by task.entry ≡ serve serving
+        → RunsServe serving.accept (door_tells D.opened D.given D.ended D.faults door)
+        (door_tells D.opened D.given D.ended D.faults result.1) result.0 }
+    ensures door { ((serving : Serving) → task_by task.entry ≢ serve serving)
+        → result.1 ≡ door }
     ensures read_count { S.faults input.old ≤ S.faults input.new }
-    ensures read_cause { result ≡ Status.ReadFault
-        → Rose (S.faults input.old) (S.faults input.new) }
-    ensures read_steady { result ≢ Status.ReadFault → S.faults input.new ≡ S.faults input.old }
+    ensures read_cause { ((serving : Serving) → task_by task.entry ≢ serve serving)
+        → result.0 ≡ Status.ReadFault → Rose (S.faults input.old) (S.faults input.new) }
+    ensures read_steady { result.0 ≢ Status.ReadFault → S.faults input.new ≡ S.faults input.old }
     ensures write_count { O.faults out.old ≤ O.faults out.new }
-    ensures write_cause { result ≡ Status.WriteFault → Rose (O.faults out.old) (O.faults out.new) }
-    ensures write_steady { result ≢ Status.WriteFault → O.faults out.new ≡ O.faults out.old }
+    ensures write_cause { result.0 ≡ Status.WriteFault
+        → Rose (O.faults out.old) (O.faults out.new) }
+    ensures write_steady { result.0 ≢ Status.WriteFault → O.faults out.new ≡ O.faults out.old }
     ensures link { L.faults first.new.link ≡ L.faults first.old.link }
 {
     match task {
-        Task::Http => serve_streams(alloc, home, input, out, first),
-        Task::Replay => replay_lines(alloc, home, input, out, first),
-        Task::Serve(_) => Status::Usage,
-    }
-}
-
-/// Does what the words name with the streams, and tells nobody how it ended.
-fn run_words<S: Source, O: Sink, C: Clock, L: Link>(
-    alloc: Global,
-    words: &[&str],
-    input: &mut S,
-    out: &mut O,
-    first: &mut Bench<C, L>,
-) -> Status
-    ensures usage { result ≡ Status.Usage
-        ↔ command_of (map (λ word. word.now) words.now) ≡ None }
-    ensures still { command_of (map (λ word. word.now) words.now) ≡ None
-        → (input.new ≡ input.old) × (out.new ≡ out.old) × (first.new ≡ first.old) }
-    ensures http { let old = outside (S.left input.old) (O.written out.old)
-        (C.readings first.old.clock) (L.exchanges first.old.link) in
-        let new = outside (S.left input.new) (O.written out.new)
-        (C.readings first.new.clock) (L.exchanges first.new.link) in
-        (home : HomeData) → command_of (map (λ word. word.now) words.now)
-        ≡ Some (command_at asked.http home) → RunsHttp home old new result }
-    ensures replay { let old = outside (S.left input.old) (O.written out.old)
-        (C.readings first.old.clock) (L.exchanges first.old.link) in
-        let new = outside (S.left input.new) (O.written out.new)
-        (C.readings first.new.clock) (L.exchanges first.new.link) in
-        (home : HomeData) → command_of (map (λ word. word.now) words.now)
-        ≡ Some (command_at asked.replay home) → RunsReplay home old new result }
-    ensures read_count { S.faults input.old ≤ S.faults input.new }
-    ensures read_cause { result ≡ Status.ReadFault
-        → Rose (S.faults input.old) (S.faults input.new) }
-    ensures read_steady { result ≢ Status.ReadFault → S.faults input.new ≡ S.faults input.old }
-    ensures write_count { O.faults out.old ≤ O.faults out.new }
-    ensures write_cause { result ≡ Status.WriteFault → Rose (O.faults out.old) (O.faults out.new) }
-    ensures write_steady { result ≢ Status.WriteFault → O.faults out.new ≡ O.faults out.old }
-    ensures link { L.faults first.new.link ≡ L.faults first.old.link }
-{
-    let Some(command) = read_command(words) else {
-        return Status::Usage;
-    };
-    if let Task::Serve(_) = command.task {
-        return Status::Usage;
-    }
-    match command.home.home(alloc) {
-        Ok(Some(home)) => run_task(alloc, command.task, home, input, out, first),
-        Ok(None) => Status::Usage,
-        Err(_) => Status::Memory,
+        Task::Http => (serve_streams(alloc, home, input, out, first), door),
+        Task::Replay => (replay_lines(alloc, home, input, out, first), door),
+        Task::Serve(serving) => serve_door(rt, alloc, home, serving, door, first, benches),
     }
 }
 
 /// Does what the words name, and tells nobody how it ended.
-fn run_command<R, S: Source, O: Sink, D: Door + Send, C: Clock + Send, L: Link + Send>(
+fn run_words<R, S: Source, O: Sink, D: Door + Send, C: Clock + Send, L: Link + Send>(
     rt: &R,
     alloc: Global,
     words: &[&str],
@@ -128,20 +117,21 @@ where
     ensures usage { result.0 ≡ Status.Usage
         ↔ command_in (map (λ word. word.now) words.now) ≡ None }
     ensures nothing { command_in (map (λ word. word.now) words.now) ≡ None
-        → first.new ≡ first.old }
-    ensures still { command_of (map (λ word. word.now) words.now) ≡ None
-        → (input.new ≡ input.old) × (out.new ≡ out.old) }
+        → (input.new ≡ input.old) × (out.new ≡ out.old) × (first.new ≡ first.old) }
+    ensures still { (serving : Serving) (home : HomeData)
+        → command_in (map (λ word. word.now) words.now) ≡ Some (command_at (serve serving) home)
+        → (input.new ≡ input.old) × (out.new ≡ out.old) × (first.new.link ≡ first.old.link) }
     ensures http { let old = outside (S.left input.old) (O.written out.old)
         (C.readings first.old.clock) (L.exchanges first.old.link) in
         let new = outside (S.left input.new) (O.written out.new)
         (C.readings first.new.clock) (L.exchanges first.new.link) in
-        (home : HomeData) → command_of (map (λ word. word.now) words.now)
+        (home : HomeData) → command_in (map (λ word. word.now) words.now)
         ≡ Some (command_at asked.http home) → RunsHttp home old new result.0 }
     ensures replay { let old = outside (S.left input.old) (O.written out.old)
         (C.readings first.old.clock) (L.exchanges first.old.link) in
         let new = outside (S.left input.new) (O.written out.new)
         (C.readings first.new.clock) (L.exchanges first.new.link) in
-        (home : HomeData) → command_of (map (λ word. word.now) words.now)
+        (home : HomeData) → command_in (map (λ word. word.now) words.now)
         ≡ Some (command_at asked.replay home) → RunsReplay home old new result.0 }
     ensures serve { (serving : Serving) (home : HomeData)
         → command_in (map (λ word. word.now) words.now) ≡ Some (command_at (serve serving) home)
@@ -151,7 +141,8 @@ where
         → command_in (map (λ word. word.now) words.now) ≢ Some (command_at (serve serving) home))
         → result.1 ≡ door }
     ensures read_count { S.faults input.old ≤ S.faults input.new }
-    ensures read_cause { command_of (map (λ word. word.now) words.now) ≢ None
+    ensures read_cause { ((serving : Serving) (home : HomeData)
+        → command_in (map (λ word. word.now) words.now) ≢ Some (command_at (serve serving) home))
         → result.0 ≡ Status.ReadFault → Rose (S.faults input.old) (S.faults input.new) }
     ensures read_steady { result.0 ≢ Status.ReadFault → S.faults input.new ≡ S.faults input.old }
     ensures write_count { O.faults out.old ≤ O.faults out.new }
@@ -160,14 +151,10 @@ where
     ensures write_steady { result.0 ≢ Status.WriteFault → O.faults out.new ≡ O.faults out.old }
     ensures link { L.faults first.new.link ≡ L.faults first.old.link }
 {
-    let Some(command) = read_command(words) else {
-        return (Status::Usage, door);
-    };
-    let Task::Serve(serving) = command.task else {
-        return (run_words(alloc, words, input, out, first), door);
-    };
-    match command.home.home(alloc) {
-        Ok(Some(home)) => serve_door(rt, alloc, home, serving, door, first, benches),
+    match asked_by(alloc, words) {
+        Ok(Some((task, home))) => {
+            run_task(rt, alloc, task, home, input, out, door, first, benches)
+        }
         Ok(None) => (Status::Usage, door),
         Err(_) => (Status::Memory, door),
     }
@@ -202,11 +189,12 @@ where
     ensures usage { result.0 ≡ Status.Usage
         ↔ command_in (map (λ word. word.now) words.now) ≡ None }
     ensures nothing { command_in (map (λ word. word.now) words.now) ≡ None
-        → first.new ≡ first.old }
+        → (input.new ≡ input.old) × (out.new ≡ out.old) × (first.new ≡ first.old) }
 
-    // Nor is anything read or written to `out` at `serve`.
-    ensures still { command_of (map (λ word. word.now) words.now) ≡ None
-        → (input.new ≡ input.old) × (out.new ≡ out.old) }
+    // Nor is anything read or written to `out` at `serve`, nor exchanged over the link of `first`.
+    ensures still { (serving : Serving) (home : HomeData)
+        → command_in (map (λ word. word.now) words.now) ≡ Some (command_at (serve serving) home)
+        → (input.new ≡ input.old) × (out.new ≡ out.old) × (first.new.link ≡ first.old.link) }
 
     // At `http` an entity with the home that the words say opens at the first reading that the clock
     // of `first` gives in this call. Then `out` gets exactly the replies that the machine gives the
@@ -215,7 +203,7 @@ where
         (C.readings first.old.clock) (L.exchanges first.old.link) in
         let new = outside (S.left input.new) (O.written out.new)
         (C.readings first.new.clock) (L.exchanges first.new.link) in
-        (home : HomeData) → command_of (map (λ word. word.now) words.now)
+        (home : HomeData) → command_in (map (λ word. word.now) words.now)
         ≡ Some (command_at asked.http home) → RunsHttp home old new result.0 }
 
     // At `replay` an entity with the home that the words say opens at the reading 0, and `out` gets
@@ -225,7 +213,7 @@ where
         (C.readings first.old.clock) (L.exchanges first.old.link) in
         let new = outside (S.left input.new) (O.written out.new)
         (C.readings first.new.clock) (L.exchanges first.new.link) in
-        (home : HomeData) → command_of (map (λ word. word.now) words.now)
+        (home : HomeData) → command_in (map (λ word. word.now) words.now)
         ≡ Some (command_at asked.replay home) → RunsReplay home old new result.0 }
 
     // At `serve` the door is opened, and its connections are served until it gives no more. All is
@@ -242,7 +230,8 @@ where
     // At `http` and `replay` a fault is answered where the stream failed in this call, and only
     // there.
     ensures read_count { S.faults input.old ≤ S.faults input.new }
-    ensures read_cause { command_of (map (λ word. word.now) words.now) ≢ None
+    ensures read_cause { ((serving : Serving) (home : HomeData)
+        → command_in (map (λ word. word.now) words.now) ≢ Some (command_at (serve serving) home))
         → result.0 ≡ Status.ReadFault → Rose (S.faults input.old) (S.faults input.new) }
     ensures read_steady { result.0 ≢ Status.ReadFault → S.faults input.new ≡ S.faults input.old }
     ensures write_count { O.faults out.old ≤ O.faults out.new }
@@ -258,7 +247,7 @@ where
     // No exchange over the link of `first` failed, as none was made.
     ensures link { L.faults first.new.link ≡ L.faults first.old.link }
 {
-    let (status, door) = run_command(rt, alloc, words, input, out, door, first, benches);
+    let (status, door) = run_words(rt, alloc, words, input, out, door, first, benches);
     let _ = status.put_line(err);
     (status, door)
 }

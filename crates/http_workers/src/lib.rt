@@ -6,7 +6,11 @@
 //! why the door gave no more connections (workers/specs).
 #![tactic(auto)]
 
-ghost use Rattle.std.specs.Prelude.{◌≡◌, ◌≤◌, vec_len, Some, IfOk, IfErr};
+ghost use Rattle.std.specs.Prelude.{◌≡◌, ◌≤◌, vec_len, List, Some, IfOk, IfErr};
+ghost use Rattle.cse_server.specs.Connection.{Serves};
+ghost use Rattle.cse_server.specs.declared.connection.Ended.{Ended};
+ghost use Rattle.m2m_io.specs.Outside.{outside};
+ghost use Rattle.turn_desk.specs.Entries.{Marked};
 ghost use Rattle.turn_desk.specs.Seats.{IsSeated, known_to};
 ghost use Rattle.workers.specs.declared.gate.Ending.TheVariants.{Fault};
 ghost use Rattle.workers.specs.Gate.{TakesConnections, ServesDoor, door_tells};
@@ -36,7 +40,19 @@ where
     C: Clock,
     L: Link,
 {
-    fn attend(&self, desk: &K, seat: &mut K::Seat, conn: &mut X, bench: &mut Bench<C, L>) {
+    fn attend(&self, desk: &K, seat: &mut K::Seat, conn: &mut X, bench: &mut Bench<C, L>)
+        requires { K.seats desk.now seat.old }
+        ensures seats { K.seats desk.now seat.new }
+        ensures grew { (more : List (Marked K.Event K.Outcome)) × K.grown seat.old more seat.new }
+
+        // The connection is answered with exactly the replies that the object of the desk gives the
+        // requests of its bytes, one after another, as far as it ended so.
+        ensures serves { let old = outside (X.left conn.old) (X.written conn.old)
+            (C.readings bench.old.clock) (L.exchanges bench.old.link) in
+            let new = outside (X.left conn.new) (X.written conn.new)
+            (C.readings bench.new.clock) (L.exchanges bench.new.link) in
+            (ended : Ended) × Serves K.grown seat.old seat.new old new ended }
+    {
         let Bench { clock, link } = bench;
         serve_connection(self.alloc, desk, seat, conn, clock, link);
     }
