@@ -27,10 +27,7 @@ use tree_model::Home;
 
 /// What the words ask for, and the home of the entity that it is for; None where they are no
 /// command.
-fn asked_by<'a>(
-    alloc: Global,
-    words: &[&'a str],
-) -> Result<Option<(Task<'a>, Home)>, OutOfMemory>
+fn asked_by<'a>(alloc: Global, words: &[&'a str]) -> Result<Option<(Task<'a>, Home)>, OutOfMemory>
     ensures asked { IfOk result (λ said. option_map (λ s. command_at (task_by s.0) s.1) said
         ≡ command_in (map (λ word. word.now) words.now)) }
     ensures memory { IfErr result

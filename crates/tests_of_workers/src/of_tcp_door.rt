@@ -1,15 +1,10 @@
 //! A server over the loopback, and a client in a thread of its own.
-ghost use Rattle.std.specs.Prelude.{◌≤◌, IfOk, vec_len};
-
-use cse_cli::run;
-use cse_server::Bench;
-use m2m_io::{MemClock, MemLink, MemSink, MemSource, Status};
-use std::alloc::{AllocError, Global};
+use crate::serving::serve_by;
+use m2m_io::Status;
 use std::io::{Read, Write};
 use std::net::{Net, TcpListener, TcpStream};
-use std::sync::Wait;
 use std::test::Fail;
-use std::thread::{Threads, join};
+use std::thread::join;
 use std::time::Duration;
 use std::{io, thread, time};
 use tcp_door::TcpDoor;
@@ -57,43 +52,16 @@ where
     Ok(right)
 }
 
-fn bench(alloc: Global) -> Bench<MemClock, MemLink> {
-    Bench {
-        clock: MemClock::new(Vec::new(alloc)),
-        link: MemLink::new(Vec::new(alloc), Vec::new(alloc)),
-    }
-}
-
-/// Serves one connection.
-fn serve_one<R>(rt: &R, door: TcpDoor<R>, at: &str) -> Result<Status, AllocError>
-where
-    R: Net<Listener = TcpListener, Stream = TcpStream> + AllocGlobal,
-    R: Wait + Threads + time::Clock + Clone + Drop + Sync + Send,
-{
-    let alloc = rt.alloc();
-    let mut input = MemSource::new(Vec::new(alloc), Vec::new(alloc), Vec::new(alloc));
-    let mut out = MemSink::new(Vec::new(alloc), Vec::new(alloc));
-    let mut err = MemSink::new(Vec::new(alloc), Vec::new(alloc));
-    let benches = vec![in alloc; bench(alloc), bench(alloc)]?;
-    let (status, _) = run(
-        rt,
-        alloc,
-        &["serve", "--accept=1", "--listen", at],
-        &mut input,
-        &mut out,
-        &mut err,
-        door,
-        &mut bench(alloc),
-        benches,
-    );
-    Ok(status)
-}
-
 #[test]
 fn a_client_has_each_reply_before_it_asks_again(rt: HostRuntime) -> Result<(), Fail> {
     let at = format!(in rt.alloc(); "127.0.0.1:{}", free_port(&rt)?)?;
     let door = TcpDoor::new(rt.clone()?);
-    let (status, right) = join(&rt, || serve_one(&rt, door, &at), || talk(&rt, &at));
+    let words = ["serve", "--accept=1", "--listen", at.as_str()];
+    let (status, right) = join(
+        &rt,
+        || serve_by(&rt, rt.alloc(), &words, door),
+        || talk(&rt, &at),
+    );
     assert_eq!(rt; right?, 2);
     assert_eq!(rt; status?, Status::Done);
     Ok(())
