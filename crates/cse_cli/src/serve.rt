@@ -32,6 +32,8 @@ fn serve_at_desk<R, O, D, C, L>(
 where
     R: Wait + Threads + Drop + Sync,
     O: Object<Event = Event, Outcome = Outcome> + Send + Drop,
+    O::Event: Send,
+    O::Outcome: Send,
     D: Door + Send,
     C: Clock + Send + Drop,
     L: Link + Send + Drop,

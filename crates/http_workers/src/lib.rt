@@ -7,6 +7,8 @@
 #![tactic(auto)]
 
 ghost use Rattle.std.specs.Prelude.{◌≡◌, ◌≤◌, vec_len, List, Some, IfOk, IfErr};
+ghost use Rattle.cse_machine.specs.declared.event.Event.{Event};
+ghost use Rattle.cse_machine.specs.declared.event.Outcome.{Outcome};
 ghost use Rattle.cse_server.specs.Connection.{Serves};
 ghost use Rattle.cse_server.specs.declared.connection.Ended.{Ended};
 ghost use Rattle.m2m_io.specs.Outside.{outside};
@@ -43,7 +45,7 @@ where
     fn attend(&self, desk: &K, seat: &mut K::Seat, conn: &mut X, bench: &mut Bench<C, L>)
         requires { K.seats desk.now seat.old }
         ensures seats { K.seats desk.now seat.new }
-        ensures grew { (more : List (Marked K.Event K.Outcome)) × K.grown seat.old more seat.new }
+        ensures grew { (more : List (Marked Event Outcome)) × K.grown seat.old more seat.new }
 
         // The connection is answered with exactly the replies that the object of the desk gives the
         // requests of its bytes, one after another, as far as it ended so.
@@ -78,6 +80,8 @@ pub fn serve<R, O, D, C, L>(
 where
     R: Wait + Threads + Sync,
     O: Object<Event = Event, Outcome = Outcome> + Send,
+    O::Event: Send,
+    O::Outcome: Send,
     D: Door + Send,
     C: Clock + Send + Drop,
     L: Link + Send + Drop,

@@ -1,4 +1,4 @@
-use Rattle.http_workers.proofs.HttpServiceService.attend.Goals as goal
+use Rattle.http_workers.proofs.HttpServiceServiceBench.attend.Goals as goal
 
 -- what a connection asked made the seat grow
 pub returns-clause-grew : goal.returns-clause-grew
