@@ -1,34 +1,62 @@
--- Values go from thread to thread: a value holds lists and objects of values, so this is shown of all three at once.
-use Rattle.std.proofs.Common.{◌≡◌, refl, ℕ}
-use denote.Param.Send.{IsSend, sendable, view_send, struct_send, recorded_send, fixed_send}
-use Rattle.std.proofs.Crossing.{Vec-send}
-use denote.Model.Marks.{tied_send}
-use denote.Model.Local.{Parts, rows}
+-- Events and their outcomes go from thread to thread, with the requests and replies in them. `search`
+-- finds each field's proof, but breaks off at a whole struct, so each struct is shown by its fields.
+use denote.Param.Send.{IsSend, sendable}
+use denote.Param.SendFields.{declared_send, variants_send}
 use Rattle.std.proofs.Crossing.{crosses}
-use Rattle.m2m_value.specs.contracts.value.Val as val
-use Rattle.m2m_value.specs.contracts.text.Text as text
-use Rattle.m2m_value.specs.contracts.value.Items.TheKnot.{sizes, frame, step}
-use Rattle.m2m_value.specs.declared.value.Items.TheDeep.{the_members, member-Items, member-Members, member-Val}
+use Rattle.http_workers.proofs.ValuesSent.{text_send, val_send}
+use Rattle.filter_criteria.specs.contracts.filter.Filter as filter
+use Rattle.filter_criteria.specs.contracts.filter.Filter.TheInside as filter_inside
+use Rattle.filter_criteria.specs.contracts.filter.FilterParts as filter_parts
+use Rattle.primitive_json.specs.contracts.request.RequestParts as request_parts
+use Rattle.primitive_json.specs.contracts.request.Request as request
+use Rattle.primitive_json.specs.contracts.request.Request.TheInside as request_inside
+use Rattle.primitive_json.specs.contracts.reply.ReplyParts as reply_parts
+use Rattle.primitive_json.specs.contracts.reply.Reply as reply
+use Rattle.primitive_json.specs.contracts.reply.Reply.TheInside as reply_inside
+use Rattle.cse_machine.specs.contracts.event.Event as event
+use Rattle.cse_machine.specs.contracts.event.Outcome as outcome
 
-text_send : IsSend text.the_row
-text_send = search (sendable, crosses) depth 20
+reply_parts_send : IsSend reply_parts.the_row
+reply_parts_send = declared_send reply_parts.the_type
+    (search (sendable, crosses) depth 100 fits 5000, (search (sendable, crosses) depth 20, (search (sendable, crosses, val_send) depth 20, tt)))
 
-items : (p : Parts frame) → ((j : the_members) → IsSend (rows frame p j)) → IsSend (rows frame (step p) member-Items)
-items p s = record {
-  owned = λ x vs. (view_send _ _ _ _ _ (struct_send _ (Vec-send _ (s member-Val), tt))).owned x vs;
-  leaving = λ k d w. tt;
-}
+reply_inside_send : IsSend reply_inside.the_row
+reply_inside_send = declared_send reply_inside.the_type (reply_parts_send, tt)
 
-members : (p : Parts frame) → ((j : the_members) → IsSend (rows frame p j)) → IsSend (rows frame (step p) member-Members)
-members p s = record { owned = λ x vs. ?m; leaving = λ k d w. tt }
+reply_send : IsSend reply.the_row
+reply_send = record { owned = λ d vs x. (reply_inside_send.owned x.0 vs, tt); leaving = λ k d w. tt }
 
-vals : (p : Parts frame) → ((j : the_members) → IsSend (rows frame p j)) → IsSend (rows frame (step p) member-Val)
-vals p s = record { owned = λ x vs. ?v; leaving = λ k d w. tt }
+pub outcome_send : IsSend outcome.the_row
+outcome_send = variants_send outcome.enum ((reply_send, tt), ((search (sendable, crosses) depth 20, tt), tt))
 
-keeps : (p : Parts frame) → ((j : the_members) → IsSend (rows frame p j)) → (i : the_members) → IsSend (rows frame (step p) i)
-keeps p s member-Items = items p s
-keeps p s member-Members = members p s
-keeps p s member-Val = vals p s
+filter_parts_send : IsSend filter_parts.the_row
+filter_parts_send = declared_send filter_parts.the_type (
+  search (sendable, crosses) depth 20,
+  (search (sendable, crosses) depth 20, (search (sendable, crosses) depth 20, (search (sendable, crosses) depth 20, (search (sendable, crosses) depth 20,
+  (search (sendable, crosses) depth 20, (search (sendable, crosses) depth 20, (search (sendable, crosses) depth 20, (search (sendable, crosses) depth 20,
+  (search (sendable, crosses) depth 20, (search (sendable, crosses) depth 20, (search (sendable, crosses) depth 20, (search (sendable, crosses) depth 20,
+  (search (sendable, crosses) depth 20, tt))))))))))))),
+)
 
-pub val_send : IsSend val.the_row
-val_send = tied_send frame step sizes keeps member-Val
+filter_inside_send : IsSend filter_inside.the_row
+filter_inside_send = declared_send filter_inside.the_type (filter_parts_send, tt)
+
+filter_send : IsSend filter.the_row
+filter_send = record { owned = λ d vs x. (filter_inside_send.owned x.0 vs, tt); leaving = λ k d w. tt }
+
+request_parts_send : IsSend request_parts.the_row
+request_parts_send = declared_send request_parts.the_type (
+  search (sendable, crosses) depth 20,
+  (text_send, (search (sendable, crosses) depth 20, (text_send, (search (sendable, crosses) depth 20, (search (sendable, crosses, val_send) depth 20,
+  (search (sendable, crosses) depth 20, (search (sendable, crosses) depth 20, (search (sendable, crosses) depth 20,
+  (search (sendable, crosses, filter_send) depth 20, (search (sendable, crosses) depth 20, tt)))))))))),
+)
+
+request_inside_send : IsSend request_inside.the_row
+request_inside_send = declared_send request_inside.the_type (request_parts_send, tt)
+
+request_send : IsSend request.the_row
+request_send = record { owned = λ d vs x. (request_inside_send.owned x.0 vs, tt); leaving = λ k d w. tt }
+
+pub event_send : IsSend event.the_row
+event_send = variants_send event.enum ((request_send, tt), tt)
