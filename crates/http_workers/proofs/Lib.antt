@@ -1,2 +1,2 @@
-mod Sent
-mod ValuesSent
+pub mod Sent
+pub mod ValuesSent
