@@ -32,10 +32,43 @@ outcome_send = variants_send outcome.enum ((reply_send, tt), ((search (sendable,
 filter_parts_send : IsSend filter_parts.the_row
 filter_parts_send = declared_send filter_parts.the_type (
   search (sendable, crosses) depth 20,
-  (search (sendable, crosses) depth 20, (search (sendable, crosses) depth 20, (search (sendable, crosses) depth 20, (search (sendable, crosses) depth 20,
-  (search (sendable, crosses) depth 20, (search (sendable, crosses) depth 20, (search (sendable, crosses) depth 20, (search (sendable, crosses) depth 20,
-  (search (sendable, crosses) depth 20, (search (sendable, crosses) depth 20, (search (sendable, crosses) depth 20, (search (sendable, crosses) depth 20,
-  (search (sendable, crosses) depth 20, tt))))))))))))),
+  (
+    search (sendable, crosses) depth 20,
+    (
+      search (sendable, crosses) depth 20,
+      (
+        search (sendable, crosses) depth 20,
+        (
+          search (sendable, crosses) depth 20,
+          (
+            search (sendable, crosses) depth 20,
+            (
+              search (sendable, crosses) depth 20,
+              (
+                search (sendable, crosses) depth 20,
+                (
+                  search (sendable, crosses) depth 20,
+                  (
+                    search (sendable, crosses) depth 20,
+                    (
+                      search (sendable, crosses) depth 20,
+                      (
+                        search (sendable, crosses) depth 20,
+                        (
+                          search (sendable, crosses) depth 20,
+                          (search (sendable, crosses) depth 20, tt),
+                        ),
+                      ),
+                    ),
+                  ),
+                ),
+              ),
+            ),
+          ),
+        ),
+      ),
+    ),
+  ),
 )
 
 filter_inside_send : IsSend filter_inside.the_row
@@ -47,9 +80,31 @@ filter_send = record { owned = λ d vs x. (filter_inside_send.owned x.0 vs, tt);
 request_parts_send : IsSend request_parts.the_row
 request_parts_send = declared_send request_parts.the_type (
   search (sendable, crosses) depth 20,
-  (text_send, (search (sendable, crosses) depth 20, (text_send, (search (sendable, crosses) depth 20, (search (sendable, crosses, val_send) depth 20,
-  (search (sendable, crosses) depth 20, (search (sendable, crosses) depth 20, (search (sendable, crosses) depth 20,
-  (search (sendable, crosses, filter_send) depth 20, (search (sendable, crosses) depth 20, tt)))))))))),
+  (
+    text_send,
+    (
+      search (sendable, crosses) depth 20,
+      (
+        text_send,
+        (
+          search (sendable, crosses) depth 20,
+          (
+            search (sendable, crosses, val_send) depth 20,
+            (
+              search (sendable, crosses) depth 20,
+              (
+                search (sendable, crosses) depth 20,
+                (
+                  search (sendable, crosses) depth 20,
+                  (search (sendable, crosses, filter_send) depth 20, (search (sendable, crosses) depth 20, tt)),
+                ),
+              ),
+            ),
+          ),
+        ),
+      ),
+    ),
+  ),
 )
 
 request_inside_send : IsSend request_inside.the_row

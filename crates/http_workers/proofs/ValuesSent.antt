@@ -73,9 +73,19 @@ module _ (p : Parts frame) (s : (j : the_members) → IsSend (rows frame p j)) w
   members = has_of frame send (step p) member-Members (part_has send (knot.view-Members p) members_view)
 
   node_fields : IsSend (E.row (E.declared (knot.type-Node (rows frame p member-Items) (rows frame p member-Members))))
-  node_fields = variants_send (knot.type-Node (rows frame p member-Items) (rows frame p member-Members))
-      (tt, ((row_send (as_row bool-field) bool_send, tt), ((row_send (as_row i64-field) i64_send, tt), ((row_send (as_row text.the_field) text_send, tt),
-      ((row_send (rows frame p member-Items) (s member-Items), tt), ((row_send (rows frame p member-Members) (s member-Members), tt), tt))))))
+  node_fields = variants_send (knot.type-Node (rows frame p member-Items) (rows frame p member-Members)) (
+    tt,
+    (
+      (row_send (as_row bool-field) bool_send, tt),
+      (
+        (row_send (as_row i64-field) i64_send, tt),
+        (
+          (row_send (as_row text.the_field) text_send, tt),
+          ((row_send (rows frame p member-Items) (s member-Items), tt), ((row_send (rows frame p member-Members) (s member-Members), tt), tt)),
+        ),
+      ),
+    ),
+  )
 
   node_at : IsSend (knot.at-Node p)
   node_at = rejoined_send (knot.layer-Node (rows frame p member-Items) (rows frame p member-Members)) _ split-Node join-Node joins-Node node_fields
