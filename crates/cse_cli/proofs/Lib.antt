@@ -1,3 +1,4 @@
 mod Writing
 mod HttpLemmas
 mod WordsLemmas
+mod ServeLemmas
