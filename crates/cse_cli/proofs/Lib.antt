@@ -2,3 +2,5 @@ mod Writing
 mod HttpLemmas
 mod WordsLemmas
 mod ServeLemmas
+mod TreesSent
+mod EntitiesSent

@@ -1,8 +1,8 @@
 -- A server, from its words to its door.
-use Rattle.std.proofs.Common.{◌≡◌, ℕ, ◌*◌, List, [], ◌∷◌, Bool, true, false, Option, Some, None, codes, refl, sym, ap, subst, ◌∙◌, inl, inr, ⊎_elim, arith}
-use Rattle.m2m_io.specs.Counts.{Rose}
+use Rattle.std.proofs.Common.{◌≡◌, ◌≢◌, ℕ, ◌*◌, true, Option, subst, sym, ◌∙◌, inl, inr, ⊎_elim, arith}
 use Rattle.m2m_io.specs.Told.{Tells, TellsStill}
 use Rattle.m2m_io.specs.declared.status.Status.{Status}
+use Rattle.m2m_io.specs.declared.status.Status.TheVariants.{Done, ReadFault, Memory, Usage, WriteFault}
 use Rattle.atomic_table.specs.Seated.{TableId}
 use Rattle.turn_desk.specs.declared.shared.DeskSeat.{DeskSeat}
 use Rattle.turn_desk.specs.declared.view.View.{View}
@@ -10,7 +10,7 @@ use Rattle.turn_desk.specs.Seats.{known_to}
 use Rattle.turn_desk.specs.Shared.{newcomer, IsWhole}
 use Rattle.workers.specs.Gate.{DoorTold}
 use Rattle.workers.specs.Shares.{HasPartOf, HasComeBack}
-use Rattle.cse_cli.specs.Serve.{OpensAndServes, TakesNothing, ServesOpen, RunsServe}
+use Rattle.cse_cli.specs.Serve.{ServesOpen, RunsServe}
 
 module _ {X E R : Type 0} {step : ℕ → E → X → R → X → Type 0} {desk : TableId} where
   whole-part : (object : X) (lent back : View X E R) → lent ≡ newcomer object → HasPartOf lent back → IsWhole back
@@ -22,51 +22,31 @@ module _ {X E R : Type 0} {step : ℕ → E → X → R → X → Type 0} {desk 
       → lent ≡ newcomer object → IsWhole (known_to back)
   whole_again {object = object} {lent = lent} {back = back} came first = whole-part object lent (known_to back) first came.part
 
-module _ {T : Type 0} where
-  still-same : (a : Option T) → TellsStill a a
-  still-same None = tt
-  still-same (Some x) = refl
-
-  still-on : (f : T → T) (a b c : Option T) → Tells f a b → TellsStill b c → Tells f a c
-  still-on f a b None p q = tt
-  still-on f a None (Some z) p q = absurd q
-  still-on f None (Some y) (Some z) p q = absurd p
-  still-on f (Some x) (Some y) (Some z) p q = q ∙ p
-
--- a door that is as it was
-pub takes_nothing : (start now : DoorTold) → now ≡ start → TakesNothing start now
-takes_nothing start now e = subst (λ (d : DoorTold). TakesNothing start d) (sym e) (record {
-  given = still-same start.given;
-  ended = still-same start.ended;
-  steady = refl;
-})
-
 -- a door that was opened, and then served
 pub runs_open : {accept : Option ℕ} {start between now : DoorTold} {status : Status}
     → Tells (λ _. true) start.opened between.opened → TellsStill start.given between.given
     → TellsStill start.ended between.ended → between.faults ≡ start.faults
     → ServesOpen accept between now status → RunsServe accept start now status
-runs_open {start = start} {between = between} {now = now} opened given ended steady serves = elim serves [
-  | inl done ↦ inl (
-    done.0,
-    record {
-      between = between;
-      opened = opened;
-      given = given;
-      ended = ended;
-      steady = steady;
-      serves = done.1;
-    },
-  )
+runs_open {between = between} opened given ended steady serves = inr (inr (record {
+  between = between;
+  opens = record { opened = opened; given = given; ended = ended; steady = steady };
+  serves = serves;
+}))
+
+-- a server ends with no status that is of words or of writing
+open-is_other : (accept : Option ℕ) (start now : DoorTold) (status : Status) → ServesOpen accept start now status
+    → (status ≢ Usage) × (status ≢ WriteFault)
+open-is_other accept start now status h = elim h [
+  | inl done ↦ (λ e. cc, λ e. cc)
+  | inr other ↦ elim other [ inl fault ↦ (λ e. cc, λ e. cc) | inr starved ↦ (λ e. cc, λ e. cc) ]
+]
+
+pub is_other : (accept : Option ℕ) (start now : DoorTold) (status : Status) → RunsServe accept start now status
+    → (status ≢ Usage) × (status ≢ WriteFault)
+is_other accept start now status h = elim h [
+  | inl starved ↦ (λ e. cc, λ e. cc)
   | inr other ↦ elim other [
-    | inl fault ↦ inr (inl (fault.0, subst (λ (k : ℕ). Rose k now.faults) steady fault.1))
-    | inr memory ↦ inr (inr (
-      memory.0,
-      record {
-        given = still-on (λ x. x) start.given between.given now.given given memory.1.given;
-        ended = still-on (λ x. x) start.ended between.ended now.ended ended memory.1.ended;
-        steady = memory.1.steady ∙ steady;
-      },
-    ))
+    | inl fault ↦ (λ e. cc, λ e. cc)
+    | inr served ↦ open-is_other accept served.between now status served.serves
   ]
 ]

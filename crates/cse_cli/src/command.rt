@@ -10,7 +10,7 @@ ghost use Rattle.command_words.specs.Command as asked;
 ghost use Rattle.command_words.specs.Command.{Serving, command_in, serve, task_by};
 ghost use Rattle.cse_cli.specs.Words.{command_at};
 ghost use Rattle.cse_cli.specs.Run.{RunsHttp, RunsReplay};
-ghost use Rattle.cse_cli.specs.Serve.{RunsServe};
+ghost use Rattle.cse_cli.specs.Serve.{RunsServe, GivesOneAtMost};
 ghost use Rattle.workers.specs.Gate.{door_tells};
 
 use crate::http::serve_streams;
@@ -77,6 +77,8 @@ where
     ensures serve { (serving : Serving) → task_by task.entry ≡ serve serving
         → RunsServe serving.accept (door_tells D.opened D.given D.ended D.faults door)
         (door_tells D.opened D.given D.ended D.faults result.1) result.0 }
+    ensures opens { (serving : Serving) → task_by task.entry ≡ serve serving
+        → GivesOneAtMost (C.readings first.old.clock) (C.readings first.new.clock) }
     ensures door { ((serving : Serving) → task_by task.entry ≢ serve serving)
         → result.1 ≡ door }
     ensures read_count { S.faults input.old ≤ S.faults input.new }
@@ -137,6 +139,9 @@ where
         → command_in (map (λ word. word.now) words.now) ≡ Some (command_at (serve serving) home)
         → RunsServe serving.accept (door_tells D.opened D.given D.ended D.faults door)
         (door_tells D.opened D.given D.ended D.faults result.1) result.0 }
+    ensures opens { (serving : Serving) (home : HomeData)
+        → command_in (map (λ word. word.now) words.now) ≡ Some (command_at (serve serving) home)
+        → GivesOneAtMost (C.readings first.old.clock) (C.readings first.new.clock) }
     ensures door { ((serving : Serving) (home : HomeData)
         → command_in (map (λ word. word.now) words.now) ≢ Some (command_at (serve serving) home))
         → result.1 ≡ door }
@@ -194,10 +199,14 @@ where
     ensures nothing { command_in (map (λ word. word.now) words.now) ≡ None
         → (input.new ≡ input.old) × (out.new ≡ out.old) × (first.new ≡ first.old) }
 
-    // Nor is anything read or written to `out` at `serve`, nor exchanged over the link of `first`.
+    // Nor is anything read or written to `out` at `serve`, nor exchanged over the link of `first`,
+    // whose clock gives the reading at which the entity opens, if any.
     ensures still { (serving : Serving) (home : HomeData)
         → command_in (map (λ word. word.now) words.now) ≡ Some (command_at (serve serving) home)
         → (input.new ≡ input.old) × (out.new ≡ out.old) × (first.new.link ≡ first.old.link) }
+    ensures opens { (serving : Serving) (home : HomeData)
+        → command_in (map (λ word. word.now) words.now) ≡ Some (command_at (serve serving) home)
+        → GivesOneAtMost (C.readings first.old.clock) (C.readings first.new.clock) }
 
     // At `http` an entity with the home that the words say opens at the first reading that the clock
     // of `first` gives in this call. Then `out` gets exactly the replies that the machine gives the
@@ -221,7 +230,8 @@ where
 
     // At `serve` the door is opened, and its connections are served until it gives no more. All is
     // well where it gave None, or as many connections as are to be accepted; a read fault is one of
-    // the door. At every other command the door comes back as it was.
+    // the door, at which it didn't open, or gave no more connections; and where memory ran out,
+    // none was taken. At every other command the door comes back as it was.
     ensures serve { (serving : Serving) (home : HomeData)
         → command_in (map (λ word. word.now) words.now) ≡ Some (command_at (serve serving) home)
         → RunsServe serving.accept (door_tells D.opened D.given D.ended D.faults door)

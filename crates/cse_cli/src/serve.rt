@@ -18,7 +18,7 @@ use turn_desk::{Object, TurnDesk};
 
 /// Serves the connections of an open door, of which so many are accepted at most, at a desk of this
 /// object.
-#[tactic(auto, using(crate::proofs::ServeLemmas::whole_again, crate::proofs::ServeLemmas::takes_nothing))]
+#[tactic(auto, using(crate::proofs::ServeLemmas::whole_again))]
 fn serve_at_desk<R, O, D, C, L>(
     rt: &R,
     own_rt: R,
@@ -32,8 +32,6 @@ fn serve_at_desk<R, O, D, C, L>(
 where
     R: Wait + Threads + Drop + Sync,
     O: Object<Event = Event, Outcome = Outcome> + Send + Drop,
-    O::Event: Send,
-    O::Outcome: Send,
     D: Door + Send,
     C: Clock + Send + Drop,
     L: Link + Send + Drop,
@@ -64,7 +62,7 @@ where
 
 /// Opens an entity with this home at the clock's first reading, opens the door where the words say,
 /// and serves its connections, of which as many are accepted at most as they say.
-#[tactic(auto, using(crate::proofs::ServeLemmas::runs_open, crate::proofs::ServeLemmas::takes_nothing))]
+#[tactic(auto, using(crate::proofs::ServeLemmas::runs_open))]
 pub(crate) fn serve_door<R, D, C, L>(
     rt: &R,
     alloc: Global,
@@ -80,7 +78,8 @@ where
     C: Clock + Send + Drop,
     L: Link + Send + Drop,
     requires benches { 2 ≤ vec_len benches }
-    ensures serves { RunsServe serving.accept (door_tells D.opened D.given D.ended D.faults door)
+    ensures serves { RunsServe serving.entry.accept
+        (door_tells D.opened D.given D.ended D.faults door)
         (door_tells D.opened D.given D.ended D.faults result.1) result.0 }
     ensures clock { (reading : ℕ) × Tells (λ given. given ++ reading ∷ [])
         (C.readings first.old.clock) (C.readings first.new.clock) }

@@ -3,7 +3,7 @@ use denote.RattleType.{RattleType}
 use denote.Param.Send.{IsSend, sendable}
 use denote.Param.SendFields.{declared_send}
 use Rattle.std.proofs.Crossing.{crosses}
-use Rattle.send_trial.proofs.TreesSent.{home_send, list_tree_send}
+use Rattle.cse_cli.proofs.TreesSent.{home_send, list_tree_send}
 use Rattle.tree_model.specs.declared.tree.Tree.{Ghosts}
 use Rattle.entity_model.specs.contracts.entity.Entity as entity
 use Rattle.entity_model.specs.contracts.entity.Entity.TheInside as entity_inside
