@@ -80,8 +80,6 @@ pub fn serve<R, O, D, C, L>(
 where
     R: Wait + Threads + Sync,
     O: Object<Event = Event, Outcome = Outcome> + Send,
-    O::Event: Send,
-    O::Outcome: Send,
     D: Door + Send,
     C: Clock + Send + Drop,
     L: Link + Send + Drop,
@@ -97,7 +95,7 @@ where
         (door_tells D.opened D.given D.ended D.faults door)
         (door_tells D.opened D.given D.ended D.faults r.1)) }
 
-    // The door failed in this call; the connections taken before were served to their ends.
+    // The door failed in this call.
     ensures back_at_fault { IfErr result (λ e. e.2 ≡ ServeFault.DoorFault
         → HasComeBack O.step desk.now.table.shared.table_id (known_to seat) e.0) }
     ensures fault { IfErr result (λ e. e.2 ≡ ServeFault.DoorFault
