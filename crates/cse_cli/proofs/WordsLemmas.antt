@@ -1,7 +1,9 @@
 -- What words ask for.
 use Rattle.std.proofs.Common.{◌≡◌, ℕ, List, Option, Some, None, option_and_then, option_map, map, Bor, refl, sym, ap, ◌∙◌}
 use Rattle.resource_model.specs.Home.{HomeData}
-use Rattle.command_words.specs.Command.{Command, Serving, Task, serve, words_say, admitted, command_in}
+use Rattle.resource_model.specs.declared.home.Home.{Home}
+use Rattle.command_words.specs.Command.{Command, Serving, Task, serve, task_by, words_say, admitted, command_in}
+use Rattle.command_words.specs.declared.command.Task as read
 use Rattle.cse_cli.specs.Words.{command_at}
 
 -- words behind references
@@ -21,6 +23,12 @@ pub says : (words : List (List ℕ)) (said : Command) (home : Option HomeData) �
     → admitted said.home ≡ home → command_in words ≡ at_home said home
 says words said home e h =
     ap (option_and_then (λ said. at_home said (admitted said.home))) e ∙ ap (at_home said) h
+
+-- words are the command that was read
+pub is_said : (said : Option (read.Task × Home)) (task : read.Task) (home : Home) (words : Option Command)
+    → option_map (λ s. command_at (task_by s.0) s.1) said ≡ words → said ≡ Some (task, home)
+    → Some (command_at (task_by task) home) ≡ words
+is_said said task home words e is = sym (ap (option_map (λ s. command_at (task_by s.0) s.1)) is) ∙ e
 
 abbrev task_in : Option Command → Task → Task
 task_in (Some command) task = command.task
