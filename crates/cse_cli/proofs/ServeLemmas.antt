@@ -12,15 +12,15 @@ use Rattle.workers.specs.Gate.{DoorTold}
 use Rattle.workers.specs.Shares.{HasPartOf, HasComeBack}
 use Rattle.cse_cli.specs.Serve.{ServesOpen, RunsServe}
 
-module _ {X E R : Type 0} {step : ℕ → E → X → R → X → Type 0} {desk : TableId} where
-  whole-part : (object : X) (lent back : View X E R) → lent ≡ newcomer object → HasPartOf lent back → IsWhole back
-  whole-part object lent back first part =
-      let h : back.share * 1 ≡ 1 * back.whole = subst (λ (v : View X E R). HasPartOf v back) first part in omega (arith, h)
+whole-part : {X E R : Type 0} (object : X) (lent back : View X E R) → lent ≡ newcomer object → HasPartOf lent back
+    → IsWhole back
+whole-part {X = X} {E = E} {R = R} object lent back first part =
+    let h : back.share * 1 ≡ 1 * back.whole = subst (λ (v : View X E R). HasPartOf v back) first part in omega (arith, h)
 
-  -- the first seat of a desk has come back, and has the whole of it
-  pub whole_again : {object : X} {lent : View X E R} {back : DeskSeat X E R} → HasComeBack step desk lent back
-      → lent ≡ newcomer object → IsWhole (known_to back)
-  whole_again {object = object} {lent = lent} {back = back} came first = whole-part object lent (known_to back) first came.part
+-- the first seat of a desk has come back, and has the whole of it
+pub whole_again : {X E R : Type 0} {step : ℕ → E → X → R → X → Type 0} {desk : TableId} {object : X} {lent : View X E R}
+    {back : DeskSeat X E R} → HasComeBack step desk lent back → lent ≡ newcomer object → IsWhole (known_to back)
+whole_again {object = object} {lent = lent} {back = back} came first = whole-part object lent (known_to back) first came.part
 
 -- a door that was opened, and then served
 pub runs_open : {accept : Option ℕ} {start between now : DoorTold} {status : Status}

@@ -93,7 +93,7 @@ where
     let Ok(own_rt) = rt.clone() else {
         return (Status::Memory, door);
     };
-    if door.open(serving.listen.as_bytes()).is_err() {
+    if let Err(_) = door.open(serving.listen.as_bytes()) {
         return (Status::ReadFault, door);
     }
     serve_at_desk(
