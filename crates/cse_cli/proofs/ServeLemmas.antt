@@ -1,8 +1,8 @@
 -- A server, from its words to its door.
-use Rattle.std.proofs.Common.{◌≡◌, ◌≢◌, ℕ, ◌*◌, true, Option, subst, sym, ◌∙◌, inl, inr, ⊎_elim, arith}
+use Rattle.std.proofs.Common.{◌≡◌, ◌≢◌, ℕ, ◌*◌, true, Option, subst, inl, inr, arith}
 use Rattle.m2m_io.specs.Told.{Tells, TellsStill}
 use Rattle.m2m_io.specs.declared.status.Status.{Status}
-use Rattle.m2m_io.specs.declared.status.Status.TheVariants.{Done, ReadFault, Memory, Usage, WriteFault}
+use Rattle.m2m_io.specs.declared.status.Status.TheVariants.{Usage, WriteFault}
 use Rattle.atomic_table.specs.Seated.{TableId}
 use Rattle.turn_desk.specs.declared.shared.DeskSeat.{DeskSeat}
 use Rattle.turn_desk.specs.declared.view.View.{View}

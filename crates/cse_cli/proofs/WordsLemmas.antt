@@ -1,28 +1,10 @@
 -- What words ask for.
-use Rattle.std.proofs.Common.{◌≡◌, ℕ, List, Option, Some, None, option_and_then, option_map, map, Bor, refl, sym, ap, ◌∙◌}
+use Rattle.std.proofs.Common.{◌≡◌, Option, Some, None, option_map, sym, ap, ◌∙◌}
 use Rattle.resource_model.specs.Home.{HomeData}
 use Rattle.resource_model.specs.declared.home.Home.{Home}
-use Rattle.command_words.specs.Command.{Command, Serving, Task, serve, task_by, words_say, admitted, command_in}
+use Rattle.command_words.specs.Command.{Command, Serving, Task, serve, task_by}
 use Rattle.command_words.specs.declared.command.Task as read
 use Rattle.cse_cli.specs.Words.{command_at}
-
--- words behind references
-abbrev pub texts : List (Bor (List ℕ)) → List (List ℕ)
-texts words = map (λ word. word.now) words
-
--- what is said, at a home that may be admitted
-abbrev pub at_home : Command → Option HomeData → Option Command
-at_home said = option_map (λ home. record said { home = home })
-
--- words that say nothing
-pub says_nothing : (words : List (List ℕ)) → words_say words ≡ None → command_in words ≡ None
-says_nothing words e = ap (option_and_then (λ said. at_home said (admitted said.home))) e
-
--- words that say something
-pub says : (words : List (List ℕ)) (said : Command) (home : Option HomeData) → words_say words ≡ Some said
-    → admitted said.home ≡ home → command_in words ≡ at_home said home
-says words said home e h =
-    ap (option_and_then (λ said. at_home said (admitted said.home))) e ∙ ap (at_home said) h
 
 -- words are the command that was read
 pub is_said : (said : Option (read.Task × Home)) (task : read.Task) (home : Home) (words : Option Command)

@@ -1,4 +1,4 @@
-use Rattle.std.proofs.Common.{◌≡◌, sym, ap, subst, ◌∙◌}
+use Rattle.std.proofs.Common.{sym, ap, subst, ◌∙◌}
 use Rattle.command_words.specs.Command.{Serving, serving_by, task_by}
 use Rattle.workers.specs.Gate.{door_tells}
 use Rattle.cse_cli.specs.Serve.{RunsServe}
