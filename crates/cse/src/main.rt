@@ -12,10 +12,10 @@ use std::time::Clock;
 use tcp_door::TcpDoor;
 
 /// So many workers serve at once: a client that says nothing holds one of them.
-const WORKERS: u64 = 256;
+const WORKERS: usize = 256;
 
 /// Each worker has a bench, and one more is for what is left when they have ended.
-const BENCHES: u64 = WORKERS + 1;
+const BENCHES: usize = WORKERS + 1;
 
 /// The system's clock, and a link that has no answers.
 fn bench<R: Clock>(rt: R, alloc: Global) -> Bench<SystemClock<R>, MemLink> {
@@ -31,8 +31,8 @@ fn all_benches<R: Clock + Copy + Drop>(
 ) -> Result<Vec<Bench<SystemClock<R>, MemLink>>, AllocError>
     ensures { IfOk result (λ benches. 2 ≤ vec_len benches) }
 {
-    let mut benches = vec![in alloc; bench(rt, alloc), bench(rt, alloc)]?;
-    for _ in 2..BENCHES {
+    let mut benches = Vec::new(alloc);
+    while benches.len() < BENCHES {
         benches.push(bench(rt, alloc))?;
     }
     Ok(benches)

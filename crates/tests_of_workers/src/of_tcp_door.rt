@@ -40,13 +40,13 @@ where
     R: Net<Listener = TcpListener, Stream = TcpStream> + time::Clock,
 {
     let mut stream = connected(rt, at)?;
-    let mut right = 0;
+    let mut right = 0u64;
     for _ in 0..2u32 {
         stream.write_all(NONE.as_bytes())?;
         let mut reply = [0u8; NOT_FOUND.len()];
         stream.read_exact(&mut reply)?;
         if reply.as_slice() == NOT_FOUND.as_bytes() {
-            right += 1;
+            right = right.saturating_add(1);
         }
     }
     Ok(right)
