@@ -25,6 +25,8 @@ pub struct Streams {
     pub put_fails: Vec<u64>,
     /// What must be written.
     pub out: Vec<u8>,
+    /// How often a connection of the door stands.
+    pub times: usize,
 }
 
 impl Streams {
@@ -36,6 +38,7 @@ impl Streams {
             read_fails: Vec::new(alloc),
             put_fails: Vec::new(alloc),
             out: Vec::new(alloc),
+            times: 1,
         }
     }
 }
@@ -109,6 +112,15 @@ impl Case {
             _ if self.tail.is_empty() => 1,
             _ => self.tail.len().saturating_sub(1),
         }
+    }
+
+    /// How many connections the door has.
+    pub fn conn_count(&self) -> u64 {
+        let mut count = 0u64;
+        for streams in &self.conns {
+            count = count.saturating_add(streams.times as u64);
+        }
+        count
     }
 
     /// The streams behind the last line `conn`, or those of the run.

@@ -29,8 +29,8 @@
 //! - `fail in N ..`: the reads of these numbers fail, from 1; and so do the calls of `out`, `err`,
 //!   `link` and `door`.
 //! - `answer`: an answer of the link of `first`, a block. Answers are given in order.
-//! - `conn`: a connection of the door. The lines `in`, `cut N ..`, `cut N*`, `fail in`, `fail out`
-//!   and `out` behind it are its own.
+//! - `conn`, `conn N`: a connection of the door, or so many alike. The lines `in`, `cut N ..`,
+//!   `cut N*`, `fail in`, `fail out` and `out` behind it are its own.
 //!
 //! And what must come:
 //!

@@ -88,7 +88,9 @@ fn door_of(
 ) -> Result<MemDoor<MemConn>, AllocError> {
     let mut conns = Vec::new(alloc);
     for streams in &case.conns {
-        conns.push(conn_of(alloc, streams, right)?)?;
+        for _ in 0..streams.times {
+            conns.push(conn_of(alloc, streams, right)?)?;
+        }
     }
     Ok(MemDoor::new(conns, case.door_fails.clone()?))
 }
@@ -116,10 +118,14 @@ fn worker_bench(alloc: Global, case: &Case) -> Result<Bench<MemClock, MemLink>, 
     })
 }
 
-fn two_benches(alloc: Global, case: &Case) -> Result<Vec<Bench<MemClock, MemLink>>, AllocError>
+fn three_benches(alloc: Global, case: &Case) -> Result<Vec<Bench<MemClock, MemLink>>, AllocError>
     ensures { IfOk result (λ benches. 2 ≤ vec_len benches) }
 {
-    Ok(vec![in alloc; worker_bench(alloc, case)?, worker_bench(alloc, case)?]?)
+    Ok(vec![in alloc;
+        worker_bench(alloc, case)?,
+        worker_bench(alloc, case)?,
+        worker_bench(alloc, case)?,
+    ]?)
 }
 
 /// The bench of the run: the clock of the case, and its link.
@@ -236,7 +242,7 @@ where
 {
     let words = case_words(alloc, case)?;
     let stage = stage_of(alloc, case, form, right)?;
-    let benches = two_benches(alloc, case)?;
+    let benches = three_benches(alloc, case)?;
     Ok(run_on(rt, alloc, &words, stage, benches))
 }
 

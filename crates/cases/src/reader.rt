@@ -293,7 +293,7 @@ impl Reader {
             case.status = Some(0);
         }
         if case.served.is_none() {
-            case.served = Some(case.conns.len() as u64);
+            case.served = Some(case.conn_count());
         }
         if case.forms() == 0 {
             return Err(Wrong::Why("the case above has no form to be played in"));
@@ -368,10 +368,11 @@ fn take_err(case: &mut Case, rest: &str) -> Result<(), Wrong> {
 }
 
 fn take_conn(alloc: Global, case: &mut Case, rest: &str) -> Result<(), Wrong> {
+    let mut streams = Streams::new(alloc);
     if !rest.is_empty() {
-        return Err(Wrong::Why("nothing stands behind this word"));
+        streams.times = number_of(rest)?;
     }
-    case.conns.push(Streams::new(alloc))?;
+    case.conns.push(streams)?;
     Ok(())
 }
 

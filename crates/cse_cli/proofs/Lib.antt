@@ -1,3 +1,6 @@
 mod Writing
 mod HttpLemmas
 mod WordsLemmas
+mod ServeLemmas
+mod TreesSent
+mod EntitiesSent

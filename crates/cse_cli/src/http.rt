@@ -26,7 +26,11 @@ fn status_of(ended: Ended) -> Status
 }
 
 /// The entity with this home, as it opens at a reading of the clock.
-fn opened(alloc: Global, home: Home, reading: u64) -> Result<Served<ListTree>, OutOfMemory>
+pub(crate) fn opened(
+    alloc: Global,
+    home: Home,
+    reading: u64,
+) -> Result<Served<ListTree>, OutOfMemory>
     ensures { IfOk result (λ served. served ≡ opening home reading) }
 {
     let entity = Entity::open(alloc, home, ListTree::new(alloc), reading)?;

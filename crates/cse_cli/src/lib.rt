@@ -10,6 +10,7 @@ mod adapters;
 mod command;
 mod http;
 mod replay;
+mod serve;
 
 pub use adapters::{StdIn, StdOut, SystemClock, words};
 pub use command::run;

@@ -48,8 +48,8 @@ starved request = refusal request Internal
 
 -- ---- which requests are served
 
--- the types of which a resource may be created so far, one line each; that nothing takes a CSEBase
--- is judged later
+-- the types of which a resource may be created so far, one line each: no group, as long as its
+-- members aren't served; that nothing takes a CSEBase is judged later
 abbrev pub is_creatable : Ty → Bool
 is_creatable AccessControlPolicy = true
 is_creatable Ae = true

@@ -1,5 +1,5 @@
 -- What comes of a request, and the order in which it is refused.
-use Rattle.std.specs.Prelude.{Bool, ℤ, pos, List, [], ◌∷◌, Option, Some, None, unwrap_or}
+use Rattle.std.specs.Prelude.{ℕ, Bool, ℤ, pos, List, [], ◌∷◌, Option, Some, None, unwrap_or}
 use Rattle.std.specs.Prelude.{if◌then◌else◌}
 use Rattle.std.specs.Option.{option_map_or}
 use Rattle.m2m_names.specs.declared.codes.Rsc.{Rsc}
@@ -8,6 +8,7 @@ use Rattle.m2m_value.specs.Data.{Data}
 use Rattle.primitive_json.specs.declared.reply.ReplyParts.{ReplyParts}
 use Rattle.primitive_json.specs.declared.request.RequestParts.{RequestParts}
 use Rattle.resource_model.specs.Resource.{ResourceData}
+use Rattle.policy_eval.specs.Rights.{discovery_bit, retrieve_bit}
 use Rattle.entity_model.specs.Entity.{EntityData}
 
 -- a reply to a request, which has its identifier (TS-0001, 8.1.3)
@@ -25,6 +26,11 @@ absent = NotFound
 -- the result content that a request asks for: the attributes, where it says none (TS-0001, 8.1.2)
 abbrev pub wanted_content : Option ℤ → ℤ
 wanted_content rcn = unwrap_or rcn (pos 1)
+
+-- the bit that a Retrieve needs on its target: DISCOVERY where it looks for resources, and else
+-- RETRIEVE (TS-0001, 9.6.2.1.2 and 10.2.6)
+abbrev pub reading_bit : Bool → ℕ
+reading_bit looks = if looks then discovery_bit else retrieve_bit
 
 -- what comes of a request: the reply, and the entity after it
 pub record Effect : Type 0 where

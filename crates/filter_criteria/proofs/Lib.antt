@@ -1,4 +1,5 @@
 pub mod Lists
 pub mod Present
 pub mod PartLemmas
+pub mod Fields
 pub mod FilterLemmas

@@ -1,7 +1,7 @@
 -- The conditions of a filter, as a table, and the filter that members make (TS-0004, 8.2.5).
-use Rattle.std.specs.Prelude.{ℕ, Bool, false, ℤ, pos, List, [], ◌∷◌, Option, Some, None, find}
-use Rattle.std.specs.Prelude.{is_some, codes, option_and_then}
-use Rattle.std.specs.List.{list_all, filter_map}
+use Rattle.std.specs.Prelude.{ℕ, Bool, false, ℤ, pos, List, [], ◌∷◌, Option, None, find}
+use Rattle.std.specs.Prelude.{is_some, codes, fold, option_and_then}
+use Rattle.std.specs.List.{AllByRecursion, list_all, filter_map}
 use Rattle.std.specs.Option.{option_map_or}
 use Rattle.std.specs.Ordering.{int_eq}
 use Rattle.std.specs.Str.{bytes_eq}
@@ -102,6 +102,9 @@ all_conditions =
 abbrev pub name_of_condition : Condition → List ℕ
 name_of_condition condition = (row_of_condition condition).name
 
+abbrev pub sort_of_condition : Condition → Sort
+sort_of_condition condition = (row_of_condition condition).sort
+
 -- the condition of a short name
 abbrev pub condition_named : List ℕ → Option Condition
 condition_named name =
@@ -118,52 +121,107 @@ is_of Use d = is_some (read_usage d)
 -- the member is a condition, and its value of the sort of it
 abbrev pub is_condition : Entry → Bool
 is_condition e =
-    option_map_or (λ condition. is_of (row_of_condition condition).sort e.1)
+    option_map_or (λ condition. is_of (sort_of_condition condition) e.1)
     (condition_named e.0) false
 
 -- an object of conditions
 abbrev pub is_filter : Data → Bool
 is_filter d = option_map_or (λ es. list_all is_condition es) (as_object d) false
 
+-- ---- the fields of a filter
+
+-- what a filter has of a condition of each sort
+abbrev pub ValueOf : Sort → Type 0
+ValueOf Moment = Option ℕ
+ValueOf Count = Option ℕ
+ValueOf Labels = List (List ℕ)
+ValueOf Types = List ℕ
+ValueOf Use = Option FilterUsage
+
+-- a field: what a filter has there, and the filter that has something else there
+pub record FilterField (A : Type 0) : Type 0 where
+  pub value : FilterParts → A
+  pub with_value : A → FilterParts → FilterParts
+
+abbrev pub field_by : {A : Type 0} → (FilterParts → A) → (A → FilterParts → FilterParts)
+    → FilterField A
+field_by value with_value = record { value = value; with_value = with_value }
+
+-- the field of a condition
+abbrev pub filter_field : (condition : Condition)
+    → FilterField (ValueOf (sort_of_condition condition))
+filter_field CreatedAfter = field_by (λ f. f.cra) (λ at f. record f { cra = at })
+filter_field CreatedBefore = field_by (λ f. f.crb) (λ at f. record f { crb = at })
+filter_field ExpireAfter = field_by (λ f. f.exa) (λ at f. record f { exa = at })
+filter_field ExpireBefore = field_by (λ f. f.exb) (λ at f. record f { exb = at })
+filter_field Usage = field_by (λ f. f.fu) (λ usage f. record f { fu = usage })
+filter_field OneLabel = field_by (λ f. f.lbl) (λ labels f. record f { lbl = labels })
+filter_field Limit = field_by (λ f. f.lim) (λ n f. record f { lim = n })
+filter_field ModifiedSince = field_by (λ f. f.ms) (λ at f. record f { ms = at })
+filter_field StateTagBigger = field_by (λ f. f.stb) (λ n f. record f { stb = n })
+filter_field StateTagSmaller = field_by (λ f. f.sts) (λ n f. record f { sts = n })
+filter_field SizeAbove = field_by (λ f. f.sza) (λ n f. record f { sza = n })
+filter_field SizeBelow = field_by (λ f. f.szb) (λ n f. record f { szb = n })
+filter_field OneType = field_by (λ f. f.ty) (λ types f. record f { ty = types })
+filter_field UnmodifiedSince = field_by (λ f. f.us) (λ at f. record f { us = at })
+
+-- what a filter has of a condition
+abbrev pub asked_of : (condition : Condition) → FilterParts → ValueOf (sort_of_condition condition)
+asked_of condition f = (filter_field condition).value f
+
+-- it holds of what the filter has of each condition
+abbrev pub OfEachCondition : ((sort : Sort) → ValueOf sort → Type 0) → FilterParts → Type 0
+OfEachCondition Holds f =
+    AllByRecursion (λ condition. Holds (sort_of_condition condition) (asked_of condition f))
+    all_conditions
+
+-- a filter without conditions
+abbrev pub no_conditions : FilterParts
+no_conditions = record {
+  crb = None;
+  cra = None;
+  ms = None;
+  us = None;
+  sts = None;
+  stb = None;
+  exb = None;
+  exa = None;
+  lbl = [];
+  ty = [];
+  sza = None;
+  szb = None;
+  fu = None;
+  lim = None;
+}
+
 -- ---- the filter that the members make
-
-abbrev pub moment_for : Condition → List Entry → Option ℕ
-moment_for condition es = option_and_then read_moment (member_of (name_of_condition condition) es)
-
-abbrev pub count_for : Condition → List Entry → Option ℕ
-count_for condition es = option_and_then as_count (member_of (name_of_condition condition) es)
-
-abbrev pub usage_in : List Entry → Option FilterUsage
-usage_in es = option_and_then read_usage (member_of (name_of_condition Usage) es)
 
 -- the labels of the value at `lbl`, if there is one
 abbrev pub labels_of : Option Data → List (List ℕ)
 labels_of d = option_map_or (all_of label_of) d []
 
-abbrev pub labels_in : List Entry → List (List ℕ)
-labels_in es = labels_of (member_of (name_of_condition OneLabel) es)
+-- what the value of a condition of each sort is read as, if there is one
+abbrev pub read_of_sort : (sort : Sort) → Option Data → ValueOf sort
+read_of_sort Moment d = option_and_then read_moment d
+read_of_sort Count d = option_and_then as_count d
+read_of_sort Labels d = labels_of d
+read_of_sort Types d = option_map_or (all_of read_type_number) d []
+read_of_sort Use d = option_and_then read_usage d
 
-abbrev pub types_in : List Entry → List ℕ
-types_in es = option_map_or (all_of read_type_number) (member_of (name_of_condition OneType) es) []
+-- the value at the name of a condition
+abbrev pub value_for : Condition → List Entry → Option Data
+value_for condition es = member_of (name_of_condition condition) es
 
+-- what the members say of a condition
+abbrev pub said_of : (condition : Condition) → List Entry → ValueOf (sort_of_condition condition)
+said_of condition es = read_of_sort (sort_of_condition condition) (value_for condition es)
+
+-- the filter that has of each condition what the members say of it
 abbrev pub filter_in : List Entry → FilterParts
-filter_in es = record {
-  crb = moment_for CreatedBefore es;
-  cra = moment_for CreatedAfter es;
-  ms = moment_for ModifiedSince es;
-  us = moment_for UnmodifiedSince es;
-  sts = count_for StateTagSmaller es;
-  stb = count_for StateTagBigger es;
-  exb = moment_for ExpireBefore es;
-  exa = moment_for ExpireAfter es;
-  lbl = labels_in es;
-  ty = types_in es;
-  sza = count_for SizeAbove es;
-  szb = count_for SizeBelow es;
-  fu = usage_in es;
-  lim = count_for Limit es;
-}
+filter_in es =
+    fold (λ f condition. (filter_field condition).with_value (said_of condition es) f) no_conditions
+    all_conditions
 
 -- the filter with these labels in place of its own
 abbrev pub relabelled : List (List ℕ) → FilterParts → FilterParts
-relabelled labels f = record f { lbl = labels }
+relabelled labels f = (filter_field OneLabel).with_value labels f

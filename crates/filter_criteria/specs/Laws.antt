@@ -1,35 +1,39 @@
 -- What is read as a filter is of its kinds, and is read back from the value that is written of it.
-use Rattle.std.specs.Prelude.{◌≡◌, Bool, ◌&&◌, IsTrue, IfSome, List}
+use Rattle.std.specs.Prelude.{◌≡◌, ℕ, Bool, ◌&&◌, IsTrue, IfSome, List}
 use Rattle.std.specs.List.{list_all}
 use Rattle.m2m_names.specs.Types.{is_type_number}
 use Rattle.m2m_value.specs.Data.{Entry}
 use Rattle.m2m_value.specs.Shapes.{is_label_text}
 use Rattle.filter_criteria.specs.Bounds.{IsMoment}
-use Rattle.filter_criteria.specs.Conditions.{is_filter, filter_in}
+use Rattle.filter_criteria.specs.Conditions.{ValueOf, OfEachCondition, is_filter, filter_in}
 use Rattle.filter_criteria.specs.Values.{members_in}
 use Rattle.filter_criteria.specs.Writing.{written_filter}
+use Rattle.filter_criteria.specs.declared.condition.Sort.{Sort}
+use Rattle.filter_criteria.specs.declared.condition.Sort.TheVariants.{Moment, Count, Labels, Types}
+use Rattle.filter_criteria.specs.declared.condition.Sort.TheVariants.{Use}
 use Rattle.filter_criteria.specs.declared.filter.FilterParts.{FilterParts}
 
--- its labels are of their kind, and its types are numbers of types
-abbrev pub has_labels : FilterParts → Bool
-has_labels f = list_all is_label_text f.lbl
+-- labels are of their kind, and types are numbers of types
+abbrev pub are_labels : List (List ℕ) → Bool
+are_labels labels = list_all is_label_text labels
 
-abbrev pub has_type_numbers : FilterParts → Bool
-has_type_numbers f = list_all is_type_number f.ty
+abbrev pub are_type_numbers : List ℕ → Bool
+are_type_numbers types = list_all is_type_number types
 
 abbrev pub are_fit_conditions : FilterParts → Bool
-are_fit_conditions f = has_labels f && has_type_numbers f
+are_fit_conditions f = are_labels f.lbl && are_type_numbers f.ty
+
+-- what a filter has of a condition of each sort is of its kind: a moment is that of a timestamp
+abbrev pub IsValueOfKind : (sort : Sort) → ValueOf sort → Type 0
+IsValueOfKind Moment at = IfSome at IsMoment
+IsValueOfKind Count n = Unit {0}
+IsValueOfKind Labels labels = IsTrue (are_labels labels)
+IsValueOfKind Types types = IsTrue (are_type_numbers types)
+IsValueOfKind Use usage = Unit {0}
 
 -- each condition of the filter is of its kind
-pub record IsFilterOfKinds (f : FilterParts) : Type 0 where
-  pub crb : IfSome f.crb IsMoment
-  pub cra : IfSome f.cra IsMoment
-  pub ms : IfSome f.ms IsMoment
-  pub us : IfSome f.us IsMoment
-  pub exb : IfSome f.exb IsMoment
-  pub exa : IfSome f.exa IsMoment
-  pub lbl : IsTrue (has_labels f)
-  pub ty : IsTrue (has_type_numbers f)
+abbrev pub IsFilterOfKinds : FilterParts → Type 0
+IsFilterOfKinds f = OfEachCondition IsValueOfKind f
 
 -- the filter that members make is of its kinds
 abbrev pub FiltersAreOfKinds : Type 0

@@ -1,6 +1,6 @@
 -- Members of an object by their names, the object of the members that are there, and the kinds of
 -- values that filters share with the primitives around them (TS-0004, 8.2.2 and 8.2.5).
-use Rattle.std.specs.Prelude.{ℕ, Bool, pos, List, [], ◌∷◌, Option, Some, None}
+use Rattle.std.specs.Prelude.{ℕ, Bool, pos, List, [], Option, Some, None}
 use Rattle.std.specs.Prelude.{if◌then◌else◌, option_map, unwrap_or}
 use Rattle.std.specs.List.{filter_map}
 use Rattle.m2m_names.specs.Stamps.{timestamp}

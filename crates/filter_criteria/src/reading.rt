@@ -89,21 +89,23 @@ pub fn is_filter(value: &Val) -> bool
 }
 
 fn moment_for(filter: &Val, condition: Condition) -> Option<u64>
-    ensures value { result ≡ spec.moment_for condition (shared.members_in filter.now) }
+    ensures value { result
+        ≡ spec.read_of_sort Sort.Moment (spec.value_for condition (shared.members_in filter.now)) }
     ensures bound { IfSome result IsMoment }
 {
     read_moment(value_at(filter, condition.name())?)
 }
 
 fn count_for(filter: &Val, condition: Condition) -> Option<u64>
-    ensures value { result ≡ spec.count_for condition (shared.members_in filter.now) }
+    ensures value { result
+        ≡ spec.read_of_sort Sort.Count (spec.value_for condition (shared.members_in filter.now)) }
     ensures bound { IfSome result IsCount }
 {
     value_at(filter, condition.name())?.as_count()
 }
 
 fn usage_in(filter: &Val) -> Option<FilterUsage>
-    ensures { result ≡ spec.usage_in (shared.members_in filter.now) }
+    ensures { result ≡ spec.said_of Condition.Usage (shared.members_in filter.now) }
 {
     read_usage(value_at(filter, Condition::Usage.name())?)
 }
@@ -134,7 +136,8 @@ fn types_of(alloc: Global, value: &Val) -> Result<Numbers, OutOfMemory>
 }
 
 fn types_in(alloc: Global, filter: &Val) -> Result<Numbers, OutOfMemory>
-    ensures value { IfOk result (λ t. t ≡ spec.types_in (shared.members_in filter.now)) }
+    ensures value { IfOk result (λ t.
+        t ≡ spec.said_of Condition.OneType (shared.members_in filter.now)) }
     ensures counts { IfOk result (AllByRecursion IsCount) }
 {
     match value_at(filter, Condition::OneType.name()) {

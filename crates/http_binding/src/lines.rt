@@ -30,7 +30,7 @@ pub fn push_field(
 }
 
 /// Puts one line with a number behind the others.
-pub fn push_number_field(
+pub(crate) fn push_number_field(
     alloc: Global,
     lines: &mut Vec<Line>,
     name: &str,

@@ -1,5 +1,5 @@
 //! The request that a frame binds to.
-ghost use Rattle.std.specs.Prelude.{◌≡◌, IfOk, IfSome, IsUtf8};
+ghost use Rattle.std.specs.Prelude.{◌≡◌, Ok, IfOk, IfSome, IsUtf8};
 ghost use Rattle.std.specs.Option.{ForSome, option_copied};
 ghost use Rattle.filter_criteria.specs.Filters.{IsSoundFilter};
 ghost use Rattle.m2m_value.specs.Reading.{reading};
@@ -118,14 +118,14 @@ fn request_of(
     caller: Caller<'_>,
     query: Query,
     content: Option<Val>,
-) -> Result<Request, OutOfMemory>
+) -> Result<Request, BindFault>
     requires to { IsUtf8 to }
     requires originator { IfSome (option_copied caller.originator) IsUtf8 }
     requires id { IsUtf8 caller.id.now }
     requires expiry { IfSome caller.expiry IsSoundWhen }
     requires filter { ForSome query.fc IsSoundFilter }
-    ensures { IfOk result (λ request. request
-        ≡ spec.request_of op to (seen_caller caller.entry) query content) }
+    ensures { ReadsAs (λ request. request) result
+        (Ok (spec.request_of op to (seen_caller caller.entry) query content)) }
 {
     Ok(Request::of(RequestParts {
         op,
@@ -166,5 +166,5 @@ pub fn to_request_in(
     let op = method.operation(caller.ty);
     let query = query_of(alloc, op, target.query)?;
     let content = content_of(alloc, scratch, op, frame.body.entries())?;
-    Ok(request_of(alloc, op, target.to, caller, query, content)?)
+    request_of(alloc, op, target.to, caller, query, content)
 }

@@ -1,6 +1,6 @@
 -- A scan of lines by name: what was found so far and what the rest has is what all have.
 use Rattle.std.proofs.Common.{◌≡◌, ℕ, ◌≤◌, Bool, true, false, cond, List, [], ◌∷◌, length, drop, get_or, ◌+◌, ◌<◌, refl, sym, ap, subst, ◌∙◌, arith}
-use Rattle.std.specs.Prelude.{map, IsTrue, ◌↔◌}
+use Rattle.std.specs.Prelude.{bytes_eq, map, IsTrue, ◌↔◌}
 use Rattle.std.specs.Char.{to_ascii_lowercase}
 use Rattle.std.proofs.lemmas.List.{at_drop_more, at_drop_all}
 use Rattle.std.proofs.lemmas.Slice.Eq.{bytes_eq-Decides}
@@ -45,6 +45,11 @@ pub is_same_name_from : (b : Bool) (x y : List ℕ)
     → IsTrue b ↔ (map to_ascii_lowercase x ≡ map to_ascii_lowercase y) → b ≡ is_same_name x y
 unfolding is_same_name
 is_same_name_from b x y e = same_from_decides b _ (e.0, e.1) (bytes_eq-Decides (map to_ascii_lowercase x) (map to_ascii_lowercase y))
+
+-- names that are spelled alike are the same
+pub same_name-alike : (x y : List ℕ) → bytes_eq x y ≡ true → is_same_name x y ≡ true
+unfolding is_same_name
+same_name-alike x y alike = (bytes_eq-Decides _ _).1 (ap (map to_ascii_lowercase) ((bytes_eq-Decides x y).0 alike))
 
 -- the values from a place on: that of the line there, if it has the name, and those behind it
 values_named_more : (name : List ℕ) (lines : List Line) (i : ℕ) (line : Line) → i < length lines

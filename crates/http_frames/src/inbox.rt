@@ -104,14 +104,16 @@ fn take_frame(
     Ok(frame)
 }
 
-/// Reads what stands next.
+/// Reads what stands next. Where its lines are is written to `headers`.
 fn read_next<S: Source>(
     held: &mut Held,
     rooms: &mut Rooms,
+    headers: &mut [HeaderSpan],
     alloc: Global,
     src: &mut S,
     side: Side,
 ) -> Result<Next, FrameFault>
+    requires { length headers.old ≡ lines_limit }
     ensures message { IfMessage result
         (GivesAsNeeded side (S.left src.old) (S.left src.new) held.old held.new src.old src.new) }
     ensures kept { UnlessMessage result
@@ -126,11 +128,10 @@ fn read_next<S: Source>(
     ensures cause { result ≡ Err FrameFault.ReadFault → Rose (S.faults src.old) (S.faults src.new) }
     ensures steady { result ≢ Err FrameFault.ReadFault → S.faults src.new ≡ S.faults src.old }
 {
-    let mut headers = [EMPTY_HEADER_SPAN; LINES_LIMIT];
     let mut walked = Walked::new(alloc);
-    match settle(held, src, side, &mut headers, &mut walked)? {
+    match settle(held, src, side, headers, &mut walked)? {
         Settled::Whole(spans) => {
-            let frame = take_frame(held, rooms, alloc, &headers, spans, walked.body)?;
+            let frame = take_frame(held, rooms, alloc, headers, spans, walked.body)?;
             Ok(Next::Message(frame))
         }
         Settled::End => Ok(Next::End),
@@ -145,12 +146,13 @@ fn is_refusal(next: &Result<Next, FrameFault>) -> bool
 }
 
 /// The bytes of a stream that were read and are not yet given in a frame, and some room for the
-/// texts of frames.
+/// texts of frames and the places of their lines.
 #[derive(Debug, Drop)]
 pub struct Inbox {
     held: Held,
     refused: bool,
     rooms: Rooms,
+    headers: [HeaderSpan; LINES_LIMIT],
 }
 
 impl Model for Inbox {
@@ -172,6 +174,7 @@ impl Inbox {
             held: Held::new(alloc)?,
             refused: false,
             rooms: Rooms::new(alloc),
+            headers: [EMPTY_HEADER_SPAN; LINES_LIMIT],
         })
     }
 
@@ -212,7 +215,14 @@ impl Inbox {
         if self.refused {
             return Err(FrameFault::NoFrame);
         }
-        let next = read_next(&mut self.held, &mut self.rooms, alloc, src, side);
+        let next = read_next(
+            &mut self.held,
+            &mut self.rooms,
+            &mut self.headers,
+            alloc,
+            src,
+            side,
+        );
         self.refused = is_refusal(&next);
         next
     }

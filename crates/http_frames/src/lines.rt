@@ -1,7 +1,7 @@
 //! The header lines of a message.
 ghost use Rattle.std.specs.Prelude.{◌≡◌};
 ghost use Rattle.http_frames.specs.Lines.{IsFound, found_as, found_with, found_with_line};
-ghost use Rattle.http_frames.specs.Lines.{values_named};
+ghost use Rattle.http_frames.specs.Lines.{is_same_name, values_named};
 
 use m2m_value::Text;
 use std::marker::Model;
@@ -31,6 +31,14 @@ pub enum Found<T> {
     Repeated,
 }
 
+/// Whether two names of fields are the same, without regard to case (RFC 9110, section 5.1). Most
+/// are spelled alike.
+fn is_named(name: &[u8], wanted: &[u8]) -> bool
+    ensures { result ≡ is_same_name name.now wanted.now }
+{
+    name == wanted || name.eq_ignore_ascii_case(wanted)
+}
+
 impl<T: Copy> Found<T> {
     /// With one more value behind what was found.
     pub(crate) fn and(self, value: T) -> Found<T>
@@ -49,7 +57,7 @@ impl<'a> Found<&'a [u8]> {
         ensures { found_as (λ value. value.now) result
             ≡ found_with_line (found_as (λ value. value.now) self.entry) name.now line.now }
     {
-        if line.0.entries().eq_ignore_ascii_case(name) {
+        if is_named(line.0.entries(), name) {
             self.and(line.1.entries())
         } else {
             self

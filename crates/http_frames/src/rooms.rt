@@ -22,8 +22,7 @@ pub(crate) struct Rooms {
     buffers: Vec<Vec<u8>>,
     lines: Vec<(Text, Text)>,
     ghost few: { length buffers.items ≤ 131 },
-    ghost small: { All (λ buffer. (buffer.items ≡ []) × (vec_capacity buffer ≤ 256))
-        buffers.items },
+    ghost small: { All (λ b. (b.items ≡ []) × (vec_capacity b ≤ 256)) buffers.items },
     ghost none: { lines.items ≡ [] },
     ghost little: { vec_capacity lines ≤ 64 },
 }
@@ -47,10 +46,13 @@ impl Rooms {
         }
     }
 
-    /// A text of these bytes.
+    /// A text of these bytes. That of none needs no buffer.
     pub(crate) fn text(&mut self, alloc: Global, bytes: &[u8]) -> Result<Text, AllocError>
         ensures { IfOk result (λ text. text ≡ bytes.now) }
     {
+        if bytes.is_empty() {
+            return Ok(Text::of(Vec::new(alloc)));
+        }
         let mut buffer = self.buffer(alloc, bytes.len())?;
         buffer.extend_from_slice(bytes)?;
         Ok(Text::of(buffer))
@@ -69,10 +71,13 @@ impl Rooms {
         Ok(lines)
     }
 
-    /// Keeps the room of a text that is done with, if it is little.
+    /// Keeps the room of a text that is done with, if there is some and it is little.
     fn keep(&mut self, text: Text) {
         let mut buffer = text.into_vec();
-        if buffer.capacity() <= MOST_ROOM && self.buffers.len() < MOST_BUFFERS {
+        if 0 < buffer.capacity()
+            && buffer.capacity() <= MOST_ROOM
+            && self.buffers.len() < MOST_BUFFERS
+        {
             buffer.clear();
             let _ = self.buffers.push(buffer);
         }

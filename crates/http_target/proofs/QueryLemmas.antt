@@ -16,10 +16,11 @@ use Rattle.m2m_names.proofs.StampReadingLemmas.{read_last}
 use Rattle.m2m_names.specs.declared.operations.Op.{Op}
 use Rattle.m2m_value.specs.Shapes.{is_label_text}
 use Rattle.filter_criteria.specs.Bounds.{IsMoment, IsCount}
-use Rattle.filter_criteria.specs.Conditions.{row_of_condition}
-use Rattle.filter_criteria.specs.Filters.{IsSoundFilter}
-use Rattle.filter_criteria.specs.Laws.{IsFilterOfKinds}
+use Rattle.filter_criteria.specs.Conditions.{sort_of_condition, ValueOf, FilterField, filter_field, OfEachCondition, no_conditions}
+use Rattle.filter_criteria.specs.Filters.{IsSoundValue, IsSoundFilter}
+use Rattle.filter_criteria.specs.Laws.{IsValueOfKind, IsFilterOfKinds}
 use Rattle.filter_criteria.specs.Values.{where_it}
+use Rattle.filter_criteria.proofs.Fields.{of_condition, each_condition}
 use Rattle.filter_criteria.specs.declared.condition.Condition.{Condition}
 use Rattle.filter_criteria.specs.declared.condition.Condition.TheVariants.{CreatedAfter, CreatedBefore, ExpireAfter, ExpireBefore, Usage, OneLabel, Limit, ModifiedSince, StateTagBigger, StateTagSmaller, SizeAbove, SizeBelow, OneType, UnmodifiedSince}
 use Rattle.filter_criteria.specs.declared.condition.Sort.{Sort}
@@ -36,7 +37,7 @@ use Rattle.http_target.specs.declared.query.Key.TheVariants.{ResultContent, Resp
 use Rattle.http_target.specs.declared.query.Query.{Query}
 use Rattle.http_target.specs.Chain.{and_then}
 use Rattle.http_target.specs.Said.{said_by}
-use Rattle.http_target.specs.Queries.{Pair, key_named, whole_spelled, is_result, result_spelled, form_spelled, usage_spelled, words_of, spells_label, labels_spelled, type_spelled, is_type_text, types_spelled, placed, no_conditions, with_moment, with_number, with_usage, with_labels, with_types, with_sort, with_condition, nothing_said, with_result, with_response, with_form, with_filter, with_key, said_more, pair_said}
+use Rattle.http_target.specs.Queries.{Pair, key_named, whole_spelled, is_result, result_spelled, form_spelled, usage_spelled, words_of, spells_label, labels_spelled, type_spelled, is_type_text, types_spelled, placed, placed_in, with_moment, with_number, with_usage, with_labels, with_types, with_sort, with_condition, nothing_said, with_result, with_response, with_form, with_filter, with_key, said_more, pair_said}
 
 -- what a chain that gives a value has read first, and what it has gone on to
 pub record Reads {T U : Type 0} (part : Result T BindFault) (next : T → Result U BindFault) (value : U) : Type 0 where
@@ -108,40 +109,58 @@ types_of s =
 
 -- ---- the filter
 
+-- what a query says of a condition of each sort
+abbrev pub IsSaidValue : (sort : Sort) → ValueOf sort → Type 0
+IsSaidValue Moment at = IfSome at IsMoment
+IsSaidValue Count n = IfSome n IsCount
+IsSaidValue Labels labels = list_all spells_label labels ≡ true
+IsSaidValue Types types = list_all is_type_number types ≡ true
+IsSaidValue Use usage = Unit {0}
+
 -- a filter as a query says it
-pub record IsSaidFilter (f : FilterParts) : Type 0 where
-  pub crb : IfSome f.crb IsMoment
-  pub cra : IfSome f.cra IsMoment
-  pub ms : IfSome f.ms IsMoment
-  pub us : IfSome f.us IsMoment
-  pub sts : IfSome f.sts IsCount
-  pub stb : IfSome f.stb IsCount
-  pub exb : IfSome f.exb IsMoment
-  pub exa : IfSome f.exa IsMoment
-  pub lbl : list_all spells_label f.lbl ≡ true
-  pub ty : list_all is_type_number f.ty ≡ true
-  pub sza : IfSome f.sza IsCount
-  pub szb : IfSome f.szb IsCount
-  pub lim : IfSome f.lim IsCount
+abbrev pub IsSaidFilter : FilterParts → Type 0
+IsSaidFilter f = OfEachCondition IsSaidValue f
 
 none_said : IsSaidFilter no_conditions
-none_said = record { crb = tt; cra = tt; ms = tt; us = tt; sts = tt; stb = tt; exb = tt; exa = tt; lbl = refl; ty = refl; sza = tt; szb = tt; lim = tt }
+none_said = (tt, (tt, (tt, (tt, (tt, (refl, (tt, (tt, (tt, (tt, (tt, (tt, (refl, (tt, tt))))))))))))))
+
+-- the other fields stay
+field_said : (condition : Condition) (value : ValueOf (sort_of_condition condition)) (f : FilterParts) → IsSaidFilter f → IsSaidValue (sort_of_condition condition) value → IsSaidFilter ((filter_field condition).with_value value f)
+field_said CreatedAfter value f h fits = (fits, h.1)
+field_said CreatedBefore value f h fits = (h.0, (fits, h.1.1))
+field_said ExpireAfter value f h fits = (h.0, (h.1.0, (fits, h.1.1.1)))
+field_said ExpireBefore value f h fits = (h.0, (h.1.0, (h.1.1.0, (fits, h.1.1.1.1))))
+field_said Usage value f h fits = (h.0, (h.1.0, (h.1.1.0, (h.1.1.1.0, (fits, h.1.1.1.1.1)))))
+field_said OneLabel value f h fits = (h.0, (h.1.0, (h.1.1.0, (h.1.1.1.0, (h.1.1.1.1.0, (fits, h.1.1.1.1.1.1))))))
+field_said Limit value f h fits = (h.0, (h.1.0, (h.1.1.0, (h.1.1.1.0, (h.1.1.1.1.0, (h.1.1.1.1.1.0, (fits, h.1.1.1.1.1.1.1)))))))
+field_said ModifiedSince value f h fits = (h.0, (h.1.0, (h.1.1.0, (h.1.1.1.0, (h.1.1.1.1.0, (h.1.1.1.1.1.0, (h.1.1.1.1.1.1.0, (fits, h.1.1.1.1.1.1.1.1))))))))
+field_said StateTagBigger value f h fits = (h.0, (h.1.0, (h.1.1.0, (h.1.1.1.0, (h.1.1.1.1.0, (h.1.1.1.1.1.0, (h.1.1.1.1.1.1.0, (h.1.1.1.1.1.1.1.0, (fits, h.1.1.1.1.1.1.1.1.1)))))))))
+field_said StateTagSmaller value f h fits = (h.0, (h.1.0, (h.1.1.0, (h.1.1.1.0, (h.1.1.1.1.0, (h.1.1.1.1.1.0, (h.1.1.1.1.1.1.0, (h.1.1.1.1.1.1.1.0, (h.1.1.1.1.1.1.1.1.0, (fits, h.1.1.1.1.1.1.1.1.1.1))))))))))
+field_said SizeAbove value f h fits = (h.0, (h.1.0, (h.1.1.0, (h.1.1.1.0, (h.1.1.1.1.0, (h.1.1.1.1.1.0, (h.1.1.1.1.1.1.0, (h.1.1.1.1.1.1.1.0, (h.1.1.1.1.1.1.1.1.0, (h.1.1.1.1.1.1.1.1.1.0, (fits, h.1.1.1.1.1.1.1.1.1.1.1)))))))))))
+field_said SizeBelow value f h fits = (h.0, (h.1.0, (h.1.1.0, (h.1.1.1.0, (h.1.1.1.1.0, (h.1.1.1.1.1.0, (h.1.1.1.1.1.1.0, (h.1.1.1.1.1.1.1.0, (h.1.1.1.1.1.1.1.1.0, (h.1.1.1.1.1.1.1.1.1.0, (h.1.1.1.1.1.1.1.1.1.1.0, (fits, h.1.1.1.1.1.1.1.1.1.1.1.1))))))))))))
+field_said OneType value f h fits = (h.0, (h.1.0, (h.1.1.0, (h.1.1.1.0, (h.1.1.1.1.0, (h.1.1.1.1.1.0, (h.1.1.1.1.1.1.0, (h.1.1.1.1.1.1.1.0, (h.1.1.1.1.1.1.1.1.0, (h.1.1.1.1.1.1.1.1.1.0, (h.1.1.1.1.1.1.1.1.1.1.0, (h.1.1.1.1.1.1.1.1.1.1.1.0, (fits, h.1.1.1.1.1.1.1.1.1.1.1.1.1)))))))))))))
+field_said UnmodifiedSince value f h fits = (h.0, (h.1.0, (h.1.1.0, (h.1.1.1.0, (h.1.1.1.1.0, (h.1.1.1.1.1.0, (h.1.1.1.1.1.1.0, (h.1.1.1.1.1.1.1.0, (h.1.1.1.1.1.1.1.1.0, (h.1.1.1.1.1.1.1.1.1.0, (h.1.1.1.1.1.1.1.1.1.1.0, (h.1.1.1.1.1.1.1.1.1.1.1.0, (h.1.1.1.1.1.1.1.1.1.1.1.1.0, (fits, h.1.1.1.1.1.1.1.1.1.1.1.1.1.1))))))))))))))
+
+-- with what is placed in a field
+placed_said : {A : Type 0} (field : FilterField (Option A)) (P : A → Type 0) (value : Option A) (f : FilterParts) → IfSome (field.value f) P → IfSome value P → ((o : Option A) → IfSome o P → IsSaidFilter (field.with_value o f)) → IfSome (placed_in field value f) IsSaidFilter
+placed_said field P value f held good fits =
+    mapped (λ o. IfSome o P) IsSaidFilter (λ o. field.with_value o f) (placed (field.value f) value) (placed_holds P (field.value f) value held good) fits
 
 moment_said : (condition : Condition) (at : Option ℕ) (f : FilterParts) → IsSaidFilter f → IfSome at IsMoment → IfSome (with_moment condition at f) IsSaidFilter
-moment_said CreatedAfter at f h good = mapped (λ o. IfSome o IsMoment) IsSaidFilter (λ o. record f { cra = o }) (placed f.cra at) (placed_holds IsMoment f.cra at h.cra good) (λ o fits. record { crb = h.crb; cra = fits; ms = h.ms; us = h.us; sts = h.sts; stb = h.stb; exb = h.exb; exa = h.exa; lbl = h.lbl; ty = h.ty; sza = h.sza; szb = h.szb; lim = h.lim })
-moment_said CreatedBefore at f h good = mapped (λ o. IfSome o IsMoment) IsSaidFilter (λ o. record f { crb = o }) (placed f.crb at) (placed_holds IsMoment f.crb at h.crb good) (λ o fits. record { crb = fits; cra = h.cra; ms = h.ms; us = h.us; sts = h.sts; stb = h.stb; exb = h.exb; exa = h.exa; lbl = h.lbl; ty = h.ty; sza = h.sza; szb = h.szb; lim = h.lim })
-moment_said ExpireAfter at f h good = mapped (λ o. IfSome o IsMoment) IsSaidFilter (λ o. record f { exa = o }) (placed f.exa at) (placed_holds IsMoment f.exa at h.exa good) (λ o fits. record { crb = h.crb; cra = h.cra; ms = h.ms; us = h.us; sts = h.sts; stb = h.stb; exb = h.exb; exa = fits; lbl = h.lbl; ty = h.ty; sza = h.sza; szb = h.szb; lim = h.lim })
-moment_said ExpireBefore at f h good = mapped (λ o. IfSome o IsMoment) IsSaidFilter (λ o. record f { exb = o }) (placed f.exb at) (placed_holds IsMoment f.exb at h.exb good) (λ o fits. record { crb = h.crb; cra = h.cra; ms = h.ms; us = h.us; sts = h.sts; stb = h.stb; exb = fits; exa = h.exa; lbl = h.lbl; ty = h.ty; sza = h.sza; szb = h.szb; lim = h.lim })
+moment_said CreatedAfter at f h good = placed_said (filter_field CreatedAfter) IsMoment at f (of_condition IsSaidValue f h CreatedAfter) good (λ o fits. field_said CreatedAfter o f h fits)
+moment_said CreatedBefore at f h good = placed_said (filter_field CreatedBefore) IsMoment at f (of_condition IsSaidValue f h CreatedBefore) good (λ o fits. field_said CreatedBefore o f h fits)
+moment_said ExpireAfter at f h good = placed_said (filter_field ExpireAfter) IsMoment at f (of_condition IsSaidValue f h ExpireAfter) good (λ o fits. field_said ExpireAfter o f h fits)
+moment_said ExpireBefore at f h good = placed_said (filter_field ExpireBefore) IsMoment at f (of_condition IsSaidValue f h ExpireBefore) good (λ o fits. field_said ExpireBefore o f h fits)
 moment_said Usage at f h good = tt
 moment_said OneLabel at f h good = tt
 moment_said Limit at f h good = tt
-moment_said ModifiedSince at f h good = mapped (λ o. IfSome o IsMoment) IsSaidFilter (λ o. record f { ms = o }) (placed f.ms at) (placed_holds IsMoment f.ms at h.ms good) (λ o fits. record { crb = h.crb; cra = h.cra; ms = fits; us = h.us; sts = h.sts; stb = h.stb; exb = h.exb; exa = h.exa; lbl = h.lbl; ty = h.ty; sza = h.sza; szb = h.szb; lim = h.lim })
+moment_said ModifiedSince at f h good = placed_said (filter_field ModifiedSince) IsMoment at f (of_condition IsSaidValue f h ModifiedSince) good (λ o fits. field_said ModifiedSince o f h fits)
 moment_said StateTagBigger at f h good = tt
 moment_said StateTagSmaller at f h good = tt
 moment_said SizeAbove at f h good = tt
 moment_said SizeBelow at f h good = tt
 moment_said OneType at f h good = tt
-moment_said UnmodifiedSince at f h good = mapped (λ o. IfSome o IsMoment) IsSaidFilter (λ o. record f { us = o }) (placed f.us at) (placed_holds IsMoment f.us at h.us good) (λ o fits. record { crb = h.crb; cra = h.cra; ms = h.ms; us = fits; sts = h.sts; stb = h.stb; exb = h.exb; exa = h.exa; lbl = h.lbl; ty = h.ty; sza = h.sza; szb = h.szb; lim = h.lim })
+moment_said UnmodifiedSince at f h good = placed_said (filter_field UnmodifiedSince) IsMoment at f (of_condition IsSaidValue f h UnmodifiedSince) good (λ o fits. field_said UnmodifiedSince o f h fits)
 
 number_said : (condition : Condition) (n : Option ℕ) (f : FilterParts) → IsSaidFilter f → IfSome n IsCount → IfSome (with_number condition n f) IsSaidFilter
 number_said CreatedAfter n f h good = tt
@@ -150,27 +169,27 @@ number_said ExpireAfter n f h good = tt
 number_said ExpireBefore n f h good = tt
 number_said Usage n f h good = tt
 number_said OneLabel n f h good = tt
-number_said Limit n f h good = mapped (λ o. IfSome o IsCount) IsSaidFilter (λ o. record f { lim = o }) (placed f.lim n) (placed_holds IsCount f.lim n h.lim good) (λ o fits. record { crb = h.crb; cra = h.cra; ms = h.ms; us = h.us; sts = h.sts; stb = h.stb; exb = h.exb; exa = h.exa; lbl = h.lbl; ty = h.ty; sza = h.sza; szb = h.szb; lim = fits })
+number_said Limit n f h good = placed_said (filter_field Limit) IsCount n f (of_condition IsSaidValue f h Limit) good (λ o fits. field_said Limit o f h fits)
 number_said ModifiedSince n f h good = tt
-number_said StateTagBigger n f h good = mapped (λ o. IfSome o IsCount) IsSaidFilter (λ o. record f { stb = o }) (placed f.stb n) (placed_holds IsCount f.stb n h.stb good) (λ o fits. record { crb = h.crb; cra = h.cra; ms = h.ms; us = h.us; sts = h.sts; stb = fits; exb = h.exb; exa = h.exa; lbl = h.lbl; ty = h.ty; sza = h.sza; szb = h.szb; lim = h.lim })
-number_said StateTagSmaller n f h good = mapped (λ o. IfSome o IsCount) IsSaidFilter (λ o. record f { sts = o }) (placed f.sts n) (placed_holds IsCount f.sts n h.sts good) (λ o fits. record { crb = h.crb; cra = h.cra; ms = h.ms; us = h.us; sts = fits; stb = h.stb; exb = h.exb; exa = h.exa; lbl = h.lbl; ty = h.ty; sza = h.sza; szb = h.szb; lim = h.lim })
-number_said SizeAbove n f h good = mapped (λ o. IfSome o IsCount) IsSaidFilter (λ o. record f { sza = o }) (placed f.sza n) (placed_holds IsCount f.sza n h.sza good) (λ o fits. record { crb = h.crb; cra = h.cra; ms = h.ms; us = h.us; sts = h.sts; stb = h.stb; exb = h.exb; exa = h.exa; lbl = h.lbl; ty = h.ty; sza = fits; szb = h.szb; lim = h.lim })
-number_said SizeBelow n f h good = mapped (λ o. IfSome o IsCount) IsSaidFilter (λ o. record f { szb = o }) (placed f.szb n) (placed_holds IsCount f.szb n h.szb good) (λ o fits. record { crb = h.crb; cra = h.cra; ms = h.ms; us = h.us; sts = h.sts; stb = h.stb; exb = h.exb; exa = h.exa; lbl = h.lbl; ty = h.ty; sza = h.sza; szb = fits; lim = h.lim })
+number_said StateTagBigger n f h good = placed_said (filter_field StateTagBigger) IsCount n f (of_condition IsSaidValue f h StateTagBigger) good (λ o fits. field_said StateTagBigger o f h fits)
+number_said StateTagSmaller n f h good = placed_said (filter_field StateTagSmaller) IsCount n f (of_condition IsSaidValue f h StateTagSmaller) good (λ o fits. field_said StateTagSmaller o f h fits)
+number_said SizeAbove n f h good = placed_said (filter_field SizeAbove) IsCount n f (of_condition IsSaidValue f h SizeAbove) good (λ o fits. field_said SizeAbove o f h fits)
+number_said SizeBelow n f h good = placed_said (filter_field SizeBelow) IsCount n f (of_condition IsSaidValue f h SizeBelow) good (λ o fits. field_said SizeBelow o f h fits)
 number_said OneType n f h good = tt
 number_said UnmodifiedSince n f h good = tt
 
 usage_said : (usage : Option FilterUsage) (f : FilterParts) → IsSaidFilter f → IfSome (with_usage usage f) IsSaidFilter
-usage_said usage f h = mapped (λ _. Unit {0}) IsSaidFilter (λ o. record f { fu = o }) (placed f.fu usage) (any_of (placed f.fu usage)) (λ o _. record { crb = h.crb; cra = h.cra; ms = h.ms; us = h.us; sts = h.sts; stb = h.stb; exb = h.exb; exa = h.exa; lbl = h.lbl; ty = h.ty; sza = h.sza; szb = h.szb; lim = h.lim })
+usage_said usage f h = placed_said (filter_field Usage) (λ _. Unit {0}) usage f (any_of f.fu) (any_of usage) (λ o _. field_said Usage o f h tt)
 
 labels_said : (labels : Option (List (List ℕ))) (f : FilterParts) → IsSaidFilter f → IfSome labels (λ l. list_all spells_label l ≡ true) → IfSome (with_labels labels f) IsSaidFilter
 labels_said labels f h good =
-    mapped (λ l. list_all spells_label l ≡ true) IsSaidFilter (λ more. record f { lbl = f.lbl ++ more }) labels good
-    (λ l fits. record { crb = h.crb; cra = h.cra; ms = h.ms; us = h.us; sts = h.sts; stb = h.stb; exb = h.exb; exa = h.exa; lbl = all_append spells_label f.lbl l h.lbl fits; ty = h.ty; sza = h.sza; szb = h.szb; lim = h.lim })
+    mapped (λ l. list_all spells_label l ≡ true) IsSaidFilter (λ more. (filter_field OneLabel).with_value (f.lbl ++ more) f) labels good
+    (λ l fits. field_said OneLabel (f.lbl ++ l) f h (all_append spells_label f.lbl l (of_condition IsSaidValue f h OneLabel) fits))
 
 types_said : (types : Option (List ℕ)) (f : FilterParts) → IsSaidFilter f → IfSome types (λ l. list_all is_type_number l ≡ true) → IfSome (with_types types f) IsSaidFilter
 types_said types f h good =
-    mapped (λ l. list_all is_type_number l ≡ true) IsSaidFilter (λ more. record f { ty = f.ty ++ more }) types good
-    (λ l fits. record { crb = h.crb; cra = h.cra; ms = h.ms; us = h.us; sts = h.sts; stb = h.stb; exb = h.exb; exa = h.exa; lbl = h.lbl; ty = all_append is_type_number f.ty l h.ty fits; sza = h.sza; szb = h.szb; lim = h.lim })
+    mapped (λ l. list_all is_type_number l ≡ true) IsSaidFilter (λ more. (filter_field OneType).with_value (f.ty ++ more) f) types good
+    (λ l fits. field_said OneType (f.ty ++ l) f h (all_append is_type_number f.ty l (of_condition IsSaidValue f h OneType) fits))
 
 sort_said : (sort : Sort) (condition : Condition) (s : List ℕ) (f : FilterParts) → IsSaidFilter f → IfSome (with_sort sort condition s f) IsSaidFilter
 sort_said Moment condition s f h = moment_said condition (moment_at s) f h (moment_of s)
@@ -199,11 +218,25 @@ types_counts [] h = tt
 types_counts (n ∷ types) h =
     let parts = and_parts (is_type_number n) (list_all is_type_number types) h in (short_count n parts.0, types_counts types parts.1)
 
+value_sound : (sort : Sort) (value : ValueOf sort) → IsSaidValue sort value → IsSoundValue sort value
+value_sound Moment at h = h
+value_sound Count n h = h
+value_sound Labels labels h = labels_utf8 labels h
+value_sound Types types h = types_counts types h
+value_sound Use usage h = tt
+
 pub filter_sound : (f : FilterParts) → IsSaidFilter f → IsSoundFilter f
-filter_sound f h = record { crb = h.crb; cra = h.cra; ms = h.ms; us = h.us; sts = h.sts; stb = h.stb; exb = h.exb; exa = h.exa; lbl = labels_utf8 f.lbl h.lbl; ty = types_counts f.ty h.ty; sza = h.sza; szb = h.szb; lim = h.lim }
+filter_sound f h = each_condition IsSaidValue IsSoundValue value_sound f h
+
+value_of_kind : (sort : Sort) (value : ValueOf sort) → IsSaidValue sort value → IsValueOfKind sort value
+value_of_kind Moment at h = h
+value_of_kind Count n h = tt
+value_of_kind Labels labels h = labels_filled labels h
+value_of_kind Types types h = h
+value_of_kind Use usage h = tt
 
 pub filter_kinds : (f : FilterParts) → IsSaidFilter f → IsFilterOfKinds f
-filter_kinds f h = record { crb = h.crb; cra = h.cra; ms = h.ms; us = h.us; exb = h.exb; exa = h.exa; lbl = labels_filled f.lbl h.lbl; ty = h.ty }
+filter_kinds f h = each_condition IsSaidValue IsValueOfKind value_of_kind f h
 
 -- ---- the query
 
@@ -238,7 +271,7 @@ filter_said : (op : Op) (condition : Condition) (s : List ℕ) (q : Query) → r
 filter_said op condition s q reads h =
     let before = unwrap_or q.fc no_conditions in
     mapped IsSaidFilter (IsSaid op) (λ f. record q { fc = Some f }) (with_condition condition s before)
-    (sort_said (row_of_condition condition).sort condition s before (filter_held op q.fc h.fc))
+    (sort_said (sort_of_condition condition) condition s before (filter_held op q.fc h.fc))
     (λ f fits. record { rcn = h.rcn; fc = (reads, fits); drt = h.drt })
 
 filter_by : (op : Op) (condition : Condition) (s : List ℕ) (q : Query) (b : Bool) → retrieves op ≡ b → IsSaid op q → IfSome (if b then with_filter condition s q else None) (IsSaid op)

@@ -12,7 +12,8 @@ use Rattle.m2m_names.specs.StampReading.{moment_at}
 use Rattle.m2m_names.specs.Types.{is_type_number}
 use Rattle.m2m_names.specs.declared.operations.Op.{Op}
 use Rattle.m2m_value.specs.Shapes.{is_label_text}
-use Rattle.filter_criteria.specs.Conditions.{condition_named, row_of_condition, usage_numbered}
+use Rattle.filter_criteria.specs.Conditions.{condition_named, sort_of_condition, usage_numbered}
+use Rattle.filter_criteria.specs.Conditions.{FilterField, filter_field, asked_of, no_conditions}
 use Rattle.filter_criteria.specs.Values.{where_it}
 use Rattle.filter_criteria.specs.declared.condition.Condition.{Condition}
 use Rattle.filter_criteria.specs.declared.condition.Condition.TheVariants.{CreatedAfter}
@@ -21,6 +22,7 @@ use Rattle.filter_criteria.specs.declared.condition.Condition.TheVariants.{Expir
 use Rattle.filter_criteria.specs.declared.condition.Condition.TheVariants.{ExpireBefore}
 use Rattle.filter_criteria.specs.declared.condition.Condition.TheVariants.{Limit}
 use Rattle.filter_criteria.specs.declared.condition.Condition.TheVariants.{ModifiedSince}
+use Rattle.filter_criteria.specs.declared.condition.Condition.TheVariants.{OneLabel, OneType, Usage}
 use Rattle.filter_criteria.specs.declared.condition.Condition.TheVariants.{StateTagBigger}
 use Rattle.filter_criteria.specs.declared.condition.Condition.TheVariants.{StateTagSmaller}
 use Rattle.filter_criteria.specs.declared.condition.Condition.TheVariants.{SizeAbove, SizeBelow}
@@ -128,52 +130,40 @@ placed place None = None
 placed None (Some value) = Some (Some value)
 placed (Some old) (Some value) = None
 
--- a filter without conditions
-abbrev pub no_conditions : FilterParts
-no_conditions = record {
-  crb = None;
-  cra = None;
-  ms = None;
-  us = None;
-  sts = None;
-  stb = None;
-  exb = None;
-  exa = None;
-  lbl = [];
-  ty = [];
-  sza = None;
-  szb = None;
-  fu = None;
-  lim = None;
-}
+-- the filter with what one more condition says, in a field that is empty
+abbrev pub placed_in : {A : Type 0} → FilterField (Option A) → Option A → FilterParts
+    → Option FilterParts
+placed_in field value f = option_map (λ o. field.with_value o f) (placed (field.value f) value)
 
 -- the filter with one more condition on a moment, on a number, or on its use
 abbrev pub with_moment : Condition → Option ℕ → FilterParts → Option FilterParts
-with_moment CreatedAfter at f = option_map (λ o. record f { cra = o }) (placed f.cra at)
-with_moment CreatedBefore at f = option_map (λ o. record f { crb = o }) (placed f.crb at)
-with_moment ExpireAfter at f = option_map (λ o. record f { exa = o }) (placed f.exa at)
-with_moment ExpireBefore at f = option_map (λ o. record f { exb = o }) (placed f.exb at)
-with_moment ModifiedSince at f = option_map (λ o. record f { ms = o }) (placed f.ms at)
-with_moment UnmodifiedSince at f = option_map (λ o. record f { us = o }) (placed f.us at)
+with_moment CreatedAfter at f = placed_in (filter_field CreatedAfter) at f
+with_moment CreatedBefore at f = placed_in (filter_field CreatedBefore) at f
+with_moment ExpireAfter at f = placed_in (filter_field ExpireAfter) at f
+with_moment ExpireBefore at f = placed_in (filter_field ExpireBefore) at f
+with_moment ModifiedSince at f = placed_in (filter_field ModifiedSince) at f
+with_moment UnmodifiedSince at f = placed_in (filter_field UnmodifiedSince) at f
 with_moment condition at f = None
 
 abbrev pub with_number : Condition → Option ℕ → FilterParts → Option FilterParts
-with_number Limit n f = option_map (λ o. record f { lim = o }) (placed f.lim n)
-with_number StateTagBigger n f = option_map (λ o. record f { stb = o }) (placed f.stb n)
-with_number StateTagSmaller n f = option_map (λ o. record f { sts = o }) (placed f.sts n)
-with_number SizeAbove n f = option_map (λ o. record f { sza = o }) (placed f.sza n)
-with_number SizeBelow n f = option_map (λ o. record f { szb = o }) (placed f.szb n)
+with_number Limit n f = placed_in (filter_field Limit) n f
+with_number StateTagBigger n f = placed_in (filter_field StateTagBigger) n f
+with_number StateTagSmaller n f = placed_in (filter_field StateTagSmaller) n f
+with_number SizeAbove n f = placed_in (filter_field SizeAbove) n f
+with_number SizeBelow n f = placed_in (filter_field SizeBelow) n f
 with_number condition n f = None
 
 abbrev pub with_usage : Option FilterUsage → FilterParts → Option FilterParts
-with_usage usage f = option_map (λ o. record f { fu = o }) (placed f.fu usage)
+with_usage usage f = placed_in (filter_field Usage) usage f
 
 -- the filter with more labels, or more types, behind those before, where there are any
 abbrev pub with_labels : Option (List (List ℕ)) → FilterParts → Option FilterParts
-with_labels labels f = option_map (λ more. record f { lbl = f.lbl ++ more }) labels
+with_labels labels f =
+    option_map (λ more. (filter_field OneLabel).with_value (asked_of OneLabel f ++ more) f) labels
 
 abbrev pub with_types : Option (List ℕ) → FilterParts → Option FilterParts
-with_types types f = option_map (λ more. record f { ty = f.ty ++ more }) types
+with_types types f =
+    option_map (λ more. (filter_field OneType).with_value (asked_of OneType f ++ more) f) types
 
 -- the filter with what a text says of a condition of this sort
 abbrev pub with_sort : Sort → Condition → List ℕ → FilterParts → Option FilterParts
@@ -185,7 +175,7 @@ with_sort Use condition s f = with_usage (usage_spelled s) f
 
 -- the filter with one more condition, where the text is that of its sort
 abbrev pub with_condition : Condition → List ℕ → FilterParts → Option FilterParts
-with_condition condition s f = with_sort (row_of_condition condition).sort condition s f
+with_condition condition s f = with_sort (sort_of_condition condition) condition s f
 
 -- a query that says nothing
 abbrev pub nothing_said : Query

@@ -1,6 +1,7 @@
 //! The query of a request: its pairs, and what they say.
 ghost use Rattle.std.specs.Prelude.{◌≡◌, ◌++◌, ◌∷◌, [], IfOk, OnOk, option_map};
 ghost use Rattle.std.specs.List.{list_all, filter_map};
+ghost use Rattle.filter_criteria.specs.Conditions.{no_conditions};
 ghost use Rattle.http_target.specs.Chain.{ReadsAs};
 ghost use Rattle.http_target.specs.Said.{said_by, query_of};
 ghost use Rattle.http_target.specs.Queries as spec;
@@ -360,7 +361,7 @@ fn with_condition(
 
 /// A filter without conditions.
 fn no_conditions(alloc: Global) -> FilterParts
-    ensures { result ≡ spec.no_conditions }
+    ensures { result ≡ no_conditions }
 {
     FilterParts {
         crb: None,

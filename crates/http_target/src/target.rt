@@ -66,6 +66,19 @@ pub fn index_of(mark: u8, text: &[u8]) -> usize
     text.iter().take_while(|byte| **byte != mark).count()
 }
 
+/// What stands before the first mark, or all, and what stands behind it, if there is one.
+fn split_at_mark(mark: u8, text: &[u8]) -> (&[u8], Option<&[u8]>)
+    ensures front { result.0.now ≡ uri.split_once_front mark text.now }
+    ensures back { option_copied result.1 ≡ uri.split_once_back mark text.now }
+{
+    let place = index_of(mark, text);
+    if place < text.len() {
+        (&text[..place], Some(&text[place + 1..]))
+    } else {
+        (&text[..place], None)
+    }
+}
+
 /// What stands before the first mark, or all.
 pub fn before(mark: u8, text: &[u8]) -> &[u8]
     ensures { result.now ≡ uri.split_once_front mark text.now }
@@ -77,12 +90,7 @@ pub fn before(mark: u8, text: &[u8]) -> &[u8]
 pub fn behind(mark: u8, text: &[u8]) -> Option<&[u8]>
     ensures { option_copied result ≡ uri.split_once_back mark text.now }
 {
-    let place = index_of(mark, text);
-    if place < text.len() {
-        Some(&text[place + 1..])
-    } else {
-        None
-    }
+    split_at_mark(mark, text).1
 }
 
 pub(crate) fn is_text(bytes: &[u8]) -> bool
@@ -94,29 +102,22 @@ pub(crate) fn is_text(bytes: &[u8]) -> bool
     }
 }
 
-/// The path of a text, which is `/` where the text has none.
-fn path_of(text: &[u8]) -> &[u8]
-    ensures { result.now ≡ (spec.split_target text.now).path }
-{
-    let path = before(b'?', text);
-    if path.is_empty() { b"/" } else { path }
-}
-
+/// The path, which is `/` where the text has none, and the query.
 fn split_target(text: &[u8]) -> PathAndQuery<'_>
     ensures { seen_parts result ≡ spec.split_target text.now }
 {
+    let (path, query) = split_at_mark(b'?', text);
     PathAndQuery {
-        path: path_of(text),
-        query: behind(b'?', text),
+        path: if path.is_empty() { b"/" } else { path },
+        query,
     }
 }
 
 pub(crate) fn is_path_and_query(text: &[u8]) -> bool
     ensures { result ≡ spec.is_path_and_query text.now }
 {
-    are_of_path(before(b'?', text))
-        && behind(b'?', text).is_none_or(|query| are_of_query(query))
-        && is_text(text)
+    let (path, query) = split_at_mark(b'?', text);
+    are_of_path(path) && query.is_none_or(|query| are_of_query(query)) && is_text(text)
 }
 
 /// Whether the target, whose text without a fragment this is, is in origin-form.

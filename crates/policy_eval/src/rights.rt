@@ -37,12 +37,16 @@ fn with_rule(home: &Home, o: &[u8], bits: u32, rule: &Val) -> u32
     }
 }
 
-/// The bits, and those that rules give the originator besides.
+/// The bits, and those that rules give the originator besides. Who has all bits gets no more.
+#[tactic(auto, using(crate::proofs::BitLemmas::all_had))]
 fn with_rules(home: &Home, o: &[u8], bits: u32, rules: &[Val]) -> u32
     ensures { result ≡ spec.with_rules home.now o.now bits (map spec_rules.stated_rule rules.now) }
 {
     let mut bits = bits;
     for rule in rules {
+        if bits == ALL_BITS {
+            return ALL_BITS;
+        }
         bits = with_rule(home, o, bits, rule);
     }
     bits

@@ -7,7 +7,9 @@ use Rattle.m2m_names.specs.Types.{is_type_number}
 use Rattle.m2m_names.specs.declared.operations.Op.{Op}
 use Rattle.m2m_value.specs.Data.{Data}
 use Rattle.m2m_value.specs.View.{as_object}
-use Rattle.filter_criteria.specs.Laws.{IsFilterOfKinds, are_fit_conditions, has_labels, has_type_numbers}
+use Rattle.filter_criteria.specs.Laws.{IsValueOfKind, IsFilterOfKinds, are_fit_conditions, are_labels, are_type_numbers}
+use Rattle.filter_criteria.proofs.Fields.{of_condition}
+use Rattle.filter_criteria.specs.declared.condition.Condition.TheVariants.{OneLabel, OneType}
 use Rattle.filter_criteria.specs.declared.filter.FilterParts.{FilterParts}
 use Rattle.primitive_json.specs.Bounds.{is_request_id}
 use Rattle.primitive_json.specs.Form.{has_fit_address_form, has_fit_content, has_fit_filter, has_fit_result, has_fit_type, has_form, has_no_more, is_only_read}
@@ -45,7 +47,7 @@ given p (Some v) of = of
 
 filtered : (op : Op) (fc : Option FilterParts) → IfSome fc (λ f. IsTrue (retrieves op) × IsFilterOfKinds f) → has_fit_filter op fc ≡ true
 filtered op None of = refl
-filtered op (Some f) of = and_from (retrieves op) (are_fit_conditions f) of.0 (and_from (has_labels f) (has_type_numbers f) of.1.lbl of.1.ty)
+filtered op (Some f) of = and_from (retrieves op) (are_fit_conditions f) of.0 (and_from (are_labels f.lbl) (are_type_numbers f.ty) (of_condition IsValueOfKind f of.1 OneLabel) (of_condition IsValueOfKind f of.1 OneType))
 
 conditions : (op : Op) (fc : Option FilterParts) → IfSome fc (λ f. IsTrue (retrieves op) × IsFilterOfKinds f) → IfSome fc IsFilterOfKinds
 conditions op None of = tt

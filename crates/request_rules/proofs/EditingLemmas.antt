@@ -1,15 +1,14 @@
 -- The order in which an Update is refused, by what it names.
-use Rattle.std.proofs.Common.{◌≡◌, ℕ, List, [], ◌∷◌, ◌++◌, Bool, true, false, ◌&&◌, not, Option, Some, None, option_and_then, unwrap_or, refl, sym, ap, ◌∙◌}
+use Rattle.std.proofs.Common.{◌≡◌, ℕ, List, [], ◌∷◌, ◌++◌, Bool, true, false, not, Option, Some, None, option_and_then, unwrap_or, refl, sym, ap, ◌∙◌}
 use Rattle.std.proofs.lemmas.Bool.{and_parts}
 use Rattle.std.specs.Option.{option_map_or, option_or}
 use Rattle.m2m_names.specs.declared.codes.Rsc.{Rsc}
 use Rattle.m2m_names.specs.declared.codes.Rsc.TheVariants.{BadRequest}
 use Rattle.m2m_names.specs.declared.operations.Op.TheVariants.{Update}
 use Rattle.m2m_names.specs.declared.types.Ty.{Ty}
-use Rattle.m2m_names.specs.declared.types.Ty.TheVariants.{Group}
 use Rattle.m2m_value.specs.Data.{Data, Entry}
 use Rattle.primitive_json.specs.declared.request.RequestParts.{RequestParts}
-use Rattle.resource_model.specs.Resource.{ResourceData, is_ty}
+use Rattle.resource_model.specs.Resource.{ResourceData}
 use Rattle.attribute_rules.specs.Admission.{are_admitted, attributes_in, is_admitted}
 use Rattle.attribute_rules.specs.declared.table.Writing.{Writing}
 use Rattle.attribute_rules.specs.declared.table.Writing.TheVariants.{Update as Updating}
@@ -32,7 +31,7 @@ some_content f g (Some d) t none = no_content g (f d) none t
 -- it is admitted for the type
 pub admitted_for : (writing : Writing) (request : RequestParts) (ty : Ty) → is_content_for writing request ty ≡ true → option_map_or (is_admitted writing ty) request.pc false ≡ true
 admitted_for writing request ty admitted =
-    (and_parts (not (is_ty ty Group) && not (names_copy (named_for request ty))) (option_map_or (is_admitted writing ty) request.pc false) admitted).1
+    (and_parts (not (names_copy (named_for request ty))) (option_map_or (is_admitted writing ty) request.pc false) admitted).1
 
 -- and names attributes
 pub names_some : (writing : Writing) (request : RequestParts) (ty : Ty) → is_content_for writing request ty ≡ true → content_for request ty ≡ None → ⊥

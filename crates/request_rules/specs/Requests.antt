@@ -9,7 +9,7 @@ use Rattle.m2m_names.specs.declared.operations.Op.{Op}
 use Rattle.m2m_names.specs.declared.operations.Op.TheVariants.{Create, Retrieve, Update, Delete}
 use Rattle.m2m_names.specs.declared.operations.Op.TheVariants.{Notify}
 use Rattle.m2m_names.specs.declared.types.Ty.{Ty}
-use Rattle.m2m_names.specs.declared.types.Ty.TheVariants.{Ae, ContentInstance, CseBase, Group}
+use Rattle.m2m_names.specs.declared.types.Ty.TheVariants.{Ae, ContentInstance, CseBase}
 use Rattle.m2m_value.specs.Data.{Entry}
 use Rattle.primitive_json.specs.declared.request.RequestParts.{RequestParts}
 use Rattle.resource_model.specs.Resource.{ResourceData, is_ty}
@@ -66,11 +66,11 @@ named_by op request r = option_map_or (named_for request) (content_ty op request
 abbrev pub names_copy : List Entry → Bool
 names_copy es = is_named At es || is_named Aa es
 
--- It is admitted for a resource of the type (TS-0004, 7.4). That of a group isn't, as long as
--- members aren't served, nor one that asks for copies, as long as none are made.
+-- It is admitted for a resource of the type (TS-0004, 7.4); so isn't one that asks for copies, as
+-- long as none are made.
 abbrev pub is_content_for : Writing → RequestParts → Ty → Bool
 is_content_for writing request ty =
-    not (is_ty ty Group) && not (names_copy (named_for request ty))
+    not (names_copy (named_for request ty))
     && option_map_or (is_admitted writing ty) request.pc false
 
 -- what is written is admitted

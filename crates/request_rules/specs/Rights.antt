@@ -15,8 +15,9 @@ use Rattle.m2m_value.specs.View.{as_object}
 use Rattle.filter_criteria.specs.declared.filter.FilterUsage.{FilterUsage}
 use Rattle.filter_criteria.specs.declared.filter.FilterUsage.TheVariants.{Discovery, Conditional}
 use Rattle.primitive_json.specs.declared.request.RequestParts.{RequestParts}
-use Rattle.policy_eval.specs.Rights.{discovery_bit, grants, relinks}
+use Rattle.policy_eval.specs.Rights.{grants, relinks}
 use Rattle.entity_model.specs.Entity.{EntityData}
+use Rattle.entity_model.specs.Places.{reading_bit}
 
 -- the originator has these bits on the resource of the number
 abbrev pub is_granted : EntityData → List ℕ → ℕ → ℕ → Bool
@@ -65,7 +66,7 @@ create_bits request =
     else (op_row Create).bit
 
 abbrev pub retrieve_bits : RequestParts → ℕ
-retrieve_bits request = if is_discovery request then discovery_bit else (op_row Retrieve).bit
+retrieve_bits request = reading_bit (is_discovery request)
 
 -- a change of `acpi` alone is judged by who may change it, every other Update by UPDATE
 abbrev pub may_update : EntityData → List ℕ → RequestParts → ℕ → Bool

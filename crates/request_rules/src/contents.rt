@@ -6,7 +6,7 @@ ghost use Rattle.attribute_rules.specs.declared.table.Writing.TheVariants.{Creat
 ghost use Rattle.attribute_rules.specs.Admission.{is_admitted};
 ghost use Rattle.request_rules.specs.Requests as spec;
 
-use crate::asking::{child_ty, is_ty};
+use crate::asking::child_ty;
 use attribute_rules::{admits_create, admits_update, attributes_in};
 use m2m_names::{Attr, Ty, read_stamp};
 use m2m_value::{Members, Val};
@@ -53,18 +53,14 @@ fn asks_for_copies(request: &Request, ty: Ty) -> bool
 pub(crate) fn is_created_by(request: &Request, ty: Ty) -> bool
     ensures { result ≡ spec.is_content_for Create request.now ty }
 {
-    !is_ty(ty, Ty::Group)
-        && !asks_for_copies(request, ty)
-        && is_admitted_new(ty, request.parts().pc.as_ref())
+    !asks_for_copies(request, ty) && is_admitted_new(ty, request.parts().pc.as_ref())
 }
 
 /// Whether the content is admitted for a resource of the type that is to be updated.
 pub(crate) fn is_updated_by(request: &Request, ty: Ty) -> bool
     ensures { result ≡ spec.is_content_for Update request.now ty }
 {
-    !is_ty(ty, Ty::Group)
-        && !asks_for_copies(request, ty)
-        && is_admitted_edit(ty, request.parts().pc.as_ref())
+    !asks_for_copies(request, ty) && is_admitted_edit(ty, request.parts().pc.as_ref())
 }
 
 /// Whether the content is admitted for what a Create names.

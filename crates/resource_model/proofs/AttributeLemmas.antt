@@ -2,7 +2,7 @@
 use Rattle.std.proofs.Common.{add-one, set, Result, Ok, Err, ◌≡◌, ℕ, zero, suc, ◌+◌, ◌<◌, ◌≤◌, ◌≢◌, List, [], ◌∷◌, ◌++◌, length, get_or, take, drop, Bool, true, false, cond, Option, Some, None, Ordering, Less, Equal, Greater, is_eq, inl, inr, refl, sym, ap, ◌∙◌, subst, arith}
 use Rattle.std.proofs.lemmas.Bool.{cases_lt, cases_Bool, false_from_ne_true}
 use Rattle.std.proofs.lemmas.Cmp.{nat_list_cmp_total, on_total, tied_itself}
-use Rattle.std.proofs.lemmas.List.{map-append, set_split, take-append-drop}
+use Rattle.std.proofs.lemmas.List.{drop_all, get_or_default, map-append, set_split, take-append-drop, take_all}
 use Rattle.std.proofs.lemmas.List.Kept.{IsStrictlySortedBy-filter}
 use Rattle.std.proofs.lemmas.List.Sorted.{searchable_from_sorted}
 use Rattle.std.proofs.lemmas.Map.Keys.{Less-from_sorted, sorted_tail}
@@ -98,6 +98,11 @@ is_attr-same a b t = tied_attr a b (is_equal _ t)
 pub is_attr-itself : (a : Attr) → is_attr a a ≡ true
 is_attr-itself a = ap is_eq (attr_itself a)
 
+lt_less : (o : Ordering) → is_lt o ≡ true → o ≡ Less
+lt_less Less t = refl
+lt_less Equal t = cc
+lt_less Greater t = cc
+
 less_not_equal : (o : Ordering) → o ≡ Less → o ≢ Equal
 less_not_equal o less equal = cc
 
@@ -141,6 +146,18 @@ lacks_row a rows i within below above = record {
   ]);
 }
 
+-- an attribute that comes behind that of the last row
+pub behind_last : (a : Attr) (rows : List Row) (i : ℕ) (e : Row) → AreInOrder rows → length rows ≡ i + 1 → e ≡ get_or rows i e → is_lt (attr_cmp e.0 a) ≡ true → LacksRow a rows (length rows)
+behind_last a rows i e sorted last is less =
+    let end : (d : Row) → attr_cmp (get_or rows i d).0 a ≡ Less = λ d. ap (λ (row : Row). attr_cmp row.0 a) (get_or_default rows i d e (omega (arith, last)) ∙ sym is) ∙ lt_less _ less in
+    lacks_row a rows (length rows) (omega arith) (λ k d low. elim (cases_lt k i) [
+      | inl before ↦ attr_total.trans _ _ a (row_order rows k i d sorted before (omega (arith, last))) (end d)
+      | inr reached ↦ let same : k ≡ i = omega (arith, last, low, reached) in ap (λ j. attr_cmp (get_or rows j d).0 a) same ∙ end d
+    ]) (λ k d from inside. absurd (omega (arith, from, inside)))
+
+pub no_rows_lack : (a : Attr) (rows : List Row) → length rows ≡ 0 → LacksRow a rows (length rows)
+no_rows_lack a rows none = lacks_row a rows (length rows) (omega arith) (λ k d low. absurd (omega (arith, none, low))) (λ k d from inside. absurd (omega (arith, none, inside)))
+
 -- what a search by halving asks
 pub searchable : (rows : List Row) (a : Attr) → AreInOrder rows → IsNonDecreasingBy (λ row. ordering_index (attr_cmp row.0 a)) rows
 searchable rows a sorted = searchable_from_sorted attr_total (λ row. row.0) rows a (λ k d low within. falls_back (get_or rows k d).0 (get_or rows (k + 1) d).0 (row_order rows k (k + 1) d sorted (omega arith) (omega arith)))
@@ -179,11 +196,6 @@ sorted_with : (a : Attr) (xs ys : List Attr) → IsStrictlySortedBy attr_cmp xs 
 unfolding IsStrictlySortedBy
 sorted_with a [] ys sx sy below above = (above, sy)
 sorted_with a (x ∷ xs) ys sx sy below above = (all_joined (λ y. attr_cmp x y ≡ Less) xs (a ∷ ys) sx.0 (below.0, all_beyond x a ys below.0 above), sorted_with a xs ys sx.1 sy below.1 above)
-
-lt_less : (o : Ordering) → is_lt o ≡ true → o ≡ Less
-lt_less Less t = refl
-lt_less Equal t = cc
-lt_less Greater t = cc
 
 pub in_order-with_value : (a : Attr) (d : Data) (rows : List Row) → AreInOrder rows → AreInOrder (with_value a d rows)
 in_order-with_value a d rows sorted =
@@ -281,6 +293,11 @@ searched a rows (Err i) sorted within found =
 -- a row that is written over the attribute's, one that is put in, and the row taken out
 pub set-HoldsRow : (a : Attr) (d : Data) (rows : List Row) (i : ℕ) → HoldsRow a rows i → set rows i (a, d) ≡ with_value a d rows
 set-HoldsRow a d rows i h = set_split rows i (a, d) h.within ∙ rw (h.before, h.after, add-one) refl
+
+-- behind the last row
+pub insert_last : (rows : List Row) (row : Row) (i : ℕ) → i ≤ length rows → length rows ≤ i → rows ++ row ∷ [] ≡ insert rows i row
+insert_last rows row i within past =
+    ap (λ (rs : List Row). rs ++ row ∷ []) (sym (take_all i rows past)) ∙ ap (λ (rs : List Row). take i rows ++ row ∷ rs) (sym (drop_all i rows past))
 
 pub insert-LacksRow : (a : Attr) (d : Data) (rows : List Row) (i : ℕ) → LacksRow a rows i → insert rows i (a, d) ≡ with_value a d rows
 insert-LacksRow a d rows i h = rw (h.before, h.after) refl

@@ -1,6 +1,7 @@
 //! Attributes with their values, and sets of attributes.
-ghost use Rattle.std.specs.Prelude.{◌≡◌, ◌↔◌, ◌<◌, ◌^◌, [], IsTrue, IfOk, IsOk, IsSome, OnOk};
-ghost use Rattle.std.specs.Prelude.{OnErr, IfSome, IsUtf8, MatchResult, option_map};
+ghost use Rattle.std.specs.Prelude.{◌≡◌, ◌↔◌, ◌<◌, ◌≤◌, ◌^◌, [], IsTrue, IfOk, IsOk, IsSome};
+ghost use Rattle.std.specs.Prelude.{OnOk, OnErr, IfSome, IsUtf8, MatchResult, length, option_map};
+ghost use Rattle.std.specs.List.{insert};
 ghost use Rattle.std.specs.Cmp.{decided, partial_equiv_from_equiv};
 ghost use Rattle.std.specs.Cmp.Lexicographic.{pointwise};
 ghost use Rattle.resource_model.specs.SameRows.{same_rows-Decides};
@@ -131,6 +132,41 @@ fn place(rows: &[(Attr, Val)], attr: Attr) -> Result<usize, usize>
     rows.binary_search_by(|row| row_order(row, attr))
 }
 
+/// Whether the attribute comes behind those of all rows.
+#[tactic(auto, using(crate::proofs::AttributeLemmas::no_rows_lack))]
+fn is_behind(rows: &[(Attr, Val)], attr: Attr) -> bool
+    requires { AreInOrder rows.now }
+    ensures { IsTrue result → LacksRow attr rows.now (length rows.now) }
+{
+    rows.is_empty() || row_order(&rows[rows.len() - 1], attr).is_lt()
+}
+
+/// The same as `place`, with no search for what comes behind all rows.
+fn place_to_put(rows: &[(Attr, Val)], attr: Attr) -> Result<usize, usize>
+    requires { AreInOrder rows.now }
+    ensures { MatchResult result (HoldsRow attr rows.now) (LacksRow attr rows.now) }
+{
+    if is_behind(rows, attr) {
+        Err(rows.len())
+    } else {
+        place(rows, attr)
+    }
+}
+
+/// Inserts a row at its place. Behind the last one nothing is moved.
+#[tactic(auto, using(crate::proofs::AttributeLemmas::insert_last))]
+fn insert_row(rows: &mut Vec<(Attr, Val)>, at: usize, row: (Attr, Val)) -> Result<(), OutOfMemory>
+    requires { at ≤ length rows.old.items }
+    ensures ok { OnOk result (rows.new.items ≡ insert rows.old.items at row) }
+    ensures err { OnErr result (rows.new.items ≡ rows.old.items) }
+{
+    if at < rows.len() {
+        Ok(rows.insert(at, row)?)
+    } else {
+        Ok(rows.push(row)?)
+    }
+}
+
 fn put(rows: &mut Vec<(Attr, Val)>, attr: Attr, value: Val) -> Result<(), OutOfMemory>
     requires { AreInOrder rows.old.items }
     ensures succeeds { IsSome (value_of attr rows.old.items) → IsOk result }
@@ -138,12 +174,12 @@ fn put(rows: &mut Vec<(Attr, Val)>, attr: Attr, value: Val) -> Result<(), OutOfM
     ensures err { OnErr result (rows.new.items ≡ rows.old.items) }
     ensures order { AreInOrder rows.new.items }
 {
-    match place(rows, attr) {
+    match place_to_put(rows, attr) {
         Ok(at) => {
             rows[at] = (attr, value);
             Ok(())
         }
-        Err(at) => Ok(rows.insert(at, (attr, value))?),
+        Err(at) => Ok(insert_row(rows, at, (attr, value))?),
     }
 }
 

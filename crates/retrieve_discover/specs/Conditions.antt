@@ -9,7 +9,7 @@ use Rattle.m2m_names.specs.declared.attributes.Attr.TheVariants.{Cs, Lbl, St}
 use Rattle.m2m_names.specs.declared.types.Ty.TheVariants.{ContentInstance}
 use Rattle.m2m_value.specs.Data.{Data}
 use Rattle.m2m_value.specs.View.{as_list, as_text}
-use Rattle.filter_criteria.specs.Conditions.{all_conditions}
+use Rattle.filter_criteria.specs.Conditions.{all_conditions, asked_of}
 use Rattle.filter_criteria.specs.declared.filter.FilterParts.{FilterParts}
 use Rattle.resource_model.specs.Attributes.{count_at, value_of}
 use Rattle.resource_model.specs.Resource.{ResourceData, is_ty}
@@ -68,18 +68,19 @@ is_of_one types r = (length types == 0) || list_any (λ n. n == (ty_row r.ty).nu
 -- What has to hold of a resource of the list for a condition of the filter; a condition that isn't
 -- given always holds. How a filter is used, and how much it asks for, is none on a resource.
 abbrev pub holds : Condition → List ResourceData → FilterParts → ResourceData → Bool
-holds CreatedBefore nodes f r = is_under_bound f.crb (Some r.ct)
-holds CreatedAfter nodes f r = is_over_bound f.cra (Some r.ct)
-holds ModifiedSince nodes f r = is_over_bound f.ms (Some r.lt)
-holds UnmodifiedSince nodes f r = is_under_bound f.us (Some r.lt)
-holds StateTagSmaller nodes f r = is_under_bound f.sts (count_at St r.attrs)
-holds StateTagBigger nodes f r = is_over_bound f.stb (count_at St r.attrs)
-holds ExpireBefore nodes f r = is_under_bound f.exb (due nodes r)
-holds ExpireAfter nodes f r = is_over_bound f.exa (due nodes r)
-holds OneLabel nodes f r = has_one_of f.lbl r
-holds OneType nodes f r = is_of_one f.ty r
-holds SizeAbove nodes f r = is_from_bound f.sza (size_in r)
-holds SizeBelow nodes f r = is_under_bound f.szb (size_in r)
+holds CreatedBefore nodes f r = is_under_bound (asked_of CreatedBefore f) (Some r.ct)
+holds CreatedAfter nodes f r = is_over_bound (asked_of CreatedAfter f) (Some r.ct)
+holds ModifiedSince nodes f r = is_over_bound (asked_of ModifiedSince f) (Some r.lt)
+holds UnmodifiedSince nodes f r = is_under_bound (asked_of UnmodifiedSince f) (Some r.lt)
+holds StateTagSmaller nodes f r =
+    is_under_bound (asked_of StateTagSmaller f) (count_at St r.attrs)
+holds StateTagBigger nodes f r = is_over_bound (asked_of StateTagBigger f) (count_at St r.attrs)
+holds ExpireBefore nodes f r = is_under_bound (asked_of ExpireBefore f) (due nodes r)
+holds ExpireAfter nodes f r = is_over_bound (asked_of ExpireAfter f) (due nodes r)
+holds OneLabel nodes f r = has_one_of (asked_of OneLabel f) r
+holds OneType nodes f r = is_of_one (asked_of OneType f) r
+holds SizeAbove nodes f r = is_from_bound (asked_of SizeAbove f) (size_in r)
+holds SizeBelow nodes f r = is_under_bound (asked_of SizeBelow f) (size_in r)
 holds Usage nodes f r = true
 holds Limit nodes f r = true
 

@@ -1,6 +1,6 @@
 -- What the content of a reply tells of resources other than the one that it shows first.
 use Rattle.std.specs.Prelude.{ℕ, Bool, List, [], ◌∷◌, ◌++◌, filter, map, bytes_eq, Option}
-use Rattle.std.specs.Prelude.{option_and_then, unwrap_or, is_some, if◌then◌else◌}
+use Rattle.std.specs.Prelude.{option_and_then, unwrap_or, is_some, if◌then◌else◌, Some}
 use Rattle.std.specs.List.{flat_map, list_any}
 use Rattle.std.specs.Option.{option_map_or}
 use Rattle.m2m_names.specs.Attributes.{attr_short}
@@ -98,4 +98,4 @@ references_in content = references_shown (unframed content)
 -- the addresses that were found (TS-0004, 7.5.2)
 abbrev pub addresses_in : Data → List (List ℕ)
 addresses_in content =
-    map (λ d. unwrap_or (as_text d) []) (listed_parts (member_at uril_name content))
+    map (λ d. text_in (Some d)) (listed_parts (member_at uril_name content))

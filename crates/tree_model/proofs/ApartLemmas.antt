@@ -8,7 +8,7 @@ use Rattle.std.specs.List.{list_any}
 use Rattle.std.specs.Option.{option_or}
 use Rattle.std.specs.Str.{bytes_eq}
 use Rattle.resource_model.specs.Resource.{ResourceData, has_number, ae_id, cse_id}
-use Rattle.tree_model.specs.Tree.{at, is_child, has_child, same_text, may_stand, is_tree}
+use Rattle.tree_model.specs.Tree.{at, is_child, same_text, may_stand, is_tree}
 use Rattle.tree_model.proofs.GrowthLemmas.{growth, next_fits}
 use Rattle.tree_model.proofs.TreeLemmas.{at-append}
 

@@ -10,7 +10,7 @@ use Rattle.std.proofs.lemmas.List.Sums.{sum_by-append, sum_by-cons}
 use Rattle.std.specs.List.{filter, list_any, sum_by}
 use Rattle.std.specs.Option.{option_or}
 use Rattle.resource_model.specs.Resource.{ResourceData, has_number, ae_id, cse_id}
-use Rattle.tree_model.specs.Tree.{at, has, resource_number, replaced, line_from, line_of, depth, stays, staying, without, is_spared, are_below, same_text, has_ae_id, has_cse_id, instance_size, sizes_of, is_instance, instances_of, may_stand, is_tree}
+use Rattle.tree_model.specs.Tree.{at, has, resource_number, replaced, line_from, line_of, depth, stays, staying, without, is_spared, same_text, has_ae_id, has_cse_id, instance_size, sizes_of, is_instance, instances_of, may_stand, is_tree}
 use Rattle.tree_model.proofs.GrowthLemmas.{IsNext, growth, next_fits, below_lacks, line-append, spared_new, stays_spared, without-spared}
 use Rattle.tree_model.proofs.KeptLemmas.{map-replaced_same, is_tree-without, without-snoc}
 use Rattle.tree_model.proofs.TreeLemmas.{at_number, has-append, staying_any}

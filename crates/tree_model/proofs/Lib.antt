@@ -6,6 +6,7 @@ pub mod ShownLemmas
 pub mod LiveLemmas
 pub mod FoundLemmas
 pub mod QuietLemmas
+pub mod RowLemmas
 pub mod StampLemmas
 pub mod ChangeLemmas
 pub mod ApartLemmas

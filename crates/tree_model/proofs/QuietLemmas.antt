@@ -1,7 +1,7 @@
 -- A moment before which nothing is due: under an append, a replacement and a removal.
 use Rattle.std.specs.Prelude.{nat_le}
-use Rattle.std.proofs.Common.{◌≡◌, ℕ, ◌+◌, ◌<◌, ◌≤◌, ◌≢◌, min, List, [], ◌∷◌, ◌++◌, length, take, get_or, Bool, true, false, cond, ◌&&◌, Option, Some, None, option_map, Result, Ok, Err, inl, inr, refl, sym, ap, ◌∙◌, subst, arith}
-use Rattle.std.proofs.lemmas.Bool.{cases_Bool, cases_eq, and_parts, and_from, leb-true, le-leb, lt-leb, ne_eqb, eq-eqb, both_ways, or_cases}
+use Rattle.std.proofs.Common.{◌≡◌, ℕ, ◌+◌, ◌<◌, ◌≤◌, ◌≢◌, min, List, [], ◌∷◌, ◌++◌, length, take, get_or, Bool, true, false, cond, Option, Some, None, option_map, Result, Ok, Err, inl, inr, refl, sym, ap, ◌∙◌, subst, arith}
+use Rattle.std.proofs.lemmas.Bool.{cases_Bool, cases_eq, and_parts, and_from, leb-true, le-leb, lt-leb, ne_eqb, eq-eqb}
 use Rattle.std.proofs.lemmas.List.{take_more}
 use Rattle.std.proofs.lemmas.List.Folds.{list_all-append}
 use Rattle.std.proofs.lemmas.Option.{same_Some}
@@ -16,7 +16,7 @@ use Rattle.tree_model.specs.Tree.{at, has, replaced, without, is_spared, age_of,
 use Rattle.tree_model.proofs.GrowthLemmas.{IsNext, next_fits, growth, below_has, below_lacks, next_above_parent, stands, at-without}
 use Rattle.tree_model.proofs.KeptLemmas.{is_tree-replaced, is_tree-without}
 use Rattle.tree_model.proofs.LiveLemmas.{due-without, without_none}
-use Rattle.tree_model.proofs.TreeLemmas.{at_has, at_none, has_at, at_number, at-append, at-replaced, at-replaced_other}
+use Rattle.tree_model.proofs.TreeLemmas.{at_has, at_none, at-append, at-replaced, at-replaced_other}
 
 -- ---- each, and all
 

@@ -48,10 +48,10 @@ pub fn shown<T: Tree>(
     ensures { IfOk result (λ a. a ≡ shown_rows home.now (T.nodes tree.now) resource.now) }
 {
     let mut attrs = copied(alloc, resource.attrs())?;
-    add_common(alloc, tree, resource, &mut attrs)?;
     if resource.is(Ty::CseBase) {
-        add_base(alloc, home, &mut attrs)?;
+        add_to_base(alloc, tree, home, resource, &mut attrs)?;
     } else {
+        add_common(alloc, tree, resource, &mut attrs)?;
         set_moment(alloc, &mut attrs, Attr::Et, resource.et())?;
     }
     if resource.is(Ty::Container) {
@@ -141,11 +141,21 @@ fn add_common<T: Tree>(
     attrs.set(Attr::Ty, number_of(resource.ty()))
 }
 
-fn add_base(alloc: Global, home: &Home, attrs: &mut Attrs) -> Result<(), OutOfMemory>
-    ensures { OnOk result (attrs.new ≡ with_rows (base_rows home.now) attrs.old) }
+// What the CSEBase shows. Two attributes that stand before most others are put before them.
+#[tactic(auto, using(crate::proofs::RowLemmas::base_first))]
+fn add_to_base<T: Tree>(
+    alloc: Global,
+    tree: &T,
+    home: &Home,
+    base: &Resource,
+    attrs: &mut Attrs,
+) -> Result<(), OutOfMemory>
+    ensures { OnOk result (attrs.new ≡ with_rows
+        (common_rows (T.nodes tree.now) base.now ++ base_rows home.now) attrs.old) }
 {
     attrs.set(Attr::Csi, Val::of_text(cse_id(alloc, home)?))?;
     attrs.set(Attr::Cst, Val::of_num(home.cst()))?;
+    add_common(alloc, tree, base, attrs)?;
     attrs.set(Attr::Srt, all_types(alloc)?)
 }
 
