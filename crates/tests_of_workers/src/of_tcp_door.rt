@@ -1,10 +1,12 @@
 //! A server over the loopback, and a client in a thread of its own.
 use crate::serving::serve_by;
 use m2m_io::Status;
+use std::alloc::{AllocError, Global};
 use std::io::{Read, Write};
 use std::net::{Net, TcpListener, TcpStream};
+use std::sync::Wait;
 use std::test::Fail;
-use std::thread::join;
+use std::thread::{Threads, join};
 use std::time::Duration;
 use std::{io, thread, time};
 use tcp_door::TcpDoor;
@@ -52,16 +54,27 @@ where
     Ok(right)
 }
 
+/// Serves one connection at this address.
+fn serve_one<R>(rt: &R, alloc: Global, at: &str, door: TcpDoor<R>) -> Result<Status, AllocError>
+where
+    R: Net<Listener = TcpListener, Stream = TcpStream>
+        + Wait
+        + Threads
+        + time::Clock
+        + Clone
+        + Drop
+        + Sync
+        + Send,
+{
+    serve_by(rt, alloc, &["serve", "--accept=1", "--listen", at], door)
+}
+
 #[test]
 fn a_client_has_each_reply_before_it_asks_again(rt: HostRuntime) -> Result<(), Fail> {
-    let at = format!(in rt.alloc(); "127.0.0.1:{}", free_port(&rt)?)?;
+    let alloc = rt.alloc();
+    let at = format!(in alloc; "127.0.0.1:{}", free_port(&rt)?)?;
     let door = TcpDoor::new(rt.clone()?);
-    let words = ["serve", "--accept=1", "--listen", at.as_str()];
-    let (status, right) = join(
-        &rt,
-        || serve_by(&rt, rt.alloc(), &words, door),
-        || talk(&rt, &at),
-    );
+    let (status, right) = join(&rt, || serve_one(&rt, alloc, &at, door), || talk(&rt, &at));
     assert_eq!(rt; right?, 2);
     assert_eq!(rt; status?, Status::Done);
     Ok(())
