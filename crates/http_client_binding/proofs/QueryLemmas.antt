@@ -1,12 +1,15 @@
 -- The pairs of a query, one after another.
-use Rattle.std.proofs.Common.{◌≡◌, ℕ, ◌+◌, ◌≤◌, ◌<◌, List, [], ◌∷◌, ◌++◌, length, map, take, get_or, refl, sym, ap, ◌∙◌}
+use Rattle.std.proofs.Common.{◌≡◌, ℕ, ◌+◌, ◌≤◌, ◌<◌, List, [], ◌∷◌, ◌++◌, length, map, take, get_or, Result, OnOk, refl, sym, ap, subst, ◌∙◌}
 use Rattle.std.specs.Fmt.{decimal}
 use Rattle.std.specs.List.{fold, flat_map}
 use Rattle.std.proofs.lemmas.List.{map_more, take_more, take_all, flat_map_more}
 use Rattle.std.proofs.lemmas.List.Sums.{fold_push, fold-append}
 use Rattle.form_urlencoded.specs.Form.{append_pair, extend_pairs}
+use Rattle.filter_criteria.specs.Conditions.{name_of_condition}
+use Rattle.filter_criteria.specs.declared.condition.Condition.{Condition}
+use Rattle.filter_criteria.specs.declared.filter.FilterParts.{FilterParts}
 use Rattle.http_target.specs.Queries.{Pair}
-use Rattle.http_client_binding.specs.QueryWriting.{pairs_at}
+use Rattle.http_client_binding.specs.QueryWriting.{condition_texts, condition_pairs, pairs_at}
 
 -- the form after one more pair
 abbrev with_more : List ℕ → Pair → List ℕ
@@ -56,3 +59,11 @@ pub in_three : (a b c : List Pair) (start one two three : List ℕ) → one ≡ 
 in_three a b c start one two three first second third =
     third ∙ ap (λ text. extend_pairs text c) (second ∙ ap (λ text. extend_pairs text b) first ∙ sym (fold-append with_more start a b))
     ∙ sym (fold-append with_more start (a ++ b) c)
+
+-- what a filter has of a condition that is this one
+pub condition_more : {A E : Type 0} (result : Result A E) (f : FilterParts) (condition one : Condition) (key : List ℕ) (texts : List (List ℕ)) (start last : List ℕ) → condition ≡ one → key ≡ name_of_condition condition
+    → texts ≡ condition_texts f one → OnOk result (last ≡ extend_pairs start (pairs_at key texts)) → OnOk result (last ≡ extend_pairs start (condition_pairs f condition))
+condition_more result f condition one key texts start last is named all done =
+    subst (λ k. OnOk result (last ≡ extend_pairs start (condition_pairs f k))) (sym is)
+    (subst (λ ts. OnOk result (last ≡ extend_pairs start (pairs_at (name_of_condition one) ts))) all
+    (subst (λ k. OnOk result (last ≡ extend_pairs start (pairs_at k texts))) (named ∙ ap name_of_condition is) done))

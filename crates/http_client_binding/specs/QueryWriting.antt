@@ -6,7 +6,8 @@ use Rattle.std.specs.List.{flat_map}
 use Rattle.form_urlencoded.specs.Form.{extend_pairs}
 use Rattle.http_uri.specs.ByteClasses.{question_mark}
 use Rattle.m2m_names.specs.Stamps.{timestamp}
-use Rattle.filter_criteria.specs.Conditions.{name_of_condition, usage_number}
+use Rattle.filter_criteria.specs.Conditions.{ValueOf, asked_of, name_of_condition}
+use Rattle.filter_criteria.specs.Conditions.{sort_of_condition, usage_number}
 use Rattle.filter_criteria.specs.declared.condition.Condition.{Condition}
 use Rattle.filter_criteria.specs.declared.condition.Condition.TheVariants.{CreatedAfter}
 use Rattle.filter_criteria.specs.declared.condition.Condition.TheVariants.{CreatedBefore}
@@ -18,6 +19,9 @@ use Rattle.filter_criteria.specs.declared.condition.Condition.TheVariants.{State
 use Rattle.filter_criteria.specs.declared.condition.Condition.TheVariants.{StateTagSmaller}
 use Rattle.filter_criteria.specs.declared.condition.Condition.TheVariants.{SizeAbove, SizeBelow}
 use Rattle.filter_criteria.specs.declared.condition.Condition.TheVariants.{OneType, UnmodifiedSince}
+use Rattle.filter_criteria.specs.declared.condition.Sort.{Sort}
+use Rattle.filter_criteria.specs.declared.condition.Sort.TheVariants.{Moment, Count, Labels, Types}
+use Rattle.filter_criteria.specs.declared.condition.Sort.TheVariants.{Use}
 use Rattle.filter_criteria.specs.declared.filter.FilterParts.{FilterParts}
 use Rattle.primitive_json.specs.Members.{name_of_member}
 use Rattle.primitive_json.specs.declared.member.Member.TheVariants.{DesiredForm, ResultContent}
@@ -39,22 +43,17 @@ abbrev pub whole_texts : Option ℤ → List (List ℕ)
 whole_texts None = []
 whole_texts (Some z) = signed_decimal z ∷ []
 
--- the texts of what a filter has of a condition: one of each label, and of each type
+-- the texts of what a filter has of a condition of each sort: one of each label, and of each type
+abbrev pub texts_of_sort : (sort : Sort) → ValueOf sort → List (List ℕ)
+texts_of_sort Moment at = moment_texts at
+texts_of_sort Count n = count_texts n
+texts_of_sort Labels labels = labels
+texts_of_sort Types types = map decimal types
+texts_of_sort Use usage = whole_texts (option_map usage_number usage)
+
 abbrev pub condition_texts : FilterParts → Condition → List (List ℕ)
-condition_texts f CreatedAfter = moment_texts f.cra
-condition_texts f CreatedBefore = moment_texts f.crb
-condition_texts f ExpireAfter = moment_texts f.exa
-condition_texts f ExpireBefore = moment_texts f.exb
-condition_texts f Usage = whole_texts (option_map usage_number f.fu)
-condition_texts f OneLabel = f.lbl
-condition_texts f Limit = count_texts f.lim
-condition_texts f ModifiedSince = moment_texts f.ms
-condition_texts f StateTagBigger = count_texts f.stb
-condition_texts f StateTagSmaller = count_texts f.sts
-condition_texts f SizeAbove = count_texts f.sza
-condition_texts f SizeBelow = count_texts f.szb
-condition_texts f OneType = map decimal f.ty
-condition_texts f UnmodifiedSince = moment_texts f.us
+condition_texts f condition =
+    texts_of_sort (sort_of_condition condition) (asked_of condition f)
 
 -- ---- the pairs
 
