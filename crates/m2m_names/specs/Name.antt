@@ -10,6 +10,14 @@ use Rattle.m2m_names.specs.Types.{ty_row, all_types}
 abbrev pub is_filled : ℕ → List ℕ → Bool
 is_filled most text = nat_lt 0 (length text) && nat_le (length text) most
 
+-- the most digits of a number that a text spells
+abbrev pub numeral_limit : ℕ
+numeral_limit = 18
+
+-- 1 to 18 decimal digits
+abbrev pub is_numeral : List ℕ → Bool
+is_numeral text = is_filled numeral_limit text && list_all is_ascii_digit text
+
 -- the most bytes that a name of a resource has
 abbrev pub name_limit : ℕ
 name_limit = 64

@@ -2,12 +2,12 @@
 use Rattle.std.specs.Prelude.{ℕ, ◌==◌, nat_le, Bool, true, false, ◌&&◌, ℤ, pos, negsuc, List, []}
 use Rattle.std.specs.Prelude.{◌∷◌, Option, Some, None, if◌then◌else◌, is_some, codes, option_map}
 use Rattle.std.specs.Prelude.{option_and_then, unwrap_or}
-use Rattle.std.specs.Char.{is_ascii_digit}
-use Rattle.std.specs.List.{list_all, list_any}
+use Rattle.std.specs.List.{list_any}
 use Rattle.std.specs.Option.{option_or, option_map_or}
 use Rattle.std.specs.Ordering.{int_eq}
 use Rattle.std.specs.Str.Parse.{digits_value}
 use Rattle.m2m_names.specs.Name.{is_filled, is_originator}
+pub use Rattle.m2m_names.specs.Name.{is_numeral, numeral_limit}
 use Rattle.m2m_names.specs.Operations.{op_of_number}
 use Rattle.m2m_names.specs.StampReading.{moment_at}
 use Rattle.m2m_names.specs.StatusCodes.{rsc_of_number}
@@ -71,15 +71,7 @@ read_response_type d =
 
 -- ---- expiry
 
--- the most digits of a count of milliseconds
-abbrev pub numeral_limit : ℕ
-numeral_limit = 18
-
--- 1 to 18 decimal digits
-abbrev pub is_numeral : List ℕ → Bool
-is_numeral s = is_filled numeral_limit s && list_all is_ascii_digit s
-
--- the number that they write
+-- the number that 1 to 18 digits write
 abbrev pub number_spelled : List ℕ → Option ℕ
 number_spelled s = if is_numeral s then Some (digits_value 10 s) else None
 
