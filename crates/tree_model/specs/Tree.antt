@@ -127,7 +127,7 @@ channel_of parent nodes = resource_number (find (is_channel parent) nodes)
 
 -- the number of the child of a name
 abbrev pub child_of : ℕ → List ℕ → List ResourceData → Option ℕ
-child_of parent name nodes = option_map (λ r. r.number) (find (is_child parent name) nodes)
+child_of parent name nodes = resource_number (find (is_child parent name) nodes)
 
 -- the resource, its parent, and so on up to the CSEBase, found from the newest to the oldest
 abbrev pub line_from : ℕ → List ResourceData → List ResourceData
