@@ -1,6 +1,6 @@
 -- Looking at a value, and into an object.
 use Rattle.std.specs.Prelude.{◌≡◌, ℕ, ◌<◌, ◌≤◌, ℤ, List, [], ◌∷◌, length, slice_index_or, Bool}
-use Rattle.std.specs.Prelude.{bytes_eq, Option, Some, None}
+use Rattle.std.specs.Prelude.{bytes_eq, Option, Some, None, option_and_then, unwrap_or}
 use Rattle.std.specs.Cmp.Lexicographic.{slice_cmp}
 use Rattle.std.specs.Ordering.{nat_cmp}
 use Rattle.std.specs.declared.cmp.Ordering.TheVariants.{Less, Equal, Greater}
@@ -58,6 +58,10 @@ as_object (number z) = None
 as_object (text s) = None
 as_object (list es) = None
 as_object (object ps) = Some (entries ps)
+
+-- the text of a value; of one that is no text, and where there is none, the empty text
+abbrev pub text_or_empty : Option Data → List ℕ
+text_or_empty d = unwrap_or (option_and_then as_text d) []
 
 -- the value at the key
 abbrev pub member_of : List ℕ → List Entry → Option Data

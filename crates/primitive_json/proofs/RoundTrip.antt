@@ -12,7 +12,7 @@ use Rattle.m2m_names.specs.declared.operations.Op.TheVariants.{Create, Retrieve,
 use Rattle.m2m_names.proofs.OperationLemmas.{op_again}
 use Rattle.m2m_value.specs.Data.{Data, number, text, object, Entry, pairs_of}
 use Rattle.m2m_value.specs.Shapes.{as_count}
-use Rattle.m2m_value.specs.View.{as_text, as_number, as_object, member_of}
+use Rattle.m2m_value.specs.View.{as_text, as_number, as_object, member_of, text_or_empty}
 use Rattle.primitive_json.specs.Bounds.{is_request_id}
 use Rattle.filter_criteria.specs.Conditions.{is_filter, filter_in}
 use Rattle.filter_criteria.specs.Laws.{IsFilterOfKinds}
@@ -189,9 +189,9 @@ module _ (r : RequestParts) (is : IsOfKinds r) (short : HasShortExpiry r) where
 
   same_request : request_made r.op es ≡ r
   same_request =
-      let to = ap (λ (d : Option Data). unwrap_or (option_and_then as_text d) []) (there r Target) in
+      let to = ap text_or_empty (there r Target) in
       let fr = ap (option_and_then as_text) (there r Originator) ∙ text_again r.fr in
-      let rqi = ap (λ (d : Option Data). unwrap_or (option_and_then as_text d) []) (there r RequestId) in
+      let rqi = ap text_or_empty (there r RequestId) in
       let ty = ap (λ (d : Option Data). option_and_then read_type_number (only_where (creates r.op) d)) (there r ResourceType)
       ∙ scoped read_type_number count_data (creates r.op) r.ty kinds.ty_there (each_back read_type_number count_data (λ n. is_type_number n ≡ true) (where_kept is_type_number) r.ty kinds.ty) in
       let pc = ap (only_where (has_content r.op)) (there r Content) ∙ kept_twice (has_content r.op) r.pc kinds.pc_there in
@@ -257,10 +257,10 @@ kinds_of op es h =
     let to = needed_is_there (Some op) es Target h refl in
     let rqi = needed_is_there (Some op) es RequestId h refl in
     record {
-      to = ap (λ (d : Option Data). is_filled 1024 (unwrap_or (option_and_then as_text d) [])) to.1
+      to = ap (λ (d : Option Data). is_filled 1024 (text_or_empty d)) to.1
           ∙ told_or_passes (is_filled 1024) (as_text to.0) [] (fitting (Some op) es Target to.0 h refl to.1);
       fr = read_along as_text is_originator true (member_of (name_of_member Originator) es) (λ read d found. fitting (Some op) es Originator d h refl found);
-      rqi = ap (λ (d : Option Data). is_request_id (unwrap_or (option_and_then as_text d) [])) rqi.1
+      rqi = ap (λ (d : Option Data). is_request_id (text_or_empty d)) rqi.1
           ∙ told_or_passes is_request_id (as_text rqi.0) [] (fitting (Some op) es RequestId rqi.0 h refl rqi.1);
       ty = passes_along (λ n. is_type_number n ≡ true) read_type_number (λ d. where_passes is_type_number (as_count d)) (value_read op ResourceType es);
       ty_there = scoped_there read_type_number (creates op) (member_of (name_of_member ResourceType) es) (λ created.

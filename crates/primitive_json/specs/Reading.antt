@@ -9,7 +9,7 @@ use Rattle.m2m_names.specs.declared.operations.Op.{Op}
 use Rattle.m2m_names.specs.declared.operations.Op.TheVariants.{Create}
 use Rattle.m2m_value.specs.Data.{Data, Entry}
 use Rattle.m2m_value.specs.Shapes.{may_have_member}
-use Rattle.m2m_value.specs.View.{as_number, as_object, as_text, member_of}
+use Rattle.m2m_value.specs.View.{as_number, as_object, as_text, member_of, text_or_empty}
 use Rattle.filter_criteria.specs.Conditions as conditions
 use Rattle.filter_criteria.specs.Conditions.{is_filter, filter_in, labels_of, relabelled}
 use Rattle.filter_criteria.specs.Values.{members_in, read_type_number}
@@ -117,9 +117,9 @@ operation_in es = option_and_then read_operation (member_of (name_of_member Oper
 abbrev pub request_made : Op → List Entry → RequestParts
 request_made op es = record {
   op = op;
-  to = unwrap_or (option_and_then as_text (value_read op Target es)) [];
+  to = text_or_empty (value_read op Target es);
   fr = option_and_then as_text (value_read op Originator es);
-  rqi = unwrap_or (option_and_then as_text (value_read op RequestId es)) [];
+  rqi = text_or_empty (value_read op RequestId es);
   ty = option_and_then read_type_number (value_read op ResourceType es);
   pc = value_read op Content es;
   rqet = option_and_then read_expiry (value_read op Expiry es);
@@ -154,9 +154,9 @@ kept_in op es = record {
 -- a request with what is made of these values in place of its own
 abbrev pub with_kept : RequestParts → Kept → RequestParts
 with_kept plain kept = record plain {
-  to = unwrap_or (option_and_then as_text kept.to) [];
+  to = text_or_empty kept.to;
   fr = option_and_then as_text kept.fr;
-  rqi = unwrap_or (option_and_then as_text kept.rqi) [];
+  rqi = text_or_empty kept.rqi;
   pc = kept.pc;
   fc = option_map (relabelled (labels_of kept.lbl)) plain.fc;
 }

@@ -1,9 +1,9 @@
 //! The values that a request keeps: copied from a value that is lent, or taken out of one that is
 //! given away.
 ghost use Rattle.std.specs.Prelude.{◌≡◌, ℕ, List, [], false, bytes_eq, IfOk, IsUtf8};
-ghost use Rattle.std.specs.Prelude.{option_and_then, unwrap_or};
+ghost use Rattle.std.specs.Prelude.{option_and_then};
 ghost use Rattle.std.specs.Option.{option_copied};
-ghost use Rattle.m2m_value.specs.View.{as_text, member_of};
+ghost use Rattle.m2m_value.specs.View.{member_of, text_or_empty};
 ghost use Rattle.filter_criteria.specs.Conditions as conditions;
 ghost use Rattle.filter_criteria.specs.Values.{members_in};
 ghost use Rattle.filter_criteria.specs.declared.condition.Condition.TheVariants.{OneLabel};
@@ -117,7 +117,7 @@ pub fn taken_values(alloc: Global, op: Op, value: Val) -> Kept
 
 /// The text that a value is, and an empty one where it is none.
 pub fn text_or_empty(alloc: Global, value: Option<Val>) -> Text
-    ensures value { result ≡ unwrap_or (option_and_then as_text value) [] }
+    ensures value { result ≡ text_or_empty value }
     ensures utf8 { IsUtf8 result }
 {
     match owned_text(value) {

@@ -15,7 +15,7 @@ use Rattle.m2m_names.specs.declared.codes.Rsc.{Rsc}
 use Rattle.m2m_names.specs.declared.codes.Rsc.TheVariants.{NoPrivilege, NotFound}
 use Rattle.m2m_names.specs.declared.types.Ty.{Ty}
 use Rattle.m2m_value.specs.Data.{Data, Entry, elements_of, object, pairs_of}
-use Rattle.m2m_value.specs.View.{as_text, entries, member_of}
+use Rattle.m2m_value.specs.View.{as_text, entries, member_of, text_or_empty}
 use Rattle.m2m_value.proofs.Levels.{elements-elements_of, entries-pairs_of}
 use Rattle.m2m_value.proofs.Lookup.{compared, member_of-put}
 use Rattle.filter_criteria.specs.declared.filter.FilterParts.{FilterParts}
@@ -34,7 +34,7 @@ use Rattle.retrieve_discover.specs.Descendants.{Forest, below, forest_of}
 use Rattle.retrieve_discover.specs.Findings.{address, address_in, address_list, found, found_addresses, is_found, most_of}
 use Rattle.retrieve_discover.specs.Guard.{AreNamedByRight, HasOwnAddresses, IsNamedByRight, IsShownByRight, OthersAreShownByRight}
 use Rattle.retrieve_discover.specs.Replies.{discovered, is_by_id, refusal, retrieved, retrieved_of, success}
-use Rattle.retrieve_discover.specs.Told.{addresses_in, ids_below, ids_shown, is_object, listed_parts, references_in, references_shown, shown_id, shown_reference, text_in, unframed, values_among, values_under}
+use Rattle.retrieve_discover.specs.Told.{addresses_in, ids_below, ids_shown, is_object, listed_parts, references_in, references_shown, shown_id, shown_reference, unframed, values_among, values_under}
 use Rattle.retrieve_discover.proofs.ForestLemmas.{all-cut, all-forest_of}
 use Rattle.retrieve_discover.proofs.NamedLemmas.{its_address, named_by_right}
 use Rattle.retrieve_discover.proofs.OrderLemmas.{Each, IsFound, each-filter, each_found, in_order-tree}
@@ -131,7 +131,7 @@ module _ (home : HomeData) (nodes : List ResourceData) (o : List ℕ) (own : Has
   its_id : (r : ResourceData) (kids : Forest) → shown_id (object (pairs_of (with_forest (members home nodes) kids (members home nodes r)))) ≡ id_of r
   its_id r kids =
       let inner = with_forest (members home nodes) kids (members home nodes r) in
-      ap text_in
+      ap text_or_empty
       (ap (member_of (attr_short Ri)) (entries-pairs_of inner)
       ∙ kept_beside (members home nodes) (attr_short Ri) (no_type_name Ri) kids (members home nodes r)
       ∙ member_of-members_of Ri (shown_rows home nodes r)

@@ -1,6 +1,6 @@
 -- What the content of a reply tells of resources other than the one that it shows first.
 use Rattle.std.specs.Prelude.{ℕ, Bool, List, [], ◌∷◌, ◌++◌, filter, map, bytes_eq, Option}
-use Rattle.std.specs.Prelude.{option_and_then, unwrap_or, is_some, if◌then◌else◌, Some}
+use Rattle.std.specs.Prelude.{unwrap_or, is_some, if◌then◌else◌, Some}
 use Rattle.std.specs.List.{flat_map, list_any}
 use Rattle.std.specs.Option.{option_map_or}
 use Rattle.m2m_names.specs.Attributes.{attr_short}
@@ -9,14 +9,10 @@ use Rattle.m2m_names.specs.Types.{all_types, ty_member}
 use Rattle.m2m_names.specs.declared.attributes.Attr.TheVariants.{Ri}
 use Rattle.m2m_value.specs.Data.{Data, null, boolean, number, text, list, object, Elements}
 use Rattle.m2m_value.specs.Data.{no_elements, element, Pairs, no_pairs, pair, Entry}
-use Rattle.m2m_value.specs.View.{as_list, as_object, as_text}
+use Rattle.m2m_value.specs.View.{as_list, as_object, text_or_empty}
 use Rattle.policy_eval.specs.Rules.{member_at}
 
--- ---- texts, and what a value is made of
-
--- the text of a value; of one that is no text the empty text, which addresses nothing
-abbrev pub text_in : Option Data → List ℕ
-text_in d = unwrap_or (option_and_then as_text d) []
+-- ---- what a value is made of
 
 -- the elements of a list; any other value stands for itself
 abbrev pub listed_or_own : Data → List Data
@@ -75,7 +71,7 @@ unframed content = unwrap_or (member_at rce_name content) content
 
 -- the resource ids of those that are shown below the first (TS-0004, 7.5.2)
 abbrev pub shown_id : Data → List ℕ
-shown_id d = text_in (member_at (attr_short Ri) d)
+shown_id d = text_or_empty (member_at (attr_short Ri) d)
 
 abbrev pub ids_shown : Data → List (List ℕ)
 ids_shown inner = map shown_id (flat_map values_below (member_values inner))
@@ -85,7 +81,7 @@ ids_below content = ids_shown (unframed content)
 
 -- the addresses of the children that it refers to
 abbrev pub shown_reference : Data → List ℕ
-shown_reference d = text_in (member_at val_name d)
+shown_reference d = text_or_empty (member_at val_name d)
 
 abbrev pub references_shown : Data → List (List ℕ)
 references_shown inner =
@@ -98,4 +94,4 @@ references_in content = references_shown (unframed content)
 -- the addresses that were found (TS-0004, 7.5.2)
 abbrev pub addresses_in : Data → List (List ℕ)
 addresses_in content =
-    map (λ d. text_in (Some d)) (listed_parts (member_at uril_name content))
+    map (λ d. text_or_empty (Some d)) (listed_parts (member_at uril_name content))
