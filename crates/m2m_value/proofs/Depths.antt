@@ -3,7 +3,7 @@ use Rattle.std.proofs.Common.{◌≤◌, suc, max, Result, Ok, Err, IfOk, arith}
 use Rattle.std.proofs.lemmas.Result.{IfOk-at_ok}
 use Rattle.serde_json.specs.Data as json
 use Rattle.m2m_value.specs.Data.{Data, number, list, object, Elements, element, Pairs, pair, depth, elements_depth, pairs_depth}
-use Rattle.m2m_value.specs.Reading.{followed, whole_of, value_of, elements_in, pairs_in, Gives}
+use Rattle.m2m_value.specs.Reading.{followed, whole_of, value_of, elements_in, pairs_in, reading_depth, Gives}
 use Rattle.m2m_value.specs.declared.fault.ValFault.{ValFault}
 
 -- each value that is told meets P
@@ -42,6 +42,6 @@ mutual
       followed_by (λ ps. pairs_depth ps ≤ json.members_depth ms) Q (pairs_in ms) (λ ps. Ok (pair k d ps)) (no_deeper_pairs ms) (λ ps l. omega (arith, h, l)))
 
 -- what is kept of a value is as shallow as it
-pub shallow : (r : Result Data ValFault) (j : json.Data) → Gives (λ d. d) r (value_of j) → json.depth j ≤ 127 → IfOk r (λ d. depth d ≤ 127)
+pub shallow : (r : Result Data ValFault) (j : json.Data) → Gives (λ d. d) r (value_of j) → json.depth j ≤ reading_depth → IfOk r (λ d. depth d ≤ reading_depth)
 shallow (Ok d) j told h = let within : depth d ≤ json.depth j = IfOk-at_ok (λ v. depth v ≤ json.depth j) told (no_deeper j) in omega (arith, within)
 shallow (Err fault) j told h = tt

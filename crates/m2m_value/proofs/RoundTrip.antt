@@ -21,7 +21,7 @@ use Rattle.serde_json.specs.Written.{number_text, outline, items_outline, member
 use Rattle.serde_json.proofs.Numbers.{number_of-decimal, number_of-negative}
 use Rattle.serde_json.proofs.Texts.{print-outline}
 use Rattle.m2m_value.specs.Data.{Data, null, boolean, number, text, list, object, Elements, no_elements, element, Pairs, no_pairs, pair, depth, elements_depth, pairs_depth}
-use Rattle.m2m_value.specs.Reading.{followed, whole_of, value_of, elements_in, pairs_in, value_if, reading}
+use Rattle.m2m_value.specs.Reading.{followed, whole_of, value_of, elements_in, pairs_in, value_if, reading, reading_depth}
 use Rattle.m2m_value.specs.Sound.{IsSound, AreSound, HaveSound, pair_keys}
 use Rattle.m2m_value.specs.Spelling.{quoted, text_of, elements_from, pairs_from}
 use Rattle.m2m_value.proofs.Answering.{reading-text}
@@ -208,5 +208,5 @@ mutual
       (IsUtf8-append (58 ∷ []) _ (IsUtf8-are_ascii _ refl) (IsUtf8-append _ _ (IsUtf8-text_of d h.0) (pairs_utf8 ps (place + 1) keys.1 h.1))))
 
 -- the text of a value is read as that value
-pub reading-text_of : (d : Data) → IsSound d → depth d ≤ 127 → reading (text_of d) ≡ Ok d
+pub reading-text_of : (d : Data) → IsSound d → depth d ≤ reading_depth → reading (text_of d) ≡ Ok d
 reading-text_of d sound shallow = reading-text (text_of d) (IsUtf8-text_of d sound) ∙ ap value_if (read-text_of d sound shallow) ∙ value_of-raised d sound
