@@ -19,7 +19,7 @@ ghost use Rattle.create_delete.specs.Joining.{IsAllowed};
 use attribute_rules::take_wanted;
 use entity_model::Entity;
 use m2m_names::{Attr, LAST_MOMENT, Ty};
-use m2m_value::{Items, Members, Text, Val};
+use m2m_value::{Items, LARGEST_COUNT, Members, Text, Val};
 use request_rules::{listed, new_ae_id, new_name, new_owner, policy_ids, size_named};
 use std::alloc::{AllocError as OutOfMemory, Global};
 use tree_model::{Attrs, Moments, Resource, Tree};
@@ -37,7 +37,7 @@ pub(crate) fn next_state(resource: &Resource) -> u64
     ensures bound { result < 2 ^ 63 }
 {
     let state = resource.attrs().count(Attr::St).unwrap_or(0);
-    (state + 1).min(9_223_372_036_854_775_807)
+    (state + 1).min(LARGEST_COUNT)
 }
 
 pub(crate) fn set_count(attrs: &mut Attrs, attr: Attr, n: u64) -> Result<(), OutOfMemory>

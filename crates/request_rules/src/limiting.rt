@@ -10,7 +10,7 @@ ghost use Rattle.request_rules.specs.Creation.{creation_of};
 
 use entity_model::Entity;
 use m2m_names::{Attr, Ty};
-use m2m_value::Members;
+use m2m_value::{LARGEST_COUNT, Members};
 use tree_model::{Resource, Tree};
 
 /// The greatest size of a content instance, in bytes.
@@ -21,9 +21,6 @@ const GREATEST_DEPTH: u64 = 32;
 
 /// How many resources there are at most.
 const GREATEST_COUNT: u64 = 100_000;
-
-/// The greatest number, which no resource gets.
-const LAST_NUMBER: u64 = 9_223_372_036_854_775_807;
 
 // Whether a resource stands less deep than this.
 fn is_less_deep<T: Tree>(tree: &T, number: u64, bound: u64) -> bool
@@ -91,7 +88,7 @@ fn has_place<T: Tree>(entity: &Entity<T>, parent: &Resource) -> bool
     ensures { result ≡ spec.has_place entity.now parent.now.number }
 {
     entity.tree.len() < GREATEST_COUNT
-        && entity.next < LAST_NUMBER
+        && entity.next < LARGEST_COUNT
         && is_less_deep(&entity.tree, parent.number(), GREATEST_DEPTH)
 }
 

@@ -15,12 +15,9 @@ ghost use Rattle.tree_model.specs.Shown as spec;
 
 use crate::tree::Tree;
 use m2m_names::{Attr, Ty, write_stamp};
-use m2m_value::{Items, Members, Text, Val};
+use m2m_value::{Items, LARGEST_COUNT, Members, Text, Val};
 use resource_model::{Attrs, Home, Resource};
 use std::alloc::{AllocError as OutOfMemory, Global};
-
-// The largest count that a value has.
-const LARGEST: u128 = 9_223_372_036_854_775_807;
 
 // The CSEBase has as many attributes added, and no other resource more.
 const MOST_ADDED: usize = 9;
@@ -172,7 +169,7 @@ fn add_counts<T: Tree>(tree: &T, resource: &Resource, attrs: &mut Attrs) -> Resu
 fn count_val(n: u128) -> Val
     ensures { result ≡ shown_count n }
 {
-    Val::of_num(n.min(LARGEST) as i64)
+    Val::of_num(n.min(LARGEST_COUNT as u128) as i64)
 }
 
 fn add_defaults(resource: &Resource, attrs: &mut Attrs) -> Result<(), OutOfMemory>
