@@ -19,5 +19,5 @@ mod limits;
 pub use evicting::evictions;
 pub use expiring::overdue;
 pub use laws::what_stays_is_the_longest_suffix_that_fits;
-pub use limits::Limits;
+pub use limits::{Limits, is_within};
 pub use std::alloc::AllocError as OutOfMemory;

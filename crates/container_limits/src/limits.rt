@@ -31,7 +31,8 @@ impl Limits {
     }
 }
 
-fn is_within(n: u128, limit: Option<u64>) -> bool
+/// Whether a number is at most the limit, where there is one.
+pub fn is_within(n: u128, limit: Option<u64>) -> bool
     ensures { result ≡ spec.is_within n limit }
 {
     match limit {

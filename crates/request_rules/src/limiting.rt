@@ -4,10 +4,10 @@ ghost use Rattle.std.specs.Prelude.{IsTrue};
 ghost use Rattle.m2m_names.specs.declared.types.Ty.TheVariants.{ContentInstance};
 ghost use Rattle.resource_model.specs.Resource.{is_ty};
 ghost use Rattle.tree_model.specs.Tree.{depth, is_tree};
-ghost use Rattle.container_limits.specs.Limits as limits;
 ghost use Rattle.request_rules.specs.Creation as spec;
 ghost use Rattle.request_rules.specs.Creation.{creation_of};
 
+use container_limits::is_within;
 use entity_model::Entity;
 use m2m_names::{Attr, Ty};
 use m2m_value::{LARGEST_COUNT, Members};
@@ -46,15 +46,6 @@ pub fn size_named(members: &Members) -> u64
     }
 }
 
-fn is_within(n: u64, bound: Option<u64>) -> bool
-    ensures { result ≡ limits.is_within n bound }
-{
-    match bound {
-        Some(most) => n <= most,
-        None => true,
-    }
-}
-
 fn is_below(n: u64, bound: Option<u64>) -> bool
     ensures { result ≡ spec.is_below n bound }
 {
@@ -70,7 +61,7 @@ fn takes_instance(container: &Resource, size: u64) -> bool
 {
     let attrs = container.attrs();
     size <= LARGEST_SIZE
-        && is_within(size, attrs.count(Attr::Mbs))
+        && is_within(size as u128, attrs.count(Attr::Mbs))
         && is_below(0, attrs.count(Attr::Mni))
         && is_below(0, attrs.count(Attr::Mia))
 }
