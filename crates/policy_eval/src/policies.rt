@@ -16,7 +16,7 @@ fn member_at<'a>(value: &'a Val, key: &[u8]) -> Option<&'a Val>
     value.as_obj()?.get(key)
 }
 
-/// The elements of a list; of what is no list none.
+/// The elements of a list, where there is one.
 fn listed_in(value: Option<&Val>) -> &[Val]
     ensures { result.now ≡ spec.listed_in (option_map (λ v. v.now) value.entry) }
 {
@@ -26,7 +26,8 @@ fn listed_in(value: Option<&Val>) -> &[Val]
     }
 }
 
-fn elements_of(value: &Val) -> &[Val]
+/// The elements of a list; of what is no list none.
+pub fn elements_of(value: &Val) -> &[Val]
     ensures { result.now ≡ spec.listed_in (Some value.now) }
 {
     match value.as_list() {

@@ -1,5 +1,5 @@
 //! The policies that a content names, by addresses.
-ghost use Rattle.std.specs.Prelude.{◌≡◌, [], ◌∷◌, ◌++◌, Some, IfOk, OnOk, is_some};
+ghost use Rattle.std.specs.Prelude.{◌≡◌, [], ◌∷◌, ◌++◌, IfOk, OnOk, is_some};
 ghost use Rattle.std.specs.Prelude.{option_and_then, option_map};
 ghost use Rattle.std.specs.List.{list_all};
 ghost use Rattle.addressing.specs.Laws.{spot_named};
@@ -10,6 +10,7 @@ use addressing::{AddrFault, Spot, name_spot, parse};
 use entity_model::Entity;
 use m2m_names::{Attr, Ty};
 use m2m_value::{Members, Val};
+use policy_eval::elements_of;
 use std::alloc::{AllocError as OutOfMemory, Global};
 use tree_model::{Resource, Tree};
 
@@ -74,15 +75,6 @@ fn policy_meant<'a, T: Tree>(
     match value.as_text() {
         Some(text) => policy_addressed(alloc, entity, text.entries()),
         None => Ok(None),
-    }
-}
-
-fn elements_of(value: &Val) -> &[Val]
-    ensures { result.now ≡ rules.listed_in (Some value.now) }
-{
-    match value.as_list() {
-        Some(items) => items.entries(),
-        None => &[],
     }
 }
 
