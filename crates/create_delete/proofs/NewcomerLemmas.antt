@@ -48,7 +48,7 @@ use Rattle.addressing.specs.declared.spot.Spot.{Spot}
 use Rattle.addressing.specs.declared.spot.Spot.TheVariants.{Resource, Fan, Poll}
 use Rattle.entity_model.specs.Entity.{EntityData}
 use Rattle.entity_model.specs.Sound.{is_known_id, IsSoundEntity}
-use Rattle.request_rules.specs.Creation.{Creation, ae_stem, creator_rows, given_rows, is_ae_id, new_ae_id, new_name, new_rows, own_name, new_size, next_state, rows_besides}
+use Rattle.request_rules.specs.Creation.{Creation, ae_stem, creator_rows, given_rows, is_ae_id, s_stem, new_ae_id, new_name, new_rows, own_name, new_size, next_state, rows_besides}
 use Rattle.request_rules.specs.Policies.{link_row, listed, policy_addressed, policy_ids, policy_meant, policy_on}
 use Rattle.create_delete.proofs.RowLemmas.{lacks_attr}
 
@@ -212,7 +212,7 @@ stem_id stem n plain small =
     (list_all-append is_ascii_graphic stem (id_text Ae n) ∙ and_from _ _ plain.1 (list_all-append is_ascii_graphic (codes "ae") (decimal n) ∙ and_from _ _ refl (digits_are_graphic n small)))
 
 stem_plain : (o : List ℕ) → (length (ae_stem o) ≡ 1) × (list_all is_ascii_graphic (ae_stem o) ≡ true)
-stem_plain o = elim (cases_Bool (bytes_eq o (codes "S"))) [
+stem_plain o = elim (cases_Bool (bytes_eq o s_stem)) [
   | inl t ↦ rw t (refl, refl)
   | inr f ↦ rw f (refl, refl)
 ]

@@ -1,5 +1,5 @@
 -- Who asks, and what is read.
-use Rattle.std.specs.Prelude.{codes, nat_lt, unwrap_or}
+use Rattle.std.specs.Prelude.{nat_lt, unwrap_or}
 use Rattle.std.proofs.Common.{◌≡◌, ℕ, List, length, true, false, ◌&&◌, Option, Some, None, is_some, Result, Ok, Err, IfOk, inl, inr, refl, sym, ap, ◌∙◌}
 use Rattle.std.specs.Option.{option_and_then}
 use Rattle.std.proofs.lemmas.Bool.{cases_Bool, false≢true}
@@ -13,6 +13,7 @@ use Rattle.addressing.proofs.ShortLemmas.{short_is_originator}
 use Rattle.entity_model.specs.Entity.{EntityData}
 use Rattle.retrieve_discover.specs.Replies.{discovered, retrieved}
 use Rattle.cse_machine.specs.Answer.{has_originator, is_registration, reading_reply, said_originator}
+use Rattle.request_rules.specs.Creation.{c_stem}
 use Rattle.request_rules.specs.Rights.{is_discovery}
 use Rattle.cse_machine.specs.Rights.{claimed_originator}
 
@@ -31,11 +32,11 @@ short_is home text o e = elim (cases_Bool (is_originator text && nat_lt 0 (lengt
 
 pub claimed_is : (home : HomeData) (request : RequestParts) (o : List ℕ) → option_and_then (short_of home) (said_originator request) ≡ Some o → claimed_originator home request ≡ o
 claimed_is home request o said = elim (cases_Bool (is_registration request)) [
-  | inl t ↦ short_is home (unwrap_or request.fr (codes "C")) o (rw t at said)
+  | inl t ↦ short_is home (unwrap_or request.fr c_stem) o (rw t at said)
   | inr f ↦ by_fr request.fr (rw f at said)
 ]
   where
-    by_fr : (fr : Option (List ℕ)) → option_and_then (short_of home) fr ≡ Some o → shortened home (unwrap_or fr (codes "C")) ≡ o
+    by_fr : (fr : Option (List ℕ)) → option_and_then (short_of home) fr ≡ Some o → shortened home (unwrap_or fr c_stem) ≡ o
     by_fr None e = let none : None ≡ Some o = e in cc
     by_fr (Some text) e = short_is home text o e
 

@@ -55,16 +55,24 @@ name_for ty n es = unwrap_or (named_text Rn es) (own_name ty n)
 abbrev pub new_name : Creation → List ℕ
 new_name c = name_for c.ty c.e.next c.named
 
+-- what the AE-IDs begin with that the registrar gives, and those that the service provider gives
+-- (TS-0001, 7.1.2)
+abbrev pub c_stem : List ℕ
+c_stem = codes "C"
+
+abbrev pub s_stem : List ℕ
+s_stem = codes "S"
+
 -- an originator that is an AE-ID already: a name that begins with `C` or `S`, and more (TS-0001,
 -- 7.1.2)
 abbrev pub is_ae_id : List ℕ → Bool
 is_ae_id o =
     is_name o && nat_lt 1 (length o)
-    && (starts_with nat_eq o (codes "C") || starts_with nat_eq o (codes "S"))
+    && (starts_with nat_eq o c_stem || starts_with nat_eq o s_stem)
 
 -- what an AE-ID begins with that the CSE gives: `S` where that is asked for, else `C`
 abbrev pub ae_stem : List ℕ → List ℕ
-ae_stem o = if bytes_eq o (codes "S") then codes "S" else codes "C"
+ae_stem o = if bytes_eq o s_stem then s_stem else c_stem
 
 -- the AE-ID of a new application entity: its originator, or a new one with its resource id
 -- (TS-0001, 10.2.2.2)
