@@ -9,9 +9,9 @@ use Rattle.primitive_json.specs.declared.reply.ReplyParts.{ReplyParts}
 use Rattle.primitive_json.specs.declared.request.RequestParts.{RequestParts}
 use Rattle.resource_model.specs.Resource.{ResourceData}
 use Rattle.tree_model.specs.Tree.{at}
-use Rattle.policy_eval.specs.Rights.{discovery_bit, grants, retrieve_bit}
+use Rattle.policy_eval.specs.Rights.{grants}
 use Rattle.entity_model.specs.Entity.{EntityData}
-use Rattle.entity_model.specs.Places.{refusal, refused, Effect}
+use Rattle.entity_model.specs.Places.{reading_bit, refusal, refused, Effect}
 use Rattle.entity_model.specs.Sound.{IsSoundEntity}
 use Rattle.request_rules.specs.Rights.{is_discovery, may_do}
 use Rattle.retrieve_discover.specs.Replies.{discovered, retrieved}
@@ -58,13 +58,10 @@ module _ (e : EntityData) (sound : IsSoundEntity e) (request : RequestParts) (r 
       (discovered_by_right e.home e.nodes o (apart_addresses e sound) request r.number) (retrieved_by_right e.home e.nodes o (apart_addresses e sound) request r.number)
 
   -- the right that it needs
-  abbrev bit_of : Bool → ℕ
-  bit_of discovers = cond discovers discovery_bit retrieve_bit
-
-  right_is : (discovers : Bool) → request.op ≡ Retrieve → is_discovery request ≡ discovers → grants e.home e.nodes o (bit_of discovers) r.number ≡ true → has_right e request r.number ≡ true
+  right_is : (discovers : Bool) → request.op ≡ Retrieve → is_discovery request ≡ discovers → grants e.home e.nodes o (reading_bit discovers) r.number ≡ true → has_right e request r.number ≡ true
   right_is discovers op is right =
       ap (λ (p : Op). may_do p e o request r.number) op
-      ∙ ap (λ (d : Bool). grants e.home e.nodes o (bit_of d) r.number) is ∙ right
+      ∙ ap (λ (d : Bool). grants e.home e.nodes o (reading_bit d) r.number) is ∙ right
 
   -- what it shows, it shows by that right
   shows_by_right : (reply : ReplyParts) → addressed e request.to ≡ Some r → request.op ≡ Retrieve → Reading e request r reply → DoesShow reply → HasRight e request
