@@ -1,11 +1,17 @@
--- Response status codes (TS-0004, 6.6.3), and the HTTP status that goes with each (TS-0009, 6.3.2).
--- Where the standard has none, for 4008, 4108, 5203, 6010, 6011 and numbers without a name, it is
--- the profile's own.
+-- Response status codes (TS-0004, 6.6.3), and the HTTP status that goes with each (TS-0009, 6.3.2;
+-- that of a number without a name is the profile's own).
 use Rattle.std.specs.Prelude.{ℕ, Bool, true, false, List, [], ◌∷◌, Option, Some, None, find, ◌==◌}
 use Rattle.std.specs.Prelude.{if◌then◌else◌, IsTrue, refl}
 use Rattle.std.specs.Int.{is_in_range}
 use Rattle.std.specs.Option.{option_or}
-use Rattle.m2m_names.specs.StatusNumbers.{is_other}
+use Rattle.m2m_names.specs.StatusNumbers.{is_other, RscRow, rsc_entry, fine_row, created_row}
+use Rattle.m2m_names.specs.StatusNumbers.{deleted_row, updated_row, bad_request_row, not_found_row}
+use Rattle.m2m_names.specs.StatusNumbers.{not_allowed_row, request_timeout_row, no_privilege_row}
+use Rattle.m2m_names.specs.StatusNumbers.{conflict_row, bad_child_row, internal_row}
+use Rattle.m2m_names.specs.StatusNumbers.{not_implemented_row, not_reachable_row}
+use Rattle.m2m_names.specs.StatusNumbers.{not_subscribable_row, non_blocking_row}
+use Rattle.m2m_names.specs.StatusNumbers.{not_acceptable_row, too_many_members_row}
+use Rattle.m2m_names.specs.StatusNumbers.{wrong_member_row}
 use Rattle.m2m_names.specs.declared.codes.Rsc.{Rsc}
 use Rattle.m2m_names.specs.declared.codes.Rsc.TheVariants.{Ok as Fine, Created, Deleted, Updated}
 use Rattle.m2m_names.specs.declared.codes.Rsc.TheVariants.{BadRequest, NotFound, NotAllowed}
@@ -14,14 +20,6 @@ use Rattle.m2m_names.specs.declared.codes.Rsc.TheVariants.{BadChild, Internal, N
 use Rattle.m2m_names.specs.declared.codes.Rsc.TheVariants.{NotReachable, NotSubscribable}
 use Rattle.m2m_names.specs.declared.codes.Rsc.TheVariants.{NonBlocking, NotAcceptable}
 use Rattle.m2m_names.specs.declared.codes.Rsc.TheVariants.{TooManyMembers, WrongMember, Other}
-
--- what stands for a status code: its number, and its HTTP status
-pub record RscRow : Type 0 where
-  pub number : ℕ
-  pub http : ℕ
-
-abbrev pub rsc_entry : ℕ → ℕ → RscRow
-rsc_entry number http = record { number = number; http = http }
 
 -- the number says that a request was served (TS-0004, 6.6.3)
 abbrev pub is_success_number : ℕ → Bool
@@ -32,27 +30,27 @@ abbrev pub http_status_of_other : ℕ → ℕ
 http_status_of_other n =
     if is_success_number n then 200 else (if is_in_range 4000 4999 n then 400 else 500)
 
--- the table: a row for each status code
+-- the row of each status code
 abbrev pub rsc_row : Rsc → RscRow
-rsc_row Fine = rsc_entry 2000 200
-rsc_row Created = rsc_entry 2001 201
-rsc_row Deleted = rsc_entry 2002 200
-rsc_row Updated = rsc_entry 2004 200
-rsc_row BadRequest = rsc_entry 4000 400
-rsc_row NotFound = rsc_entry 4004 404
-rsc_row NotAllowed = rsc_entry 4005 405
-rsc_row RequestTimeout = rsc_entry 4008 408
-rsc_row NoPrivilege = rsc_entry 4103 403
-rsc_row Conflict = rsc_entry 4105 409
-rsc_row BadChild = rsc_entry 4108 403
-rsc_row Internal = rsc_entry 5000 500
-rsc_row NotImplemented = rsc_entry 5001 501
-rsc_row NotReachable = rsc_entry 5103 404
-rsc_row NotSubscribable = rsc_entry 5203 403
-rsc_row NonBlocking = rsc_entry 5206 501
-rsc_row NotAcceptable = rsc_entry 5207 406
-rsc_row TooManyMembers = rsc_entry 6010 400
-rsc_row WrongMember = rsc_entry 6011 400
+rsc_row Fine = fine_row
+rsc_row Created = created_row
+rsc_row Deleted = deleted_row
+rsc_row Updated = updated_row
+rsc_row BadRequest = bad_request_row
+rsc_row NotFound = not_found_row
+rsc_row NotAllowed = not_allowed_row
+rsc_row RequestTimeout = request_timeout_row
+rsc_row NoPrivilege = no_privilege_row
+rsc_row Conflict = conflict_row
+rsc_row BadChild = bad_child_row
+rsc_row Internal = internal_row
+rsc_row NotImplemented = not_implemented_row
+rsc_row NotReachable = not_reachable_row
+rsc_row NotSubscribable = not_subscribable_row
+rsc_row NonBlocking = non_blocking_row
+rsc_row NotAcceptable = not_acceptable_row
+rsc_row TooManyMembers = too_many_members_row
+rsc_row WrongMember = wrong_member_row
 rsc_row (Other o) = rsc_entry o.number (http_status_of_other o.number)
 
 -- the status says that a request was served
