@@ -1,22 +1,17 @@
 -- An originator is answered the same on what it sees, and sees the same of what is left.
-use Rattle.std.proofs.Common.{◌≡◌, ℕ, List, [], ◌∷◌, Bool, true, false, cond, Option, Some, None, Result, Ok, Err, option_map, inl, inr, refl, sym, ap, ap₂, subst, ◌∙◌, arith}
-use Rattle.std.specs.Option.{option_and_then, option_map_or}
+use Rattle.std.proofs.Common.{◌≡◌, ℕ, List, [], ◌∷◌, Bool, true, false, cond, Option, Some, None, Result, Ok, Err, option_map, inl, inr, refl, sym, ap, ap₂, subst, ◌∙◌}
+use Rattle.std.specs.Option.{option_map_or}
 use Rattle.std.specs.Prelude.{not}
 use Rattle.std.specs.List.{list_any}
-use Rattle.std.proofs.lemmas.Bool.{both_ways, cases_Bool, eqb-true, false≢true, not-true, or_cases}
+use Rattle.std.proofs.lemmas.Bool.{both_ways, cases_Bool, false≢true, not-true, or_cases}
 use Rattle.m2m_names.specs.Operations.{op_row}
-use Rattle.m2m_names.specs.Types.{ty_row}
-use Rattle.m2m_names.specs.declared.attributes.Attr.TheVariants.{Csi}
 use Rattle.m2m_names.specs.declared.codes.Rsc.{Rsc}
 use Rattle.m2m_names.specs.declared.codes.Rsc.TheVariants.{BadRequest, NoPrivilege, NotAllowed}
 use Rattle.m2m_names.specs.declared.operations.Op.{Op}
 use Rattle.m2m_names.specs.declared.operations.Op.TheVariants.{Create, Retrieve, Update, Delete, Notify}
-use Rattle.m2m_names.specs.declared.types.Ty.{Ty}
-use Rattle.m2m_names.specs.declared.types.Ty.TheVariants.{Ae, RemoteCse}
-use Rattle.m2m_value.specs.View.{as_text}
 use Rattle.primitive_json.specs.declared.request.RequestParts.{RequestParts}
 use Rattle.resource_model.specs.Home.{HomeData}
-use Rattle.resource_model.specs.Resource.{ResourceData, cse_id, has_number, is_ty}
+use Rattle.resource_model.specs.Resource.{ResourceData, has_number}
 use Rattle.tree_model.specs.Tree.{at, is_due, is_well_formed, live}
 use Rattle.tree_model.proofs.GrowthLemmas.{tree_from_well_formed}
 use Rattle.tree_model.proofs.KeptLemmas.{KeepsStanding, is_well_formed-map, is_well_formed-without}
@@ -29,10 +24,9 @@ use Rattle.addressing.specs.declared.addr.AddrFault.{AddrFault}
 use Rattle.addressing.specs.declared.spot.Spot.{Spot}
 use Rattle.addressing.specs.declared.spot.Spot.TheVariants.{Resource, Fan, Poll}
 use Rattle.addressing.proofs.SightLemmas.{spot_of-seen}
-use Rattle.policy_eval.specs.Alike.{is_attr_in, shape_attrs}
 use Rattle.policy_eval.specs.Seen.{seen, seen_list}
 use Rattle.policy_eval.proofs.DueLemmas.{is_due-seen}
-use Rattle.policy_eval.proofs.SeenLemmas.{ae_id-seen, at-seen, grants-seen, seen_alike}
+use Rattle.policy_eval.proofs.SeenLemmas.{ae_id-seen, at-seen, cse_id-seen, grants-seen}
 use Rattle.policy_eval.proofs.ShapeLemmas.{sight_shape}
 use Rattle.policy_eval.proofs.TwiceLemmas.{live-same, seen_list-twice}
 use Rattle.entity_model.specs.Entity.{EntityData, event_moment, swept}
@@ -51,22 +45,7 @@ use Rattle.cse_machine.specs.Sight.{sight, shape, does_cover, IsRequestBy, Sight
 
 -- ---- what is seen of a well-formed list is one
 
-no_both : (ty : Ty) → is_ty ty Ae ≡ true → is_ty ty RemoteCse ≡ true → ⊥
-no_both ty ae cse = omega (arith, eqb-true (ty_row ty).number 2 ae, eqb-true (ty_row ty).number 16 cse)
-
-cse_judged : (ty : Ty) → is_ty ty RemoteCse ≡ true → is_attr_in (shape_attrs ty) Csi ≡ true
-cse_judged ty cse = elim (cases_Bool (is_ty ty Ae)) [
-  | inl t ↦ absurd (no_both ty t cse)
-  | inr f ↦ rw (f, cse) refl
-]
-
 module _ (home : HomeData) (nodes : List ResourceData) (o : List ℕ) where
-  cse_seen : (r : ResourceData) → cse_id (seen home nodes o r) ≡ cse_id r
-  cse_seen r = elim (cases_Bool (is_ty r.ty RemoteCse)) [
-    | inl t ↦ rw t (ap (option_and_then as_text) ((seen_alike home nodes o r).shape Csi (cse_judged r.ty t)))
-    | inr f ↦ rw f refl
-  ]
-
   seen_stands : KeepsStanding (seen home nodes o)
   seen_stands = record {
     number = λ r. refl;
@@ -74,7 +53,7 @@ module _ (home : HomeData) (nodes : List ResourceData) (o : List ℕ) where
     name = λ r. refl;
     parent = λ r. refl;
     ae = ae_id-seen home nodes o;
-    cse = cse_seen;
+    cse = cse_id-seen home nodes o;
   }
 
   well_seen : is_well_formed nodes ≡ true → is_well_formed (seen_list home nodes o) ≡ true

@@ -1,12 +1,13 @@
 -- Rights on lists by which an originator is judged alike, and changes that keep lists alike.
 use Rattle.std.specs.Prelude.{◌==◌}
 use Rattle.std.proofs.Common.{◌≡◌, ℕ, List, [], ◌∷◌, ◌++◌, map, Bool, true, false, cond, Option, Some, None, inl, inr, refl, sym, ap, ◌∙◌, arith}
-use Rattle.std.proofs.lemmas.Bool.{cases_Bool, and_parts}
+use Rattle.std.proofs.lemmas.Bool.{cases_Bool, and_parts, eqb-true}
 use Rattle.std.proofs.lemmas.List.Elements.{AllZip-push}
 use Rattle.std.proofs.lemmas.Nat.Bits.{bit_at_or, bit_at-zero, same_from_bits}
 use Rattle.std.specs.Int.RustNames.{bit_or}
 use Rattle.std.specs.List.{AllZip, cons_option, flat_map, list_all}
-use Rattle.std.specs.Option.{option_and_then, option_map_or}
+use Rattle.std.specs.Option.{option_and_then, option_map_or, option_or}
+use Rattle.m2m_names.specs.Types.{ty_row}
 use Rattle.m2m_names.specs.declared.attributes.Attr.{Attr}
 use Rattle.m2m_names.specs.declared.attributes.Attr.TheVariants.{Acpi, Aei, Csi, Macp, Pv, Pvs}
 use Rattle.m2m_names.specs.declared.types.Ty.{Ty}
@@ -15,9 +16,9 @@ use Rattle.m2m_value.specs.Data.{Data}
 use Rattle.m2m_value.specs.View.{as_text}
 use Rattle.resource_model.specs.Attributes.{value_of}
 use Rattle.resource_model.specs.Home.{HomeData}
-use Rattle.resource_model.specs.Resource.{ResourceData, is_ty, has_number, ae_id}
+use Rattle.resource_model.specs.Resource.{ResourceData, is_ty, has_number, ae_id, cse_id}
 use Rattle.tree_model.specs.Tree.{at, has, is_child, child_of, replaced, stays, staying, without}
-use Rattle.policy_eval.specs.Alike.{Alike, AreAlike, FindAlike}
+use Rattle.policy_eval.specs.Alike.{is_attr_in, id_attrs, Alike, AreAlike, FindAlike}
 use Rattle.m2m_names.specs.Operations.{all_bits}
 use Rattle.policy_eval.specs.Rules.{only, Rule, rule_for, rules_in, policy_number, policy_at, policy_named, policy_of, policies_of, rules_by, listed_in, ids_at, lists_ids, registree, linked_rules, channel_rules, rules_of, fan_rules, link_rules}
 use Rattle.policy_eval.specs.Rights.{is_subject, with_rule, with_rules, bits_by, do_give, update_bit, grants, relinks, fan_grants}
@@ -140,6 +141,21 @@ module _ (home : HomeData) (o : List ℕ) where
   alike-map g alike [] = tt
   alike-map g alike (r ∷ rs) = (alike r, alike-map g alike rs)
 
+-- ---- what names a resource
+
+no_both : (ty : Ty) → is_ty ty Ae ≡ true → is_ty ty RemoteCse ≡ true → ⊥
+no_both ty ae cse = omega (arith, eqb-true (ty_row ty).number 2 ae, eqb-true (ty_row ty).number 16 cse)
+
+-- a remote CSE is named by its CSE-ID
+pub cse_named : (ty : Ty) → is_ty ty RemoteCse ≡ true → is_attr_in (id_attrs ty) Csi ≡ true
+cse_named ty cse = elim (cases_Bool (is_ty ty Ae)) [
+  | inl t ↦ absurd (no_both ty t cse)
+  | inr f ↦ rw (f, cse) refl
+]
+
+pub same_ids : (a b c d : Option (List ℕ)) → a ≡ b → c ≡ d → option_or a c ≡ option_or b d
+same_ids a b c d first second = ap (λ (x : Option (List ℕ)). option_or x c) first ∙ ap (option_or b) second
+
 -- ---- rights are the same
 
 -- the rules of a policy by one of its lists
@@ -171,14 +187,14 @@ module _ (home : HomeData) (o : List ℕ) where
     | inr f ↦ rw (ty-alike s r alike Ae ∙ f, f) refl
   ]
 
-  pub registree-alike : (s r : ResourceData) → Alike home o s r → registree s ≡ registree r
-  registree-alike s r alike = elim (cases_Bool (is_ty r.ty Ae)) [
-    | inl t ↦ rw (ty-alike s r alike Ae ∙ t, t) (ap (option_and_then as_text) (alike.shape Aei (rw t refl)))
-    | inr f ↦ rw (ty-alike s r alike Ae ∙ f, f) (elim (cases_Bool (is_ty r.ty RemoteCse)) [
-      | inl t ↦ rw (ty-alike s r alike RemoteCse ∙ t, t) (ap (option_and_then as_text) (alike.shape Csi (rw (f, t) refl)))
-      | inr g ↦ rw (ty-alike s r alike RemoteCse ∙ g, g) refl
-    ])
+  pub cse_id-alike : (s r : ResourceData) → Alike home o s r → cse_id s ≡ cse_id r
+  cse_id-alike s r alike = elim (cases_Bool (is_ty r.ty RemoteCse)) [
+    | inl t ↦ rw (ty-alike s r alike RemoteCse ∙ t, t) (ap (option_and_then as_text) (alike.shape Csi (cse_named r.ty t)))
+    | inr f ↦ rw (ty-alike s r alike RemoteCse ∙ f, f) refl
   ]
+
+  pub registree-alike : (s r : ResourceData) → Alike home o s r → registree s ≡ registree r
+  registree-alike s r alike = same_ids (ae_id s) (ae_id r) (cse_id s) (cse_id r) (ae_id-alike s r alike) (cse_id-alike s r alike)
 
   pub at-alike : (ss rs : List ResourceData) → AreAlike home o ss rs → (n : ℕ) → FindAlike home o (at n ss) (at n rs)
   at-alike [] [] alike n = tt

@@ -15,7 +15,7 @@ use Rattle.m2m_value.specs.Data.{Data}
 use Rattle.m2m_value.specs.View.{as_text}
 use Rattle.resource_model.specs.Attributes.{Row, attr_cmp, is_attr, rows_before, rows_after, value_of}
 use Rattle.resource_model.specs.Home.{HomeData}
-use Rattle.resource_model.specs.Resource.{ResourceData, is_ty}
+use Rattle.resource_model.specs.Resource.{ResourceData, is_ty, ae_id, cse_id}
 use Rattle.resource_model.proofs.AttributeLemmas.{is_attr-itself, is_attr-same, value-with_value_other, value-without_value_other}
 use Rattle.tree_model.specs.Tree.{at, due, due_under, is_taken, is_well_formed, replaced}
 use Rattle.tree_model.proofs.GrowthLemmas.{tree_from_well_formed}
@@ -25,7 +25,7 @@ use Rattle.policy_eval.specs.Changes.{NewValue, ShowNoMore, changed, do_judge, d
 use Rattle.policy_eval.specs.Rules.{ids_at, policy_at, policy_named, policy_number}
 use Rattle.policy_eval.specs.Rights.{update_bit}
 use Rattle.policy_eval.specs.Seen.{retrieve_bit, discovery_bit, has_bit, fills, is_filled_in, may_use, seen_value, seen_row, seen_owner, seen, seen_list}
-use Rattle.policy_eval.proofs.AlikeLemmas.{map_from_zip}
+use Rattle.policy_eval.proofs.AlikeLemmas.{cse_named, map_from_zip, same_ids}
 use Rattle.policy_eval.proofs.DueLemmas.{all_taken, due_base, due_instance, due_other, end_of, found_passes, in_container, same_fill}
 use Rattle.policy_eval.proofs.EqualLemmas.{same_by, may-seen, fills-seen, is_filled_in-seen, may_use-seen}
 use Rattle.policy_eval.proofs.LookupLemmas.{FindSame, FindsSame, JudgeSame, MaySame, filter_map_same, find_itself, may_same, may_same_but, row_same, seen_found, use_same, value_same}
@@ -184,6 +184,18 @@ module _ (home : HomeData) (o : List ℕ) (xs : List ResourceData) (well : is_we
   kept : (b : Attr) → is_changed changes b ≡ false → value_of b (changed changes lt et r).attrs ≡ value_of b r.attrs
   kept b none = changes_kept b changes none r.attrs
 
+  ae_same : ae_id (changed changes lt et r) ≡ ae_id r
+  ae_same = elim (cases_Bool (is_ty r.ty Ae)) [
+    | inl t ↦ rw t (ap (option_and_then as_text) (kept Aei (judge_kept r.ty changes free Aei (rw t refl))))
+    | inr f ↦ rw f refl
+  ]
+
+  cse_same : cse_id (changed changes lt et r) ≡ cse_id r
+  cse_same = elim (cases_Bool (is_ty r.ty RemoteCse)) [
+    | inl t ↦ rw t (ap (option_and_then as_text) (kept Csi (judge_kept r.ty changes free Csi (cse_named r.ty t))))
+    | inr f ↦ rw f refl
+  ]
+
   judge : JudgeSame (changed changes lt et r) r
   judge = record {
     ty = refl;
@@ -192,13 +204,7 @@ module _ (home : HomeData) (o : List ℕ) (xs : List ResourceData) (well : is_we
     acpi = kept Acpi (judge_kept r.ty changes free Acpi refl);
     pv = kept Pv (judge_kept r.ty changes free Pv refl);
     pvs = kept Pvs (judge_kept r.ty changes free Pvs refl);
-    registree = elim (cases_Bool (is_ty r.ty Ae)) [
-      | inl t ↦ rw t (ap (option_and_then as_text) (kept Aei (judge_kept r.ty changes free Aei (rw t refl))))
-      | inr f ↦ elim (cases_Bool (is_ty r.ty RemoteCse)) [
-        | inl t ↦ rw (f, t) (ap (option_and_then as_text) (kept Csi (judge_kept r.ty changes free Csi (rw (f, t) refl))))
-        | inr g ↦ rw (f, g) refl
-      ]
-    ];
+    registree = same_ids (ae_id (changed changes lt et r)) (ae_id r) (cse_id (changed changes lt et r)) (cse_id r) ae_same cse_same;
   }
 
   find_same : (m : ℕ) → FindSame (at m (replaced (changed changes lt et r) xs)) (at m xs)

@@ -19,7 +19,7 @@ use Rattle.m2m_names.specs.declared.types.Ty.TheVariants.{AccessControlPolicy, R
 use Rattle.m2m_value.specs.Data.{Data}
 use Rattle.resource_model.specs.Attributes.{AreInOrder, Row, attr_cmp, is_attr, value_of}
 use Rattle.resource_model.specs.Home.{HomeData}
-use Rattle.resource_model.specs.Resource.{ResourceData, is_ty, ae_id}
+use Rattle.resource_model.specs.Resource.{ResourceData, is_ty, ae_id, cse_id}
 use Rattle.tree_model.specs.Tree.{at, child_of}
 use Rattle.resource_model.proofs.AttributeLemmas.{is_attr-same}
 use Rattle.tree_model.proofs.TreeLemmas.{at-map}
@@ -29,7 +29,7 @@ use Rattle.policy_eval.specs.Rules.{texts_of, member_at, member_number, sum_of_b
 use Rattle.policy_eval.specs.Rights.{is_subject, with_rule, with_rules, bits_by, grants, relinks, fan_grants}
 use Rattle.policy_eval.specs.Alike.{is_attr_in, shape_attrs, Alike, AreAlike}
 use Rattle.policy_eval.specs.Seen.{is_url, first_url, only_point, seen_points, way_in, retrieve_bit, discovery_bit, has_bit, fills, is_filled_in, may_use, found_attrs, limit_attrs, size_attrs, member_attrs, Shows, is_shown, plain_rules, seen_rules, is_policy_rules, is_way, seen_value, another, seen_owner, seen_ct, seen_lt, seen_et, seen, seen_list}
-use Rattle.policy_eval.proofs.AlikeLemmas.{GiveSame, same_itself, same_from_by, alike-map, child-alike, ae_id-alike, grants-alike, relinks-alike, fan_grants-alike}
+use Rattle.policy_eval.proofs.AlikeLemmas.{GiveSame, same_itself, same_from_by, alike-map, child-alike, ae_id-alike, cse_id-alike, grants-alike, relinks-alike, fan_grants-alike}
 
 -- ---- values
 
@@ -163,6 +163,9 @@ child-seen home nodes o parent name = child-alike home o (seen_list home nodes o
 
 pub ae_id-seen : (home : HomeData) (nodes : List ResourceData) (o : List ℕ) (r : ResourceData) → ae_id (seen home nodes o r) ≡ ae_id r
 ae_id-seen home nodes o r = ae_id-alike home o (seen home nodes o r) r (seen_alike home nodes o r)
+
+pub cse_id-seen : (home : HomeData) (nodes : List ResourceData) (o : List ℕ) (r : ResourceData) → cse_id (seen home nodes o r) ≡ cse_id r
+cse_id-seen home nodes o r = cse_id-alike home o (seen home nodes o r) r (seen_alike home nodes o r)
 
 pub grants-seen : (home : HomeData) (nodes : List ResourceData) (o : List ℕ) (bit n : ℕ) → grants home (seen_list home nodes o) o bit n ≡ grants home nodes o bit n
 grants-seen home nodes o bit n = grants-alike home o (seen_list home nodes o) nodes (seen_list_alike home nodes o) bit n

@@ -2,10 +2,10 @@
 use Rattle.std.specs.Prelude.{ℕ, nat_le, nat_lt, ℤ, pos, negsuc, Bool, List, [], ◌∷◌, length, map}
 use Rattle.std.specs.Prelude.{Option, Some, None, option_and_then, unwrap_or, if◌then◌else◌}
 use Rattle.std.specs.List.{filter_map, flat_map}
-use Rattle.std.specs.Option.{option_map_or}
+use Rattle.std.specs.Option.{option_map_or, option_or}
 use Rattle.m2m_names.specs.declared.attributes.Attr.{Attr}
 use Rattle.m2m_names.specs.declared.attributes.Attr.TheVariants.{Acpi, Macp, Pv, Pvs}
-use Rattle.m2m_names.specs.declared.types.Ty.TheVariants.{AccessControlPolicy, Ae, ContentInstance}
+use Rattle.m2m_names.specs.declared.types.Ty.TheVariants.{AccessControlPolicy, ContentInstance}
 use Rattle.m2m_names.specs.declared.types.Ty.TheVariants.{PollingChannel}
 use Rattle.m2m_names.specs.declared.types.Ty.{Ty}
 use Rattle.m2m_names.specs.Ids.{id_parts}
@@ -124,7 +124,7 @@ linked_rules attr nodes r =
 
 -- the AE-ID or CSE-ID of an application entity or of a remote CSE
 abbrev pub registree : ResourceData → Option (List ℕ)
-registree r = if is_ty r.ty Ae then ae_id r else cse_id r
+registree r = option_or (ae_id r) (cse_id r)
 
 -- a polling channel is its parent's alone (TS-0001, 9.6.21)
 abbrev pub channel_rules : ResourceData → List Rule

@@ -2,7 +2,6 @@
 ghost use Rattle.std.specs.Prelude.{◌≡◌, codes, map, option_map};
 ghost use Rattle.m2m_names.specs.declared.types.Ty.TheVariants.{AccessControlPolicy};
 ghost use Rattle.resource_model.specs.Resource.{is_ty};
-ghost use Rattle.std.specs.Option.{option_map_or};
 ghost use Rattle.policy_eval.specs.Rules as spec;
 
 use m2m_names::{ALL_BITS, Attr, Ty, read_id};
@@ -123,9 +122,8 @@ pub fn ids_at(attr: Attr, resource: &Resource) -> &[Val]
 pub fn registree(resource: &Resource) -> Option<&[u8]>
     ensures { option_map (λ t. t.now) result ≡ spec.registree resource.now }
 {
-    if resource.is(Ty::Ae) {
-        Some(resource.ae_id()?.entries())
-    } else {
-        Some(resource.cse_id()?.entries())
+    match resource.ae_id() {
+        Some(id) => Some(id.entries()),
+        None => Some(resource.cse_id()?.entries()),
     }
 }
