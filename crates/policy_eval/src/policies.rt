@@ -15,18 +15,17 @@ fn member_at<'a>(value: &'a Val, key: &[u8]) -> Option<&'a Val>
     value.as_obj()?.get(key)
 }
 
-/// The elements of a list, where there is one.
-fn listed_in(value: Option<&Val>) -> &[Val]
+/// The elements of a list; of what is no list, and where there is none, none.
+pub fn listed_in(value: Option<&Val>) -> &[Val]
     ensures { result.now ≡ spec.listed_in (option_map (λ v. v.now) value.entry) }
 {
     match value {
-        Some(value) => elements_of(value),
+        Some(value) => listed_values(value),
         None => &[],
     }
 }
 
-/// The elements of a list; of what is no list none.
-pub fn elements_of(value: &Val) -> &[Val]
+fn listed_values(value: &Val) -> &[Val]
     ensures { result.now ≡ spec.listed_in (Some value.now) }
 {
     match value.as_list() {

@@ -10,7 +10,7 @@ use addressing::{AddrFault, Spot, name_spot, parse};
 use entity_model::Entity;
 use m2m_names::{Attr, Ty};
 use m2m_value::{Members, Val};
-use policy_eval::elements_of;
+use policy_eval::listed_in;
 use std::alloc::{AllocError as OutOfMemory, Global};
 use tree_model::{Resource, Tree};
 
@@ -82,10 +82,7 @@ fn policy_meant<'a, T: Tree>(
 pub fn listed(attr: Attr, members: &Members) -> &[Val]
     ensures { result.now ≡ spec.listed attr members.now }
 {
-    match members.get(attr.short().as_bytes()) {
-        Some(value) => elements_of(value),
-        None => &[],
-    }
+    listed_in(members.get(attr.short().as_bytes()))
 }
 
 // Whether all of these lead to live policies.

@@ -89,22 +89,22 @@ fn add_last(alloc: Global, members: &mut Members, ty: Ty, object: Val) -> Result
     ensures keys { OnOk result (HaveTextKeys members.old → HaveTextKeys members.new) }
 {
     let key = Text::from_slice(alloc, ty.member().as_bytes())?;
-    let mut objects = elements(alloc, members.take(key.entries()));
+    let mut objects = taken_elements(alloc, members.take(key.entries()));
     objects.push(object)?;
     members.put(key, Val::of_list(Items::of(objects)))
 }
 
 // The elements of a list; of what is no list none.
-fn elements(alloc: Global, value: Option<Val>) -> Vec<Val>
+fn taken_elements(alloc: Global, value: Option<Val>) -> Vec<Val>
     ensures { result.items ≡ listed_in value }
 {
     match value {
-        Some(value) => elements_of(alloc, value),
+        Some(value) => into_elements(alloc, value),
         None => Vec::new(alloc),
     }
 }
 
-fn elements_of(alloc: Global, value: Val) -> Vec<Val>
+fn into_elements(alloc: Global, value: Val) -> Vec<Val>
     ensures { result.items ≡ listed_in (Some value) }
 {
     match value.into_node() {

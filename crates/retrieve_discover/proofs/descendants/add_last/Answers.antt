@@ -9,7 +9,7 @@ pub returns-clause-value : goal.returns-clause-value
 returns-clause-value c =
     let named : c.in_ok-key.key ≡ ty_member c.args.ty = c.in_ok-key.ensures ∙ c.as_bytes.ensures.value ∙ c.member.ensures in
     on_ok_weaker c.put.result (listed_last c.take.result c.in_ok-key.key c.entries.result.now (ty_member c.args.ty) c.args.object c.of_list.result c.push.new.self.items c.args.members.now c.take.new.self c.put.new.self
-    named c.entries.ensures c.take.ensures.value (c.in_ok-push.ensures.items ∙ ap (λ ds. ds ++ c.args.object ∷ []) c.elements-objects.ensures) (c.of_list.ensures ∙ ap (λ ds. list (elements_of ds)) c.of.ensures) c.take.ensures.taken c.take.ensures.absent) c.put.ensures.ok
+    named c.entries.ensures c.take.ensures.value (c.in_ok-push.ensures.items ∙ ap (λ ds. ds ++ c.args.object ∷ []) c.taken_elements-objects.ensures) (c.of_list.ensures ∙ ap (λ ds. list (elements_of ds)) c.of.ensures) c.take.ensures.taken c.take.ensures.absent) c.put.ensures.ok
 
 pub returns-clause-keys : goal.returns-clause-keys
 returns-clause-keys c =
