@@ -66,7 +66,7 @@ named_by op request r = option_map_or (named_for request) (content_ty op request
 abbrev pub names_copy : List Entry → Bool
 names_copy es = is_named At es || is_named Aa es
 
--- It is admitted for a resource of the type (TS-0004, 7.4); so isn't one that asks for copies, as
+-- It is admitted for a resource of the type (TS-0004, 7.4), but one that asks for copies isn't, as
 -- long as none are made.
 abbrev pub is_content_for : Writing → RequestParts → Ty → Bool
 is_content_for writing request ty =
