@@ -1,10 +1,11 @@
 -- The kinds of attribute values.
-use Rattle.std.specs.Prelude.{ℕ, ◌^◌, ◌==◌, nat_lt, Bool, true, false, ◌&&◌, ◌||◌, List, [], ◌∷◌}
+use Rattle.std.specs.Prelude.{ℕ, ◌==◌, nat_lt, Bool, true, false, ◌&&◌, ◌||◌, List, [], ◌∷◌}
 use Rattle.std.specs.Prelude.{length, codes, is_some}
 use Rattle.std.specs.Char.{is_ascii_graphic}
 use Rattle.std.specs.Int.{is_in_range}
 use Rattle.std.specs.List.{list_all}
 use Rattle.std.specs.Option.{option_map_or}
+use Rattle.m2m_names.specs.Ids.{count_bound}
 use Rattle.m2m_names.specs.Members.{acr_name, acor_name, acop_name}
 use Rattle.m2m_names.specs.Name.{is_filled, is_free_name, is_name, is_originator}
 use Rattle.m2m_names.specs.Operations.{all_bits}
@@ -83,7 +84,7 @@ has_kind Text d = is_some (as_text d)
 has_kind Label d = is_label d
 has_kind Labels d = is_list_of is_label d
 has_kind Truth d = is_some (as_boolean d)
-has_kind Count d = is_count_of (λ n. nat_lt n (2 ^ 63)) d
+has_kind Count d = is_count_of (λ n. nat_lt n count_bound) d
 has_kind (OneOf from to) d = is_count_of (is_in_range from to) d
 has_kind CseId d = is_text_of is_cse_id d
 has_kind CseIds d = is_list_of (is_text_of is_cse_id) d

@@ -1,7 +1,8 @@
 -- What a resource has to be to come last in a sound entity, or to take the place of one (TS-0001,
 -- 9.6).
-use Rattle.std.specs.Prelude.{◌≡◌, ℕ, ◌^◌, ◌<◌, bytes_eq, true, false, option_map, Some, IsTrue}
+use Rattle.std.specs.Prelude.{◌≡◌, ℕ, ◌<◌, bytes_eq, true, false, option_map, Some, IsTrue}
 use Rattle.std.specs.Option.{option_map_or}
+use Rattle.m2m_names.specs.Ids.{count_bound}
 use Rattle.m2m_names.specs.declared.types.Ty.TheVariants.{ContentInstance, PollingChannel}
 use Rattle.resource_model.specs.Resource.{ResourceData, is_ty, cse_id}
 use Rattle.tree_model.specs.Tree.{at, fits_in, has_channel, is_due, instance_size, standing}
@@ -35,7 +36,7 @@ pub record IsFilling (e : EntityData) (r c : ResourceData) (st : ℕ) : Type 0 w
   pub instance : IsTrue (is_ty r.ty ContentInstance)
   pub container : at r.parent e.nodes ≡ Some c
   pub takes : IsTrue (takes_instance c (instance_size r))
-  pub small : st < 2 ^ 63
+  pub small : st < count_bound
 
 -- What may take the place of the resource of its number: that one stands as this does, its policies
 -- are known, its attributes are those of its type, a container has its state tag, and it expires

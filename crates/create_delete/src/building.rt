@@ -18,8 +18,8 @@ ghost use Rattle.create_delete.specs.Joining.{IsAllowed};
 
 use attribute_rules::take_wanted;
 use entity_model::Entity;
-use m2m_names::{Attr, LAST_MOMENT, Ty};
-use m2m_value::{Items, LARGEST_COUNT, Members, Text, Val};
+use m2m_names::{Attr, LARGEST_COUNT, LAST_MOMENT, Ty};
+use m2m_value::{Items, Members, Text, Val};
 use request_rules::{listed, new_ae_id, new_name, new_owner, policy_ids, size_named};
 use std::alloc::{AllocError as OutOfMemory, Global};
 use tree_model::{Attrs, Moments, Resource, Tree};

@@ -2,7 +2,7 @@
 ghost use Rattle.std.specs.Prelude.{◌↔◌, IsTrue};
 ghost use Rattle.filter_criteria.specs.Bounds.{IsMoment, IsCount};
 
-use m2m_names::LAST_MOMENT;
+use m2m_names::{LARGEST_COUNT, LAST_MOMENT};
 
 /// Whether a timestamp has the moment, in seconds since 1970.
 pub fn is_moment(at: u64) -> bool
@@ -15,5 +15,5 @@ pub fn is_moment(at: u64) -> bool
 pub fn is_count(n: u64) -> bool
     ensures { IsTrue result ↔ IsCount n }
 {
-    n < 1 << 63
+    n <= LARGEST_COUNT
 }

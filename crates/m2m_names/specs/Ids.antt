@@ -9,10 +9,14 @@ use Rattle.std.specs.List.{prefix_len}
 use Rattle.m2m_names.specs.Types.{ty_of_word, ty_row}
 use Rattle.m2m_names.specs.declared.types.Ty.{Ty}
 
--- the number with one more decimal digit, where it is below 2^63
+-- counts and the numbers of resources are below this, and no whole number is below its negative
+abbrev pub count_bound : ℕ
+count_bound = 2 ^ 63
+
+-- the number with one more decimal digit, where it is below the bound
 abbrev pub with_digit : ℕ → ℕ → Option ℕ
 with_digit n digit =
-    if is_ascii_digit digit && nat_lt (10 * n + (digit - 48)) (2 ^ 63)
+    if is_ascii_digit digit && nat_lt (10 * n + (digit - 48)) count_bound
     then Some (10 * n + (digit - 48)) else None
 
 -- the number that decimal digits spell, after those already read
@@ -26,7 +30,7 @@ abbrev pub is_written : List ℕ → Bool
 is_written [] = false
 is_written (digit ∷ digits) = not (digit == 48) || length digits == 0
 
--- the number below 2^63 that the text spells in decimal
+-- the number below the bound that the text spells in decimal
 abbrev pub number_written : List ℕ → Option ℕ
 number_written text = if is_written text then number_from 0 text else None
 
@@ -39,8 +43,8 @@ id_text ty n = (ty_row ty).word ++ decimal n
 abbrev pub word_len : List ℕ → ℕ
 word_len text = prefix_len (λ byte. not (is_ascii_digit byte)) text
 
--- the type and the number below 2^63 of a resource id, as those of `cnt7`: what stands before the
--- first digit is the short word of the type, and the rest spells the number
+-- the type and the number below the bound of a resource id, as those of `cnt7`: what stands before
+-- the first digit is the short word of the type, and the rest spells the number
 abbrev pub id_parts : List ℕ → Option (Ty × ℕ)
 id_parts text =
     option_and_then

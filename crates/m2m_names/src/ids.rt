@@ -7,6 +7,9 @@ ghost use Rattle.m2m_names.specs.Ids.{id_text};
 
 use crate::Ty;
 
+/// The largest count, and the largest number of a resource.
+pub const LARGEST_COUNT: u64 = 9_223_372_036_854_775_807;
+
 fn with_digit(n: u64, digit: u8) -> Option<u64>
     requires { n < 2 ^ 63 }
     ensures value { result ≡ spec.with_digit n digit }
@@ -16,7 +19,7 @@ fn with_digit(n: u64, digit: u8) -> Option<u64>
         return None;
     }
     let number = 10 * u128::from(n) + u128::from(digit - b'0');
-    if number < 1 << 63 {
+    if number < LARGEST_COUNT as u128 + 1 {
         Some(number as u64)
     } else {
         None

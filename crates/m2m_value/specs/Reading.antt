@@ -1,9 +1,10 @@
 -- The value that bytes spell, over the values that `serde_json` keeps.
-use Rattle.std.specs.Prelude.{◌≡◌, ℕ, ◌^◌, ◌⊎◌, ℤ, pos, List, nat_lt, if◌then◌else◌, Option, Some}
+use Rattle.std.specs.Prelude.{◌≡◌, ℕ, ◌⊎◌, ℤ, pos, List, nat_lt, if◌then◌else◌, Option, Some}
 use Rattle.std.specs.Prelude.{None, Result, Ok, Err}
 use Rattle.std.specs.Str.{is_utf8}
 use Rattle.serde_json.specs.Data as json
 use Rattle.serde_json.specs.Read.{read}
+use Rattle.m2m_names.specs.Ids.{count_bound}
 use Rattle.m2m_value.specs.Data.{Data, null, boolean, number, text, list, object, Elements}
 use Rattle.m2m_value.specs.Data.{no_elements, element, Pairs, no_pairs, pair}
 use Rattle.m2m_value.specs.declared.fault.ValFault.{ValFault}
@@ -18,7 +19,7 @@ followed (Err fault) next = Err fault
 
 -- a number is whole, and has 64 bits with its sign
 abbrev pub whole_of : json.Num → Result ℤ ValFault
-whole_of (json.unsigned n) = if nat_lt n (2 ^ 63) then Ok (pos n) else Err TooWide
+whole_of (json.unsigned n) = if nat_lt n count_bound then Ok (pos n) else Err TooWide
 whole_of (json.negative z) = Ok z
 whole_of (json.float x) = Err Fraction
 

@@ -1,9 +1,10 @@
 -- What values are: texts, counts, lists and objects of such.
-use Rattle.std.specs.Prelude.{◌-◌, ◌^◌, ◌&&◌, ℕ, ℤ, pos, negsuc, nat_lt, Bool, true, false, List}
+use Rattle.std.specs.Prelude.{◌-◌, ◌&&◌, ℕ, ℤ, pos, negsuc, nat_lt, Bool, true, false, List}
 use Rattle.std.specs.Prelude.{length}
 use Rattle.std.specs.Prelude.{Option, Some, None, option_and_then}
 use Rattle.std.specs.List.{list_all}
 use Rattle.std.specs.Option.{option_map_or}
+use Rattle.m2m_names.specs.Ids.{count_bound}
 use Rattle.m2m_names.specs.Name.{is_filled, is_one_of}
 use Rattle.m2m_value.specs.Data.{Data, Entry}
 use Rattle.m2m_value.specs.View.{as_list, as_number, as_object, as_text, member_of}
@@ -15,7 +16,7 @@ count_of (negsuc n) = None
 
 -- the largest count that a value has
 abbrev pub largest_count : ℕ
-largest_count = 2 ^ 63 - 1
+largest_count = count_bound - 1
 
 -- the value as a count
 abbrev pub as_count : Data → Option ℕ

@@ -1,9 +1,10 @@
 -- What each value keeps, at every level.
-use Rattle.std.specs.Prelude.{◌≡◌, ℕ, ◌^◌, ◌<◌, List, [], ◌∷◌, ◌++◌, IsUtf8, ⊤}
+use Rattle.std.specs.Prelude.{◌≡◌, ℕ, ◌<◌, List, [], ◌∷◌, ◌++◌, IsUtf8, ⊤}
 use Rattle.std.specs.Cmp.Lexicographic.{slice_cmp}
 use Rattle.std.specs.List.{AllByRecursion}
 use Rattle.std.specs.List.Sorted.{IsStrictlySortedBy}
 use Rattle.std.specs.Ordering.{nat_cmp}
+use Rattle.m2m_names.specs.Ids.{count_bound}
 use Rattle.m2m_value.specs.Data.{Data, null, boolean, number, text, list, object, Elements}
 use Rattle.m2m_value.specs.Data.{no_elements, element, Pairs, no_pairs, pair}
 use lib.Signed.{mag}
@@ -19,7 +20,7 @@ abbrev mutual
   pub IsSound : Data → Type 0
   IsSound null = ⊤
   IsSound (boolean b) = ⊤
-  IsSound (number z) = mag z < 2 ^ 63
+  IsSound (number z) = mag z < count_bound
   IsSound (text s) = IsUtf8 s
   IsSound (list es) = AreSound es
   IsSound (object ps) = IsStrictlySortedBy (slice_cmp nat_cmp) (pair_keys ps)

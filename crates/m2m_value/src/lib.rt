@@ -33,7 +33,7 @@ mod writing;
 pub use fault::ValFault;
 pub use json::Scratch;
 pub use reading::{read, read_in};
-pub use shapes::{LARGEST_COUNT, count_of, is_label_text};
+pub use shapes::{count_of, is_label_text};
 pub use std::alloc::AllocError as OutOfMemory;
 pub use text::{Labels, Numbers, Text};
 pub use value::{Items, Members, Node, Val};

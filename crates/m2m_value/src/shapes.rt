@@ -5,9 +5,6 @@ ghost use Rattle.m2m_value.specs.Shapes as spec;
 use crate::value::Val;
 use m2m_names::is_filled;
 
-/// The largest count that a value has.
-pub const LARGEST_COUNT: u64 = 9_223_372_036_854_775_807;
-
 /// The most bytes that a label has.
 const LABEL_LIMIT: usize = 256;
 

@@ -9,8 +9,8 @@ ghost use Rattle.request_rules.specs.Creation.{creation_of};
 
 use container_limits::is_within;
 use entity_model::Entity;
-use m2m_names::{Attr, Ty};
-use m2m_value::{LARGEST_COUNT, Members};
+use m2m_names::{Attr, LARGEST_COUNT, Ty};
+use m2m_value::Members;
 use tree_model::{Resource, Tree};
 
 /// The greatest size of a content instance, in bytes.

@@ -1,7 +1,7 @@
 -- A resource (TS-0001, 9.6).
-use Rattle.std.specs.Prelude.{ℕ, ◌^◌, ◌<◌, ◌≤◌, ◌==◌, List, Bool, Option, None, if◌then◌else◌}
+use Rattle.std.specs.Prelude.{ℕ, ◌<◌, ◌≤◌, ◌==◌, List, Bool, Option, None, if◌then◌else◌}
 use Rattle.std.specs.Prelude.{IsUtf8}
-use Rattle.m2m_names.specs.Ids.{id_text}
+use Rattle.m2m_names.specs.Ids.{count_bound, id_text}
 use Rattle.m2m_names.specs.Name.{is_free_name}
 use Rattle.m2m_names.specs.Stamps.{last_moment}
 use Rattle.m2m_names.specs.Types.{ty_row}
@@ -51,8 +51,8 @@ cse_id r = if is_ty r.ty RemoteCse then text_at Csi r.attrs else None
 pub record IsResource (r : ResourceData) : Type 0 where
   pub name : IsUtf8 r.name
   pub owner : IsUtf8 r.owner
-  pub number : r.number < 2 ^ 63
-  pub parent : r.parent < 2 ^ 63
+  pub number : r.number < count_bound
+  pub parent : r.parent < count_bound
   pub ct : r.ct ≤ last_moment
   pub lt : r.lt ≤ last_moment
   pub et : r.et ≤ last_moment

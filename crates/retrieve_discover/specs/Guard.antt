@@ -1,8 +1,9 @@
 -- By which right a reply tells of resources other than its target (TS-0001, 9.6.2).
-use Rattle.std.specs.Prelude.{◌≡◌, ℕ, ◌^◌, Bool, ◌||◌, List, [], Contains, Some, is_none, IsTrue}
+use Rattle.std.specs.Prelude.{◌≡◌, ℕ, Bool, ◌||◌, List, [], Contains, Some, is_none, IsTrue}
 use Rattle.std.specs.Prelude.{bytes_eq}
 use Rattle.std.specs.List.{list_all, list_any}
 use Rattle.std.specs.Option.{option_map_or}
+use Rattle.m2m_names.specs.Ids.{count_bound}
 use Rattle.m2m_value.specs.Data.{Data}
 use Rattle.primitive_json.specs.declared.reply.ReplyParts.{ReplyParts}
 use Rattle.resource_model.specs.Home.{HomeData}
@@ -30,7 +31,7 @@ pub record HasOwnAddresses (nodes : List ResourceData) : Type 0 where
   pub tree : IsTrue (is_tree nodes)
   pub names : IsTrue (have_free_names nodes)
   pub base : IsTrue (list_all (is_no_name nodes) nodes)
-  pub numbers : IsTrue (are_below (2 ^ 63) nodes)
+  pub numbers : IsTrue (are_below count_bound nodes)
 
 -- ---- rights on what they name
 

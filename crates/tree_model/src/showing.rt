@@ -14,8 +14,8 @@ ghost use Rattle.tree_model.specs.Shown.{with_rows, shown_rows, wrapped, attribu
 ghost use Rattle.tree_model.specs.Shown as spec;
 
 use crate::tree::Tree;
-use m2m_names::{Attr, Ty, write_stamp};
-use m2m_value::{Items, LARGEST_COUNT, Members, Text, Val};
+use m2m_names::{Attr, LARGEST_COUNT, Ty, write_stamp};
+use m2m_value::{Items, Members, Text, Val};
 use resource_model::{Attrs, Home, Resource};
 use std::alloc::{AllocError as OutOfMemory, Global};
 
