@@ -4,6 +4,7 @@ pub mod DayLemmas
 pub mod IdLemmas
 pub mod LookupLemmas
 pub mod NameLemmas
+pub mod NumeralLemmas
 pub mod OperationLemmas
 pub mod PlaceLemmas
 pub mod StampLemmas

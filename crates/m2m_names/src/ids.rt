@@ -1,14 +1,19 @@
 //! Numbers in decimal, and resource ids.
-ghost use Rattle.std.specs.Prelude.{◌≡◌, ℕ, ◌<◌, ◌≤◌, ◌^◌, length, IfSome, Some};
+ghost use Rattle.std.specs.Prelude.{◌≡◌, ℕ, ◌<◌, ◌≤◌, ◌^◌, length, IfSome, IsTrue, Some};
 ghost use Rattle.std.specs.Fmt.{decimal};
+ghost use Rattle.std.specs.Str.Parse.{digits_value};
+ghost use Rattle.m2m_names.specs.Name.{is_numeral};
 ghost use Rattle.m2m_names.specs.declared.types.Ty.{Ty};
 ghost use Rattle.m2m_names.specs.Ids as spec;
 ghost use Rattle.m2m_names.specs.Ids.{id_text};
 
-use crate::Ty;
+use crate::{Ty, are_digits, is_filled};
 
 /// The largest count, and the largest number of a resource.
 pub const LARGEST_COUNT: u64 = 9_223_372_036_854_775_807;
+
+/// The most digits of a number that a text spells.
+const NUMERAL_LIMIT: usize = 18;
 
 fn with_digit(n: u64, digit: u8) -> Option<u64>
     requires { n < 2 ^ 63 }
@@ -63,6 +68,38 @@ fn number_written(text: &[u8]) -> Option<u64>
 {
     if is_written(text) {
         number_in(text)
+    } else {
+        None
+    }
+}
+
+/// The number that the digits write.
+pub fn digits_number(digits: &[u8]) -> u64
+    requires { IsTrue (is_numeral digits.now) }
+    ensures value { result ≡ digits_value 10 digits.now }
+    ensures bound { result < 10 ^ 18 }
+{
+    let mut number = 0;
+    for digit in digits {
+        number = number * 10 + u64::from(digit - b'0');
+    }
+    number
+}
+
+/// Whether the text is 1 to 18 digits.
+pub fn is_numeral(text: &[u8]) -> bool
+    ensures { result ≡ is_numeral text.now }
+{
+    is_filled(text, NUMERAL_LIMIT) && are_digits(text)
+}
+
+/// The number that 1 to 18 digits write.
+pub fn number_spelled(text: &[u8]) -> Option<u64>
+    ensures value { result ≡ spec.number_spelled text.now }
+    ensures bound { IfSome result (λ n. n < 10 ^ 18) }
+{
+    if is_numeral(text) {
+        Some(digits_number(text))
     } else {
         None
     }

@@ -21,7 +21,7 @@ mod urls;
 
 pub use attributes::Attr;
 pub use codes::{OtherNumber, Rsc};
-pub use ids::{LARGEST_COUNT, read_digits, read_id};
+pub use ids::{LARGEST_COUNT, digits_number, is_numeral, number_spelled, read_digits, read_id};
 pub use laws::status_numbers_have_their_digits;
 pub use name::{
     are_digits, are_graphic, is_filled, is_free_name, is_local_originator, is_name, is_originator,

@@ -17,7 +17,7 @@ use Rattle.filter_criteria.proofs.PartLemmas.{passes_along, moment_back}
 use Rattle.primitive_json.specs.Kinds.{is_numeral, number_spelled, expiry_spelled, read_expiry}
 use Rattle.primitive_json.specs.Laws.{IsWhenOfKind, IsShortWhen}
 use Rattle.primitive_json.specs.Writing.{expiry_data}
-use Rattle.primitive_json.proofs.Numerals.{own}
+use Rattle.m2m_names.proofs.NumeralLemmas.{own}
 use Rattle.primitive_json.specs.declared.request.When.{When}
 use Rattle.primitive_json.specs.declared.request.When.TheVariants.{At, Millis}
 

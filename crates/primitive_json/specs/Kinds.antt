@@ -1,12 +1,12 @@
 -- What the value of a member is read as, where it is of the member's kind (TS-0004, 6.3 and 8.2.2).
-use Rattle.std.specs.Prelude.{ℕ, ◌==◌, nat_le, Bool, true, false, ◌&&◌, ℤ, pos, negsuc, List, []}
-use Rattle.std.specs.Prelude.{◌∷◌, Option, Some, None, if◌then◌else◌, is_some, codes, option_map}
-use Rattle.std.specs.Prelude.{option_and_then, unwrap_or}
+use Rattle.std.specs.Prelude.{ℕ, nat_le, Bool, false, ℤ, pos, List, []}
+use Rattle.std.specs.Prelude.{◌∷◌, Option, codes, option_map}
+use Rattle.std.specs.Prelude.{option_and_then}
 use Rattle.std.specs.List.{list_any}
 use Rattle.std.specs.Option.{option_or, option_map_or}
 use Rattle.std.specs.Ordering.{int_eq}
-use Rattle.std.specs.Str.Parse.{digits_value}
 use Rattle.m2m_names.specs.Name.{is_filled, is_originator}
+pub use Rattle.m2m_names.specs.Ids.{number_spelled}
 pub use Rattle.m2m_names.specs.Name.{is_numeral, numeral_limit}
 use Rattle.m2m_names.specs.Operations.{op_of_number}
 use Rattle.m2m_names.specs.StampReading.{moment_at}
@@ -15,9 +15,9 @@ use Rattle.m2m_names.specs.declared.codes.Rsc.{Rsc}
 use Rattle.m2m_names.specs.declared.operations.Op.{Op}
 use Rattle.m2m_names.specs.declared.operations.Op.TheVariants.{Create, Retrieve, Update, Delete}
 use Rattle.m2m_names.specs.declared.operations.Op.TheVariants.{Notify}
-use Rattle.m2m_value.specs.Data.{Data, null, boolean, number, text, list, object, Entry}
+use Rattle.m2m_value.specs.Data.{Data}
 use Rattle.m2m_value.specs.Shapes.{as_count, is_text_of}
-use Rattle.m2m_value.specs.View.{as_number, as_text, as_object, entries, member_of}
+use Rattle.m2m_value.specs.View.{as_number, as_text, member_of}
 use Rattle.filter_criteria.specs.Values.{where_it, members_in}
 use Rattle.primitive_json.specs.Bounds.{is_request_id}
 use Rattle.primitive_json.specs.declared.request.When.{When}
@@ -70,10 +70,6 @@ read_response_type d =
     option_or (as_number d) (option_and_then as_number (member_of (codes "rtv") (members_in d)))
 
 -- ---- expiry
-
--- the number that 1 to 18 digits write
-abbrev pub number_spelled : List ℕ → Option ℕ
-number_spelled s = if is_numeral s then Some (digits_value 10 s) else None
 
 -- milliseconds by digits, else the moment of a timestamp
 abbrev pub expiry_spelled : List ℕ → Option When

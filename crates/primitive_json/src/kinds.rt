@@ -1,20 +1,16 @@
 //! What the values of members are read as, where they are of their kinds. Nothing is copied.
-ghost use Rattle.std.specs.Prelude.{◌≡◌, ◌<◌, ◌^◌, IfSome, IsTrue};
-ghost use Rattle.std.specs.Str.Parse.{digits_value};
+ghost use Rattle.std.specs.Prelude.{◌≡◌, IfSome};
 ghost use Rattle.primitive_json.specs.Requests.{IsSoundWhen};
 ghost use Rattle.primitive_json.specs.Kinds as spec;
 
 use crate::bounds::is_request_id;
 use crate::request::When;
 use filter_criteria::value_at;
-use m2m_names::{Op, Rsc, are_digits, is_filled, is_originator, read_stamp};
+use m2m_names::{Op, Rsc, is_filled, is_originator, number_spelled, read_stamp};
 use m2m_value::Val;
 
 /// The most bytes that the target of a request has.
 pub const TARGET_LIMIT: usize = 1_024;
-
-/// The most digits of a count of milliseconds.
-const NUMERAL_LIMIT: usize = 18;
 
 /// A text that the target of a request may be: not empty, within its limit.
 pub fn is_address_text(value: &Val) -> bool
@@ -94,38 +90,6 @@ pub fn read_response_type(value: &Val) -> Option<i64>
     match value.as_num() {
         Some(number) => Some(number),
         None => value_at(value, "rtv")?.as_num(),
-    }
-}
-
-/// The number that the digits write.
-pub fn digits_number(digits: &[u8]) -> u64
-    requires { IsTrue (spec.is_numeral digits.now) }
-    ensures value { result ≡ digits_value 10 digits.now }
-    ensures bound { result < 10 ^ 18 }
-{
-    let mut number = 0;
-    for digit in digits {
-        number = number * 10 + u64::from(digit - b'0');
-    }
-    number
-}
-
-/// Whether the text is 1 to 18 digits.
-pub fn is_numeral(text: &[u8]) -> bool
-    ensures { result ≡ spec.is_numeral text.now }
-{
-    is_filled(text, NUMERAL_LIMIT) && are_digits(text)
-}
-
-/// The number that 1 to 18 digits write.
-pub fn number_spelled(text: &[u8]) -> Option<u64>
-    ensures value { result ≡ spec.number_spelled text.now }
-    ensures bound { IfSome result (λ n. n < 10 ^ 18) }
-{
-    if is_numeral(text) {
-        Some(digits_number(text))
-    } else {
-        None
     }
 }
 

@@ -36,11 +36,9 @@ pub use fault::{Fault, PrimFault};
 pub use filter_criteria::{Filter, FilterParts, FilterUsage, is_count, is_moment};
 pub use form::has_form;
 pub use judging::{reply_fault, request_fault};
-pub use kinds::{
-    TARGET_LIMIT, address_forms, digits_number, expiry_spelled, is_among, is_numeral,
-    number_spelled, result_contents,
-};
+pub use kinds::{TARGET_LIMIT, address_forms, expiry_spelled, is_among, result_contents};
 pub use laws::{replies_are_read_back, requests_are_read_back};
+pub use m2m_names::{digits_number, is_numeral, number_spelled};
 pub use m2m_value::Labels;
 pub use member::{Member, creates, has_content, has_result, retrieves};
 pub use note::{Dest, Kind, Note, NoteParts};

@@ -1,8 +1,8 @@
 use Rattle.std.proofs.Common.{◌≡◌, ◌<◌, ◌^◌, take, sym, ap, ◌∙◌, subst, arith}
 use Rattle.std.proofs.lemmas.List.{take_all}
 use Rattle.std.specs.Str.Parse.{digits_value}
-use Rattle.primitive_json.proofs.Numerals.{adds_digit, numeral_bound}
-use Rattle.primitive_json.proofs.kinds.digits_number.Goals as goal
+use Rattle.m2m_names.proofs.NumeralLemmas.{adds_digit, numeral_bound}
+use Rattle.m2m_names.proofs.ids.digits_number.Goals as goal
 
 pub overflow_mul-number : goal.overflow_mul-number
 overflow_mul-number c =

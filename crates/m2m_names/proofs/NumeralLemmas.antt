@@ -1,0 +1,57 @@
+-- The number of a numeral, digit by digit.
+use Rattle.std.proofs.Common.{◌≡◌, ℕ, zero, suc, ◌+◌, ◌-◌, ◌*◌, ◌^◌, ◌<◌, ◌≤◌, List, [], ◌∷◌, ◌++◌, length, take, get_or, true, refl, ap, ◌∙◌, arith, rules}
+use Rattle.std.proofs.lemmas.Bool.{and_parts}
+use Rattle.std.proofs.lemmas.Bool.Decides.{nat_tests}
+use Rattle.std.proofs.lemmas.List.{take_more}
+use Rattle.std.proofs.lemmas.Str.Parse.{IsNumeralModel, IsDigitsTest, numerals_by_value, digits_value_short, digits_value-take-le}
+use Rattle.std.specs.Char.{is_ascii_digit, digit_value}
+use Rattle.std.specs.List.{list_all}
+use Rattle.std.specs.Str.Parse.{digits_value, digits_value_after}
+use Rattle.m2m_names.specs.Name.{is_filled, is_numeral}
+
+tells_digits : IsDigitsTest (λ ds. list_all is_ascii_digit ds ≡ true)
+tells_digits = search rules
+
+pub own : IsNumeralModel (λ ds. list_all is_ascii_digit ds ≡ true) (digits_value 10)
+own = numerals_by_value _ tells_digits
+
+after-push : (n : ℕ) (ds : List ℕ) (c : ℕ) → digits_value_after 10 n (ds ++ c ∷ []) ≡ digits_value_after 10 n ds * 10 + digit_value c
+after-push n [] c = refl
+after-push n (d ∷ ds) c = after-push (n * 10 + digit_value d) ds c
+
+digit_at : (ds : List ℕ) (i : ℕ) → list_all is_ascii_digit ds ≡ true → i < length ds → is_ascii_digit (get_or ds i 0) ≡ true
+digit_at [] i h within = absurd (omega arith)
+digit_at (d ∷ ds) zero h within = (and_parts _ _ h).0
+digit_at (d ∷ ds) (suc i) h within = digit_at ds i (and_parts _ _ h).1 (omega arith)
+
+digit_bounds : (c : ℕ) → is_ascii_digit c ≡ true → (48 ≤ c) × (c ≤ 57)
+digit_bounds c h = (grind (arith, nat_tests), grind (arith, nat_tests))
+
+digit_is : (c : ℕ) → is_ascii_digit c ≡ true → digit_value c ≡ c - 48
+digit_is c h = grind (arith, nat_tests)
+
+short : (ds : List ℕ) → is_filled 18 ds ≡ true → length ds ≤ 18
+short ds h = grind (arith, nat_tests)
+
+pub numeral_bound : (ds : List ℕ) → is_numeral ds ≡ true → digits_value 10 ds < 10 ^ 18
+numeral_bound ds h = let parts = and_parts _ _ h in digits_value_short own ds 18 parts.1 (short ds parts.0)
+
+-- one digit more
+pub record AddsDigit (ds : List ℕ) (i : ℕ) : Type 0 where
+  pub low : 48 ≤ get_or ds i 0
+  pub high : get_or ds i 0 ≤ 57
+  pub next : digits_value 10 (take (i + 1) ds) ≡ digits_value 10 (take i ds) * 10 + (get_or ds i 0 - 48)
+  pub bound : digits_value 10 (take (i + 1) ds) < 10 ^ 18
+
+pub adds_digit : (ds : List ℕ) (i : ℕ) → is_numeral ds ≡ true → i < length ds → AddsDigit ds i
+adds_digit ds i h within =
+    let parts = and_parts (is_filled 18 ds) (list_all is_ascii_digit ds) h in
+    let digit : is_ascii_digit (get_or ds i 0) ≡ true = digit_at ds i parts.1 within in
+    let bounds : (48 ≤ get_or ds i 0) × (get_or ds i 0 ≤ 57) = digit_bounds (get_or ds i 0) digit in
+    let most = digits_value-take-le 10 ds (i + 1) (omega arith) in
+    record {
+      low = bounds.0;
+      high = bounds.1;
+      next = ap (digits_value 10) (take_more ds i 0 within) ∙ after-push 0 (take i ds) (get_or ds i 0) ∙ ap (λ v. digits_value 10 (take i ds) * 10 + v) (digit_is (get_or ds i 0) digit);
+      bound = omega (arith, most, numeral_bound ds h);
+    }
