@@ -1,12 +1,12 @@
 -- A resource is named by its structured address, and by its id.
-use Rattle.std.specs.Prelude.{bytes_eq, codes, nat_eq}
-use Rattle.std.proofs.Common.{◌≡◌, ℕ, zero, suc, ◌+◌, ◌<◌, ◌≤◌, ◌^◌, ◌==◌, Bool, true, false, cond, not, ◌&&◌, ◌||◌, List, [], ◌∷◌, ◌++◌, length, find, map, reverse, Option, Some, None, Ok, inl, inr, refl, sym, ap, ap₂, subst, ◌∙◌, arith, ◌%◌, ◌⊎◌, leb, Bor}
+use Rattle.std.specs.Prelude.{bytes_eq, codes}
+use Rattle.std.proofs.Common.{◌≡◌, ℕ, zero, suc, ◌+◌, ◌<◌, ◌≤◌, ◌^◌, Bool, true, false, cond, ◌&&◌, List, [], ◌∷◌, ◌++◌, length, find, map, reverse, Option, Some, None, inl, inr, refl, sym, ap, ap₂, subst, ◌∙◌, arith, ◌⊎◌, leb, Bor}
 use Rattle.std.specs.Fmt.{decimal}
-use Rattle.std.specs.List.{list_all, list_any}
-use Rattle.std.specs.Option.{option_and_then, option_map, option_or}
-use Rattle.std.proofs.lemmas.Bool.{and_from, and_parts, both_ways, cases_Bool, cond-true, eq-eqb, eqb-true, false_from_ne_true, leb-true, le-leb, lt-ltb, ne_eqb, not-true, or_cases, or_from, or_left, or_parts}
+use Rattle.std.specs.List.{list_all}
+use Rattle.std.specs.Option.{option_and_then, option_or}
+use Rattle.std.proofs.lemmas.Bool.{and_from, and_parts, cases_Bool, eq-eqb, false_from_ne_true, leb-true, le-leb, lt-ltb, not-true, or_cases, or_left, or_parts}
 use Rattle.std.proofs.lemmas.Bool.Decides.{nat_tests}
-use Rattle.std.proofs.lemmas.Fmt.{decimal_by_steps, decimal_nonempty, length-decimal-le}
+use Rattle.std.proofs.lemmas.Fmt.{decimal_nonempty, length-decimal-le}
 use Rattle.std.proofs.lemmas.List.{append-nil, append_assoc, length-append, map-append, reverse-append}
 use Rattle.std.proofs.lemmas.List.Folds.{find-append, list_all-append}
 use Rattle.std.proofs.lemmas.Option.{same_Some}
@@ -17,12 +17,13 @@ use Rattle.m2m_names.specs.Types.{ty_row}
 use Rattle.m2m_names.specs.declared.types.Ty.{Ty}
 use Rattle.m2m_names.specs.declared.types.Ty.TheVariants.{AccessControlPolicy, Ae, Container, ContentInstance, CseBase, Group, PollingChannel, RemoteCse, Subscription, AccessControlPolicyAnnc, AeAnnc, ContainerAnnc, ContentInstanceAnnc, GroupAnnc}
 use Rattle.m2m_names.proofs.IdLemmas.{id_parts-id_text}
+use Rattle.m2m_names.proofs.NumeralLemmas.{decimal_passes}
 use Rattle.m2m_names.proofs.StatusLemmas.{find_none}
 use Rattle.resource_model.specs.Home.{HomeData}
-use Rattle.resource_model.specs.Resource.{ResourceData, has_number, id_of, is_ty}
-use Rattle.tree_model.specs.Tree.{ae_of, at, child_of, may_stand, has, has_child, is_child, is_tree, line_from, line_of, resource_number}
+use Rattle.resource_model.specs.Resource.{ResourceData, has_number, id_of}
+use Rattle.tree_model.specs.Tree.{ae_of, at, child_of, may_stand, has, is_child, is_tree, line_of, resource_number}
 use Rattle.tree_model.proofs.GrowthLemmas.{IsNext, growth, line-append, next_fits, root_parent, stands, zero_lacks}
-use Rattle.tree_model.proofs.TreeLemmas.{at_has, at_number, at-append, has-append, has_at, has_from_at}
+use Rattle.tree_model.proofs.TreeLemmas.{at-append, has-append, has_at, has_from_at}
 use Rattle.m2m_names.specs.Urls.{point_limit}
 use Rattle.addressing.specs.Addresses.{are_names, joined}
 use Rattle.addressing.specs.Laws.{have_free_names, named_here, spot_named}
@@ -52,12 +53,8 @@ short_word GroupAnnc = refl
 digit_is_plain : (d : ℕ) → d < 10 → is_unreserved (48 + d) ≡ true
 digit_is_plain d digit = grind (arith, nat_tests)
 
-digits_are_plain : (n : ℕ) → n < 2 ^ 63 → list_all is_unreserved (decimal n) ≡ true
-digits_are_plain n small =
-    decimal_by_steps (λ n ds. list_all is_unreserved ds ≡ true)
-    (λ n digit. and_from _ _ (digit_is_plain n digit) refl)
-    (λ n ds big earlier. list_all-append is_unreserved ds ((48 + n % 10) ∷ []) ∙ and_from _ _ earlier (and_from _ _ (digit_is_plain (n % 10) (omega arith)) refl))
-    n (omega (arith, small))
+pub digits_are_plain : (n : ℕ) → n < 2 ^ 63 → list_all is_unreserved (decimal n) ≡ true
+digits_are_plain = decimal_passes is_unreserved digit_is_plain
 
 id_is_name : (ty : Ty) (n : ℕ) → n < 2 ^ 63 → is_name (id_text ty n) ≡ true
 id_is_name ty n small =

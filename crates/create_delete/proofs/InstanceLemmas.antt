@@ -1,7 +1,7 @@
 -- Soundness where an instance joins a container, which is stamped anew and pushes out what doesn't fit.
 use Rattle.std.specs.Prelude.{nat_le, sum_by}
 use Rattle.std.proofs.Common.{◌≡◌, ℕ, ◌+◌, ◌^◌, ◌<◌, ◌≤◌, List, [], ◌∷◌, ◌++◌, Bool, true, false, not, ◌&&◌, Option, Some, None, is_some, option_map, pos, refl, sym, ap, ◌∙◌, subst, arith}
-use Rattle.std.proofs.lemmas.Bool.{and_parts, and_from, or_right, both_ways, lt-ltb, leb-false, ltb-true, le-leb, eq-eqb, not_from_false}
+use Rattle.std.proofs.lemmas.Bool.{and_parts, and_from, or_right, both_ways, lt-ltb, leb-false, ltb-true, le-leb, eq-eqb, eqb-true, not_from_false}
 use Rattle.std.specs.List.{list_all}
 use Rattle.std.specs.Option.{option_map_or}
 use Rattle.m2m_names.specs.Types.{does_take}
@@ -9,6 +9,7 @@ use Rattle.m2m_names.specs.declared.attributes.Attr.{Attr}
 use Rattle.m2m_names.specs.declared.attributes.Attr.TheVariants.{Acpi, Macp, Mbs, Mia, Mni, St}
 use Rattle.m2m_names.specs.declared.types.Ty.{Ty}
 use Rattle.m2m_names.specs.declared.types.Ty.TheVariants.{AccessControlPolicy, Ae, Container, ContentInstance, CseBase, Group, PollingChannel, RemoteCse, Subscription, AccessControlPolicyAnnc, AeAnnc, ContainerAnnc, ContentInstanceAnnc, GroupAnnc}
+use Rattle.m2m_names.proofs.TypeLemmas.{same_type}
 use Rattle.m2m_value.specs.Data.{Data, number}
 use Rattle.resource_model.specs.Attributes.{is_attr, value_of, count_at}
 use Rattle.resource_model.specs.Resource.{ResourceData, is_ty}
@@ -55,37 +56,11 @@ takes_is_container ContentInstanceAnnc taken = absurd (both_ways _ refl taken)
 takes_is_container GroupAnnc taken = absurd (both_ways _ refl taken)
 
 -- a type by its number
-same_type : (t : Ty) → is_ty t Container ≡ true → t ≡ Container
-same_type Container is = refl
-same_type AccessControlPolicy is = absurd (both_ways _ refl is)
-same_type Ae is = absurd (both_ways _ refl is)
-same_type ContentInstance is = absurd (both_ways _ refl is)
-same_type CseBase is = absurd (both_ways _ refl is)
-same_type Group is = absurd (both_ways _ refl is)
-same_type PollingChannel is = absurd (both_ways _ refl is)
-same_type RemoteCse is = absurd (both_ways _ refl is)
-same_type Subscription is = absurd (both_ways _ refl is)
-same_type AccessControlPolicyAnnc is = absurd (both_ways _ refl is)
-same_type AeAnnc is = absurd (both_ways _ refl is)
-same_type ContainerAnnc is = absurd (both_ways _ refl is)
-same_type ContentInstanceAnnc is = absurd (both_ways _ refl is)
-same_type GroupAnnc is = absurd (both_ways _ refl is)
+container_type : (t : Ty) → is_ty t Container ≡ true → t ≡ Container
+container_type t is = same_type t Container (eqb-true _ _ is)
 
 pub instance_type : (t : Ty) → is_ty t ContentInstance ≡ true → t ≡ ContentInstance
-instance_type ContentInstance is = refl
-instance_type AccessControlPolicy is = absurd (both_ways _ refl is)
-instance_type Ae is = absurd (both_ways _ refl is)
-instance_type Container is = absurd (both_ways _ refl is)
-instance_type CseBase is = absurd (both_ways _ refl is)
-instance_type Group is = absurd (both_ways _ refl is)
-instance_type PollingChannel is = absurd (both_ways _ refl is)
-instance_type RemoteCse is = absurd (both_ways _ refl is)
-instance_type Subscription is = absurd (both_ways _ refl is)
-instance_type AccessControlPolicyAnnc is = absurd (both_ways _ refl is)
-instance_type AeAnnc is = absurd (both_ways _ refl is)
-instance_type ContainerAnnc is = absurd (both_ways _ refl is)
-instance_type ContentInstanceAnnc is = absurd (both_ways _ refl is)
-instance_type GroupAnnc is = absurd (both_ways _ refl is)
+instance_type t is = same_type t ContentInstance (eqb-true _ _ is)
 
 -- ---- a container that is stamped anew
 
@@ -108,12 +83,12 @@ state_kind st small = lt-ltb st (2 ^ 63) small
 
 kinds_restamped : (lt st : ℕ) (c : ResourceData) → is_ty c.ty Container ≡ true → st < 2 ^ 63 → are_kinds c ≡ true → are_kinds (restamped lt st c) ≡ true
 kinds_restamped lt st c container small kinds =
-    kinds-with_value c.ty (St, number (pos st)) c.attrs (ap (λ t. is_attr_kind t (St, number (pos st))) (same_type c.ty container) ∙ state_kind st small) kinds
+    kinds-with_value c.ty (St, number (pos st)) c.attrs (ap (λ t. is_attr_kind t (St, number (pos st))) (container_type c.ty container) ∙ state_kind st small) kinds
 
 -- what isn't due expires later
 expires_later : (o : Option ResourceData) (c : ResourceData) (moment : ℕ) → is_ty c.ty Container ≡ true → option_map_or (λ at. nat_le at moment) (due_under o c) false ≡ false → moment < c.et
 expires_later o c moment container quiet =
-    let is : c.ty ≡ Container = same_type c.ty container in
+    let is : c.ty ≡ Container = container_type c.ty container in
     let other : is_ty c.ty CseBase ≡ false = ap (λ t. is_ty t CseBase) is in
     let plain : is_ty c.ty ContentInstance ≡ false = ap (λ t. is_ty t ContentInstance) is in
     leb-false c.et moment (rw (other, plain) at quiet)
@@ -149,7 +124,7 @@ module _ (e : EntityData) (r c : ResourceData) (st : ℕ) (sound : IsSoundEntity
       takes_is_container c.ty (ap (does_take c.ty) (sym (instance_type r.ty filling.instance)) ∙ takes)
 
   plain : is_ty c.ty ContentInstance ≡ false
-  plain = ap (λ t. is_ty t ContentInstance) (same_type c.ty is_container)
+  plain = ap (λ t. is_ty t ContentInstance) (container_type c.ty is_container)
 
   pub there : at n grown ≡ Some c
   there = at-append n e.nodes (r ∷ []) ∙ rw filling.container refl

@@ -1,12 +1,12 @@
 -- What a new resource keeps: policies that are known, and attributes of their kinds.
 use Rattle.std.specs.Prelude.{◌==◌, nat_le, nat_lt}
 use Rattle.std.proofs.Common.{◌≡◌, ℕ, ◌+◌, ◌-◌, ◌^◌, ◌<◌, ◌≤◌, List, [], ◌∷◌, ◌++◌, length, length-append, map, Bool, true, false, Option, Some, None, is_some, option_and_then, unwrap_or, IfSome, if◌then◌else◌, codes, inl, inr, refl, sym, ap, ◌∙◌, arith}
-use Rattle.std.specs.Prelude.{◌%◌, ◌||◌, bytes_eq}
+use Rattle.std.specs.Prelude.{◌||◌, bytes_eq}
 use Rattle.std.proofs.lemmas.Bool.{cases_Bool, and_parts, and_from, both_ways, not_from_false, lt-ltb, le-leb, leb-true, eqb-true}
 use Rattle.std.proofs.lemmas.List.{nil_from_length}
 use Rattle.std.proofs.lemmas.List.Folds.{list_all-append}
 use Rattle.std.proofs.lemmas.Bool.Decides.{nat_tests}
-use Rattle.std.proofs.lemmas.Fmt.{decimal_by_steps, length-decimal-le}
+use Rattle.std.proofs.lemmas.Fmt.{length-decimal-le}
 use Rattle.std.proofs.lemmas.Option.{same_Some}
 use Rattle.std.specs.Char.{is_ascii_graphic}
 use Rattle.std.specs.Fmt.{decimal}
@@ -20,6 +20,7 @@ use Rattle.m2m_names.specs.declared.attributes.Attr.{Attr}
 use Rattle.m2m_names.specs.declared.attributes.Attr.TheVariants.{Acpi, Aei, Cr, Cs, Macp, Rn, St}
 use Rattle.m2m_names.specs.declared.types.Ty.{Ty}
 use Rattle.m2m_names.specs.declared.types.Ty.TheVariants.{AccessControlPolicy, Ae, Container, ContentInstance, CseBase, Group, PollingChannel, RemoteCse, Subscription, AccessControlPolicyAnnc, AeAnnc, ContainerAnnc, ContentInstanceAnnc, GroupAnnc}
+use Rattle.m2m_names.proofs.NumeralLemmas.{decimal_passes}
 use Rattle.m2m_value.specs.Data.{Data, Entry, text, list, elements_of}
 use Rattle.m2m_value.specs.Node.{AreSorted}
 use Rattle.m2m_value.specs.View.{as_text, member_of}
@@ -43,6 +44,7 @@ use Rattle.attribute_rules.proofs.KindLemmas.{created_members, kinds-with_value}
 use Rattle.attribute_rules.proofs.ValueLemmas.{value_wanted}
 use Rattle.policy_eval.specs.Rules.{listed_in, policy_at}
 use Rattle.policy_eval.proofs.NameLemmas.{policy_number-id_of}
+use Rattle.addressing.proofs.NameLemmas.{digits_are_plain}
 use Rattle.addressing.specs.Laws.{spot_named}
 use Rattle.addressing.specs.declared.spot.Spot.{Spot}
 use Rattle.addressing.specs.declared.spot.Spot.TheVariants.{Resource, Fan, Poll}
@@ -195,11 +197,7 @@ digit_is_graphic : (d : ℕ) → d < 10 → is_ascii_graphic (48 + d) ≡ true
 digit_is_graphic d digit = grind (arith, nat_tests)
 
 digits_are_graphic : (n : ℕ) → n < 2 ^ 63 → list_all is_ascii_graphic (decimal n) ≡ true
-digits_are_graphic n small =
-    decimal_by_steps (λ n ds. list_all is_ascii_graphic ds ≡ true)
-    (λ n digit. and_from _ _ (digit_is_graphic n digit) refl)
-    (λ n ds big earlier. list_all-append is_ascii_graphic ds ((48 + n % 10) ∷ []) ∙ and_from _ _ earlier (and_from _ _ (digit_is_graphic (n % 10) (omega arith)) refl))
-    n (omega (arith, small))
+digits_are_graphic = decimal_passes is_ascii_graphic digit_is_graphic
 
 stem_id : (stem : List ℕ) (n : ℕ) → (length stem ≡ 1) × (list_all is_ascii_graphic stem ≡ true) → n < 2 ^ 63 → is_originator (stem ++ id_text Ae n) ≡ true
 stem_id stem n plain small =
@@ -224,16 +222,6 @@ ae_id_originator c originator small = elim (cases_Bool (is_ae_id c.o)) [
 ]
 
 -- ---- names
-
-digit_is_unreserved : (d : ℕ) → d < 10 → is_unreserved (48 + d) ≡ true
-digit_is_unreserved d digit = grind (arith, nat_tests)
-
-digits_are_unreserved : (n : ℕ) → n < 2 ^ 63 → list_all is_unreserved (decimal n) ≡ true
-digits_are_unreserved n small =
-    decimal_by_steps (λ n ds. list_all is_unreserved ds ≡ true)
-    (λ n digit. and_from _ _ (digit_is_unreserved n digit) refl)
-    (λ n ds big earlier. list_all-append is_unreserved ds ((48 + n % 10) ∷ []) ∙ and_from _ _ earlier (and_from _ _ (digit_is_unreserved (n % 10) (omega arith)) refl))
-    n (omega (arith, small))
 
 -- the short word of a type, `_` and digits make a name that addresses nothing else
 record IsWord (word : List ℕ) : Type 0 where
@@ -267,7 +255,7 @@ numbered_is_free word n is small =
     and_from _ _
     (and_from _ _
     (and_from _ _ (lt-ltb 0 (length text) (omega (arith, all, front))) (le-leb (length text) 64 (omega (arith, all, front, few, most))))
-    (list_all-append is_unreserved (word ++ codes "_") (decimal n) ∙ and_from _ _ (list_all-append is_unreserved word (codes "_") ∙ and_from _ _ is.plain refl) (digits_are_unreserved n small)))
+    (list_all-append is_unreserved (word ++ codes "_") (decimal n) ∙ and_from _ _ (list_all-append is_unreserved word (codes "_") ∙ and_from _ _ is.plain refl) (digits_are_plain n small)))
     (not_from_false _ (is.apart (decimal n)))
 
 -- the name that is given, and the one that is made

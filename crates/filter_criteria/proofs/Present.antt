@@ -1,6 +1,7 @@
 -- The entries that are there, of rows in byte order of their names.
 use Rattle.std.proofs.Common.{◌≡◌, ℕ, ◌+◌, ◌<◌, List, [], ◌∷◌, ◌++◌, length, take, get_or, map, Bool, true, false, not, ◌&&◌, cond, bytes_eq, Option, Some, None, IfSome, find, Less, Ordering, refl, sym, ap, ◌∙◌}
 use Rattle.std.proofs.lemmas.Bool.{and_parts}
+use Rattle.std.proofs.lemmas.List.{map_more}
 use Rattle.std.proofs.lemmas.List.Elements.{filter_map-append}
 use Rattle.std.proofs.lemmas.Slice.Eq.{bytes_eq-Decides}
 use Rattle.std.specs.Char.{is_ascii_graphic}
@@ -15,7 +16,6 @@ use Rattle.m2m_value.specs.View.{member_of}
 use Rattle.m2m_value.proofs.Levels.{entries-pairs_of}
 use Rattle.m2m_value.proofs.Lookup.{compared}
 use Rattle.filter_criteria.specs.Values.{members_in, NamedValue, entry_there, present, object_of}
-use Rattle.filter_criteria.proofs.Lists.{take_more}
 
 abbrev pub names : List NamedValue → List (List ℕ)
 names [] = []
@@ -41,15 +41,8 @@ not_true true e = cc
 
 -- ---- one row more
 
-map-append : {X Y : Type 0} (f : X → Y) (xs ys : List X) → map f (xs ++ ys) ≡ map f xs ++ map f ys
-map-append f [] ys = refl
-map-append f (x ∷ xs) ys = ap (λ l. f x ∷ l) (map-append f xs ys)
-
-pub map-more : {X Y : Type 0} (f : X → Y) (xs : List X) (i : ℕ) (d : X) → i < length xs → map f (take (i + 1) xs) ≡ map f (take i xs) ++ f (get_or xs i d) ∷ []
-map-more f xs i d within = ap (map f) (take_more xs i d within) ∙ map-append f (take i xs) (get_or xs i d ∷ [])
-
 pub present-more : {M : Type 0} (row : M → NamedValue) (ms : List M) (i : ℕ) (d : M) → i < length ms → present (map row (take (i + 1) ms)) ≡ present (map row (take i ms)) ++ present (row (get_or ms i d) ∷ [])
-present-more row ms i d within = ap present (map-more row ms i d within) ∙ filter_map-append entry_there (map row (take i ms)) (row (get_or ms i d) ∷ [])
+present-more row ms i d within = ap present (map_more row ms i d within) ∙ filter_map-append entry_there (map row (take i ms)) (row (get_or ms i d) ∷ [])
 
 -- three rows, one after another
 pub three_present : (a b c : NamedValue) (none one two three : List Entry) → none ≡ [] → one ≡ none ++ present (a ∷ []) → two ≡ one ++ present (b ∷ []) → three ≡ two ++ present (c ∷ []) → three ≡ present (a ∷ b ∷ c ∷ [])

@@ -1,23 +1,30 @@
--- The number of a numeral, digit by digit.
-use Rattle.std.proofs.Common.{◌≡◌, ℕ, zero, suc, ◌+◌, ◌-◌, ◌*◌, ◌^◌, ◌<◌, ◌≤◌, List, [], ◌∷◌, ◌++◌, length, take, get_or, true, refl, ap, ◌∙◌, arith, rules}
-use Rattle.std.proofs.lemmas.Bool.{and_parts}
+-- Numbers as digits: the number of a numeral, digit by digit, and the digits of a number in decimal.
+use Rattle.std.proofs.Common.{◌≡◌, Bool, ◌%◌, ℕ, zero, suc, ◌+◌, ◌-◌, ◌*◌, ◌^◌, ◌<◌, ◌≤◌, List, [], ◌∷◌, length, take, get_or, true, refl, ap, ◌∙◌, arith, rules}
+use Rattle.std.proofs.lemmas.Bool.{and_from, and_parts}
 use Rattle.std.proofs.lemmas.Bool.Decides.{nat_tests}
-use Rattle.std.proofs.lemmas.List.{take_more}
+use Rattle.std.proofs.lemmas.Fmt.{decimal_by_steps}
+use Rattle.std.proofs.lemmas.Int.Digits.{digits_value_more}
+use Rattle.std.proofs.lemmas.List.Folds.{list_all-append}
 use Rattle.std.proofs.lemmas.Str.Parse.{IsNumeralModel, IsDigitsTest, numerals_by_value, digits_value_short, digits_value-take-le}
 use Rattle.std.specs.Char.{is_ascii_digit, digit_value}
+use Rattle.std.specs.Fmt.{decimal}
 use Rattle.std.specs.List.{list_all}
-use Rattle.std.specs.Str.Parse.{digits_value, digits_value_after}
+use Rattle.std.specs.Str.Parse.{digits_value}
 use Rattle.m2m_names.specs.Name.{is_filled, is_numeral}
+
+-- what holds of each digit holds of each byte of a number in decimal
+pub decimal_passes : (p : ℕ → Bool) → ((d : ℕ) → d < 10 → p (48 + d) ≡ true) → (n : ℕ) → n < 2 ^ 63 → list_all p (decimal n) ≡ true
+decimal_passes p each n small =
+    decimal_by_steps (λ n ds. list_all p ds ≡ true)
+    (λ n digit. and_from _ _ (each n digit) refl)
+    (λ n ds big earlier. list_all-append p ds ((48 + n % 10) ∷ []) ∙ and_from _ _ earlier (and_from _ _ (each (n % 10) (omega arith)) refl))
+    n (omega (arith, small))
 
 tells_digits : IsDigitsTest (λ ds. list_all is_ascii_digit ds ≡ true)
 tells_digits = search rules
 
 pub own : IsNumeralModel (λ ds. list_all is_ascii_digit ds ≡ true) (digits_value 10)
 own = numerals_by_value _ tells_digits
-
-after-push : (n : ℕ) (ds : List ℕ) (c : ℕ) → digits_value_after 10 n (ds ++ c ∷ []) ≡ digits_value_after 10 n ds * 10 + digit_value c
-after-push n [] c = refl
-after-push n (d ∷ ds) c = after-push (n * 10 + digit_value d) ds c
 
 digit_at : (ds : List ℕ) (i : ℕ) → list_all is_ascii_digit ds ≡ true → i < length ds → is_ascii_digit (get_or ds i 0) ≡ true
 digit_at [] i h within = absurd (omega arith)
@@ -52,6 +59,6 @@ adds_digit ds i h within =
     record {
       low = bounds.0;
       high = bounds.1;
-      next = ap (digits_value 10) (take_more ds i 0 within) ∙ after-push 0 (take i ds) (get_or ds i 0) ∙ ap (λ v. digits_value 10 (take i ds) * 10 + v) (digit_is (get_or ds i 0) digit);
+      next = digits_value_more 10 ds i within ∙ ap (λ v. digits_value 10 (take i ds) * 10 + v) (digit_is (get_or ds i 0) digit);
       bound = omega (arith, most, numeral_bound ds h);
     }

@@ -1,20 +1,20 @@
 -- In which trees no two resources have one address.
 use Rattle.std.specs.Prelude.{bytes_eq, is_none, nat_eq, nat_lt, option_map}
-use Rattle.std.proofs.Common.{◌≡◌, ℕ, ◌+◌, ◌<◌, ◌^◌, ◌%◌, List, [], ◌∷◌, ◌++◌, length, Bool, true, false, cond, not, Option, Some, None, inl, inr, refl, sym, ap, ◌∙◌, arith}
+use Rattle.std.proofs.Common.{◌≡◌, ℕ, ◌+◌, ◌<◌, ◌^◌, List, [], ◌∷◌, ◌++◌, length, Bool, true, false, cond, not, Option, Some, None, inl, inr, refl, sym, ap, ◌∙◌, arith}
 use Rattle.std.specs.Char.{is_ascii_digit}
 use Rattle.std.specs.Fmt.{decimal}
 use Rattle.std.specs.List.{list_all, list_any, starts_with}
 use Rattle.std.proofs.Math.Seq.{drop-append_seam}
 use Rattle.std.proofs.lemmas.Bool.{and_from, and_parts, both_ways, eq-eqb, eqb-true, false_from_ne_true, lt-ltb, ltb-true, not-true, or_cases, or_from, or_left, or_right}
 use Rattle.std.proofs.lemmas.Bool.Decides.{nat_tests}
-use Rattle.std.proofs.lemmas.Fmt.{decimal_by_steps, decimal_nonempty}
+use Rattle.std.proofs.lemmas.Fmt.{decimal_nonempty}
 use Rattle.std.proofs.lemmas.List.{length-append}
-use Rattle.std.proofs.lemmas.List.Folds.{list_all-append}
 use Rattle.std.proofs.lemmas.Slice.Eq.{bytes_eq-Decides}
 use Rattle.m2m_names.specs.Name.{is_free_name, is_numbered, is_resource_id}
 use Rattle.m2m_names.specs.Types.{all_types, ty_row}
 use Rattle.m2m_names.specs.declared.types.Ty.{Ty}
 use Rattle.m2m_names.specs.declared.types.Ty.TheVariants.{AccessControlPolicy, Ae, Container, ContentInstance, CseBase, Group, PollingChannel, RemoteCse, Subscription, AccessControlPolicyAnnc, AeAnnc, ContainerAnnc, ContentInstanceAnnc, GroupAnnc}
+use Rattle.m2m_names.proofs.NumeralLemmas.{decimal_passes}
 use Rattle.m2m_names.proofs.StatusLemmas.{find_none}
 use Rattle.resource_model.specs.Home.{HomeData, IsHome, is_base_name}
 use Rattle.resource_model.specs.Resource.{ResourceData, id_of}
@@ -41,11 +41,7 @@ is_digit : (d : ℕ) → d < 10 → is_ascii_digit (48 + d) ≡ true
 is_digit d small = grind (arith, nat_tests)
 
 all_digits : (n : ℕ) → n < 2 ^ 63 → list_all is_ascii_digit (decimal n) ≡ true
-all_digits n small =
-    decimal_by_steps (λ n ds. list_all is_ascii_digit ds ≡ true)
-    (λ n digit. and_from _ _ (is_digit n digit) refl)
-    (λ n ds big earlier. list_all-append is_ascii_digit ds ((48 + n % 10) ∷ []) ∙ and_from _ _ earlier (and_from _ _ (is_digit (n % 10) (omega arith)) refl))
-    n (omega (arith, small))
+all_digits = decimal_passes is_ascii_digit is_digit
 
 -- a test on short words that passes that of one type
 some_word : (q : List ℕ → Bool) (word : List ℕ) (tys : List Ty) → list_any (λ ty. bytes_eq (ty_row ty).word word) tys ≡ true → q word ≡ true → list_any (λ ty. q (ty_row ty).word) tys ≡ true
