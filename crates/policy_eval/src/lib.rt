@@ -32,5 +32,5 @@ pub use laws::{
     equal_sights_stay_equal_under_an_append, removal_grants_nothing,
     sight_has_the_shape_of_the_list, sight_keeps_rights, sight_keeps_what_is_live,
 };
-pub use policies::listed_in;
+pub use policies::{listed_in, policy_at};
 pub use rights::{fan_granted, granted, may_relink};

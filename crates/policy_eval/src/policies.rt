@@ -92,7 +92,8 @@ fn is_policy(ty: Ty) -> bool
     ty.number() == Ty::AccessControlPolicy.number()
 }
 
-fn policy_at<T: Tree>(tree: &T, number: u64) -> Option<&Resource>
+/// The policy of a number.
+pub fn policy_at<T: Tree>(tree: &T, number: u64) -> Option<&Resource>
     ensures { option_map (λ r. r.now) result ≡ spec.policy_at (T.nodes tree.now) number }
 {
     let resource = tree.get(number)?;

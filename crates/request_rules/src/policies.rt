@@ -3,14 +3,13 @@ ghost use Rattle.std.specs.Prelude.{◌≡◌, [], ◌∷◌, ◌++◌, IfOk, On
 ghost use Rattle.std.specs.Prelude.{option_and_then, option_map};
 ghost use Rattle.std.specs.List.{list_all};
 ghost use Rattle.addressing.specs.Laws.{spot_named};
-ghost use Rattle.policy_eval.specs.Rules as rules;
 ghost use Rattle.request_rules.specs.Policies as spec;
 
 use addressing::{AddrFault, Spot, name_spot, parse};
 use entity_model::Entity;
-use m2m_names::{Attr, Ty};
+use m2m_names::Attr;
 use m2m_value::{Members, Val};
-use policy_eval::listed_in;
+use policy_eval::{listed_in, policy_at};
 use std::alloc::{AllocError as OutOfMemory, Global};
 use tree_model::{Resource, Tree};
 
@@ -27,17 +26,6 @@ fn spot_named<T: Tree>(
         Err(AddrFault::TooLong) => Ok(None),
         Err(AddrFault::Shape) => Ok(None),
         Err(AddrFault::OutOfMemory) => Err(OutOfMemory),
-    }
-}
-
-fn policy_at<T: Tree>(tree: &T, number: u64) -> Option<&Resource>
-    ensures { option_map (λ r. r.now) result ≡ rules.policy_at (T.nodes tree.now) number }
-{
-    let resource = tree.get(number)?;
-    if resource.is(Ty::AccessControlPolicy) {
-        Some(resource)
-    } else {
-        None
     }
 }
 
