@@ -11,7 +11,6 @@ ghost use Rattle.m2m_names.specs.StampReading.{two_at, four_at, past_t, stamp_at
 ghost use Rattle.m2m_names.specs.StampReading.{checked_day, checked_moment, moment_at};
 
 use crate::name::are_digits;
-use jiff::ToSpan;
 use jiff::civil::{Date, date};
 
 /// The last moment that a timestamp has, in seconds since 1970: the end of 9999.
@@ -127,7 +126,8 @@ fn date_of_day(day: u64) -> Date
     requires { day ≤ 2_932_896 }
     ensures { epoch_day result ≡ pos day }
 {
-    date(1970, 1, 1).checked_add((day as i64).days()).unwrap()
+    let first = date(1970, 1, 1).to_plain();
+    Date::from_plain(first.checked_add(day as i64).unwrap())
 }
 
 fn moment_of(fields: Fields) -> Option<u64>
