@@ -50,6 +50,7 @@ fn write_value(value: &Val, out: &mut Vec<u8>) -> Result<(), OutOfMemory>
 }
 
 #[cycle(write)]
+#[inline(never)]
 fn write_items(items: &Items, out: &mut Vec<u8>) -> Result<(), OutOfMemory>
     ensures ok { OnOk result (out.new.items
         ≡ out.old.items ++ 91 ∷ (elements_from (elements_of items.now) 0 ++ 93 ∷ [])) }
@@ -66,6 +67,7 @@ fn write_items(items: &Items, out: &mut Vec<u8>) -> Result<(), OutOfMemory>
 }
 
 #[cycle(write)]
+#[inline(never)]
 fn write_members(members: &Members, out: &mut Vec<u8>) -> Result<(), OutOfMemory>
     ensures ok { OnOk result (out.new.items
         ≡ out.old.items ++ 123 ∷ (pairs_from (pairs_of members.now) 0 ++ 125 ∷ [])) }
@@ -123,8 +125,17 @@ fn write_digits(n: u64, out: &mut Vec<u8>) -> Result<(), OutOfMemory>
     if n < 10 {
         Ok(out.push(b'0' + n as u8)?)
     } else {
-        out.extend_from_slice(Buffer::new().format(n).as_bytes())
+        write_long(n, out)
     }
+}
+
+/// The same, where there are several digits.
+#[inline(never)]
+fn write_long(n: u64, out: &mut Vec<u8>) -> Result<(), OutOfMemory>
+    ensures ok { OnOk result (out.new.items ≡ out.old.items ++ decimal n) }
+    ensures err { OnErr result (out.new.items ≡ out.old.items) }
+{
+    out.extend_from_slice(Buffer::new().format(n).as_bytes())
 }
 
 fn write_text(text: &[u8], out: &mut Vec<u8>) -> Result<(), OutOfMemory>
