@@ -60,7 +60,10 @@ fn write_items(items: &Items, out: &mut Vec<u8>) -> Result<(), OutOfMemory>
     out.push(b'[')?;
     for (place, value) in items.values.iter().enumerate() {
         write_comma(place, out)?;
-        write_value(value, out)?;
+        match value.as_num() {
+            Some(n) => write_number(n, out)?,
+            None => write_value(value, out)?,
+        }
     }
     out.push(b']')?;
     Ok(())
