@@ -1,17 +1,17 @@
 -- Attributes that are put in another order.
-use Rattle.std.proofs.Common.{◌≡◌, List, [], ◌∷◌, ◌++◌, Bool, true, false, Some, None, Ordering, Less, Equal, Greater, is_eq, inl, inr, refl, sym, ap, ◌∙◌, append-nil, append_assoc, cond}
+use Rattle.std.proofs.Common.{◌≡◌, List, [], ◌∷◌, ◌++◌, Bool, true, false, Some, None, Ordering, Less, Equal, Greater, is_eq, inl, inr, refl, sym, ap, ◌∙◌, append-nil, append_assoc, cond, take}
 use Rattle.std.proofs.lemmas.Bool.{cases_Bool, both_ways, false_from_ne_true}
 use Rattle.std.proofs.lemmas.List.Elements.{filter-append}
 use Rattle.std.specs.List.{filter}
 use Rattle.std.specs.Ordering.{is_lt, ordering_reverse}
 use Rattle.m2m_names.specs.declared.attributes.Attr.{Attr}
-use Rattle.m2m_names.specs.declared.attributes.Attr.TheVariants.{Csi, Cst, Srt}
+use Rattle.m2m_names.specs.declared.attributes.Attr.TheVariants.{Csi, Cst, Srt, Ty as TyAttr}
 use Rattle.m2m_value.specs.Data.{Data, text, number}
 use Rattle.resource_model.specs.Attributes.{Row, attr_cmp, is_attr, value_of, with_value}
 use Rattle.resource_model.specs.Home.{HomeData}
 use Rattle.resource_model.specs.Resource.{ResourceData}
 use Rattle.resource_model.proofs.AttributeLemmas.{attr_total}
-use Rattle.tree_model.specs.Shown.{common_rows, own_cse_id, base_rows, shown_types, with_rows}
+use Rattle.tree_model.specs.Shown.{common_rows, own_cse_id, base_rows, shown_ty, shown_types, with_rows}
 
 -- ---- what passes two tests
 
@@ -122,7 +122,7 @@ put_past a x (row ∷ added) rows none = elim (cases_Bool (is_attr a row.0)) [
     there e = cc
 
 -- what the CSEBase shows, where what stands first in order is put first
-pub base_first : (home : HomeData) (nodes : List ResourceData) (r : ResourceData) (rows first second third : List Row)
+base_first : (home : HomeData) (nodes : List ResourceData) (r : ResourceData) (rows first second third : List Row)
     → first ≡ with_value Csi (text (own_cse_id home)) rows
     → second ≡ with_value Cst (number home.cst) first
     → third ≡ with_rows (common_rows nodes r) second
@@ -134,3 +134,16 @@ base_first home nodes r rows first second third f s t =
     let past_cst : third ≡ with_value Cst cst (with_rows added first) = t ∙ ap (with_rows added) s ∙ sym (put_past Cst cst added first refl) in
     let past_csi : with_rows added first ≡ with_value Csi csi (with_rows added rows) = ap (with_rows added) f ∙ sym (put_past Csi csi added rows refl) in
     ap (with_value Srt shown_types) (past_cst ∙ ap (with_value Cst cst) past_csi)
+
+-- and its types before its type
+pub base_in_order : (home : HomeData) (nodes : List ResourceData) (r : ResourceData) (rows first second third fourth : List Row)
+    → first ≡ with_value Csi (text (own_cse_id home)) rows
+    → second ≡ with_value Cst (number home.cst) first
+    → third ≡ with_rows (take 5 (common_rows nodes r)) second
+    → fourth ≡ with_value Srt shown_types third
+    → with_value TyAttr (shown_ty r.ty) fourth ≡ with_rows (common_rows nodes r ++ base_rows home) rows
+base_in_order home nodes r rows first second third fourth f s t u =
+    let ty : Data = shown_ty r.ty in
+    ap (with_value TyAttr ty) u
+    ∙ put_apart TyAttr Srt ty shown_types third refl
+    ∙ base_first home nodes r rows first second (with_value TyAttr ty third) f s (ap (with_value TyAttr ty) t)

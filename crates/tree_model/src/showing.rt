@@ -1,5 +1,5 @@
 //! The attributes of a resource as they are shown.
-ghost use Rattle.std.specs.Prelude.{◌≡◌, ◌≤◌, ◌++◌, codes, map, IfOk, OnOk, IsUtf8};
+ghost use Rattle.std.specs.Prelude.{◌≡◌, ◌≤◌, ◌++◌, codes, map, take, IfOk, OnOk, IsUtf8};
 ghost use Rattle.m2m_names.specs.Attributes.{attr_short};
 ghost use Rattle.m2m_names.specs.Stamps.{last_moment};
 ghost use Rattle.m2m_names.specs.Types as types;
@@ -121,6 +121,23 @@ fn key(alloc: Global, attr: Attr) -> Result<Text, OutOfMemory>
     Text::from_slice(alloc, attr.short().as_bytes())
 }
 
+// What every resource shows, but for its type, which stands last.
+fn add_before_type<T: Tree>(
+    alloc: Global,
+    tree: &T,
+    resource: &Resource,
+    attrs: &mut Attrs,
+) -> Result<(), OutOfMemory>
+    ensures { OnOk result (attrs.new ≡ with_rows (take 5 (common_rows
+        (T.nodes tree.now) resource.now)) attrs.old) }
+{
+    set_moment(alloc, attrs, Attr::Ct, resource.ct())?;
+    set_moment(alloc, attrs, Attr::Lt, resource.lt())?;
+    attrs.set(Attr::Pi, Val::of_text(id_of_parent(alloc, tree, resource)?))?;
+    attrs.set(Attr::Ri, Val::of_text(resource.id(alloc)?))?;
+    attrs.set(Attr::Rn, Val::of_text(resource.name().copy(alloc)?))
+}
+
 fn add_common<T: Tree>(
     alloc: Global,
     tree: &T,
@@ -130,16 +147,11 @@ fn add_common<T: Tree>(
     ensures { OnOk result (attrs.new ≡ with_rows (common_rows
         (T.nodes tree.now) resource.now) attrs.old) }
 {
-    set_moment(alloc, attrs, Attr::Ct, resource.ct())?;
-    set_moment(alloc, attrs, Attr::Lt, resource.lt())?;
-    attrs.set(Attr::Pi, Val::of_text(id_of_parent(alloc, tree, resource)?))?;
-    attrs.set(Attr::Ri, Val::of_text(resource.id(alloc)?))?;
-    attrs.set(Attr::Rn, Val::of_text(resource.name().copy(alloc)?))?;
+    add_before_type(alloc, tree, resource, attrs)?;
     attrs.set(Attr::Ty, number_of(resource.ty()))
 }
 
-// What the CSEBase shows. Two attributes that stand before most others are put before them.
-#[tactic(auto, using(crate::proofs::RowLemmas::base_first))]
+// What the CSEBase shows. What it shows besides is put in its order, so that nothing is moved.
 fn add_to_base<T: Tree>(
     alloc: Global,
     tree: &T,
@@ -152,8 +164,9 @@ fn add_to_base<T: Tree>(
 {
     attrs.set(Attr::Csi, Val::of_text(cse_id(alloc, home)?))?;
     attrs.set(Attr::Cst, Val::of_num(home.cst()))?;
-    add_common(alloc, tree, base, attrs)?;
-    attrs.set(Attr::Srt, all_types(alloc)?)
+    add_before_type(alloc, tree, base, attrs)?;
+    attrs.set(Attr::Srt, all_types(alloc)?)?;
+    attrs.set(Attr::Ty, number_of(base.ty()))
 }
 
 fn add_counts<T: Tree>(tree: &T, resource: &Resource, attrs: &mut Attrs) -> Result<(), OutOfMemory>
@@ -251,7 +264,7 @@ fn all_numbers(alloc: Global) -> Result<Vec<Val>, OutOfMemory>
 {
     let mut numbers = Vec::with_capacity(alloc, Ty::ALL.len())?;
     for ty in &Ty::ALL {
-        numbers.push(number_of(*ty))?;
+        numbers.push_reserved(number_of(*ty));
     }
     Ok(numbers)
 }
