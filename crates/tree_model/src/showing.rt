@@ -151,7 +151,7 @@ fn add_common<T: Tree>(
     attrs.set(Attr::Ty, number_of(resource.ty()))
 }
 
-// What the CSEBase shows. What it shows besides is put in its order, so that nothing is moved.
+// What the CSEBase shows, put in the order of the names, so that little is moved.
 fn add_to_base<T: Tree>(
     alloc: Global,
     tree: &T,

@@ -9,5 +9,5 @@ invariant-loop-ty l = record {
   all : l.ty-items ≡ all_types;
   count : length l.ty-items ≡ 14;
   filled : vec_len l.numbers ≡ l.ty-index;
-  room : 14 ≤ vec_capacity l.numbers
+  room : 14 ≤ vec_capacity l.numbers;
 }
