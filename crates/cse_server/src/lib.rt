@@ -24,5 +24,6 @@ pub use laws::{
     a_connection_shows_and_changes_by_grant_alone, a_stream_is_answered_in_one_way,
     equal_sights_are_served_alike, what_is_behind_a_closing_frame_is_not_answered,
 };
+pub use replying::bare_reply;
 pub use served::Served;
 pub use wire::Wire;

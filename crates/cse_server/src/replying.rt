@@ -21,7 +21,7 @@ use primitive_json::{Reply, ReplyParts};
 use std::alloc::{AllocError as OutOfMemory, Global};
 
 /// A reply without content, with the identifier of the request where one is known.
-fn bare_reply(rsc: Rsc, rqi: Option<Text>) -> Reply
+pub fn bare_reply(rsc: Rsc, rqi: Option<Text>) -> Reply
     requires { IfSome rqi IsUtf8 }
     ensures { result ≡ record { rsc = rsc; rqi = rqi; pc = None } }
 {

@@ -5,15 +5,12 @@ use Rattle.std.specs.declared.result.Result.{Result}
 use Rattle.std.specs.declared.result.Result.TheVariants.{Ok, Err}
 use Rattle.std.specs.List.{position_or_len}
 use Rattle.std.specs.Io.KnownBytes.{IsAtEnd}
+pub use Rattle.http_frames.specs.Waiting.{piece_limit}
 use Rattle.primitive_replay.specs.Lines.{line_limit}
 use Rattle.primitive_replay.specs.declared.fault.LineFault.{LineFault}
 use Rattle.primitive_replay.specs.declared.fault.LineFault.TheVariants.{Bad, ReadFault, OutOfMemory}
 use Rattle.primitive_replay.specs.declared.front.Front.{Front}
 use Rattle.primitive_replay.specs.declared.front.Front.TheVariants.{Whole, Last, TooLong, End}
-
--- a read gives at most so many bytes
-abbrev pub piece_limit : ℕ
-piece_limit = 4096
 
 -- bytes without an end that may begin a line are at most so many: those of the longest, and CR
 abbrev pub short_limit : ℕ

@@ -7,11 +7,12 @@ ghost use Rattle.primitive_replay.specs.Script.{reply_line};
 ghost use Rattle.primitive_replay.specs.Way.{RepliesTo, WritesReply};
 
 use cse_machine::{Event, Outcome, step};
+use cse_server::bare_reply;
 use entity_model::Entity;
 use m2m_io::{Sink, Status};
 use m2m_names::Rsc;
 use m2m_value::write;
-use primitive_json::{Reply, ReplyParts, Request, RequestParts, reply_into};
+use primitive_json::{Reply, Request, RequestParts, reply_into};
 use std::alloc::{AllocError as OutOfMemory, Global};
 use tree_model::Tree;
 
@@ -25,11 +26,7 @@ fn starved_reply(event: Event) -> Reply
     match event {
         Event::Ask(request) => {
             let RequestParts { rqi, .. } = request.into_parts();
-            Reply::of(ReplyParts {
-                rsc: Rsc::Internal,
-                rqi: Some(rqi),
-                pc: None,
-            })
+            bare_reply(Rsc::Internal, Some(rqi))
         }
     }
 }

@@ -8,12 +8,10 @@ ghost use Rattle.primitive_replay.specs.Front.{piece_limit, short_limit, held_li
 
 use crate::fault::LineFault;
 use crate::line::LINE_LIMIT;
+use http_frames::PIECE;
 use m2m_io::Source;
 use std::alloc::{AllocError, Global};
 use std::marker::Model;
-
-/// A read gives at most so many bytes.
-const PIECE: usize = 4_096;
 
 /// Bytes without LF that may begin a line are at most so many: those of the longest, and CR.
 pub(crate) const SHORT: usize = LINE_LIMIT + 1;
