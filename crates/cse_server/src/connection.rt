@@ -5,7 +5,7 @@ ghost use Rattle.m2m_io.specs.Counts.{Rose};
 ghost use Rattle.m2m_io.specs.Outside.{outside};
 ghost use Rattle.http_frames.specs.Inbox.{TakesNext, most_held, stream_of};
 ghost use Rattle.http_frames.specs.declared.frame.Side.TheVariants.{Request as AsRequest};
-ghost use Rattle.cse_server.specs.Talk.{request_in};
+ghost use Rattle.cse_server.specs.Talk.{bound, request_in};
 ghost use Rattle.cse_server.specs.Connection.{Serves, ServesFrom};
 ghost use Rattle.cse_server.specs.Way.{Goes, Hears, Refuses, Turns};
 
@@ -50,21 +50,6 @@ impl From<PutFault> for Ended {
     }
 }
 
-/// The request that a frame binds to, if any.
-fn asked_by(
-    alloc: Global,
-    scratch: &mut Scratch,
-    frame: &Frame,
-) -> Result<Option<Request>, OutOfMemory>
-    ensures { IfOk result (λ r. r ≡ request_in frame.now) }
-{
-    match to_request_in(alloc, scratch, frame) {
-        Ok(request) => Ok(Some(request)),
-        Err(BindFault::OutOfMemory) => Err(OutOfMemory),
-        Err(_) => Ok(None),
-    }
-}
-
 /// The reply to a frame: by what the desk answers the request that it binds to, if any.
 fn reply_to<D, C, L>(
     alloc: Global,
@@ -73,23 +58,23 @@ fn reply_to<D, C, L>(
     clock: &mut C,
     link: &mut L,
     frame: &Frame,
-    request: Option<Request>,
+    asked: Result<Request, BindFault>,
 ) -> Result<Reply, OutOfMemory>
 where
     D: Desk<Event = Event, Outcome = Outcome>,
     C: Clock,
     L: Link,
     requires seats { D.seats desk.now seat.old }
-    requires request { request ≡ request_in frame.now }
+    requires asked { bound asked ≡ request_in frame.now }
     ensures seats { D.seats desk.now seat.new }
     ensures hears { Hears D.grown seat.old seat.new
         (outside None None (C.readings clock.old) (L.exchanges link.old))
         (outside None None (C.readings clock.new) (L.exchanges link.new)) frame.now result }
     ensures link { L.faults link.new ≡ L.faults link.old }
 {
-    match request {
-        None => refusal_of(alloc, frame),
-        Some(request) => {
+    match asked {
+        Err(_) => refusal_of(alloc, frame),
+        Ok(request) => {
             let reading = clock.now();
             let outcome = desk.ask(seat, reading, Event::Ask(request));
             reply_by(alloc, link, frame, outcome)
@@ -132,10 +117,11 @@ where
     ensures holds { (X.kept_by_read conn.new).holds ≡ (X.kept_by_read conn.old).holds }
     ensures link { L.faults link.new ≡ L.faults link.old }
 {
-    let Ok(request) = asked_by(alloc, scratch, frame) else {
+    let asked = to_request_in(alloc, scratch, frame);
+    if let Err(BindFault::OutOfMemory) = asked {
         return Some(Ended::Memory);
-    };
-    let Ok(reply) = reply_to(alloc, desk, seat, clock, link, frame, request) else {
+    }
+    let Ok(reply) = reply_to(alloc, desk, seat, clock, link, frame, asked) else {
         return Some(Ended::Memory);
     };
     let close = closes(place, frame);

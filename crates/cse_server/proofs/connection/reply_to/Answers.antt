@@ -1,16 +1,17 @@
-use Rattle.std.proofs.Common.{◌≡◌, List, [], ◌∷◌, IfOk, refl, sym, subst, ◌∙◌}
+use Rattle.std.proofs.Common.{◌≡◌, List, [], ◌∷◌, IfOk, refl, sym, ap, subst, ◌∙◌}
 use Rattle.primitive_json.specs.declared.reply.ReplyParts.{ReplyParts}
 use Rattle.primitive_json.specs.declared.request.RequestParts.{RequestParts}
 use Rattle.turn_desk.proofs.GrowthLemmas.{AsksAll-nothing, AsksAll-ask}
 use Rattle.cse_server.specs.Replies.{GivesReplies}
+use Rattle.cse_server.specs.Talk.{bound}
 use Rattle.cse_server.proofs.RepliesLemmas.{gives-one}
 use Rattle.cse_server.proofs.RequestLemmas.{binds, requests_in-one, reply_for-one}
 use Rattle.cse_server.proofs.WayLemmas.{Tells-nil}
 use Rattle.cse_server.proofs.connection.reply_to.Goals as goal
 
-pub returns-in-None-clause-hears : goal.returns-in-None-clause-hears
-returns-in-None-clause-hears g c =
-    let none = sym c.requires.request ∙ c.in-None.is in
+pub returns-in-Err-clause-hears : goal.returns-in-Err-clause-hears
+returns-in-Err-clause-hears g c =
+    let none = sym c.requires.asked ∙ ap bound c.in-Err.is in
     record {
       asks = record {
         readings = [];
@@ -25,10 +26,10 @@ returns-in-None-clause-hears g c =
       replied = rw none c.refusal_of.ensures;
     }
 
-pub returns-in-Some-clause-hears : goal.returns-in-Some-clause-hears
-returns-in-Some-clause-hears g c =
-    let some = sym c.requires.request ∙ c.in-Some.is in
-    let by = c.reply_by.ensures.replies c.in-Some.request (binds c.args.frame.now c.in-Some.request some) in
+pub returns-clause-hears : goal.returns-clause-hears
+returns-clause-hears g c =
+    let some = sym c.requires.asked ∙ ap bound c.in-Ok.is in
+    let by = c.reply_by.ensures.replies c.in-Ok.request (binds c.args.frame.now c.in-Ok.request some) in
     record {
       asks = record {
         readings = c.now-reading.result ∷ [];
@@ -38,10 +39,10 @@ returns-in-Some-clause-hears g c =
         asked = rw some (AsksAll-ask g.D.Desk.grown g.met.D.Desk.grown_on (AsksAll-nothing g.D.Desk.grown g.met.D.Desk.grown_by_nothing c.args.seat.now) c.ask-outcome.ensures.asked);
         clock = c.now-reading.ensures;
         gives = subst (λ (rs : List RequestParts). GivesReplies rs (c.ask-outcome.result ∷ []) (by.reply ∷ []) by.exchanges)
-            (sym (requests_in-one c.args.frame.now c.in-Some.request some))
-            (gives-one c.in-Some.request c.ask-outcome.result by.reply by.exchanges by.gives);
+            (sym (requests_in-one c.args.frame.now c.in-Ok.request some))
+            (gives-one c.in-Ok.request c.ask-outcome.result by.reply by.exchanges by.gives);
         link = by.link;
       };
       replied = subst (λ (p : ReplyParts). IfOk c.reply_by.result (λ r. r ≡ p))
-          (sym (reply_for-one c.args.frame.now c.in-Some.request by.reply some)) by.replied;
+          (sym (reply_for-one c.args.frame.now c.in-Ok.request by.reply some)) by.replied;
     }
