@@ -1,7 +1,7 @@
 -- What the pairs of a query say is of its kinds.
 use Rattle.std.proofs.Common.{◌≡◌, ◌⊎◌, inl, inr, ℕ, ◌+◌, ◌^◌, ◌<◌, ◌≤◌, Bool, true, false, List, [], ◌∷◌, ◌++◌, length, drop, get_or, Option, Some, None, Result, Ok, Err, IfSome, refl, sym, ap, subst, ◌∙◌, arith}
 use Rattle.std.specs.Bool.{if◌then◌else◌}
-use Rattle.std.specs.Prelude.{ℤ, option_map, option_and_then, unwrap_or, nat_le}
+use Rattle.std.specs.Prelude.{ℤ, option_map, option_and_then, unwrap_or}
 use Rattle.std.specs.List.{list_all, filter_map, cons_option, AllByRecursion}
 use Rattle.std.specs.Option.{option_map_or}
 use Rattle.std.specs.Result.{result_unwrap_or, is_ok}
@@ -26,7 +26,6 @@ use Rattle.filter_criteria.specs.declared.condition.Condition.TheVariants.{Creat
 use Rattle.filter_criteria.specs.declared.condition.Sort.{Sort}
 use Rattle.filter_criteria.specs.declared.condition.Sort.TheVariants.{Moment, Count, Labels, Types, Use}
 use Rattle.filter_criteria.specs.declared.filter.FilterParts.{FilterParts}
-use Rattle.filter_criteria.specs.declared.filter.FilterUsage.{FilterUsage}
 use Rattle.primitive_json.specs.Kinds.{is_numeral, number_spelled, address_forms, is_among}
 use Rattle.primitive_json.specs.Members.{retrieves}
 use Rattle.primitive_json.proofs.Numerals.{numeral_bound}
@@ -37,7 +36,7 @@ use Rattle.http_target.specs.declared.query.Key.TheVariants.{ResultContent, Resp
 use Rattle.http_target.specs.declared.query.Query.{Query}
 use Rattle.http_target.specs.Chain.{and_then}
 use Rattle.http_target.specs.Said.{said_by}
-use Rattle.http_target.specs.Queries.{Pair, key_named, whole_spelled, is_result, result_spelled, form_spelled, usage_spelled, words_of, spells_label, labels_spelled, type_spelled, is_type_text, types_spelled, placed, placed_in, with_moment, with_number, with_usage, with_labels, with_types, with_sort, with_condition, nothing_said, with_result, with_response, with_form, with_filter, with_key, said_more, pair_said}
+use Rattle.http_target.specs.Queries.{Pair, key_named, whole_spelled, is_result, result_spelled, form_spelled, usage_spelled, words_of, spells_label, labels_spelled, type_spelled, is_type_text, types_spelled, placed, placed_in, joined_in, numbered, with_number, with_text, with_condition, nothing_said, with_result, with_response, with_form, with_filter, with_key, said_more, pair_said}
 
 -- what a chain that gives a value has read first, and what it has gone on to
 pub record Reads {T U : Type 0} (part : Result T BindFault) (next : T → Result U BindFault) (value : U) : Type 0 where
@@ -146,57 +145,73 @@ placed_said : {A : Type 0} (field : FilterField (Option A)) (P : A → Type 0) (
 placed_said field P value f held good fits =
     mapped (λ o. IfSome o P) IsSaidFilter (λ o. field.with_value o f) (placed (field.value f) value) (placed_holds P (field.value f) value held good) fits
 
-moment_said : (condition : Condition) (at : Option ℕ) (f : FilterParts) → IsSaidFilter f → IfSome at IsMoment → IfSome (with_moment condition at f) IsSaidFilter
-moment_said CreatedAfter at f h good = placed_said (filter_field CreatedAfter) IsMoment at f (of_condition IsSaidValue f h CreatedAfter) good (λ o fits. field_said CreatedAfter o f h fits)
-moment_said CreatedBefore at f h good = placed_said (filter_field CreatedBefore) IsMoment at f (of_condition IsSaidValue f h CreatedBefore) good (λ o fits. field_said CreatedBefore o f h fits)
-moment_said ExpireAfter at f h good = placed_said (filter_field ExpireAfter) IsMoment at f (of_condition IsSaidValue f h ExpireAfter) good (λ o fits. field_said ExpireAfter o f h fits)
-moment_said ExpireBefore at f h good = placed_said (filter_field ExpireBefore) IsMoment at f (of_condition IsSaidValue f h ExpireBefore) good (λ o fits. field_said ExpireBefore o f h fits)
-moment_said Usage at f h good = tt
-moment_said OneLabel at f h good = tt
-moment_said Limit at f h good = tt
-moment_said ModifiedSince at f h good = placed_said (filter_field ModifiedSince) IsMoment at f (of_condition IsSaidValue f h ModifiedSince) good (λ o fits. field_said ModifiedSince o f h fits)
-moment_said StateTagBigger at f h good = tt
-moment_said StateTagSmaller at f h good = tt
-moment_said SizeAbove at f h good = tt
-moment_said SizeBelow at f h good = tt
-moment_said OneType at f h good = tt
-moment_said UnmodifiedSince at f h good = placed_said (filter_field UnmodifiedSince) IsMoment at f (of_condition IsSaidValue f h UnmodifiedSince) good (λ o fits. field_said UnmodifiedSince o f h fits)
+-- and with what is put behind what a field has
+joined_said : {A : Type 0} (field : FilterField (List A)) (test : A → Bool) (more : Option (List A)) (f : FilterParts) → list_all test (field.value f) ≡ true → IfSome more (λ l. list_all test l ≡ true) → ((l : List A) → list_all test l ≡ true → IsSaidFilter (field.with_value l f)) → IfSome (joined_in field more f) IsSaidFilter
+joined_said field test more f held good fits =
+    mapped (λ l. list_all test l ≡ true) IsSaidFilter (λ l. field.with_value (field.value f ++ l) f) more good (λ l all. fits (field.value f ++ l) (all_append test (field.value f) l held all))
 
-number_said : (condition : Condition) (n : Option ℕ) (f : FilterParts) → IsSaidFilter f → IfSome n IsCount → IfSome (with_number condition n f) IsSaidFilter
-number_said CreatedAfter n f h good = tt
-number_said CreatedBefore n f h good = tt
-number_said ExpireAfter n f h good = tt
-number_said ExpireBefore n f h good = tt
-number_said Usage n f h good = tt
-number_said OneLabel n f h good = tt
-number_said Limit n f h good = placed_said (filter_field Limit) IsCount n f (of_condition IsSaidValue f h Limit) good (λ o fits. field_said Limit o f h fits)
-number_said ModifiedSince n f h good = tt
-number_said StateTagBigger n f h good = placed_said (filter_field StateTagBigger) IsCount n f (of_condition IsSaidValue f h StateTagBigger) good (λ o fits. field_said StateTagBigger o f h fits)
-number_said StateTagSmaller n f h good = placed_said (filter_field StateTagSmaller) IsCount n f (of_condition IsSaidValue f h StateTagSmaller) good (λ o fits. field_said StateTagSmaller o f h fits)
-number_said SizeAbove n f h good = placed_said (filter_field SizeAbove) IsCount n f (of_condition IsSaidValue f h SizeAbove) good (λ o fits. field_said SizeAbove o f h fits)
-number_said SizeBelow n f h good = placed_said (filter_field SizeBelow) IsCount n f (of_condition IsSaidValue f h SizeBelow) good (λ o fits. field_said SizeBelow o f h fits)
-number_said OneType n f h good = tt
-number_said UnmodifiedSince n f h good = tt
+text_said : (sort : Sort) (field : FilterField (ValueOf sort)) (s : List ℕ) (f : FilterParts) → IsSaidValue sort (field.value f) → ((value : ValueOf sort) → IsSaidValue sort value → IsSaidFilter (field.with_value value f)) → IfSome (with_text sort field s f) IsSaidFilter
+text_said Moment field s f held fits = placed_said field IsMoment (moment_at s) f held (moment_of s) fits
+text_said Count field s f held fits = placed_said field IsCount (number_spelled s) f held (count_of s) fits
+text_said Labels field s f held fits = joined_said field spells_label (labels_spelled s) f held (labels_of s) fits
+text_said Types field s f held fits = joined_said field is_type_number (types_spelled s) f held (types_of s) fits
+text_said Use field s f held fits = placed_said field (λ _. Unit {0}) (usage_spelled s) f (any_of (field.value f)) (any_of (usage_spelled s)) (λ o _. fits o tt)
 
-usage_said : (usage : Option FilterUsage) (f : FilterParts) → IsSaidFilter f → IfSome (with_usage usage f) IsSaidFilter
-usage_said usage f h = placed_said (filter_field Usage) (λ _. Unit {0}) usage f (any_of f.fu) (any_of usage) (λ o _. field_said Usage o f h tt)
+condition_said : (condition : Condition) (s : List ℕ) (f : FilterParts) → IsSaidFilter f → IfSome (with_condition condition s f) IsSaidFilter
+condition_said condition s f h =
+    text_said (sort_of_condition condition) (filter_field condition) s f (of_condition IsSaidValue f h condition) (λ value fits. field_said condition value f h fits)
 
-labels_said : (labels : Option (List (List ℕ))) (f : FilterParts) → IsSaidFilter f → IfSome labels (λ l. list_all spells_label l ≡ true) → IfSome (with_labels labels f) IsSaidFilter
-labels_said labels f h good =
-    mapped (λ l. list_all spells_label l ≡ true) IsSaidFilter (λ more. (filter_field OneLabel).with_value (f.lbl ++ more) f) labels good
-    (λ l fits. field_said OneLabel (f.lbl ++ l) f h (all_append spells_label f.lbl l (of_condition IsSaidValue f h OneLabel) fits))
+-- the one condition of a sort that has no other
+abbrev pub IsLone : Sort → Condition → Type 0
+IsLone Moment condition = Unit {0}
+IsLone Count condition = Unit {0}
+IsLone Labels condition = condition ≡ OneLabel
+IsLone Types condition = condition ≡ OneType
+IsLone Use condition = condition ≡ Usage
 
-types_said : (types : Option (List ℕ)) (f : FilterParts) → IsSaidFilter f → IfSome types (λ l. list_all is_type_number l ≡ true) → IfSome (with_types types f) IsSaidFilter
-types_said types f h good =
-    mapped (λ l. list_all is_type_number l ≡ true) IsSaidFilter (λ more. (filter_field OneType).with_value (f.ty ++ more) f) types good
-    (λ l fits. field_said OneType (f.ty ++ l) f h (all_append is_type_number f.ty l (of_condition IsSaidValue f h OneType) fits))
+pub lone_of_its_sort : (condition : Condition) → IsLone (sort_of_condition condition) condition
+lone_of_its_sort CreatedAfter = tt
+lone_of_its_sort CreatedBefore = tt
+lone_of_its_sort ExpireAfter = tt
+lone_of_its_sort ExpireBefore = tt
+lone_of_its_sort Usage = refl
+lone_of_its_sort OneLabel = refl
+lone_of_its_sort Limit = tt
+lone_of_its_sort ModifiedSince = tt
+lone_of_its_sort StateTagBigger = tt
+lone_of_its_sort StateTagSmaller = tt
+lone_of_its_sort SizeAbove = tt
+lone_of_its_sort SizeBelow = tt
+lone_of_its_sort OneType = refl
+lone_of_its_sort UnmodifiedSince = tt
 
-sort_said : (sort : Sort) (condition : Condition) (s : List ℕ) (f : FilterParts) → IsSaidFilter f → IfSome (with_sort sort condition s f) IsSaidFilter
-sort_said Moment condition s f h = moment_said condition (moment_at s) f h (moment_of s)
-sort_said Count condition s f h = number_said condition (number_spelled s) f h (count_of s)
-sort_said Labels condition s f h = labels_said (labels_spelled s) f h (labels_of s)
-sort_said Types condition s f h = types_said (types_spelled s) f h (types_of s)
-sort_said Use condition s f h = usage_said (usage_spelled s) f h
+pub usage_is : (condition : Condition) → sort_of_condition condition ≡ Use → condition ≡ Usage
+usage_is condition is = subst (λ (sort : Sort). IsLone sort condition) is (lone_of_its_sort condition)
+
+pub label_is : (condition : Condition) → sort_of_condition condition ≡ Labels → condition ≡ OneLabel
+label_is condition is = subst (λ (sort : Sort). IsLone sort condition) is (lone_of_its_sort condition)
+
+pub type_is : (condition : Condition) → sort_of_condition condition ≡ Types → condition ≡ OneType
+type_is condition is = subst (λ (sort : Sort). IsLone sort condition) is (lone_of_its_sort condition)
+
+-- what is given for a condition that is known
+pub number_by : (condition known : Condition) (n : Option ℕ) (f : FilterParts) (given : Option FilterParts) → condition ≡ known → given ≡ with_number known n f → given ≡ with_number condition n f
+number_by condition known n f given is told = told ∙ ap (λ (k : Condition). with_number k n f) (sym is)
+
+-- the number that a text says on a condition of a sort that has one
+pub moment_text : (sort : Sort) (field : FilterField (ValueOf sort)) (s : List ℕ) (f : FilterParts) → sort ≡ Moment → numbered sort field (moment_at s) f ≡ with_text sort field s f
+moment_text Moment field s f is = refl
+moment_text Count field s f is = let h : Count ≡ Moment = is in cc
+moment_text Labels field s f is = let h : Labels ≡ Moment = is in cc
+moment_text Types field s f is = let h : Types ≡ Moment = is in cc
+moment_text Use field s f is = let h : Use ≡ Moment = is in cc
+
+pub count_text : (sort : Sort) (field : FilterField (ValueOf sort)) (s : List ℕ) (f : FilterParts) → sort ≡ Count → numbered sort field (number_spelled s) f ≡ with_text sort field s f
+count_text Moment field s f is = let h : Moment ≡ Count = is in cc
+count_text Count field s f is = refl
+count_text Labels field s f is = let h : Labels ≡ Count = is in cc
+count_text Types field s f is = let h : Types ≡ Count = is in cc
+count_text Use field s f is = let h : Use ≡ Count = is in cc
 
 labels_utf8 : (labels : List (List ℕ)) → list_all spells_label labels ≡ true → AllByRecursion IsUtf8 labels
 labels_utf8 [] h = tt
@@ -271,7 +286,7 @@ filter_said : (op : Op) (condition : Condition) (s : List ℕ) (q : Query) → r
 filter_said op condition s q reads h =
     let before = unwrap_or q.fc no_conditions in
     mapped IsSaidFilter (IsSaid op) (λ f. record q { fc = Some f }) (with_condition condition s before)
-    (sort_said (sort_of_condition condition) condition s before (filter_held op q.fc h.fc))
+    (condition_said condition s before (filter_held op q.fc h.fc))
     (λ f fits. record { rcn = h.rcn; fc = (reads, fits); drt = h.drt })
 
 filter_by : (op : Op) (condition : Condition) (s : List ℕ) (q : Query) (b : Bool) → retrieves op ≡ b → IsSaid op q → IfSome (if b then with_filter condition s q else None) (IsSaid op)

@@ -13,20 +13,9 @@ use Rattle.m2m_names.specs.Types.{is_type_number}
 use Rattle.m2m_names.specs.declared.operations.Op.{Op}
 use Rattle.m2m_value.specs.Shapes.{is_label_text}
 use Rattle.filter_criteria.specs.Conditions.{condition_named, sort_of_condition, usage_numbered}
-use Rattle.filter_criteria.specs.Conditions.{FilterField, filter_field, asked_of, no_conditions}
+use Rattle.filter_criteria.specs.Conditions.{FilterField, ValueOf, filter_field, no_conditions}
 use Rattle.filter_criteria.specs.Values.{where_it}
 use Rattle.filter_criteria.specs.declared.condition.Condition.{Condition}
-use Rattle.filter_criteria.specs.declared.condition.Condition.TheVariants.{CreatedAfter}
-use Rattle.filter_criteria.specs.declared.condition.Condition.TheVariants.{CreatedBefore}
-use Rattle.filter_criteria.specs.declared.condition.Condition.TheVariants.{ExpireAfter}
-use Rattle.filter_criteria.specs.declared.condition.Condition.TheVariants.{ExpireBefore}
-use Rattle.filter_criteria.specs.declared.condition.Condition.TheVariants.{Limit}
-use Rattle.filter_criteria.specs.declared.condition.Condition.TheVariants.{ModifiedSince}
-use Rattle.filter_criteria.specs.declared.condition.Condition.TheVariants.{OneLabel, OneType, Usage}
-use Rattle.filter_criteria.specs.declared.condition.Condition.TheVariants.{StateTagBigger}
-use Rattle.filter_criteria.specs.declared.condition.Condition.TheVariants.{StateTagSmaller}
-use Rattle.filter_criteria.specs.declared.condition.Condition.TheVariants.{SizeAbove, SizeBelow}
-use Rattle.filter_criteria.specs.declared.condition.Condition.TheVariants.{UnmodifiedSince}
 use Rattle.filter_criteria.specs.declared.condition.Sort.{Sort}
 use Rattle.filter_criteria.specs.declared.condition.Sort.TheVariants.{Moment, Count, Labels, Types}
 use Rattle.filter_criteria.specs.declared.condition.Sort.TheVariants.{Use}
@@ -135,47 +124,37 @@ abbrev pub placed_in : {A : Type 0} → FilterField (Option A) → Option A → 
     → Option FilterParts
 placed_in field value f = option_map (λ o. field.with_value o f) (placed (field.value f) value)
 
--- the filter with one more condition on a moment, on a number, or on its use
-abbrev pub with_moment : Condition → Option ℕ → FilterParts → Option FilterParts
-with_moment CreatedAfter at f = placed_in (filter_field CreatedAfter) at f
-with_moment CreatedBefore at f = placed_in (filter_field CreatedBefore) at f
-with_moment ExpireAfter at f = placed_in (filter_field ExpireAfter) at f
-with_moment ExpireBefore at f = placed_in (filter_field ExpireBefore) at f
-with_moment ModifiedSince at f = placed_in (filter_field ModifiedSince) at f
-with_moment UnmodifiedSince at f = placed_in (filter_field UnmodifiedSince) at f
-with_moment condition at f = None
+-- the filter with more values behind those of a field, where there are any
+abbrev pub joined_in : {A : Type 0} → FilterField (List A) → Option (List A) → FilterParts
+    → Option FilterParts
+joined_in field more f = option_map (λ values. field.with_value (field.value f ++ values) f) more
 
+-- the filter with a number in the field of a condition whose sort has one
+abbrev pub numbered : (sort : Sort) → FilterField (ValueOf sort) → Option ℕ → FilterParts
+    → Option FilterParts
+numbered Moment field n f = placed_in field n f
+numbered Count field n f = placed_in field n f
+numbered Labels field n f = None
+numbered Types field n f = None
+numbered Use field n f = None
+
+-- the filter with one more condition on a moment or a number
 abbrev pub with_number : Condition → Option ℕ → FilterParts → Option FilterParts
-with_number Limit n f = placed_in (filter_field Limit) n f
-with_number StateTagBigger n f = placed_in (filter_field StateTagBigger) n f
-with_number StateTagSmaller n f = placed_in (filter_field StateTagSmaller) n f
-with_number SizeAbove n f = placed_in (filter_field SizeAbove) n f
-with_number SizeBelow n f = placed_in (filter_field SizeBelow) n f
-with_number condition n f = None
+with_number condition n f =
+    numbered (sort_of_condition condition) (filter_field condition) n f
 
-abbrev pub with_usage : Option FilterUsage → FilterParts → Option FilterParts
-with_usage usage f = placed_in (filter_field Usage) usage f
-
--- the filter with more labels, or more types, behind those before, where there are any
-abbrev pub with_labels : Option (List (List ℕ)) → FilterParts → Option FilterParts
-with_labels labels f =
-    option_map (λ more. (filter_field OneLabel).with_value (asked_of OneLabel f ++ more) f) labels
-
-abbrev pub with_types : Option (List ℕ) → FilterParts → Option FilterParts
-with_types types f =
-    option_map (λ more. (filter_field OneType).with_value (asked_of OneType f ++ more) f) types
-
--- the filter with what a text says of a condition of this sort
-abbrev pub with_sort : Sort → Condition → List ℕ → FilterParts → Option FilterParts
-with_sort Moment condition s f = with_moment condition (moment_at s) f
-with_sort Count condition s f = with_number condition (number_spelled s) f
-with_sort Labels condition s f = with_labels (labels_spelled s) f
-with_sort Types condition s f = with_types (types_spelled s) f
-with_sort Use condition s f = with_usage (usage_spelled s) f
+-- the filter with what a text says in the field of a condition of this sort
+abbrev pub with_text : (sort : Sort) → FilterField (ValueOf sort) → List ℕ → FilterParts
+    → Option FilterParts
+with_text Moment field s f = numbered Moment field (moment_at s) f
+with_text Count field s f = numbered Count field (number_spelled s) f
+with_text Labels field s f = joined_in field (labels_spelled s) f
+with_text Types field s f = joined_in field (types_spelled s) f
+with_text Use field s f = placed_in field (usage_spelled s) f
 
 -- the filter with one more condition, where the text is that of its sort
 abbrev pub with_condition : Condition → List ℕ → FilterParts → Option FilterParts
-with_condition condition s f = with_sort (sort_of_condition condition) condition s f
+with_condition condition s f = with_text (sort_of_condition condition) (filter_field condition) s f
 
 -- a query that says nothing
 abbrev pub nothing_said : Query

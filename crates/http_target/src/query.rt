@@ -2,6 +2,8 @@
 ghost use Rattle.std.specs.Prelude.{◌≡◌, ◌++◌, ◌∷◌, [], IfOk, OnOk, option_map};
 ghost use Rattle.std.specs.List.{list_all, filter_map};
 ghost use Rattle.filter_criteria.specs.Conditions.{no_conditions};
+ghost use Rattle.filter_criteria.specs.declared.condition.Condition.TheVariants.{OneLabel};
+ghost use Rattle.filter_criteria.specs.declared.condition.Condition.TheVariants.{OneType, Usage};
 ghost use Rattle.http_target.specs.Chain.{ReadsAs};
 ghost use Rattle.http_target.specs.Said.{said_by, query_of};
 ghost use Rattle.http_target.specs.Queries as spec;
@@ -236,46 +238,33 @@ fn with_types(types: Numbers, more: &[u64]) -> Result<Numbers, OutOfMemory>
     Ok(Numbers::of(numbers))
 }
 
-/// The filter with one more condition on a moment.
-fn with_moment(parts: FilterParts, condition: Condition, at: Option<u64>) -> Option<FilterParts>
-    ensures { result ≡ spec.with_moment condition at parts }
-{
-    match condition {
-        Condition::CreatedAfter => Some(FilterParts {
-            cra: placed(parts.cra, at)?,
-            ..parts
-        }),
-        Condition::CreatedBefore => Some(FilterParts {
-            crb: placed(parts.crb, at)?,
-            ..parts
-        }),
-        Condition::ExpireAfter => Some(FilterParts {
-            exa: placed(parts.exa, at)?,
-            ..parts
-        }),
-        Condition::ExpireBefore => Some(FilterParts {
-            exb: placed(parts.exb, at)?,
-            ..parts
-        }),
-        Condition::ModifiedSince => Some(FilterParts {
-            ms: placed(parts.ms, at)?,
-            ..parts
-        }),
-        Condition::UnmodifiedSince => Some(FilterParts {
-            us: placed(parts.us, at)?,
-            ..parts
-        }),
-        _ => None,
-    }
-}
-
-/// The filter with one more condition on a number.
+/// The filter with one more condition on a moment or a number.
 fn with_number(parts: FilterParts, condition: Condition, n: Option<u64>) -> Option<FilterParts>
     ensures { result ≡ spec.with_number condition n parts }
 {
     match condition {
+        Condition::CreatedAfter => Some(FilterParts {
+            cra: placed(parts.cra, n)?,
+            ..parts
+        }),
+        Condition::CreatedBefore => Some(FilterParts {
+            crb: placed(parts.crb, n)?,
+            ..parts
+        }),
+        Condition::ExpireAfter => Some(FilterParts {
+            exa: placed(parts.exa, n)?,
+            ..parts
+        }),
+        Condition::ExpireBefore => Some(FilterParts {
+            exb: placed(parts.exb, n)?,
+            ..parts
+        }),
         Condition::Limit => Some(FilterParts {
             lim: placed(parts.lim, n)?,
+            ..parts
+        }),
+        Condition::ModifiedSince => Some(FilterParts {
+            ms: placed(parts.ms, n)?,
             ..parts
         }),
         Condition::StateTagBigger => Some(FilterParts {
@@ -294,15 +283,20 @@ fn with_number(parts: FilterParts, condition: Condition, n: Option<u64>) -> Opti
             szb: placed(parts.szb, n)?,
             ..parts
         }),
-        _ => None,
+        Condition::UnmodifiedSince => Some(FilterParts {
+            us: placed(parts.us, n)?,
+            ..parts
+        }),
+        Condition::Usage | Condition::OneLabel | Condition::OneType => None,
     }
 }
 
-fn with_usage(parts: FilterParts, usage: Option<FilterUsage>) -> Option<FilterParts>
-    ensures { result ≡ spec.with_usage usage parts }
+/// The filter with how it is used.
+fn with_usage(parts: FilterParts, text: &[u8]) -> Option<FilterParts>
+    ensures { result ≡ spec.with_condition Usage text.now parts }
 {
     Some(FilterParts {
-        fu: placed(parts.fu, usage)?,
+        fu: placed(parts.fu, usage_spelled(text))?,
         ..parts
     })
 }
@@ -313,7 +307,7 @@ fn with_label_text(
     parts: FilterParts,
     text: &[u8],
 ) -> Result<Option<FilterParts>, OutOfMemory>
-    ensures { IfOk result (λ said. said ≡ spec.with_labels (spec.labels_spelled text.now) parts) }
+    ensures { IfOk result (λ said. said ≡ spec.with_condition OneLabel text.now parts) }
 {
     match labels_spelled(alloc, text)? {
         Some(labels) => Ok(Some(FilterParts {
@@ -330,7 +324,7 @@ fn with_type_text(
     parts: FilterParts,
     text: &[u8],
 ) -> Result<Option<FilterParts>, OutOfMemory>
-    ensures { IfOk result (λ said. said ≡ spec.with_types (spec.types_spelled text.now) parts) }
+    ensures { IfOk result (λ said. said ≡ spec.with_condition OneType text.now parts) }
 {
     match types_spelled(alloc, text)? {
         Some(types) => Ok(Some(FilterParts {
@@ -351,9 +345,9 @@ fn with_condition(
     ensures { IfOk result (λ said. said ≡ spec.with_condition condition text.now parts) }
 {
     match condition.sort() {
-        Sort::Moment => Ok(with_moment(parts, condition, read_stamp(text))),
+        Sort::Moment => Ok(with_number(parts, condition, read_stamp(text))),
         Sort::Count => Ok(with_number(parts, condition, number_spelled(text))),
-        Sort::Use => Ok(with_usage(parts, usage_spelled(text))),
+        Sort::Use => Ok(with_usage(parts, text)),
         Sort::Labels => with_label_text(alloc, parts, text),
         Sort::Types => with_type_text(alloc, parts, text),
     }
