@@ -228,9 +228,11 @@ impl Inbox {
     }
 
     /// The next request of the stream, which is the bytes held and then those that the source has
-    /// left. It reads at most 4,096 bytes at a time, and only while the bytes held neither hold a
-    /// request nor exclude one. After `NoFrame` each call answers it; after another fault the
-    /// next call goes on where this one stopped.
+    /// left. It reads at most 4,096 bytes at a time, and only while the bytes held have no request
+    /// at their front and may still become a head, by its grammar alone, or are a head within the
+    /// limits and a part of its body. What the lines of a head say, and how many they are, is judged
+    /// once it ends. After `NoFrame` each call answers it; after another fault the next call goes on
+    /// where this one stopped.
     pub fn next_request<S: Source>(
         &mut self,
         alloc: Global,
@@ -239,8 +241,9 @@ impl Inbox {
         ensures next { TakesNext Side.Request (S.left src.old) (S.left src.new)
             self.old self.new result }
 
-        // A read is made only where the bytes held neither hold a request nor exclude one, and
-        // gives a piece at most.
+        // Nothing is read, and the source is as it was; or the first read and the last begin where
+        // the bytes held have no request at their front, and may still become a head by its grammar
+        // or are a head and a part of its body, and the last gives a piece at most.
         ensures message { IfMessage result
             (GivesAsNeeded Side.Request (S.left src.old) (S.left src.new)
             self.old.held self.new.held src.old src.new) }
@@ -267,8 +270,9 @@ impl Inbox {
         ensures next { TakesNext Side.Reply (S.left src.old) (S.left src.new)
             self.old self.new result }
 
-        // A read is made only where the bytes held neither hold a reply nor exclude one, and
-        // gives a piece at most.
+        // Nothing is read, and the source is as it was; or the first read and the last begin where
+        // the bytes held have no reply at their front, and may still become a head by its grammar
+        // or are a head and a part of its body, and the last gives a piece at most.
         ensures message { IfMessage result
             (GivesAsNeeded Side.Reply (S.left src.old) (S.left src.new)
             self.old.held self.new.held src.old src.new) }
