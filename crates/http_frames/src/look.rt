@@ -14,7 +14,7 @@ use httparse::spans::HeaderSpan;
 use std::alloc::AllocError;
 
 /// A head has at most so many bytes.
-const HEAD_LIMIT: usize = 16_384;
+pub(crate) const HEAD_LIMIT: usize = 16_384;
 
 /// A head has at most so many lines.
 pub(crate) const LINES_LIMIT: usize = 64;
