@@ -1,11 +1,11 @@
 //! Frames, one after another, out of what a source gives.
-ghost use Rattle.std.specs.Prelude.{◌≡◌, ◌≢◌, ◌<◌, ◌≤◌, [], false, true, Ok};
+ghost use Rattle.std.specs.Prelude.{◌≡◌, ◌≢◌, ◌<◌, ◌≤◌, [], false, true, None, Ok};
 ghost use Rattle.std.specs.Prelude.{Err, IfOk, OnOk, OnErr, length, drop};
 ghost use Rattle.std.specs.Io.KnownBytes.{IsAtEnd};
 ghost use Rattle.m2m_io.specs.Counts.{Rose};
 ghost use Rattle.http_frames.specs.Frame.{lines_limit};
 ghost use Rattle.http_frames.specs.Stream.{HasNoFrame};
-ghost use Rattle.http_frames.specs.Spans.{IsFrameAt, AreWithin, IsWalked, frame_at};
+ghost use Rattle.http_frames.specs.Spans.{IsFrameAt, AreWithin, frame_at};
 ghost use Rattle.http_frames.specs.Inbox.{Reads, GivesAsNeeded, HoldsNoFrame, IfMessage};
 ghost use Rattle.http_frames.specs.Inbox.{UnlessMessage, is_refusal, TakesNext};
 ghost use Rattle.http_frames.specs.Waiting.{ReadsAsNeeded};
@@ -47,6 +47,7 @@ fn settled_at_end(held: &Held) -> Settled
 /// Reads until it is settled what stands at the front of the stream: only while the bytes held
 /// settle nothing. Where a frame's lines are is written to `headers`, and what its chunks carry to
 /// `walked`.
+#[tactic(auto, using(crate::proofs::LookLemmas::walked_none_yet))]
 fn settle<S: Source>(
     held: &mut Held,
     src: &mut S,
@@ -55,7 +56,9 @@ fn settle<S: Source>(
     walked: &mut Walked,
 ) -> Result<Settled, FrameFault>
     requires room { length headers.old ≡ lines_limit }
-    requires walked { IsWalked side held.old walked.old.at walked.old.body.items }
+    requires head { walked.old.head ≡ None }
+    requires at { walked.old.at ≡ 0 }
+    requires body { walked.old.body.items ≡ [] }
     ensures reads { Reads (S.left src.old) (S.left src.new) held.old held.new }
     ensures needed { ReadsAsNeeded side held.old held.new src.old src.new }
     ensures whole { IfSettled result
