@@ -1,5 +1,5 @@
 -- A frame's bytes tell where it ends, so a stream has one list of frames.
-use Rattle.std.specs.Prelude.{All, ◌<◌, ◌≤◌, ◌*◌}
+use Rattle.std.specs.Prelude.{All, ◌≤◌, ◌*◌}
 use Rattle.std.proofs.lemmas.List.Elements.{All-head, All-tail}
 use Rattle.httparse.specs.Ascii.{crlf_bytes}
 use Rattle.std.proofs.Common.{◌≡◌, arith, ℕ, List, [], ◌∷◌, ◌++◌, length, take, drop, refl, sym, ap, subst, ◌∙◌, append_assoc}
@@ -15,7 +15,7 @@ use Rattle.http_frames.specs.Chunks.{Announces, Chunk, chunk_text, chunks_text, 
 use Rattle.httparse.specs.Grammar.{ChunkLine, print_chunk_line, chunk_size}
 use Rattle.httparse.proofs.ChunkLemmas.{chunk_line_unique}
 use Rattle.http_frames.specs.Frame.{IsHead, IsFrame, body_limit}
-use Rattle.http_frames.specs.Stream.{BeginsWithFrame, BeginsWithFrames, Frames, FramesAreUnique, NoFrameBeginsAnother}
+use Rattle.http_frames.specs.Stream.{BeginsWithFrame, BeginsWithFrames, FramesAreUnique, NoFrameBeginsAnother}
 
 -- two heads at the front of one stream are one head, with one rest
 pub IsHead_unique : (side : Side) (text other : List ℕ) (start begin : Start) (lines rows : List Line)

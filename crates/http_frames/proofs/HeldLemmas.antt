@@ -1,12 +1,25 @@
 -- What stands between two places, and what a read puts behind them.
-use Rattle.std.proofs.Common.{◌≡◌, ℕ, ◌+◌, ◌-◌, ◌≤◌, List, ◌++◌, length, take, drop, sym, ap, ◌∙◌, arith, append_assoc, length-append}
-use Rattle.std.proofs.lemmas.List.{take_at, take-append-drop, drop-take, length-take-le}
+use Rattle.std.proofs.Common.{◌≡◌, ℕ, ◌+◌, ◌-◌, ◌≤◌, List, ◌++◌, length, take, drop, sym, ap, ◌∙◌, arith, append_assoc, length-append, length-drop}
+use Rattle.std.specs.List.{copy_within}
+use Rattle.std.proofs.lemmas.List.{take_at, take-append-drop, drop-take, take-take, length-take-le}
 
 -- what stands from one place to another, counted from the first
 pub moved : (xs : List ℕ) (start end : ℕ) → start ≤ end → take (end - start) (drop start xs) ≡ drop start (take end xs)
 moved xs start end within =
     let whole : end ≡ start + (end - start) = omega (arith, within) in
     sym (ap (λ n. drop start (take n xs)) whole ∙ drop-take start (end - start) xs)
+
+-- what stands from one place to another, moved to the front
+pub front_moved : (xs : List ℕ) (start end : ℕ) → start ≤ end → end ≤ length xs
+    → take (end - start) (copy_within xs start end 0) ≡ drop start (take end xs)
+front_moved xs start end ordered within =
+    let long : end - start ≤ length (drop start xs) = omega (arith, within, length-drop start xs) in
+    take_at (take (end - start) (drop start xs)) (drop (0 + (end - start)) xs) (end - start) (length-take-le (end - start) (drop start xs) long)
+    ∙ moved xs start end ordered
+
+-- what is cut off behind changes nothing of the front
+pub front_cut : (xs : List ℕ) (n most : ℕ) → n ≤ most → take n (take most xs) ≡ take n xs
+front_cut xs n most within = take-take n most xs within
 
 -- what is put behind changes nothing of the front
 pub front_kept : (xs ys : List ℕ) (n : ℕ) → n ≤ length xs → take n (xs ++ ys) ≡ take n xs

@@ -1,20 +1,27 @@
 -- What a head at the front of some bytes tells of a frame there.
-use Rattle.std.proofs.Common.{◌≡◌, ℕ, ◌+◌, ◌-◌, ◌<◌, ◌≤◌, true, false, List, [], ◌++◌, length, take, drop, refl, sym, ap, subst, ◌∙◌, inl, inr, arith, append_assoc}
+use Rattle.std.proofs.Common.{◌≡◌, ℕ, ◌+◌, ◌-◌, ◌<◌, ◌≤◌, true, false, List, [], ◌∷◌, ◌++◌, length, take, drop, map, Option, None, Some, refl, sym, ap, subst, ◌∙◌, inl, inr, arith, append_assoc}
 use Rattle.std.proofs.lemmas.List.{take_at, take-append-le, take-append-drop, take-take, drop-take, length-take, length-map, length-drop, length-append, drop-append-le}
+use Rattle.std.specs.Prelude.{All}
 use Rattle.std.proofs.lemmas.Bool.{cases_lt}
+use Rattle.std.proofs.lemmas.List.Elements.{All-head, All-tail}
+use Rattle.httparse.specs.declared.spans.Span.{Span}
 use Rattle.httparse.specs.declared.spans.HeaderSpan.{HeaderSpan}
+use Rattle.httparse.specs.Spans.{IsWithin, IsHeaderWithin, span_bytes, header_bytes}
 use Rattle.httparse.specs.Grammar.{RequestHead, print_request, ResponseHead, print_response}
 use Rattle.http_frames.specs.declared.frame.Side.{Side}
 use Rattle.http_frames.specs.declared.frame.Side.TheVariants.{Request, Reply}
 use Rattle.http_frames.specs.declared.frame.Start.{Start}
+use Rattle.http_frames.specs.declared.frame.Start.TheVariants.{Ask}
 use Rattle.http_frames.specs.declared.frame.Frame.{Frame}
+use Rattle.http_frames.specs.declared.head.StartSpans.{StartSpans}
+use Rattle.http_frames.specs.declared.head.StartSpans.TheVariants as spans
 use Rattle.http_frames.specs.declared.head.HeadSpans.{HeadSpans}
 use Rattle.http_frames.specs.Lines.{Line}
 use Rattle.http_frames.specs.Body.{Framing, counted, chunked, refused, framing_of, CarriesBody}
-use Rattle.http_frames.specs.Chunks.{chunks_text, chunks_body, IsChunked}
+use Rattle.http_frames.specs.Chunks.{chunks_text, IsChunked}
 use Rattle.http_frames.specs.ChunkLooks.{AreChunksAt, GoesOn, GoesOnBy, ExcludesChunk}
 use Rattle.http_frames.specs.Frame.{body_limit, IsHead, IsFrame}
-use Rattle.http_frames.specs.Spans.{start_at, lines_at, framing_at, IsHeadAt, IsGoodHead, HasWalked, IsWalked, AreBehind, HasNoHead, HeadExceeds, IsFrameAt, NeedsBytes, CanNotBegin}
+use Rattle.http_frames.specs.Spans.{start_at, lines_at, framing_at, IsStartWithin, IsHeadAt, IsGoodHead, IsWalked, AreBehind, HasNoHead, HeadExceeds, IsFrameAt, NeedsBytes, CanNotBegin}
 use Rattle.http_frames.proofs.FrameLemmas.{IsHead_unique}
 use Rattle.http_frames.proofs.ChunkLemmas.{front_within, walked_none, goes_on}
 use Rattle.httparse.specs.Ascii.{crlf_bytes}
@@ -171,45 +178,39 @@ whole_frame side bytes body headers head n h e fits there =
 
 -- ---- chunks behind the head
 
--- none were walked yet, or some behind that very head
-pub behind_from : (side : Side) (bytes body : List ℕ) (headers : List HeaderSpan) (head : HeadSpans) (at : ℕ)
-    → IsGoodHead side bytes headers head → framing_at bytes headers head ≡ chunked → IsWalked side bytes at body
-    → AreBehind side bytes headers head at body
-behind_from side bytes body headers head at h is (inl none) =
-    let rest = drop head.len bytes in
-    let start : AreChunksAt rest 0 body = subst (λ (b : List ℕ). AreChunksAt rest 0 b) (sym none.1) (walked_none rest) in
-    record {
-      good = h;
-      framing = is;
-      chunks = subst (λ (k : ℕ). AreChunksAt rest k body) (sym none.0) start;
-      within = omega (arith, none.0);
-      fits = omega (arith, ap length none.1);
-    }
-behind_from side bytes body headers head at h is (inr w) =
-    let n = head.len in
-    let same = IsHead_unique side (take n bytes) w.head (start_at bytes head.start) w.start (lines_at bytes headers head.lines) w.lines
-    (drop n bytes) w.rest h.at.is_head w.is_head (take-append-drop n bytes ∙ w.bytes_are) in
-    record {
-      good = h;
-      framing = is;
-      chunks = subst (λ (r : List ℕ). AreChunksAt r at body) (sym same.3) w.chunks;
-      within = omega (arith, w.within, ap length same.3);
-      fits = w.fits;
-    }
+-- no head was found yet
+pub walked_none_yet : (side : Side) (bytes body : List ℕ) (headers : List HeaderSpan) (head : Option HeadSpans) (at : ℕ)
+    → head ≡ None → at ≡ 0 → body ≡ [] → IsWalked side bytes headers head at body
+walked_none_yet side bytes body headers head at none start empty =
+    subst (λ (h : Option HeadSpans). IsWalked side bytes headers h at body) (sym none) (start, empty)
 
-pub walked_from : (side : Side) (bytes body : List ℕ) (headers : List HeaderSpan) (head : HeadSpans) (at : ℕ)
-    → AreBehind side bytes headers head at body → IsWalked side bytes at body
-walked_from side bytes body headers head at b = inr (record {
-  head = take head.len bytes;
-  rest = drop head.len bytes;
-  start = start_at bytes head.start;
-  lines = lines_at bytes headers head.lines;
-  bytes_are = sym (take-append-drop head.len bytes);
-  is_head = b.good.at.is_head;
-  chunks = b.chunks;
-  within = b.within;
-  fits = b.fits;
-})
+pub none_walked : (side : Side) (bytes body : List ℕ) (headers : List HeaderSpan) (kept : Option HeadSpans) (at : ℕ)
+    → kept ≡ None → IsWalked side bytes headers kept at body → (at ≡ 0) × (body ≡ [])
+none_walked side bytes body headers kept at is w = subst (λ (h : Option HeadSpans). IsWalked side bytes headers h at body) is w
+
+-- a head was found
+pub walked_behind : (side : Side) (bytes body : List ℕ) (headers : List HeaderSpan) (kept : Option HeadSpans) (head : HeadSpans) (at : ℕ)
+    → kept ≡ Some head → IsWalked side bytes headers kept at body → AreBehind side bytes headers head at body
+walked_behind side bytes body headers kept head at is w = subst (λ (h : Option HeadSpans). IsWalked side bytes headers h at body) is w
+
+pub behind_walked : (side : Side) (bytes body : List ℕ) (headers : List HeaderSpan) (kept : Option HeadSpans) (head : HeadSpans) (at : ℕ)
+    → kept ≡ Some head → AreBehind side bytes headers head at body → IsWalked side bytes headers kept at body
+behind_walked side bytes body headers kept head at is b = subst (λ (h : Option HeadSpans). IsWalked side bytes headers h at body) (sym is) b
+
+-- none were walked behind the head that was found
+pub behind_none : (side : Side) (bytes body : List ℕ) (headers : List HeaderSpan) (head : HeadSpans) (at : ℕ)
+    → IsGoodHead side bytes headers head → framing_at bytes headers head ≡ chunked → at ≡ 0 → body ≡ []
+    → AreBehind side bytes headers head at body
+behind_none side bytes body headers head at h is start empty =
+    let rest = drop head.len bytes in
+    let none : AreChunksAt rest 0 body = subst (λ (b : List ℕ). AreChunksAt rest 0 b) (sym empty) (walked_none rest) in
+    record {
+      good = h;
+      framing = is;
+      chunks = subst (λ (k : ℕ). AreChunksAt rest k body) (sym start) none;
+      within = omega (arith, start);
+      fits = omega (arith, ap length empty);
+    }
 
 -- more were walked
 pub behind_on : (side : Side) (bytes body more : List ℕ) (headers : List HeaderSpan) (head : HeadSpans) (at next : ℕ)
@@ -218,30 +219,81 @@ pub behind_on : (side : Side) (bytes body more : List ℕ) (headers : List Heade
 behind_on side bytes body more headers head at next b chunks within fits =
     record { good = b.good; framing = b.framing; chunks = chunks; within = within; fits = fits }
 
--- they stay behind it when more bytes came
-pub walked_more : (side : Side) (bytes read now body : List ℕ) (at : ℕ) → now ≡ bytes ++ read → IsWalked side bytes at body
-    → IsWalked side now at body
-walked_more side bytes read now body at is (inl none) = inl none
-walked_more side bytes read now body at is (inr w) =
-    let before = chunks_text w.chunks.chunks in
-    inr (record {
-      head = w.head;
-      rest = w.rest ++ read;
-      start = w.start;
-      lines = w.lines;
-      bytes_are = is ∙ ap (λ t. t ++ read) w.bytes_are ∙ append_assoc w.head w.rest read;
-      is_head = w.is_head;
-      chunks = record {
-        chunks = w.chunks.chunks;
-        each = w.chunks.each;
-        bytes_are = ap (λ t. t ++ read) w.chunks.bytes_are ∙ append_assoc before (drop at w.rest) read
-            ∙ ap (λ t. before ++ t) (sym (drop-append-le at w.rest read w.within));
-        at_is = w.chunks.at_is;
-        body_is = w.chunks.body_is;
-      };
-      within = omega (arith, w.within, length-append w.rest read);
-      fits = w.fits;
-    })
+-- what spans in the first bytes cover stays when more bytes came
+span_more : (bytes read : List ℕ) (n : ℕ) (s : Span) → n ≤ length bytes → IsWithin n s → span_bytes (bytes ++ read) s ≡ span_bytes bytes s
+span_more bytes read n s fits within =
+    let before : s.start ≤ length bytes = omega (arith, within.0, within.1) in
+    let inside : s.end - s.start ≤ length (drop s.start bytes) = omega (arith, within.0, within.1, length-drop s.start bytes) in
+    ap (take (s.end - s.start)) (drop-append-le s.start bytes read before) ∙ take-append-le (s.end - s.start) (drop s.start bytes) read inside
+
+start_more : (bytes read : List ℕ) (n : ℕ) (s : StartSpans) → n ≤ length bytes → IsStartWithin n s → start_at (bytes ++ read) s ≡ start_at bytes s
+start_more bytes read n (spans.Ask method target minor) fits within =
+    λ i. Ask (span_more bytes read n method fits within.0 i) (span_more bytes read n target fits within.1 i) minor
+start_more bytes read n (spans.Answer status minor) fits within = refl
+
+headers_more : (bytes read : List ℕ) (n : ℕ) → n ≤ length bytes → (headers : List HeaderSpan) → All (IsHeaderWithin n) headers
+    → map (header_bytes (bytes ++ read)) headers ≡ map (header_bytes bytes) headers
+headers_more bytes read n fits [] all = refl
+headers_more bytes read n fits (h ∷ hs) all =
+    let here : IsHeaderWithin n h = All-head (IsHeaderWithin n) h hs all in
+    λ i. (span_more bytes read n h.name fits here.0 i, span_more bytes read n h.value fits here.1 i)
+    ∷ headers_more bytes read n fits hs (All-tail (IsHeaderWithin n) h hs all) i
+
+-- the head stays when more bytes came
+head_more : (side : Side) (bytes read : List ℕ) (headers : List HeaderSpan) (head : HeadSpans)
+    → IsHeadAt side bytes headers head
+    → IsHeadAt side (bytes ++ read) headers head × (framing_at (bytes ++ read) headers head ≡ framing_at bytes headers head)
+head_more side bytes read headers head h =
+    let len = head.len in
+    let fits = h.lines_fit.len_fits in
+    let front : take len (bytes ++ read) ≡ take len bytes = take-append-le len bytes read fits in
+    let start = start_more bytes read len head.start fits h.start_fits in
+    let lines : lines_at (bytes ++ read) headers head.lines ≡ lines_at bytes headers head.lines =
+    headers_more bytes read len fits (take head.lines headers) h.lines_fit.headers_fit in
+    let with_lines = subst (λ (l : List Line). IsHead side (take len bytes) (start_at bytes head.start) l) (sym lines) h.is_head in
+    let with_start = subst (λ (s : Start). IsHead side (take len bytes) s (lines_at (bytes ++ read) headers head.lines)) (sym start) with_lines in (
+      record {
+        is_head = subst (λ (t : List ℕ). IsHead side t (start_at (bytes ++ read) head.start) (lines_at (bytes ++ read) headers head.lines)) (sym front) with_start;
+        start_fits = h.start_fits;
+        lines_fit = record {
+          len_fits = omega (arith, fits, length-append bytes read);
+          count_fits = h.lines_fit.count_fits;
+          headers_fit = h.lines_fit.headers_fit;
+        };
+      },
+      λ i. framing_of (start i) (lines i),
+    )
+
+-- chunks stay behind it when more bytes came
+behind_more : (side : Side) (bytes read body : List ℕ) (headers : List HeaderSpan) (head : HeadSpans) (at : ℕ)
+    → AreBehind side bytes headers head at body → AreBehind side (bytes ++ read) headers head at body
+behind_more side bytes read body headers head at b =
+    let w = b.chunks in
+    let before = chunks_text w.chunks in
+    let rest = drop head.len bytes in
+    let more = head_more side bytes read headers head b.good.at in
+    let rest_is : drop head.len (bytes ++ read) ≡ rest ++ read = drop-append-le head.len bytes read b.good.at.lines_fit.len_fits in
+    let chunks : AreChunksAt (rest ++ read) at body = record {
+      chunks = w.chunks;
+      each = w.each;
+      bytes_are = ap (λ t. t ++ read) w.bytes_are ∙ append_assoc before (drop at rest) read
+          ∙ ap (λ t. before ++ t) (sym (drop-append-le at rest read b.within));
+      at_is = w.at_is;
+      body_is = w.body_is;
+    } in
+    record {
+      good = record { at = more.0; fits = b.good.fits; room = b.good.room };
+      framing = more.1 ∙ b.framing;
+      chunks = subst (λ (r : List ℕ). AreChunksAt r at body) (sym rest_is) chunks;
+      within = omega (arith, b.within, ap length rest_is, length-append rest read);
+      fits = b.fits;
+    }
+
+pub walked_more : (side : Side) (bytes read now body : List ℕ) (headers : List HeaderSpan) (head : Option HeadSpans) (at : ℕ)
+    → now ≡ bytes ++ read → IsWalked side bytes headers head at body → IsWalked side now headers head at body
+walked_more side bytes read now body headers None at is w = w
+walked_more side bytes read now body headers (Some head) at is w =
+    subst (λ (t : List ℕ). AreBehind side t headers head at body) (sym is) (behind_more side bytes read body headers head at w)
 
 -- where a frame stands, its chunks go on behind those that were walked
 pub frame_goes_on : (side : Side) (bytes more text rest body : List ℕ) (headers : List HeaderSpan) (head : HeadSpans) (at : ℕ) (frame : Frame)

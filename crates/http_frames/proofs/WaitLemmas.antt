@@ -15,8 +15,8 @@ use Rattle.http_frames.specs.declared.frame.Start.TheVariants.{Ask, Answer}
 use Rattle.http_frames.specs.declared.frame.Frame.{Frame}
 use Rattle.http_frames.specs.declared.head.HeadSpans.{HeadSpans}
 use Rattle.http_frames.specs.declared.look.FrameSpans.{FrameSpans}
-use Rattle.http_frames.specs.Body.{counted, framing_of, carried_limit}
-use Rattle.http_frames.specs.Chunks.{chunks_text, chunks_body, chunk_line_limit, LacksLine, LacksPart}
+use Rattle.http_frames.specs.Body.{counted, carried_limit}
+use Rattle.http_frames.specs.Chunks.{chunks_text, chunks_body, LacksLine, LacksPart}
 use Rattle.http_frames.specs.ChunkLooks.{WaitsForChunk}
 use Rattle.http_frames.specs.Looks.{WaitsFor}
 use Rattle.http_frames.specs.Frame.{head_limit, lines_limit, body_limit, IsFrame}

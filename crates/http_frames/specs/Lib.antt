@@ -6,6 +6,7 @@ pub mod Frame
 pub mod Inbox
 pub mod Lines
 pub mod Looks
+pub mod Rooms
 pub mod Settled
 pub mod Spans
 pub mod Stream

@@ -1,5 +1,5 @@
 -- What a look for a frame answers says of the bytes.
-use Rattle.std.specs.Prelude.{◌≡◌, ◌+◌, ◌<◌, ◌≤◌, ℕ, List, length}
+use Rattle.std.specs.Prelude.{◌+◌, ◌<◌, ◌≤◌, ℕ, List, length}
 use Rattle.httparse.specs.declared.spans.HeaderSpan.{HeaderSpan}
 use Rattle.http_frames.specs.declared.frame.Side.{Side}
 use Rattle.http_frames.specs.declared.look.Look.{Look}

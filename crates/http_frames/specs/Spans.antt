@@ -1,5 +1,5 @@
 -- What the offsets that a look at the bytes answers say of them.
-use Rattle.std.specs.Prelude.{◌≡◌, ℕ, ◌<◌, ◌≤◌, ◌⊎◌, List, [], ◌++◌, length, take, drop, map}
+use Rattle.std.specs.Prelude.{◌≡◌, ℕ, ◌<◌, ◌≤◌, List, [], ◌++◌, length, take, drop, map}
 use Rattle.std.specs.Prelude.{slice_range, Option, Some, None, ⊤, if◌then◌else◌}
 use Rattle.httparse.specs.declared.spans.HeaderSpan.{HeaderSpan}
 use Rattle.httparse.specs.Spans.{header_bytes, span_bytes, IsWithin, IsSectionWithin}
@@ -61,24 +61,8 @@ abbrev pub framing_at : List ℕ → List HeaderSpan → HeadSpans → Framing
 framing_at bytes headers head =
     framing_of (start_at bytes head.start) (lines_at bytes headers head.lines)
 
--- A head that announces chunks stands at the front, and behind it chunks were walked, up to a place
--- and with this part of the body.
-pub record HasWalked (side : Side) (bytes : List ℕ) (at : ℕ) (body : List ℕ) : Type 0 where
-  pub head : List ℕ
-  pub rest : List ℕ
-  pub start : Start
-  pub lines : List Line
-  pub bytes_are : bytes ≡ head ++ rest
-  pub is_head : IsHead side head start lines
-  pub chunks : AreChunksAt rest at body
-  pub within : at ≤ length rest
-  pub fits : length body ≤ body_limit side
-
--- None were walked yet, or some behind the head.
-abbrev pub IsWalked : Side → List ℕ → ℕ → List ℕ → Type 0
-IsWalked side bytes at body = ((at ≡ 0) × (body ≡ [])) ⊎ HasWalked side bytes at body
-
--- Chunks were walked behind the head that was found, which announces them.
+-- A head within the limits that announces chunks stands at the front, the spans cover its parts, and
+-- behind it chunks were walked, up to a place and with this part of the body.
 pub record AreBehind
     (side : Side) (bytes : List ℕ) (headers : List HeaderSpan) (head : HeadSpans) (at : ℕ)
     (body : List ℕ) : Type 0 where
@@ -87,6 +71,12 @@ pub record AreBehind
   pub chunks : AreChunksAt (drop head.len bytes) at body
   pub within : at ≤ length (drop head.len bytes)
   pub fits : length body ≤ body_limit side
+
+-- No such head was found yet, and none were walked; or some behind the one that was found.
+abbrev pub IsWalked :
+    Side → List ℕ → List HeaderSpan → Option HeadSpans → ℕ → List ℕ → Type 0
+IsWalked side bytes headers None at body = (at ≡ 0) × (body ≡ [])
+IsWalked side bytes headers (Some head) at body = AreBehind side bytes headers head at body
 
 -- no head stands at the front
 pub record HasNoHead (side : Side) (bytes : List ℕ) : Type 0 where

@@ -57,7 +57,8 @@ pub record LackChunk (side : Side) (bytes : List ℕ) : Type 0 where
   pub body_fits : length (chunks_body chunks) ≤ body_limit side
   pub lacks : LacksLine part ⊎ LacksPart (body_limit side - length (chunks_body chunks)) part
 
--- These bytes neither hold a message nor exclude one.
+-- These bytes have no message at their front, and by the grammar of a head or by the framing of a
+-- body they may still become one. What the lines of a head say is judged once it is whole.
 abbrev pub IsUnsettled : Side → List ℕ → Type 0
 IsUnsettled side bytes =
     HasNoFrame side bytes

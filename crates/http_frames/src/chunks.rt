@@ -1,11 +1,12 @@
 //! Chunked bodies on the stream (RFC 9112, section 7.1).
 ghost use Rattle.std.specs.Prelude.{◌≡◌, ◌+◌, ◌-◌, ◌^◌, ◌<◌, ◌≤◌, ◌++◌, ℕ, IfOk, OnOk, OnErr};
-ghost use Rattle.std.specs.Prelude.{[], length, take, drop};
+ghost use Rattle.std.specs.Prelude.{[], length, take, drop, None};
 ghost use Rattle.httparse.specs.Grammar.{HasNoChunkLine, MayBecomeChunkLine};
 ghost use Rattle.http_frames.specs.Chunks.{chunk_line_limit};
 ghost use Rattle.http_frames.specs.ChunkLooks.{IsEndLook, IsLineAt, IsChunkLook, GoesOnBy};
 ghost use Rattle.http_frames.specs.ChunkLooks.{AreChunksAt, IsStop};
 
+use crate::head::HeadSpans;
 use httparse::{Status, parse_chunk_size};
 use std::alloc::{AllocError, Global};
 
@@ -126,20 +127,24 @@ fn look_for_chunk(text: &[u8], most: usize) -> ChunkLook
     }
 }
 
-/// How far chunks were walked: whole ones, of `at` bytes in all, with this part of the body.
-#[derive(Debug, Drop)]
+/// How far a message in chunks was read: its head, once that is found, and behind it whole chunks,
+/// of `at` bytes in all, with this part of the body.
+#[derive(Drop)]
 pub(crate) struct Walked {
+    pub(crate) head: Option<HeadSpans>,
     pub(crate) at: usize,
     pub(crate) body: Vec<u8>,
 }
 
 impl Walked {
-    /// None so far.
+    /// Nothing so far.
     pub(crate) fn new(alloc: Global) -> Walked
+        ensures head { result.head ≡ None }
         ensures at { result.at ≡ 0 }
         ensures body { result.body.items ≡ [] }
     {
         Walked {
+            head: None,
             at: 0,
             body: Vec::new(alloc),
         }
@@ -158,6 +163,7 @@ impl Walked {
         ensures len { OnOk result
             (length self.new.body.items ≡ length self.old.body.items + size) }
         ensures err { OnErr result (self.new.body.items ≡ self.old.body.items) }
+        ensures head { self.new.head ≡ self.old.head }
     {
         let from = self.at + start;
         self.body.extend_from_slice(&carried[from..from + size])?;
@@ -177,6 +183,7 @@ impl Walked {
         ensures fits { length self.new.body.items ≤ limit }
         ensures stop { IfOk result (IsStop (limit - length self.new.body.items)
             (drop self.new.at carried.now)) }
+        ensures head { self.new.head ≡ self.old.head }
     {
         'chunks: loop {
             match look_for_chunk(&carried[self.at..], limit - self.body.len()) {

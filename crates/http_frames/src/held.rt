@@ -4,23 +4,25 @@ ghost use Rattle.std.specs.Prelude.{OnOk, OnErr, length, take, drop};
 ghost use Rattle.std.specs.Io.KnownBytes.{IsAtEnd};
 ghost use Rattle.m2m_io.specs.Counts.{Rose};
 ghost use Rattle.http_frames.specs.Inbox.{Reads};
+ghost use Rattle.http_frames.specs.Rooms.{room_limit};
 ghost use Rattle.http_frames.specs.Waiting.{EndsBelow, piece_limit};
 
 use crate::FrameFault;
+use crate::look::HEAD_LIMIT;
 use m2m_io::Source;
 use std::alloc::{AllocError, Global};
 use std::marker::Model;
 
 /// A read gives at most so many bytes.
-const PIECE: usize = 4_096;
+pub const PIECE: usize = 4_096;
 
 /// Room for the longest head and a piece, so that few streams need more.
-const ROOM: usize = 20_480;
+const ROOM: usize = HEAD_LIMIT + PIECE;
 
 /// The bytes that were read and are not yet given: those of `bytes` from `start` to `end`. What
 /// stands behind them is room that reads write to, so that what they give needs no copy there. Of
-/// the bytes that are given some stay at the front until room is needed, and no more than there was
-/// room for from the start.
+/// the bytes that are given some stay in front of them, and some in the room until it is written to
+/// anew. In front there is no more than the longest head and a piece, and no more behind.
 #[derive(Debug, Drop)]
 pub(crate) struct Held {
     bytes: Vec<u8>,
@@ -29,87 +31,84 @@ pub(crate) struct Held {
 }
 
 impl Model for Held {
-    ghost use Rattle.std.specs.Prelude.{◌≤◌, List, ℕ, length, take, drop};
+    ghost use Rattle.std.specs.Prelude.{◌+◌, ◌≤◌, List, ℕ, length, take, drop};
+    ghost use Rattle.http_frames.specs.Rooms.{room_limit};
 
     ghost Value = { List ℕ };
 
     ghost view = { λ h. drop h.start (take h.end h.bytes.items) };
 
     ghost invariant = { λ h. (h.start ≤ h.end) × (h.end ≤ length h.bytes.items)
-        × (h.start ≤ 20480) };
+        × (h.start ≤ room_limit) × (length h.bytes.items ≤ h.end + room_limit) };
 }
 
-/// Takes the first `n` bytes away.
-fn drop_front(bytes: &mut Vec<u8>, n: usize)
-    requires { n ≤ length bytes.old.items }
-    ensures { bytes.new.items ≡ drop n bytes.old.items }
-{
-    let len = bytes.len() - n;
-    bytes.copy_within(n.., 0);
-    bytes.truncate(len);
-}
-
-/// Moves the bytes from `start` to `end` to the front, with nothing behind them.
+/// Moves the bytes from `start` to `end` to the front. What stands behind them stays room.
+#[tactic(auto, using(crate::proofs::HeldLemmas::front_moved))]
 fn move_to_front(bytes: &mut Vec<u8>, start: &mut usize, end: &mut usize)
     requires ordered { start.old ≤ end.old }
     requires within { end.old ≤ length bytes.old.items }
-    ensures bytes { bytes.new.items ≡ drop start.old (take end.old bytes.old.items) }
+    ensures bytes { take end.new bytes.new.items ≡ drop start.old (take end.old bytes.old.items) }
     ensures start { start.new ≡ 0 }
-    ensures end { end.new ≡ length bytes.new.items }
+    ensures within { end.new ≤ length bytes.new.items }
 {
-    bytes.truncate(*end);
-    drop_front(bytes, *start);
+    bytes.copy_within(*start..*end, 0);
     *end -= *start;
     *start = 0;
 }
 
-/// Moves the bytes to the front, where there is no room for a piece behind all that is there.
+/// Moves the bytes to the front, where there is some room there, as much is used as a head needs, and
+/// there is none for a piece behind them. What stands there then is no more than a head and a piece
+/// need.
+#[tactic(auto, using(crate::proofs::HeldLemmas::front_cut))]
 fn use_front(bytes: &mut Vec<u8>, start: &mut usize, end: &mut usize)
     requires ordered { start.old ≤ end.old }
     requires within { end.old ≤ length bytes.old.items }
+    requires room { length bytes.old.items ≤ end.old + room_limit }
     ensures bytes { drop start.new (take end.new bytes.new.items)
         ≡ drop start.old (take end.old bytes.old.items) }
     ensures ordered { start.new ≤ end.new }
     ensures within { end.new ≤ length bytes.new.items }
     ensures given { start.new ≤ start.old }
+    ensures room { length bytes.new.items ≤ end.new + room_limit }
 {
-    if bytes.capacity().saturating_sub(bytes.len()) < PIECE {
+    if 0 < *start && HEAD_LIMIT < bytes.len() && bytes.len() - *end < PIECE {
         move_to_front(bytes, start, end);
+        bytes.truncate(*end + ROOM);
     }
 }
 
-/// Makes room for a piece behind the bytes, where there isn't any.
+/// Makes room for a piece behind the first `end` bytes, where there isn't any.
 #[tactic(auto, using(crate::proofs::HeldLemmas::front_kept))]
-fn make_more_room(bytes: &mut Vec<u8>, start: &mut usize, end: &mut usize) -> Result<(), AllocError>
-    requires ordered { start.old ≤ end.old }
-    requires within { end.old ≤ length bytes.old.items }
-    ensures bytes { drop start.new (take end.new bytes.new.items)
-        ≡ drop start.old (take end.old bytes.old.items) }
-    ensures ordered { start.new ≤ end.new }
-    ensures within { end.new ≤ length bytes.new.items }
-    ensures given { start.new ≤ start.old }
-    ensures room { OnOk result (end.new + piece_limit ≤ length bytes.new.items) }
+fn add_room(bytes: &mut Vec<u8>, end: usize) -> Result<(), AllocError>
+    requires within { end ≤ length bytes.old.items }
+    requires room { length bytes.old.items ≤ end + room_limit }
+    ensures bytes { take end bytes.new.items ≡ take end bytes.old.items }
+    ensures within { end ≤ length bytes.new.items }
+    ensures ok { OnOk result (end + piece_limit ≤ length bytes.new.items) }
+    ensures room { length bytes.new.items ≤ end + room_limit }
 {
-    use_front(bytes, start, end);
-    bytes.extend_from_slice(&[0; PIECE])
+    if bytes.len() - end < PIECE {
+        bytes.extend_from_slice(&[0; PIECE])
+    } else {
+        Ok(())
+    }
 }
 
 /// Makes room for a piece behind the bytes.
 fn make_room(bytes: &mut Vec<u8>, start: &mut usize, end: &mut usize) -> Result<(), AllocError>
     requires ordered { start.old ≤ end.old }
     requires within { end.old ≤ length bytes.old.items }
+    requires room { length bytes.old.items ≤ end.old + room_limit }
     ensures bytes { drop start.new (take end.new bytes.new.items)
         ≡ drop start.old (take end.old bytes.old.items) }
     ensures ordered { start.new ≤ end.new }
     ensures within { end.new ≤ length bytes.new.items }
     ensures given { start.new ≤ start.old }
-    ensures room { OnOk result (end.new + piece_limit ≤ length bytes.new.items) }
+    ensures ok { OnOk result (end.new + piece_limit ≤ length bytes.new.items) }
+    ensures room { length bytes.new.items ≤ end.new + room_limit }
 {
-    if bytes.len() - *end < PIECE {
-        make_more_room(bytes, start, end)
-    } else {
-        Ok(())
-    }
+    use_front(bytes, start, end);
+    add_room(bytes, *end)
 }
 
 /// Reads once, right behind the bytes, where there is room for a piece.
@@ -158,6 +157,7 @@ impl Held {
     }
 
     /// Gives the first `n` bytes away, and after a long message the room that it needed.
+    #[tactic(auto, using(crate::proofs::HeldLemmas::front_cut))]
     pub(crate) fn skip(&mut self, n: usize)
         requires { n ≤ length self.old }
         ensures { self.new ≡ drop n self.old }
@@ -165,6 +165,7 @@ impl Held {
         self.start += n;
         if self.start > ROOM {
             move_to_front(&mut self.bytes, &mut self.start, &mut self.end);
+            self.bytes.truncate(self.end);
             self.bytes.shrink_to(ROOM);
         }
     }

@@ -1,11 +1,11 @@
 //! Frames, one after another, out of what a source gives.
-ghost use Rattle.std.specs.Prelude.{◌≡◌, ◌≢◌, ◌<◌, ◌≤◌, [], false, true, Ok};
+ghost use Rattle.std.specs.Prelude.{◌≡◌, ◌≢◌, ◌<◌, ◌≤◌, [], false, true, None, Ok};
 ghost use Rattle.std.specs.Prelude.{Err, IfOk, OnOk, OnErr, length, drop};
 ghost use Rattle.std.specs.Io.KnownBytes.{IsAtEnd};
 ghost use Rattle.m2m_io.specs.Counts.{Rose};
 ghost use Rattle.http_frames.specs.Frame.{lines_limit};
 ghost use Rattle.http_frames.specs.Stream.{HasNoFrame};
-ghost use Rattle.http_frames.specs.Spans.{IsFrameAt, AreWithin, IsWalked, frame_at};
+ghost use Rattle.http_frames.specs.Spans.{IsFrameAt, AreWithin, frame_at};
 ghost use Rattle.http_frames.specs.Inbox.{Reads, GivesAsNeeded, HoldsNoFrame, IfMessage};
 ghost use Rattle.http_frames.specs.Inbox.{UnlessMessage, is_refusal, TakesNext};
 ghost use Rattle.http_frames.specs.Waiting.{ReadsAsNeeded};
@@ -47,6 +47,7 @@ fn settled_at_end(held: &Held) -> Settled
 /// Reads until it is settled what stands at the front of the stream: only while the bytes held
 /// settle nothing. Where a frame's lines are is written to `headers`, and what its chunks carry to
 /// `walked`.
+#[tactic(auto, using(crate::proofs::LookLemmas::walked_none_yet))]
 fn settle<S: Source>(
     held: &mut Held,
     src: &mut S,
@@ -55,7 +56,9 @@ fn settle<S: Source>(
     walked: &mut Walked,
 ) -> Result<Settled, FrameFault>
     requires room { length headers.old ≡ lines_limit }
-    requires walked { IsWalked side held.old walked.old.at walked.old.body.items }
+    requires head { walked.old.head ≡ None }
+    requires at { walked.old.at ≡ 0 }
+    requires body { walked.old.body.items ≡ [] }
     ensures reads { Reads (S.left src.old) (S.left src.new) held.old held.new }
     ensures needed { ReadsAsNeeded side held.old held.new src.old src.new }
     ensures whole { IfSettled result
@@ -228,9 +231,11 @@ impl Inbox {
     }
 
     /// The next request of the stream, which is the bytes held and then those that the source has
-    /// left. It reads at most 4,096 bytes at a time, and only while the bytes held neither hold a
-    /// request nor exclude one. After `NoFrame` each call answers it; after another fault the
-    /// next call goes on where this one stopped.
+    /// left. It reads at most 4,096 bytes at a time, and only while the bytes held have no request
+    /// at their front and may still become a head, by its grammar alone, or are a head within the
+    /// limits and a part of its body. What the lines of a head say, and how many they are, is judged
+    /// once it ends. After `NoFrame` each call answers it; after another fault the next call goes on
+    /// where this one stopped.
     pub fn next_request<S: Source>(
         &mut self,
         alloc: Global,
@@ -239,8 +244,9 @@ impl Inbox {
         ensures next { TakesNext Side.Request (S.left src.old) (S.left src.new)
             self.old self.new result }
 
-        // A read is made only where the bytes held neither hold a request nor exclude one, and
-        // gives a piece at most.
+        // Nothing is read, and the source is as it was; or the first read and the last begin where
+        // the bytes held have no request at their front, and may still become a head by its grammar
+        // or are a head and a part of its body, and the last gives a piece at most.
         ensures message { IfMessage result
             (GivesAsNeeded Side.Request (S.left src.old) (S.left src.new)
             self.old.held self.new.held src.old src.new) }
@@ -267,8 +273,9 @@ impl Inbox {
         ensures next { TakesNext Side.Reply (S.left src.old) (S.left src.new)
             self.old self.new result }
 
-        // A read is made only where the bytes held neither hold a reply nor exclude one, and
-        // gives a piece at most.
+        // Nothing is read, and the source is as it was; or the first read and the last begin where
+        // the bytes held have no reply at their front, and may still become a head by its grammar
+        // or are a head and a part of its body, and the last gives a piece at most.
         ensures message { IfMessage result
             (GivesAsNeeded Side.Reply (S.left src.old) (S.left src.new)
             self.old.held self.new.held src.old src.new) }

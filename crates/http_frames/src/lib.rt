@@ -22,6 +22,7 @@ mod write;
 
 pub use fault::{FrameFault, PutFault};
 pub use frame::{Frame, Next, Side, Start};
+pub use held::PIECE;
 pub use inbox::Inbox;
 pub use laws::{frames_are_unique, no_frame_begins_another, what_is_written_is_read};
 pub use lines::{Found, Lines};

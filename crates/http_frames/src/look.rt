@@ -1,5 +1,5 @@
 //! A look for a frame at the front of some bytes.
-ghost use Rattle.std.specs.Prelude.{◌≡◌, ◌-◌, ◌^◌, ◌<◌, ℕ, List, IfOk, length, drop};
+ghost use Rattle.std.specs.Prelude.{◌≡◌, ◌-◌, ◌^◌, ◌<◌, ℕ, List, [], None, IfOk, length, drop};
 ghost use Rattle.http_frames.specs.ChunkLooks.{IsStop};
 ghost use Rattle.http_frames.specs.Body.{counted};
 ghost use Rattle.http_frames.specs.Frame.{lines_limit, body_limit};
@@ -14,7 +14,7 @@ use httparse::spans::HeaderSpan;
 use std::alloc::AllocError;
 
 /// A head has at most so many bytes.
-const HEAD_LIMIT: usize = 16_384;
+pub(crate) const HEAD_LIMIT: usize = 16_384;
 
 /// A head has at most so many lines.
 pub(crate) const LINES_LIMIT: usize = 64;
@@ -124,6 +124,7 @@ fn look_for_chunks(
     requires { AreBehind side bytes.now headers.now head walked.old.at walked.old.body.items }
     ensures walked { AreBehind side bytes.now headers.now head walked.new.at
         walked.new.body.items }
+    ensures head { walked.new.head ≡ walked.old.head }
     ensures look { IfOk result
         (IsLook side bytes.now headers.now walked.new.body.items) }
 {
@@ -131,8 +132,8 @@ fn look_for_chunks(
     Ok(look_behind_chunks(side, bytes, headers, head, walked, stop))
 }
 
-/// What frame has this head.
-#[tactic(auto, using(crate::proofs::LookLemmas::no_body, crate::proofs::LookLemmas::behind_from, crate::proofs::LookLemmas::walked_from))]
+/// What frame has this head. One that announces chunks is kept.
+#[tactic(auto, using(crate::proofs::LookLemmas::no_body, crate::proofs::LookLemmas::walked_none_yet, crate::proofs::LookLemmas::behind_walked))]
 fn look_behind(
     side: Side,
     bytes: &[u8],
@@ -141,19 +142,25 @@ fn look_behind(
     walked: &mut Walked,
 ) -> Result<Look, AllocError>
     requires good { IsGoodHead side bytes.now headers.now head }
-    requires walked { IsWalked side bytes.now walked.old.at walked.old.body.items }
-    ensures walked { IsWalked side bytes.now walked.new.at walked.new.body.items }
+    requires head { walked.old.head ≡ None }
+    requires at { walked.old.at ≡ 0 }
+    requires body { walked.old.body.items ≡ [] }
+    ensures walked { IsWalked side bytes.now headers.now walked.new.head walked.new.at
+        walked.new.body.items }
     ensures look { IfOk result (IsLook side bytes.now headers.now walked.new.body.items) }
 {
     match coding_of(bytes, head.start, &headers[..head.lines]) {
         None => Ok(Look::Never),
         Some(Coding::Counted(n)) => Ok(look_for_body(side, bytes, headers, head, n)),
-        Some(Coding::Chunked) => look_for_chunks(side, bytes, headers, head, walked),
+        Some(Coding::Chunked) => {
+            walked.head = Some(head);
+            look_for_chunks(side, bytes, headers, head, walked)
+        }
     }
 }
 
 /// What frame has the head that was found, whose length isn't judged yet.
-#[tactic(auto, using(crate::proofs::LookLemmas::head_too_long))]
+#[tactic(auto, using(crate::proofs::LookLemmas::head_too_long, crate::proofs::LookLemmas::walked_none_yet))]
 fn look_at_head(
     side: Side,
     bytes: &[u8],
@@ -161,10 +168,13 @@ fn look_at_head(
     head: HeadSpans,
     walked: &mut Walked,
 ) -> Result<Look, AllocError>
-    requires head { IsHeadAt side bytes.now headers.now head }
+    requires at_front { IsHeadAt side bytes.now headers.now head }
     requires room { length headers.now ≡ lines_limit }
-    requires walked { IsWalked side bytes.now walked.old.at walked.old.body.items }
-    ensures walked { IsWalked side bytes.now walked.new.at walked.new.body.items }
+    requires head { walked.old.head ≡ None }
+    requires at { walked.old.at ≡ 0 }
+    requires body { walked.old.body.items ≡ [] }
+    ensures walked { IsWalked side bytes.now headers.now walked.new.head walked.new.at
+        walked.new.body.items }
     ensures look { IfOk result (IsLook side bytes.now headers.now walked.new.body.items) }
 {
     if head.len > HEAD_LIMIT {
@@ -173,18 +183,22 @@ fn look_at_head(
     look_behind(side, bytes, headers, head, walked)
 }
 
-/// What frame of that side stands at the front of the bytes. Where its lines are is written to
-/// `headers`. What was walked of its chunks isn't walked again.
-#[tactic(auto, using(crate::proofs::LookLemmas::no_head_within, crate::proofs::LookLemmas::too_many_lines, crate::proofs::WaitLemmas::empty_waits, crate::proofs::WaitLemmas::head_waits))]
-pub(crate) fn look_for_frame(
+/// What frame stands at the front, where no head was found yet. Where its lines are is written to
+/// `headers`. A head that is still coming is parsed anew after each read, since a read is made only
+/// where the bytes held may still become one, and that httparse tells of all of them alone.
+#[tactic(auto, using(crate::proofs::LookLemmas::no_head_within, crate::proofs::LookLemmas::too_many_lines, crate::proofs::WaitLemmas::empty_waits, crate::proofs::WaitLemmas::head_waits, crate::proofs::LookLemmas::walked_none_yet))]
+fn look_from_start(
     side: Side,
     bytes: &[u8],
     headers: &mut [HeaderSpan],
     walked: &mut Walked,
 ) -> Result<Look, AllocError>
     requires room { length headers.old ≡ lines_limit }
-    requires walked { IsWalked side bytes.now walked.old.at walked.old.body.items }
-    ensures walked { IsWalked side bytes.now walked.new.at walked.new.body.items }
+    requires head { walked.old.head ≡ None }
+    requires at { walked.old.at ≡ 0 }
+    requires body { walked.old.body.items ≡ [] }
+    ensures walked { IsWalked side bytes.now headers.new walked.new.head walked.new.at
+        walked.new.body.items }
     ensures look { IfOk result (IsLook side bytes.now headers.new walked.new.body.items) }
 {
     if bytes.is_empty() {
@@ -194,5 +208,26 @@ pub(crate) fn look_for_frame(
         HeadLook::Whole(head) => look_at_head(side, bytes, headers, head, walked),
         HeadLook::NotYet if bytes.len() < HEAD_LIMIT => Ok(Look::Short(bytes.len() + 1)),
         HeadLook::NotYet | HeadLook::Never => Ok(Look::Never),
+    }
+}
+
+/// What frame of that side stands at the front of the bytes. A head in `walked` isn't parsed again,
+/// and its lines are where `headers` has them; nor are chunks in it walked again.
+pub(crate) fn look_for_frame(
+    side: Side,
+    bytes: &[u8],
+    headers: &mut [HeaderSpan],
+    walked: &mut Walked,
+) -> Result<Look, AllocError>
+    requires room { length headers.old ≡ lines_limit }
+    requires walked { IsWalked side bytes.now headers.old walked.old.head walked.old.at
+        walked.old.body.items }
+    ensures walked { IsWalked side bytes.now headers.new walked.new.head walked.new.at
+        walked.new.body.items }
+    ensures look { IfOk result (IsLook side bytes.now headers.new walked.new.body.items) }
+{
+    match walked.head {
+        Some(head) => look_for_chunks(side, bytes, headers, head, walked),
+        None => look_from_start(side, bytes, headers, walked),
     }
 }

@@ -1,5 +1,7 @@
 //! Room that frames gave back, for the texts and lines of the next ones.
 ghost use Rattle.std.specs.Prelude.{◌≡◌, ◌≤◌, [], All, IfOk, length, vec_capacity};
+ghost use Rattle.http_frames.specs.Frame.{lines_limit};
+ghost use Rattle.http_frames.specs.Rooms.{buffer_limit, buffers_limit};
 
 use crate::look::LINES_LIMIT;
 use crate::{Frame, Start};
@@ -10,8 +12,8 @@ use std::mem::replace;
 /// A buffer that is kept has room for at most so many bytes.
 const MOST_ROOM: usize = 256;
 
-/// At most so many buffers are kept: those of 64 lines, a method, a target and a body.
-const MOST_BUFFERS: usize = 131;
+/// At most so many buffers are kept: those of the lines, a method, a target and a body.
+const MOST_BUFFERS: usize = 2 * LINES_LIMIT + 3;
 
 /// A buffer that is made new has room for so many bytes at least.
 const LEAST_ROOM: usize = 32;
@@ -21,10 +23,10 @@ const LEAST_ROOM: usize = 32;
 pub(crate) struct Rooms {
     buffers: Vec<Vec<u8>>,
     lines: Vec<(Text, Text)>,
-    ghost few: { length buffers.items ≤ 131 },
-    ghost small: { All (λ b. (b.items ≡ []) × (vec_capacity b ≤ 256)) buffers.items },
+    ghost few: { length buffers.items ≤ buffers_limit },
+    ghost small: { All (λ b. (b.items ≡ []) × (vec_capacity b ≤ buffer_limit)) buffers.items },
     ghost none: { lines.items ≡ [] },
-    ghost little: { vec_capacity lines ≤ 64 },
+    ghost little: { vec_capacity lines ≤ lines_limit },
 }
 
 impl Rooms {

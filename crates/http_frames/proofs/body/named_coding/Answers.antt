@@ -1,4 +1,4 @@
-use Rattle.std.proofs.Common.{◌≡◌, Bool, List, ℕ, codes, sym, ap, ◌∙◌}
+use Rattle.std.proofs.Common.{◌≡◌, codes, ap, ◌∙◌}
 use Rattle.std.specs.Prelude.{if◌then◌else◌}
 use Rattle.httparse.specs.Spans.{span_bytes}
 use Rattle.http_frames.specs.Lines.{is_same_name}

@@ -1,5 +1,5 @@
-use Rattle.std.proofs.Common.{◌≡◌, ℕ, List, take, subst, ap, sym, ◌∙◌}
-use Rattle.httparse.specs.Grammar.{ChunkLine, NeverHasChunkLine}
+use Rattle.std.proofs.Common.{ℕ, List, subst}
+use Rattle.httparse.specs.Grammar.{NeverHasChunkLine}
 use Rattle.httparse.specs.Spans.{IsChunkLineAt}
 use Rattle.http_frames.proofs.ChunkLemmas.{line_found, line_never}
 use Rattle.http_frames.proofs.chunks.look_for_chunk.Goals as goal

@@ -1,14 +1,13 @@
-use Rattle.std.proofs.Common.{◌≡◌, ◌≢◌, ◌<◌, ℕ, List, [], length, Ok, Err, Result, Option, refl, sym, ap, ◌∙◌, subst}
+use Rattle.std.proofs.Common.{◌≡◌, ◌≢◌, ℕ, List, [], Ok, Option, refl, ap, ◌∙◌, subst}
 use Rattle.std.specs.Result.{is_ok}
 use Rattle.std.specs.Io.KnownBytes.{IsAtEnd}
 use Rattle.std.proofs.lemmas.Bool.{true≢false}
 use Rattle.http_frames.specs.declared.frame.Side.{Side}
 use Rattle.http_frames.specs.declared.inbox.Settled.{Settled}
 use Rattle.http_frames.specs.declared.inbox.Settled.TheVariants.{Whole, End, Never}
-use Rattle.http_frames.specs.declared.look.Look.{Look}
 use Rattle.http_frames.specs.Stream.{HasNoFrame}
 use Rattle.http_frames.specs.Spans.{CanNotBegin, IsWalked}
-use Rattle.http_frames.specs.Looks.{IsLook, WaitsFor}
+use Rattle.http_frames.specs.Looks.{WaitsFor}
 use Rattle.http_frames.specs.Inbox.{HoldsNoFrame}
 use Rattle.http_frames.specs.Settled.{OnSettledNever}
 use Rattle.http_frames.proofs.LookLemmas.{walked_more}
@@ -66,12 +65,16 @@ pub reads-preserved : goal.reads-preserved
 reads-preserved g c =
     let waits = subst (λ (v : List ℕ). WaitsFor c.args.side v c.in-Short.need) c.bytes.ensures (rw c.in-Short.is at c.in_ok-look.ensures.look) in
     let body = c.look_for_frame.new.walked.body.items in
-    let walked = subst (λ (v : List ℕ). IsWalked c.args.side v c.look_for_frame.new.walked.at body) c.bytes.ensures c.look_for_frame.ensures.walked in
+    let head = c.look_for_frame.new.walked.head in
+    let headers = c.look_for_frame.new.headers in
+    let walked = subst (λ (v : List ℕ). IsWalked c.args.side v headers head c.look_for_frame.new.walked.at body) c.bytes.ensures
+    c.look_for_frame.ensures.walked in
     record {
       reads = Reads_trans _ _ _ _ _ _ c.reads.invariant.reads c.fill.ensures.reads;
       needed = needed_on c.args.side c.args.held.now c.reads.held c.fill.new.self c.reads.invariant.reads.read c.args.src.now c.reads.src c.fill.new.src
           c.in-Short.need c.reads.invariant.reads.held_is c.reads.invariant.needed waits.stays waits.more_wanted c.fill.ensures.ends;
       faults = c.in_ok-fill-in-Short.ensures.steady (λ e. true≢false (ap is_ok e)) ∙ c.reads.invariant.faults;
       beside = c.fill.ensures.beside ∙ c.reads.invariant.beside;
-      walked = walked_more c.args.side c.reads.held c.fill.ensures.reads.read c.fill.new.self body c.look_for_frame.new.walked.at c.fill.ensures.reads.held_is walked;
+      walked = walked_more c.args.side c.reads.held c.fill.ensures.reads.read c.fill.new.self body headers head c.look_for_frame.new.walked.at
+          c.fill.ensures.reads.held_is walked;
     }

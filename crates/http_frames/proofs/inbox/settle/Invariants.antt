@@ -12,7 +12,7 @@ invariant-reads g l = record {
   needed : ReadsAsNeeded l.side l.initial.held l.held l.initial.src l.src;
   faults : g.S.Source.faults l.src ≡ g.S.Source.faults l.initial.src;
   beside : g.S.Source.kept_by_read l.src ≡ g.S.Source.kept_by_read l.initial.src;
-  walked : IsWalked l.side l.held l.walked.at l.walked.body.items;
+  walked : IsWalked l.side l.held l.headers l.walked.head l.walked.at l.walked.body.items;
 }
 
 abbrev pub decreases-reads : goal.decreases-reads
