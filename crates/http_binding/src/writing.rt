@@ -12,7 +12,7 @@ ghost use Rattle.http_frames.specs.declared.frame.Start.TheVariants.{Answer};
 ghost use Rattle.http_frames.specs.Text.{line_text, phrase_of, start_text};
 ghost use Rattle.http_binding.specs.Headers.{code_field, length_field};
 ghost use Rattle.http_binding.specs.Replying.{body_of, id_lines, type_lines, close_lines};
-ghost use Rattle.http_binding.specs.Replying.{reply_text};
+ghost use Rattle.http_binding.specs.Replying.{reply_text, written_minor};
 ghost use Rattle.http_binding.specs.Rooms.{head_room};
 
 use crate::lines::CONTENT_ROOM;
@@ -50,7 +50,7 @@ fn append_status(out: &mut Vec<u8>, http: u16) -> Result<(), OutOfMemory>
 /// Appends the status line of a reply.
 fn append_start(out: &mut Vec<u8>, reply: &ReplyParts) -> Result<(), OutOfMemory>
     ensures { OnOk result (out.new.items ≡ out.old.items
-        ++ start_text (Answer (rsc_row reply.now.rsc).http 1)) }
+        ++ start_text (Answer (rsc_row reply.now.rsc).http written_minor)) }
 {
     append_status(out, reply.rsc.http_status())
 }
@@ -112,7 +112,7 @@ fn append_close(out: &mut Vec<u8>, close: bool) -> Result<(), OutOfMemory>
 /// Appends the status line and the lines that speak of the primitive.
 fn append_primitive(out: &mut Vec<u8>, reply: &ReplyParts) -> Result<(), OutOfMemory>
     ensures { OnOk result (out.new.items ≡ out.old.items
-        ++ (start_text (Answer (rsc_row reply.now.rsc).http 1)
+        ++ (start_text (Answer (rsc_row reply.now.rsc).http written_minor)
         ++ (line_text (code_field, decimal (rsc_row reply.now.rsc).number)
         ++ flat_map line_text (id_lines reply.now.rqi)))) }
 {

@@ -39,7 +39,7 @@ use Rattle.http_binding.specs.Binding.{created_type}
 use Rattle.http_binding.specs.Headers.{origin_field, id_field, expiry_field, type_field, length_field, connection_field}
 use Rattle.http_binding.specs.MediaTypes.{json_type, semicolon, type_parameter, equals_sign}
 use Rattle.http_binding.specs.Methods.{method_text}
-use Rattle.http_binding.specs.Replying.{body_of, id_lines, close_lines}
+use Rattle.http_binding.specs.Replying.{body_of, id_lines, close_lines, written_minor}
 use Rattle.http_binding.proofs.GraphicLemmas.{Graphic, digit_graphic, decimal_graphic, length_is, token_is, line_is}
 use Rattle.http_client_binding.specs.declared.target.Aim.{Aim}
 use Rattle.http_client_binding.specs.Asking.{target_text, host_field, origin_lines, expiry_lines, content_type, content_lines, caller_lines, body_lines, request_frame}
@@ -193,7 +193,7 @@ method_token Notify = token_is (codes "POST") refl
 
 request_sound : (r : RequestParts) (url : List ℕ) (aim : Aim) → IsSendable r url aim → IsSoundFrame Request (request_frame r url aim)
 request_sound r url aim h =
-    let start = Ask (method_text r.op) (target_text r url aim) 1 in
+    let start = Ask (method_text r.op) (target_text r url aim) written_minor in
     let body = body_of r.pc in
     let says = announces (host_of url) r.fr r.rqi r.rqet (created_type r.op r.ty) r.pc (decimal (length body)) in
     let framing = framing_is start (length body) (caller_lines r url ++ body_lines r) (omega (arith, h.body)) says in
