@@ -15,7 +15,7 @@ use Rattle.m2m_names.specs.StatusCodes.{rsc_row, rsc_of_number}
 use Rattle.m2m_names.specs.declared.codes.Rsc.{Rsc}
 use Rattle.m2m_names.proofs.StatusLemmas.{number_in_range, rsc_again}
 use Rattle.m2m_value.specs.Data.{Data, null, boolean, number, text, list, object, depth}
-use Rattle.m2m_value.specs.Reading.{reading}
+use Rattle.m2m_value.specs.Reading.{reading, reading_depth}
 use Rattle.m2m_value.specs.Sound.{IsSound}
 use Rattle.m2m_value.specs.Spelling.{text_of}
 use Rattle.m2m_value.proofs.RoundTrip.{reading-text_of}
@@ -121,7 +121,7 @@ text_some (text s) h = lt-ltb 0 (length (text_of (text s))) (omega arith)
 text_some (list es) h = lt-ltb 0 (length (text_of (list es))) (omega arith)
 text_some (object ps) h = lt-ltb 0 (length (text_of (object ps))) (omega arith)
 
-content_told : (content : Option Data) → IfSome content (λ d. IsSound d × (depth d ≤ 127)) → content_said (body_of content) ≡ Ok content
+content_told : (content : Option Data) → IfSome content (λ d. IsSound d × (depth d ≤ reading_depth)) → content_said (body_of content) ≡ Ok content
 content_told None h = refl
 content_told (Some d) h =
     let back = reading-text_of d h.0 h.1 in
