@@ -34,7 +34,7 @@ pub use names::{
     CODE_FIELD, EXPIRY_FIELD, ID_FIELD, JSON_TYPE, ORIGIN_FIELD, TYPE_FIELD, WRITTEN_MINOR,
 };
 pub use reply::of_reply;
-pub use request::{created_type, to_request, to_request_in};
+pub use request::{created_type, to_request, to_request_in, value_in};
 pub use room::ReplyRoom;
 pub use std::alloc::AllocError as OutOfMemory;
 pub use writing::write_reply_text;
