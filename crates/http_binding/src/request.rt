@@ -71,9 +71,10 @@ fn content_of(
 ) -> Result<Option<Val>, BindFault>
     ensures { ReadsAs (λ content. content) result (spec.content_of op body.now) }
 {
-    match op {
-        Op::Create | Op::Update | Op::Notify => content_in(alloc, scratch, body),
-        Op::Retrieve | Op::Delete => Ok(None),
+    if primitive_json::has_content(op) {
+        content_in(alloc, scratch, body)
+    } else {
+        Ok(None)
     }
 }
 
