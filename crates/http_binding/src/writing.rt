@@ -1,6 +1,6 @@
 //! The bytes of a reply, and their way into a sink.
 ghost use Rattle.std.specs.Prelude.{◌≡◌, ◌≢◌, ◌≤◌, ◌+◌, ◌-◌, ◌++◌, Err, IfOk, OnOk, codes, length};
-ghost use Rattle.std.specs.Prelude.{drop};
+ghost use Rattle.std.specs.Prelude.{[], drop};
 ghost use Rattle.std.specs.Fmt.{decimal};
 ghost use Rattle.std.specs.Io.KnownBytes.{Appends};
 ghost use Rattle.m2m_io.specs.Counts.{Rose};
@@ -156,14 +156,28 @@ fn head_for(
     Ok(out)
 }
 
-/// Bytes in whose place a head may be written, in this buffer.
-fn room_for_head(mut text: Vec<u8>) -> Result<Vec<u8>, OutOfMemory>
+/// Bytes in whose place a head may be written, in a buffer that is empty.
+fn new_room_for_head(mut text: Vec<u8>) -> Result<Vec<u8>, OutOfMemory>
+    requires { text.items ≡ [] }
     ensures { IfOk result (λ text. length text.items ≡ head_room) }
 {
-    text.clear();
     text.reserve(HEAD_ROOM + CONTENT_ROOM)?;
     text.extend_from_slice(&[0; HEAD_ROOM])?;
     Ok(text)
+}
+
+/// Bytes in whose place a head may be written, in this buffer: those of the reply before it, where
+/// they are enough.
+fn room_for_head(mut text: Vec<u8>) -> Result<Vec<u8>, OutOfMemory>
+    ensures { IfOk result (λ text. length text.items ≡ head_room) }
+{
+    if HEAD_ROOM <= text.len() {
+        text.truncate(HEAD_ROOM);
+        Ok(text)
+    } else {
+        text.clear();
+        new_room_for_head(text)
+    }
 }
 
 /// Appends the body, where there is some.
