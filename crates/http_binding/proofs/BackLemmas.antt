@@ -29,7 +29,7 @@ use Rattle.http_frames.specs.Text.{phrase_of, start_text, line_text, frame_text,
 use Rattle.http_frames.proofs.TextLemmas.{written_is_read}
 use Rattle.http_binding.specs.declared.headers.Field.TheVariants.{Id}
 use Rattle.http_binding.specs.Headers.{field_name, type_field, code_field, length_field, connection_field}
-use Rattle.http_binding.specs.Replying.{body_of, id_lines, type_lines, close_lines, reply_lines, reply_frame, reply_text}
+use Rattle.http_binding.specs.Replying.{body_of, id_lines, type_lines, close_lines, reply_lines, reply_frame, reply_text, written_minor}
 use Rattle.http_binding.specs.MediaTypes.{json_type}
 use Rattle.http_binding.specs.Laws.{IsWithinLimits}
 use Rattle.http_binding.proofs.GraphicLemmas.{line_is, decimal_graphic, length_is}
@@ -134,7 +134,7 @@ lines_length [] all = omega arith
 lines_length (line ∷ lines) all =
     omega (arith, length-append (line_text line) (flat_map line_text lines), (All-head IsShortLine line lines all).1, lines_length lines (All-tail IsShortLine line lines all))
 
-start_length : (http : ℕ) → http < 1000 → length (start_text (Answer http 1)) ≤ 120
+start_length : (http : ℕ) → http < 1000 → length (start_text (Answer http written_minor)) ≤ 120
 start_length http small = omega (arith, length-append (phrase_of http) (13 ∷ 10 ∷ []), phrase_short http small)
 
 pub reply_sound : (reply : ReplyParts) (close : Bool) → IsWithinLimits reply → IsSoundFrame Reply (reply_frame reply close)
@@ -144,11 +144,11 @@ reply_sound reply close h =
     let lines = reply_lines reply close in
     let short = short_lines reply close h in
     let says = announces (decimal (rsc_row reply.rsc).number) reply.rqi reply.pc (decimal size) close in
-    let framing = framing_is (Answer http 1) size lines (body_small size h.body) says in
+    let framing = framing_is (Answer http written_minor) size lines (body_small size h.body) says in
     record {
       start = (http_small reply.rsc, omega arith);
       lines = All-weaker IsShortLine IsLine (λ line s. s.0) lines short;
-      head_fits = omega (arith, length-append (start_text (Answer http 1)) (flat_map line_text lines ++ 13 ∷ 10 ∷ []), length-append (flat_map line_text lines) (13 ∷ 10 ∷ []), start_length http (http_small reply.rsc), lines_length lines short, says.count);
+      head_fits = omega (arith, length-append (start_text (Answer http written_minor)) (flat_map line_text lines ++ 13 ∷ 10 ∷ []), length-append (flat_map line_text lines) (13 ∷ 10 ∷ []), start_length http (http_small reply.rsc), lines_length lines short, says.count);
       lines_fit = omega (arith, says.count);
       body = subst (λ f. CarriesBody (body_limit Reply) f (body_of reply.pc) (body_of reply.pc)) (sym framing) (refl, refl, h.body);
     }

@@ -13,7 +13,7 @@ use Rattle.http_frames.specs.Text.{status_digits, phrase_of, start_text, line_te
 use Rattle.http_frames.specs.Lines.{Line}
 use Rattle.http_frames.specs.declared.frame.Start.TheVariants.{Answer}
 use Rattle.http_binding.specs.Headers.{code_field, length_field}
-use Rattle.http_binding.specs.Replying.{body_of, id_lines, type_lines, close_lines, reply_text}
+use Rattle.http_binding.specs.Replying.{body_of, id_lines, type_lines, close_lines, reply_text, written_minor}
 
 -- a number of three digits
 three_digits : (n : ℕ) → 100 ≤ n → n < 1000 → decimal n ≡ (48 + n / 10 / 10) ∷ (48 + n / 10 % 10) ∷ (48 + n % 10) ∷ []
@@ -34,7 +34,7 @@ status_is rsc =
     ∙ ap (λ d. (48 + d) ∷ (48 + http / 10 % 10) ∷ (48 + http % 10) ∷ []) (hundreds http (omega (arith, range.1)))
 
 -- the line of the HTTP status of a status code
-pub start_is : (rsc : Rsc) (http : ℕ) → http ≡ (rsc_row rsc).http → codes "HTTP/1.1 " ++ (decimal http ++ (codes " " ++ (phrase_of http ++ crlf_bytes))) ≡ start_text (Answer (rsc_row rsc).http 1)
+pub start_is : (rsc : Rsc) (http : ℕ) → http ≡ (rsc_row rsc).http → codes "HTTP/1.1 " ++ (decimal http ++ (codes " " ++ (phrase_of http ++ crlf_bytes))) ≡ start_text (Answer (rsc_row rsc).http written_minor)
 start_is rsc http is =
     ap (λ n. codes "HTTP/1.1 " ++ (decimal n ++ (codes " " ++ (phrase_of n ++ crlf_bytes)))) is
     ∙ ap (λ d. codes "HTTP/1.1 " ++ (d ++ (codes " " ++ (phrase_of (rsc_row rsc).http ++ crlf_bytes)))) (status_is rsc)
@@ -44,11 +44,11 @@ in_three old start code id = simp append_assoc refl
 
 -- the status line and the lines that speak of the primitive, behind what was there
 pub primitive_is : (reply : ReplyParts) (number : ℕ) (old one two : List ℕ) → number ≡ (rsc_row reply.rsc).number
-    → one ≡ old ++ start_text (Answer (rsc_row reply.rsc).http 1)
+    → one ≡ old ++ start_text (Answer (rsc_row reply.rsc).http written_minor)
     → two ≡ one ++ line_text (code_field, decimal number)
-    → two ++ flat_map line_text (id_lines reply.rqi) ≡ old ++ (start_text (Answer (rsc_row reply.rsc).http 1) ++ (line_text (code_field, decimal (rsc_row reply.rsc).number) ++ flat_map line_text (id_lines reply.rqi)))
+    → two ++ flat_map line_text (id_lines reply.rqi) ≡ old ++ (start_text (Answer (rsc_row reply.rsc).http written_minor) ++ (line_text (code_field, decimal (rsc_row reply.rsc).number) ++ flat_map line_text (id_lines reply.rqi)))
 primitive_is reply number old one two number_is one_is two_is =
-    let start = start_text (Answer (rsc_row reply.rsc).http 1) in
+    let start = start_text (Answer (rsc_row reply.rsc).http written_minor) in
     let code = line_text (code_field, decimal (rsc_row reply.rsc).number) in
     let id = flat_map line_text (id_lines reply.rqi) in
     ap (λ t. t ++ id) (two_is ∙ ap (λ n. one ++ line_text (code_field, decimal n)) number_is ∙ ap (λ t. t ++ code) one_is)
@@ -66,11 +66,11 @@ in_parts start code id type size close end body = simp append_assoc refl
 -- three parts that were appended are the text of a reply
 pub reply_made : (reply : ReplyParts) (close : Bool) (len : ℕ) (start body one two three : List ℕ) → start ≡ []
     → len ≡ length body → body ≡ body_of reply.pc
-    → one ≡ start ++ (start_text (Answer (rsc_row reply.rsc).http 1) ++ (line_text (code_field, decimal (rsc_row reply.rsc).number) ++ flat_map line_text (id_lines reply.rqi)))
+    → one ≡ start ++ (start_text (Answer (rsc_row reply.rsc).http written_minor) ++ (line_text (code_field, decimal (rsc_row reply.rsc).number) ++ flat_map line_text (id_lines reply.rqi)))
     → two ≡ one ++ (flat_map line_text (type_lines reply.pc) ++ (line_text (length_field, decimal len) ++ flat_map line_text (close_lines close)))
     → three ≡ two ++ (crlf_bytes ++ body) → three ≡ reply_text reply close
 reply_made reply close len start body one two three empty len_is body_is one_is two_is three_is =
-    let first = start_text (Answer (rsc_row reply.rsc).http 1) in
+    let first = start_text (Answer (rsc_row reply.rsc).http written_minor) in
     let code : Line = (code_field, decimal (rsc_row reply.rsc).number) in
     let id = id_lines reply.rqi in
     let type = type_lines reply.pc in

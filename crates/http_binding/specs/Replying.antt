@@ -34,6 +34,10 @@ abbrev pub close_lines : Bool → List Line
 close_lines false = []
 close_lines true = (connection_field, codes "close") ∷ []
 
+-- the minor version of HTTP that is written (RFC 9112, section 2.3)
+abbrev pub written_minor : ℕ
+written_minor = 1
+
 -- the header lines of a reply (TS-0009, 6.4; RFC 9110, section 8.6)
 abbrev pub reply_lines : ReplyParts → Bool → List Line
 reply_lines reply close =
@@ -43,7 +47,7 @@ reply_lines reply close =
 -- the frame of a reply, which closes the connection or not
 abbrev pub reply_frame : ReplyParts → Bool → Frame
 reply_frame reply close = record {
-  start = Answer (rsc_row reply.rsc).http 1;
+  start = Answer (rsc_row reply.rsc).http written_minor;
   lines = reply_lines reply close;
   body = body_of reply.pc;
 }

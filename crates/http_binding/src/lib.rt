@@ -30,9 +30,11 @@ pub use laws::{
 };
 pub use lines::{body_of, push_close, push_field, push_length};
 pub use method::method_text;
-pub use names::{CODE_FIELD, EXPIRY_FIELD, ID_FIELD, JSON_TYPE, ORIGIN_FIELD, TYPE_FIELD};
+pub use names::{
+    CODE_FIELD, EXPIRY_FIELD, ID_FIELD, JSON_TYPE, ORIGIN_FIELD, TYPE_FIELD, WRITTEN_MINOR,
+};
 pub use reply::of_reply;
-pub use request::{created_type, to_request, to_request_in};
+pub use request::{created_type, to_request, to_request_in, value_in};
 pub use room::ReplyRoom;
 pub use std::alloc::AllocError as OutOfMemory;
 pub use writing::write_reply_text;

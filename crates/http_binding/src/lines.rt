@@ -13,7 +13,7 @@ use std::alloc::Global;
 pub(crate) type Line = (Text, Text);
 
 /// Room for most contents.
-const CONTENT_ROOM: usize = 512;
+pub(crate) const CONTENT_ROOM: usize = 512;
 
 /// Puts one line behind the others.
 pub fn push_field(

@@ -1,5 +1,7 @@
-//! The names of header fields, and the type of the content that is written (TS-0009, 6.4; RFC
-//! 9110).
+//! The names of header fields, and what is written in every frame (TS-0009, 6.4; RFC 9110).
+
+/// The minor version of HTTP that is written (RFC 9112, section 2.3).
+pub const WRITTEN_MINOR: u8 = 1;
 
 /// Who asks.
 pub const ORIGIN_FIELD: &str = "X-M2M-Origin";

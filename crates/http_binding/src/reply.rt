@@ -8,14 +8,11 @@ ghost use Rattle.http_binding.specs.Replying.{reply_lines, reply_frame};
 
 use crate::OutOfMemory;
 use crate::lines::{Line, body_of, push_close, push_field, push_length, push_number_field};
-use crate::names::{CODE_FIELD, ID_FIELD, JSON_TYPE, TYPE_FIELD};
+use crate::names::{CODE_FIELD, ID_FIELD, JSON_TYPE, TYPE_FIELD, WRITTEN_MINOR};
 use http_frames::{Frame, Lines, Start};
 use m2m_value::{Text, Val};
 use primitive_json::{Reply, ReplyParts};
 use std::alloc::Global;
-
-/// The minor version of HTTP that replies have.
-const MINOR: u8 = 1;
 
 /// A reply has at most so many lines.
 const MOST_LINES: usize = 5;
@@ -103,7 +100,7 @@ pub fn of_reply(alloc: Global, reply: &Reply, close: bool) -> Result<Frame, OutO
     Ok(Frame {
         start: Start::Answer {
             status: parts.rsc.http_status(),
-            minor: MINOR,
+            minor: WRITTEN_MINOR,
         },
         lines: Lines::of(lines),
         body: Text::of(body),

@@ -31,7 +31,7 @@ fn copy_of(alloc: Global, text: Option<&[u8]>) -> Result<Option<Text>, OutOfMemo
 }
 
 /// The value that a body is.
-fn value_in(alloc: Global, scratch: &mut Scratch, body: &[u8]) -> Result<Val, BindFault>
+pub fn value_in(alloc: Global, scratch: &mut Scratch, body: &[u8]) -> Result<Val, BindFault>
     ensures { ReadsAs (λ value. value) result (spec.value_in (reading body.now)) }
 {
     match read_in(alloc, scratch, body) {
@@ -71,9 +71,10 @@ fn content_of(
 ) -> Result<Option<Val>, BindFault>
     ensures { ReadsAs (λ content. content) result (spec.content_of op body.now) }
 {
-    match op {
-        Op::Create | Op::Update | Op::Notify => content_in(alloc, scratch, body),
-        Op::Retrieve | Op::Delete => Ok(None),
+    if primitive_json::has_content(op) {
+        content_in(alloc, scratch, body)
+    } else {
+        Ok(None)
     }
 }
 

@@ -1,11 +1,12 @@
 //! Room in which one reply after another is written.
 ghost use Rattle.std.specs.Prelude.{◌≤◌, vec_capacity};
+ghost use Rattle.http_binding.specs.Rooms.{kept_limit};
 
 use std::alloc::Global;
 use std::mem::replace;
 
-/// A buffer that is kept has room for at most so many bytes.
-const MOST_ROOM: usize = 4_096;
+/// A buffer that is kept from one reply to the next has room for at most so many bytes.
+const KEPT_LIMIT: usize = 4_096;
 
 /// Room in which one reply after another is written, so that a reply needs memory only where it is
 /// long. What is kept between two of them is little.
@@ -13,15 +14,15 @@ const MOST_ROOM: usize = 4_096;
 pub struct ReplyRoom {
     text: Vec<u8>,
     head: Vec<u8>,
-    ghost little_text: { vec_capacity text ≤ 4096 },
-    ghost little_head: { vec_capacity head ≤ 4096 },
+    ghost little_text: { vec_capacity text ≤ kept_limit },
+    ghost little_head: { vec_capacity head ≤ kept_limit },
 }
 
 /// The buffer, if it is small, and else an empty one.
 fn small_only(alloc: Global, buffer: Vec<u8>) -> Vec<u8>
-    ensures { vec_capacity result ≤ 4096 }
+    ensures { vec_capacity result ≤ kept_limit }
 {
-    if buffer.capacity() <= MOST_ROOM {
+    if buffer.capacity() <= KEPT_LIMIT {
         buffer
     } else {
         Vec::new(alloc)

@@ -1,6 +1,6 @@
 //! The bytes of a reply, and their way into a sink.
 ghost use Rattle.std.specs.Prelude.{◌≡◌, ◌≢◌, ◌≤◌, ◌+◌, ◌-◌, ◌++◌, Err, IfOk, OnOk, codes, length};
-ghost use Rattle.std.specs.Prelude.{drop};
+ghost use Rattle.std.specs.Prelude.{[], drop};
 ghost use Rattle.std.specs.Fmt.{decimal};
 ghost use Rattle.std.specs.Io.KnownBytes.{Appends};
 ghost use Rattle.m2m_io.specs.Counts.{Rose};
@@ -12,8 +12,10 @@ ghost use Rattle.http_frames.specs.declared.frame.Start.TheVariants.{Answer};
 ghost use Rattle.http_frames.specs.Text.{line_text, phrase_of, start_text};
 ghost use Rattle.http_binding.specs.Headers.{code_field, length_field};
 ghost use Rattle.http_binding.specs.Replying.{body_of, id_lines, type_lines, close_lines};
-ghost use Rattle.http_binding.specs.Replying.{reply_text};
+ghost use Rattle.http_binding.specs.Replying.{reply_text, written_minor};
+ghost use Rattle.http_binding.specs.Rooms.{head_room};
 
+use crate::lines::CONTENT_ROOM;
 use crate::{OutOfMemory, ReplyRoom};
 use http_frames::{PutFault, phrase_of};
 use itoa::Buffer;
@@ -25,9 +27,6 @@ use std::marker::Model;
 
 /// So many bytes stand before a content until its head is made: room for most heads.
 const HEAD_ROOM: usize = 384;
-
-/// Room for most contents behind them.
-const CONTENT_ROOM: usize = 512;
 
 /// Appends a number in decimal digits.
 fn append_number(out: &mut Vec<u8>, n: u64) -> Result<(), OutOfMemory>
@@ -51,7 +50,7 @@ fn append_status(out: &mut Vec<u8>, http: u16) -> Result<(), OutOfMemory>
 /// Appends the status line of a reply.
 fn append_start(out: &mut Vec<u8>, reply: &ReplyParts) -> Result<(), OutOfMemory>
     ensures { OnOk result (out.new.items ≡ out.old.items
-        ++ start_text (Answer (rsc_row reply.now.rsc).http 1)) }
+        ++ start_text (Answer (rsc_row reply.now.rsc).http written_minor)) }
 {
     append_status(out, reply.rsc.http_status())
 }
@@ -113,7 +112,7 @@ fn append_close(out: &mut Vec<u8>, close: bool) -> Result<(), OutOfMemory>
 /// Appends the status line and the lines that speak of the primitive.
 fn append_primitive(out: &mut Vec<u8>, reply: &ReplyParts) -> Result<(), OutOfMemory>
     ensures { OnOk result (out.new.items ≡ out.old.items
-        ++ (start_text (Answer (rsc_row reply.now.rsc).http 1)
+        ++ (start_text (Answer (rsc_row reply.now.rsc).http written_minor)
         ++ (line_text (code_field, decimal (rsc_row reply.now.rsc).number)
         ++ flat_map line_text (id_lines reply.now.rqi)))) }
 {
@@ -157,14 +156,28 @@ fn head_for(
     Ok(out)
 }
 
-/// Bytes in whose place a head may be written, in this buffer.
-fn room_for_head(mut text: Vec<u8>) -> Result<Vec<u8>, OutOfMemory>
-    ensures { IfOk result (λ text. length text.items ≡ 384) }
+/// Bytes in whose place a head may be written, in a buffer that is empty.
+fn new_room_for_head(mut text: Vec<u8>) -> Result<Vec<u8>, OutOfMemory>
+    requires { text.items ≡ [] }
+    ensures { IfOk result (λ text. length text.items ≡ head_room) }
 {
-    text.clear();
     text.reserve(HEAD_ROOM + CONTENT_ROOM)?;
     text.extend_from_slice(&[0; HEAD_ROOM])?;
     Ok(text)
+}
+
+/// Bytes in whose place a head may be written, in this buffer: those of the reply before it, where
+/// they are enough.
+fn room_for_head(mut text: Vec<u8>) -> Result<Vec<u8>, OutOfMemory>
+    ensures { IfOk result (λ text. length text.items ≡ head_room) }
+{
+    if HEAD_ROOM <= text.len() {
+        text.truncate(HEAD_ROOM);
+        Ok(text)
+    } else {
+        text.clear();
+        new_room_for_head(text)
+    }
 }
 
 /// Appends the body, where there is some.
@@ -180,8 +193,8 @@ fn append_body(out: &mut Vec<u8>, content: &Option<Val>) -> Result<(), OutOfMemo
 /// The body, behind room for its head, in this buffer.
 #[tactic(auto, using(crate::proofs::JoinLemmas::behind_room))]
 fn body_behind_room(buffer: Vec<u8>, content: &Option<Val>) -> Result<Vec<u8>, OutOfMemory>
-    ensures len { IfOk result (λ text. length text.items ≡ 384 + length (body_of content.now)) }
-    ensures body { IfOk result (λ text. drop 384 text.items ≡ body_of content.now) }
+    ensures len { IfOk result (λ text. length text.items ≡ head_room + length (body_of content.now)) }
+    ensures body { IfOk result (λ text. drop head_room text.items ≡ body_of content.now) }
 {
     let mut text = room_for_head(buffer)?;
     append_body(&mut text, content)?;
@@ -232,8 +245,8 @@ fn put_before(text: &mut [u8], place: usize, head: &[u8])
 
 /// The body that stands behind room for its head.
 fn body_in(text: &[u8]) -> &[u8]
-    requires { 384 ≤ length text.now }
-    ensures { result.now ≡ drop 384 text.now }
+    requires { head_room ≤ length text.now }
+    ensures { result.now ≡ drop head_room text.now }
 {
     &text[HEAD_ROOM..]
 }
@@ -241,8 +254,8 @@ fn body_in(text: &[u8]) -> &[u8]
 /// A head and the body that stands behind room for one. The body is copied only where the head has
 /// no room there.
 fn joined(mut head: Vec<u8>, mut text: Vec<u8>) -> Result<ReplyBytes, OutOfMemory>
-    requires { 384 ≤ length text.items }
-    ensures { IfOk result (λ bytes. bytes ≡ head.items ++ drop 384 text.items) }
+    requires { head_room ≤ length text.items }
+    ensures { IfOk result (λ bytes. bytes ≡ head.items ++ drop head_room text.items) }
 {
     if head.len() <= HEAD_ROOM {
         put_before(&mut text, HEAD_ROOM, &head);

@@ -1,23 +1,21 @@
 -- The frame of a request is sound, so that it is read back from its text.
-use Rattle.std.proofs.Common.{◌≡◌, ℕ, ◌+◌, ◌/◌, ◌%◌, ◌<◌, ◌≤◌, ◌^◌, Bool, true, false, ◌&&◌, ◌==◌, nat_le, nat_lt, List, [], ◌∷◌, ◌++◌, length, codes, Option, Some, None, IsTrue, IfSome, refl, sym, ap, subst, ◌∙◌, arith}
+use Rattle.std.proofs.Common.{◌≡◌, ℕ, ◌+◌, ◌<◌, ◌≤◌, ◌^◌, true, List, [], ◌∷◌, ◌++◌, length, codes, Option, Some, None, IsTrue, IfSome, refl, sym, ap, subst, ◌∙◌, arith}
 use Rattle.std.specs.Prelude.{All}
 use Rattle.std.specs.Fmt.{decimal}
-use Rattle.std.specs.Char.{is_ascii_digit, is_ascii_graphic}
+use Rattle.std.specs.Char.{is_ascii_graphic}
 use Rattle.std.specs.Int.{is_in_range}
-use Rattle.std.specs.List.{list_all}
-use Rattle.std.proofs.lemmas.Bool.{and_parts, leb-true, ltb-true, eqb-true, cond-true}
-use Rattle.std.proofs.lemmas.Bool.Decides.{nat_tests}
+use Rattle.std.specs.List.{AllByRecursion, list_all}
+use Rattle.std.proofs.lemmas.Bool.{and_parts, cond-true}
 use Rattle.std.proofs.lemmas.Fmt.{decimal_is_IsNumeral}
-use Rattle.std.proofs.lemmas.List.Elements.{All-nil, All-cons, All-append, All-weaker}
+use Rattle.std.proofs.lemmas.List.Elements.{All-nil, All-cons, All-append}
 use Rattle.std.proofs.lemmas.List.Sums.{AllPass-from_list_all}
 use Rattle.httparse.specs.Grammar.{AllPass, IsToken, is_token_byte}
 use Rattle.m2m_names.specs.Name.{is_filled, is_originator, originator_limit}
-use Rattle.m2m_names.specs.Calendar.{is_date, days_of_month}
-use Rattle.m2m_names.specs.Stamps.{Stamp, is_stamp, is_fraction, stamp_bytes, timestamp, two, four, IsTimestamp}
+use Rattle.m2m_names.specs.Stamps.{timestamp, IsTimestamp}
 use Rattle.m2m_names.specs.declared.operations.Op.{Op}
 use Rattle.m2m_names.specs.declared.operations.Op.TheVariants.{Create, Retrieve, Update, Notify, Delete as Removal}
-use Rattle.m2m_names.proofs.CalendarLemmas.{days_of_month_bounds}
 use Rattle.m2m_names.proofs.StampReadingLemmas.{timestamp_is}
+use Rattle.m2m_names.proofs.StampTextLemmas.{each_of_timestamp}
 use Rattle.m2m_value.specs.Data.{Data}
 use Rattle.primitive_json.specs.Bounds.{is_request_id, request_id_limit}
 use Rattle.primitive_json.specs.Laws.{IsWhenOfKind}
@@ -39,7 +37,7 @@ use Rattle.http_binding.specs.Binding.{created_type}
 use Rattle.http_binding.specs.Headers.{origin_field, id_field, expiry_field, type_field, length_field, connection_field}
 use Rattle.http_binding.specs.MediaTypes.{json_type, semicolon, type_parameter, equals_sign}
 use Rattle.http_binding.specs.Methods.{method_text}
-use Rattle.http_binding.specs.Replying.{body_of, id_lines, close_lines}
+use Rattle.http_binding.specs.Replying.{body_of, id_lines, close_lines, written_minor}
 use Rattle.http_binding.proofs.GraphicLemmas.{Graphic, digit_graphic, decimal_graphic, length_is, token_is, line_is}
 use Rattle.http_client_binding.specs.declared.target.Aim.{Aim}
 use Rattle.http_client_binding.specs.Asking.{target_text, host_field, origin_lines, expiry_lines, content_type, content_lines, caller_lines, body_lines, request_frame}
@@ -49,54 +47,12 @@ use Rattle.http_client_binding.proofs.UrlLemmas.{host_passes}
 
 -- ---- timestamps
 
-two_graphic : (n : ℕ) → n < 100 → AllPass is_ascii_graphic (two n)
-two_graphic n small =
-    All-cons Graphic (48 + n / 10) ((48 + n % 10) ∷ []) (digit_graphic (48 + n / 10) (omega arith, omega arith))
-    (All-cons Graphic (48 + n % 10) [] (digit_graphic (48 + n % 10) (omega arith, omega arith)) (All-nil Graphic))
-
-four_graphic : (n : ℕ) → n < 10000 → AllPass is_ascii_graphic (four n)
-four_graphic n small =
-    All-append Graphic (two (n / 100)) (two (n % 100)) (two_graphic (n / 100) (omega arith)) (two_graphic (n % 100) (omega arith))
-
-ascii_digit_graphic : (c : ℕ) → is_ascii_digit c ≡ true → Graphic c
-ascii_digit_graphic c h = grind (arith, nat_tests)
-
-fraction_graphic : (bytes : List ℕ) → is_fraction bytes ≡ true → AllPass is_ascii_graphic bytes
-fraction_graphic [] is = All-nil Graphic
-fraction_graphic (b ∷ digits) is =
-    let parts = and_parts ((b == 44) && is_in_range 1 6 (length digits)) (list_all is_ascii_digit digits) is in
-    let comma : b ≡ 44 = eqb-true b 44 (and_parts (b == 44) (is_in_range 1 6 (length digits)) parts.0).0 in
-    All-cons Graphic b digits (subst Graphic (sym comma) refl)
-    (All-weaker (λ c. is_ascii_digit c ≡ true) Graphic ascii_digit_graphic digits (AllPass-from_list_all is_ascii_digit digits parts.1))
-
-most_of : (low high n : ℕ) → is_in_range low high n ≡ true → n ≤ high
-most_of low high n h = leb-true n high (and_parts (nat_le low n) (nat_le n high) h).1
-
-stamp_graphic : (s : Stamp) → is_stamp s ≡ true → AllPass is_ascii_graphic (stamp_bytes s)
-stamp_graphic s h =
-    let d3 = and_parts (is_date s.year s.month s.day && nat_lt s.hour 24 && nat_lt s.minute 60) (nat_lt s.second 60) h in
-    let d2 = and_parts (is_date s.year s.month s.day && nat_lt s.hour 24) (nat_lt s.minute 60) d3.0 in
-    let d1 = and_parts (is_date s.year s.month s.day) (nat_lt s.hour 24) d2.0 in
-    let e2 = and_parts (is_in_range 1970 9999 s.year && is_in_range 1 12 s.month) (is_in_range 1 (days_of_month s.year s.month) s.day) d1.0 in
-    let e1 = and_parts (is_in_range 1970 9999 s.year) (is_in_range 1 12 s.month) e2.0 in
-    let second : s.second < 60 = ltb-true s.second 60 d3.1 in
-    let minute : s.minute < 60 = ltb-true s.minute 60 d2.1 in
-    let hour : s.hour < 24 = ltb-true s.hour 24 d1.1 in
-    let year : s.year ≤ 9999 = most_of 1970 9999 s.year e1.0 in
-    let month : s.month ≤ 12 = most_of 1 12 s.month e1.1 in
-    let day : s.day ≤ days_of_month s.year s.month = most_of 1 (days_of_month s.year s.month) s.day e2.1 in
-    let days : days_of_month s.year s.month ≤ 31 = (days_of_month_bounds s.year s.month).0 in
-    let date : AllPass is_ascii_graphic (four s.year ++ two s.month ++ two s.day) =
-    All-append Graphic (four s.year ++ two s.month) (two s.day) (All-append Graphic (four s.year) (two s.month) (four_graphic s.year (omega arith)) (two_graphic s.month (omega arith))) (two_graphic s.day (omega (arith, day, days))) in
-    let with_hour : AllPass is_ascii_graphic (four s.year ++ two s.month ++ two s.day ++ 84 ∷ two s.hour) =
-    All-append Graphic (four s.year ++ two s.month ++ two s.day) (84 ∷ two s.hour) date (All-cons Graphic 84 (two s.hour) refl (two_graphic s.hour (omega arith))) in
-    All-append Graphic (four s.year ++ two s.month ++ two s.day ++ 84 ∷ two s.hour ++ two s.minute) (two s.second)
-    (All-append Graphic (four s.year ++ two s.month ++ two s.day ++ 84 ∷ two s.hour) (two s.minute) with_hour (two_graphic s.minute (omega arith)))
-    (two_graphic s.second (omega arith))
+passes : (bytes : List ℕ) → AllByRecursion Graphic bytes → AllPass is_ascii_graphic bytes
+passes [] h = All-nil Graphic
+passes (b ∷ bytes) h = All-cons Graphic b bytes h.0 (passes bytes h.1)
 
 text_graphic : (text : List ℕ) (at : ℕ) → IsTimestamp text at → AllPass is_ascii_graphic text
-text_graphic text at h =
-    subst (AllPass is_ascii_graphic) (sym h.bytes) (All-append Graphic (stamp_bytes h.stamp) h.fraction (stamp_graphic h.stamp h.is) (fraction_graphic h.fraction h.tail))
+text_graphic text at h = passes text (each_of_timestamp Graphic (λ b low high. digit_graphic b (low, high)) refl refl text at h)
 
 -- ---- the lines
 
@@ -193,7 +149,7 @@ method_token Notify = token_is (codes "POST") refl
 
 request_sound : (r : RequestParts) (url : List ℕ) (aim : Aim) → IsSendable r url aim → IsSoundFrame Request (request_frame r url aim)
 request_sound r url aim h =
-    let start = Ask (method_text r.op) (target_text r url aim) 1 in
+    let start = Ask (method_text r.op) (target_text r url aim) written_minor in
     let body = body_of r.pc in
     let says = announces (host_of url) r.fr r.rqi r.rqet (created_type r.op r.ty) r.pc (decimal (length body)) in
     let framing = framing_is start (length body) (caller_lines r url ++ body_lines r) (omega (arith, h.body)) says in

@@ -15,7 +15,7 @@ use Rattle.m2m_names.specs.StatusCodes.{rsc_row, rsc_of_number}
 use Rattle.m2m_names.specs.declared.codes.Rsc.{Rsc}
 use Rattle.m2m_names.proofs.StatusLemmas.{number_in_range, rsc_again}
 use Rattle.m2m_value.specs.Data.{Data, null, boolean, number, text, list, object, depth}
-use Rattle.m2m_value.specs.Reading.{reading}
+use Rattle.m2m_value.specs.Reading.{reading, reading_depth}
 use Rattle.m2m_value.specs.Sound.{IsSound}
 use Rattle.m2m_value.specs.Spelling.{text_of}
 use Rattle.m2m_value.proofs.RoundTrip.{reading-text_of}
@@ -32,7 +32,7 @@ use Rattle.http_target.specs.Chain.{and_then}
 use Rattle.http_binding.specs.Headers.{code_field, length_field, is_some_text}
 use Rattle.http_client_binding.specs.Laws.{IsTold}
 use Rattle.http_client_binding.specs.ReplyReading.{is_code_text, code_spelled, lone_code, code_in, some_content, content_said, reply_in}
-use Rattle.http_binding.specs.Replying.{body_of, id_lines, type_lines, close_lines, reply_lines, reply_frame}
+use Rattle.http_binding.specs.Replying.{body_of, id_lines, type_lines, close_lines, reply_lines, reply_frame, written_minor}
 
 then_is : {T : Type 0} (test : Bool) (x y : T) → test ≡ true → (if test then x else y) ≡ x
 then_is true x y h = refl
@@ -89,7 +89,7 @@ kept false id fault h = absurd (false≢true h)
 
 abbrev frame_with : ℕ → List ℕ → Option (List ℕ) → Option Data → List ℕ → Bool → List ℕ → Frame
 frame_with http code id content size close body = record {
-  start = Answer http 1;
+  start = Answer http written_minor;
   lines = (code_field, code) ∷ (id_lines id ++ (type_lines content ++ ((length_field, size) ∷ close_lines close)));
   body = body;
 }
@@ -121,7 +121,7 @@ text_some (text s) h = lt-ltb 0 (length (text_of (text s))) (omega arith)
 text_some (list es) h = lt-ltb 0 (length (text_of (list es))) (omega arith)
 text_some (object ps) h = lt-ltb 0 (length (text_of (object ps))) (omega arith)
 
-content_told : (content : Option Data) → IfSome content (λ d. IsSound d × (depth d ≤ 127)) → content_said (body_of content) ≡ Ok content
+content_told : (content : Option Data) → IfSome content (λ d. IsSound d × (depth d ≤ reading_depth)) → content_said (body_of content) ≡ Ok content
 content_told None h = refl
 content_told (Some d) h =
     let back = reading-text_of d h.0 h.1 in

@@ -13,7 +13,7 @@ use Rattle.http_binding.specs.Binding.{created_type}
 use Rattle.http_binding.specs.Headers.{origin_field, expiry_field, type_field, length_field}
 use Rattle.http_binding.specs.MediaTypes.{json_type, semicolon, type_parameter, equals_sign}
 use Rattle.http_binding.specs.Methods.{method_text}
-use Rattle.http_binding.specs.Replying.{body_of, id_lines, close_lines}
+use Rattle.http_binding.specs.Replying.{body_of, id_lines, close_lines, written_minor}
 use Rattle.http_client_binding.specs.declared.target.Aim.{Aim}
 use Rattle.http_client_binding.specs.declared.target.Aim.TheVariants.{Direct, Peer}
 use Rattle.http_client_binding.specs.TargetWriting.{host_of, path_and_query_of, root_path}
@@ -68,7 +68,7 @@ body_lines r =
 -- the frame of a request to a URL
 abbrev pub request_frame : RequestParts → List ℕ → Aim → Frame
 request_frame r url aim = record {
-  start = Ask (method_text r.op) (target_text r url aim) 1;
+  start = Ask (method_text r.op) (target_text r url aim) written_minor;
   lines = caller_lines r url ++ body_lines r;
   body = body_of r.pc;
 }

@@ -9,10 +9,10 @@ ghost use Rattle.http_frames.specs.Lines.{values_named};
 ghost use Rattle.http_client_binding.specs.ReplyReading as spec;
 
 use crate::{BindFault, OutOfMemory};
-use http_binding::{CODE_FIELD, echo_id};
+use http_binding::{CODE_FIELD, echo_id, value_in};
 use http_frames::{Found, Frame, Lines};
 use m2m_names::{Rsc, are_digits};
-use m2m_value::{Text, Val, ValFault, read};
+use m2m_value::{Scratch, Text, Val};
 use primitive_json::{Reply, ReplyParts};
 use std::alloc::Global;
 
@@ -97,11 +97,7 @@ fn code_in(alloc: Global, lines: &Lines) -> Result<Rsc, BindFault>
 fn some_content(alloc: Global, body: &[u8]) -> Result<Option<Val>, BindFault>
     ensures { ReadsAs (λ content. content) result (spec.some_content body.now) }
 {
-    match read(alloc, body) {
-        Ok(value) => Ok(Some(value)),
-        Err(ValFault::OutOfMemory) => Err(BindFault::OutOfMemory),
-        Err(fault) => Err(BindFault::Body(fault)),
-    }
+    Ok(Some(value_in(alloc, &mut Scratch::new(alloc), body)?))
 }
 
 /// The content that a body is, and none where it is empty.

@@ -11,8 +11,8 @@ ghost use Rattle.http_client_binding.specs.Asking as spec;
 use crate::OutOfMemory;
 use crate::target::{Aim, host_of, target_of};
 use http_binding::{
-    EXPIRY_FIELD, ID_FIELD, JSON_TYPE, ORIGIN_FIELD, TYPE_FIELD, body_of, created_type,
-    method_text, push_close, push_field, push_length,
+    EXPIRY_FIELD, ID_FIELD, JSON_TYPE, ORIGIN_FIELD, TYPE_FIELD, WRITTEN_MINOR, body_of,
+    created_type, method_text, push_close, push_field, push_length,
 };
 use http_frames::{Frame, Lines, Start};
 use m2m_value::{Text, Val};
@@ -21,9 +21,6 @@ use std::alloc::Global;
 
 /// A line of a head, with a name and a value.
 type Line = (Text, Text);
-
-/// The minor version of HTTP that requests have.
-const MINOR: u8 = 1;
 
 /// The name of the field that says which host is asked (RFC 9110, section 7.2).
 const HOST_FIELD: &str = "Host";
@@ -45,7 +42,7 @@ fn start_of(
     Ok(Start::Ask {
         method: Text::from_slice(alloc, method_text(request.op).as_bytes())?,
         target: target_of(alloc, request, url, aim)?,
-        minor: MINOR,
+        minor: WRITTEN_MINOR,
     })
 }
 
