@@ -6,17 +6,15 @@
 //! why the door gave no more connections (workers/specs).
 #![tactic(auto)]
 
-ghost use Rattle.std.specs.Prelude.{◌≡◌, ◌≤◌, vec_len, List, Some, IfOk, IfErr};
+ghost use Rattle.std.specs.Prelude.{◌≡◌, ◌≤◌, vec_len, List};
 ghost use Rattle.cse_machine.specs.declared.event.Event.{Event};
 ghost use Rattle.cse_machine.specs.declared.event.Outcome.{Outcome};
-ghost use Rattle.cse_server.specs.Connection.{Serves};
-ghost use Rattle.cse_server.specs.declared.connection.Ended.{Ended};
+ghost use Rattle.http_workers.specs.Attending.{Attends, conn_faults};
 ghost use Rattle.m2m_io.specs.Outside.{outside};
 ghost use Rattle.turn_desk.specs.Entries.{Marked};
-ghost use Rattle.turn_desk.specs.Seats.{IsSeated, known_to};
-ghost use Rattle.workers.specs.declared.gate.Ending.TheVariants.{Fault};
-ghost use Rattle.workers.specs.Gate.{TakesConnections, ServesDoor, door_tells};
-ghost use Rattle.workers.specs.Shares.{HasComeBack};
+ghost use Rattle.turn_desk.specs.Seats.{IsSeated};
+ghost use Rattle.workers.specs.Gate.{door_tells};
+ghost use Rattle.workers.specs.Serving.{EndsServing};
 
 use cse_machine::{Event, Outcome};
 use cse_server::{Bench, serve_connection};
@@ -48,12 +46,18 @@ where
         ensures grew { (more : List (Marked Event Outcome)) × K.grown seat.old more seat.new }
 
         // The connection is answered with exactly the replies that the object of the desk gives the
-        // requests of its bytes, one after another, as far as it ended so.
+        // requests of its bytes, one after another, as far as it ended so. A fault that ended it is
+        // one of the connection in this call, and no other came.
         ensures serves { let old = outside (X.left conn.old) (X.written conn.old)
             (C.readings bench.old.clock) (L.exchanges bench.old.link) in
             let new = outside (X.left conn.new) (X.written conn.new)
             (C.readings bench.new.clock) (L.exchanges bench.new.link) in
-            (ended : Ended) × Serves K.grown seat.old seat.new old new ended }
+            Attends K.grown seat.old seat.new old new
+            (conn_faults (X.Source.faults conn.old) (X.Sink.faults conn.old))
+            (conn_faults (X.Source.faults conn.new) (X.Sink.faults conn.new)) }
+
+        // No exchange failed, as none was made.
+        ensures link { L.faults bench.new.link ≡ L.faults bench.old.link }
     {
         let Bench { clock, link } = bench;
         serve_connection(self.alloc, desk, seat, conn, clock, link);
@@ -87,24 +91,9 @@ where
     requires seat { IsSeated O.step desk.now.table.shared.table_id seat }
     ensures first { first.new ≡ first.old }
 
-    // The seat that comes back went on from the one that was given, and has its part again. The
-    // door gave None, or as many connections as were to be accepted, where it tells that.
-    ensures back { IfOk result (λ r. HasComeBack O.step desk.now.table.shared.table_id
-        (known_to seat) r.0) }
-    ensures ok { IfOk result (λ r. ServesDoor accept
-        (door_tells D.opened D.given D.ended D.faults door)
-        (door_tells D.opened D.given D.ended D.faults r.1)) }
-
-    // The door failed in this call.
-    ensures back_at_fault { IfErr result (λ e. e.2 ≡ ServeFault.DoorFault
-        → HasComeBack O.step desk.now.table.shared.table_id (known_to seat) e.0) }
-    ensures fault { IfErr result (λ e. e.2 ≡ ServeFault.DoorFault
-        → TakesConnections accept (Some Fault) (door_tells D.opened D.given D.ended D.faults door)
-        (door_tells D.opened D.given D.ended D.faults e.1)) }
-
-    // Memory runs out before anything is done.
-    ensures memory { IfErr result (λ e. e.2 ≡ ServeFault.OutOfMemory
-        → (e.0 ≡ seat) × (e.1 ≡ door)) }
+    // Seat and door come back, with the fault where one ended it, as from workers.
+    ensures ends { EndsServing O.step desk.now.table.shared.table_id
+        (door_tells D.opened D.given D.ended D.faults) accept seat door result }
 {
     let _ = first;
     let service = HttpService { alloc };

@@ -9,7 +9,7 @@ use std::str;
 
 /// A listening socket as a door. It tells whether it was opened and how many connections it gave,
 /// up to 2^64 - 2 of them, and it never gives None. A client that is gone before it is let in is
-/// passed over.
+/// passed over, and so is one whose network fails then.
 #[derive(Drop)]
 pub struct TcpDoor<R> {
     rt: R,
@@ -40,11 +40,18 @@ impl<R: Net<Listener = TcpListener, Stream = TcpStream>> TcpDoor<R> {
     }
 }
 
-/// Whether another client may still be let in behind this error.
+/// Whether another client may still be let in behind this error: it broke off one accept, or is one
+/// of a client or of the network between, which the system hands on with the client's socket.
 fn is_of_one_client(kind: ErrorKind) -> bool {
     matches!(
         kind,
-        ErrorKind::ConnectionAborted | ErrorKind::ConnectionReset | ErrorKind::Interrupted
+        ErrorKind::Interrupted
+            | ErrorKind::ConnectionAborted
+            | ErrorKind::ConnectionReset
+            | ErrorKind::HostUnreachable
+            | ErrorKind::NetworkUnreachable
+            | ErrorKind::NetworkDown
+            | ErrorKind::TimedOut
     )
 }
 

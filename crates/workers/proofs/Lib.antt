@@ -1,3 +1,4 @@
 mod GateLemmas
 mod SharesLemmas
+mod ServingLemmas
 mod Sent

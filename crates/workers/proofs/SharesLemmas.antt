@@ -11,9 +11,6 @@ use Rattle.turn_desk.specs.Seats.{IsSeated, known_to}
 use Rattle.turn_desk.specs.Shared.{Begins, AreInLine, longer, total, Weighed, halved, sibling, AreJoined, Grows, own_places}
 use Rattle.turn_desk.specs.Growing.{grows-nothing, grows-on}
 use Rattle.turn_desk.proofs.SharedLemmas.{total-snoc, total-double, weighed-double, weighed-snoc}
-use Rattle.std.specs.declared.result.Result.{Result}
-use Rattle.std.specs.declared.result.Result.TheVariants.{Ok, Err}
-use Rattle.std.specs.Prelude.{IfOk, IfErr}
 use Rattle.workers.specs.declared.sharing.Job.{Job}
 use Rattle.workers.specs.Jobs.{known_to_all}
 use Rattle.workers.specs.Shares.{HasGoneOn, HasPartOf, AddUpTo, HasGrown, HaveGrown, Carries, IsJoinedOf, HasComeBack}
@@ -250,21 +247,6 @@ module _ {X E R : Type 0} {step : ℕ → E → X → R → X → Type 0} {desk 
     on = on_on lent kept (known_to back) split comes.on;
     part = add_last lent (known_to back) (comes.parts lent parts);
   }
-
-module _ {X E R : Type 0} (step : ℕ → E → X → R → X → Type 0) (desk : TableId) where
-  pub back_if_ok : {A Q : Type 0} {lent kept : View X E R} {others : List (View X E R)}
-      (r : Result (DeskSeat X E R × A) Q) → HasGoneOn lent kept → AddUpTo lent (kept ∷ others)
-      → IfOk r (λ p. IsJoinedOf step desk kept others p.0) → IfOk r (λ p. HasComeBack step desk lent p.0)
-  back_if_ok (Ok p) split parts comes = come_back split parts comes
-  back_if_ok (Err e) split parts comes = tt
-
-  pub back_if_err : {A D F : Type 0} {lent kept : View X E R} {others : List (View X E R)}
-      (fact : DeskSeat X E R × D × F → Type 0) (r : Result A (DeskSeat X E R × D × F))
-      → HasGoneOn lent kept → AddUpTo lent (kept ∷ others)
-      → IfErr r (λ e. IsJoinedOf step desk kept others e.0)
-      → IfErr r (λ e. fact e → HasComeBack step desk lent e.0)
-  back_if_err fact (Ok p) split parts comes = tt
-  back_if_err fact (Err e) split parts comes = λ _. come_back split parts comes
 
 -- a list that was written over by one of its length is that one
 written_over : {A : Type 0} (xs ys : List A) → length ys ≡ length xs

@@ -1,3 +1,4 @@
 pub mod Gate
 pub mod Shares
 pub mod Jobs
+pub mod Serving

@@ -5,7 +5,8 @@ ghost use Rattle.workers.specs.declared.gate.Ending.TheVariants.{Fault};
 ghost use Rattle.workers.specs.Gate.{HasEnded, TakesConnections, ServesDoor, door_tells};
 ghost use Rattle.std.specs.Fork.{AcceptsEach, ChangesEach};
 ghost use Rattle.workers.specs.Jobs.{known_to_all, AreSeated};
-ghost use Rattle.workers.specs.Shares.{HasGrown, HaveGrown, IsJoinedOf, HasComeBack};
+ghost use Rattle.workers.specs.Serving.{EndsServing};
+ghost use Rattle.workers.specs.Shares.{HasGrown, HaveGrown, IsJoinedOf};
 
 use crate::gate::{Entrance, Gate};
 use crate::service::Service;
@@ -238,6 +239,7 @@ where
 }
 
 /// Serves the connections of a door whose entrance is `J`.
+#[tactic(auto, using(crate::proofs::ServingLemmas::ends_starved))]
 fn serve_at<R, O, D, B, V, J>(
     rt: &R,
     alloc: Global,
@@ -261,17 +263,8 @@ where
     requires seat { IsSeated O.step desk.now.table.shared.table_id seat }
     requires start { door_tells D.opened D.given D.ended D.faults door ≡ J.start }
     requires accept { accept ≡ J.accept }
-    ensures back { IfOk result (λ r. HasComeBack O.step desk.now.table.shared.table_id
-        (known_to seat) r.0) }
-    ensures ok { IfOk result (λ r. ServesDoor J.accept J.start
-        (door_tells D.opened D.given D.ended D.faults r.1)) }
-    ensures back_at_fault { IfErr result (λ e. e.2 ≡ ServeFault.DoorFault
-        → HasComeBack O.step desk.now.table.shared.table_id (known_to seat) e.0) }
-    ensures fault { IfErr result (λ e. e.2 ≡ ServeFault.DoorFault
-        → TakesConnections J.accept (Some Fault) J.start
-        (door_tells D.opened D.given D.ended D.faults e.1)) }
-    ensures memory { IfErr result (λ e. e.2 ≡ ServeFault.OutOfMemory
-        → (e.0 ≡ seat) × (e.1 ≡ door)) }
+    ensures { EndsServing O.step desk.now.table.shared.table_id
+        (door_tells D.opened D.given D.ended D.faults) accept seat door result }
 {
     let Some(last) = benches.pop() else {
         unreachable!()
@@ -310,23 +303,9 @@ where
     requires benches { 1 ≤ vec_len benches }
     requires seat { IsSeated O.step desk.now.table.shared.table_id seat }
 
-    // The door gave None, or as many connections as were to be accepted, where it tells that.
-    ensures back { IfOk result (λ r. HasComeBack O.step desk.now.table.shared.table_id
-        (known_to seat) r.0) }
-    ensures ok { IfOk result (λ r. ServesDoor accept
-        (door_tells D.opened D.given D.ended D.faults door)
-        (door_tells D.opened D.given D.ended D.faults r.1)) }
-
-    // The door failed in this call; the connections taken before were served to their ends.
-    ensures back_at_fault { IfErr result (λ e. e.2 ≡ ServeFault.DoorFault
-        → HasComeBack O.step desk.now.table.shared.table_id (known_to seat) e.0) }
-    ensures fault { IfErr result (λ e. e.2 ≡ ServeFault.DoorFault
-        → TakesConnections accept (Some Fault) (door_tells D.opened D.given D.ended D.faults door)
-        (door_tells D.opened D.given D.ended D.faults e.1)) }
-
-    // Memory runs out before anything is done.
-    ensures memory { IfErr result (λ e. e.2 ≡ ServeFault.OutOfMemory
-        → (e.0 ≡ seat) × (e.1 ≡ door)) }
+    // Seat and door come back, with the fault where one ended it.
+    ensures ends { EndsServing O.step desk.now.table.shared.table_id
+        (door_tells D.opened D.given D.ended D.faults) accept seat door result }
 {
     serve_at::<R, O, D, B, V, Brand>(rt, alloc, desk, seat, door, accept, benches, service)
 }
