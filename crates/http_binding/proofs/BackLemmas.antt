@@ -22,7 +22,7 @@ use Rattle.http_frames.specs.declared.frame.Side.TheVariants.{Reply}
 use Rattle.http_frames.specs.declared.frame.Start.{Start}
 use Rattle.http_frames.specs.declared.frame.Start.TheVariants.{Answer}
 use Rattle.http_frames.specs.Lines.{Line, is_same_name, values_named}
-use Rattle.http_frames.specs.Body.{counted, minor_of, framing_of, framing_of_values, is_length, CarriesBody}
+use Rattle.http_frames.specs.Body.{counted, minor_of, framing_of, framing_of_values, CarriesBody}
 use Rattle.http_frames.specs.Frame.{body_limit}
 use Rattle.http_frames.specs.Stream.{BeginsWithFrame}
 use Rattle.http_frames.specs.Text.{phrase_of, start_text, line_text, frame_text, IsLine, IsSoundFrame}

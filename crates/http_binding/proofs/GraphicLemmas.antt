@@ -14,7 +14,7 @@ use Rattle.std.proofs.lemmas.List.Sums.{AllPass-from_list_all, list_all-from_All
 use Rattle.std.proofs.lemmas.Str.Parse.{digit_from_value}
 use Rattle.httparse.specs.Grammar.{AllPass, IsToken, is_token, is_token_byte, is_value_byte, is_ows, skip_ows, trim_ows}
 use Rattle.httparse.proofs.TrimLemmas.{AllPass-reverse}
-use Rattle.http_frames.specs.Body.{is_length}
+use Rattle.m2m_names.specs.Name.{is_numeral}
 use Rattle.http_frames.specs.Text.{IsLine}
 
 abbrev pub Graphic : ℕ → Type 0
@@ -86,9 +86,9 @@ digit_is : (c : ℕ) → IsInRange 48 57 c → IsTrue (is_ascii_digit c)
 digit_is c h = and_from _ _ (le-leb 48 c h.0) (le-leb c 57 h.1)
 
 -- a length of seven digits at most is a value of Content-Length, and is worth what it is
-pub length_is : (n : ℕ) → n < 10 ^ 7 → is_length (decimal n) ≡ true
+pub length_is : (n : ℕ) → n < 10 ^ 7 → is_numeral (decimal n) ≡ true
 length_is n small =
     let numeral = (decimal_is_IsNumeral n (omega arith)).0 in
-    and_from _ _ (le-leb 1 (length (decimal n)) (omega (arith, numeral.0)))
-    (and_from _ _ (le-leb (length (decimal n)) 18 (omega (arith, length-decimal-le 7 n (omega arith) small (omega arith))))
-    (list_all-from_AllPass is_ascii_digit (decimal n) (digits_pass is_ascii_digit digit_is (decimal n) numeral.1)))
+    and_from _ _
+    (and_from _ _ (lt-ltb 0 (length (decimal n)) (omega (arith, numeral.0))) (le-leb (length (decimal n)) 18 (omega (arith, length-decimal-le 7 n (omega arith) small (omega arith)))))
+    (list_all-from_AllPass is_ascii_digit (decimal n) (digits_pass is_ascii_digit digit_is (decimal n) numeral.1))

@@ -28,7 +28,7 @@ use Rattle.http_frames.specs.declared.frame.Side.TheVariants.{Request}
 use Rattle.http_frames.specs.declared.frame.Start.{Start}
 use Rattle.http_frames.specs.declared.frame.Start.TheVariants.{Ask}
 use Rattle.http_frames.specs.Lines.{Line, is_same_name, values_named}
-use Rattle.http_frames.specs.Body.{counted, minor_of, framing_of, framing_of_values, is_length, CarriesBody}
+use Rattle.http_frames.specs.Body.{counted, minor_of, framing_of, framing_of_values, CarriesBody}
 use Rattle.http_frames.specs.Frame.{body_limit}
 use Rattle.http_frames.specs.Stream.{BeginsWithFrame}
 use Rattle.http_frames.specs.Text.{frame_text, IsLine, IsSoundFrame}

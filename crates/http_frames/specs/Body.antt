@@ -1,10 +1,9 @@
 -- How long a body is, and how it stands on the stream (RFC 9112, section 6).
-use Rattle.std.specs.Prelude.{◌≡◌, ◌≤◌, ◌+◌, ◌*◌, ◌==◌, ℕ, Bool, ◌&&◌, nat_le, List, [], ◌∷◌}
+use Rattle.std.specs.Prelude.{◌≡◌, ◌≤◌, ◌+◌, ◌*◌, ◌==◌, ℕ, ◌&&◌, List, [], ◌∷◌}
 use Rattle.std.specs.Prelude.{length, codes}
 use Rattle.std.specs.Prelude.{if◌then◌else◌}
-use Rattle.std.specs.List.{list_all}
-use Rattle.std.specs.Char.{is_ascii_digit}
 use Rattle.std.specs.Str.Parse.{digits_value}
+use Rattle.m2m_names.specs.Name.{is_numeral}
 use Rattle.http_frames.specs.declared.frame.Start.{Start}
 use Rattle.http_frames.specs.declared.frame.Start.TheVariants.{Ask, Answer}
 use Rattle.http_frames.specs.Chunks.{chunk_line_limit, IsChunked}
@@ -17,16 +16,12 @@ pub data Framing : Type 0 where
   chunked : Framing
   refused : Framing
 
--- 1 to 18 digits: the value of Content-Length (RFC 9110, section 8.6)
-abbrev pub is_length : List ℕ → Bool
-is_length value =
-    nat_le 1 (length value) && (nat_le (length value) 18 && list_all is_ascii_digit value)
-
--- from the values of Content-Length: no line is an empty body, and a second one is refused
+-- from the values of Content-Length (RFC 9110, section 8.6): no line is an empty body, one is 1 to
+-- 18 digits, and a second one is refused
 abbrev pub framing_of_lengths : List (List ℕ) → Framing
 framing_of_lengths [] = counted 0
 framing_of_lengths (value ∷ []) =
-    if is_length value then counted (digits_value 10 value) else refused
+    if is_numeral value then counted (digits_value 10 value) else refused
 framing_of_lengths (value ∷ next ∷ more) = refused
 
 -- the last digit of the version of HTTP (RFC 9112, section 2.3)

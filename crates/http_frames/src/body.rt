@@ -1,18 +1,15 @@
 //! How a body stands on the stream, by the lines of its head.
-ghost use Rattle.std.specs.Prelude.{◌≡◌, ℕ, List, [], ◌∷◌, All, length, map, if◌then◌else◌};
-ghost use Rattle.std.specs.Str.Parse.{digits_value};
+ghost use Rattle.std.specs.Prelude.{◌≡◌, ℕ, List, [], ◌∷◌, All, length, map};
 ghost use Rattle.httparse.specs.Spans.{IsWithin, IsHeaderWithin, header_bytes, span_bytes};
 ghost use Rattle.http_frames.specs.Lines.{IfOne, IsFound, values_named};
-ghost use Rattle.http_frames.specs.Body.{is_length, framing_of_lengths, framing_of_coding};
+ghost use Rattle.http_frames.specs.Body.{framing_of_lengths, framing_of_coding};
 ghost use Rattle.http_frames.specs.Body.{framing_of_values, framing_of, minor_of};
 ghost use Rattle.http_frames.specs.Spans.{framing_as, start_at};
 
 use crate::Found;
 use crate::head::StartSpans;
 use httparse::spans::{HeaderSpan, Span};
-
-/// A length has at most so many digits.
-const MOST_DIGITS: usize = 18;
+use m2m_names::number_spelled;
 
 /// What the lines at these spans have of this name.
 fn find_span(buf: &[u8], headers: &[HeaderSpan], name: &[u8]) -> Found<Span>
@@ -28,23 +25,6 @@ fn find_span(buf: &[u8], headers: &[HeaderSpan], name: &[u8]) -> Found<Span>
         }
     }
     found
-}
-
-/// The number that 1 to 18 digits write.
-fn parse_length(value: &[u8]) -> Option<u64>
-    ensures { result ≡ (if is_length value.now then Some (digits_value 10 value.now) else None) }
-{
-    if value.is_empty() || value.len() > MOST_DIGITS {
-        return None;
-    }
-    let mut n = 0u64;
-    for b in value {
-        if !b.is_ascii_digit() {
-            return None;
-        }
-        n = n * 10 + u64::from(*b - b'0');
-    }
-    Some(n)
 }
 
 /// How a body stands on the stream.
@@ -64,7 +44,7 @@ fn length_coding(buf: &[u8], found: Found<Span>) -> Option<Coding>
 {
     match found {
         Found::Absent => Some(Coding::Counted(0)),
-        Found::One(value) => Some(Coding::Counted(parse_length(value.of(buf))?)),
+        Found::One(value) => Some(Coding::Counted(number_spelled(value.of(buf))?)),
         Found::Repeated => None,
     }
 }
