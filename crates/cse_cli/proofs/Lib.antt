@@ -2,5 +2,6 @@ mod Writing
 mod HttpLemmas
 mod WordsLemmas
 mod ServeLemmas
+mod RunningLemmas
 mod TreesSent
 mod EntitiesSent

@@ -28,11 +28,6 @@ module _ (words : Option Command) (task wanted : Task) (home given : HomeData) w
   pub same_home : Some (command_at task home) ≡ words → words ≡ Some (command_at wanted given) → home ≡ given
   same_home e f = ap (λ c. home_in c home) (e ∙ f)
 
--- a command that isn't this one has another task, or another home
-pub other_task : (words : Option Command) (task other : Task) (home : HomeData) → Some (command_at task home) ≡ words
-    → (words ≡ Some (command_at other home) → ⊥) → task ≡ other → ⊥
-other_task words task other home e differs t = differs (sym e ∙ ap (λ task. Some (command_at task home)) t)
-
 -- a server's task says one server
 pub same_serving : (one other : Serving) → serve one ≡ serve other → one ≡ other
 same_serving one other e = cc

@@ -1,3 +1,5 @@
 pub mod Words
 pub mod Run
 pub mod Serve
+pub mod Devices
+pub mod Running

@@ -9,14 +9,35 @@ use std::str;
 use std::sync::Arc;
 use std::sync::atomic::{AtomicU64, Ordering};
 use std::test::Fail;
+use std::thread;
 
-/// A client that says what it has to say, and counts the replies that have this text.
+/// So often a client looks whether another one is served beside it.
+const LOOKS: u64 = 10_000_000;
+
+/// A client that says what it has to say while another one is served too, and counts the replies
+/// that have this text.
 #[derive(Drop)]
 struct Client {
     says: MemSource,
     wanted: &'static str,
     came: Arc<AtomicU64>,
+    heard: Arc<AtomicU64>,
     faults: u64,
+}
+
+impl Client {
+    /// Says that it is served, and waits until another one has said so too, which answers none of
+    /// its reads before that.
+    fn has_company(&self) -> bool {
+        self.heard.fetch_add(1, Ordering::SeqCst);
+        for _ in 0..LOOKS {
+            if self.heard.load(Ordering::SeqCst) > 1 {
+                return true;
+            }
+            thread::yield_now();
+        }
+        false
+    }
 }
 
 impl Source for Client {
@@ -27,13 +48,13 @@ impl Source for Client {
     ghost kept_by_read = { λ _. side_of None 0 [] };
 
     fn read(&mut self, buf: &mut [u8]) -> Result<usize, Failed> {
-        match self.says.read(buf) {
-            Ok(n) => Ok(n),
-            Err(_) => {
-                self.faults = self.faults.saturating_add(1);
-                Err(Failed)
-            }
+        if self.has_company()
+            && let Ok(n) = self.says.read(buf)
+        {
+            return Ok(n);
         }
+        self.faults = self.faults.saturating_add(1);
+        Err(Failed)
     }
 }
 
@@ -74,39 +95,42 @@ const MINE: &str =
 const MINE_AND_NEWEST: &str =
     "POST /cse-in/b?rcn=0 HTTP/1.1\r\nX-M2M-Origin: CAdmin\r\nX-M2M-RI: r4\r\nContent-Type: application/json;ty=4\r\nContent-Length: 26\r\n\r\n{\"m2m:cin\":{\"con\":\"mine\"}}GET /cse-in/b/la HTTP/1.1\r\nX-M2M-Origin: CAdmin\r\nX-M2M-RI: r5\r\n\r\n";
 
-/// A client that says one thing, and then another so often.
+/// A client that says one thing, and then another a hundred times.
 fn a_client(
     alloc: Global,
     first: &str,
     then: &str,
-    times: u64,
+    wanted: &'static str,
     came: &Arc<AtomicU64>,
+    heard: &Arc<AtomicU64>,
 ) -> Result<Client, AllocError> {
     let mut says = Vec::from_slice(alloc, first.as_bytes())?;
-    for _ in 0..times {
+    for _ in 0..100u64 {
         says.extend_from_slice(then.as_bytes())?;
     }
     Ok(Client {
         says: MemSource::new(says, Vec::new(alloc), Vec::new(alloc)),
-        wanted: "\"con\":\"mine\"",
+        wanted,
         came: Arc::try_clone(came)?,
+        heard: Arc::try_clone(heard)?,
         faults: 0,
     })
 }
 
 fn two_clients(alloc: Global, came: &Arc<AtomicU64>) -> Result<Vec<Client>, AllocError> {
-    let one = a_client(alloc, OTHERS, OTHER, 100, came)?;
-    let two = a_client(alloc, MINE, MINE_AND_NEWEST, 100, came)?;
+    let heard = Arc::new(alloc, AtomicU64::new(0))?;
+    let one = a_client(alloc, OTHERS, OTHER, "\"con\":\"other\"", came, &heard)?;
+    let two = a_client(alloc, MINE, MINE_AND_NEWEST, "\"con\":\"mine\"", came, &heard)?;
     Ok(vec![in alloc; one, two]?)
 }
 
 #[test]
-fn each_client_reads_what_it_wrote(rt: HostRuntime) -> Result<(), Fail> {
+fn each_client_reads_what_it_wrote_beside_another(rt: HostRuntime) -> Result<(), Fail> {
     let alloc = rt.alloc();
     let came = Arc::new(alloc, AtomicU64::new(0))?;
     let door = MemDoor::new(two_clients(alloc, &came)?, Vec::new(alloc));
     let status = serve_by(&rt, alloc, &["serve"], door)?;
     assert_eq!(rt; status, Status::Done);
-    assert_eq!(rt; came.load(Ordering::SeqCst), 100);
+    assert_eq!(rt; came.load(Ordering::SeqCst), 200);
     Ok(())
 }
