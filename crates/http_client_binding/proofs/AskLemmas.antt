@@ -154,7 +154,7 @@ request_sound r url aim h =
     let says = announces (host_of url) r.fr r.rqi r.rqet (created_type r.op r.ty) r.pc (decimal (length body)) in
     let framing = framing_is start (length body) (caller_lines r url ++ body_lines r) (omega (arith, h.body)) says in
     record {
-      start = (method_token r.op, h.target.0, h.target.1, h.target.2, omega arith);
+      start = (method_token r.op, h.target, omega arith);
       lines = lines_are r url aim h;
       head_fits = h.head;
       lines_fit = omega (arith, says.count);

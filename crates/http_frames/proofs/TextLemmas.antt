@@ -186,12 +186,12 @@ written_by Request (Ask method target minor) lines body s = record {
     head = request_of method target minor lines;
     valid = record {
       method = s.start.0;
-      target = (s.start.1, s.start.2);
-      target_text = s.start.3;
-      minor = s.start.4;
+      target = (s.start.1.0, s.start.1.1);
+      target_text = s.start.1.2;
+      minor = s.start.2;
       fields = fields_valid lines s.lines;
     };
-    text_is = request_text method target minor lines body s.start.4;
+    text_is = request_text method target minor lines body s.start.2;
     start_is = refl;
     lines_are = sym (fields_are lines s.lines);
   };

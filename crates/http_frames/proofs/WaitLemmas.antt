@@ -44,7 +44,7 @@ slash_is_utf8 = IsUtf8-from_ascii (codes "/") (IsAscii-from_all (codes "/") (All
 request_sound : IsSoundFrame Request plain_request
 unfolding is_token_byte
 request_sound = record {
-  start = ((omega arith, AllPass-from_list_all is_token_byte (codes "GET") refl), omega arith, AllPass-from_list_all is_uri_byte (codes "/") refl, slash_is_utf8, omega arith);
+  start = ((omega arith, AllPass-from_list_all is_token_byte (codes "GET") refl), (omega arith, AllPass-from_list_all is_uri_byte (codes "/") refl, slash_is_utf8), omega arith);
   lines = All-nil IsLine;
   head_fits = omega arith;
   lines_fit = omega arith;
