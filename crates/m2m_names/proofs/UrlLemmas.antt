@@ -4,14 +4,16 @@ use Rattle.std.specs.Char.{is_ascii_digit}
 use Rattle.std.specs.Int.{is_in_range}
 use Rattle.std.specs.List.{list_all, prefix_len}
 use Rattle.std.specs.Str.{bytes_eq}
-use Rattle.std.proofs.lemmas.Bool.{eqb-true, leb-true, le-leb}
+use Rattle.std.specs.Str.Parse.{digits_value}
+use Rattle.std.proofs.lemmas.Bool.{and_from, eqb-true, leb-true, le-leb, lt-ltb}
 use Rattle.std.proofs.lemmas.List.{take-append-drop}
 use Rattle.std.proofs.lemmas.List.Folds.{length-prefix_len}
 use Rattle.std.proofs.lemmas.Option.{cond_some, same_Some}
 use Rattle.std.proofs.lemmas.Slice.Eq.{bytes_eq-Decides}
 use Rattle.std.proofs.Math.Seq.{drop-append_seam, take-append_seam}
+use Rattle.m2m_names.specs.Name.{is_filled, is_numeral}
 use Rattle.m2m_names.specs.Steps.{◌>>=◌}
-use Rattle.m2m_names.specs.Urls.{scheme, is_host_byte, is_path_byte, number_of, is_host, is_port_value, is_port_number, is_port, is_path, IsUrl}
+use Rattle.m2m_names.specs.Urls.{scheme, is_host_byte, is_rest_byte, is_host, is_port_value, is_port_number, is_port, is_path, IsUrl}
 use Rattle.m2m_names.specs.UrlReading.{past_scheme, host_at, port_digits_at, port_at, host_end_at}
 use Rattle.m2m_names.proofs.StepLemmas.{bind_some, bind_again}
 
@@ -79,8 +81,8 @@ digits_take : (bytes : List ℕ) (x : ℕ × List ℕ) → port_digits_at bytes 
 unfolding port_digits_at
 digits_take bytes x e =
     let n = prefix_len is_ascii_digit bytes in
-    let h = cond_some (is_in_range 1 5 n && is_port_value (number_of (take n bytes))) (n, drop n bytes) x e in
-    let ranges = both_of (is_in_range 1 5 n) (is_port_value (number_of (take n bytes))) h.0 in
+    let h = cond_some (is_in_range 1 5 n && is_port_value (digits_value 10 (take n bytes))) (n, drop n bytes) x e in
+    let ranges = both_of (is_in_range 1 5 n) (is_port_value (digits_value 10 (take n bytes))) h.0 in
     let size : length (take n bytes) ≡ n = length-prefix_len is_ascii_digit bytes in
     let same_len : n ≡ x.0 = ap (λ (y : ℕ × List ℕ). y.0) h.1 in
     let same_rest : drop n bytes ≡ x.1 = ap (λ (y : ℕ × List ℕ). y.1) h.1 in
@@ -90,6 +92,14 @@ digits_take bytes x e =
       joined = sym (take-append-drop n bytes) ∙ ap (λ r. take n bytes ++ r) same_rest;
       len = size ∙ same_len;
     }
+
+-- they are a numeral, which has up to 18
+pub port_numeral : (bytes : List ℕ) (n : ℕ) → n ≡ prefix_len is_ascii_digit bytes → 1 ≤ n → n ≤ 5 → is_numeral (take n bytes) ≡ true
+port_numeral bytes n is some short =
+    let size : length (take (prefix_len is_ascii_digit bytes) bytes) ≡ prefix_len is_ascii_digit bytes = length-prefix_len is_ascii_digit bytes in
+    let filled : is_filled 18 (take n bytes) ≡ true =
+    rw (is, size) (and_from _ _ (lt-ltb 0 (prefix_len is_ascii_digit bytes) (omega (arith, is, some))) (le-leb (prefix_len is_ascii_digit bytes) 18 (omega (arith, is, short)))) in
+    and_from _ _ filled (ap (λ k. list_all is_ascii_digit (take k bytes)) is ∙ front_passes is_ascii_digit bytes)
 
 digits_again : (digits rest : List ℕ) → is_port_number digits ≡ true → Stops is_ascii_digit rest → port_digits_at (digits ++ rest) ≡ Some (length digits, rest)
 unfolding port_digits_at
@@ -134,7 +144,7 @@ port_takes (b ∷ bytes) x e = port_step b bytes x (b == 58) refl e
 
 -- a path doesn't begin with a digit, nor does a port with a path after it with a byte of a host
 slash : (b : ℕ) (bytes : List ℕ) → is_path (b ∷ bytes) ≡ true → b ≡ 47
-slash b bytes is = eqb-true b 47 (both_of (b == 47) (list_all is_path_byte bytes) is).0
+slash b bytes is = eqb-true b 47 (both_of (b == 47) (list_all is_rest_byte bytes) is).0
 
 path_stops_digits : (path : List ℕ) → is_path path ≡ true → Stops is_ascii_digit path
 path_stops_digits [] is = tt
