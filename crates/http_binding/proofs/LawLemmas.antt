@@ -7,7 +7,6 @@ use Rattle.std.specs.Str.{IsUtf8}
 use Rattle.std.specs.Str.Parse.{digits_value}
 use Rattle.std.specs.Result.{result_unwrap_or, is_ok}
 use Rattle.std.proofs.lemmas.Bool.{and_parts, false≢true}
-use Rattle.std.specs.Int.{is_in_range}
 use Rattle.m2m_names.specs.Name.{is_filled, is_originator, originator_limit}
 use Rattle.m2m_names.specs.StampReading.{moment_at}
 use Rattle.m2m_names.specs.Types.{is_type_number}
@@ -365,7 +364,7 @@ originator_utf8 method lines caller h = text_utf8 caller.originator (is_caller m
 
 pub id_utf8 : (method : Method) (lines : List Line) (caller : Caller) → caller_of method lines ≡ Ok caller → IsUtf8 caller.id
 id_utf8 method lines caller h =
-    id_is_utf8 caller.id (and_parts (is_in_range 1 request_id_limit (length caller.id)) _ (is_caller method lines caller h).id).1
+    id_is_utf8 caller.id (and_parts (is_filled request_id_limit caller.id) _ (is_caller method lines caller h).id).1
 
 sound_when : (when : When) → IsTimely when → IsSoundWhen when
 sound_when (At at) h = h.0

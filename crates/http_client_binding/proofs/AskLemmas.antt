@@ -3,7 +3,6 @@ use Rattle.std.proofs.Common.{◌≡◌, ℕ, ◌+◌, ◌<◌, ◌≤◌, ◌^�
 use Rattle.std.specs.Prelude.{All}
 use Rattle.std.specs.Fmt.{decimal}
 use Rattle.std.specs.Char.{is_ascii_graphic}
-use Rattle.std.specs.Int.{is_in_range}
 use Rattle.std.specs.List.{AllByRecursion, list_all}
 use Rattle.std.proofs.lemmas.Bool.{and_parts, cond-true}
 use Rattle.std.proofs.lemmas.Fmt.{decimal_is_IsNumeral}
@@ -66,7 +65,7 @@ origin_is (Some s) h =
 id_is : (rqi : List ℕ) → IsTrue (is_request_id rqi) → All IsLine (id_lines (Some rqi))
 unfolding is_token_byte
 id_is rqi h =
-    let all = (and_parts (is_in_range 1 request_id_limit (length rqi)) (list_all is_ascii_graphic rqi) h).1 in
+    let all = (and_parts (is_filled request_id_limit rqi) (list_all is_ascii_graphic rqi) h).1 in
     All-cons IsLine (id_field, rqi) [] (line_is (id_field) rqi refl (AllPass-from_list_all is_ascii_graphic rqi all)) (All-nil IsLine)
 
 expiry_graphic : (when : When) → IsWhenOfKind when → AllPass is_ascii_graphic (expiry_text when)
