@@ -1,5 +1,5 @@
 -- The right that a request needs on its target (TS-0001, 9.6.2; TS-0004, 7.3.3.15).
-use Rattle.std.specs.Prelude.{ℕ, ◌+◌, ◌==◌, Bool, true, false, List, [], ◌∷◌, bytes_eq}
+use Rattle.std.specs.Prelude.{ℕ, ◌+◌, ◌==◌, Bool, true, false, bytes_eq, List}
 use Rattle.std.specs.Prelude.{Option, Some, None, option_and_then, if◌then◌else◌}
 use Rattle.std.specs.Option.{option_map_or}
 use Rattle.m2m_names.specs.Attributes.{attr_short}
@@ -11,7 +11,7 @@ use Rattle.m2m_names.specs.declared.operations.Op.TheVariants.{Create, Retrieve,
 use Rattle.m2m_names.specs.declared.operations.Op.TheVariants.{Notify}
 use Rattle.m2m_names.specs.declared.types.Ty.TheVariants.{Subscription}
 use Rattle.m2m_value.specs.Data.{Data, Entry}
-use Rattle.m2m_value.specs.View.{as_object}
+use Rattle.m2m_value.specs.View.{as_object, only_member}
 use Rattle.filter_criteria.specs.declared.filter.FilterUsage.{FilterUsage}
 use Rattle.filter_criteria.specs.declared.filter.FilterUsage.TheVariants.{Discovery, Conditional}
 use Rattle.primitive_json.specs.declared.request.RequestParts.{RequestParts}
@@ -38,12 +38,7 @@ abbrev pub is_discovery : RequestParts → Bool
 is_discovery request =
     option_map_or is_search (option_and_then (λ f. f.fu) request.fc) false
 
--- the only member of a list of members
-abbrev pub only_member : List Entry → Option Entry
-only_member [] = None
-only_member (e ∷ []) = Some e
-only_member (e ∷ f ∷ es) = None
-
+-- the only member of an object
 abbrev pub sole : Data → Option Entry
 sole d = option_and_then only_member (as_object d)
 
