@@ -26,7 +26,7 @@ use Rattle.primitive_json.specs.Form.{is_only_read}
 use Rattle.primitive_json.specs.Members.{creates, retrieves, has_content, has_result}
 use Rattle.primitive_json.specs.Requests.{IsSoundWhen}
 use Rattle.primitive_json.proofs.FormLemmas.{joined_kinds}
-use Rattle.primitive_json.proofs.Numerals.{numeral_bound}
+use Rattle.m2m_names.proofs.NumeralLemmas.{numeral_bound}
 use Rattle.primitive_json.specs.declared.request.RequestParts.{RequestParts}
 use Rattle.primitive_json.specs.declared.request.When.{When}
 use Rattle.primitive_json.specs.declared.request.When.TheVariants.{At, Millis}
