@@ -27,24 +27,3 @@ pub coding_is : (minor : ℕ) (value : List ℕ) (same : Bool) → minor ≡ 1 �
 coding_is minor value same one is =
     let yes : (minor == 1) ≡ true = grind (arith, nat_tests) in
     λ i. if (yes i && sym is i) then chunked else refused
-
--- a lone coding, beside what there is of a length
-pub lone_framing : (minor : ℕ) (value : List ℕ) (lengths : List (List ℕ)) (framing : Framing) → lengths ≡ []
-    → framing_of_coding minor value ≡ framing → framing_of_values minor (value ∷ []) lengths ≡ framing
-lone_framing minor value lengths framing none is = (λ i. framing_of_values minor (value ∷ []) (none i)) ∙ is
-
-pub both_refused : (minor : ℕ) (value other : List ℕ) (lengths : List (List ℕ)) → lengths ≡ other ∷ []
-    → framing_of_values minor (value ∷ []) lengths ≡ refused
-both_refused minor value other lengths one = λ i. framing_of_values minor (value ∷ []) (one i)
-
-pub many_refused : (minor : ℕ) (value : List ℕ) (lengths : List (List ℕ)) → 2 ≤ length lengths
-    → framing_of_values minor (value ∷ []) lengths ≡ refused
-many_refused minor value [] many = absurd (omega arith)
-many_refused minor value (x ∷ lengths) many = refl
-
--- two codings or more
-pub codings_refused : (minor : ℕ) (codings lengths : List (List ℕ)) → 2 ≤ length codings
-    → framing_of_values minor codings lengths ≡ refused
-codings_refused minor [] lengths many = absurd (omega arith)
-codings_refused minor (x ∷ []) lengths many = absurd (omega arith)
-codings_refused minor (x ∷ y ∷ codings) lengths many = refl
