@@ -24,6 +24,10 @@ abbrev pub body_limit : Side → ℕ
 body_limit Request = 65536
 body_limit Reply = 1048576
 
+-- and on either side at most so many
+abbrev pub largest_body : ℕ
+largest_body = body_limit Reply
+
 -- The text is the head of a request that says this (RFC 9112, section 3).
 pub record IsRequestText (text : List ℕ) (start : Start) (lines : List Line) : Type 0 where
   pub head : RequestHead
