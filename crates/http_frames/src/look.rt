@@ -1,5 +1,5 @@
 //! A look for a frame at the front of some bytes.
-ghost use Rattle.std.specs.Prelude.{◌≡◌, ◌-◌, ◌≤◌, ◌<◌, ℕ, List, [], None, IfOk, length, drop};
+ghost use Rattle.std.specs.Prelude.{◌≡◌, ◌-◌, ◌≤◌, ℕ, List, [], None, IfOk, length, drop};
 ghost use Rattle.http_frames.specs.ChunkLooks.{IsStop};
 ghost use Rattle.http_frames.specs.Body.{counted};
 ghost use Rattle.http_frames.specs.Frame.{lines_limit, body_limit, largest_body};
