@@ -22,7 +22,7 @@ use Rattle.http_frames.specs.declared.frame.Side.TheVariants.{Reply}
 use Rattle.http_frames.specs.declared.frame.Start.{Start}
 use Rattle.http_frames.specs.declared.frame.Start.TheVariants.{Answer}
 use Rattle.http_frames.specs.Lines.{Line, is_same_name, values_named}
-use Rattle.http_frames.specs.Body.{counted, minor_of, framing_of, framing_of_values, CarriesBody}
+use Rattle.http_frames.specs.Body.{transfer_field, counted, minor_of, framing_of, framing_of_values, CarriesBody}
 use Rattle.http_frames.specs.Frame.{body_limit}
 use Rattle.http_frames.specs.Stream.{BeginsWithFrame}
 use Rattle.http_frames.specs.Text.{phrase_of, start_text, line_text, frame_text, IsLine, IsSoundFrame}
@@ -110,8 +110,8 @@ lines_with code id content size close =
 
 record Announces (size : List ℕ) (lines : List Line) : Type 0 where
   count : length lines ≤ 5
-  coding : values_named (codes "transfer-encoding") lines ≡ []
-  size_is : values_named (codes "content-length") lines ≡ size ∷ []
+  coding : values_named transfer_field lines ≡ []
+  size_is : values_named length_field lines ≡ size ∷ []
 
 announces : (code : List ℕ) (id : Option (List ℕ)) (content : Option Data) (size : List ℕ) (close : Bool) → Announces size (lines_with code id content size close)
 unfolding is_same_name

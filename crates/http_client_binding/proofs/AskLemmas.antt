@@ -27,7 +27,7 @@ use Rattle.http_frames.specs.declared.frame.Side.TheVariants.{Request}
 use Rattle.http_frames.specs.declared.frame.Start.{Start}
 use Rattle.http_frames.specs.declared.frame.Start.TheVariants.{Ask}
 use Rattle.http_frames.specs.Lines.{Line, is_same_name, values_named}
-use Rattle.http_frames.specs.Body.{counted, minor_of, framing_of, framing_of_values, CarriesBody}
+use Rattle.http_frames.specs.Body.{transfer_field, counted, minor_of, framing_of, framing_of_values, CarriesBody}
 use Rattle.http_frames.specs.Frame.{body_limit}
 use Rattle.http_frames.specs.Stream.{BeginsWithFrame}
 use Rattle.http_frames.specs.Text.{frame_text, IsLine, IsSoundFrame}
@@ -118,8 +118,8 @@ lines_with host fr id when type content size =
 
 record Announces (size : List ℕ) (lines : List Line) : Type 0 where
   count : length lines ≤ 7
-  coding : values_named (codes "transfer-encoding") lines ≡ []
-  size_is : values_named (codes "content-length") lines ≡ size ∷ []
+  coding : values_named transfer_field lines ≡ []
+  size_is : values_named length_field lines ≡ size ∷ []
 
 announces : (host : List ℕ) (fr : Option (List ℕ)) (id : List ℕ) (when : Option When) (type : Option ℕ) (content : Option Data) (size : List ℕ) → Announces size (lines_with host fr id when type content size)
 unfolding is_same_name
