@@ -16,7 +16,7 @@ pub data Framing : Type 0 where
   chunked : Framing
   refused : Framing
 
--- the fields that say of a body how it stands on the stream, as they are written; names are compared
+-- the fields that say how a body stands on the stream, as they are written; names are compared
 -- without regard to case
 abbrev pub transfer_field : List ℕ
 transfer_field = codes "Transfer-Encoding"
