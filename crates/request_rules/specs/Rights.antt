@@ -3,7 +3,6 @@ use Rattle.std.specs.Prelude.{ℕ, ◌+◌, ◌==◌, Bool, true, false, bytes_e
 use Rattle.std.specs.Prelude.{Option, Some, None, option_and_then, if◌then◌else◌}
 use Rattle.std.specs.Option.{option_map_or}
 use Rattle.m2m_names.specs.Attributes.{attr_short}
-use Rattle.m2m_names.specs.Operations.{op_row}
 use Rattle.m2m_names.specs.Types.{ty_row}
 use Rattle.m2m_names.specs.declared.attributes.Attr.TheVariants.{Acpi}
 use Rattle.m2m_names.specs.declared.operations.Op.{Op}
@@ -15,6 +14,7 @@ use Rattle.m2m_value.specs.View.{as_object, only_member}
 use Rattle.filter_criteria.specs.declared.filter.FilterUsage.{FilterUsage}
 use Rattle.filter_criteria.specs.declared.filter.FilterUsage.TheVariants.{Discovery, Conditional}
 use Rattle.primitive_json.specs.declared.request.RequestParts.{RequestParts}
+use Rattle.policy_eval.specs.Rights.{create_bit, retrieve_bit, update_bit, delete_bit, notify_bit}
 use Rattle.policy_eval.specs.Rights.{grants, relinks}
 use Rattle.entity_model.specs.Entity.{EntityData}
 use Rattle.entity_model.specs.Places.{reading_bit}
@@ -57,8 +57,7 @@ is_relink request =
 -- subscription RETRIEVE besides
 abbrev pub create_bits : RequestParts → ℕ
 create_bits request =
-    if is_subscribing request then (op_row Create).bit + (op_row Retrieve).bit
-    else (op_row Create).bit
+    if is_subscribing request then create_bit + retrieve_bit else create_bit
 
 abbrev pub retrieve_bits : RequestParts → ℕ
 retrieve_bits request = reading_bit (is_discovery request)
@@ -67,12 +66,12 @@ retrieve_bits request = reading_bit (is_discovery request)
 abbrev pub may_update : EntityData → List ℕ → RequestParts → ℕ → Bool
 may_update e o request n =
     if is_relink request then relinks e.home e.nodes o n
-    else is_granted e o (op_row Update).bit n
+    else is_granted e o update_bit n
 
 -- the originator has the right that the operation needs on the resource of the number
 abbrev pub may_do : Op → EntityData → List ℕ → RequestParts → ℕ → Bool
 may_do Create e o request n = is_granted e o (create_bits request) n
 may_do Retrieve e o request n = is_granted e o (retrieve_bits request) n
 may_do Update e o request n = may_update e o request n
-may_do Delete e o request n = is_granted e o (op_row Delete).bit n
-may_do Notify e o request n = is_granted e o (op_row Notify).bit n
+may_do Delete e o request n = is_granted e o delete_bit n
+may_do Notify e o request n = is_granted e o notify_bit n
