@@ -52,12 +52,36 @@ is_number_among numbers d = option_map_or (is_among numbers) (as_number d) false
 abbrev pub read_operation : Data → Option Op
 read_operation d = option_and_then op_of_number (as_number d)
 
--- what the result content of an operation may be (TS-0004, 6.3.4.2.7; the choice is the profile's)
+-- the numbers of result contents (TS-0004, 6.3.4.2.7): nothing; the attributes; the address; both
+abbrev pub nothing_wanted : ℤ
+nothing_wanted = pos 0
+
+abbrev pub attributes_wanted : ℤ
+attributes_wanted = pos 1
+
+abbrev pub address_wanted : ℤ
+address_wanted = pos 2
+
+abbrev pub both_wanted : ℤ
+both_wanted = pos 3
+
+-- the attributes and the descendants; the attributes and references to the children; these alone
+abbrev pub descendants_wanted : ℤ
+descendants_wanted = pos 4
+
+abbrev pub children_wanted : ℤ
+children_wanted = pos 5
+
+abbrev pub children_alone_wanted : ℤ
+children_alone_wanted = pos 6
+
+-- what the result content of an operation may be (the choice is the profile's)
 abbrev pub result_contents : Op → List ℤ
-result_contents Create = pos 0 ∷ pos 1 ∷ pos 2 ∷ pos 3 ∷ []
-result_contents Retrieve = pos 1 ∷ pos 4 ∷ pos 5 ∷ pos 6 ∷ []
-result_contents Update = pos 0 ∷ pos 1 ∷ []
-result_contents Delete = pos 0 ∷ []
+result_contents Create = nothing_wanted ∷ attributes_wanted ∷ address_wanted ∷ both_wanted ∷ []
+result_contents Retrieve =
+    attributes_wanted ∷ descendants_wanted ∷ children_wanted ∷ children_alone_wanted ∷ []
+result_contents Update = nothing_wanted ∷ attributes_wanted ∷ []
+result_contents Delete = nothing_wanted ∷ []
 result_contents Notify = []
 
 -- structured or unstructured (TS-0004, 6.3.4.2.8)
