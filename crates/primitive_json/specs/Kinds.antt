@@ -84,9 +84,20 @@ result_contents Update = nothing_wanted ∷ attributes_wanted ∷ []
 result_contents Delete = nothing_wanted ∷ []
 result_contents Notify = []
 
--- structured or unstructured (TS-0004, 6.3.4.2.8)
+-- the numbers of the forms of addresses: structured, by names, or unstructured, by resource ids
+-- (TS-0004, 6.3.4.2.8)
+abbrev pub structured_form : ℤ
+structured_form = pos 1
+
+abbrev pub unstructured_form : ℤ
+unstructured_form = pos 2
+
 abbrev pub address_forms : List ℤ
-address_forms = pos 1 ∷ pos 2 ∷ []
+address_forms = structured_form ∷ unstructured_form ∷ []
+
+-- the number of the response type blockingRequest (TS-0004, 6.3.4.2.6)
+abbrev pub blocking_request : ℤ
+blocking_request = pos 3
 
 -- a number, or an object that has one at `rtv` (TS-0004, 6.3.5.30)
 abbrev pub read_response_type : Data → Option ℤ
