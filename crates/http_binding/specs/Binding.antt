@@ -11,6 +11,7 @@ use Rattle.m2m_value.specs.declared.fault.ValFault.{ValFault}
 use Rattle.m2m_value.specs.declared.fault.ValFault.TheVariants.{NotJson}
 use Rattle.primitive_json.specs.Kinds.{expiry_spelled}
 use Rattle.primitive_json.specs.Members.{creates, has_content, has_result, name_of_member}
+use Rattle.primitive_json.specs.Writing.{only_where}
 use Rattle.primitive_json.specs.declared.member.Member.TheVariants as members
 use Rattle.primitive_json.specs.declared.request.RequestParts.{RequestParts}
 use Rattle.primitive_json.specs.declared.request.When.{When}
@@ -122,11 +123,11 @@ content_of op body = if has_content op then content_in body else Ok None
 
 -- the number of a type, on a Create; else it is unread
 abbrev pub created_type : Op → Option ℕ → Option ℕ
-created_type op type = if creates op then type else None
+created_type op type = only_where (creates op) type
 
 -- the content of the result, on an operation that has any; else it is unread
 abbrev pub kept_result : Op → Option ℤ → Option ℤ
-kept_result op number = if has_result op then number else None
+kept_result op number = only_where (has_result op) number
 
 -- the request of these parts
 abbrev pub request_of : Op → List ℕ → Caller → Query → Option Data → RequestParts
