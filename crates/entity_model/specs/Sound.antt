@@ -15,7 +15,7 @@ use Rattle.resource_model.specs.Home.{HomeData, IsHome}
 use Rattle.resource_model.specs.Resource.{ResourceData, is_ty, cse_id}
 pub use Rattle.resource_model.specs.Resource.{has_free_name}
 use Rattle.tree_model.specs.Shown.{own_cse_id}
-use Rattle.tree_model.specs.Tree.{channels_of, instances_of, instance_size, sizes_of, depth}
+use Rattle.tree_model.specs.Tree.{channels_of, instances_of, instance_size, sizes_of, level_of}
 use Rattle.tree_model.specs.Tree.{are_below, have_free_names, is_well_formed}
 use Rattle.attribute_rules.specs.Kinds.{are_kinds}
 use Rattle.container_limits.specs.Limits.{are_within, limits_of}
@@ -52,7 +52,7 @@ abbrev pub greatest_count : ℕ
 greatest_count = 100000
 
 abbrev pub is_shallow : List ResourceData → ResourceData → Bool
-is_shallow nodes r = nat_le (depth r.number nodes) greatest_depth
+is_shallow nodes r = nat_le (level_of r.number nodes) greatest_depth
 
 -- The instances of a container are within its `mni` and its `mbs` (TS-0001, 9.6.6). So the longest
 -- run of the newest of them that is within both is all of them.
