@@ -50,7 +50,7 @@ use Rattle.filter_criteria.specs.Filters.{IsSoundFilter}
 use Rattle.filter_criteria.specs.Laws.{IsFilterOfKinds}
 use Rattle.filter_criteria.specs.declared.filter.FilterParts.{FilterParts}
 use Rattle.http_binding.specs.Binding.{method_of, lone_value, header_value, HeaderValues, header_values, required, unless_empty, Caller, caller_of, kept_result, value_in, object_only, content_in, content_of, created_type, request_of, Binds, echo_of}
-use Rattle.http_target.specs.Said.{said_by_target, target_of, query_of}
+use Rattle.http_target.specs.Said.{said_by_target, target_of, query_said}
 use Rattle.http_binding.specs.Methods.{operation_of}
 
 pub binds_to_one : (frame : Frame) (request other : RequestParts) → Binds frame request → Binds frame other → request ≡ other
@@ -255,7 +255,7 @@ type_there Post (Some n) = refl
 
 -- ---- the query
 
-queries : (op : Op) (query : List ℕ) (q : Query) → query_of op query ≡ Ok q → IsSaid op q
+queries : (op : Op) (query : List ℕ) (q : Query) → query_said op query ≡ Ok q → IsSaid op q
 queries op query q h = said_on op (decoded_pairs query) nothing_said q (nothing_is_said op) h
 
 result_kind : (op : Op) (number : Option ℤ) → IfSome number (λ z. is_result op z ≡ true) → IfSome (kept_result op number) (λ z. is_among (result_contents op) z ≡ true)
@@ -280,7 +280,7 @@ conditions_sound : (op : Op) (fc : Option FilterParts) → IfSome fc (λ f. (ret
 conditions_sound op None h = tt
 conditions_sound op (Some f) h = filter_sound f h.1
 
-pub query_sound : (op : Op) (query : List ℕ) (q : Query) → query_of op query ≡ Ok q → (f : FilterParts) → q.fc ≡ Some f → IsSoundFilter f
+pub query_sound : (op : Op) (query : List ℕ) (q : Query) → query_said op query ≡ Ok q → (f : FilterParts) → q.fc ≡ Some f → IsSoundFilter f
 query_sound op query q h f is = subst (λ (o : Option FilterParts). IfSome o IsSoundFilter) is (conditions_sound op q.fc (queries op query q h).fc)
 
 -- ---- the request
@@ -304,7 +304,7 @@ says frame request h =
     let target = reads (target_of frame.start) _ request method.rest in
     let caller = reads (caller_of method.first frame.lines) _ request target.rest in
     let op = operation_of method.first caller.first.type in
-    let query = reads (query_of op target.first.query) _ request caller.rest in
+    let query = reads (query_said op target.first.query) _ request caller.rest in
     let content = reads (content_of op frame.body) _ request query.rest in
     record {
       method = method.first;

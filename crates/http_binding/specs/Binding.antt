@@ -20,7 +20,7 @@ use Rattle.http_frames.specs.declared.frame.Start.TheVariants.{Ask, Answer}
 use Rattle.http_frames.specs.declared.frame.Frame.{Frame}
 use Rattle.http_frames.specs.Lines.{Line, values_named}
 use Rattle.http_target.specs.Chain.{and_then}
-use Rattle.http_target.specs.Said.{target_of, query_of}
+use Rattle.http_target.specs.Said.{target_of, query_said}
 use Rattle.http_target.specs.declared.fault.BindFault.{BindFault}
 use Rattle.http_target.specs.declared.fault.BindFault.TheVariants as bind
 use Rattle.http_binding.specs.declared.headers.Field.{Field}
@@ -151,7 +151,7 @@ binding frame =
     and_then (method_of frame.start) λ method.
     and_then (target_of frame.start) λ target.
     and_then (caller_of method frame.lines) λ caller.
-    and_then (query_of (operation_of method caller.type) target.query) λ query.
+    and_then (query_said (operation_of method caller.type) target.query) λ query.
     and_then (content_of (operation_of method caller.type) frame.body) λ content.
     Ok (request_of (operation_of method caller.type) target.to caller query content)
 
