@@ -1,5 +1,5 @@
 -- What the value of a member is read as, where it is of the member's kind (TS-0004, 6.3 and 8.2.2).
-use Rattle.std.specs.Prelude.{ℕ, nat_le, Bool, false, ℤ, pos, List, []}
+use Rattle.std.specs.Prelude.{ℕ, Bool, false, ℤ, pos, List, []}
 use Rattle.std.specs.Prelude.{◌∷◌, Option, codes, option_map}
 use Rattle.std.specs.Prelude.{option_and_then}
 use Rattle.std.specs.List.{list_any}
@@ -18,7 +18,7 @@ use Rattle.m2m_names.specs.declared.operations.Op.TheVariants.{Notify}
 use Rattle.m2m_value.specs.Data.{Data}
 use Rattle.m2m_value.specs.Shapes.{as_count, is_text_of}
 use Rattle.m2m_value.specs.View.{as_number, as_text, member_of}
-use Rattle.filter_criteria.specs.Values.{where_it, members_in}
+use Rattle.filter_criteria.specs.Values.{members_in}
 use Rattle.primitive_json.specs.Bounds.{is_request_id}
 use Rattle.primitive_json.specs.declared.request.When.{When}
 use Rattle.primitive_json.specs.declared.request.When.TheVariants.{At, Millis}
@@ -118,6 +118,6 @@ read_expiry d =
 
 -- ---- of a reply
 
--- the status code of a number with at most four digits
+-- the status code of a number
 abbrev pub read_status : Data → Option Rsc
-read_status d = option_and_then rsc_of_number (where_it (λ n. nat_le n 9_999) (as_count d))
+read_status d = option_and_then rsc_of_number (as_count d)
