@@ -64,10 +64,10 @@ reply_sound = record {
 nothing_may : (side : Side) → MayBecomeHead side []
 nothing_may Request =
     let f = written_is_read Request plain_request request_sound in
-    inl (f.head, f.is_head.head, (f.is_head.valid, f.is_head.text_is ∙ sym (append-nil _)))
+    inl (f.head, f.head_is.is_head.head, (f.head_is.is_head.valid, f.head_is.is_head.text_is ∙ sym (append-nil _)))
 nothing_may Reply =
     let f = written_is_read Reply plain_reply reply_sound in
-    (f.head, f.is_head.head, (f.is_head.valid, f.is_head.text_is ∙ sym (append-nil _)))
+    (f.head, f.head_is.is_head.head, (f.head_is.is_head.valid, f.head_is.is_head.text_is ∙ sym (append-nil _)))
 
 -- as long as no more than the first bytes are there
 only_first : (side : Side) (bytes : List ℕ) → IsUnsettled side bytes → StaysUnsettled side bytes (length bytes + 1)
@@ -128,9 +128,11 @@ body_waits side bytes headers head n h e fits lacking = record {
             lines = lines_at bytes headers head.lines;
             announced = n;
             bytes_are = parts;
-            is_head = h.at.is_head;
-            head_fits = omega (arith, h.fits, front);
-            lines_fit = lines_few bytes headers head.lines h.room;
+            head_is = record {
+              is_head = h.at.is_head;
+              head_fits = omega (arith, h.fits, front);
+              lines_fit = lines_few bytes headers head.lines h.room;
+            };
             framing = e;
             body_fits = fits;
             lacks = omega (arith, whole, front, few);
@@ -175,9 +177,11 @@ chunks_wait side bytes body headers head at need end b waits end_is =
                 lines = lines_at bytes headers head.lines;
                 chunks = w.chunks;
                 bytes_are = parts;
-                is_head = b.good.at.is_head;
-                head_fits = omega (arith, b.good.fits, front);
-                lines_fit = lines_few bytes headers head.lines b.good.room;
+                head_is = record {
+                  is_head = b.good.at.is_head;
+                  head_fits = omega (arith, b.good.fits, front);
+                  lines_fit = lines_few bytes headers head.lines b.good.room;
+                };
                 framing = b.framing;
                 each = w.each;
                 body_fits = omega (arith, b.fits, ap length w.body_is);
@@ -235,7 +239,7 @@ chunk_small : (side : Side) (bytes : List ℕ) → LackChunk side bytes → leng
 chunk_small side bytes lack =
     let before = chunks_text lack.chunks in
     let part = lacks_few (body_limit side - length (chunks_body lack.chunks)) lack.part lack.lacks in
-    omega (arith, part, lack.head_fits, lack.body_fits, chunks_length lack.chunks lack.each, ap length lack.bytes_are, length-append lack.head (before ++ lack.part), length-append before lack.part)
+    omega (arith, part, lack.head_is.head_fits, lack.body_fits, chunks_length lack.chunks lack.each, ap length lack.bytes_are, length-append lack.head (before ++ lack.part), length-append before lack.part)
 
 -- little is held
 pub stays_small : {S : Type 0} (side : Side) (first all : List ℕ) (src after : S) → ReadsAsNeeded side first all src after
@@ -249,7 +253,7 @@ stays_small side first all src after (inr read) small =
       | inr later ↦ elim later [
         | inl lack ↦
             let parts : length before ≡ length lack.head + length lack.part = ap length lack.bytes_are ∙ length-append lack.head lack.part in
-            omega (arith, lack.head_fits, lack.lacks, lack.body_fits, read.small)
+            omega (arith, lack.head_is.head_fits, lack.lacks, lack.body_fits, read.small)
         | inr lack ↦ omega (arith, chunk_small side before lack, read.small)
       ]
     ]

@@ -49,13 +49,18 @@ abbrev pub IsHead : Side → List ℕ → Start → List Line → Type 0
 IsHead Request text start lines = IsRequestText text start lines
 IsHead Reply text start lines = IsReplyText text start lines
 
+-- The text is such a head, and within the limits.
+pub record IsLimitedHead
+    (side : Side) (text : List ℕ) (start : Start) (lines : List Line) : Type 0 where
+  pub is_head : IsHead side text start lines
+  pub head_fits : length text ≤ head_limit
+  pub lines_fit : length lines ≤ lines_limit
+
 -- The bytes are this message: its head within the limits, and what carries its body.
 pub record IsFrame (side : Side) (bytes : List ℕ) (frame : Frame) : Type 0 where
   pub head : List ℕ
   pub carried : List ℕ
   pub bytes_are : bytes ≡ head ++ carried
-  pub is_head : IsHead side head frame.start frame.lines
-  pub head_fits : length head ≤ head_limit
-  pub lines_fit : length frame.lines ≤ lines_limit
+  pub head_is : IsLimitedHead side head frame.start frame.lines
   pub body :
       CarriesBody (body_limit side) (framing_of frame.start frame.lines) carried frame.body
