@@ -1,5 +1,5 @@
 -- What is known of a frame that binds.
-use Rattle.std.proofs.Common.{◌≡◌, ◌<◌, ◌^◌, ℕ, Bool, true, false, not, ◌||◌, List, [], ◌∷◌, length, Option, Some, None, is_some, Result, Ok, Err, IfSome, refl, sym, ap, subst, ◌∙◌, arith}
+use Rattle.std.proofs.Common.{◌≡◌, ◌<◌, ◌^◌, ℕ, Bool, true, false, not, ◌||◌, List, [], ◌∷◌, Option, Some, None, is_some, Result, Ok, Err, IfSome, refl, sym, ap, subst, ◌∙◌, arith}
 use Rattle.std.specs.Bool.{if◌then◌else◌}
 use Rattle.std.specs.Prelude.{ℤ, option_and_then, option_map}
 use Rattle.std.specs.Option.{option_map_or, option_or}

@@ -1,17 +1,9 @@
--- Lengths in digits, and what lines say of a body.
-use Rattle.std.proofs.Common.{◌≡◌, ◌≢◌, ◌==◌, ℕ, ◌+◌, ◌*◌, ◌^◌, ◌<◌, ◌≤◌, Bool, true, false, ◌&&◌, List, [], ◌∷◌, length, take, get_or, codes, refl, sym, ◌∙◌, arith}
+-- What the lines of a head say of how the body is coded.
+use Rattle.std.proofs.Common.{◌≡◌, ◌≢◌, ◌==◌, ℕ, Bool, true, false, ◌&&◌, List, codes, sym, arith}
 use Rattle.std.specs.Prelude.{if◌then◌else◌}
-use Rattle.http_frames.specs.Lines.{is_same_name}
-use Rattle.http_frames.specs.Body.{Framing, chunked, refused, framing_of_coding, framing_of_values}
-use Rattle.std.specs.List.{list_all}
-use Rattle.std.specs.Char.{is_ascii_digit, digit_value}
-use Rattle.std.specs.Str.Parse.{digits_value, AllDigits}
-use Rattle.std.proofs.Math.Nat.{pow-le-pow_right}
-use Rattle.std.proofs.lemmas.Bool.{and_parts, and_from}
 use Rattle.std.proofs.lemmas.Bool.Decides.{nat_tests}
-use Rattle.std.proofs.lemmas.Int.Digits.{digits_value-lt, digits_value_more}
-use Rattle.std.proofs.lemmas.List.{length-take}
-use Rattle.std.proofs.lemmas.List.Folds.{list_all_more}
+use Rattle.http_frames.specs.Lines.{is_same_name}
+use Rattle.http_frames.specs.Body.{chunked, refused, framing_of_coding}
 
 -- ---- what a head says of the body
 
