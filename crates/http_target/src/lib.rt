@@ -1,7 +1,7 @@
 //! What the target of a request over HTTP says (TS-0009, 6.2.2): the address that its path is, and
 //! what the pairs of its query say on an operation; and why a frame binds to no request. Callers
-//! see both as functions of the bytes (`target_of`, `query_said`), which answer the first fault, and
-//! nothing else of the frame is read.
+//! see both as functions of the bytes (`target_of`, `query_said`), which answer the first fault,
+//! and nothing else of the frame is read.
 #![tactic(auto)]
 
 mod absolute;

@@ -83,8 +83,8 @@ is_numbered word text = starts_with nat_eq text word
     && nat_lt (length word) (length text) && list_all is_ascii_digit (drop (length word) text)
 
 -- a text in the form of a resource id: the short word of a type and digits. This is looser than
--- `id_parts`, which reads digits as a number is written alone, since a CSEBase has no name that even
--- looks like an id, as `cnt007` does.
+-- `id_parts`, which reads digits as a number is written alone, since a CSEBase has no name that
+-- even looks like an id, as `cnt007` does.
 abbrev pub is_resource_id : List ℕ → Bool
 is_resource_id text = list_any (λ ty. is_numbered (ty_row ty).word text) all_types
 
