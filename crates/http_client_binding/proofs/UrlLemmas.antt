@@ -10,6 +10,7 @@ use Rattle.std.proofs.lemmas.List.Elements.{All-nil, All-cons, All-append, All-d
 use Rattle.std.proofs.lemmas.List.Sums.{AllPass-from_list_all}
 use Rattle.httparse.specs.Grammar.{AllPass}
 use Rattle.http_uri.specs.ByteClasses.{slash, index_of}
+use Rattle.m2m_names.specs.Name.{is_filled}
 use Rattle.m2m_names.specs.Urls.{is_host_byte, is_rest_byte, is_host, is_port_number, is_port, is_path, IsUrl}
 use Rattle.std.specs.Char.{is_ascii_digit, is_ascii_graphic}
 use Rattle.primitive_json.specs.Notes.{IsSomeUrl}
@@ -36,8 +37,8 @@ port_passes : (port : List ℕ) → IsTrue (is_port port) → AllPass is_ascii_g
 port_passes [] h = All-nil (λ b. IsTrue (is_ascii_graphic b))
 port_passes (b ∷ digits) h =
     let parts = and_parts (b == 58) (is_port_number digits) h in
-    let inner = and_parts (is_in_range 1 5 (length digits) && list_all is_ascii_digit digits) (is_in_range 1 65_535 (digits_value 10 digits)) parts.1 in
-    let all = (and_parts (is_in_range 1 5 (length digits)) (list_all is_ascii_digit digits) inner.0).1 in
+    let inner = and_parts (is_filled 5 digits && list_all is_ascii_digit digits) (is_in_range 1 65_535 (digits_value 10 digits)) parts.1 in
+    let all = (and_parts (is_filled 5 digits) (list_all is_ascii_digit digits) inner.0).1 in
     All-cons (λ c. IsTrue (is_ascii_graphic c)) b digits (one_graphic 58 b refl parts.0) (all_graphic is_ascii_digit digit_graphic digits all)
 
 path_passes : (path : List ℕ) → IsTrue (is_path path) → AllPass is_ascii_graphic path
@@ -50,7 +51,7 @@ url_graphic : (text : List ℕ) → IsSomeUrl text → AllPass is_ascii_graphic 
 url_graphic text h =
     let u = h.1 in
     let P : ℕ → Type 0 = λ b. IsTrue (is_ascii_graphic b) in
-    let host = (and_parts (is_in_range 1 253 (length u.host)) (list_all is_host_byte u.host) u.host_is).1 in
+    let host = (and_parts (is_filled 253 u.host) (list_all is_host_byte u.host) u.host_is).1 in
     let front = All-append P (codes "http://") u.host (AllPass-from_list_all is_ascii_graphic (codes "http://") refl) (all_graphic is_host_byte host_graphic u.host host) in
     let ported = All-append P (codes "http://" ++ u.host) u.port front (port_passes u.port u.port_is) in
     subst (AllPass is_ascii_graphic) (sym u.bytes) (All-append P (codes "http://" ++ u.host ++ u.port) u.path ported (path_passes u.path u.path_is))

@@ -1,7 +1,6 @@
 -- What is read is a URL, and each URL is read.
 use Rattle.std.proofs.Common.{◌≡◌, Bool, true, false, ◌&&◌, ℕ, ◌+◌, ◌≤◌, ◌∙◌, sym, ap, refl, cond, List, [], ◌∷◌, ◌++◌, length, take, drop, Some, arith, IsTrue, ◌==◌, nat_le, append_assoc, length-append, suc}
 use Rattle.std.specs.Char.{is_ascii_digit}
-use Rattle.std.specs.Int.{is_in_range}
 use Rattle.std.specs.List.{list_all, prefix_len}
 use Rattle.std.specs.Str.{bytes_eq}
 use Rattle.std.specs.Str.Parse.{digits_value}
@@ -11,7 +10,7 @@ use Rattle.std.proofs.lemmas.List.Folds.{length-prefix_len}
 use Rattle.std.proofs.lemmas.Option.{cond_some, same_Some}
 use Rattle.std.proofs.lemmas.Slice.Eq.{bytes_eq-Decides}
 use Rattle.std.proofs.Math.Seq.{drop-append_seam, take-append_seam}
-use Rattle.m2m_names.specs.Name.{is_filled, is_numeral}
+use Rattle.m2m_names.specs.Name.{is_filled, is_length, is_numeral}
 use Rattle.m2m_names.specs.Steps.{◌>>=◌}
 use Rattle.m2m_names.specs.Urls.{scheme, is_host_byte, is_rest_byte, is_host, is_port_value, is_port_number, is_port, is_path, IsUrl}
 use Rattle.m2m_names.specs.UrlReading.{past_scheme, host_at, port_digits_at, port_at, host_end_at}
@@ -58,7 +57,7 @@ host_takes : (bytes : List ℕ) (x : ℕ × List ℕ) → host_at bytes ≡ Some
 unfolding host_at
 host_takes bytes x e =
     let n = prefix_len is_host_byte bytes in
-    let h = cond_some (is_in_range 1 253 n) (n, drop n bytes) x e in
+    let h = cond_some (is_length 253 n) (n, drop n bytes) x e in
     let size : length (take n bytes) ≡ n = length-prefix_len is_host_byte bytes in
     let same_len : n ≡ x.0 = ap (λ (y : ℕ × List ℕ). y.0) h.1 in
     let same_rest : drop n bytes ≡ x.1 = ap (λ (y : ℕ × List ℕ). y.1) h.1 in
@@ -72,7 +71,7 @@ host_takes bytes x e =
 host_again : (host rest : List ℕ) → is_host host ≡ true → Stops is_host_byte rest → host_at (host ++ rest) ≡ Some (length host, rest)
 unfolding host_at
 host_again host rest is stops =
-    let h = both_of (is_in_range 1 253 (length host)) (list_all is_host_byte host) is in
+    let h = both_of (is_length 253 (length host)) (list_all is_host_byte host) is in
     rw (front_is is_host_byte host rest h.1 stops, h.0, drop-append_seam host rest) refl
 
 -- ---- port
@@ -81,8 +80,8 @@ digits_take : (bytes : List ℕ) (x : ℕ × List ℕ) → port_digits_at bytes 
 unfolding port_digits_at
 digits_take bytes x e =
     let n = prefix_len is_ascii_digit bytes in
-    let h = cond_some (is_in_range 1 5 n && is_port_value (digits_value 10 (take n bytes))) (n, drop n bytes) x e in
-    let ranges = both_of (is_in_range 1 5 n) (is_port_value (digits_value 10 (take n bytes))) h.0 in
+    let h = cond_some (is_length 5 n && is_port_value (digits_value 10 (take n bytes))) (n, drop n bytes) x e in
+    let ranges = both_of (is_length 5 n) (is_port_value (digits_value 10 (take n bytes))) h.0 in
     let size : length (take n bytes) ≡ n = length-prefix_len is_ascii_digit bytes in
     let same_len : n ≡ x.0 = ap (λ (y : ℕ × List ℕ). y.0) h.1 in
     let same_rest : drop n bytes ≡ x.1 = ap (λ (y : ℕ × List ℕ). y.1) h.1 in
@@ -104,8 +103,8 @@ port_numeral bytes n is some short =
 digits_again : (digits rest : List ℕ) → is_port_number digits ≡ true → Stops is_ascii_digit rest → port_digits_at (digits ++ rest) ≡ Some (length digits, rest)
 unfolding port_digits_at
 digits_again digits rest is stops =
-    let h = both_of (is_in_range 1 5 (length digits) && list_all is_ascii_digit digits) _ is in
-    let k = both_of (is_in_range 1 5 (length digits)) (list_all is_ascii_digit digits) h.0 in
+    let h = both_of (is_length 5 (length digits) && list_all is_ascii_digit digits) _ is in
+    let k = both_of (is_length 5 (length digits)) (list_all is_ascii_digit digits) h.0 in
     rw (front_is is_ascii_digit digits rest k.1 stops, k.0, take-append_seam digits rest, h.1, drop-append_seam digits rest) refl
 
 port_step : (b : ℕ) (bytes : List ℕ) (x : ℕ × List ℕ) (colon : Bool) → (b == 58) ≡ colon → cond colon (port_digits_at bytes >>= λ port. Some (1 + port.0, port.1)) (Some (0, b ∷ bytes)) ≡ Some x → TakesPart (λ p. IsTrue (is_port p)) (b ∷ bytes) x

@@ -7,8 +7,12 @@ use Rattle.std.specs.Str.{bytes_eq}
 use Rattle.m2m_names.specs.Types.{ty_row, all_types}
 
 -- a length from 1 to the greatest
+abbrev pub is_length : ℕ → ℕ → Bool
+is_length most n = nat_lt 0 n && nat_le n most
+
+-- a text of such a length
 abbrev pub is_filled : ℕ → List ℕ → Bool
-is_filled most text = nat_lt 0 (length text) && nat_le (length text) most
+is_filled most text = is_length most (length text)
 
 -- the most digits of a number that a text spells
 abbrev pub numeral_limit : ℕ

@@ -3,10 +3,11 @@
 -- printable ASCII.
 use Rattle.std.specs.Prelude.{◌≡◌, ℕ, ◌+◌, ◌≤◌, Bool, true, not, ◌&&◌, ◌||◌, ◌==◌, List}
 use Rattle.std.specs.Prelude.{[], ◌∷◌, ◌++◌, length, codes, IsTrue}
-use Rattle.std.specs.Char.{is_ascii_digit, is_ascii_alphanumeric, is_ascii_graphic}
+use Rattle.std.specs.Char.{is_ascii_alphanumeric, is_ascii_graphic}
 use Rattle.std.specs.Int.{is_in_range}
 use Rattle.std.specs.List.{list_all}
 use Rattle.std.specs.Str.Parse.{digits_value}
+use Rattle.m2m_names.specs.Name.{is_decimal, is_filled}
 
 -- a letter, a digit, `.` or `-`
 abbrev pub is_host_byte : ℕ → Bool
@@ -27,12 +28,9 @@ front_len = 7
 abbrev pub host_limit : ℕ
 host_limit = 253
 
-abbrev pub is_host_len : ℕ → Bool
-is_host_len n = is_in_range 1 host_limit n
-
 -- 1 to 253 bytes of a host
 abbrev pub is_host : List ℕ → Bool
-is_host bytes = is_host_len (length bytes) && list_all is_host_byte bytes
+is_host bytes = is_filled host_limit bytes && list_all is_host_byte bytes
 
 -- the number of a port: 1 to 65,535
 abbrev pub largest_port : ℕ
@@ -45,14 +43,10 @@ is_port_value n = is_in_range 1 largest_port n
 abbrev pub port_digits_limit : ℕ
 port_digits_limit = 5
 
-abbrev pub is_port_len : ℕ → Bool
-is_port_len n = is_in_range 1 port_digits_limit n
-
 -- 1 to 5 digits of such a number
 abbrev pub is_port_number : List ℕ → Bool
 is_port_number digits =
-    is_port_len (length digits) && list_all is_ascii_digit digits
-    && is_port_value (digits_value 10 digits)
+    is_decimal port_digits_limit digits && is_port_value (digits_value 10 digits)
 
 -- nothing, or `:` and the number of a port
 abbrev pub is_port : List ℕ → Bool
