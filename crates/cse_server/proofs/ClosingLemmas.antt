@@ -1,5 +1,5 @@
 -- The first bytes of a text, and those behind them.
-use Rattle.std.proofs.Common.{◌≡◌, ℕ, min, List, length, take, drop, inl, inr, sym, ◌∙◌, arith}
+use Rattle.std.proofs.Common.{◌≡◌, ℕ, min, List, length, take, drop, inl, inr, refl, sym, ◌∙◌, arith}
 use Rattle.std.proofs.lemmas.Bool.{cases_lt}
 use Rattle.std.proofs.lemmas.List.{take_all}
 use Rattle.std.proofs.Math.ListN.{drop_of_length-le}
