@@ -367,7 +367,7 @@ response_some : (h : ResponseHead) → 0 < length (print_response h)
 unfolding print_response
 response_some h = simp length-append (omega arith)
 
-head_some : (side : Side) (text : List ℕ) (start : Start) (lines : List Line) → IsHead side text start lines → 0 < length text
+pub head_some : (side : Side) (text : List ℕ) (start : Start) (lines : List Line) → IsHead side text start lines → 0 < length text
 head_some Request text start lines h = omega (arith, request_some h.head, ap length h.text_is)
 head_some Reply text start lines h = omega (arith, response_some h.head, ap length h.text_is)
 

@@ -27,7 +27,7 @@ use Rattle.http_frames.specs.Waiting.{piece_limit, LackChunk, MayBecomeHead, IsU
 use Rattle.http_frames.specs.Inbox.{Reads, GivesAsNeeded, most_held}
 use Rattle.http_frames.proofs.FrameLemmas.{chunks_length}
 use Rattle.http_frames.proofs.ChunkLemmas.{front_within}
-use Rattle.http_frames.proofs.LookLemmas.{some_bytes, short_of_head, short_of_body, frame_goes_on}
+use Rattle.http_frames.proofs.LookLemmas.{some_bytes, head_some, short_of_head, short_of_body, frame_goes_on}
 use Rattle.http_frames.proofs.InboxLemmas.{NeedsBytes-more, none_within, frame_begins}
 use Rattle.http_frames.proofs.TextLemmas.{written_is_read}
 
@@ -86,10 +86,16 @@ pub never_empty : (side : Side) (bytes : List ℕ) → CanNotBegin side bytes �
 never_empty Request bytes = none_stands Request bytes _ plain_request (written_is_read Request plain_request request_sound)
 never_empty Reply bytes = none_stands Reply bytes _ plain_reply (written_is_read Reply plain_reply reply_sound)
 
+no_head_of_nothing : (side : Side) → HasNoHead side []
+no_head_of_nothing side = record {
+  none = λ text rest start lines h e.
+      absurd (omega (arith, head_some side text start lines h, ap length e, length-append text rest));
+}
+
 pub empty_waits : (side : Side) (bytes : List ℕ) → length bytes ≡ 0 → WaitsFor side bytes 1
 empty_waits side [] h = record {
   more_wanted = omega arith;
-  stays = only_first side [] (none_within side [] 1 (some_bytes side []) (omega arith), inl (record { few = omega arith; may = nothing_may side }));
+  stays = only_first side [] (none_within side [] 1 (some_bytes side []) (omega arith), inl (record { few = omega arith; none = no_head_of_nothing side; may = nothing_may side }));
   most = omega arith;
 }
 empty_waits side (b ∷ bytes) h = absurd (omega arith)
@@ -97,7 +103,7 @@ empty_waits side (b ∷ bytes) h = absurd (omega arith)
 pub head_waits : (side : Side) (bytes : List ℕ) → HasNoHead side bytes → MayBecomeHead side bytes → length bytes < head_limit → WaitsFor side bytes (length bytes + 1)
 head_waits side bytes none may few = record {
   more_wanted = omega arith;
-  stays = only_first side bytes (none_within side bytes (length bytes + 1) (short_of_head side bytes none) (omega arith), inl (record { few = few; may = may }));
+  stays = only_first side bytes (none_within side bytes (length bytes + 1) (short_of_head side bytes none) (omega arith), inl (record { few = few; none = none; may = may }));
   most = omega arith;
 }
 

@@ -8,6 +8,7 @@ use Rattle.http_frames.specs.Lines.{Line}
 use Rattle.http_frames.specs.Body.{framing_of, counted, chunked}
 use Rattle.http_frames.specs.Chunks.{Chunk, IsChunk, chunks_text, chunks_body, LacksLine, LacksPart}
 use Rattle.http_frames.specs.Frame.{head_limit, body_limit, IsLimitedHead}
+use Rattle.http_frames.specs.Spans.{HasNoHead}
 use Rattle.http_frames.specs.Stream.{HasNoFrame}
 
 -- a read gives at most so many bytes
@@ -20,9 +21,10 @@ abbrev pub MayBecomeHead : Side → List ℕ → Type 0
 MayBecomeHead Request bytes = MayBecomeRequest bytes
 MayBecomeHead Reply bytes = MayBecomeResponse bytes
 
--- They are fewer than a head may have, and may become one.
+-- They are fewer than a head may have, and no head is whole, but they may become one.
 pub record LackHead (side : Side) (bytes : List ℕ) : Type 0 where
   pub few : length bytes < head_limit
+  pub none : HasNoHead side bytes
   pub may : MayBecomeHead side bytes
 
 -- They are a head within the limits and a part of the body that its lines announce.
