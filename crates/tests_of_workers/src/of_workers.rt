@@ -5,11 +5,10 @@ ghost use Rattle.m2m_io.specs.Sides.{side_of};
 use crate::serving::serve_by;
 use m2m_io::{Connection, Failed, MemDoor, MemSource, Sink, Source, Status};
 use std::alloc::{AllocError, Global};
-use std::str;
 use std::sync::Arc;
 use std::sync::atomic::{AtomicU64, Ordering};
 use std::test::Fail;
-use std::thread;
+use std::{str, thread};
 
 /// So often a client looks whether another one is served beside it.
 const LOOKS: u64 = 10_000_000;
@@ -120,7 +119,14 @@ fn a_client(
 fn two_clients(alloc: Global, came: &Arc<AtomicU64>) -> Result<Vec<Client>, AllocError> {
     let heard = Arc::new(alloc, AtomicU64::new(0))?;
     let one = a_client(alloc, OTHERS, OTHER, "\"con\":\"other\"", came, &heard)?;
-    let two = a_client(alloc, MINE, MINE_AND_NEWEST, "\"con\":\"mine\"", came, &heard)?;
+    let two = a_client(
+        alloc,
+        MINE,
+        MINE_AND_NEWEST,
+        "\"con\":\"mine\"",
+        came,
+        &heard,
+    )?;
     Ok(vec![in alloc; one, two]?)
 }
 
