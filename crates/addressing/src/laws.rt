@@ -1,5 +1,6 @@
 //! Laws of addresses, over every list.
-ghost use Rattle.std.specs.Prelude.{◌≡◌, ◌<◌, ◌≤◌, ◌^◌, ℕ, List, length, IsTrue, None, Ok, Some};
+ghost use Rattle.std.specs.Prelude.{◌≡◌, ◌<◌, ◌≤◌, ℕ, List, length, IsTrue, None, Ok, Some};
+ghost use Rattle.m2m_names.specs.Ids.{count_bound};
 ghost use Rattle.resource_model.specs.Home.{HomeData, IsHome};
 ghost use Rattle.resource_model.specs.Resource.{ResourceData, id_of};
 ghost use Rattle.tree_model.specs.Tree.{at, child_of, is_tree};
@@ -26,7 +27,7 @@ pub fn a_resource_is_named_by_its_addresses()
         at r.number nodes ≡ Some r → length (structured_of r.number nodes) ≤ point_limit →
         spot_named home (structured_of r.number nodes) nodes ≡ Some (Resource r.number) }
     ensures id { (home : HomeData) (nodes : List ResourceData) (r : ResourceData) →
-        at r.number nodes ≡ Some r → r.number < 2 ^ 63 → child_of 0 (id_of r) nodes ≡ None →
+        at r.number nodes ≡ Some r → r.number < count_bound → child_of 0 (id_of r) nodes ≡ None →
         spot_named home (id_of r) nodes ≡ Some (Resource r.number) }
 {}
 

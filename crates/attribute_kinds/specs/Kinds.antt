@@ -1,13 +1,12 @@
 -- The kinds of attribute values.
 use Rattle.std.specs.Prelude.{ℕ, ◌==◌, nat_lt, Bool, true, false, ◌&&◌, ◌||◌, List, [], ◌∷◌}
 use Rattle.std.specs.Prelude.{length, codes, is_some}
-use Rattle.std.specs.Char.{is_ascii_graphic}
 use Rattle.std.specs.Int.{is_in_range}
 use Rattle.std.specs.List.{list_all}
 use Rattle.std.specs.Option.{option_map_or}
 use Rattle.m2m_names.specs.Ids.{count_bound}
 use Rattle.m2m_names.specs.Members.{acr_name, acor_name, acop_name}
-use Rattle.m2m_names.specs.Name.{is_filled, is_free_name, is_name, is_originator}
+use Rattle.m2m_names.specs.Name.{is_free_name, is_name, is_originator, is_printable}
 use Rattle.m2m_names.specs.Operations.{all_bits}
 use Rattle.m2m_names.specs.StampReading.{moment_at}
 use Rattle.m2m_names.specs.Types.{ty_of_number}
@@ -34,7 +33,7 @@ is_cse_id (b ∷ name) = (b == 47) && is_name name
 
 -- the text of an address or of a URL: 1 to 512 printable ASCII characters without a space
 abbrev pub is_point : List ℕ → Bool
-is_point s = is_filled point_limit s && list_all is_ascii_graphic s
+is_point s = is_printable point_limit s
 
 -- a list of exactly one text of an address or of a URL
 abbrev pub is_notification_target : List Data → Bool

@@ -18,6 +18,7 @@ use Rattle.attribute_rules.specs.Kinds.{kept_kind, opening_kind, is_attr_kind, h
 use Rattle.attribute_rules.specs.Table.{AttrRow, attr_rows, is_row_for, table_rule, inherited_rule, rule_of, announced_rule, announced_source, original_of, is_permitted}
 use Rattle.attribute_rules.specs.Admission.{is_null, is_given, is_clearable, column_of, allows_value, is_fit, is_complete, are_admitted, is_admitted, attributes_in}
 use Rattle.attribute_rules.specs.Contents.{is_apart, is_no_policy, kept_row, set_row, cleared_attr, wanted_in, wanted_of, edit_in, edit_of, set_all, clear_all, edited}
+use Rattle.attribute_rules.specs.Laws.{is_beside}
 use Rattle.attribute_rules.specs.declared.table.Rule.{Rule}
 use Rattle.attribute_rules.specs.declared.table.Source.{Source}
 use Rattle.attribute_rules.specs.declared.table.Source.TheVariants.{Given, Apart, Creator, Assigned, Derived}
@@ -26,14 +27,6 @@ use Rattle.attribute_rules.specs.declared.table.Writing.TheVariants.{Create, Upd
 use Rattle.attribute_rules.proofs.ContentsLemmas.{seen, no_some, kept_choice, set_choice}
 
 -- ---- a fact of the table
-
--- the value is asked for, but not kept as it is given
-abbrev is_beside : Source → Bool
-is_beside (Given kind) = false
-is_beside (Apart kind) = true
-is_beside Creator = true
-is_beside (Assigned kind) = false
-is_beside Derived = false
 
 -- what isn't kept as it is given is told apart in a creation, and of it an update names `et` alone
 abbrev is_parted : Attr → Rule → Bool

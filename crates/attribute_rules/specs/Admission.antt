@@ -1,5 +1,5 @@
 -- Which contents of a Create and of an Update are admitted, and what is wrong with the others.
-use Rattle.std.specs.Prelude.{ℕ, Bool, true, false, not, ◌&&◌, ◌||◌, List, [], ◌∷◌, bytes_eq}
+use Rattle.std.specs.Prelude.{ℕ, Bool, true, false, not, ◌&&◌, ◌||◌, List, [], bytes_eq}
 use Rattle.std.specs.Prelude.{Option, Some, None, find, is_some, is_none, option_map}
 use Rattle.std.specs.Prelude.{option_and_then, unwrap_or, if◌then◌else◌}
 use Rattle.std.specs.List.{filter_map, list_all}
@@ -10,7 +10,7 @@ use Rattle.m2m_names.specs.declared.attributes.Attr.{Attr}
 use Rattle.m2m_names.specs.declared.attributes.Attr.TheVariants.{Acpi}
 use Rattle.m2m_names.specs.declared.types.Ty.{Ty}
 use Rattle.m2m_value.specs.Data.{Data, Entry}
-use Rattle.m2m_value.specs.View.{as_object, member_of}
+use Rattle.m2m_value.specs.View.{as_object, member_of, only_member}
 use Rattle.attribute_kinds.specs.Kinds.{has_kind, is_content}
 use Rattle.attribute_rules.specs.Table.{rule_of, is_mandatory, is_permitted, mandatory_attrs}
 use Rattle.attribute_rules.specs.declared.table.Optionality.{Optionality}
@@ -32,9 +32,8 @@ use Rattle.attribute_rules.specs.declared.faults.AttrFault.TheVariants.{AcpiNotA
 
 -- the value of the one member, where it has this name
 abbrev pub only_value : List ℕ → List Entry → Option Data
-only_value name [] = None
-only_value name (e ∷ []) = if bytes_eq e.0 name then Some e.1 else None
-only_value name (e ∷ f ∷ es) = None
+only_value name es =
+    option_and_then (λ (e : Entry). if bytes_eq e.0 name then Some e.1 else None) (only_member es)
 
 -- the attributes that a content names, with their values: it is an object with exactly one member,
 -- named by the type, whose value is an object (TS-0004, 8.4)
@@ -95,9 +94,7 @@ is_fit writing ty e =
 
 -- exactly one attribute is named
 abbrev pub is_alone : List Entry → Bool
-is_alone [] = false
-is_alone (e ∷ []) = true
-is_alone (e ∷ f ∷ es) = false
+is_alone es = is_some (only_member es)
 
 -- a creation names what it has to; an update that names `acpi` names nothing else
 abbrev pub is_complete : Writing → Ty → List Entry → Bool

@@ -1,6 +1,6 @@
 -- What a creation wants, and what an update changes.
-use Rattle.std.specs.Prelude.{ℕ, ◌==◌, Bool, true, false, ◌||◌, List, [], ◌∷◌, length, bytes_eq}
-use Rattle.std.specs.Prelude.{Option, Some, None, option_and_then, if◌then◌else◌}
+use Rattle.std.specs.Prelude.{ℕ, ◌==◌, Bool, true, false, ◌&&◌, ◌||◌, List, [], ◌∷◌, length}
+use Rattle.std.specs.Prelude.{bytes_eq, Option, Some, None, option_and_then, if◌then◌else◌}
 use Rattle.std.specs.List.{filter_map}
 use Rattle.std.specs.Option.{option_or, option_map_or}
 use Rattle.m2m_names.specs.Attributes.{attr_short, attr_of_short}
@@ -19,10 +19,15 @@ use Rattle.attribute_rules.specs.declared.contents.Wanted.{Wanted}
 abbrev pub is_empty_list : Data → Bool
 is_empty_list d = option_map_or (λ (ds : List Data). length ds == 0) (as_list d) false
 
+-- the attribute names policies: those by which the resource is judged, or a fan-out to it
+abbrev pub names_policies : Attr → Bool
+names_policies Acpi = true
+names_policies Macp = true
+names_policies _ = false
+
+-- the value names none
 abbrev pub is_no_policy : Attr → Data → Bool
-is_no_policy Acpi d = is_empty_list d
-is_no_policy Macp d = is_empty_list d
-is_no_policy _ d = false
+is_no_policy attr d = names_policies attr && is_empty_list d
 
 -- what a creation says beside its attributes: the name, the moment of expiry, and that the
 -- originator is to be kept

@@ -5,7 +5,9 @@ use Rattle.std.specs.Option.{option_map_or}
 use Rattle.m2m_names.specs.declared.attributes.Attr.{Attr}
 use Rattle.m2m_names.specs.declared.types.Ty.{Ty}
 use Rattle.resource_model.specs.Attributes.{Row, is_attr}
+use Rattle.attribute_kinds.specs.declared.kinds.Kind.TheVariants.{Policies}
 use Rattle.attribute_rules.specs.Admission.{is_clearable, is_given}
+use Rattle.attribute_rules.specs.Contents.{is_apart, names_policies}
 use Rattle.attribute_rules.specs.Table.{AttrRow, is_type_among, is_mandatory, is_permitted}
 use Rattle.attribute_rules.specs.Table.{announceable_types, rule_of}
 use Rattle.attribute_rules.specs.declared.table.Rule.{Rule}
@@ -38,6 +40,29 @@ has_columns row =
     if is_assigned row.rule.source
     then not (is_permitted row.rule.create || is_permitted row.rule.update)
     else is_permitted row.rule.create
+
+-- a request asks for the value, and the resource doesn't keep it as it is given
+abbrev pub is_beside : Source → Bool
+is_beside (Given kind) = false
+is_beside (Apart kind) = true
+is_beside Creator = true
+is_beside (Assigned kind) = false
+is_beside Derived = false
+
+-- a creation says beside its attributes just what a resource doesn't keep as it is given
+abbrev pub is_told_apart : AttrRow → Bool
+is_told_apart row =
+    if is_apart row.attr then is_beside row.rule.source else not (is_beside row.rule.source)
+
+-- the attributes that name policies are those whose values are lists of their ids
+abbrev pub is_of_policies : Source → Bool
+is_of_policies (Given Policies) = true
+is_of_policies _ = false
+
+abbrev pub has_policies : AttrRow → Bool
+has_policies row =
+    if names_policies row.attr then is_of_policies row.rule.source
+    else not (is_of_policies row.rule.source)
 
 -- what an update may name and not clear, a creation has to name
 abbrev pub has_needed : AttrRow → Bool

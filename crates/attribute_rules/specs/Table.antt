@@ -1,7 +1,7 @@
 -- The attributes of each type: where their values come from, and which requests may name them.
 use Rattle.std.specs.Prelude.{Bool, true, false, not, ◌&&◌, List, [], ◌∷◌, map, filter, Option}
-use Rattle.std.specs.Prelude.{Some, None, find, option_map, option_and_then, if◌then◌else◌}
-use Rattle.std.specs.List.{list_any}
+use Rattle.std.specs.Prelude.{Some, None, find, is_some, option_map, option_and_then, if◌then◌else◌}
+use Rattle.std.specs.List.{filter_map, list_any}
 use Rattle.std.specs.Option.{option_or, option_map_or}
 use Rattle.m2m_names.specs.declared.attributes.Attr.{Attr}
 use Rattle.m2m_names.specs.declared.attributes.Attr.TheVariants.{Aa, Acpi, Aei, Api, Apn, At, Cb}
@@ -14,7 +14,7 @@ use Rattle.m2m_names.specs.declared.attributes.Attr.TheVariants.{St, Su, Ty as O
 use Rattle.m2m_names.specs.declared.types.Ty.{Ty}
 use Rattle.m2m_names.specs.declared.types.Ty.TheVariants.{AccessControlPolicy, Ae, Container}
 use Rattle.m2m_names.specs.declared.types.Ty.TheVariants.{ContentInstance, CseBase, Group}
-use Rattle.m2m_names.specs.declared.types.Ty.TheVariants.{PollingChannel, RemoteCse, Subscription}
+use Rattle.m2m_names.specs.declared.types.Ty.TheVariants.{RemoteCse, Subscription}
 use Rattle.m2m_names.specs.declared.types.Ty.TheVariants.{AccessControlPolicyAnnc, AeAnnc}
 use Rattle.m2m_names.specs.declared.types.Ty.TheVariants.{ContainerAnnc, ContentInstanceAnnc}
 use Rattle.m2m_names.specs.declared.types.Ty.TheVariants.{GroupAnnc}
@@ -38,21 +38,26 @@ use Rattle.attribute_rules.specs.declared.table.Rule.{Rule}
 
 -- ---- groups of types
 
+-- the type of the resources of which those of an announced type are announced (TS-0001, 9.6.26)
+abbrev pub original_of : Ty → Option Ty
+original_of AccessControlPolicyAnnc = Some AccessControlPolicy
+original_of AeAnnc = Some Ae
+original_of ContainerAnnc = Some Container
+original_of ContentInstanceAnnc = Some ContentInstance
+original_of GroupAnnc = Some Group
+original_of _ = None
+
 -- the types of announced resources
 abbrev pub announced_types : List Ty
-announced_types =
-    AccessControlPolicyAnnc ∷ AeAnnc ∷ ContainerAnnc ∷ ContentInstanceAnnc ∷ GroupAnnc ∷ []
+announced_types = filter (λ ty. is_some (original_of ty)) all_types
 
 -- the types whose resources can be announced
 abbrev pub announceable_types : List Ty
-announceable_types =
-    AccessControlPolicy ∷ Ae ∷ Container ∷ ContentInstance ∷ Group ∷ []
+announceable_types = filter_map original_of all_types
 
 -- the types whose resources requests create: all but the CSEBase
 abbrev pub created_types : List Ty
-created_types =
-    AccessControlPolicy ∷ Ae ∷ Container ∷ ContentInstance ∷ Group ∷ PollingChannel ∷ RemoteCse
-    ∷ Subscription ∷ announced_types
+created_types = filter (λ ty. not (is_ty ty CseBase)) all_types
 
 -- the types whose resources requests may link to policies
 abbrev pub linked_types : List Ty
@@ -66,15 +71,6 @@ authored_types = Container ∷ ContentInstance ∷ Group ∷ Subscription ∷ []
 -- the type is among these
 abbrev pub is_type_among : Ty → List Ty → Bool
 is_type_among ty types = list_any (is_ty ty) types
-
--- the type of the resources of which those of an announced type are announced (TS-0001, 9.6.26)
-abbrev pub original_of : Ty → Option Ty
-original_of AccessControlPolicyAnnc = Some AccessControlPolicy
-original_of AeAnnc = Some Ae
-original_of ContainerAnnc = Some Container
-original_of ContentInstanceAnnc = Some ContentInstance
-original_of GroupAnnc = Some Group
-original_of _ = None
 
 -- ---- the table
 

@@ -14,20 +14,24 @@ ghost use Rattle.attribute_rules.specs.Admission.{fault_of, is_admitted, is_name
 ghost use Rattle.attribute_rules.specs.Contents.{edit_in, edit_of, edited, wanted_in, wanted_of};
 ghost use Rattle.attribute_rules.specs.Contents.{value_created, value_updated};
 ghost use Rattle.attribute_rules.specs.Kinds.{have_kinds, kind_of};
-ghost use Rattle.attribute_rules.specs.Laws.{has_columns, has_needed, has_original, stand_once};
-ghost use Rattle.attribute_rules.specs.Laws.{may_clear, may_name, may_set};
+ghost use Rattle.attribute_rules.specs.Laws.{has_columns, has_needed, has_original, has_policies};
+ghost use Rattle.attribute_rules.specs.Laws.{is_told_apart, may_clear, may_name, may_set};
+ghost use Rattle.attribute_rules.specs.Laws.{stand_once};
 ghost use Rattle.attribute_rules.specs.Table.{attr_rows};
 ghost use Rattle.attribute_rules.specs.declared.table.Writing.{Writing};
 ghost use Rattle.attribute_rules.specs.declared.table.Writing.TheVariants.{Create, Update};
 
 /// Of the table, row by row: no type has an attribute twice; no request names what the CSE gives,
 /// and a creation may name all else; what an update may name and not clear, a creation has to name;
-/// what is announced is of types that can be.
+/// what is announced is of types that can be; the attributes that a creation says beside those that
+/// it keeps are those of such a source, and those that name policies are those of such a kind.
 pub fn the_table_is_whole()
     ensures once { IsTrue (stand_once attr_rows) }
     ensures columns { IsTrue (list_all has_columns attr_rows) }
     ensures needed { IsTrue (list_all has_needed attr_rows) }
     ensures originals { IsTrue (list_all has_original attr_rows) }
+    ensures beside { IsTrue (list_all is_told_apart attr_rows) }
+    ensures policies { IsTrue (list_all has_policies attr_rows) }
 {}
 
 /// A content is admitted exactly where it has no fault.

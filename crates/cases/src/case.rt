@@ -30,6 +30,8 @@ pub struct Streams {
 }
 
 impl Streams {
+    /// Streams of one connection of which nothing is said yet: nothing is read, and nothing must be
+    /// written.
     pub fn new(alloc: Global) -> Streams {
         Streams {
             input: Vec::new(alloc),
@@ -51,6 +53,7 @@ pub struct Setting {
 }
 
 impl Setting {
+    /// Neither is said yet.
     pub fn new() -> Setting {
         Setting {
             words: None,
@@ -85,6 +88,7 @@ pub struct Case {
 }
 
 impl Case {
+    /// A case of this title, which stands on that line, of which nothing else is said yet.
     pub fn new(alloc: Global, title: &str, line: usize) -> Result<Case, AllocError> {
         Ok(Case {
             title: String::from_str(alloc, title)?,

@@ -18,6 +18,7 @@ pub struct Sends {
 }
 
 impl Sends {
+    /// A client that sends this input, and waits for the replies that are counted there or not.
     pub fn new(input: MemSource, waits: bool, puts: Arc<AtomicU64>) -> Sends {
         Sends {
             input,
@@ -67,6 +68,7 @@ pub struct Gets {
 }
 
 impl Gets {
+    /// A client that gets what is put there; the puts are counted here.
     pub fn new(out: MemSink, puts: Arc<AtomicU64>) -> Gets {
         Gets {
             out,
@@ -75,6 +77,7 @@ impl Gets {
         }
     }
 
+    /// The bytes that it got.
     pub fn written(&self) -> &[u8] {
         self.out.written()
     }

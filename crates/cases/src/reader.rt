@@ -13,7 +13,7 @@ enum Goal {
     Input,
     Output,
     Answer,
-    Asked,
+    Exchange,
 }
 
 /// A block that is read.
@@ -195,7 +195,7 @@ impl Reader {
             return Err(Wrong::Why("no host"));
         }
         let host = String::from_str(self.alloc, host)?;
-        self.begin_named_block(Goal::Asked, host, rest)
+        self.begin_named_block(Goal::Exchange, host, rest)
     }
 
     fn begin_block(&mut self, goal: Goal, rest: &str) -> Result<(), Wrong> {
@@ -347,7 +347,7 @@ fn add_block(
         }
         Goal::Output => case.last_streams().out.extend_from_slice(bytes)?,
         Goal::Answer => case.answers.push(Vec::from_slice(alloc, bytes)?)?,
-        Goal::Asked => push_exchange(alloc, &mut case.asked, name.as_bytes(), bytes)?,
+        Goal::Exchange => push_exchange(alloc, &mut case.asked, name.as_bytes(), bytes)?,
     }
     Ok(())
 }

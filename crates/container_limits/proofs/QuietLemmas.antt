@@ -8,16 +8,16 @@ use Rattle.m2m_names.specs.declared.attributes.Attr.TheVariants.{Mia}
 use Rattle.m2m_names.specs.declared.types.Ty.TheVariants.{CseBase, ContentInstance}
 use Rattle.resource_model.specs.Attributes.{count_at}
 use Rattle.resource_model.specs.Resource.{ResourceData, is_ty}
-use Rattle.tree_model.specs.Tree.{at, age_end, end_by, lesser, is_instance, is_quiet, are_quiet, instances_of}
+use Rattle.tree_model.specs.Tree.{at, age_of, age_end, end_by, lesser, is_instance, is_quiet, are_quiet, instances_of}
 use Rattle.tree_model.proofs.QuietLemmas.{lesser_least}
-use Rattle.container_limits.specs.Limits.{is_due_by, is_age, has_mia, is_mia_of}
+use Rattle.container_limits.specs.Limits.{is_due_by, is_age, is_mia_of}
 
 -- the end by the age that the container allows
 same_age : (mia : Option ℕ) (age : ℕ) → is_age mia age ≡ true → mia ≡ Some age
 same_age None age same = cc
 same_age (Some own) age same = ap Some (eqb-true own age same)
 
-same_end : (container : Option ResourceData) (age : ℕ) (r : ResourceData) → has_mia container age ≡ true → age_end container r ≡ Some (r.ct + age)
+same_end : (container : Option ResourceData) (age : ℕ) (r : ResourceData) → is_age (age_of container) age ≡ true → age_end container r ≡ Some (r.ct + age)
 same_end None age r has = cc
 same_end (Some c) age r has = ap (option_map (λ a. r.ct + a)) (same_age (count_at Mia c.attrs) age has)
 

@@ -8,7 +8,7 @@ use Rattle.std.specs.Option.{is_none, option_map_or}
 use Rattle.m2m_names.specs.declared.attributes.Attr.TheVariants.{Mbs, Mia, Mni}
 use Rattle.resource_model.specs.Attributes.{count_at}
 use Rattle.resource_model.specs.Resource.{ResourceData}
-use Rattle.tree_model.specs.Tree.{has, instance_size, end_by}
+use Rattle.tree_model.specs.Tree.{age_of, has, instance_size, end_by}
 use Rattle.container_limits.specs.declared.limits.Limits.{Limits}
 
 -- at most the limit, where there is one
@@ -64,16 +64,13 @@ is_in_state due mia moment r =
 abbrev pub goes : Bool → Option ℕ → ℕ → ResourceData → Bool
 goes outside mia moment r = outside || is_due_by mia moment r
 
--- a container allows this age
+-- there is a greatest age, and it is this one
 abbrev pub is_age : Option ℕ → ℕ → Bool
 is_age mia age = option_map_or (λ own. own == age) mia false
 
-abbrev pub has_mia : Option ResourceData → ℕ → Bool
-has_mia container age = option_map_or (λ c. is_age (count_at Mia c.attrs) age) container false
-
 -- no greatest age is asked for, or the one that the container allows
 abbrev pub is_mia_of : Option ResourceData → Option ℕ → Bool
-is_mia_of container mia = option_map_or (has_mia container) mia true
+is_mia_of container mia = option_map_or (is_age (age_of container)) mia true
 
 -- what stays of these instances: of those that aren't due, the longest suffix that fits
 abbrev pub kept : Limits → Option ℕ → ℕ → List ResourceData → List ResourceData

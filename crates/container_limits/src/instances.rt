@@ -1,8 +1,8 @@
 //! The instances of a container, one by one, and what they add up to.
 ghost use Rattle.std.specs.Prelude.{◌≡◌, ◌+◌, ◌-◌, ◌^◌, ◌<◌, length, filter, sum_by};
 ghost use Rattle.std.specs.Prelude.{option_map, option_to_list, unwrap_or};
-ghost use Rattle.tree_model.specs.Tree.{instances_of, instance_size};
-ghost use Rattle.container_limits.specs.Limits.{lasts, is_in_state, is_age, has_mia, is_mia_of};
+ghost use Rattle.tree_model.specs.Tree.{age_of, instances_of, instance_size};
+ghost use Rattle.container_limits.specs.Limits.{lasts, is_in_state, is_age, is_mia_of};
 ghost use Rattle.container_limits.specs.Limits.{IsQuiet};
 
 use crate::limits::{Total, is_due_by};
@@ -133,7 +133,7 @@ fn is_mia_of(container: Option<&Resource>, mia: Option<u64>) -> bool
 }
 
 fn has_mia(container: Option<&Resource>, age: u64) -> bool
-    ensures { result ≡ has_mia (option_map (λ r. r.now) container.entry) age }
+    ensures { result ≡ is_age (age_of (option_map (λ r. r.now) container.entry)) age }
 {
     match container {
         Some(container) => is_age(container.attrs().count(Attr::Mia), age),

@@ -14,11 +14,11 @@ use Rattle.m2m_value.specs.View.{as_text}
 use Rattle.resource_model.specs.Attributes.{count_at}
 use Rattle.resource_model.specs.Home.{HomeData}
 use Rattle.resource_model.specs.Resource.{ResourceData, is_ty, has_number, cse_id}
-use Rattle.tree_model.specs.Tree.{at, is_under, is_kin, channels_of, instances_of, instance_size, depth, is_due, are_below, same_text, has_cse_id, may_stand, is_tree}
+use Rattle.tree_model.specs.Tree.{at, is_under, is_kin, channels_of, instances_of, instance_size, level_of, is_due, are_below, same_text, has_cse_id, may_stand, is_tree}
 use Rattle.tree_model.proofs.TreeLemmas.{at_has}
 use Rattle.tree_model.proofs.GrowthLemmas.{IsNext, next_fits, tree_from_well_formed, below_has, next_above_parent, stands}
 use Rattle.tree_model.proofs.KeptLemmas.{is_well_formed-append}
-use Rattle.tree_model.proofs.ChangeLemmas.{picked-append, depth-append}
+use Rattle.tree_model.proofs.ChangeLemmas.{picked-append, level_of-append}
 use Rattle.tree_model.proofs.QuietLemmas.{all_by_number, found_passes, due-append}
 use Rattle.attribute_rules.specs.Kinds.{are_kinds}
 use Rattle.container_limits.specs.Limits.{is_within}
@@ -77,14 +77,14 @@ base_grown : (home : HomeData) (nodes : List ResourceData) (r : ResourceData) �
 base_grown home [] r base = absurd (both_ways _ refl base)
 base_grown home (s ∷ nodes) r base = base
 
-shallow_grown : (nodes : List ResourceData) (r : ResourceData) → is_tree nodes ≡ true → are_below r.number nodes ≡ true → depth r.parent nodes < 32 → list_all (is_shallow nodes) nodes ≡ true → list_all (is_shallow (nodes ++ r ∷ [])) (nodes ++ r ∷ []) ≡ true
+shallow_grown : (nodes : List ResourceData) (r : ResourceData) → is_tree nodes ≡ true → are_below r.number nodes ≡ true → level_of r.parent nodes < 32 → list_all (is_shallow nodes) nodes ≡ true → list_all (is_shallow (nodes ++ r ∷ [])) (nodes ++ r ∷ []) ≡ true
 shallow_grown nodes r tree below shallow all =
     let same : has_number r.number r ≡ true = eq-eqb r.number r.number refl in
-    let new : depth r.number (nodes ++ r ∷ []) ≡ depth r.parent nodes + 1 = depth-append r.number nodes r ∙ rw same refl in
+    let new : level_of r.number (nodes ++ r ∷ []) ≡ level_of r.parent nodes + 1 = level_of-append r.number nodes r ∙ rw same refl in
     all_grown _ nodes r
     (all_turned (is_shallow nodes) _ nodes r tree below (λ s old held.
     let apart : has_number s.number r ≡ false = ne_eqb r.number s.number (λ e. let less : s.number < r.number = old.number in omega arith) in
-    ap (λ (d : ℕ). nat_le d 32) (depth-append s.number nodes r ∙ rw apart refl) ∙ held) all)
+    ap (λ (d : ℕ). nat_le d 32) (level_of-append s.number nodes r ∙ rw apart refl) ∙ held) all)
     (le-leb _ 32 (omega arith))
 
 -- ---- CSE-IDs

@@ -11,7 +11,7 @@ use Rattle.m2m_names.specs.declared.types.Ty.{Ty}
 use Rattle.m2m_names.specs.declared.types.Ty.TheVariants.{Container}
 use Rattle.m2m_value.specs.Data.{Data, Entry}
 use Rattle.m2m_value.specs.Node.{AreSorted}
-use Rattle.m2m_value.specs.View.{as_object, member_of}
+use Rattle.m2m_value.specs.View.{as_object, member_of, only_member}
 use Rattle.primitive_json.specs.declared.request.RequestParts.{RequestParts}
 use Rattle.resource_model.specs.Attributes.{Row, is_attr, value_of}
 use Rattle.resource_model.specs.Resource.{ResourceData, is_ty}
@@ -26,7 +26,7 @@ use Rattle.container_limits.specs.Limits.{limits_of}
 use Rattle.entity_model.specs.Entity.{EntityData}
 use Rattle.request_rules.specs.Policies.{link_row}
 use Rattle.request_rules.specs.Requests.{content_for}
-use Rattle.request_rules.specs.Rights.{is_link, is_relink, only_member, sole}
+use Rattle.request_rules.specs.Rights.{is_link, is_relink, sole}
 use Rattle.create_delete.specs.Changing.{updated_resource}
 use Rattle.create_delete.specs.Guard.{DiffersIn, IsUpdated, link_attrs}
 use Rattle.create_delete.proofs.NewcomerLemmas.{lacks_link}

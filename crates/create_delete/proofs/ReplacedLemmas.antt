@@ -10,8 +10,8 @@ use Rattle.m2m_names.specs.Name.{is_free_name}
 use Rattle.m2m_names.specs.declared.types.Ty.TheVariants.{ContentInstance, CseBase, PollingChannel}
 use Rattle.resource_model.specs.Home.{HomeData}
 use Rattle.resource_model.specs.Resource.{ResourceData, is_ty, has_number, cse_id}
-use Rattle.tree_model.specs.Tree.{at, has, replaced, is_under, is_kin, is_instance, channels_of, depth, due_under, is_due, is_tree, standing}
-use Rattle.tree_model.proofs.ChangeLemmas.{picked-replaced, unpicked-replaced, depth-replaced}
+use Rattle.tree_model.specs.Tree.{at, has, replaced, is_under, is_kin, is_instance, channels_of, level_of, due_under, is_due, is_tree, standing}
+use Rattle.tree_model.proofs.ChangeLemmas.{picked-replaced, unpicked-replaced, level_of-replaced}
 use Rattle.tree_model.proofs.GrowthLemmas.{below_has}
 use Rattle.tree_model.proofs.KeptLemmas.{map-replaced_same, is_tree-replaced, is_well_formed-replaced}
 use Rattle.tree_model.proofs.QuietLemmas.{all_by_number, found_passes, due-replaced_other}
@@ -113,8 +113,8 @@ module _ (nodes : List ResourceData) (c : ResourceData) (stood : option_map stan
         | inr f ↦ rw f refl
       ]
 
-  depth_replaced : (n : ℕ) → depth n (replaced c nodes) ≡ depth n nodes
-  depth_replaced n = depth-replaced c n nodes (λ s found. alike (λ r. r.parent) same_parent s found)
+  depth_replaced : (n : ℕ) → level_of n (replaced c nodes) ≡ level_of n nodes
+  depth_replaced n = level_of-replaced c n nodes (λ s found. alike (λ r. r.parent) same_parent s found)
 
   pub still_there : has c.number nodes ≡ true
   still_there = at_has c.number nodes old.before old.found
@@ -153,7 +153,7 @@ framed_replaced e c framed new =
     all_deep : list_all (is_shallow (replaced c e.nodes)) (replaced c e.nodes) ≡ true
     all_deep = all_replaced _ c e.nodes
         (all_weaker _ _ (λ s held. ap (λ (d : ℕ). nat_le d 32) (depth_replaced e.nodes c new.stood s.number) ∙ held) e.nodes framed.depth)
-        (ap (λ (d : ℕ). nat_le d 32) (depth_replaced e.nodes c new.stood c.number) ∙ ap (λ (n : ℕ). nat_le (depth n e.nodes) 32) (sym (at_number c.number e.nodes was.before was.found)) ∙ found_passes (is_shallow e.nodes) c.number e.nodes was.before framed.depth was.found)
+        (ap (λ (d : ℕ). nat_le d 32) (depth_replaced e.nodes c new.stood c.number) ∙ ap (λ (n : ℕ). nat_le (level_of n e.nodes) 32) (sym (at_number c.number e.nodes was.before was.found)) ∙ found_passes (is_shallow e.nodes) c.number e.nodes was.before framed.depth was.found)
 
     all_channels : list_all (has_one_channel (replaced c e.nodes)) (replaced c e.nodes) ≡ true
     all_channels = all_replaced _ c e.nodes

@@ -16,6 +16,7 @@ use Rattle.m2m_names.specs.declared.operations.Op.TheVariants.{Create, Retrieve,
 use Rattle.m2m_names.specs.declared.operations.Op.TheVariants.{Notify}
 use Rattle.m2m_names.specs.declared.types.Ty.TheVariants.{Container, ContentInstance}
 use Rattle.m2m_value.specs.Data.{Data, Entry, number, object, pairs_of, text}
+use Rattle.primitive_json.specs.Kinds.{nothing_wanted, attributes_wanted, address_wanted}
 use Rattle.primitive_json.specs.declared.request.RequestParts.{RequestParts}
 use Rattle.resource_model.specs.Attributes.{Row, is_attr}
 use Rattle.resource_model.specs.Resource.{ResourceData, has_number, is_ty}
@@ -97,9 +98,9 @@ attributes_and_address e r =
 -- address, or both (TS-0001, 8.1.2)
 abbrev pub created_content : ℤ → EntityData → ResourceData → Option Data
 created_content rcn e r =
-    if int_eq rcn (pos 0) then None else
-    if int_eq rcn (pos 1) then Some (attributes_of e.home e.nodes r) else
-    if int_eq rcn (pos 2)
+    if int_eq rcn nothing_wanted then None else
+    if int_eq rcn attributes_wanted then Some (attributes_of e.home e.nodes r) else
+    if int_eq rcn address_wanted
     then Some (object (pairs_of ((codes "m2m:uri", address_last e r) ∷ [])))
     else Some (attributes_and_address e r)
 
@@ -152,7 +153,7 @@ told_rows e es r = filter (is_told es) (shown_rows e.home e.nodes r)
 -- the content of the reply by the result content that is asked for: nothing, or these
 abbrev pub updated_content : ℤ → EntityData → List Entry → ResourceData → Option Data
 updated_content rcn e es r =
-    if int_eq rcn (pos 0) then None else Some (wrapped r.ty (told_rows e es r))
+    if int_eq rcn nothing_wanted then None else Some (wrapped r.ty (told_rows e es r))
 
 -- what comes of an update that names these attributes and leaves the resource so
 abbrev pub updated_to : EntityData → RequestParts → List Entry → ResourceData → Effect

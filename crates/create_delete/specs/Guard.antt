@@ -1,7 +1,6 @@
 -- What an operation may change, and by what right (TS-0001, 9.6.2).
 use Rattle.std.specs.Prelude.{◌≡◌, ◌≢◌, ◌⊎◌, ℕ, Bool, false, List, [], ◌∷◌, Some, None}
 use Rattle.std.specs.Prelude.{IsTrue, if◌then◌else◌}
-use Rattle.m2m_names.specs.Operations.{op_row}
 use Rattle.m2m_names.specs.declared.attributes.Attr.{Attr}
 use Rattle.m2m_names.specs.declared.attributes.Attr.TheVariants.{Acpi, St}
 use Rattle.m2m_names.specs.declared.operations.Op.{Op}
@@ -16,7 +15,7 @@ use Rattle.resource_model.specs.Attributes.{value_of}
 use Rattle.resource_model.specs.Resource.{ResourceData, is_ty}
 use Rattle.tree_model.specs.Tree.{at, is_at_or_below, is_instance}
 use Rattle.policy_eval.specs.Alike.{is_attr_in}
-use Rattle.policy_eval.specs.Rights.{relinks}
+use Rattle.policy_eval.specs.Rights.{create_bit, update_bit, delete_bit, relinks}
 use Rattle.entity_model.specs.Entity.{EntityData}
 use Rattle.request_rules.specs.Requests.{content_for}
 use Rattle.request_rules.specs.Rights.{is_granted}
@@ -63,7 +62,7 @@ filling_attrs = St ∷ []
 abbrev pub IsChangedByRight :
     EntityData → List ℕ → EntityData → ResourceData → ResourceData → Type 0
 IsChangedByRight before o after r s =
-    (IsTrue (is_granted before o (op_row Update).bit r.number) × IsUpdated r s)
+    (IsTrue (is_granted before o update_bit r.number) × IsUpdated r s)
     ⊎ ((IsTrue (relinks before.home before.nodes o r.number) × DiffersIn (link_attrs r.ty) r s)
     ⊎ ((i : ResourceData) × IsNew before.nodes after.nodes i × IsTrue (is_instance r.number i)
     × DiffersIn filling_attrs r s))
@@ -71,9 +70,9 @@ IsChangedByRight before o after r s =
 -- the operation may push out instances of the container of the number: by CREATE it adds one, or by
 -- UPDATE it changes the container (TS-0001, 9.6.6)
 abbrev pub may_push_out : Op → EntityData → List ℕ → ℕ → Bool
-may_push_out Create e o n = is_granted e o (op_row Create).bit n
+may_push_out Create e o n = is_granted e o create_bit n
 may_push_out Retrieve e o n = false
-may_push_out Update e o n = is_granted e o (op_row Update).bit n
+may_push_out Update e o n = is_granted e o update_bit n
 may_push_out Delete e o n = false
 may_push_out Notify e o n = false
 
@@ -82,7 +81,7 @@ may_push_out Notify e o n = false
 abbrev pub IsRemovedByRight : Op → EntityData → List ℕ → ℕ → ResourceData → Type 0
 IsRemovedByRight op before o n r =
     (IsTrue (is_at_or_below n before.nodes r)
-    × IsTrue (is_granted before o (op_row Delete).bit n))
+    × IsTrue (is_granted before o delete_bit n))
     ⊎ (IsTrue (is_instance n r) × IsTrue (may_push_out op before o n))
 
 -- An operation on the resource of a number changes nothing but by a grant to the originator, in the
@@ -90,7 +89,7 @@ IsRemovedByRight op before o n r =
 pub record ChangesByRight (op : Op) (before : EntityData) (o : List ℕ) (n : ℕ)
     (after : EntityData) : Type 0 where
   pub created : (r : ResourceData) → IsNew before.nodes after.nodes r
-      → (r.parent ≡ n) × IsTrue (is_granted before o (op_row Create).bit n)
+      → (r.parent ≡ n) × IsTrue (is_granted before o create_bit n)
   pub changed : (r s : ResourceData) → IsChanged before.nodes after.nodes r s
       → IsChangedByRight before o after r s
   pub removed : (r : ResourceData) → IsGone before.nodes after.nodes r

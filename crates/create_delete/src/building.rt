@@ -1,6 +1,7 @@
 //! The resource that a Create makes.
-ghost use Rattle.std.specs.Prelude.{◌≡◌, ◌<◌, ◌^◌, true, IfOk, IsTrue, IsUtf8, OnOk, Some};
+ghost use Rattle.std.specs.Prelude.{◌≡◌, ◌<◌, true, IfOk, IsTrue, IsUtf8, OnOk, Some};
 ghost use Rattle.std.specs.Prelude.{pos, unwrap_or};
+ghost use Rattle.m2m_names.specs.Ids.{count_bound};
 ghost use Rattle.m2m_names.specs.Name.{is_originator};
 ghost use Rattle.m2m_names.specs.Stamps.{last_moment};
 ghost use Rattle.m2m_value.specs.Data as json;
@@ -34,14 +35,14 @@ pub(crate) fn tell_soundness<T: Tree>(entity: &Entity<T>)
 /// The state tag of a resource after one more change.
 pub(crate) fn next_state(resource: &Resource) -> u64
     ensures value { result ≡ spec.next_state resource.now }
-    ensures bound { result < 2 ^ 63 }
+    ensures bound { result < count_bound }
 {
     let state = resource.attrs().count(Attr::St).unwrap_or(0);
     (state + 1).min(LARGEST_COUNT)
 }
 
 pub(crate) fn set_count(attrs: &mut Attrs, attr: Attr, n: u64) -> Result<(), OutOfMemory>
-    requires { n < 2 ^ 63 }
+    requires { n < count_bound }
     ensures { OnOk result (attrs.new ≡ with_value attr (json.number (pos n)) attrs.old) }
 {
     attrs.set(attr, Val::of_num(n as i64))
@@ -65,7 +66,7 @@ fn give<T: Tree>(
     attrs: &mut Attrs,
 ) -> Result<(), OutOfMemory>
     requires originator { IsTrue (is_originator o.now) }
-    requires size { is_ty ty ContentInstance ≡ true → spec.size_named members.now < 2 ^ 63 }
+    requires size { is_ty ty ContentInstance ≡ true → spec.size_named members.now < count_bound }
     ensures { OnOk result (attrs.new ≡ with_rows (spec.given_rows ty
         (creation_of entity.now o.now ty parent.now members.now)) attrs.old) }
 {
@@ -130,7 +131,7 @@ fn fill<T: Tree>(
     attrs: &mut Attrs,
 ) -> Result<(), OutOfMemory>
     requires originator { IsTrue (is_originator o.now) }
-    requires size { is_ty ty ContentInstance ≡ true → spec.size_named members.now < 2 ^ 63 }
+    requires size { is_ty ty ContentInstance ≡ true → spec.size_named members.now < count_bound }
     ensures { OnOk result (attrs.new ≡ with_rows (spec.rows_besides
         (creation_of entity.now o.now ty parent.now members.now)) attrs.old) }
 {

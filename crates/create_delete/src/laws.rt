@@ -1,6 +1,5 @@
 //! What holds of every request to a resource.
 ghost use Rattle.std.specs.Prelude.{◌≡◌, ℕ, false, List, Some, None, IsTrue};
-ghost use Rattle.m2m_names.specs.Operations.{op_row};
 ghost use Rattle.m2m_names.specs.declared.codes.Rsc.{Rsc};
 ghost use Rattle.m2m_names.specs.declared.codes.Rsc.TheVariants.{NoPrivilege};
 ghost use Rattle.m2m_names.specs.declared.operations.Op.{Op};
@@ -8,7 +7,7 @@ ghost use Rattle.m2m_names.specs.declared.operations.Op.TheVariants.{Delete};
 ghost use Rattle.primitive_json.specs.declared.request.RequestParts.{RequestParts};
 ghost use Rattle.resource_model.specs.Resource.{ResourceData};
 ghost use Rattle.tree_model.specs.Tree.{at, is_at_or_below};
-ghost use Rattle.policy_eval.specs.Rights.{grants};
+ghost use Rattle.policy_eval.specs.Rights.{delete_bit, grants};
 ghost use Rattle.entity_model.specs.Entity.{EntityData};
 ghost use Rattle.entity_model.specs.Places.{refused};
 ghost use Rattle.entity_model.specs.Sound.{IsSoundEntity};
@@ -39,7 +38,7 @@ pub fn a_deletion_takes_what_stands_at_or_below_its_target()
         → IsSoundEntity e → at r.number e.nodes ≡ Some r
         → at r.number (performed_at Delete e o request n).after.nodes ≡ None
         → IsTrue (is_at_or_below n e.nodes r)
-        × IsTrue (grants e.home e.nodes o (op_row Delete).bit n) }
+        × IsTrue (grants e.home e.nodes o delete_bit n) }
     ensures kept { (e : EntityData) (o : List ℕ) (request : RequestParts) (n : ℕ) (r : ResourceData)
         → IsSoundEntity e → at r.number (performed_at Delete e o request n).after.nodes ≡ Some r
         → at r.number e.nodes ≡ Some r }

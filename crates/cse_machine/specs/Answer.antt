@@ -1,5 +1,5 @@
 -- What a CSE answers a request (TS-0001, 10.2; TS-0004, 7.2 and 7.3.3).
-use Rattle.std.specs.Prelude.{◌≡◌, ℕ, pos, nat_lt, Bool, true, false, not, ◌&&◌, List, [], ◌∷◌}
+use Rattle.std.specs.Prelude.{◌≡◌, ℕ, nat_lt, Bool, true, false, not, ◌&&◌, List, [], ◌∷◌}
 use Rattle.std.specs.Prelude.{Option, Some, is_ok, is_some, option_and_then, if◌then◌else◌}
 use Rattle.std.specs.Option.{option_map_or}
 use Rattle.std.specs.Ordering.{int_eq}
@@ -16,6 +16,7 @@ use Rattle.m2m_names.specs.declared.types.Ty.TheVariants.{AccessControlPolicyAnn
 use Rattle.m2m_names.specs.declared.types.Ty.TheVariants.{ContainerAnnc, ContentInstanceAnnc}
 use Rattle.m2m_names.specs.declared.types.Ty.TheVariants.{GroupAnnc}
 use Rattle.primitive_json.specs.Form.{has_form}
+use Rattle.primitive_json.specs.Kinds.{blocking_request}
 use Rattle.primitive_json.specs.Laws.{IsOfKinds}
 use Rattle.primitive_json.specs.Members.{creates}
 use Rattle.primitive_json.specs.declared.reply.ReplyParts.{ReplyParts}
@@ -111,7 +112,7 @@ is_in_time e request = not (option_map_or (is_past e.last) request.rqet false)
 
 -- its response type, where one is given, is blockingRequest (TS-0001, 8.2.1; TS-0004, 6.3.4.2.6)
 abbrev pub is_blocking : RequestParts → Bool
-is_blocking request = option_map_or (λ z. int_eq z (pos 3)) request.rt true
+is_blocking request = option_map_or (λ z. int_eq z blocking_request) request.rt true
 
 -- these places, from the last back to the first: by when and how it is answered; by its address; by
 -- its originator; by its other parameters; and as one that isn't served yet, which counts as

@@ -1,15 +1,8 @@
--- Blanks at the front of a text, and its first five bytes.
-use Rattle.std.proofs.Common.{◌≡◌, ℕ, ◌+◌, ◌<◌, min, true, false, List, length, take, drop, get_or, inl, inr, refl, sym, ◌∙◌, arith, add-one, drop-cons}
+-- The first bytes of a text, and those behind them.
+use Rattle.std.proofs.Common.{◌≡◌, ℕ, min, List, length, take, drop, inl, inr, refl, sym, ◌∙◌, arith}
 use Rattle.std.proofs.lemmas.Bool.{cases_lt}
 use Rattle.std.proofs.lemmas.List.{take_all}
 use Rattle.std.proofs.Math.ListN.{drop_of_length-le}
-use Rattle.cse_server.specs.Closing.{is_blank, behind_blanks}
-
-pub behind-blank : (text : List ℕ) (i : ℕ) → i < length text → is_blank (get_or text i 0) ≡ true → behind_blanks (drop i text) ≡ behind_blanks (drop (i + 1) text)
-behind-blank text i within blank = rw (drop-cons text i 0, blank, add-one) refl
-
-pub behind-other : (text : List ℕ) (i : ℕ) → i < length text → is_blank (get_or text i 0) ≡ false → behind_blanks (drop i text) ≡ drop i text
-behind-other text i within other = rw (drop-cons text i 0, other) refl
 
 -- at most so many elements, where there may be fewer
 pub take-most : (text : List ℕ) (n : ℕ) → take (min (length text) n) text ≡ take n text

@@ -1,28 +1,21 @@
 -- When a connection ends behind a reply (RFC 9112, section 9.6).
-use Rattle.std.specs.Prelude.{ℕ, ◌==◌, nat_le, Bool, ◌&&◌, ◌||◌, List, [], ◌∷◌, take, drop, codes}
-use Rattle.std.specs.Prelude.{if◌then◌else◌}
+use Rattle.std.specs.Prelude.{ℕ, ◌==◌, nat_le, Bool, ◌&&◌, ◌||◌, List, length, take, drop}
 use Rattle.std.specs.List.{list_all, list_any, slice_split}
+use Rattle.httparse.specs.Grammar.{is_ows, skip_ows}
 use Rattle.http_frames.specs.declared.frame.Frame.{Frame}
 use Rattle.http_frames.specs.Body.{minor_of}
 use Rattle.http_frames.specs.Lines.{Line, is_same_name}
-use Rattle.http_binding.specs.Headers.{connection_field}
+use Rattle.http_binding.specs.Headers.{close_option, connection_field}
 
--- a space or a tab (RFC 9110, section 5.6.3)
-abbrev pub is_blank : ℕ → Bool
-is_blank b = (b == 32) || (b == 9)
-
--- a text behind the blanks at its front
-abbrev pub behind_blanks : List ℕ → List ℕ
-behind_blanks [] = []
-behind_blanks (b ∷ text) = if is_blank b then behind_blanks text else b ∷ text
-
--- the word `close`, whatever its case, and blanks
+-- the option `close`, whatever its case, and white space (RFC 9110, section 5.6.3)
 abbrev pub is_close_word : List ℕ → Bool
-is_close_word text = is_same_name (take 5 text) (codes "close") && list_all is_blank (drop 5 text)
+is_close_word text =
+    is_same_name (take (length close_option) text) close_option
+    && list_all is_ows (drop (length close_option) text)
 
--- an element of a list: the option `close` with blanks around it
+-- an element of a list: the option `close` with white space around it
 abbrev pub is_close : List ℕ → Bool
-is_close element = is_close_word (behind_blanks element)
+is_close element = is_close_word (skip_ows element)
 
 -- the list, whose elements stand between commas, has the option (RFC 9110, sections 5.6.1 and
 -- 7.6.1)

@@ -1,6 +1,7 @@
 //! When a connection ends behind a reply.
 ghost use Rattle.std.specs.Prelude.{◌≡◌};
 ghost use Rattle.std.specs.List.{list_all, list_any};
+ghost use Rattle.httparse.specs.Grammar.{is_ows, skip_ows};
 ghost use Rattle.http_binding.specs.Headers.{connection_field};
 ghost use Rattle.http_frames.specs.Body.{minor_of};
 ghost use Rattle.http_frames.specs.Lines.{is_same_name};
@@ -75,13 +76,13 @@ fn is_close_word(text: &[u8]) -> bool
 }
 
 fn are_blank(text: &[u8]) -> bool
-    ensures { result ≡ list_all spec.is_blank text.now }
+    ensures { result ≡ list_all is_ows text.now }
 {
     text.iter().all(|byte| is_blank(*byte))
 }
 
 fn behind_blanks(text: &[u8]) -> &[u8]
-    ensures { result.now ≡ spec.behind_blanks text.now }
+    ensures { result.now ≡ skip_ows text.now }
 {
     for (at, byte) in text.iter().enumerate() {
         if !is_blank(*byte) {
@@ -92,7 +93,7 @@ fn behind_blanks(text: &[u8]) -> &[u8]
 }
 
 fn is_blank(byte: u8) -> bool
-    ensures { result ≡ spec.is_blank byte }
+    ensures { result ≡ is_ows byte }
 {
     byte == b' ' || byte == b'\t'
 }

@@ -3,7 +3,7 @@ use Rattle.std.specs.Prelude.{◌==◌}
 use Rattle.std.proofs.Common.{◌≡◌, ℕ, ◌≤◌, List, [], ◌∷◌, ◌++◌, length, Bool, true, false, not, ◌||◌, inl, inr, refl, sym, ap, ◌∙◌, arith}
 use Rattle.std.proofs.lemmas.Bool.{cases_Bool, and_parts, and_from, or_cases, or_parts, or_from, or_left, or_right, not-true, not_from_false, both_ways, false_from_ne_true}
 use Rattle.resource_model.specs.Resource.{ResourceData}
-use Rattle.tree_model.specs.Tree.{has, stays, staying, without, depth, is_tree}
+use Rattle.tree_model.specs.Tree.{has, stays, staying, without, level_of, is_tree}
 use Rattle.tree_model.proofs.ChangeLemmas.{line_none}
 use Rattle.tree_model.proofs.TreeLemmas.{Covers, covers_grown, covers_both}
 
@@ -59,5 +59,5 @@ staying_length p stayed (r ∷ nodes) = elim (cases_Bool (stays p stayed r)) [
 ]
 
 -- a resource that isn't there stands nowhere
-pub no_depth : (n : ℕ) (nodes : List ResourceData) → is_tree nodes ≡ true → has n nodes ≡ false → depth n nodes ≡ 0
+pub no_depth : (n : ℕ) (nodes : List ResourceData) → is_tree nodes ≡ true → has n nodes ≡ false → level_of n nodes ≡ 0
 no_depth n nodes tree lacks = ap length (line_none n nodes tree lacks)

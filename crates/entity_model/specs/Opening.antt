@@ -9,6 +9,7 @@ use Rattle.m2m_value.specs.Data.{Data, text, list, elements_of}
 use Rattle.resource_model.specs.Attributes.{Row}
 use Rattle.resource_model.specs.Home.{HomeData}
 use Rattle.resource_model.specs.Resource.{ResourceData}
+use Rattle.policy_eval.specs.Originators.{everyone}
 use Rattle.policy_eval.specs.Rules.{written_rule, written_rules}
 use Rattle.policy_eval.specs.Rights.{create_bit}
 use Rattle.entity_model.specs.Entity.{EntityData, cut}
@@ -23,7 +24,7 @@ admin_rule home = written_rule home.admin all_bits
 
 -- everyone may create
 abbrev pub entry_rule : Data
-entry_rule = written_rule (codes "all") create_bit
+entry_rule = written_rule everyone create_bit
 
 -- what the administrator's policy gives, and who may change it
 abbrev pub opening_pv : HomeData → Data

@@ -1,10 +1,11 @@
 -- What comes of a request, and the order in which it is refused.
-use Rattle.std.specs.Prelude.{ℕ, Bool, ℤ, pos, List, [], ◌∷◌, Option, Some, None, unwrap_or}
+use Rattle.std.specs.Prelude.{ℕ, Bool, ℤ, List, [], ◌∷◌, Option, Some, None, unwrap_or}
 use Rattle.std.specs.Prelude.{if◌then◌else◌}
 use Rattle.std.specs.Option.{option_map_or}
 use Rattle.m2m_names.specs.declared.codes.Rsc.{Rsc}
 use Rattle.m2m_names.specs.declared.codes.Rsc.TheVariants.{NotFound}
 use Rattle.m2m_value.specs.Data.{Data}
+use Rattle.primitive_json.specs.Kinds.{attributes_wanted}
 use Rattle.primitive_json.specs.declared.reply.ReplyParts.{ReplyParts}
 use Rattle.primitive_json.specs.declared.request.RequestParts.{RequestParts}
 use Rattle.resource_model.specs.Resource.{ResourceData}
@@ -25,7 +26,7 @@ absent = NotFound
 
 -- the result content that a request asks for: the attributes, where it says none (TS-0001, 8.1.2)
 abbrev pub wanted_content : Option ℤ → ℤ
-wanted_content rcn = unwrap_or rcn (pos 1)
+wanted_content rcn = unwrap_or rcn attributes_wanted
 
 -- the bit that a Retrieve needs on its target: DISCOVERY where it looks for resources, and else
 -- RETRIEVE (TS-0001, 9.6.2.1.2 and 10.2.6)

@@ -1,11 +1,11 @@
 -- Which entities are sound: what holds of an entity at every moment.
 use Rattle.std.specs.Prelude.{◌≡◌, ℕ, ◌≤◌, nat_le, nat_lt, Bool, true, false, not, ◌&&◌}
-use Rattle.std.specs.Prelude.{◌||◌, List, [], ◌∷◌, ◌++◌, length, is_some}
+use Rattle.std.specs.Prelude.{◌||◌, List, [], ◌∷◌, length, is_some}
 use Rattle.std.specs.Prelude.{option_and_then, IsTrue}
 use Rattle.std.specs.List.{filter_map, list_all, list_any}
 use Rattle.std.specs.Option.{option_map_or}
 use Rattle.std.specs.Str.{bytes_eq}
-use Rattle.m2m_names.specs.declared.attributes.Attr.TheVariants.{Acpi, Macp, St}
+use Rattle.m2m_names.specs.declared.attributes.Attr.TheVariants.{St}
 use Rattle.m2m_names.specs.declared.types.Ty.TheVariants.{Container, ContentInstance, CseBase}
 use Rattle.m2m_value.specs.Data.{Data}
 use Rattle.m2m_value.specs.Shapes.{largest_count}
@@ -15,11 +15,11 @@ use Rattle.resource_model.specs.Home.{HomeData, IsHome}
 use Rattle.resource_model.specs.Resource.{ResourceData, is_ty, cse_id}
 pub use Rattle.resource_model.specs.Resource.{has_free_name}
 use Rattle.tree_model.specs.Shown.{own_cse_id}
-use Rattle.tree_model.specs.Tree.{channels_of, instances_of, instance_size, sizes_of, depth}
+use Rattle.tree_model.specs.Tree.{channels_of, instances_of, instance_size, sizes_of, level_of}
 use Rattle.tree_model.specs.Tree.{are_below, have_free_names, is_well_formed}
 use Rattle.attribute_rules.specs.Kinds.{are_kinds}
 use Rattle.container_limits.specs.Limits.{are_within, limits_of}
-use Rattle.policy_eval.specs.Rules.{policy_number, ids_at}
+use Rattle.policy_eval.specs.Rules.{policy_number, linked_ids}
 use Rattle.entity_model.specs.Entity.{EntityData, last_reading}
 use Rattle.entity_model.specs.Expiry.{is_some_due}
 
@@ -32,7 +32,7 @@ is_known_id next id =
 
 -- the number of every policy that a resource names, to be judged by or to fan out by, was given out
 abbrev pub has_known_ids : ℕ → ResourceData → Bool
-has_known_ids next r = list_all (is_known_id next) (ids_at Acpi r ++ ids_at Macp r)
+has_known_ids next r = list_all (is_known_id next) (linked_ids r)
 
 -- ---- sizes and counts
 
@@ -52,7 +52,7 @@ abbrev pub greatest_count : ℕ
 greatest_count = 100000
 
 abbrev pub is_shallow : List ResourceData → ResourceData → Bool
-is_shallow nodes r = nat_le (depth r.number nodes) greatest_depth
+is_shallow nodes r = nat_le (level_of r.number nodes) greatest_depth
 
 -- The instances of a container are within its `mni` and its `mbs` (TS-0001, 9.6.6). So the longest
 -- run of the newest of them that is within both is all of them.

@@ -1,9 +1,9 @@
 -- The frame of a reply is sound, so that it is read back from its text.
-use Rattle.std.proofs.Common.{◌≡◌, ℕ, zero, suc, ◌*◌, ◌<◌, ◌≤◌, ◌^◌, Bool, true, false, ◌&&◌, leb, List, [], ◌∷◌, ◌++◌, length, codes, Option, Some, None, IsTrue, IfSome, refl, sym, ap, subst, ◌∙◌, arith}
+use Rattle.std.proofs.Common.{◌≡◌, ℕ, zero, suc, ◌*◌, ◌<◌, ◌≤◌, ◌^◌, Bool, true, false, ◌&&◌, leb, ltb, List, [], ◌∷◌, ◌++◌, length, codes, Option, Some, None, IsTrue, IfSome, refl, sym, ap, subst, ◌∙◌, arith}
 use Rattle.std.specs.Prelude.{All}
 use Rattle.std.specs.Fmt.{decimal}
 use Rattle.std.specs.Char.{is_ascii_digit, is_ascii_graphic}
-use Rattle.std.specs.Int.{is_in_range}
+use Rattle.m2m_names.specs.Name.{is_filled}
 use Rattle.std.specs.List.{list_all, flat_map}
 use Rattle.std.proofs.lemmas.Bool.{and_parts, leb-true, cond-true}
 use Rattle.std.proofs.lemmas.Bool.Decides.{Decides-below_and}
@@ -16,13 +16,13 @@ use Rattle.m2m_names.specs.StatusCodes.{rsc_row}
 use Rattle.m2m_names.specs.declared.codes.Rsc.{Rsc}
 use Rattle.m2m_names.proofs.StatusLemmas.{number_in_range, http_in_range}
 use Rattle.m2m_value.specs.Data.{Data}
-use Rattle.primitive_json.specs.Bounds.{is_request_id}
+use Rattle.primitive_json.specs.Bounds.{is_request_id, request_id_limit}
 use Rattle.primitive_json.specs.declared.reply.ReplyParts.{ReplyParts}
 use Rattle.http_frames.specs.declared.frame.Side.TheVariants.{Reply}
 use Rattle.http_frames.specs.declared.frame.Start.{Start}
 use Rattle.http_frames.specs.declared.frame.Start.TheVariants.{Answer}
 use Rattle.http_frames.specs.Lines.{Line, is_same_name, values_named}
-use Rattle.http_frames.specs.Body.{counted, minor_of, framing_of, framing_of_values, CarriesBody}
+use Rattle.http_frames.specs.Body.{transfer_field, counted, minor_of, framing_of, framing_of_values, CarriesBody}
 use Rattle.http_frames.specs.Frame.{body_limit}
 use Rattle.http_frames.specs.Stream.{BeginsWithFrame}
 use Rattle.http_frames.specs.Text.{phrase_of, start_text, line_text, frame_text, IsLine, IsSoundFrame}
@@ -64,8 +64,8 @@ short_id : (id : Option (List ℕ)) → IfSome id (λ t. IsTrue (is_request_id t
 unfolding is_token_byte
 short_id None h = All-nil IsShortLine
 short_id (Some id) h =
-    let parts = and_parts (is_in_range 1 128 (length id)) (list_all is_ascii_graphic id) h in
-    let short = leb-true (length id) 128 (and_parts (leb 1 (length id)) _ parts.0).1 in
+    let parts = and_parts (is_filled request_id_limit id) (list_all is_ascii_graphic id) h in
+    let short = leb-true (length id) 128 (and_parts (ltb 0 (length id)) _ parts.0).1 in
     All-cons IsShortLine (field_name Id, id) [] (short_line (field_name Id) id refl (omega arith) (AllPass-from_list_all is_ascii_graphic id parts.1) short) (All-nil IsShortLine)
 
 short_type : (content : Option Data) → All IsShortLine (type_lines content)
@@ -110,8 +110,8 @@ lines_with code id content size close =
 
 record Announces (size : List ℕ) (lines : List Line) : Type 0 where
   count : length lines ≤ 5
-  coding : values_named (codes "transfer-encoding") lines ≡ []
-  size_is : values_named (codes "content-length") lines ≡ size ∷ []
+  coding : values_named transfer_field lines ≡ []
+  size_is : values_named length_field lines ≡ size ∷ []
 
 announces : (code : List ℕ) (id : Option (List ℕ)) (content : Option Data) (size : List ℕ) (close : Bool) → Announces size (lines_with code id content size close)
 unfolding is_same_name

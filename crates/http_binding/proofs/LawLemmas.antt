@@ -1,5 +1,5 @@
 -- What is known of a frame that binds.
-use Rattle.std.proofs.Common.{◌≡◌, ◌<◌, ◌^◌, ℕ, Bool, true, false, not, ◌||◌, List, [], ◌∷◌, length, Option, Some, None, is_some, Result, Ok, Err, IfSome, refl, sym, ap, subst, ◌∙◌, arith}
+use Rattle.std.proofs.Common.{◌≡◌, ◌<◌, ◌^◌, ℕ, Bool, true, false, not, ◌||◌, List, [], ◌∷◌, Option, Some, None, is_some, Result, Ok, Err, IfSome, refl, sym, ap, subst, ◌∙◌, arith}
 use Rattle.std.specs.Bool.{if◌then◌else◌}
 use Rattle.std.specs.Prelude.{ℤ, option_and_then, option_map}
 use Rattle.std.specs.Option.{option_map_or, option_or}
@@ -7,7 +7,6 @@ use Rattle.std.specs.Str.{IsUtf8}
 use Rattle.std.specs.Str.Parse.{digits_value}
 use Rattle.std.specs.Result.{result_unwrap_or, is_ok}
 use Rattle.std.proofs.lemmas.Bool.{and_parts, false≢true}
-use Rattle.std.specs.Int.{is_in_range}
 use Rattle.m2m_names.specs.Name.{is_filled, is_originator, originator_limit}
 use Rattle.m2m_names.specs.StampReading.{moment_at}
 use Rattle.m2m_names.specs.Types.{is_type_number}
@@ -27,7 +26,7 @@ use Rattle.primitive_json.specs.Form.{is_only_read}
 use Rattle.primitive_json.specs.Members.{creates, retrieves, has_content, has_result}
 use Rattle.primitive_json.specs.Requests.{IsSoundWhen}
 use Rattle.primitive_json.proofs.FormLemmas.{joined_kinds}
-use Rattle.primitive_json.proofs.Numerals.{numeral_bound}
+use Rattle.m2m_names.proofs.NumeralLemmas.{numeral_bound}
 use Rattle.primitive_json.specs.declared.request.RequestParts.{RequestParts}
 use Rattle.primitive_json.specs.declared.request.When.{When}
 use Rattle.primitive_json.specs.declared.request.When.TheVariants.{At, Millis}
@@ -51,7 +50,7 @@ use Rattle.filter_criteria.specs.Filters.{IsSoundFilter}
 use Rattle.filter_criteria.specs.Laws.{IsFilterOfKinds}
 use Rattle.filter_criteria.specs.declared.filter.FilterParts.{FilterParts}
 use Rattle.http_binding.specs.Binding.{method_of, lone_value, header_value, HeaderValues, header_values, required, unless_empty, Caller, caller_of, kept_result, value_in, object_only, content_in, content_of, created_type, request_of, Binds, echo_of}
-use Rattle.http_target.specs.Said.{said_by_target, target_of, query_of}
+use Rattle.http_target.specs.Said.{said_by_target, target_of, query_said}
 use Rattle.http_binding.specs.Methods.{operation_of}
 
 pub binds_to_one : (frame : Frame) (request other : RequestParts) → Binds frame request → Binds frame other → request ≡ other
@@ -256,7 +255,7 @@ type_there Post (Some n) = refl
 
 -- ---- the query
 
-queries : (op : Op) (query : List ℕ) (q : Query) → query_of op query ≡ Ok q → IsSaid op q
+queries : (op : Op) (query : List ℕ) (q : Query) → query_said op query ≡ Ok q → IsSaid op q
 queries op query q h = said_on op (decoded_pairs query) nothing_said q (nothing_is_said op) h
 
 result_kind : (op : Op) (number : Option ℤ) → IfSome number (λ z. is_result op z ≡ true) → IfSome (kept_result op number) (λ z. is_among (result_contents op) z ≡ true)
@@ -281,7 +280,7 @@ conditions_sound : (op : Op) (fc : Option FilterParts) → IfSome fc (λ f. (ret
 conditions_sound op None h = tt
 conditions_sound op (Some f) h = filter_sound f h.1
 
-pub query_sound : (op : Op) (query : List ℕ) (q : Query) → query_of op query ≡ Ok q → (f : FilterParts) → q.fc ≡ Some f → IsSoundFilter f
+pub query_sound : (op : Op) (query : List ℕ) (q : Query) → query_said op query ≡ Ok q → (f : FilterParts) → q.fc ≡ Some f → IsSoundFilter f
 query_sound op query q h f is = subst (λ (o : Option FilterParts). IfSome o IsSoundFilter) is (conditions_sound op q.fc (queries op query q h).fc)
 
 -- ---- the request
@@ -305,7 +304,7 @@ says frame request h =
     let target = reads (target_of frame.start) _ request method.rest in
     let caller = reads (caller_of method.first frame.lines) _ request target.rest in
     let op = operation_of method.first caller.first.type in
-    let query = reads (query_of op target.first.query) _ request caller.rest in
+    let query = reads (query_said op target.first.query) _ request caller.rest in
     let content = reads (content_of op frame.body) _ request query.rest in
     record {
       method = method.first;
@@ -365,7 +364,7 @@ originator_utf8 method lines caller h = text_utf8 caller.originator (is_caller m
 
 pub id_utf8 : (method : Method) (lines : List Line) (caller : Caller) → caller_of method lines ≡ Ok caller → IsUtf8 caller.id
 id_utf8 method lines caller h =
-    id_is_utf8 caller.id (and_parts (is_in_range 1 request_id_limit (length caller.id)) _ (is_caller method lines caller h).id).1
+    id_is_utf8 caller.id (and_parts (is_filled request_id_limit caller.id) _ (is_caller method lines caller h).id).1
 
 sound_when : (when : When) → IsTimely when → IsSoundWhen when
 sound_when (At at) h = h.0

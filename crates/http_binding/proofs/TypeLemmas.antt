@@ -8,7 +8,7 @@ use Rattle.std.specs.List.{list_all}
 use Rattle.std.specs.Str.Parse.{digits_value}
 use Rattle.m2m_names.specs.Name.{is_filled}
 use Rattle.primitive_json.specs.Kinds.{is_numeral, numeral_limit}
-use Rattle.primitive_json.proofs.Numerals.{own}
+use Rattle.m2m_names.proofs.NumeralLemmas.{own}
 use Rattle.http_binding.specs.MediaTypes.{is_type_digits}
 
 at_most_five : (ds : List ℕ) → is_filled 5 ds ≡ true → length ds ≤ 5

@@ -11,6 +11,7 @@ use Rattle.m2m_value.specs.declared.fault.ValFault.{ValFault}
 use Rattle.m2m_value.specs.declared.fault.ValFault.TheVariants.{NotJson}
 use Rattle.primitive_json.specs.Kinds.{expiry_spelled}
 use Rattle.primitive_json.specs.Members.{creates, has_content, has_result, name_of_member}
+use Rattle.primitive_json.specs.Writing.{only_where}
 use Rattle.primitive_json.specs.declared.member.Member.TheVariants as members
 use Rattle.primitive_json.specs.declared.request.RequestParts.{RequestParts}
 use Rattle.primitive_json.specs.declared.request.When.{When}
@@ -19,7 +20,7 @@ use Rattle.http_frames.specs.declared.frame.Start.TheVariants.{Ask, Answer}
 use Rattle.http_frames.specs.declared.frame.Frame.{Frame}
 use Rattle.http_frames.specs.Lines.{Line, values_named}
 use Rattle.http_target.specs.Chain.{and_then}
-use Rattle.http_target.specs.Said.{target_of, query_of}
+use Rattle.http_target.specs.Said.{target_of, query_said}
 use Rattle.http_target.specs.declared.fault.BindFault.{BindFault}
 use Rattle.http_target.specs.declared.fault.BindFault.TheVariants as bind
 use Rattle.http_binding.specs.declared.headers.Field.{Field}
@@ -122,11 +123,11 @@ content_of op body = if has_content op then content_in body else Ok None
 
 -- the number of a type, on a Create; else it is unread
 abbrev pub created_type : Op → Option ℕ → Option ℕ
-created_type op type = if creates op then type else None
+created_type op type = only_where (creates op) type
 
 -- the content of the result, on an operation that has any; else it is unread
 abbrev pub kept_result : Op → Option ℤ → Option ℤ
-kept_result op number = if has_result op then number else None
+kept_result op number = only_where (has_result op) number
 
 -- the request of these parts
 abbrev pub request_of : Op → List ℕ → Caller → Query → Option Data → RequestParts
@@ -150,7 +151,7 @@ binding frame =
     and_then (method_of frame.start) λ method.
     and_then (target_of frame.start) λ target.
     and_then (caller_of method frame.lines) λ caller.
-    and_then (query_of (operation_of method caller.type) target.query) λ query.
+    and_then (query_said (operation_of method caller.type) target.query) λ query.
     and_then (content_of (operation_of method caller.type) frame.body) λ content.
     Ok (request_of (operation_of method caller.type) target.to caller query content)
 

@@ -4,6 +4,7 @@ use Rattle.std.specs.Prelude.{is_some}
 use Rattle.m2m_names.specs.Name.{is_originator}
 use Rattle.primitive_json.specs.Bounds.{is_request_id}
 use Rattle.primitive_json.specs.Kinds.{expiry_spelled}
+pub use Rattle.http_frames.specs.Body.{length_field}
 use Rattle.http_binding.specs.MediaTypes.{admits_type}
 use Rattle.http_binding.specs.declared.headers.Field.{Field}
 use Rattle.http_binding.specs.declared.headers.Field.TheVariants.{Origin, Id, Expiry, ContentType}
@@ -35,11 +36,12 @@ field_name ContentEncoding = codes "Content-Encoding"
 abbrev pub code_field : List ℕ
 code_field = codes "X-M2M-RSC"
 
-abbrev pub length_field : List ℕ
-length_field = codes "Content-Length"
-
 abbrev pub connection_field : List ℕ
 connection_field = codes "Connection"
+
+-- what it says where the connection closes behind the message (RFC 9112, section 9.6)
+abbrev pub close_option : List ℕ
+close_option = codes "close"
 
 -- a text of at least one byte
 abbrev pub is_some_text : List ℕ → Bool

@@ -1,13 +1,12 @@
 -- What a line Content-Type says (TS-0009, 6.4.3; RFC 9110, section 8.3).
-use Rattle.std.specs.Prelude.{ℕ, ◌-◌, ◌==◌, Bool, true, false, ◌&&◌, List, [], ◌∷◌}
+use Rattle.std.specs.Prelude.{ℕ, ◌-◌, ◌==◌, Bool, true, false, List, [], ◌∷◌}
 use Rattle.std.specs.Prelude.{length, take, drop, fold, codes, bytes_eq, Option, Some, None}
 use Rattle.std.specs.Prelude.{is_some, option_and_then, if◌then◌else◌}
-use Rattle.std.specs.List.{list_all, list_any, prefix_len, suffix_len, slice_split}
-use Rattle.std.specs.Char.{is_ascii_digit}
+use Rattle.std.specs.List.{list_any, prefix_len, suffix_len, slice_split}
 use Rattle.std.specs.Option.{option_map_or}
 use Rattle.std.specs.Str.Parse.{digits_value}
 use Rattle.http_uri.specs.ByteClasses.{split_once_front, split_once_back}
-use Rattle.m2m_names.specs.Name.{is_filled}
+use Rattle.m2m_names.specs.Name.{is_decimal}
 use Rattle.m2m_names.specs.Types.{is_type_number}
 use Rattle.http_frames.specs.Lines.{is_same_name}
 use Rattle.http_binding.specs.declared.method.Method.{Method}
@@ -64,9 +63,13 @@ type_parameter = codes "ty"
 abbrev pub equals_sign : ℕ
 equals_sign = 61
 
+-- the most digits of the number of a type
+abbrev pub type_digits_limit : ℕ
+type_digits_limit = 5
+
 -- 1 to 5 digits
 abbrev pub is_type_digits : List ℕ → Bool
-is_type_digits text = is_filled 5 text && list_all is_ascii_digit text
+is_type_digits text = is_decimal type_digits_limit text
 
 -- what is said with the value of one more `ty`, which has to be digits
 abbrev pub type_digits_said : List ℕ → Option TypeNumber

@@ -1,5 +1,5 @@
 -- The frame and the text of a reply (TS-0009, 6.3 to 6.5; RFC 9112, sections 4 to 6).
-use Rattle.std.specs.Prelude.{ℕ, Bool, true, false, List, [], ◌∷◌, ◌++◌, length, codes, Option}
+use Rattle.std.specs.Prelude.{ℕ, Bool, true, false, List, [], ◌∷◌, ◌++◌, length, Option}
 use Rattle.std.specs.Prelude.{Some, None}
 use Rattle.std.specs.Fmt.{decimal}
 use Rattle.m2m_names.specs.StatusCodes.{rsc_row}
@@ -11,7 +11,7 @@ use Rattle.http_frames.specs.declared.frame.Frame.{Frame}
 use Rattle.http_frames.specs.Lines.{Line}
 use Rattle.http_frames.specs.Text.{frame_text}
 use Rattle.http_binding.specs.Headers.{id_field, code_field, type_field, length_field}
-use Rattle.http_binding.specs.Headers.{connection_field}
+use Rattle.http_binding.specs.Headers.{close_option, connection_field}
 use Rattle.http_binding.specs.MediaTypes.{json_type}
 
 -- the body: the compact JSON text of the content, where there is some (TS-0009, 6.5)
@@ -32,7 +32,7 @@ type_lines (Some content) = (type_field, json_type) ∷ []
 -- the line that says that the connection closes (RFC 9112, section 9.6)
 abbrev pub close_lines : Bool → List Line
 close_lines false = []
-close_lines true = (connection_field, codes "close") ∷ []
+close_lines true = (connection_field, close_option) ∷ []
 
 -- the minor version of HTTP that is written (RFC 9112, section 2.3)
 abbrev pub written_minor : ℕ

@@ -10,6 +10,9 @@ use http_target::{before, behind};
 use m2m_names::{are_digits, is_filled, is_type_number};
 use primitive_json::digits_number;
 
+/// The most digits of the number of a type.
+const TYPE_DIGITS_LIMIT: usize = 5;
+
 /// The number of the type that is to be created, where it is said.
 type TypeNumber = Option<u32>;
 
@@ -61,7 +64,7 @@ fn is_media_type(text: &[u8]) -> bool
 fn is_type_digits(text: &[u8]) -> bool
     ensures { result ≡ spec.is_type_digits text.now }
 {
-    is_filled(text, 5) && are_digits(text)
+    is_filled(text, TYPE_DIGITS_LIMIT) && are_digits(text)
 }
 
 /// What is said with the value of one more `ty`.

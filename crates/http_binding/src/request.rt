@@ -14,7 +14,7 @@ use crate::method::Method;
 use crate::{BindFault, OutOfMemory};
 use filter_criteria::{Filter, FilterParts};
 use http_frames::Frame;
-use http_target::{Query, query_of, target_of};
+use http_target::{Query, query_said, target_of};
 use m2m_names::Op;
 use m2m_value::{Scratch, Text, Val, ValFault, read_in};
 use primitive_json::{Member, Request, RequestParts};
@@ -165,7 +165,7 @@ pub fn to_request_in(
     let target = target_of(alloc, &frame.start)?;
     let caller = caller_of(alloc, method, &frame.lines)?;
     let op = method.operation(caller.ty);
-    let query = query_of(alloc, op, target.query)?;
+    let query = query_said(alloc, op, target.query)?;
     let content = content_of(alloc, scratch, op, frame.body.entries())?;
     request_of(alloc, op, target.to, caller, query, content)
 }

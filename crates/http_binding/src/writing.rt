@@ -193,7 +193,8 @@ fn append_body(out: &mut Vec<u8>, content: &Option<Val>) -> Result<(), OutOfMemo
 /// The body, behind room for its head, in this buffer.
 #[tactic(auto, using(crate::proofs::JoinLemmas::behind_room))]
 fn body_behind_room(buffer: Vec<u8>, content: &Option<Val>) -> Result<Vec<u8>, OutOfMemory>
-    ensures len { IfOk result (λ text. length text.items ≡ head_room + length (body_of content.now)) }
+    ensures len { IfOk result
+        (λ text. length text.items ≡ head_room + length (body_of content.now)) }
     ensures body { IfOk result (λ text. drop head_room text.items ≡ body_of content.now) }
 {
     let mut text = room_for_head(buffer)?;

@@ -3,7 +3,6 @@ use Rattle.std.proofs.Common.{◌≡◌, ℕ, ◌+◌, ◌<◌, ◌≤◌, ◌^�
 use Rattle.std.specs.Prelude.{All}
 use Rattle.std.specs.Fmt.{decimal}
 use Rattle.std.specs.Char.{is_ascii_graphic}
-use Rattle.std.specs.Int.{is_in_range}
 use Rattle.std.specs.List.{AllByRecursion, list_all}
 use Rattle.std.proofs.lemmas.Bool.{and_parts, cond-true}
 use Rattle.std.proofs.lemmas.Fmt.{decimal_is_IsNumeral}
@@ -28,7 +27,7 @@ use Rattle.http_frames.specs.declared.frame.Side.TheVariants.{Request}
 use Rattle.http_frames.specs.declared.frame.Start.{Start}
 use Rattle.http_frames.specs.declared.frame.Start.TheVariants.{Ask}
 use Rattle.http_frames.specs.Lines.{Line, is_same_name, values_named}
-use Rattle.http_frames.specs.Body.{counted, minor_of, framing_of, framing_of_values, CarriesBody}
+use Rattle.http_frames.specs.Body.{transfer_field, counted, minor_of, framing_of, framing_of_values, CarriesBody}
 use Rattle.http_frames.specs.Frame.{body_limit}
 use Rattle.http_frames.specs.Stream.{BeginsWithFrame}
 use Rattle.http_frames.specs.Text.{frame_text, IsLine, IsSoundFrame}
@@ -66,7 +65,7 @@ origin_is (Some s) h =
 id_is : (rqi : List ℕ) → IsTrue (is_request_id rqi) → All IsLine (id_lines (Some rqi))
 unfolding is_token_byte
 id_is rqi h =
-    let all = (and_parts (is_in_range 1 request_id_limit (length rqi)) (list_all is_ascii_graphic rqi) h).1 in
+    let all = (and_parts (is_filled request_id_limit rqi) (list_all is_ascii_graphic rqi) h).1 in
     All-cons IsLine (id_field, rqi) [] (line_is (id_field) rqi refl (AllPass-from_list_all is_ascii_graphic rqi all)) (All-nil IsLine)
 
 expiry_graphic : (when : When) → IsWhenOfKind when → AllPass is_ascii_graphic (expiry_text when)
@@ -119,8 +118,8 @@ lines_with host fr id when type content size =
 
 record Announces (size : List ℕ) (lines : List Line) : Type 0 where
   count : length lines ≤ 7
-  coding : values_named (codes "transfer-encoding") lines ≡ []
-  size_is : values_named (codes "content-length") lines ≡ size ∷ []
+  coding : values_named transfer_field lines ≡ []
+  size_is : values_named length_field lines ≡ size ∷ []
 
 announces : (host : List ℕ) (fr : Option (List ℕ)) (id : List ℕ) (when : Option When) (type : Option ℕ) (content : Option Data) (size : List ℕ) → Announces size (lines_with host fr id when type content size)
 unfolding is_same_name
@@ -154,7 +153,7 @@ request_sound r url aim h =
     let says = announces (host_of url) r.fr r.rqi r.rqet (created_type r.op r.ty) r.pc (decimal (length body)) in
     let framing = framing_is start (length body) (caller_lines r url ++ body_lines r) (omega (arith, h.body)) says in
     record {
-      start = (method_token r.op, h.target.0, h.target.1, h.target.2, omega arith);
+      start = (method_token r.op, h.target, omega arith);
       lines = lines_are r url aim h;
       head_fits = h.head;
       lines_fit = omega (arith, says.count);

@@ -1,5 +1,6 @@
 pub mod AddressLemmas
 pub mod AskLemmas
+pub mod CodeLemmas
 pub mod LineLemmas
 pub mod QueryLemmas
 pub mod SaidLemmas

@@ -21,7 +21,7 @@ use Rattle.m2m_value.specs.Spelling.{text_of}
 use Rattle.m2m_value.proofs.RoundTrip.{reading-text_of}
 use Rattle.primitive_json.specs.Bounds.{is_request_id}
 use Rattle.primitive_json.specs.declared.reply.ReplyParts.{ReplyParts}
-use Rattle.primitive_json.proofs.Numerals.{own}
+use Rattle.m2m_names.proofs.NumeralLemmas.{own}
 use Rattle.http_frames.specs.declared.frame.Start.TheVariants.{Answer}
 use Rattle.http_frames.specs.declared.frame.Frame.{Frame}
 use Rattle.http_frames.specs.Lines.{Line, is_same_name, values_named}

@@ -3,13 +3,15 @@ use Rattle.std.proofs.Common.{◌≡◌, ℕ, ◌+◌, ◌≤◌, Bool, true, �
 use Rattle.std.specs.Prelude.{All}
 use Rattle.std.specs.Int.{is_in_range}
 use Rattle.std.specs.List.{list_all}
+use Rattle.std.specs.Str.Parse.{digits_value}
 use Rattle.std.proofs.lemmas.Bool.{and_parts}
 use Rattle.std.proofs.lemmas.Bool.Decides.{nat_tests}
 use Rattle.std.proofs.lemmas.List.Elements.{All-nil, All-cons, All-append, All-drop, All-take, All-weaker}
 use Rattle.std.proofs.lemmas.List.Sums.{AllPass-from_list_all}
 use Rattle.httparse.specs.Grammar.{AllPass}
 use Rattle.http_uri.specs.ByteClasses.{slash, index_of}
-use Rattle.m2m_names.specs.Urls.{is_host_byte, is_path_byte, number_of, is_host, is_port_number, is_port, is_path, IsUrl}
+use Rattle.m2m_names.specs.Name.{is_filled}
+use Rattle.m2m_names.specs.Urls.{is_host_byte, is_rest_byte, is_host, is_port_number, is_port, is_path, IsUrl}
 use Rattle.std.specs.Char.{is_ascii_digit, is_ascii_graphic}
 use Rattle.primitive_json.specs.Notes.{IsSomeUrl}
 use Rattle.http_client_binding.specs.TargetWriting.{behind_scheme, host_of}
@@ -21,7 +23,7 @@ host_graphic b h = grind (arith, nat_tests)
 digit_graphic : (b : ℕ) → is_ascii_digit b ≡ true → IsTrue (is_ascii_graphic b)
 digit_graphic b h = grind (arith, nat_tests)
 
-path_graphic : (b : ℕ) → is_path_byte b ≡ true → IsTrue (is_ascii_graphic b)
+path_graphic : (b : ℕ) → is_rest_byte b ≡ true → IsTrue (is_ascii_graphic b)
 path_graphic b h = (and_parts (is_in_range 33 126 b) (not (b == 35)) h).0
 
 all_graphic : (test : ℕ → Bool) → ((b : ℕ) → test b ≡ true → IsTrue (is_ascii_graphic b)) → (bs : List ℕ) → list_all test bs ≡ true → AllPass is_ascii_graphic bs
@@ -35,21 +37,21 @@ port_passes : (port : List ℕ) → IsTrue (is_port port) → AllPass is_ascii_g
 port_passes [] h = All-nil (λ b. IsTrue (is_ascii_graphic b))
 port_passes (b ∷ digits) h =
     let parts = and_parts (b == 58) (is_port_number digits) h in
-    let inner = and_parts (is_in_range 1 5 (length digits) && list_all is_ascii_digit digits) (is_in_range 1 65_535 (number_of digits)) parts.1 in
-    let all = (and_parts (is_in_range 1 5 (length digits)) (list_all is_ascii_digit digits) inner.0).1 in
+    let inner = and_parts (is_filled 5 digits && list_all is_ascii_digit digits) (is_in_range 1 65_535 (digits_value 10 digits)) parts.1 in
+    let all = (and_parts (is_filled 5 digits) (list_all is_ascii_digit digits) inner.0).1 in
     All-cons (λ c. IsTrue (is_ascii_graphic c)) b digits (one_graphic 58 b refl parts.0) (all_graphic is_ascii_digit digit_graphic digits all)
 
 path_passes : (path : List ℕ) → IsTrue (is_path path) → AllPass is_ascii_graphic path
 path_passes [] h = All-nil (λ b. IsTrue (is_ascii_graphic b))
 path_passes (b ∷ bytes) h =
-    let parts = and_parts (b == 47) (list_all is_path_byte bytes) h in
-    All-cons (λ c. IsTrue (is_ascii_graphic c)) b bytes (one_graphic 47 b refl parts.0) (all_graphic is_path_byte path_graphic bytes parts.1)
+    let parts = and_parts (b == 47) (list_all is_rest_byte bytes) h in
+    All-cons (λ c. IsTrue (is_ascii_graphic c)) b bytes (one_graphic 47 b refl parts.0) (all_graphic is_rest_byte path_graphic bytes parts.1)
 
 url_graphic : (text : List ℕ) → IsSomeUrl text → AllPass is_ascii_graphic text
 url_graphic text h =
     let u = h.1 in
     let P : ℕ → Type 0 = λ b. IsTrue (is_ascii_graphic b) in
-    let host = (and_parts (is_in_range 1 253 (length u.host)) (list_all is_host_byte u.host) u.host_is).1 in
+    let host = (and_parts (is_filled 253 u.host) (list_all is_host_byte u.host) u.host_is).1 in
     let front = All-append P (codes "http://") u.host (AllPass-from_list_all is_ascii_graphic (codes "http://") refl) (all_graphic is_host_byte host_graphic u.host host) in
     let ported = All-append P (codes "http://" ++ u.host) u.port front (port_passes u.port u.port_is) in
     subst (AllPass is_ascii_graphic) (sym u.bytes) (All-append P (codes "http://" ++ u.host ++ u.port) u.path ported (path_passes u.path u.path_is))

@@ -1,7 +1,6 @@
 -- Laws of the binding on the side that asks.
-use Rattle.std.specs.Prelude.{◌≡◌, ◌<◌, ◌≤◌, ℕ, Bool, List, ◌++◌, length, IsTrue, IsUtf8, IfSome}
+use Rattle.std.specs.Prelude.{◌≡◌, ◌≤◌, ℕ, Bool, List, ◌++◌, length, IsTrue, IfSome}
 use Rattle.std.specs.Prelude.{Ok}
-use Rattle.httparse.specs.Grammar.{AllPass, is_uri_byte}
 use Rattle.m2m_value.specs.Data.{depth}
 use Rattle.m2m_value.specs.Reading.{reading_depth}
 use Rattle.m2m_value.specs.Sound.{IsSound}
@@ -12,7 +11,7 @@ use Rattle.primitive_json.specs.declared.reply.ReplyParts.{ReplyParts}
 use Rattle.http_frames.specs.declared.frame.Side.TheVariants.{Request}
 use Rattle.http_frames.specs.Frame.{head_limit, body_limit}
 use Rattle.http_frames.specs.Stream.{BeginsWithFrame}
-use Rattle.http_frames.specs.Text.{IsSoundFrame, head_text, frame_text}
+use Rattle.http_frames.specs.Text.{IsSoundFrame, IsTarget, head_text, frame_text}
 use Rattle.http_binding.specs.Replying.{body_of, reply_frame}
 use Rattle.http_target.specs.Targets.{address_of_path}
 use Rattle.http_client_binding.specs.declared.target.Aim.{Aim}
@@ -36,16 +35,12 @@ abbrev pub AddressIsReadBack : Type 0
 AddressIsReadBack =
     (to : List ℕ) → IsTrue (has_own_path to) → address_of_path (path_of_address to) ≡ to
 
--- the text may be the target of a request (RFC 9112, section 3.2)
-abbrev pub IsTargetText : List ℕ → Type 0
-IsTargetText text = (0 < length text) × AllPass is_uri_byte text × IsUtf8 text
-
 -- The parameters of a request are of their kinds, it goes to a URL, its target is one of the
 -- grammar, and its head and its body are no longer than a frame's may be.
 pub record IsSendable (r : RequestParts) (url : List ℕ) (aim : Aim) : Type 0 where
   pub kinds : IsOfKinds r
   pub is_url : IsSomeUrl url
-  pub target : IsTargetText (target_text r url aim)
+  pub target : IsTarget (target_text r url aim)
   pub head : length (head_text (request_frame r url aim)) ≤ head_limit
   pub body : length (body_of r.pc) ≤ body_limit Request
 

@@ -4,14 +4,14 @@ use Rattle.std.specs.Prelude.{ℕ, ◌-◌, ◌==◌, nat_eq, List, [], ◌∷�
 use Rattle.std.specs.Prelude.{Bool, not, ◌&&◌, slice_index, if◌then◌else◌}
 use Rattle.std.specs.List.{starts_with}
 use Rattle.http_uri.specs.ByteClasses.{slash, question_mark, index_of, split_once_front}
-use Rattle.m2m_names.specs.Urls.{scheme_len}
+use Rattle.m2m_names.specs.Urls.{front_len}
 use Rattle.http_target.specs.Targets.{has_segment, is_of_sp, has_provider, is_of_world}
 
 -- ---- the parts of a URL
 
 -- what stands behind the scheme
 abbrev pub behind_scheme : List ℕ → List ℕ
-behind_scheme url = drop scheme_len url
+behind_scheme url = drop front_len url
 
 -- the host, and the port where it has one, as they are written: what stands before the next slash
 abbrev pub host_of : List ℕ → List ℕ

@@ -1,6 +1,5 @@
 //! The reply that a frame says.
-ghost use Rattle.std.specs.Prelude.{◌≡◌, ◌+◌, ◌*◌, ◌<◌, ◌==◌, IfOk, IfSome, IsTrue, IsUtf8, length};
-ghost use Rattle.std.specs.Char.{digit_value, is_ascii_digit};
+ghost use Rattle.std.specs.Prelude.{◌≡◌, ◌==◌, IfOk, IfSome, IsTrue, IsUtf8, length};
 ghost use Rattle.std.specs.Str.Parse.{digits_value};
 ghost use Rattle.http_binding.specs.Binding.{echo_of};
 ghost use Rattle.http_target.specs.Chain.{ReadsAs};
@@ -11,30 +10,10 @@ ghost use Rattle.http_client_binding.specs.ReplyReading as spec;
 use crate::{BindFault, OutOfMemory};
 use http_binding::{CODE_FIELD, echo_id, value_in};
 use http_frames::{Found, Frame, Lines};
-use m2m_names::{Rsc, are_digits};
+use m2m_names::{Rsc, are_digits, digits_number};
 use m2m_value::{Scratch, Text, Val};
 use primitive_json::{Reply, ReplyParts};
 use std::alloc::Global;
-
-/// The value of a decimal digit.
-fn digit(byte: u8) -> u16
-    requires { IsTrue (is_ascii_digit byte) }
-    ensures value { result ≡ digit_value byte }
-    ensures bound { result < 10 }
-{
-    u16::from(byte - b'0')
-}
-
-/// The number that four digits write.
-fn number_of(a: u16, b: u16, c: u16, d: u16) -> u16
-    requires a { a < 10 }
-    requires b { b < 10 }
-    requires c { c < 10 }
-    requires d { d < 10 }
-    ensures { result ≡ ((a * 10 + b) * 10 + c) * 10 + d }
-{
-    ((a * 10 + b) * 10 + c) * 10 + d
-}
 
 fn are_four(text: &[u8]) -> bool
     ensures { result ≡ (length text.now == 4) }
@@ -54,12 +33,7 @@ fn code_number(text: &[u8]) -> u16
     requires { IsTrue (spec.is_code_text text.now) }
     ensures { result ≡ digits_value 10 text.now }
 {
-    number_of(
-        digit(text[0]),
-        digit(text[1]),
-        digit(text[2]),
-        digit(text[3]),
-    )
+    digits_number(text) as u16
 }
 
 /// The status code that four digits write.

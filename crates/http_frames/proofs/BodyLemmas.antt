@@ -1,17 +1,9 @@
--- Lengths in digits, and what lines say of a body.
-use Rattle.std.proofs.Common.{◌≡◌, ◌≢◌, ◌==◌, ℕ, ◌+◌, ◌*◌, ◌^◌, ◌<◌, ◌≤◌, Bool, true, false, ◌&&◌, List, [], ◌∷◌, length, take, get_or, codes, refl, sym, ◌∙◌, arith}
+-- What the lines of a head say of how the body is coded.
+use Rattle.std.proofs.Common.{◌≡◌, ◌≢◌, ◌==◌, ℕ, Bool, true, false, ◌&&◌, List, codes, sym, arith}
 use Rattle.std.specs.Prelude.{if◌then◌else◌}
-use Rattle.http_frames.specs.Lines.{is_same_name}
-use Rattle.http_frames.specs.Body.{Framing, chunked, refused, framing_of_coding, framing_of_values}
-use Rattle.std.specs.List.{list_all}
-use Rattle.std.specs.Char.{is_ascii_digit, digit_value}
-use Rattle.std.specs.Str.Parse.{digits_value, AllDigits}
-use Rattle.std.proofs.Math.Nat.{pow-le-pow_right}
-use Rattle.std.proofs.lemmas.Bool.{and_parts, and_from}
 use Rattle.std.proofs.lemmas.Bool.Decides.{nat_tests}
-use Rattle.std.proofs.lemmas.Int.Digits.{digits_value-lt, digits_value_more}
-use Rattle.std.proofs.lemmas.List.{length-take}
-use Rattle.std.proofs.lemmas.List.Folds.{list_all_more}
+use Rattle.http_frames.specs.Lines.{is_same_name}
+use Rattle.http_frames.specs.Body.{chunked, refused, framing_of_coding}
 
 -- ---- what a head says of the body
 
@@ -27,24 +19,3 @@ pub coding_is : (minor : ℕ) (value : List ℕ) (same : Bool) → minor ≡ 1 �
 coding_is minor value same one is =
     let yes : (minor == 1) ≡ true = grind (arith, nat_tests) in
     λ i. if (yes i && sym is i) then chunked else refused
-
--- a lone coding, beside what there is of a length
-pub lone_framing : (minor : ℕ) (value : List ℕ) (lengths : List (List ℕ)) (framing : Framing) → lengths ≡ []
-    → framing_of_coding minor value ≡ framing → framing_of_values minor (value ∷ []) lengths ≡ framing
-lone_framing minor value lengths framing none is = (λ i. framing_of_values minor (value ∷ []) (none i)) ∙ is
-
-pub both_refused : (minor : ℕ) (value other : List ℕ) (lengths : List (List ℕ)) → lengths ≡ other ∷ []
-    → framing_of_values minor (value ∷ []) lengths ≡ refused
-both_refused minor value other lengths one = λ i. framing_of_values minor (value ∷ []) (one i)
-
-pub many_refused : (minor : ℕ) (value : List ℕ) (lengths : List (List ℕ)) → 2 ≤ length lengths
-    → framing_of_values minor (value ∷ []) lengths ≡ refused
-many_refused minor value [] many = absurd (omega arith)
-many_refused minor value (x ∷ lengths) many = refl
-
--- two codings or more
-pub codings_refused : (minor : ℕ) (codings lengths : List (List ℕ)) → 2 ≤ length codings
-    → framing_of_values minor codings lengths ≡ refused
-codings_refused minor [] lengths many = absurd (omega arith)
-codings_refused minor (x ∷ []) lengths many = absurd (omega arith)
-codings_refused minor (x ∷ y ∷ codings) lengths many = refl

@@ -192,7 +192,7 @@ line_waits most text none may few =
         | x ∷ xs ↦ λ short. absurd (omega (arith, length-append text (x ∷ xs)))
       ];
       lacks = λ more. elim more as (λ m. length (text ++ m) < length text + 1 → LacksLine (text ++ m) ⊎ LacksPart most (text ++ m)) [
-        | [] ↦ λ short. subst (λ t. LacksLine t ⊎ LacksPart most t) (sym (append-nil text)) (inl (record { few = few; may = may_here }))
+        | [] ↦ λ short. subst (λ t. LacksLine t ⊎ LacksPart most t) (sym (append-nil text)) (inl (record { few = few; none = none_here; may = may_here }))
         | x ∷ xs ↦ λ short. absurd (omega (arith, length-append text (x ∷ xs)))
       ];
     }

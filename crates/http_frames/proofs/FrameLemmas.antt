@@ -117,7 +117,7 @@ IsFrame_unique side bytes other f g r q a b e =
     sym (append_assoc a.head a.carried r) ∙ ap (λ t. t ++ r) (sym a.bytes_are) ∙ e
     ∙ ap (λ t. t ++ q) b.bytes_are ∙ append_assoc b.head b.carried q in
     let heads = IsHead_unique side a.head b.head f.start g.start f.lines g.lines (a.carried ++ r) (b.carried ++ q)
-    a.is_head b.is_head whole in
+    a.head_is.is_head b.head_is.is_head whole in
     let framing : framing_of f.start f.lines ≡ framing_of g.start g.lines = λ i. framing_of (heads.0 i) (heads.1 i) in
     let carries = subst (λ (framed : Framing). CarriesBody (body_limit side) framed a.carried f.body) framing a.body in
     let bodies = CarriesBody_unique (body_limit side) (framing_of g.start g.lines) a.carried b.carried f.body g.body r q

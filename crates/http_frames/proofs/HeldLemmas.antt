@@ -27,10 +27,6 @@ front_kept xs ys n within =
     let all : xs ++ ys ≡ take n xs ++ (drop n xs ++ ys) = ap (λ t. t ++ ys) (sym (take-append-drop n xs)) ∙ append_assoc (take n xs) (drop n xs) ys in
     ap (take n) all ∙ take_at (take n xs) (drop n xs ++ ys) n (length-take-le n xs within)
 
--- the front, where something is written right behind it
-pub front_stays : (old rest : List ℕ) (end : ℕ) → end ≤ length old → take end (take end old ++ rest) ≡ take end old
-front_stays old rest end within = take_at (take end old) rest end (length-take-le end old within)
-
 -- the front and the first bytes that were written right behind it
 pub landed : (old buf rest : List ℕ) (end n : ℕ) → end ≤ length old → n ≤ length buf
     → take (end + n) (take end old ++ (buf ++ rest)) ≡ take end old ++ take n buf

@@ -1,9 +1,8 @@
 -- What the bytes held tell of the stream that they begin.
-use Rattle.std.proofs.Common.{◌≡◌, ◌≢◌, ℕ, ◌+◌, ◌<◌, ◌≤◌, List, [], ◌++◌, length, take, drop, Option, None, Some, refl, sym, ap, subst, ◌∙◌, arith, append_assoc}
+use Rattle.std.proofs.Common.{◌≡◌, ◌≢◌, ℕ, ◌+◌, ◌<◌, List, [], ◌++◌, length, take, drop, Option, None, Some, sym, ap, subst, ◌∙◌, arith, append_assoc}
 use Rattle.std.proofs.lemmas.List.{length-append, append-nil, take-append-drop}
 use Rattle.std.specs.Io.KnownBytes.{Consumes, IsAtEnd}
 use Rattle.httparse.specs.declared.spans.HeaderSpan.{HeaderSpan}
-use Rattle.m2m_io.specs.Counts.{Rose}
 use Rattle.http_frames.specs.declared.frame.Side.{Side}
 use Rattle.http_frames.specs.declared.look.FrameSpans.{FrameSpans}
 use Rattle.http_frames.specs.Stream.{BeginsWithFrame, HasNoFrame}
@@ -23,13 +22,6 @@ Reads_trans a b c held mid now p q = record {
   consumed = Consumes_trans a b c p.read q.read p.consumed q.consumed;
   held_is = q.held_is ∙ ap (λ v. v ++ q.read) p.held_is ∙ append_assoc held p.read q.read;
 }
-
-nothing_read : (a : Option (List ℕ)) → Consumes a a []
-nothing_read None = tt
-nothing_read (Some s) = refl
-
-pub Reads_none : (a : Option (List ℕ)) (held : List ℕ) → Reads a a held held
-Reads_none a held = record { read = []; consumed = nothing_read a; held_is = sym (append-nil held) }
 
 -- what is needed stays needed once more bytes came
 pub NeedsBytes-more : (side : Side) (held read now : List ℕ) (need : ℕ) → NeedsBytes side held need → now ≡ held ++ read
@@ -76,7 +68,3 @@ none_ever side held (Some s) some never = record {
   none = λ frame rest b. never.none [] b.bytes rest frame b.is_frame (append-nil held ∙ b.stream_is);
   none_left = λ frame rest b. never.none s b.bytes rest frame b.is_frame b.stream_is;
 }
-
--- a count that rose since rose from before
-pub Rose-earlier : (a b n : ℕ) → a ≤ b → Rose b n → Rose a n
-Rose-earlier a b n earlier rose = omega arith

@@ -42,7 +42,7 @@ short_of_head side bytes none = record {
         | inr inside ↦
             let whole = front_within bytes more text rest e inside ∙ ap (λ t. t ++ drop (length text) bytes) f.bytes_are
             ∙ append_assoc f.head f.carried (drop (length text) bytes) in
-            absurd (none.none f.head _ frame.start frame.lines f.is_head whole)
+            absurd (none.none f.head _ frame.start frame.lines f.head_is.is_head whole)
       ];
 }
 
@@ -51,16 +51,16 @@ pub no_head_within : (side : Side) (bytes : List ℕ) → HasNoHead side bytes �
 no_head_within side bytes none many = record {
   none = λ more text rest frame f e.
       let stands = head_stands side bytes more text rest frame f e in
-      let inside : length f.head ≤ length bytes = omega (arith, f.head_fits) in
-      none.none f.head _ frame.start frame.lines f.is_head (front_within bytes more f.head (f.carried ++ rest) stands inside);
+      let inside : length f.head ≤ length bytes = omega (arith, f.head_is.head_fits) in
+      none.none f.head _ frame.start frame.lines f.head_is.is_head (front_within bytes more f.head (f.carried ++ rest) stands inside);
 }
 
 -- too many lines
 pub too_many_lines : (side : Side) (bytes : List ℕ) → HeadExceeds side 64 bytes → CanNotBegin side bytes
 too_many_lines side bytes over = record {
   none = λ more text rest frame f e.
-      let many = over.exceeds more f.head (f.carried ++ rest) frame.start frame.lines f.is_head (head_stands side bytes more text rest frame f e) in
-      absurd (omega (arith, f.lines_fit));
+      let many = over.exceeds more f.head (f.carried ++ rest) frame.start frame.lines f.head_is.is_head (head_stands side bytes more text rest frame f e) in
+      absurd (omega (arith, f.head_is.lines_fit));
 }
 
 -- the head that was found is the head of a frame there
@@ -80,7 +80,7 @@ that_head side bytes more text rest headers head frame h f e =
     sym (append_assoc (take n bytes) (drop n bytes) more) ∙ ap (λ t. t ++ more) (take-append-drop n bytes)
     ∙ head_stands side bytes more text rest frame f e in
     let same = IsHead_unique side (take n bytes) f.head (start_at bytes head.start) frame.start
-    (lines_at bytes headers head.lines) frame.lines _ _ h.is_head f.is_head split in
+    (lines_at bytes headers head.lines) frame.lines _ _ h.is_head f.head_is.is_head split in
     let whole : length (take n bytes) ≡ n = length-take n bytes ∙ omega (arith, h.lines_fit.len_fits) in
     record { framing_is = λ i. framing_of (same.0 i) (same.1 i); len_is = sym whole ∙ ap length same.2; behind_is = same.3 }
 
@@ -90,7 +90,7 @@ pub head_too_long : (side : Side) (bytes : List ℕ) (headers : List HeaderSpan)
 head_too_long side bytes headers head h long = record {
   none = λ more text rest frame f e.
       let that = that_head side bytes more text rest headers head frame h f e in
-      absurd (omega (arith, f.head_fits, that.len_is));
+      absurd (omega (arith, f.head_is.head_fits, that.len_is));
 }
 
 -- how the body of that frame is carried
@@ -143,15 +143,13 @@ whole : (side : Side) (bytes carried body : List ℕ) (headers : List HeaderSpan
 whole side bytes carried body headers head end h ordered is carries =
     let len = head.len in
     let lines = lines_at bytes headers head.lines in
-    let head_is : length (take len bytes) ≤ 16384 = simp length-take (omega (arith, h.fits)) in
-    let lines_is : length lines ≤ 64 = simp (length-map, length-take) (omega (arith, h.room)) in
+    let short : length (take len bytes) ≤ 16384 = simp length-take (omega (arith, h.fits)) in
+    let few : length lines ≤ 64 = simp (length-map, length-take) (omega (arith, h.room)) in
     record {
       head = take len bytes;
       carried = carried;
       bytes_are = take_split bytes len end ordered ∙ ap (λ t. take len bytes ++ t) is;
-      is_head = h.at.is_head;
-      head_fits = head_is;
-      lines_fit = lines_is;
+      head_is = record { is_head = h.at.is_head; head_fits = short; lines_fit = few };
       body = carries;
     }
 
@@ -369,7 +367,7 @@ response_some : (h : ResponseHead) → 0 < length (print_response h)
 unfolding print_response
 response_some h = simp length-append (omega arith)
 
-head_some : (side : Side) (text : List ℕ) (start : Start) (lines : List Line) → IsHead side text start lines → 0 < length text
+pub head_some : (side : Side) (text : List ℕ) (start : Start) (lines : List Line) → IsHead side text start lines → 0 < length text
 head_some Request text start lines h = omega (arith, request_some h.head, ap length h.text_is)
 head_some Reply text start lines h = omega (arith, response_some h.head, ap length h.text_is)
 
@@ -377,7 +375,7 @@ head_some Reply text start lines h = omega (arith, response_some h.head, ap leng
 pub some_bytes : (side : Side) (bytes : List ℕ) → NeedsBytes side bytes 1
 some_bytes side bytes = record {
   at_least = λ more text rest frame f e.
-      let head = head_some side f.head frame.start frame.lines f.is_head in
+      let head = head_some side f.head frame.start frame.lines f.head_is.is_head in
       let whole : length text ≡ length f.head + length f.carried = ap length f.bytes_are ∙ length-append f.head f.carried in
       omega arith;
 }

@@ -182,21 +182,23 @@ written_by Request (Ask method target minor) lines body s = record {
   head = head_text (record { start = Ask method target minor; lines = lines; body = body });
   carried = body;
   bytes_are = refl;
-  is_head = record {
-    head = request_of method target minor lines;
-    valid = record {
-      method = s.start.0;
-      target = (s.start.1, s.start.2);
-      target_text = s.start.3;
-      minor = s.start.4;
-      fields = fields_valid lines s.lines;
+  head_is = record {
+    is_head = record {
+      head = request_of method target minor lines;
+      valid = record {
+        method = s.start.0;
+        target = (s.start.1.0, s.start.1.1);
+        target_text = s.start.1.2;
+        minor = s.start.2;
+        fields = fields_valid lines s.lines;
+      };
+      text_is = request_text method target minor lines body s.start.2;
+      start_is = refl;
+      lines_are = sym (fields_are lines s.lines);
     };
-    text_is = request_text method target minor lines body s.start.4;
-    start_is = refl;
-    lines_are = sym (fields_are lines s.lines);
+    head_fits = s.head_fits;
+    lines_fit = s.lines_fit;
   };
-  head_fits = s.head_fits;
-  lines_fit = s.lines_fit;
   body = s.body;
 }
 written_by Request (Answer status minor) lines body s = absurd s.start
@@ -205,20 +207,22 @@ written_by Reply (Answer status minor) lines body s = record {
   head = head_text (record { start = Answer status minor; lines = lines; body = body });
   carried = body;
   bytes_are = refl;
-  is_head = record {
-    head = reply_of status minor lines;
-    valid = record {
-      minor = s.start.1;
-      digits = status_valid status;
-      reason = phrase_valid status;
-      fields = fields_valid lines s.lines;
+  head_is = record {
+    is_head = record {
+      head = reply_of status minor lines;
+      valid = record {
+        minor = s.start.1;
+        digits = status_valid status;
+        reason = phrase_valid status;
+        fields = fields_valid lines s.lines;
+      };
+      text_is = reply_text status minor lines body s.start.1;
+      start_is = λ i. Answer (sym (status_worth status minor lines s.start.0) i) minor;
+      lines_are = sym (fields_are lines s.lines);
     };
-    text_is = reply_text status minor lines body s.start.1;
-    start_is = λ i. Answer (sym (status_worth status minor lines s.start.0) i) minor;
-    lines_are = sym (fields_are lines s.lines);
+    head_fits = s.head_fits;
+    lines_fit = s.lines_fit;
   };
-  head_fits = s.head_fits;
-  lines_fit = s.lines_fit;
   body = s.body;
 }
 

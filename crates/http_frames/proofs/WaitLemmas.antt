@@ -27,7 +27,7 @@ use Rattle.http_frames.specs.Waiting.{piece_limit, LackChunk, MayBecomeHead, IsU
 use Rattle.http_frames.specs.Inbox.{Reads, GivesAsNeeded, most_held}
 use Rattle.http_frames.proofs.FrameLemmas.{chunks_length}
 use Rattle.http_frames.proofs.ChunkLemmas.{front_within}
-use Rattle.http_frames.proofs.LookLemmas.{some_bytes, short_of_head, short_of_body, frame_goes_on}
+use Rattle.http_frames.proofs.LookLemmas.{some_bytes, head_some, short_of_head, short_of_body, frame_goes_on}
 use Rattle.http_frames.proofs.InboxLemmas.{NeedsBytes-more, none_within, frame_begins}
 use Rattle.http_frames.proofs.TextLemmas.{written_is_read}
 
@@ -44,7 +44,7 @@ slash_is_utf8 = IsUtf8-from_ascii (codes "/") (IsAscii-from_all (codes "/") (All
 request_sound : IsSoundFrame Request plain_request
 unfolding is_token_byte
 request_sound = record {
-  start = ((omega arith, AllPass-from_list_all is_token_byte (codes "GET") refl), omega arith, AllPass-from_list_all is_uri_byte (codes "/") refl, slash_is_utf8, omega arith);
+  start = ((omega arith, AllPass-from_list_all is_token_byte (codes "GET") refl), (omega arith, AllPass-from_list_all is_uri_byte (codes "/") refl, slash_is_utf8), omega arith);
   lines = All-nil IsLine;
   head_fits = omega arith;
   lines_fit = omega arith;
@@ -64,10 +64,10 @@ reply_sound = record {
 nothing_may : (side : Side) → MayBecomeHead side []
 nothing_may Request =
     let f = written_is_read Request plain_request request_sound in
-    inl (f.head, f.is_head.head, (f.is_head.valid, f.is_head.text_is ∙ sym (append-nil _)))
+    inl (f.head, f.head_is.is_head.head, (f.head_is.is_head.valid, f.head_is.is_head.text_is ∙ sym (append-nil _)))
 nothing_may Reply =
     let f = written_is_read Reply plain_reply reply_sound in
-    (f.head, f.is_head.head, (f.is_head.valid, f.is_head.text_is ∙ sym (append-nil _)))
+    (f.head, f.head_is.is_head.head, (f.head_is.is_head.valid, f.head_is.is_head.text_is ∙ sym (append-nil _)))
 
 -- as long as no more than the first bytes are there
 only_first : (side : Side) (bytes : List ℕ) → IsUnsettled side bytes → StaysUnsettled side bytes (length bytes + 1)
@@ -86,10 +86,16 @@ pub never_empty : (side : Side) (bytes : List ℕ) → CanNotBegin side bytes �
 never_empty Request bytes = none_stands Request bytes _ plain_request (written_is_read Request plain_request request_sound)
 never_empty Reply bytes = none_stands Reply bytes _ plain_reply (written_is_read Reply plain_reply reply_sound)
 
+no_head_of_nothing : (side : Side) → HasNoHead side []
+no_head_of_nothing side = record {
+  none = λ text rest start lines h e.
+      absurd (omega (arith, head_some side text start lines h, ap length e, length-append text rest));
+}
+
 pub empty_waits : (side : Side) (bytes : List ℕ) → length bytes ≡ 0 → WaitsFor side bytes 1
 empty_waits side [] h = record {
   more_wanted = omega arith;
-  stays = only_first side [] (none_within side [] 1 (some_bytes side []) (omega arith), inl (record { few = omega arith; may = nothing_may side }));
+  stays = only_first side [] (none_within side [] 1 (some_bytes side []) (omega arith), inl (record { few = omega arith; none = no_head_of_nothing side; may = nothing_may side }));
   most = omega arith;
 }
 empty_waits side (b ∷ bytes) h = absurd (omega arith)
@@ -97,7 +103,7 @@ empty_waits side (b ∷ bytes) h = absurd (omega arith)
 pub head_waits : (side : Side) (bytes : List ℕ) → HasNoHead side bytes → MayBecomeHead side bytes → length bytes < head_limit → WaitsFor side bytes (length bytes + 1)
 head_waits side bytes none may few = record {
   more_wanted = omega arith;
-  stays = only_first side bytes (none_within side bytes (length bytes + 1) (short_of_head side bytes none) (omega arith), inl (record { few = few; may = may }));
+  stays = only_first side bytes (none_within side bytes (length bytes + 1) (short_of_head side bytes none) (omega arith), inl (record { few = few; none = none; may = may }));
   most = omega arith;
 }
 
@@ -128,9 +134,11 @@ body_waits side bytes headers head n h e fits lacking = record {
             lines = lines_at bytes headers head.lines;
             announced = n;
             bytes_are = parts;
-            is_head = h.at.is_head;
-            head_fits = omega (arith, h.fits, front);
-            lines_fit = lines_few bytes headers head.lines h.room;
+            head_is = record {
+              is_head = h.at.is_head;
+              head_fits = omega (arith, h.fits, front);
+              lines_fit = lines_few bytes headers head.lines h.room;
+            };
             framing = e;
             body_fits = fits;
             lacks = omega (arith, whole, front, few);
@@ -175,9 +183,11 @@ chunks_wait side bytes body headers head at need end b waits end_is =
                 lines = lines_at bytes headers head.lines;
                 chunks = w.chunks;
                 bytes_are = parts;
-                is_head = b.good.at.is_head;
-                head_fits = omega (arith, b.good.fits, front);
-                lines_fit = lines_few bytes headers head.lines b.good.room;
+                head_is = record {
+                  is_head = b.good.at.is_head;
+                  head_fits = omega (arith, b.good.fits, front);
+                  lines_fit = lines_few bytes headers head.lines b.good.room;
+                };
                 framing = b.framing;
                 each = w.each;
                 body_fits = omega (arith, b.fits, ap length w.body_is);
@@ -235,7 +245,7 @@ chunk_small : (side : Side) (bytes : List ℕ) → LackChunk side bytes → leng
 chunk_small side bytes lack =
     let before = chunks_text lack.chunks in
     let part = lacks_few (body_limit side - length (chunks_body lack.chunks)) lack.part lack.lacks in
-    omega (arith, part, lack.head_fits, lack.body_fits, chunks_length lack.chunks lack.each, ap length lack.bytes_are, length-append lack.head (before ++ lack.part), length-append before lack.part)
+    omega (arith, part, lack.head_is.head_fits, lack.body_fits, chunks_length lack.chunks lack.each, ap length lack.bytes_are, length-append lack.head (before ++ lack.part), length-append before lack.part)
 
 -- little is held
 pub stays_small : {S : Type 0} (side : Side) (first all : List ℕ) (src after : S) → ReadsAsNeeded side first all src after
@@ -249,7 +259,7 @@ stays_small side first all src after (inr read) small =
       | inr later ↦ elim later [
         | inl lack ↦
             let parts : length before ≡ length lack.head + length lack.part = ap length lack.bytes_are ∙ length-append lack.head lack.part in
-            omega (arith, lack.head_fits, lack.lacks, lack.body_fits, read.small)
+            omega (arith, lack.head_is.head_fits, lack.lacks, lack.body_fits, read.small)
         | inr lack ↦ omega (arith, chunk_small side before lack, read.small)
       ]
     ]

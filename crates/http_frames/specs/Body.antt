@@ -16,6 +16,14 @@ pub data Framing : Type 0 where
   chunked : Framing
   refused : Framing
 
+-- the fields that say how a body stands on the stream, as they are written; names are compared
+-- without regard to case
+abbrev pub transfer_field : List ℕ
+transfer_field = codes "Transfer-Encoding"
+
+abbrev pub length_field : List ℕ
+length_field = codes "Content-Length"
+
 -- from the values of Content-Length (RFC 9110, section 8.6): no line is an empty body, one is 1 to
 -- 18 digits, and a second one is refused
 abbrev pub framing_of_lengths : List (List ℕ) → Framing
@@ -46,8 +54,8 @@ framing_of_values minor (coding ∷ next ∷ codings) lengths = refused
 -- what the head says of the body (RFC 9112, section 6.3)
 abbrev pub framing_of : Start → List Line → Framing
 framing_of start lines =
-    framing_of_values (minor_of start) (values_named (codes "transfer-encoding") lines)
-    (values_named (codes "content-length") lines)
+    framing_of_values (minor_of start) (values_named transfer_field lines)
+    (values_named length_field lines)
 
 -- These bytes of the stream carry this body, of at most so many bytes.
 abbrev pub CarriesBody : ℕ → Framing → List ℕ → List ℕ → Type 0

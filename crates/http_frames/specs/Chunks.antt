@@ -3,7 +3,7 @@ use Rattle.std.specs.Prelude.{◌≡◌, ◌<◌, ◌≤◌, ◌⊎◌, ℕ, Lis
 use Rattle.std.specs.List.{flat_map}
 use Rattle.httparse.specs.Ascii.{carriage_return, crlf_bytes}
 use Rattle.httparse.specs.Grammar.{ChunkLine, IsChunkLine, print_chunk_line, chunk_size}
-use Rattle.httparse.specs.Grammar.{MayBecomeChunkLine}
+use Rattle.httparse.specs.Grammar.{HasNoChunkLine, MayBecomeChunkLine}
 
 -- a chunk line has at most so many bytes, its CR LF counted
 abbrev pub chunk_line_limit : ℕ
@@ -46,9 +46,10 @@ pub record IsChunked (carried body : List ℕ) : Type 0 where
   pub carried_is : carried ≡ chunks_text chunks ++ (print_chunk_line last ++ crlf_bytes)
   pub body_is : body ≡ chunks_body chunks
 
--- They are fewer bytes than a chunk line may have, and may become one.
+-- They are fewer bytes than a chunk line may have, and none is whole, but they may become one.
 pub record LacksLine (text : List ℕ) : Type 0 where
   pub few : length text < chunk_line_limit
+  pub none : HasNoChunkLine text
   pub may : MayBecomeChunkLine text
 
 -- Behind a chunk line that says that n bytes follow, there are no more than these, or these and the

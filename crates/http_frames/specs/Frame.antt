@@ -24,6 +24,10 @@ abbrev pub body_limit : Side → ℕ
 body_limit Request = 65536
 body_limit Reply = 1048576
 
+-- and on either side at most so many
+abbrev pub largest_body : ℕ
+largest_body = body_limit Reply
+
 -- The text is the head of a request that says this (RFC 9112, section 3).
 pub record IsRequestText (text : List ℕ) (start : Start) (lines : List Line) : Type 0 where
   pub head : RequestHead
@@ -45,13 +49,18 @@ abbrev pub IsHead : Side → List ℕ → Start → List Line → Type 0
 IsHead Request text start lines = IsRequestText text start lines
 IsHead Reply text start lines = IsReplyText text start lines
 
+-- The text is such a head, and within the limits.
+pub record IsLimitedHead
+    (side : Side) (text : List ℕ) (start : Start) (lines : List Line) : Type 0 where
+  pub is_head : IsHead side text start lines
+  pub head_fits : length text ≤ head_limit
+  pub lines_fit : length lines ≤ lines_limit
+
 -- The bytes are this message: its head within the limits, and what carries its body.
 pub record IsFrame (side : Side) (bytes : List ℕ) (frame : Frame) : Type 0 where
   pub head : List ℕ
   pub carried : List ℕ
   pub bytes_are : bytes ≡ head ++ carried
-  pub is_head : IsHead side head frame.start frame.lines
-  pub head_fits : length head ≤ head_limit
-  pub lines_fit : length frame.lines ≤ lines_limit
+  pub head_is : IsLimitedHead side head frame.start frame.lines
   pub body :
       CarriesBody (body_limit side) (framing_of frame.start frame.lines) carried frame.body

@@ -61,8 +61,8 @@ abbrev pub framing_at : List ℕ → List HeaderSpan → HeadSpans → Framing
 framing_at bytes headers head =
     framing_of (start_at bytes head.start) (lines_at bytes headers head.lines)
 
--- A head within the limits that announces chunks stands at the front, the spans cover its parts, and
--- behind it chunks were walked, up to a place and with this part of the body.
+-- A head within the limits that announces chunks stands at the front, the spans cover its parts,
+-- and behind it chunks were walked, up to a place and with this part of the body.
 pub record AreBehind
     (side : Side) (bytes : List ℕ) (headers : List HeaderSpan) (head : HeadSpans) (at : ℕ)
     (body : List ℕ) : Type 0 where

@@ -49,10 +49,14 @@ head_text frame = start_text frame.start ++ (flat_map line_text frame.lines ++ c
 abbrev pub frame_text : Frame → List ℕ
 frame_text frame = head_text frame ++ frame.body
 
+-- a text that may be the target of a request (RFC 9112, section 3.2)
+abbrev pub IsTarget : List ℕ → Type 0
+IsTarget text = (0 < length text) × AllPass is_uri_byte text × IsUtf8 text
+
 -- what a message of that side may begin with
 abbrev pub IsStart : Side → Start → Type 0
 IsStart Request (Ask method target minor) =
-    IsToken method × (0 < length target) × AllPass is_uri_byte target × IsUtf8 target × (minor ≤ 1)
+    IsToken method × IsTarget target × (minor ≤ 1)
 IsStart Request (Answer status minor) = ⊥
 IsStart Reply (Ask method target minor) = ⊥
 IsStart Reply (Answer status minor) = (status < 1000) × (minor ≤ 1)

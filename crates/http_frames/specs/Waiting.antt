@@ -7,7 +7,8 @@ use Rattle.http_frames.specs.declared.frame.Start.{Start}
 use Rattle.http_frames.specs.Lines.{Line}
 use Rattle.http_frames.specs.Body.{framing_of, counted, chunked}
 use Rattle.http_frames.specs.Chunks.{Chunk, IsChunk, chunks_text, chunks_body, LacksLine, LacksPart}
-use Rattle.http_frames.specs.Frame.{head_limit, lines_limit, body_limit, IsHead}
+use Rattle.http_frames.specs.Frame.{head_limit, body_limit, IsLimitedHead}
+use Rattle.http_frames.specs.Spans.{HasNoHead}
 use Rattle.http_frames.specs.Stream.{HasNoFrame}
 
 -- a read gives at most so many bytes
@@ -20,9 +21,10 @@ abbrev pub MayBecomeHead : Side → List ℕ → Type 0
 MayBecomeHead Request bytes = MayBecomeRequest bytes
 MayBecomeHead Reply bytes = MayBecomeResponse bytes
 
--- They are fewer than a head may have, and may become one.
+-- They are fewer than a head may have, and no head is whole, but they may become one.
 pub record LackHead (side : Side) (bytes : List ℕ) : Type 0 where
   pub few : length bytes < head_limit
+  pub none : HasNoHead side bytes
   pub may : MayBecomeHead side bytes
 
 -- They are a head within the limits and a part of the body that its lines announce.
@@ -33,9 +35,7 @@ pub record LackBody (side : Side) (bytes : List ℕ) : Type 0 where
   pub lines : List Line
   pub announced : ℕ
   pub bytes_are : bytes ≡ head ++ part
-  pub is_head : IsHead side head start lines
-  pub head_fits : length head ≤ head_limit
-  pub lines_fit : length lines ≤ lines_limit
+  pub head_is : IsLimitedHead side head start lines
   pub framing : framing_of start lines ≡ counted announced
   pub body_fits : announced ≤ body_limit side
   pub lacks : length part < announced
@@ -49,9 +49,7 @@ pub record LackChunk (side : Side) (bytes : List ℕ) : Type 0 where
   pub lines : List Line
   pub chunks : List Chunk
   pub bytes_are : bytes ≡ head ++ (chunks_text chunks ++ part)
-  pub is_head : IsHead side head start lines
-  pub head_fits : length head ≤ head_limit
-  pub lines_fit : length lines ≤ lines_limit
+  pub head_is : IsLimitedHead side head start lines
   pub framing : framing_of start lines ≡ chunked
   pub each : All IsChunk chunks
   pub body_fits : length (chunks_body chunks) ≤ body_limit side

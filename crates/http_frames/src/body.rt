@@ -88,8 +88,8 @@ pub(crate) fn coding_of(buf: &[u8], start: StartSpans, headers: &[HeaderSpan]) -
     ensures { framing_of (start_at buf.now start) (map (header_bytes buf.now) headers.now)
         ≡ framing_as result }
 {
-    let size = find_span(buf, headers, b"content-length");
-    match find_span(buf, headers, b"transfer-encoding") {
+    let size = find_span(buf, headers, b"Content-Length");
+    match find_span(buf, headers, b"Transfer-Encoding") {
         Found::Absent => length_coding(buf, size),
         Found::One(coding) => lone_coding(buf, minor_of(start), coding, size),
         Found::Repeated => None,

@@ -1,10 +1,11 @@
 //! Chunked bodies on the stream (RFC 9112, section 7.1).
-ghost use Rattle.std.specs.Prelude.{◌≡◌, ◌+◌, ◌-◌, ◌^◌, ◌<◌, ◌≤◌, ◌++◌, ℕ, IfOk, OnOk, OnErr};
+ghost use Rattle.std.specs.Prelude.{◌≡◌, ◌+◌, ◌-◌, ◌<◌, ◌≤◌, ◌++◌, ℕ, IfOk, OnOk, OnErr};
 ghost use Rattle.std.specs.Prelude.{[], length, take, drop, None};
 ghost use Rattle.httparse.specs.Grammar.{HasNoChunkLine, MayBecomeChunkLine};
 ghost use Rattle.http_frames.specs.Chunks.{chunk_line_limit};
 ghost use Rattle.http_frames.specs.ChunkLooks.{IsEndLook, IsLineAt, IsChunkLook, GoesOnBy};
 ghost use Rattle.http_frames.specs.ChunkLooks.{AreChunksAt, IsStop};
+ghost use Rattle.http_frames.specs.Frame.{largest_body};
 
 use crate::head::HeadSpans;
 use httparse::{Status, parse_chunk_size};
@@ -45,7 +46,7 @@ pub(crate) enum EndLook {
 /// Whether `n` bytes and CR LF stand at the front.
 #[tactic(auto, using(crate::proofs::ChunkLemmas::end_later, crate::proofs::ChunkLemmas::end_no_cr, crate::proofs::ChunkLemmas::end_cr, crate::proofs::ChunkLemmas::end_no_lf, crate::proofs::ChunkLemmas::end_whole))]
 fn look_for_end(text: &[u8], n: usize) -> EndLook
-    requires { n < 2 ^ 32 }
+    requires { n ≤ largest_body }
     ensures { IsEndLook text.now n result }
 {
     if text.len() <= n {
@@ -77,7 +78,7 @@ fn front_of(text: &[u8]) -> &[u8]
 fn look_behind_line(text: &[u8], most: usize, start: usize, size: usize) -> ChunkLook
     requires line { IsLineAt text.now start size }
     requires fits { size ≤ most }
-    requires most { most < 2 ^ 32 }
+    requires most { most ≤ largest_body }
     ensures { IsChunkLook most text.now result }
 {
     match look_for_end(&text[start..], size) {
@@ -92,7 +93,7 @@ fn look_behind_line(text: &[u8], most: usize, start: usize, size: usize) -> Chun
 #[tactic(auto, using(crate::proofs::ChunkLemmas::size_too_large))]
 fn look_at_line(text: &[u8], most: usize, start: usize, size: u64) -> ChunkLook
     requires line { IsLineAt text.now start size }
-    requires most { most < 2 ^ 32 }
+    requires most { most ≤ largest_body }
     ensures { IsChunkLook most text.now result }
 {
     if size > most as u64 {
@@ -117,7 +118,7 @@ fn look_without_line(text: &[u8], most: usize) -> Stop
 
 /// What stands at the front, where at most `most` bytes of the body may come.
 fn look_for_chunk(text: &[u8], most: usize) -> ChunkLook
-    requires { most < 2 ^ 32 }
+    requires { most ≤ largest_body }
     ensures { IsChunkLook most text.now result }
 {
     match parse_chunk_size(front_of(text)) {
@@ -177,7 +178,7 @@ impl Walked {
         requires chunks { AreChunksAt carried.now self.old.at self.old.body.items }
         requires within { self.old.at ≤ length carried.now }
         requires fits { length self.old.body.items ≤ limit }
-        requires limit { limit < 2 ^ 32 }
+        requires limit { limit ≤ largest_body }
         ensures chunks { AreChunksAt carried.now self.new.at self.new.body.items }
         ensures within { self.new.at ≤ length carried.now }
         ensures fits { length self.new.body.items ≤ limit }

@@ -56,9 +56,9 @@ fn move_to_front(bytes: &mut Vec<u8>, start: &mut usize, end: &mut usize)
     *start = 0;
 }
 
-/// Moves the bytes to the front, where there is some room there, as much is used as a head needs, and
-/// there is none for a piece behind them. What stands there then is no more than a head and a piece
-/// need.
+/// Moves the bytes to the front, where there is some room there, as much is used as a head needs,
+/// and there is none for a piece behind them. What stands there then is no more than a head and a
+/// piece need.
 #[tactic(auto, using(crate::proofs::HeldLemmas::front_cut))]
 fn use_front(bytes: &mut Vec<u8>, start: &mut usize, end: &mut usize)
     requires ordered { start.old ≤ end.old }

@@ -233,9 +233,9 @@ impl Inbox {
     /// The next request of the stream, which is the bytes held and then those that the source has
     /// left. It reads at most 4,096 bytes at a time, and only while the bytes held have no request
     /// at their front and may still become a head, by its grammar alone, or are a head within the
-    /// limits and a part of its body. What the lines of a head say, and how many they are, is judged
-    /// once it ends. After `NoFrame` each call answers it; after another fault the next call goes on
-    /// where this one stopped.
+    /// limits and a part of its body. What the lines of a head say is judged once it ends. After
+    /// `NoFrame` each call answers it; after another fault the next call goes on where this one
+    /// stopped.
     pub fn next_request<S: Source>(
         &mut self,
         alloc: Global,

@@ -1,8 +1,8 @@
 //! A look for a frame at the front of some bytes.
-ghost use Rattle.std.specs.Prelude.{◌≡◌, ◌-◌, ◌^◌, ◌<◌, ℕ, List, [], None, IfOk, length, drop};
+ghost use Rattle.std.specs.Prelude.{◌≡◌, ◌-◌, ◌≤◌, ℕ, List, [], None, IfOk, length, drop};
 ghost use Rattle.http_frames.specs.ChunkLooks.{IsStop};
 ghost use Rattle.http_frames.specs.Body.{counted};
-ghost use Rattle.http_frames.specs.Frame.{lines_limit, body_limit};
+ghost use Rattle.http_frames.specs.Frame.{lines_limit, body_limit, largest_body};
 ghost use Rattle.http_frames.specs.Looks.{IsLook};
 ghost use Rattle.http_frames.specs.Spans.{IsGoodHead, IsHeadAt, IsWalked, AreBehind, framing_at};
 
@@ -51,7 +51,7 @@ pub(crate) enum Look {
 
 fn body_limit(side: Side) -> usize
     ensures limit { result ≡ body_limit side }
-    ensures small { result < 2 ^ 32 }
+    ensures small { result ≤ largest_body }
 {
     match side {
         Side::Request => REQUEST_BODY_LIMIT,

@@ -28,7 +28,7 @@ use Rattle.filter_criteria.specs.declared.condition.Sort.TheVariants.{Moment, Co
 use Rattle.filter_criteria.specs.declared.filter.FilterParts.{FilterParts}
 use Rattle.primitive_json.specs.Kinds.{is_numeral, number_spelled, address_forms, is_among}
 use Rattle.primitive_json.specs.Members.{retrieves}
-use Rattle.primitive_json.proofs.Numerals.{numeral_bound}
+use Rattle.m2m_names.proofs.NumeralLemmas.{numeral_bound}
 use Rattle.http_target.specs.declared.fault.BindFault.{BindFault}
 use Rattle.http_target.specs.declared.fault.BindFault.TheVariants as bind
 use Rattle.http_target.specs.declared.query.Key.{Key}

@@ -28,5 +28,5 @@ said_by op [] q = Ok q
 said_by op (pair ∷ pairs) q = and_then (pair_said op pair q) (said_by op pairs)
 
 -- what a query says on an operation
-abbrev pub query_of : Op → List ℕ → Result Query BindFault
-query_of op query = said_by op (decoded_pairs query) nothing_said
+abbrev pub query_said : Op → List ℕ → Result Query BindFault
+query_said op query = said_by op (decoded_pairs query) nothing_said

@@ -67,12 +67,16 @@ has_scheme text =
     nat_le (scheme_len text) scheme_limit
     && starts_with nat_eq (drop (scheme_len text) text) (codes "://")
 
--- the byte may follow the front of an authority: at most eight colons stand in a piece, and one
+-- the most colons that a piece of an authority has, as the crate http_uri takes it
+abbrev pub colons_limit : ℕ
+colons_limit = 8
+
+-- the byte may follow the front of an authority: at most so many colons stand in a piece, and one
 -- pair of brackets in all, with no `%` before it
 unfoldable pub may_follow : List ℕ → ℕ → Bool
 may_follow front b =
     is_authority_byte b
-    && (not (b == colon) || nat_lt (count_of colon (last_piece front)) 8)
+    && (not (b == colon) || nat_lt (count_of colon (last_piece front)) colons_limit)
     && (not (b == left_bracket)
     || ((count_of left_bracket front == 0) && (count_of percent_sign (last_piece front) == 0)))
     && (not (b == right_bracket)

@@ -5,7 +5,7 @@ ghost use Rattle.filter_criteria.specs.Conditions.{no_conditions};
 ghost use Rattle.filter_criteria.specs.declared.condition.Condition.TheVariants.{OneLabel};
 ghost use Rattle.filter_criteria.specs.declared.condition.Condition.TheVariants.{OneType, Usage};
 ghost use Rattle.http_target.specs.Chain.{ReadsAs};
-ghost use Rattle.http_target.specs.Said.{said_by, query_of};
+ghost use Rattle.http_target.specs.Said.{said_by, query_said};
 ghost use Rattle.http_target.specs.Queries as spec;
 
 use crate::target::{before, behind, is_text};
@@ -511,8 +511,8 @@ fn decoded_pairs(alloc: Global, query: &[u8]) -> Result<Vec<Pair>, OutOfMemory>
 }
 
 /// What a query says on an operation.
-pub fn query_of(alloc: Global, op: Op, query: &[u8]) -> Result<Query, BindFault>
-    ensures { ReadsAs (λ said. said) result (query_of op query.now) }
+pub fn query_said(alloc: Global, op: Op, query: &[u8]) -> Result<Query, BindFault>
+    ensures { ReadsAs (λ said. said) result (query_said op query.now) }
 {
     let pairs = decoded_pairs(alloc, query)?;
     said_by(alloc, op, &pairs)

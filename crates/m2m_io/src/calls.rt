@@ -23,6 +23,7 @@ impl Model for Calls {
 }
 
 impl Calls {
+    /// No call was made yet, and those of these numbers, from 1, are to fail.
     pub fn new(fails: Vec<u64>) -> Self
         ensures { result ≡ no_calls fails.items }
     {

@@ -1,13 +1,14 @@
 -- The table of status codes, and the numbers outside it.
-use Rattle.std.proofs.Common.{◌≡◌, ℕ, ◌∙◌, sym, ap, subst, Bool, true, false, ◌&&◌, ◌||◌, not, cond, List, [], ◌∷◌, Option, Some, None, refl, IsTrue, eqb, leb, inl, inr, lit≤}
+use Rattle.std.proofs.Common.{◌≡◌, ℕ, ◌∙◌, sym, ap, subst, Bool, true, false, ◌&&◌, ◌||◌, not, cond, List, [], ◌∷◌, Option, Some, None, refl, IsTrue, IfSome, ◌<◌, eqb, leb, inl, inr, lit≤, arith}
 use Rattle.std.specs.List.{list_any, find}
 use Rattle.std.specs.Int.{IsInRange, is_in_range}
-use Rattle.std.proofs.lemmas.Bool.{and_parts, cases_Bool, leb-true}
+use Rattle.std.proofs.lemmas.Bool.{and_parts, cases_Bool, eqb-true, leb-true}
+use Rattle.std.proofs.lemmas.Option.{same_Some}
 use Rattle.std.specs.Option.{option_or}
 use Rattle.std.proofs.Props.{props}
 use mathlib.Core.HLevel.{is_prop→PathP}
-use Rattle.m2m_names.proofs.LookupLemmas.{same_key}
-use Rattle.m2m_names.specs.StatusNumbers.{is_other}
+use Rattle.m2m_names.proofs.LookupLemmas.{find_passes, same_key}
+use Rattle.m2m_names.specs.StatusNumbers.{greatest_code, is_other}
 use Rattle.m2m_names.specs.declared.codes.OtherNumber.{OtherNumber}
 use Rattle.m2m_names.specs.declared.codes.Rsc.{Rsc}
 use Rattle.m2m_names.specs.declared.codes.Rsc.TheVariants.{Ok as Fine, Created, Deleted, Updated, BadRequest, NotFound, NotAllowed, RequestTimeout, NoPrivilege, Conflict, BadChild, Internal, NotImplemented, NotReachable, NotSubscribable, NonBlocking, NotAcceptable, TooManyMembers, WrongMember, Other}
@@ -140,6 +141,32 @@ number_in_range NotAcceptable = (lit≤ tt, lit≤ tt)
 number_in_range TooManyMembers = (lit≤ tt, lit≤ tt)
 number_in_range WrongMember = (lit≤ tt, lit≤ tt)
 number_in_range (Other o) = other_four o.number o.outside
+
+-- a status code that is found at a number has it
+other_at : (n : ℕ) (b : Bool) (known : IsTrue b → IsTrue (is_other n)) (r : Rsc) → other_code n b known ≡ Some r → (rsc_row r).number ≡ n
+other_at n true known r e = ap (λ (q : Rsc). (rsc_row q).number) (sym (same_Some _ r e))
+other_at n false known r e = let h : None ≡ Some r = e in cc
+
+named_at : (n : ℕ) (r : Rsc) → named_code n ≡ Some r → (rsc_row r).number ≡ n
+named_at n r is =
+    let p : Rsc → Bool = λ q. eqb (rsc_row q).number n in
+    let P : Option Rsc → Type 0 = λ o. IfSome o (λ q. p q ≡ true) in
+    eqb-true (rsc_row r).number n (subst P is (find_passes p named_codes))
+
+code_at : (n : ℕ) (o : Option Rsc) → named_code n ≡ o → (r : Rsc) → option_or o (other_code n (is_other n) (λ h. h)) ≡ Some r → (rsc_row r).number ≡ n
+code_at n None is r e = other_at n (is_other n) (λ h. h) r e
+code_at n (Some q) is r e = named_at n r (is ∙ e)
+
+-- so none is found at a greater number
+pub none_beyond : (n : ℕ) → greatest_code < n → rsc_of_number n ≡ None
+none_beyond n big = by_found (rsc_of_number n) refl
+  where
+    by_found : (o : Option Rsc) → rsc_of_number n ≡ o → rsc_of_number n ≡ None
+    by_found None is = is
+    by_found (Some r) is =
+        let range = number_in_range r in
+        let same : (rsc_row r).number ≡ n = code_at n (named_code n) refl r is in
+        absurd (omega (arith, range.1, same, big))
 
 -- and an HTTP status three
 pub http_in_range : (r : Rsc) → IsInRange 100 999 (rsc_row r).http

@@ -1,17 +1,18 @@
 -- What is read is a URL, and each URL is read.
 use Rattle.std.proofs.Common.{◌≡◌, Bool, true, false, ◌&&◌, ℕ, ◌+◌, ◌≤◌, ◌∙◌, sym, ap, refl, cond, List, [], ◌∷◌, ◌++◌, length, take, drop, Some, arith, IsTrue, ◌==◌, nat_le, append_assoc, length-append, suc}
 use Rattle.std.specs.Char.{is_ascii_digit}
-use Rattle.std.specs.Int.{is_in_range}
 use Rattle.std.specs.List.{list_all, prefix_len}
 use Rattle.std.specs.Str.{bytes_eq}
-use Rattle.std.proofs.lemmas.Bool.{eqb-true, leb-true, le-leb}
+use Rattle.std.specs.Str.Parse.{digits_value}
+use Rattle.std.proofs.lemmas.Bool.{and_from, eqb-true, leb-true, le-leb, lt-ltb}
 use Rattle.std.proofs.lemmas.List.{take-append-drop}
 use Rattle.std.proofs.lemmas.List.Folds.{length-prefix_len}
 use Rattle.std.proofs.lemmas.Option.{cond_some, same_Some}
 use Rattle.std.proofs.lemmas.Slice.Eq.{bytes_eq-Decides}
 use Rattle.std.proofs.Math.Seq.{drop-append_seam, take-append_seam}
+use Rattle.m2m_names.specs.Name.{is_filled, is_length, is_numeral}
 use Rattle.m2m_names.specs.Steps.{◌>>=◌}
-use Rattle.m2m_names.specs.Urls.{scheme, is_host_byte, is_path_byte, number_of, is_host, is_port_value, is_port_number, is_port, is_path, IsUrl}
+use Rattle.m2m_names.specs.Urls.{scheme, is_host_byte, is_rest_byte, is_host, is_port_value, is_port_number, is_port, is_path, IsUrl}
 use Rattle.m2m_names.specs.UrlReading.{past_scheme, host_at, port_digits_at, port_at, host_end_at}
 use Rattle.m2m_names.proofs.StepLemmas.{bind_some, bind_again}
 
@@ -56,7 +57,7 @@ host_takes : (bytes : List ℕ) (x : ℕ × List ℕ) → host_at bytes ≡ Some
 unfolding host_at
 host_takes bytes x e =
     let n = prefix_len is_host_byte bytes in
-    let h = cond_some (is_in_range 1 253 n) (n, drop n bytes) x e in
+    let h = cond_some (is_length 253 n) (n, drop n bytes) x e in
     let size : length (take n bytes) ≡ n = length-prefix_len is_host_byte bytes in
     let same_len : n ≡ x.0 = ap (λ (y : ℕ × List ℕ). y.0) h.1 in
     let same_rest : drop n bytes ≡ x.1 = ap (λ (y : ℕ × List ℕ). y.1) h.1 in
@@ -70,7 +71,7 @@ host_takes bytes x e =
 host_again : (host rest : List ℕ) → is_host host ≡ true → Stops is_host_byte rest → host_at (host ++ rest) ≡ Some (length host, rest)
 unfolding host_at
 host_again host rest is stops =
-    let h = both_of (is_in_range 1 253 (length host)) (list_all is_host_byte host) is in
+    let h = both_of (is_length 253 (length host)) (list_all is_host_byte host) is in
     rw (front_is is_host_byte host rest h.1 stops, h.0, drop-append_seam host rest) refl
 
 -- ---- port
@@ -79,8 +80,8 @@ digits_take : (bytes : List ℕ) (x : ℕ × List ℕ) → port_digits_at bytes 
 unfolding port_digits_at
 digits_take bytes x e =
     let n = prefix_len is_ascii_digit bytes in
-    let h = cond_some (is_in_range 1 5 n && is_port_value (number_of (take n bytes))) (n, drop n bytes) x e in
-    let ranges = both_of (is_in_range 1 5 n) (is_port_value (number_of (take n bytes))) h.0 in
+    let h = cond_some (is_length 5 n && is_port_value (digits_value 10 (take n bytes))) (n, drop n bytes) x e in
+    let ranges = both_of (is_length 5 n) (is_port_value (digits_value 10 (take n bytes))) h.0 in
     let size : length (take n bytes) ≡ n = length-prefix_len is_ascii_digit bytes in
     let same_len : n ≡ x.0 = ap (λ (y : ℕ × List ℕ). y.0) h.1 in
     let same_rest : drop n bytes ≡ x.1 = ap (λ (y : ℕ × List ℕ). y.1) h.1 in
@@ -91,11 +92,19 @@ digits_take bytes x e =
       len = size ∙ same_len;
     }
 
+-- they are a numeral, which has up to 18
+pub port_numeral : (bytes : List ℕ) (n : ℕ) → n ≡ prefix_len is_ascii_digit bytes → 1 ≤ n → n ≤ 5 → is_numeral (take n bytes) ≡ true
+port_numeral bytes n is some short =
+    let size : length (take (prefix_len is_ascii_digit bytes) bytes) ≡ prefix_len is_ascii_digit bytes = length-prefix_len is_ascii_digit bytes in
+    let filled : is_filled 18 (take n bytes) ≡ true =
+    rw (is, size) (and_from _ _ (lt-ltb 0 (prefix_len is_ascii_digit bytes) (omega (arith, is, some))) (le-leb (prefix_len is_ascii_digit bytes) 18 (omega (arith, is, short)))) in
+    and_from _ _ filled (ap (λ k. list_all is_ascii_digit (take k bytes)) is ∙ front_passes is_ascii_digit bytes)
+
 digits_again : (digits rest : List ℕ) → is_port_number digits ≡ true → Stops is_ascii_digit rest → port_digits_at (digits ++ rest) ≡ Some (length digits, rest)
 unfolding port_digits_at
 digits_again digits rest is stops =
-    let h = both_of (is_in_range 1 5 (length digits) && list_all is_ascii_digit digits) _ is in
-    let k = both_of (is_in_range 1 5 (length digits)) (list_all is_ascii_digit digits) h.0 in
+    let h = both_of (is_length 5 (length digits) && list_all is_ascii_digit digits) _ is in
+    let k = both_of (is_length 5 (length digits)) (list_all is_ascii_digit digits) h.0 in
     rw (front_is is_ascii_digit digits rest k.1 stops, k.0, take-append_seam digits rest, h.1, drop-append_seam digits rest) refl
 
 port_step : (b : ℕ) (bytes : List ℕ) (x : ℕ × List ℕ) (colon : Bool) → (b == 58) ≡ colon → cond colon (port_digits_at bytes >>= λ port. Some (1 + port.0, port.1)) (Some (0, b ∷ bytes)) ≡ Some x → TakesPart (λ p. IsTrue (is_port p)) (b ∷ bytes) x
@@ -134,7 +143,7 @@ port_takes (b ∷ bytes) x e = port_step b bytes x (b == 58) refl e
 
 -- a path doesn't begin with a digit, nor does a port with a path after it with a byte of a host
 slash : (b : ℕ) (bytes : List ℕ) → is_path (b ∷ bytes) ≡ true → b ≡ 47
-slash b bytes is = eqb-true b 47 (both_of (b == 47) (list_all is_path_byte bytes) is).0
+slash b bytes is = eqb-true b 47 (both_of (b == 47) (list_all is_rest_byte bytes) is).0
 
 path_stops_digits : (path : List ℕ) → is_path path ≡ true → Stops is_ascii_digit path
 path_stops_digits [] is = tt

@@ -7,7 +7,7 @@ use Rattle.std.specs.Char.{is_ascii_digit}
 use Rattle.std.specs.Fmt.{decimal}
 use Rattle.std.specs.List.{prefix_len}
 use Rattle.std.specs.Str.Parse.{digits_value}
-use Rattle.m2m_names.specs.Name.{is_numeral}
+use Rattle.m2m_names.specs.Name.{is_numeral, numeral_limit}
 use Rattle.m2m_names.specs.Types.{ty_of_word, ty_row}
 use Rattle.m2m_names.specs.declared.types.Ty.{Ty}
 
@@ -35,6 +35,10 @@ is_written (digit ∷ digits) = not (digit == 48) || length digits == 0
 -- the number below the bound that the text spells in decimal
 abbrev pub number_written : List ℕ → Option ℕ
 number_written text = if is_written text then number_from 0 text else None
+
+-- what such digits write is below this
+abbrev pub spelled_bound : ℕ
+spelled_bound = 10 ^ numeral_limit
 
 -- the number that 1 to 18 digits write
 abbrev pub number_spelled : List ℕ → Option ℕ

@@ -7,16 +7,28 @@ use Rattle.std.specs.Str.{bytes_eq}
 use Rattle.m2m_names.specs.Types.{ty_row, all_types}
 
 -- a length from 1 to the greatest
+abbrev pub is_length : ℕ → ℕ → Bool
+is_length most n = nat_lt 0 n && nat_le n most
+
+-- a text of such a length
 abbrev pub is_filled : ℕ → List ℕ → Bool
-is_filled most text = nat_lt 0 (length text) && nat_le (length text) most
+is_filled most text = is_length most (length text)
 
 -- the most digits of a number that a text spells
 abbrev pub numeral_limit : ℕ
 numeral_limit = 18
 
+-- 1 to so many decimal digits
+abbrev pub is_decimal : ℕ → List ℕ → Bool
+is_decimal most text = is_filled most text && list_all is_ascii_digit text
+
+-- 1 to so many printable ASCII characters without a space
+abbrev pub is_printable : ℕ → List ℕ → Bool
+is_printable most text = is_filled most text && list_all is_ascii_graphic text
+
 -- 1 to 18 decimal digits
 abbrev pub is_numeral : List ℕ → Bool
-is_numeral text = is_filled numeral_limit text && list_all is_ascii_digit text
+is_numeral text = is_decimal numeral_limit text
 
 -- the most bytes that a name of a resource has
 abbrev pub name_limit : ℕ
@@ -74,13 +86,15 @@ abbrev pub is_numbered : List ℕ → List ℕ → Bool
 is_numbered word text = starts_with nat_eq text word
     && nat_lt (length word) (length text) && list_all is_ascii_digit (drop (length word) text)
 
--- a text in the form of a resource id: the short word of a type and digits
+-- a text in the form of a resource id: the short word of a type and digits. This is looser than
+-- `id_parts`, which reads digits as a number is written alone, since a CSEBase has no name that
+-- even looks like an id, as `cnt007` does.
 abbrev pub is_resource_id : List ℕ → Bool
 is_resource_id text = list_any (λ ty. is_numbered (ty_row ty).word text) all_types
 
 -- an originator: 1 to 256 printable ASCII characters without a space (TS-0004, 6.3.3)
 abbrev pub is_originator : List ℕ → Bool
-is_originator text = is_filled originator_limit text && list_all is_ascii_graphic text
+is_originator text = is_printable originator_limit text
 
 -- an originator that doesn't begin with `/`
 abbrev pub is_local_originator : List ℕ → Bool

@@ -1,5 +1,5 @@
 -- The operations of a request.
-use Rattle.std.specs.Prelude.{ℕ, List, [], ◌∷◌, Option, ℤ, pos, find}
+use Rattle.std.specs.Prelude.{ℕ, ◌+◌, List, [], ◌∷◌, Option, ℤ, pos, find, sum_by}
 use Rattle.std.specs.Ordering.{int_eq}
 use Rattle.m2m_names.specs.declared.operations.Op.{Op}
 use Rattle.m2m_names.specs.declared.operations.Op.TheVariants.{Create, Retrieve, Update, Delete}
@@ -25,13 +25,13 @@ op_row Notify = op_entry 5 16
 abbrev pub discovery_bit : ℕ
 discovery_bit = 32
 
--- all six bits: CREATE 1, RETRIEVE 2, UPDATE 4, DELETE 8, NOTIFY 16, DISCOVERY 32
-abbrev pub all_bits : ℕ
-all_bits = 63
-
 -- all operations, in the order of their numbers
 abbrev pub all_ops : List Op
 all_ops = Create ∷ Retrieve ∷ Update ∷ Delete ∷ Notify ∷ []
+
+-- the sum of all six bits: those of the operations, and that of DISCOVERY
+abbrev pub all_bits : ℕ
+all_bits = sum_by (λ op. (op_row op).bit) all_ops + discovery_bit
 
 -- the operation of a number
 abbrev pub op_of_number : ℤ → Option Op

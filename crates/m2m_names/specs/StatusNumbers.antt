@@ -84,6 +84,13 @@ named_rows =
 abbrev pub named_numbers : List ℕ
 named_numbers = map (λ (row : RscRow). row.number) named_rows
 
+-- the numbers of status codes have four digits: the least and the greatest of them
+abbrev pub least_code : ℕ
+least_code = 1000
+
+abbrev pub greatest_code : ℕ
+greatest_code = 9999
+
 -- whether a number of four digits has no name
 abbrev pub is_other : ℕ → Bool
-is_other n = is_in_range 1000 9999 n && not (list_any (λ m. m == n) named_numbers)
+is_other n = is_in_range least_code greatest_code n && not (list_any (λ m. m == n) named_numbers)

@@ -49,9 +49,13 @@ all_types =
     ∷ RemoteCse ∷ Subscription ∷ AccessControlPolicyAnnc ∷ AeAnnc ∷ ContainerAnnc
     ∷ ContentInstanceAnnc ∷ GroupAnnc ∷ []
 
--- a number that a resource type may have, known or not: 0 to 65,535 (the profile's)
+-- the largest number that a resource type may have (the profile's)
+abbrev pub largest_type : ℕ
+largest_type = 65_535
+
+-- a number that a resource type may have, known or not
 abbrev pub is_type_number : ℕ → Bool
-is_type_number n = nat_le n 65_535
+is_type_number n = nat_le n largest_type
 
 -- the type of a number
 abbrev pub ty_of_number : ℕ → Option Ty
@@ -65,11 +69,14 @@ ty_of_word word = find (λ ty. bytes_eq (ty_row ty).word word) all_types
 abbrev pub ty_member : Ty → List ℕ
 ty_member ty = codes "m2m:" ++ (ty_row ty).word
 
+-- the type is that type
+abbrev pub is_ty : Ty → Ty → Bool
+is_ty a b = (ty_row a).number == (ty_row b).number
+
 -- a resource of the first type may have children of the second
 abbrev pub Takes : Ty → Ty → Type 0
 Takes parent child = Contains (ty_row parent).takes child
 
 -- whether it may, as a test
 abbrev pub does_take : Ty → Ty → Bool
-does_take parent child =
-    list_any (λ ty. (ty_row ty).number == (ty_row child).number) (ty_row parent).takes
+does_take parent child = list_any (λ ty. is_ty ty child) (ty_row parent).takes

@@ -36,6 +36,11 @@ pub enum Rsc {
     Other(OtherNumber),
 }
 
+/// The numbers of status codes have four digits: the least and the greatest of them.
+const LEAST_CODE: u16 = 1000;
+
+const GREATEST_CODE: u16 = 9999;
+
 const NAMED: [Rsc; 19] = [
     Rsc::Ok,
     Rsc::Created,
@@ -62,6 +67,7 @@ impl Rsc {
     ghost use Rattle.m2m_names.specs.declared.codes.Rsc.{Rsc};
     ghost use Rattle.m2m_names.specs.StatusCodes.{rsc_row, rsc_of_number, named_code};
     ghost use Rattle.m2m_names.specs.StatusCodes.{http_status_of_other};
+    ghost use Rattle.m2m_names.specs.StatusNumbers.{least_code, greatest_code};
 
     /// The HTTP status of a number that has no name.
     fn http_of_other(n: u16) -> u16
@@ -114,11 +120,13 @@ impl Rsc {
     pub fn from_number(n: u16) -> Option<Rsc>
         ensures value { result ≡ rsc_of_number n }
         ensures found { IfSome result (λ r. (rsc_row r).number ≡ n) }
-        ensures some { IsSome result ↔ IsInRange 1000 9999 n }
+        ensures some { IsSome result ↔ IsInRange least_code greatest_code n }
     {
         match Rsc::named(n) {
             Some(code) => Some(code),
-            None if (1000..=9999).contains(&n) => Some(Rsc::Other(OtherNumber { number: n })),
+            None if (LEAST_CODE..=GREATEST_CODE).contains(&n) => {
+                Some(Rsc::Other(OtherNumber { number: n }))
+            }
             None => None,
         }
     }

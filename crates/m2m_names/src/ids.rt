@@ -1,5 +1,5 @@
 //! Numbers in decimal, and resource ids.
-ghost use Rattle.std.specs.Prelude.{◌≡◌, ℕ, ◌<◌, ◌≤◌, ◌^◌, length, IfSome, IsTrue, Some};
+ghost use Rattle.std.specs.Prelude.{◌≡◌, ℕ, ◌<◌, ◌≤◌, length, IfSome, IsTrue, Some};
 ghost use Rattle.std.specs.Fmt.{decimal};
 ghost use Rattle.std.specs.Str.Parse.{digits_value};
 ghost use Rattle.m2m_names.specs.Name.{is_numeral};
@@ -16,9 +16,9 @@ pub const LARGEST_COUNT: u64 = 9_223_372_036_854_775_807;
 const NUMERAL_LIMIT: usize = 18;
 
 fn with_digit(n: u64, digit: u8) -> Option<u64>
-    requires { n < 2 ^ 63 }
+    requires { n < spec.count_bound }
     ensures value { result ≡ spec.with_digit n digit }
-    ensures bound { IfSome result (λ m. m < 2 ^ 63) }
+    ensures bound { IfSome result (λ m. m < spec.count_bound) }
 {
     if !digit.is_ascii_digit() {
         return None;
@@ -33,7 +33,7 @@ fn with_digit(n: u64, digit: u8) -> Option<u64>
 
 fn number_in(digits: &[u8]) -> Option<u64>
     ensures value { result ≡ spec.number_from 0 digits.now }
-    ensures bound { IfSome result (λ n. n < 2 ^ 63) }
+    ensures bound { IfSome result (λ n. n < spec.count_bound) }
 {
     let mut number = 0;
     for digit in digits {
@@ -56,15 +56,15 @@ fn is_written(digits: &[u8]) -> bool
 pub fn read_digits(text: &[u8]) -> Option<u64>
     ensures value { result ≡ spec.number_written text.now }
     ensures found { IfSome result (λ n. decimal n ≡ text.now) }
-    ensures only { (n : ℕ) → n < 2 ^ 63 → text.now ≡ decimal n → result ≡ Some n }
-    ensures bound { IfSome result (λ n. n < 2 ^ 63) }
+    ensures only { (n : ℕ) → n < spec.count_bound → text.now ≡ decimal n → result ≡ Some n }
+    ensures bound { IfSome result (λ n. n < spec.count_bound) }
 {
     number_written(text)
 }
 
 fn number_written(text: &[u8]) -> Option<u64>
     ensures value { result ≡ spec.number_written text.now }
-    ensures bound { IfSome result (λ n. n < 2 ^ 63) }
+    ensures bound { IfSome result (λ n. n < spec.count_bound) }
 {
     if is_written(text) {
         number_in(text)
@@ -77,7 +77,7 @@ fn number_written(text: &[u8]) -> Option<u64>
 pub fn digits_number(digits: &[u8]) -> u64
     requires { IsTrue (is_numeral digits.now) }
     ensures value { result ≡ digits_value 10 digits.now }
-    ensures bound { result < 10 ^ 18 }
+    ensures bound { result < spec.spelled_bound }
 {
     let mut number = 0;
     for digit in digits {
@@ -96,7 +96,7 @@ pub fn is_numeral(text: &[u8]) -> bool
 /// The number that 1 to 18 digits write.
 pub fn number_spelled(text: &[u8]) -> Option<u64>
     ensures value { result ≡ spec.number_spelled text.now }
-    ensures bound { IfSome result (λ n. n < 10 ^ 18) }
+    ensures bound { IfSome result (λ n. n < spec.spelled_bound) }
 {
     if is_numeral(text) {
         Some(digits_number(text))
@@ -121,15 +121,15 @@ pub fn read_id(text: &[u8]) -> Option<(Ty, u64)>
     ensures value { result ≡ spec.id_parts text.now }
     ensures found { IfSome result (λ id. id_text id.0 id.1 ≡ text.now) }
     ensures only { (ty : Ty) (n : ℕ) →
-        n < 2 ^ 63 → text.now ≡ id_text ty n → result ≡ Some (ty, n) }
-    ensures bound { IfSome result (λ id. id.1 < 2 ^ 63) }
+        n < spec.count_bound → text.now ≡ id_text ty n → result ≡ Some (ty, n) }
+    ensures bound { IfSome result (λ id. id.1 < spec.count_bound) }
 {
     id_of_parts(text)
 }
 
 fn id_of_parts(text: &[u8]) -> Option<(Ty, u64)>
     ensures value { result ≡ spec.id_parts text.now }
-    ensures bound { IfSome result (λ id. id.1 < 2 ^ 63) }
+    ensures bound { IfSome result (λ id. id.1 < spec.count_bound) }
 {
     let len = word_len(text);
     let ty = Ty::from_word(&text[..len])?;

@@ -3,7 +3,7 @@ ghost use Rattle.std.specs.Prelude.{◌≡◌, ◌≢◌, ◌≤◌, ◌↔◌, 
 ghost use Rattle.std.specs.Bool.{OnTrue};
 ghost use Rattle.m2m_names.specs.declared.types.Ty.{Ty};
 ghost use Rattle.m2m_names.specs.Types.{ty_row, ty_of_number, ty_of_word, ty_member, Takes};
-ghost use Rattle.m2m_names.specs.Types.{does_take, is_type_number};
+ghost use Rattle.m2m_names.specs.Types.{does_take, is_type_number, largest_type};
 
 /// A resource type, by the standard's own names (TS-0001, 9.6; `Annc` ends those of announced
 /// resources).
@@ -239,10 +239,13 @@ impl Ty {
     }
 }
 
+/// The largest number that a resource type may have (the profile's).
+const LARGEST_TYPE: u64 = 65_535;
+
 /// Whether a resource type may have the number, be it known or not.
 pub fn is_type_number(number: u64) -> bool
     ensures value { result ≡ is_type_number number }
-    ensures bound { OnTrue result (number ≤ 65_535) }
+    ensures bound { OnTrue result (number ≤ largest_type) }
 {
-    number <= 65_535
+    number <= LARGEST_TYPE
 }

@@ -1,15 +1,25 @@
 //! URLs of points of access and of notification targets.
-ghost use Rattle.std.specs.Prelude.{◌≡◌, ◌≤◌, ℕ, length, IfSome, IfNone, IsSomeAnd};
+ghost use Rattle.std.specs.Prelude.{◌≡◌, ◌+◌, ◌≤◌, ℕ, length, IfSome, IfNone, IsSomeAnd};
 ghost use Rattle.std.specs.Char.{is_ascii_digit};
 ghost use Rattle.std.specs.List.{list_all, prefix_len};
 ghost use Rattle.std.specs.Option.{option_map};
 ghost use Rattle.m2m_names.specs.Urls as spec;
-ghost use Rattle.m2m_names.specs.Urls.{IsUrl, number_of};
+ghost use Rattle.m2m_names.specs.Urls.{IsUrl, host_limit, port_digits_limit};
 ghost use Rattle.m2m_names.specs.UrlReading.{past_scheme, host_at, port_digits_at, port_at};
 ghost use Rattle.m2m_names.specs.UrlReading.{host_end_at};
 
+use crate::digits_number;
+
 /// The most bytes that an address or a URL has (the profile's).
 pub const POINT_LIMIT: usize = 512;
+
+/// The most bytes that a host has.
+const HOST_LIMIT: usize = 253;
+
+/// The most digits that the number of a port has, and the largest such number.
+const PORT_DIGITS_LIMIT: usize = 5;
+
+const LARGEST_PORT: u64 = 65_535;
 
 /// The parts of a URL.
 #[derive(Clone, Copy, Debug, PartialEq, Eq)]
@@ -24,8 +34,8 @@ fn is_host_byte(b: u8) -> bool
     b.is_ascii_alphanumeric() || b == b'.' || b == b'-'
 }
 
-fn is_path_byte(b: u8) -> bool
-    ensures { result ≡ spec.is_path_byte b }
+fn is_rest_byte(b: u8) -> bool
+    ensures { result ≡ spec.is_rest_byte b }
 {
     b.is_ascii_graphic() && b != b'#'
 }
@@ -44,10 +54,10 @@ fn digits_len(bytes: &[u8]) -> usize
     bytes.iter().take_while(|b| b.is_ascii_digit()).count()
 }
 
-fn are_path_bytes(bytes: &[u8]) -> bool
-    ensures { result ≡ list_all spec.is_path_byte bytes.now }
+fn are_rest_bytes(bytes: &[u8]) -> bool
+    ensures { result ≡ list_all spec.is_rest_byte bytes.now }
 {
-    bytes.iter().all(|b| is_path_byte(*b))
+    bytes.iter().all(|b| is_rest_byte(*b))
 }
 
 fn is_path(bytes: &[u8]) -> bool
@@ -55,20 +65,9 @@ fn is_path(bytes: &[u8]) -> bool
 {
     match bytes {
         [] => true,
-        [b'/', rest @ ..] => are_path_bytes(rest),
+        [b'/', rest @ ..] => are_rest_bytes(rest),
         _ => false,
     }
-}
-
-fn number(digits: &[u8]) -> u32
-    requires { length digits.now ≤ 5 }
-    ensures { result ≡ number_of digits.now }
-{
-    let mut n = 0u32;
-    for b in digits {
-        n = n * 10 + u32::from(b.saturating_sub(b'0'));
-    }
-    n
 }
 
 fn after_scheme(bytes: &[u8]) -> Option<&[u8]>
@@ -80,10 +79,10 @@ fn after_scheme(bytes: &[u8]) -> Option<&[u8]>
 #[tactic(auto, unfolding(crate::specs::UrlReading::host_at))]
 fn host(bytes: &[u8]) -> Option<(usize, &[u8])>
     ensures value { option_map (λ x. (x.0, x.1.now)) result ≡ host_at bytes.now }
-    ensures bound { IfSome result (λ x. x.0 ≤ 253) }
+    ensures bound { IfSome result (λ x. x.0 ≤ host_limit) }
 {
     let len = host_len(bytes);
-    if len < 1 || len > 253 {
+    if len < 1 || len > HOST_LIMIT {
         return None;
     }
     Some((len, &bytes[len..]))
@@ -92,15 +91,15 @@ fn host(bytes: &[u8]) -> Option<(usize, &[u8])>
 #[tactic(auto, unfolding(crate::specs::UrlReading::port_digits_at))]
 fn port_digits(bytes: &[u8]) -> Option<(usize, &[u8])>
     ensures value { option_map (λ x. (x.0, x.1.now)) result ≡ port_digits_at bytes.now }
-    ensures bound { IfSome result (λ x. x.0 ≤ 5) }
+    ensures bound { IfSome result (λ x. x.0 ≤ port_digits_limit) }
 {
     let len = digits_len(bytes);
-    if len < 1 || len > 5 {
+    if len < 1 || len > PORT_DIGITS_LIMIT {
         return None;
     }
     let (digits, rest) = bytes.split_at(len);
-    let number = number(digits);
-    if number < 1 || number > 65_535 {
+    let number = digits_number(digits);
+    if number < 1 || number > LARGEST_PORT {
         return None;
     }
     Some((len, rest))
@@ -109,7 +108,7 @@ fn port_digits(bytes: &[u8]) -> Option<(usize, &[u8])>
 #[tactic(auto, unfolding(crate::specs::UrlReading::port_at))]
 fn port(bytes: &[u8]) -> Option<(usize, &[u8])>
     ensures value { option_map (λ x. (x.0, x.1.now)) result ≡ port_at bytes.now }
-    ensures bound { IfSome result (λ x. x.0 ≤ 6) }
+    ensures bound { IfSome result (λ x. x.0 ≤ 1 + port_digits_limit) }
 {
     match bytes {
         [b':', rest @ ..] => {

@@ -10,7 +10,7 @@ use Rattle.std.specs.Str.{is_utf8}
 use Rattle.serde_json.specs.Data as json
 use Rattle.serde_json.specs.Read.{read}
 use Rattle.m2m_value.specs.Data.{Data, Entry, Elements, no_elements, element, elements_of, Pairs, no_pairs, pair, pairs_of}
-use Rattle.m2m_value.specs.Reading.{followed, value_of, elements_in, pairs_in, value_if, reading}
+use Rattle.m2m_value.specs.Reading.{followed, value_kept, elements_in, pairs_in, value_if, reading}
 use Rattle.m2m_value.specs.declared.fault.ValFault.{ValFault}
 use Rattle.m2m_value.specs.declared.fault.ValFault.TheVariants.{NotJson}
 
@@ -62,19 +62,19 @@ pub no_pair_kept : (rest : Result Pairs ValFault) → rest ≡ pairs_after_kept 
 no_pair_kept (Ok ps) = refl
 no_pair_kept (Err fault) = refl
 
-pub element_kept : (ds more : List Data) (j : json.Data) (js : json.Items) (d : Data) → value_of j ≡ Ok d → more ≡ ds ++ d ∷ [] → after_kept ds (elements_in (json.item j js)) ≡ after_kept more (elements_in js)
+pub element_kept : (ds more : List Data) (j : json.Data) (js : json.Items) (d : Data) → value_kept j ≡ Ok d → more ≡ ds ++ d ∷ [] → after_kept ds (elements_in (json.item j js)) ≡ after_kept more (elements_in js)
 element_kept ds more j js d told pushed =
     ap (λ r. after_kept ds (followed r (λ e. followed (elements_in js) (λ es. Ok (element e es))))) told ∙ one_more ds d (elements_in js) ∙ ap (λ l. after_kept l (elements_in js)) (sym pushed)
 
-pub pair_kept : (es more : List Entry) (k : List ℕ) (j : json.Data) (ms : json.Members) (d : Data) → value_of j ≡ Ok d → more ≡ es ++ (k, d) ∷ []
+pub pair_kept : (es more : List Entry) (k : List ℕ) (j : json.Data) (ms : json.Members) (d : Data) → value_kept j ≡ Ok d → more ≡ es ++ (k, d) ∷ []
     → pairs_after_kept es (pairs_in (json.member k j ms)) ≡ pairs_after_kept more (pairs_in ms)
 pair_kept es more k j ms d told pushed =
     ap (λ r. pairs_after_kept es (followed r (λ e. followed (pairs_in ms) (λ ps. Ok (pair k e ps))))) told ∙ one_more_pair es (k, d) (pairs_in ms) ∙ ap (λ l. pairs_after_kept l (pairs_in ms)) (sym pushed)
 
-pub element_refused : (ds : List Data) (j : json.Data) (js : json.Items) (fault : ValFault) → value_of j ≡ Err fault → after_kept ds (elements_in (json.item j js)) ≡ Err fault
+pub element_refused : (ds : List Data) (j : json.Data) (js : json.Items) (fault : ValFault) → value_kept j ≡ Err fault → after_kept ds (elements_in (json.item j js)) ≡ Err fault
 element_refused ds j js fault told = ap (λ r. after_kept ds (followed r (λ e. followed (elements_in js) (λ es. Ok (element e es))))) told
 
-pub pair_refused : (es : List Entry) (k : List ℕ) (j : json.Data) (ms : json.Members) (fault : ValFault) → value_of j ≡ Err fault → pairs_after_kept es (pairs_in (json.member k j ms)) ≡ Err fault
+pub pair_refused : (es : List Entry) (k : List ℕ) (j : json.Data) (ms : json.Members) (fault : ValFault) → value_kept j ≡ Err fault → pairs_after_kept es (pairs_in (json.member k j ms)) ≡ Err fault
 pair_refused es k j ms fault told = ap (λ r. pairs_after_kept es (followed r (λ e. followed (pairs_in ms) (λ ps. Ok (pair k e ps))))) told
 
 pub text_keys-push : (es : List Entry) (e : Entry) → AllByRecursion IsUtf8 (keys_of es) → IsUtf8 e.0 → AllByRecursion IsUtf8 (keys_of (es ++ e ∷ []))

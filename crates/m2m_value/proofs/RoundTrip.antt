@@ -21,7 +21,7 @@ use Rattle.serde_json.specs.Written.{number_text, outline, items_outline, member
 use Rattle.serde_json.proofs.Numbers.{number_of-decimal, number_of-negative}
 use Rattle.serde_json.proofs.Texts.{print-outline}
 use Rattle.m2m_value.specs.Data.{Data, null, boolean, number, text, list, object, Elements, no_elements, element, Pairs, no_pairs, pair, depth, elements_depth, pairs_depth}
-use Rattle.m2m_value.specs.Reading.{followed, whole_of, value_of, elements_in, pairs_in, value_if, reading, reading_depth}
+use Rattle.m2m_value.specs.Reading.{followed, whole_of, value_kept, elements_in, pairs_in, value_if, reading, reading_depth}
 use Rattle.m2m_value.specs.Sound.{IsSound, AreSound, HaveSound, pair_keys}
 use Rattle.m2m_value.specs.Spelling.{quoted, text_of, elements_from, pairs_from}
 use Rattle.m2m_value.proofs.Answering.{reading-text}
@@ -154,23 +154,23 @@ number_kept (pos n) h = rw (lt-ltb _ _ h) refl
 number_kept (negsuc n) h = refl
 
 mutual
-  pub value_of-raised : (d : Data) → IsSound d → value_of (raised d) ≡ Ok d
-  value_of-raised null h = refl
-  value_of-raised (boolean b) h = refl
-  value_of-raised (number z) h = ap (λ r. followed r (λ n. Ok (number n))) (number_kept z h)
-  value_of-raised (text s) h = refl
-  value_of-raised (list es) h = ap (λ r. followed r (λ x. Ok (list x))) (elements_in-raised es h)
-  value_of-raised (object ps) h = ap (λ r. followed r (λ x. Ok (object x))) (pairs_in-raised ps h.2)
+  pub value_kept-raised : (d : Data) → IsSound d → value_kept (raised d) ≡ Ok d
+  value_kept-raised null h = refl
+  value_kept-raised (boolean b) h = refl
+  value_kept-raised (number z) h = ap (λ r. followed r (λ n. Ok (number n))) (number_kept z h)
+  value_kept-raised (text s) h = refl
+  value_kept-raised (list es) h = ap (λ r. followed r (λ x. Ok (list x))) (elements_in-raised es h)
+  value_kept-raised (object ps) h = ap (λ r. followed r (λ x. Ok (object x))) (pairs_in-raised ps h.2)
 
   elements_in-raised : (es : Elements) → AreSound es → elements_in (raised_elements es) ≡ Ok es
   elements_in-raised no_elements h = refl
   elements_in-raised (element d es) h =
-      ap (λ r. followed r (λ e. followed (elements_in (raised_elements es)) (λ x. Ok (element e x)))) (value_of-raised d h.0) ∙ ap (λ r. followed r (λ x. Ok (element d x))) (elements_in-raised es h.1)
+      ap (λ r. followed r (λ e. followed (elements_in (raised_elements es)) (λ x. Ok (element e x)))) (value_kept-raised d h.0) ∙ ap (λ r. followed r (λ x. Ok (element d x))) (elements_in-raised es h.1)
 
   pairs_in-raised : (ps : Pairs) → HaveSound ps → pairs_in (raised_pairs ps) ≡ Ok ps
   pairs_in-raised no_pairs h = refl
   pairs_in-raised (pair k d ps) h =
-      ap (λ r. followed r (λ e. followed (pairs_in (raised_pairs ps)) (λ x. Ok (pair k e x)))) (value_of-raised d h.0) ∙ ap (λ r. followed r (λ x. Ok (pair k d x))) (pairs_in-raised ps h.1)
+      ap (λ r. followed r (λ e. followed (pairs_in (raised_pairs ps)) (λ x. Ok (pair k e x)))) (value_kept-raised d h.0) ∙ ap (λ r. followed r (λ x. Ok (pair k d x))) (pairs_in-raised ps h.1)
 
 -- ---- the text is UTF-8
 
@@ -209,4 +209,4 @@ mutual
 
 -- the text of a value is read as that value
 pub reading-text_of : (d : Data) → IsSound d → depth d ≤ reading_depth → reading (text_of d) ≡ Ok d
-reading-text_of d sound shallow = reading-text (text_of d) (IsUtf8-text_of d sound) ∙ ap value_if (read-text_of d sound shallow) ∙ value_of-raised d sound
+reading-text_of d sound shallow = reading-text (text_of d) (IsUtf8-text_of d sound) ∙ ap value_if (read-text_of d sound shallow) ∙ value_kept-raised d sound

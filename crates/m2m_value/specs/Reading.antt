@@ -26,28 +26,28 @@ whole_of (json.float x) = Err Fraction
 -- the value, or the fault of its first number that has one: lists in order, members in the order of
 -- their keys
 abbrev mutual
-  pub value_of : json.Data → Result Data ValFault
-  value_of json.null = Ok null
-  value_of (json.boolean b) = Ok (boolean b)
-  value_of (json.number n) = followed (whole_of n) (λ z. Ok (number z))
-  value_of (json.string s) = Ok (text s)
-  value_of (json.array ds) = followed (elements_in ds) (λ es. Ok (list es))
-  value_of (json.object ms) = followed (pairs_in ms) (λ ps. Ok (object ps))
+  pub value_kept : json.Data → Result Data ValFault
+  value_kept json.null = Ok null
+  value_kept (json.boolean b) = Ok (boolean b)
+  value_kept (json.number n) = followed (whole_of n) (λ z. Ok (number z))
+  value_kept (json.string s) = Ok (text s)
+  value_kept (json.array ds) = followed (elements_in ds) (λ es. Ok (list es))
+  value_kept (json.object ms) = followed (pairs_in ms) (λ ps. Ok (object ps))
 
   pub elements_in : json.Items → Result Elements ValFault
   elements_in json.no_items = Ok no_elements
   elements_in (json.item d ds) =
-      followed (value_of d) (λ e. followed (elements_in ds) (λ es. Ok (element e es)))
+      followed (value_kept d) (λ e. followed (elements_in ds) (λ es. Ok (element e es)))
 
   pub pairs_in : json.Members → Result Pairs ValFault
   pairs_in json.no_members = Ok no_pairs
   pairs_in (json.member k d ms) =
-      followed (value_of d) (λ e. followed (pairs_in ms) (λ ps. Ok (pair k e ps)))
+      followed (value_kept d) (λ e. followed (pairs_in ms) (λ ps. Ok (pair k e ps)))
 
 -- of what was read, if anything was
 abbrev pub value_if : Option json.Data → Result Data ValFault
 value_if None = Err NotJson
-value_if (Some d) = value_of d
+value_if (Some d) = value_kept d
 
 -- how deep a text is read
 abbrev pub reading_depth : ℕ

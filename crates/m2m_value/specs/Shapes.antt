@@ -37,7 +37,7 @@ is_some_of fits d =
 
 -- a whole number from 0 on that is such a one
 abbrev pub is_count_of : (ℕ → Bool) → Data → Bool
-is_count_of fits d = option_map_or fits (option_and_then count_of (as_number d)) false
+is_count_of fits d = option_map_or fits (as_count d) false
 
 -- an object with such members
 abbrev pub is_object_of : (List Entry → Bool) → Data → Bool

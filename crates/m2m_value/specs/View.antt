@@ -67,6 +67,12 @@ text_or_empty d = unwrap_or (option_and_then as_text d) []
 abbrev pub member_of : List ℕ → List Entry → Option Data
 member_of key es = lookup (bytes_eq key) es
 
+-- the only member, where there is exactly one
+abbrev pub only_member : List Entry → Option Entry
+only_member [] = None
+only_member (e ∷ []) = Some e
+only_member (e ∷ f ∷ es) = None
+
 -- the entry at a place has the key
 abbrev pub IsPlaceOf : List ℕ → List Entry → ℕ → Type 0
 IsPlaceOf key es place = (place < length es)

@@ -3,7 +3,7 @@ ghost use Rattle.std.specs.Prelude.{◌≡◌, ◌≤◌, IfOk, IsUtf8, string_b
 ghost use Rattle.serde_json.specs.View.{view, number_view, items_view, members_view};
 ghost use Rattle.m2m_value.specs.Data.{depth, elements_of, pairs_of};
 ghost use Rattle.m2m_value.specs.Node.{HaveTextKeys};
-ghost use Rattle.m2m_value.specs.Reading.{whole_of, value_of, elements_in, pairs_in, reading};
+ghost use Rattle.m2m_value.specs.Reading.{whole_of, value_kept, elements_in, pairs_in, reading};
 ghost use Rattle.m2m_value.specs.Reading.{Gives, reading_depth};
 
 use crate::fault::ValFault;
@@ -40,7 +40,7 @@ pub fn read_in(alloc: Global, scratch: &mut Scratch, bytes: &[u8]) -> Result<Val
 
 #[cycle(kept)]
 fn kept(alloc: Global, value: Value) -> Result<Val, ValFault>
-    ensures { Gives (λ v. v) result (value_of (view value)) }
+    ensures { Gives (λ v. v) result (value_kept (view value)) }
 {
     match value {
         Value::Null => Ok(Val::of(Node::Null)),

@@ -1,5 +1,6 @@
 //! What values are: counts and labels.
-ghost use Rattle.std.specs.Prelude.{◌≡◌, ◌<◌, ◌^◌, IfSome};
+ghost use Rattle.std.specs.Prelude.{◌≡◌, ◌<◌, IfSome};
+ghost use Rattle.m2m_names.specs.Ids.{count_bound};
 ghost use Rattle.m2m_value.specs.Shapes as spec;
 
 use crate::value::Val;
@@ -11,7 +12,7 @@ const LABEL_LIMIT: usize = 256;
 /// The count of a whole number from 0 on.
 pub fn count_of(n: i64) -> Option<u64>
     ensures value { result ≡ spec.count_of n }
-    ensures bound { IfSome result (λ n. n < 2 ^ 63) }
+    ensures bound { IfSome result (λ n. n < count_bound) }
 {
     if n < 0 { None } else { Some(n as u64) }
 }
@@ -27,7 +28,7 @@ impl Val {
     /// The value as a count: a whole number from 0 on.
     pub fn as_count(&self) -> Option<u64>
         ensures value { result ≡ spec.as_count self.now }
-        ensures bound { IfSome result (λ n. n < 2 ^ 63) }
+        ensures bound { IfSome result (λ n. n < count_bound) }
     {
         count_of(self.as_num()?)
     }

@@ -1,5 +1,6 @@
 //! What a list of resources has, found by a walk.
 ghost use Rattle.std.specs.Prelude.{◌≡◌, ◌^◌, ◌<◌, length, find, reverse};
+ghost use Rattle.m2m_names.specs.Ids.{count_bound};
 ghost use Rattle.tree_model.specs.Tree.{is_child, is_kin, is_ae, is_cse, resource_number};
 ghost use Rattle.tree_model.specs.Tree.{number_at};
 ghost use Rattle.tree_model.specs.Tree.{last_number, children_of, child_of, ae_of, cse_of, kin_of};
@@ -40,7 +41,7 @@ fn is_cse(resource: &Resource, csi: &[u8]) -> bool
 
 fn size_in_bytes(resource: &Resource) -> u64
     ensures value { result ≡ instance_size resource.now }
-    ensures bound { result < 2 ^ 63 }
+    ensures bound { result < count_bound }
 {
     resource.attrs().count(Attr::Cs).unwrap_or(0)
 }

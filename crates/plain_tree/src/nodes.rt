@@ -1,6 +1,7 @@
 //! The list of resources that every tree keeps.
-ghost use Rattle.std.specs.Prelude.{◌≡◌, ◌+◌, ◌^◌, ◌<◌, ◌≤◌, IsSome, List, [], ◌∷◌, ◌++◌, length};
+ghost use Rattle.std.specs.Prelude.{◌≡◌, ◌+◌, ◌<◌, ◌≤◌, IsSome, List, [], ◌∷◌, ◌++◌, length};
 ghost use Rattle.std.specs.Prelude.{slice_get, IsTrue, OnOk, OnErr, IfErr, Some, option_map};
+ghost use Rattle.m2m_names.specs.Ids.{count_bound};
 ghost use Rattle.m2m_names.specs.Stamps.{last_moment};
 ghost use Rattle.m2m_names.specs.declared.attributes.Attr.TheVariants.{St};
 ghost use Rattle.resource_model.specs.Attributes.{value_of};
@@ -139,7 +140,7 @@ impl Nodes {
     pub fn restamp(&mut self, number: u64, lt: u64, st: u64)
         requires there { IsTrue (has_state number self.old) }
         requires lt { lt ≤ last_moment }
-        requires st { st < 2 ^ 63 }
+        requires st { st < count_bound }
         ensures value { self.new ≡ restamped_at number lt st self.old }
         ensures tree { IsTrue (is_tree self.old) }
     {
@@ -186,7 +187,7 @@ fn restamp_in(resources: &mut Vec<Resource>, number: u64, lt: u64, st: u64)
     requires order { AreAscending resources.old.items }
     requires there { IsTrue (has_state number resources.old.items) }
     requires lt { lt ≤ last_moment }
-    requires st { st < 2 ^ 63 }
+    requires st { st < count_bound }
     ensures { resources.new.items ≡ restamped_at number lt st resources.old.items }
 {
     if let Ok(at) = place(resources, number) {
@@ -197,7 +198,7 @@ fn restamp_in(resources: &mut Vec<Resource>, number: u64, lt: u64, st: u64)
 fn restamp(resource: &mut Resource, lt: u64, st: u64)
     requires there { IsSome (value_of St resource.old.attrs) }
     requires lt { lt ≤ last_moment }
-    requires st { st < 2 ^ 63 }
+    requires st { st < count_bound }
     ensures { resource.new ≡ restamped lt st resource.old }
 {
     resource.set_lt(lt);

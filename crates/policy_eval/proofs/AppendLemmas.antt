@@ -83,8 +83,8 @@ linked_alike home o p [] [] all = refl
 linked_alike home o p [] (y ∷ ys) all = absurd all
 linked_alike home o p (x ∷ xs) [] all = absurd all
 linked_alike home o p (x ∷ xs) (y ∷ ys) all =
-    ap (λ (d : Option Data). (list_any (is_id_of p) (listed_in d) || list_any (is_id_of p) (listed_in (value_of Macp x.attrs))) || is_linked p xs) (all.0.shape Acpi refl)
-    ∙ ap (λ (d : Option Data). (list_any (is_id_of p) (listed_in (value_of Acpi y.attrs)) || list_any (is_id_of p) (listed_in d)) || is_linked p xs) (all.0.shape Macp refl)
+    ap (λ (d : Option Data). list_any (is_id_of p) (listed_in d ++ listed_in (value_of Macp x.attrs)) || is_linked p xs) (all.0.shape Acpi refl)
+    ∙ ap (λ (d : Option Data). list_any (is_id_of p) (listed_in (value_of Acpi y.attrs) ++ listed_in d) || is_linked p xs) (all.0.shape Macp refl)
     ∙ ap (λ b. does_link p y || b) (linked_alike home o p xs ys all.1)
 
 free_found : (p : ResourceData → Bool) (n : ℕ) (xs : List ResourceData) (r : ResourceData) → list_any p xs ≡ false → at n xs ≡ Some r → p r ≡ false

@@ -1,6 +1,7 @@
 -- A resource is seen the same in lists where what it is judged by is found the same.
 use Rattle.std.specs.Prelude.{nat_lt, unwrap_or}
-use Rattle.std.proofs.Common.{◌≡◌, ℕ, List, [], ◌∷◌, ◌++◌, length, Bool, false, cond, ◌&&◌, ◌||◌, Option, Some, None, option_map, inl, inr, refl, ap, ◌∙◌}
+use Rattle.std.proofs.Common.{◌≡◌, ℕ, List, [], ◌∷◌, ◌++◌, length, Bool, false, cond, ◌&&◌, ◌||◌, Option, Some, None, option_map, inl, inr, refl, sym, ap, ◌∙◌}
+use Rattle.std.proofs.lemmas.List.Folds.{list_any-append}
 use Rattle.std.proofs.lemmas.Bool.{cases_Bool, or_parts}
 use Rattle.std.specs.List.{cons_option, filter_map, flat_map, list_any}
 use Rattle.std.specs.Option.{option_map_or}
@@ -15,7 +16,7 @@ use Rattle.resource_model.specs.Resource.{ResourceData, is_ty}
 use Rattle.tree_model.specs.Tree.{at, due}
 use Rattle.policy_eval.specs.Alike.{is_attr_in, shape_attrs}
 use Rattle.m2m_names.specs.Operations.{all_bits}
-use Rattle.policy_eval.specs.Rules.{only, Rule, rule_for, rules_in, policy_of, policies_of, rules_by, listed_in, ids_at, owner_rules, registree, linked_rules, channel_rules, rules_of, fan_rules}
+use Rattle.policy_eval.specs.Rules.{only, Rule, rule_for, rules_in, policy_of, policies_of, rules_by, listed_in, ids_at, linked_ids, owner_rules, registree, linked_rules, channel_rules, rules_of, fan_rules}
 use Rattle.policy_eval.specs.Rights.{bits_by, has_bits}
 use Rattle.policy_eval.specs.Seen.{create_bit, update_bit, retrieve_bit, discovery_bit, has_bit, fills, is_filled_in, may_use, found_attrs, limit_attrs, size_attrs, member_attrs, is_shown, seen_value, seen_row, seen_owner, seen, is_policy_rules, is_way}
 use Rattle.policy_eval.proofs.TwiceLemmas.{made, value_by}
@@ -70,7 +71,7 @@ channel_same s r same = ap (λ (id : Option (List ℕ)). option_map_or (λ id. r
 
 -- a test of ids, and what it says of those that a resource lists
 abbrev pub does_list : (Data → Bool) → ResourceData → Bool
-does_list named r = list_any named (ids_at Acpi r) || list_any named (ids_at Macp r)
+does_list named r = list_any named (linked_ids r)
 
 -- ids but those of a test name the same policies in both lists, no resource of the one lists those,
 -- and what stands above its resources is found the same
@@ -101,10 +102,14 @@ module _ (named : Data → Bool) (zs xs : List ResourceData) (finds : FindsSame 
       ∙ ap (λ (those : List Rule). cond (nat_lt 0 (length (listed_in e))) those rules) (joined_same (listed_in e) none)
       ∙ ap (cond (nat_lt 0 (length (listed_in e))) (rules_by Pv xs (listed_in e))) other
 
+  -- neither list of ids that a resource has names one of them
+  free_of : (n : ℕ) (r : ResourceData) → at n xs ≡ Some r → (list_any named (ids_at Acpi r) || list_any named (ids_at Macp r)) ≡ false
+  free_of n r found = sym (list_any-append named (ids_at Acpi r) (ids_at Macp r)) ∙ finds.free n r found
+
   linked_same : (s r : ResourceData) (n : ℕ) → JudgeSame s r → at n xs ≡ Some r → linked_rules Pv zs s ≡ linked_rules Pv xs r
   linked_same s r n same found =
       by_ids_same (value_of Acpi s.attrs) (value_of Acpi r.attrs) (owner_rules s) (owner_rules r) same.acpi
-      (or_parts (list_any named (ids_at Acpi r)) _ (finds.free n r found)).0 (ap (λ (owner : List ℕ). rule_for (only owner) all_bits ∷ []) same.owner)
+      (or_parts (list_any named (ids_at Acpi r)) _ (free_of n r found)).0 (ap (λ (owner : List ℕ). rule_for (only owner) all_bits ∷ []) same.owner)
 
   module _ (s r : ResourceData) (n : ℕ) (same : JudgeSame s r) (found : at n xs ≡ Some r) where
     pub parent_same : FindSame (at s.parent zs) (at r.parent xs)
@@ -126,7 +131,7 @@ module _ (named : Data → Bool) (zs xs : List ResourceData) (finds : FindsSame 
 
     pub fan_same : value_of Macp s.attrs ≡ value_of Macp r.attrs → fan_rules zs s ≡ fan_rules xs r
     fan_same macp =
-        by_ids_same (value_of Macp s.attrs) (value_of Macp r.attrs) (rules_of zs s) (rules_of xs r) macp (or_parts (list_any named (ids_at Acpi r)) _ (finds.free n r found)).1 rules_same
+        by_ids_same (value_of Macp s.attrs) (value_of Macp r.attrs) (rules_of zs s) (rules_of xs r) macp (or_parts (list_any named (ids_at Acpi r)) _ (free_of n r found)).1 rules_same
 
 -- ---- what is shown
 

@@ -1,6 +1,7 @@
 -- Equal sights stay equal where a resource gets the same changes.
 use Rattle.std.specs.Prelude.{◌==◌, unwrap_or}
 use Rattle.std.proofs.Common.{◌≡◌, ℕ, ◌≢◌, List, [], ◌∷◌, ◌++◌, map, Bool, true, false, cond, ◌&&◌, ◌||◌, Option, Some, None, option_map, inl, inr, refl, sym, ap, ◌∙◌, subst}
+use Rattle.std.proofs.lemmas.List.Folds.{list_any-append}
 use Rattle.std.proofs.lemmas.Bool.{cases_Bool, both_ways, and_from, eq-eqb, eqb-true, or_from, or_left, or_parts, or_right}
 use Rattle.std.proofs.lemmas.List.Elements.{filter_map-append}
 use Rattle.std.proofs.lemmas.Option.{same_Some}
@@ -216,7 +217,7 @@ module _ (home : HomeData) (o : List ℕ) (xs : List ResourceData) (well : is_we
   finds : FindsSame no_id (replaced (changed changes lt et r) xs) xs
   finds = record {
     policies = λ id any. by_text (as_text id);
-    free = λ m s at_m. or_from _ _ (none_of (ids_at Acpi s)) (none_of (ids_at Macp s));
+    free = λ m s at_m. list_any-append no_id (ids_at Acpi s) (ids_at Macp s) ∙ or_from _ _ (none_of (ids_at Acpi s)) (none_of (ids_at Macp s));
     above = λ m s at_m. find_same s.parent;
   }
     where

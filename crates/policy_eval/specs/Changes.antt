@@ -14,7 +14,7 @@ use Rattle.resource_model.specs.Attributes.{Row, with_value, without_value}
 use Rattle.resource_model.specs.Home.{HomeData}
 use Rattle.resource_model.specs.Resource.{ResourceData, is_ty, has_number}
 use Rattle.policy_eval.specs.Alike.{is_attr_in, id_attrs}
-use Rattle.policy_eval.specs.Rules.{policy_number, ids_at}
+use Rattle.policy_eval.specs.Rules.{policy_number, linked_ids}
 use Rattle.policy_eval.specs.Rights.{create_bit, retrieve_bit, update_bit, grants}
 use Rattle.policy_eval.specs.Seen.{has_bit, seen_value}
 
@@ -24,9 +24,9 @@ is_id_of p id =
     is_ty p.ty AccessControlPolicy
     && option_map_or (λ n. has_number n p) (option_and_then policy_number (as_text id)) false
 
--- the resource names the policy in its `acpi` or `macp`
+-- the resource names the policy
 abbrev pub does_link : ResourceData → ResourceData → Bool
-does_link p r = list_any (is_id_of p) (ids_at Acpi r) || list_any (is_id_of p) (ids_at Macp r)
+does_link p r = list_any (is_id_of p) (linked_ids r)
 
 -- a resource of the list names the policy; no other resource is named by a rule
 abbrev pub is_linked : ResourceData → List ResourceData → Bool

@@ -31,8 +31,12 @@ is_front home o text = starts_with nat_eq (full_form home o) (full_form home tex
 abbrev pub fits_pattern : HomeData → List ℕ → List ℕ → Bool
 fits_pattern home o entry = ends_with nat_eq entry (codes "*") && is_front home o (stem_of entry)
 
+-- the entry that names everyone
+abbrev pub everyone : List ℕ
+everyone = codes "all"
+
 -- an entry of `acor` names the originator (TS-0001, 9.6.2.1)
 abbrev pub does_name : HomeData → List ℕ → List ℕ → Bool
 does_name home o entry =
-    bytes_eq entry (codes "all") || bytes_eq entry (codes "*")
+    bytes_eq entry everyone || bytes_eq entry (codes "*")
     || is_same home o entry || fits_pattern home o entry

@@ -4,7 +4,8 @@ use Rattle.std.specs.List.{fold, list_any}
 use Rattle.std.specs.Option.{option_map_or}
 use Rattle.m2m_names.specs.Operations.{op_row}
 pub use Rattle.m2m_names.specs.Operations.{discovery_bit}
-use Rattle.m2m_names.specs.declared.operations.Op.TheVariants.{Create, Retrieve, Update}
+use Rattle.m2m_names.specs.declared.operations.Op.TheVariants.{Create, Retrieve, Update, Delete}
+use Rattle.m2m_names.specs.declared.operations.Op.TheVariants.{Notify}
 use Rattle.resource_model.specs.Home.{HomeData}
 use Rattle.resource_model.specs.Resource.{ResourceData}
 use Rattle.tree_model.specs.Tree.{at}
@@ -22,6 +23,12 @@ retrieve_bit = (op_row Retrieve).bit
 
 abbrev pub update_bit : ℕ
 update_bit = (op_row Update).bit
+
+abbrev pub delete_bit : ℕ
+delete_bit = (op_row Delete).bit
+
+abbrev pub notify_bit : ℕ
+notify_bit = (op_row Notify).bit
 
 -- ---- who has them
 

@@ -1,5 +1,5 @@
 -- The rules of a resource.
-use Rattle.std.specs.Prelude.{ℕ, nat_le, nat_lt, ℤ, pos, negsuc, Bool, List, [], ◌∷◌, length, map}
+use Rattle.std.specs.Prelude.{ℕ, nat_le, nat_lt, ℤ, pos, negsuc, Bool, List, [], ◌∷◌, ◌++◌, length, map}
 use Rattle.std.specs.Prelude.{Option, Some, None, option_and_then, unwrap_or, if◌then◌else◌}
 use Rattle.std.specs.List.{filter_map, flat_map}
 use Rattle.std.specs.Option.{option_map_or, option_or}
@@ -108,7 +108,11 @@ rules_by attr nodes ids =
 abbrev pub ids_at : Attr → ResourceData → List Data
 ids_at attr r = listed_in (value_of attr r.attrs)
 
--- it lists at least one
+-- the ids of the policies that it names, to be judged by or to fan out by
+abbrev pub linked_ids : ResourceData → List Data
+linked_ids r = ids_at Acpi r ++ ids_at Macp r
+
+-- an attribute lists at least one
 abbrev pub lists_ids : Attr → ResourceData → Bool
 lists_ids attr r = nat_lt 0 (length (ids_at attr r))
 

@@ -18,7 +18,7 @@ use Rattle.resource_model.specs.Attributes.{Row, is_attr, value_of}
 use Rattle.resource_model.specs.Home.{HomeData}
 use Rattle.resource_model.specs.Resource.{ResourceData, is_ty}
 use Rattle.tree_model.specs.Tree.{at, due}
-use Rattle.policy_eval.specs.Originators.{is_same}
+use Rattle.policy_eval.specs.Originators.{everyone, is_same}
 use Rattle.policy_eval.specs.Rules.{rules_in, rules_of, fan_rules, texts_of, listed_in}
 use Rattle.policy_eval.specs.Rules.{written_rule, written_rules}
 pub use Rattle.policy_eval.specs.Rights.{create_bit, retrieve_bit, update_bit, discovery_bit}
@@ -80,7 +80,7 @@ is_shown home nodes o r a =
 
 -- rules that give everyone these bits, as `pv` or `pvs` writes them
 abbrev pub plain_rules : ℕ → Data
-plain_rules bits = written_rules (written_rule (codes "all") bits ∷ [])
+plain_rules bits = written_rules (written_rule everyone bits ∷ [])
 
 -- of the rules of a policy the originator sees what they give it
 abbrev pub seen_rules : HomeData → List ℕ → Data → Data

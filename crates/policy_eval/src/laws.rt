@@ -1,6 +1,7 @@
 //! Laws of rights, over every list.
-ghost use Rattle.std.specs.Prelude.{◌≡◌, ◌<◌, ◌^◌, ◌++◌, ◌∷◌, [], Bool, false, List, ℕ, Option};
+ghost use Rattle.std.specs.Prelude.{◌≡◌, ◌<◌, ◌++◌, ◌∷◌, [], Bool, false, List, ℕ, Option};
 ghost use Rattle.std.specs.Prelude.{Some, IsTrue, map, option_map};
+ghost use Rattle.m2m_names.specs.Ids.{count_bound};
 ghost use Rattle.resource_model.specs.Home.{HomeData};
 ghost use Rattle.m2m_names.specs.declared.types.Ty.TheVariants.{AccessControlPolicy};
 ghost use Rattle.m2m_names.specs.declared.types.Ty.TheVariants.{ContentInstance};
@@ -185,8 +186,8 @@ pub fn equal_sights_stay_equal_under_a_replacement()
 /// number.
 pub fn a_policy_is_named_by_its_id()
     ensures number { (p : ResourceData) → IsTrue (is_ty p.ty AccessControlPolicy) →
-        p.number < 2 ^ 63 → policy_number (id_of p) ≡ Some p.number }
+        p.number < count_bound → policy_number (id_of p) ≡ Some p.number }
     ensures named { (nodes : List ResourceData) (p : ResourceData) →
-        IsTrue (is_ty p.ty AccessControlPolicy) → p.number < 2 ^ 63 →
+        IsTrue (is_ty p.ty AccessControlPolicy) → p.number < count_bound →
         at p.number nodes ≡ Some p → policy_named nodes (id_of p) ≡ Some p }
 {}

@@ -1,4 +1,3 @@
-pub mod Numerals
 pub mod KindLemmas
 pub mod FaultLemmas
 pub mod FormLemmas

@@ -1,14 +1,9 @@
 -- Replies are read back from what is written of them, and what is read is of its kinds.
-use Rattle.std.proofs.Common.{◌≡◌, ℕ, ◌==◌, nat_le, List, [], ◌∷◌, Bool, true, false, not, ◌&&◌, is_some, is_none, if◌then◌else◌, Option, Some, None, option_map, option_and_then, unwrap_or, IfSome, IsTrue, Ok, refl, sym, ap, ◌∙◌, subst, arith}
-use Rattle.std.proofs.lemmas.Bool.{and_parts}
-use Rattle.std.proofs.lemmas.Bool.Decides.{nat_tests}
-use Rattle.std.specs.Int.{is_in_range}
+use Rattle.std.proofs.Common.{◌≡◌, ℕ, List, Bool, true, false, not, is_some, is_none, if◌then◌else◌, Option, Some, None, option_map, option_and_then, unwrap_or, IfSome, Ok, refl, ap, ◌∙◌, subst}
 use Rattle.std.specs.Option.{option_map_or}
-use Rattle.m2m_names.specs.StatusCodes.{rsc_row, rsc_of_number}
-use Rattle.std.specs.List.{list_any}
-use Rattle.m2m_names.specs.StatusNumbers.{is_other, named_numbers}
+use Rattle.m2m_names.specs.StatusCodes.{rsc_row}
 use Rattle.m2m_names.specs.declared.codes.Rsc.{Rsc}
-use Rattle.m2m_names.specs.declared.codes.Rsc.TheVariants.{Ok as Fine, Created, Deleted, Updated, BadRequest, NotFound, NotAllowed, RequestTimeout, NoPrivilege, Conflict, BadChild, Internal, NotImplemented, NotReachable, NotSubscribable, NonBlocking, NotAcceptable, TooManyMembers, WrongMember, Other}
+use Rattle.m2m_names.specs.declared.codes.Rsc.TheVariants.{Internal}
 use Rattle.m2m_names.proofs.StatusLemmas.{rsc_again}
 use Rattle.m2m_value.specs.Data.{Data, text, Entry}
 use Rattle.m2m_value.specs.View.{as_text, member_of}
@@ -23,41 +18,12 @@ use Rattle.primitive_json.specs.declared.fault.PrimFault.TheVariants.{Missing, B
 use Rattle.primitive_json.specs.declared.reply.ReplyParts.{ReplyParts}
 use Rattle.primitive_json.proofs.FaultLemmas.{read_without_fault, read_if_no_fault}
 use Rattle.primitive_json.proofs.KindLemmas.{told_passes}
-use Rattle.filter_criteria.proofs.PartLemmas.{where_kept}
 use Rattle.filter_criteria.proofs.Present.{member_of-present, members_in-object_of}
 
--- ---- the number of a status code has four digits
-
-in_range : (n : ℕ) → is_in_range 1000 9999 n ≡ true → nat_le n 9_999 ≡ true
-in_range n h = grind (arith, nat_tests)
-
-four_digits : (n : ℕ) → is_other n ≡ true → nat_le n 9_999 ≡ true
-four_digits n h = in_range n (and_parts (is_in_range 1000 9999 n) (not (list_any (λ m. m == n) named_numbers)) h).0
-
-few_digits : (r : Rsc) → nat_le (rsc_row r).number 9_999 ≡ true
-few_digits Fine = refl
-few_digits Created = refl
-few_digits Deleted = refl
-few_digits Updated = refl
-few_digits BadRequest = refl
-few_digits NotFound = refl
-few_digits NotAllowed = refl
-few_digits RequestTimeout = refl
-few_digits NoPrivilege = refl
-few_digits Conflict = refl
-few_digits BadChild = refl
-few_digits Internal = refl
-few_digits NotImplemented = refl
-few_digits NotReachable = refl
-few_digits NotSubscribable = refl
-few_digits NonBlocking = refl
-few_digits NotAcceptable = refl
-few_digits TooManyMembers = refl
-few_digits WrongMember = refl
-few_digits (Other o) = four_digits o.number o.outside
+-- ---- the status code is read back from its number
 
 status_back : (r : Rsc) → read_status (count_data (rsc_row r).number) ≡ Some r
-status_back r = ap (option_and_then rsc_of_number) (where_kept (λ n. nat_le n 9_999) (rsc_row r).number (few_digits r)) ∙ rsc_again r
+status_back r = rsc_again r
 
 -- ---- a reply is read back
 

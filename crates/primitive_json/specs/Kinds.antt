@@ -1,5 +1,5 @@
 -- What the value of a member is read as, where it is of the member's kind (TS-0004, 6.3 and 8.2.2).
-use Rattle.std.specs.Prelude.{ℕ, nat_le, Bool, false, ℤ, pos, List, []}
+use Rattle.std.specs.Prelude.{ℕ, Bool, false, ℤ, pos, List, []}
 use Rattle.std.specs.Prelude.{◌∷◌, Option, codes, option_map}
 use Rattle.std.specs.Prelude.{option_and_then}
 use Rattle.std.specs.List.{list_any}
@@ -18,7 +18,7 @@ use Rattle.m2m_names.specs.declared.operations.Op.TheVariants.{Notify}
 use Rattle.m2m_value.specs.Data.{Data}
 use Rattle.m2m_value.specs.Shapes.{as_count, is_text_of}
 use Rattle.m2m_value.specs.View.{as_number, as_text, member_of}
-use Rattle.filter_criteria.specs.Values.{where_it, members_in}
+use Rattle.filter_criteria.specs.Values.{members_in}
 use Rattle.primitive_json.specs.Bounds.{is_request_id}
 use Rattle.primitive_json.specs.declared.request.When.{When}
 use Rattle.primitive_json.specs.declared.request.When.TheVariants.{At, Millis}
@@ -52,17 +52,52 @@ is_number_among numbers d = option_map_or (is_among numbers) (as_number d) false
 abbrev pub read_operation : Data → Option Op
 read_operation d = option_and_then op_of_number (as_number d)
 
--- what the result content of an operation may be (TS-0004, 6.3.4.2.7; the choice is the profile's)
+-- the numbers of result contents (TS-0004, 6.3.4.2.7): nothing; the attributes; the address; both
+abbrev pub nothing_wanted : ℤ
+nothing_wanted = pos 0
+
+abbrev pub attributes_wanted : ℤ
+attributes_wanted = pos 1
+
+abbrev pub address_wanted : ℤ
+address_wanted = pos 2
+
+abbrev pub both_wanted : ℤ
+both_wanted = pos 3
+
+-- the attributes and the descendants; the attributes and references to the children; these alone
+abbrev pub descendants_wanted : ℤ
+descendants_wanted = pos 4
+
+abbrev pub children_wanted : ℤ
+children_wanted = pos 5
+
+abbrev pub children_alone_wanted : ℤ
+children_alone_wanted = pos 6
+
+-- what the result content of an operation may be (the choice is the profile's)
 abbrev pub result_contents : Op → List ℤ
-result_contents Create = pos 0 ∷ pos 1 ∷ pos 2 ∷ pos 3 ∷ []
-result_contents Retrieve = pos 1 ∷ pos 4 ∷ pos 5 ∷ pos 6 ∷ []
-result_contents Update = pos 0 ∷ pos 1 ∷ []
-result_contents Delete = pos 0 ∷ []
+result_contents Create = nothing_wanted ∷ attributes_wanted ∷ address_wanted ∷ both_wanted ∷ []
+result_contents Retrieve =
+    attributes_wanted ∷ descendants_wanted ∷ children_wanted ∷ children_alone_wanted ∷ []
+result_contents Update = nothing_wanted ∷ attributes_wanted ∷ []
+result_contents Delete = nothing_wanted ∷ []
 result_contents Notify = []
 
--- structured or unstructured (TS-0004, 6.3.4.2.8)
+-- the numbers of the forms of addresses: structured, by names, or unstructured, by resource ids
+-- (TS-0004, 6.3.4.2.8)
+abbrev pub structured_form : ℤ
+structured_form = pos 1
+
+abbrev pub unstructured_form : ℤ
+unstructured_form = pos 2
+
 abbrev pub address_forms : List ℤ
-address_forms = pos 1 ∷ pos 2 ∷ []
+address_forms = structured_form ∷ unstructured_form ∷ []
+
+-- the number of the response type blockingRequest (TS-0004, 6.3.4.2.6)
+abbrev pub blocking_request : ℤ
+blocking_request = pos 3
 
 -- a number, or an object that has one at `rtv` (TS-0004, 6.3.5.30)
 abbrev pub read_response_type : Data → Option ℤ
@@ -83,6 +118,6 @@ read_expiry d =
 
 -- ---- of a reply
 
--- the status code of a number with at most four digits
+-- the status code of a number
 abbrev pub read_status : Data → Option Rsc
-read_status d = option_and_then rsc_of_number (where_it (λ n. nat_le n 9_999) (as_count d))
+read_status d = option_and_then rsc_of_number (as_count d)

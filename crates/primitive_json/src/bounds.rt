@@ -3,7 +3,7 @@ ghost use Rattle.std.specs.Prelude.{◌≡◌, IsUtf8};
 ghost use Rattle.std.specs.Bool.{OnTrue};
 ghost use Rattle.primitive_json.specs.Bounds as spec;
 
-use m2m_names::are_graphic;
+use m2m_names::{are_graphic, is_filled};
 
 /// The most bytes that a request identifier has.
 const REQUEST_ID_LIMIT: usize = 128;
@@ -14,5 +14,5 @@ pub fn is_request_id(text: &[u8]) -> bool
     ensures value { result ≡ spec.is_request_id text.now }
     ensures utf8 { OnTrue result (IsUtf8 text.now) }
 {
-    (1..=REQUEST_ID_LIMIT).contains(&text.len()) && are_graphic(text)
+    is_filled(text, REQUEST_ID_LIMIT) && are_graphic(text)
 }

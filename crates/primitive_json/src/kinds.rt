@@ -115,12 +115,13 @@ pub fn read_expiry(value: &Val) -> Option<When>
     }
 }
 
-/// The status of a number of four digits at most.
+/// The status code of a number.
+#[tactic(auto, using(m2m_names::proofs::StatusLemmas::none_beyond))]
 pub fn read_status(value: &Val) -> Option<Rsc>
     ensures { result ≡ spec.read_status value.now }
 {
     let number = value.as_count()?;
-    if number <= 9_999 {
+    if number <= u64::from(u16::MAX) {
         Rsc::from_number(number as u16)
     } else {
         None

@@ -21,7 +21,7 @@ use Rattle.m2m_value.specs.View.{member_of}
 use Rattle.resource_model.specs.Attributes.{Row, count_at}
 use Rattle.resource_model.specs.Resource.{ResourceData, is_ty}
 use Rattle.tree_model.specs.Shown.{own_cse_id, with_rows}
-use Rattle.tree_model.specs.Tree.{depth, has_ae_id, has_channel, has_child, has_cse_id}
+use Rattle.tree_model.specs.Tree.{level_of, has_ae_id, has_channel, has_child, has_cse_id}
 use Rattle.attribute_rules.specs.Admission.{is_named}
 use Rattle.attribute_rules.specs.Contents.{named_text, wanted_in}
 use Rattle.container_limits.specs.Limits.{is_within}
@@ -135,7 +135,7 @@ is_small c = not (is_ty c.ty ContentInstance) || takes_instance c.parent (new_si
 abbrev pub has_place : EntityData → ℕ → Bool
 has_place e parent =
     nat_lt (length e.nodes) greatest_count && nat_lt e.next largest_count
-    && nat_lt (depth parent e.nodes) greatest_depth
+    && nat_lt (level_of parent e.nodes) greatest_depth
 
 abbrev pub has_room : Creation → Bool
 has_room c = has_place c.e c.parent.number && is_small c

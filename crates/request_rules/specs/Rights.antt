@@ -1,9 +1,8 @@
 -- The right that a request needs on its target (TS-0001, 9.6.2; TS-0004, 7.3.3.15).
-use Rattle.std.specs.Prelude.{ℕ, ◌+◌, ◌==◌, Bool, true, false, List, [], ◌∷◌, bytes_eq}
-use Rattle.std.specs.Prelude.{Option, Some, None, option_and_then, if◌then◌else◌}
+use Rattle.std.specs.Prelude.{ℕ, ◌+◌, ◌==◌, Bool, true, false, bytes_eq, List}
+use Rattle.std.specs.Prelude.{Option, option_and_then, if◌then◌else◌}
 use Rattle.std.specs.Option.{option_map_or}
 use Rattle.m2m_names.specs.Attributes.{attr_short}
-use Rattle.m2m_names.specs.Operations.{op_row}
 use Rattle.m2m_names.specs.Types.{ty_row}
 use Rattle.m2m_names.specs.declared.attributes.Attr.TheVariants.{Acpi}
 use Rattle.m2m_names.specs.declared.operations.Op.{Op}
@@ -11,10 +10,11 @@ use Rattle.m2m_names.specs.declared.operations.Op.TheVariants.{Create, Retrieve,
 use Rattle.m2m_names.specs.declared.operations.Op.TheVariants.{Notify}
 use Rattle.m2m_names.specs.declared.types.Ty.TheVariants.{Subscription}
 use Rattle.m2m_value.specs.Data.{Data, Entry}
-use Rattle.m2m_value.specs.View.{as_object}
+use Rattle.m2m_value.specs.View.{as_object, only_member}
 use Rattle.filter_criteria.specs.declared.filter.FilterUsage.{FilterUsage}
 use Rattle.filter_criteria.specs.declared.filter.FilterUsage.TheVariants.{Discovery, Conditional}
 use Rattle.primitive_json.specs.declared.request.RequestParts.{RequestParts}
+use Rattle.policy_eval.specs.Rights.{create_bit, retrieve_bit, update_bit, delete_bit, notify_bit}
 use Rattle.policy_eval.specs.Rights.{grants, relinks}
 use Rattle.entity_model.specs.Entity.{EntityData}
 use Rattle.entity_model.specs.Places.{reading_bit}
@@ -38,12 +38,7 @@ abbrev pub is_discovery : RequestParts → Bool
 is_discovery request =
     option_map_or is_search (option_and_then (λ f. f.fu) request.fc) false
 
--- the only member of a list of members
-abbrev pub only_member : List Entry → Option Entry
-only_member [] = None
-only_member (e ∷ []) = Some e
-only_member (e ∷ f ∷ es) = None
-
+-- the only member of an object
 abbrev pub sole : Data → Option Entry
 sole d = option_and_then only_member (as_object d)
 
@@ -62,8 +57,7 @@ is_relink request =
 -- subscription RETRIEVE besides
 abbrev pub create_bits : RequestParts → ℕ
 create_bits request =
-    if is_subscribing request then (op_row Create).bit + (op_row Retrieve).bit
-    else (op_row Create).bit
+    if is_subscribing request then create_bit + retrieve_bit else create_bit
 
 abbrev pub retrieve_bits : RequestParts → ℕ
 retrieve_bits request = reading_bit (is_discovery request)
@@ -72,12 +66,12 @@ retrieve_bits request = reading_bit (is_discovery request)
 abbrev pub may_update : EntityData → List ℕ → RequestParts → ℕ → Bool
 may_update e o request n =
     if is_relink request then relinks e.home e.nodes o n
-    else is_granted e o (op_row Update).bit n
+    else is_granted e o update_bit n
 
 -- the originator has the right that the operation needs on the resource of the number
 abbrev pub may_do : Op → EntityData → List ℕ → RequestParts → ℕ → Bool
 may_do Create e o request n = is_granted e o (create_bits request) n
 may_do Retrieve e o request n = is_granted e o (retrieve_bits request) n
 may_do Update e o request n = may_update e o request n
-may_do Delete e o request n = is_granted e o (op_row Delete).bit n
-may_do Notify e o request n = is_granted e o (op_row Notify).bit n
+may_do Delete e o request n = is_granted e o delete_bit n
+may_do Notify e o request n = is_granted e o notify_bit n

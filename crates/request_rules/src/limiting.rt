@@ -3,7 +3,7 @@ ghost use Rattle.std.specs.Prelude.{◌≡◌, ℕ, nat_lt, List, not, ◌||◌}
 ghost use Rattle.std.specs.Prelude.{IsTrue};
 ghost use Rattle.m2m_names.specs.declared.types.Ty.TheVariants.{ContentInstance};
 ghost use Rattle.resource_model.specs.Resource.{is_ty};
-ghost use Rattle.tree_model.specs.Tree.{depth, is_tree};
+ghost use Rattle.tree_model.specs.Tree.{level_of, is_tree};
 ghost use Rattle.request_rules.specs.Creation as spec;
 ghost use Rattle.request_rules.specs.Creation.{creation_of};
 
@@ -25,7 +25,7 @@ const GREATEST_COUNT: u64 = 100_000;
 // Whether a resource stands less deep than this.
 fn is_less_deep<T: Tree>(tree: &T, number: u64, bound: u64) -> bool
     requires { IsTrue (is_tree (T.nodes tree.now)) }
-    ensures { result ≡ nat_lt (depth number (T.nodes tree.now)) bound }
+    ensures { result ≡ nat_lt (level_of number (T.nodes tree.now)) bound }
 {
     if bound == 0 {
         return false;

@@ -4,7 +4,7 @@ use Rattle.std.specs.Prelude.{IsUtf8}
 use Rattle.m2m_names.specs.Ids.{count_bound, id_text}
 use Rattle.m2m_names.specs.Name.{is_free_name}
 use Rattle.m2m_names.specs.Stamps.{last_moment}
-use Rattle.m2m_names.specs.Types.{ty_row}
+pub use Rattle.m2m_names.specs.Types.{is_ty}
 use Rattle.m2m_names.specs.declared.attributes.Attr.TheVariants.{Aei, Csi}
 use Rattle.m2m_names.specs.declared.types.Ty.{Ty}
 use Rattle.m2m_names.specs.declared.types.Ty.TheVariants.{Ae, RemoteCse}
@@ -22,10 +22,6 @@ pub record ResourceData : Type 0 where
   pub lt : ℕ
   pub et : ℕ
   pub attrs : List Row
-
--- the type is that type
-abbrev pub is_ty : Ty → Ty → Bool
-is_ty a b = (ty_row a).number == (ty_row b).number
 
 -- it has this number
 abbrev pub has_number : ℕ → ResourceData → Bool

@@ -1,9 +1,10 @@
 //! Attributes with their values, and sets of attributes.
-ghost use Rattle.std.specs.Prelude.{◌≡◌, ◌↔◌, ◌<◌, ◌≤◌, ◌^◌, [], IsTrue, IfOk, IsOk, IsSome};
+ghost use Rattle.std.specs.Prelude.{◌≡◌, ◌↔◌, ◌<◌, ◌≤◌, [], IsTrue, IfOk, IsOk, IsSome};
 ghost use Rattle.std.specs.Prelude.{OnOk, OnErr, IfSome, IsUtf8, MatchResult, length, option_map};
 ghost use Rattle.std.specs.List.{insert};
 ghost use Rattle.std.specs.Cmp.{decided, partial_equiv_from_equiv};
 ghost use Rattle.std.specs.Cmp.Lexicographic.{pointwise};
+ghost use Rattle.m2m_names.specs.Ids.{count_bound};
 ghost use Rattle.resource_model.specs.SameRows.{same_rows-Decides};
 ghost use Rattle.resource_model.specs.Attributes.{attr_cmp, AreInOrder, HoldsRow, LacksRow};
 ghost use Rattle.resource_model.specs.Attributes.{value_of, with_value, without_value, count_at};
@@ -87,7 +88,7 @@ impl Attrs {
     /// The value of an attribute, where it is a count: a whole number from 0 on.
     pub fn count(&self, attr: Attr) -> Option<u64>
         ensures value { result ≡ count_at attr self.now }
-        ensures bound { IfSome result (λ n. n < 2 ^ 63) }
+        ensures bound { IfSome result (λ n. n < count_bound) }
     {
         self.get(attr)?.as_count()
     }

@@ -1,5 +1,5 @@
 //! A resource, and a change of one.
-ghost use Rattle.std.specs.Prelude.{◌≡◌, ◌<◌, ◌≤◌, ◌^◌, IfOk, IsOk, IsSome, OnOk, OnErr};
+ghost use Rattle.std.specs.Prelude.{◌≡◌, ◌<◌, ◌≤◌, IfOk, IsOk, IsSome, OnOk, OnErr};
 ghost use Rattle.std.specs.Prelude.{◌++◌, IsUtf8, option_map};
 ghost use Rattle.std.specs.Fmt.{decimal};
 ghost use Rattle.m2m_names.specs.Ids as ids;
@@ -88,8 +88,8 @@ impl Resource {
     ) -> Resource
         requires name { IsUtf8 name }
         requires owner { IsUtf8 owner }
-        requires number { number < 2 ^ 63 }
-        requires parent { parent < 2 ^ 63 }
+        requires number { number < ids.count_bound }
+        requires parent { parent < ids.count_bound }
         requires ct { moments.ct ≤ last_moment }
         requires lt { moments.lt ≤ last_moment }
         requires et { moments.et ≤ last_moment }
@@ -119,7 +119,7 @@ impl Resource {
     /// The number in its resource id.
     pub fn number(&self) -> u64
         ensures value { result ≡ self.now.number }
-        ensures count { result < 2 ^ 63 }
+        ensures count { result < ids.count_bound }
     {
         self.number
     }
@@ -149,7 +149,7 @@ impl Resource {
     /// The number of its parent; 0 for the CSEBase.
     pub fn parent(&self) -> u64
         ensures value { result ≡ self.now.parent }
-        ensures count { result < 2 ^ 63 }
+        ensures count { result < ids.count_bound }
     {
         self.parent
     }

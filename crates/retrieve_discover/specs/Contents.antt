@@ -1,5 +1,5 @@
 -- What a Retrieve shows (TS-0001, 10.2.3; TS-0004, 6.3.4.2.7 and 7.5.2).
-use Rattle.std.specs.Prelude.{ℕ, ℤ, pos, Bool, List, [], ◌∷◌, ◌++◌, map, filter, take, codes}
+use Rattle.std.specs.Prelude.{ℕ, ℤ, Bool, List, [], ◌∷◌, ◌++◌, map, filter, take, codes}
 use Rattle.std.specs.Prelude.{Option, if◌then◌else◌}
 use Rattle.std.specs.BTreeMap.{insert_entry}
 use Rattle.std.specs.Cmp.Lexicographic.{slice_cmp}
@@ -9,12 +9,14 @@ use Rattle.m2m_names.specs.Members.{ch_name, val_name}
 use Rattle.m2m_names.specs.Types.{ty_member}
 use Rattle.m2m_value.specs.Data.{Data, Entry, list, object, text, elements_of, pairs_of}
 use Rattle.m2m_value.specs.View.{member_of}
+use Rattle.primitive_json.specs.Kinds.{descendants_wanted, children_wanted}
+use Rattle.primitive_json.specs.Kinds.{children_alone_wanted}
 use Rattle.resource_model.specs.Home.{HomeData}
 use Rattle.resource_model.specs.Resource.{ResourceData}
 use Rattle.policy_eval.specs.Rights.{grants}
 use Rattle.policy_eval.specs.Rules.{listed_in}
 use Rattle.policy_eval.specs.Seen.{retrieve_bit}
-use Rattle.tree_model.specs.Shown.{members_of, shown_rows, shown_ty, under_type}
+use Rattle.tree_model.specs.Shown.{attributes_of, members_of, shown_rows, shown_ty, under_type}
 use Rattle.tree_model.specs.Tree.{children_of}
 use Rattle.entity_model.specs.Places.{wanted_content}
 use Rattle.retrieve_discover.specs.Descendants.{Forest, bare, rooted, below, cut_forest, forest_of}
@@ -106,7 +108,8 @@ references_alone home nodes o by_id r =
 
 abbrev pub content : HomeData → List ResourceData → List ℕ → Bool → Option ℤ → ResourceData → Data
 content home nodes o by_id rcn r =
-    if int_eq (wanted_content rcn) (pos 4) then whole home nodes o r else
-    if int_eq (wanted_content rcn) (pos 5) then with_references home nodes o by_id r else
-    if int_eq (wanted_content rcn) (pos 6) then references_alone home nodes o by_id r else
-    under_type r.ty (members home nodes r)
+    let wanted = wanted_content rcn in
+    if int_eq wanted descendants_wanted then whole home nodes o r else
+    if int_eq wanted children_wanted then with_references home nodes o by_id r else
+    if int_eq wanted children_alone_wanted then references_alone home nodes o by_id r else
+    attributes_of home nodes r

@@ -1,10 +1,11 @@
 -- The replies to a Retrieve and to a discovery.
-use Rattle.std.specs.Prelude.{ℕ, pos, Bool, true, false, not, List, Some}
+use Rattle.std.specs.Prelude.{ℕ, Bool, true, false, not, List, Some}
 use Rattle.std.specs.Prelude.{if◌then◌else◌}
 use Rattle.std.specs.Option.{option_map_or}
 use Rattle.std.specs.Ordering.{int_eq}
 use Rattle.m2m_names.specs.declared.codes.Rsc.TheVariants.{Ok as Fine, NoPrivilege, NotFound}
 use Rattle.m2m_value.specs.Data.{Data}
+use Rattle.primitive_json.specs.Kinds.{unstructured_form}
 use Rattle.primitive_json.specs.declared.reply.ReplyParts.{ReplyParts}
 use Rattle.primitive_json.specs.declared.request.RequestParts.{RequestParts}
 pub use Rattle.entity_model.specs.Places.{reply_to, refusal}
@@ -23,7 +24,7 @@ success request d = reply_to request Fine (Some d)
 
 -- addresses are wanted as resource ids (TS-0004, 6.3.4.2.8)
 abbrev pub is_by_id : RequestParts → Bool
-is_by_id request = option_map_or (λ z. int_eq z (pos 2)) request.drt false
+is_by_id request = option_map_or (λ z. int_eq z unstructured_form) request.drt false
 
 -- a discovery below the resource of the number: refused without its right on it (TS-0001, 10.2.6)
 abbrev pub discovered : HomeData → List ResourceData → List ℕ → RequestParts → ℕ → ReplyParts

@@ -1,6 +1,7 @@
 //! Laws of reading, over every list.
-ghost use Rattle.std.specs.Prelude.{◌≡◌, ℕ, ◌^◌, List, IsTrue, Some, false};
+ghost use Rattle.std.specs.Prelude.{◌≡◌, ℕ, List, IsTrue, Some, false};
 ghost use Rattle.std.specs.List.{All};
+ghost use Rattle.m2m_names.specs.Ids.{count_bound};
 ghost use Rattle.m2m_names.specs.declared.codes.Rsc.TheVariants.{NoPrivilege};
 ghost use Rattle.filter_criteria.specs.declared.filter.FilterParts.{FilterParts};
 ghost use Rattle.primitive_json.specs.declared.request.RequestParts.{RequestParts};
@@ -66,7 +67,7 @@ pub fn others_are_shown_and_found_by_right()
     ensures own { (home : HomeData) (nodes : List ResourceData) → IsHome home →
         IsTrue (is_tree nodes) →
         ((r : ResourceData) → at r.number nodes ≡ Some r → r.parent ≡ 0 → r.name ≡ home.base) →
-        IsTrue (have_free_names nodes) → IsTrue (are_below (2 ^ 63) nodes) →
+        IsTrue (have_free_names nodes) → IsTrue (are_below count_bound nodes) →
         HasOwnAddresses nodes }
 {}
 

@@ -1,5 +1,6 @@
 //! Trees for the tests, from a line for each resource.
-ghost use Rattle.std.specs.Prelude.{◌≤◌, ◌<◌, ◌^◌, IfOk, IsUtf8};
+ghost use Rattle.std.specs.Prelude.{◌≤◌, ◌<◌, IfOk, IsUtf8};
+ghost use Rattle.m2m_names.specs.Ids.{count_bound};
 ghost use Rattle.m2m_names.specs.Stamps.{last_moment};
 
 use m2m_names::{Attr, LAST_MOMENT, Ty, read_digits};
@@ -58,7 +59,7 @@ pub(crate) fn listed(alloc: Global, numbers: &[u64]) -> Result<String, OutOfMemo
 
 /// The number that a text is in decimal, or 0.
 pub(crate) fn number(text: &str) -> u64
-    ensures { result < 2 ^ 63 }
+    ensures { result < count_bound }
 {
     read_digits(text.as_bytes()).unwrap_or(0)
 }

@@ -10,7 +10,7 @@ use Rattle.std.proofs.lemmas.List.Sums.{sum_by-append, sum_by-cons}
 use Rattle.std.specs.List.{filter, list_any, sum_by}
 use Rattle.std.specs.Option.{option_or}
 use Rattle.resource_model.specs.Resource.{ResourceData, has_number, ae_id, cse_id}
-use Rattle.tree_model.specs.Tree.{at, has, resource_number, replaced, line_from, line_of, depth, stays, staying, without, is_spared, same_text, has_ae_id, has_cse_id, instance_size, sizes_of, is_instance, instances_of, may_stand, is_tree}
+use Rattle.tree_model.specs.Tree.{at, has, resource_number, replaced, line_from, line_of, level_of, stays, staying, without, is_spared, same_text, has_ae_id, has_cse_id, instance_size, sizes_of, is_instance, instances_of, may_stand, is_tree}
 use Rattle.tree_model.proofs.GrowthLemmas.{IsNext, growth, next_fits, below_lacks, line-append, spared_new, stays_spared, without-spared}
 use Rattle.tree_model.proofs.KeptLemmas.{map-replaced_same, is_tree-without, without-snoc}
 use Rattle.tree_model.proofs.TreeLemmas.{at_number, has-append, staying_any}
@@ -209,8 +209,8 @@ found-without p picks nodes tree = ap (find p) (without-spared picks nodes tree)
 
 -- ---- depth
 
-pub depth-append : (n : ℕ) (nodes : List ResourceData) (r : ResourceData) → depth n (nodes ++ r ∷ []) ≡ cond (has_number n r) (depth r.parent nodes + 1) (depth n nodes)
-depth-append n nodes r = ap length (line-append n nodes r) ∙ elim (cases_Bool (has_number n r)) [
+pub level_of-append : (n : ℕ) (nodes : List ResourceData) (r : ResourceData) → level_of n (nodes ++ r ∷ []) ≡ cond (has_number n r) (level_of r.parent nodes + 1) (level_of n nodes)
+level_of-append n nodes r = ap length (line-append n nodes r) ∙ elim (cases_Bool (has_number n r)) [
   | inl t ↦ rw t (omega arith)
   | inr f ↦ rw f refl
 ]
@@ -234,8 +234,8 @@ module _ (g : ResourceData → ResourceData) (number : (r : ResourceData) → (g
       ∙ sym (map-append g (reverse nodes) (r ∷ []))
       ∙ ap (map g) (sym (reverse-append (r ∷ []) nodes))
 
-  pub depth-map : (n : ℕ) (nodes : List ResourceData) → depth n (map g nodes) ≡ depth n nodes
-  depth-map n nodes = ap length (ap (line_from n) (reverse-map nodes) ∙ line_from-map n (reverse nodes)) ∙ length-map (line_of n nodes) g
+  pub level_of-map : (n : ℕ) (nodes : List ResourceData) → level_of n (map g nodes) ≡ level_of n nodes
+  level_of-map n nodes = ap length (ap (line_from n) (reverse-map nodes) ∙ line_from-map n (reverse nodes)) ∙ length-map (line_of n nodes) g
 
 module _ (r : ResourceData) where
   -- of a resource only number and parent are left
@@ -248,11 +248,11 @@ module _ (r : ResourceData) where
       ∙ ap (λ (m : ℕ). record r { number = r.number; parent = m }) parent
 
   -- what takes a place under the parent of what had it keeps how deep each resource stands
-  pub depth-replaced : (n : ℕ) (nodes : List ResourceData) → ((s : ResourceData) → at r.number nodes ≡ Some s → s.parent ≡ r.parent) → depth n (replaced r nodes) ≡ depth n nodes
-  depth-replaced n nodes same =
-      sym (depth-map placed (λ _. refl) (λ _. refl) n (replaced r nodes))
-      ∙ ap (depth n) (map-replaced_same placed r nodes (λ s found. placed_same s (at_number r.number nodes s found) (same s found)))
-      ∙ depth-map placed (λ _. refl) (λ _. refl) n nodes
+  pub level_of-replaced : (n : ℕ) (nodes : List ResourceData) → ((s : ResourceData) → at r.number nodes ≡ Some s → s.parent ≡ r.parent) → level_of n (replaced r nodes) ≡ level_of n nodes
+  level_of-replaced n nodes same =
+      sym (level_of-map placed (λ _. refl) (λ _. refl) n (replaced r nodes))
+      ∙ ap (level_of n) (map-replaced_same placed r nodes (λ s found. placed_same s (at_number r.number nodes s found) (same s found)))
+      ∙ level_of-map placed (λ _. refl) (λ _. refl) n nodes
 
 -- what isn't there has no line
 pub line_none : (n : ℕ) (nodes : List ResourceData) → is_tree nodes ≡ true → has n nodes ≡ false → line_of n nodes ≡ []
@@ -312,16 +312,16 @@ module _ (p : ResourceData → Bool) (before : List ResourceData) (r : ResourceD
 pub line-without : (p : ResourceData → Bool) (nodes : List ResourceData) → is_tree nodes ≡ true → (n : ℕ) → line_of n (without p nodes) ≡ cond (is_spared p nodes n) (line_of n nodes) []
 line-without p = growth may_stand (λ nodes. (n : ℕ) → LeavesLine p nodes n) (λ n. refl) (λ before r tree next holds. leaves_more p before r tree (next_fits before r next) holds)
 
-pub depth-without : (p : ResourceData → Bool) (nodes : List ResourceData) → is_tree nodes ≡ true → (n : ℕ) → depth n (without p nodes) ≡ cond (is_spared p nodes n) (depth n nodes) 0
-depth-without p nodes tree n = ap length (line-without p nodes tree n) ∙ length_of (is_spared p nodes n) (line_of n nodes)
+pub level_of-without : (p : ResourceData → Bool) (nodes : List ResourceData) → is_tree nodes ≡ true → (n : ℕ) → level_of n (without p nodes) ≡ cond (is_spared p nodes n) (level_of n nodes) 0
+level_of-without p nodes tree n = ap length (line-without p nodes tree n) ∙ length_of (is_spared p nodes n) (line_of n nodes)
   where
     length_of : (b : Bool) (line : List ResourceData) → length (cond b line []) ≡ cond b (length line) 0
     length_of true line = refl
     length_of false line = refl
 
 -- and so a removal makes nothing stand deeper
-pub no_deeper : (p : ResourceData → Bool) (nodes : List ResourceData) → is_tree nodes ≡ true → (n : ℕ) → depth n (without p nodes) ≤ depth n nodes
+pub no_deeper : (p : ResourceData → Bool) (nodes : List ResourceData) → is_tree nodes ≡ true → (n : ℕ) → level_of n (without p nodes) ≤ level_of n nodes
 no_deeper p nodes tree n = elim (cases_Bool (is_spared p nodes n)) [
-  | inl t ↦ let same : depth n (without p nodes) ≡ depth n nodes = depth-without p nodes tree n ∙ ap (λ b. cond b (depth n nodes) 0) t in omega arith
-  | inr f ↦ let none : depth n (without p nodes) ≡ 0 = depth-without p nodes tree n ∙ ap (λ b. cond b (depth n nodes) 0) f in omega arith
+  | inl t ↦ let same : level_of n (without p nodes) ≡ level_of n nodes = level_of-without p nodes tree n ∙ ap (λ b. cond b (level_of n nodes) 0) t in omega arith
+  | inr f ↦ let none : level_of n (without p nodes) ≡ 0 = level_of-without p nodes tree n ∙ ap (λ b. cond b (level_of n nodes) 0) f in omega arith
 ]

@@ -139,8 +139,8 @@ abbrev pub line_of : ℕ → List ResourceData → List ResourceData
 line_of n nodes = line_from n (reverse nodes)
 
 -- how deep a resource stands: the CSEBase at 1
-abbrev pub depth : ℕ → List ResourceData → ℕ
-depth n nodes = length (line_of n nodes)
+abbrev pub level_of : ℕ → List ResourceData → ℕ
+level_of n nodes = length (line_of n nodes)
 
 -- it is the resource of the number, or stands below it
 abbrev pub is_at_or_below : ℕ → List ResourceData → ResourceData → Bool

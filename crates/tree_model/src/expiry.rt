@@ -1,5 +1,6 @@
 //! When resources are due.
-ghost use Rattle.std.specs.Prelude.{◌≡◌, ◌<◌, ◌^◌, IfSome, option_map};
+ghost use Rattle.std.specs.Prelude.{◌≡◌, ◌<◌, IfSome, option_map};
+ghost use Rattle.m2m_names.specs.Ids.{count_bound};
 ghost use Rattle.m2m_names.specs.declared.attributes.Attr.TheVariants.{Mia};
 ghost use Rattle.resource_model.specs.Attributes.{count_at};
 ghost use Rattle.tree_model.specs.Tree as spec;
@@ -49,7 +50,7 @@ fn due_of_instance(container: Option<&Resource>, resource: &Resource) -> u64
 
 fn age_of(container: Option<&Resource>) -> Option<u64>
     ensures value { result ≡ spec.age_of (option_map (λ r. r.now) container.entry) }
-    ensures bound { IfSome result (λ age. age < 2 ^ 63) }
+    ensures bound { IfSome result (λ age. age < count_bound) }
 {
     container?.attrs().count(Attr::Mia)
 }

@@ -1,6 +1,7 @@
 //! What a tree is, whatever keeps it.
 ghost use Rattle.std.specs.Prelude.{◌≡◌, ℕ, ◌+◌, ◌^◌, ◌<◌, ◌≤◌, List, [], ◌∷◌, ◌++◌, length};
 ghost use Rattle.std.specs.Prelude.{slice_get, IsTrue, OnOk, OnErr, IfErr, Some, option_map};
+ghost use Rattle.m2m_names.specs.Ids.{count_bound};
 ghost use Rattle.m2m_names.specs.Stamps.{last_moment};
 ghost use Rattle.resource_model.specs.Resource.{ResourceData, has_number};
 ghost use Rattle.tree_model.specs.Tree.{at, has, child_of, children_of, subs_of, number_at};
@@ -105,7 +106,7 @@ pub trait Tree: Drop {
     fn restamp(&mut self, number: u64, lt: u64, st: u64)
         requires there { IsTrue (has_state number (nodes self.old)) }
         requires lt { lt ≤ last_moment }
-        requires st { st < 2 ^ 63 }
+        requires st { st < count_bound }
         ensures { nodes self.new ≡ restamped_at number lt st (nodes self.old) };
 
     /// Removes a resource with all that stands below it.

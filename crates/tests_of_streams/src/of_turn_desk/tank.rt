@@ -18,12 +18,14 @@ impl Model for Litres {
 }
 
 impl Litres {
+    /// So many litres.
     pub fn new(n: u64) -> Litres
         ensures { result ≡ n }
     {
         Litres { n }
     }
 
+    /// How many they are.
     pub fn get(&self) -> u64
         ensures { result ≡ self.now }
     {
@@ -62,12 +64,14 @@ impl Model for Tank {
 }
 
 impl Tank {
+    /// An empty tank.
     pub fn new() -> Tank
         ensures { result ≡ 0 }
     {
         Tank { level: 0 }
     }
 
+    /// How many litres are in it.
     pub fn level(&self) -> u64
         ensures { result ≡ self.now }
     {

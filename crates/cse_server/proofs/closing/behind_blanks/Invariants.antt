@@ -1,6 +1,6 @@
 use Rattle.std.proofs.Common.{◌≡◌, drop}
-use Rattle.cse_server.specs.Closing.{behind_blanks}
+use Rattle.httparse.specs.Grammar.{skip_ows}
 use Rattle.cse_server.proofs.closing.behind_blanks.Given as goal
 
 abbrev pub invariant-loop-at : goal.invariant-loop-at
-invariant-loop-at l = behind_blanks l.text ≡ behind_blanks (drop l.at l.text)
+invariant-loop-at l = skip_ows l.text ≡ skip_ows (drop l.at l.text)

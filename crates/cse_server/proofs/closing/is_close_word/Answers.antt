@@ -1,9 +1,9 @@
 use Rattle.std.proofs.Common.{◌≡◌, ℕ, true, false, List, take, drop, sym, ap, ◌∙◌}
 use Rattle.std.specs.List.{list_all}
 use Rattle.std.specs.Prelude.{codes}
+use Rattle.httparse.specs.Grammar.{is_ows}
 use Rattle.http_frames.specs.Lines.{is_same_name}
 use Rattle.http_frames.proofs.LinesLemmas.{is_same_name_from}
-use Rattle.cse_server.specs.Closing.{is_blank}
 use Rattle.cse_server.proofs.ClosingLemmas.{take-most, drop-most}
 use Rattle.cse_server.proofs.closing.is_close_word.Goals as goal
 
@@ -15,7 +15,7 @@ returns-then-eq_ignore_ascii_case c =
     let named : is_same_name (take 5 t) (codes "close") ≡ true =
     ap (λ (v : List ℕ). is_same_name v (codes "close")) (sym front)
     ∙ sym (is_same_name_from _ c.split_at.result.0.now (codes "close") c.eq_ignore_ascii_case.ensures.test) ∙ c.if-eq_ignore_ascii_case.true in
-    rw named (c.are_blank.ensures ∙ ap (list_all is_blank) back)
+    rw named (c.are_blank.ensures ∙ ap (list_all is_ows) back)
 
 pub returns-else-eq_ignore_ascii_case : goal.returns-else-eq_ignore_ascii_case
 returns-else-eq_ignore_ascii_case c =

@@ -1,6 +1,6 @@
 use Rattle.std.specs.Prelude.{nat_lt}
 use Rattle.std.proofs.Common.{◌<◌, ◌-◌, ap, sym, ◌∙◌, arith}
-use Rattle.tree_model.specs.Tree.{depth}
+use Rattle.tree_model.specs.Tree.{level_of}
 use Rattle.request_rules.proofs.DepthLemmas.{less_deep_nowhere, less_deep_up}
 use Rattle.request_rules.proofs.limiting.+is_less_deep.Goals as goal
 
@@ -8,7 +8,7 @@ pub returns-in-Some : goal.returns-in-Some
 returns-in-Some g t c =
     let nodes = g.T.Tree.nodes c.args.tree.now in
     let some : 0 < c.args.bound = omega (arith, c.if-bound-eq0.false) in
-    c.is_less_deep.ensures ∙ ap (λ n. nat_lt (depth n nodes) (c.args.bound - 1)) c.parent.ensures.value
+    c.is_less_deep.ensures ∙ ap (λ n. nat_lt (level_of n nodes) (c.args.bound - 1)) c.parent.ensures.value
     ∙ less_deep_up nodes c.args.number c.args.bound c.in-Some.resource.now c.requires (sym c.in-Some.ensures) some
 
 pub returns-in-None : goal.returns-in-None
