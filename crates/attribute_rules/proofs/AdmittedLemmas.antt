@@ -277,14 +277,6 @@ wishes_name ty es (Err fault) h is = tt
 pub members_fit : (writing : Writing) (ty : Ty) (content : Data) (es : List Entry) → is_admitted writing ty content ≡ true → attributes_in ty content ≡ Some es → are_admitted writing ty es ≡ true
 members_fit writing ty content es h is = sym (ap (λ o. option_map_or (are_admitted writing ty) o false) is) ∙ h
 
-free_name_in : (ty : Ty) (o : Option (List Entry)) → option_map_or (are_admitted Create ty) o false ≡ true → IfSome (named_text Rn (unwrap_or o [])) (λ s. is_free_name s ≡ true)
-free_name_in ty None h = tt
-free_name_in ty (Some es) h = free_name ty es h
-
--- the name that an admitted creation gives is one that a resource may have
-pub admitted_name : (ty : Ty) (content : Data) → is_admitted Create ty content ≡ true → IfSome (wanted_of ty content).name (λ s. is_free_name s ≡ true)
-admitted_name ty content h = free_name_in ty (attributes_in ty content) h
-
 -- ---- what is named is kept
 
 -- what a request may give among these attributes is kept as it has to be

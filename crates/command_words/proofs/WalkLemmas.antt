@@ -25,13 +25,6 @@ pub fault_first : (a b : Kinds) → a ≢ [] → or_else a b ≢ []
 fault_first [] b bad e = bad refl
 fault_first (k ∷ a) b bad e = bad e
 
-pub fault_past : (a b : Kinds) → a ≡ [] → or_else a b ≡ b
-fault_past a b none = ap (λ x. or_else x b) none
-
-fault_assoc : (a b c : Kinds) → or_else (or_else a b) c ≡ or_else a (or_else b c)
-fault_assoc [] b c = refl
-fault_assoc (k ∷ a) b c = refl
-
 pub fault_alone : (a : Kinds) → or_else a [] ≡ a
 fault_alone [] = refl
 fault_alone (k ∷ a) = refl

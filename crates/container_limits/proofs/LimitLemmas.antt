@@ -161,12 +161,6 @@ gone_turn rs k outside mia moment now after all o is rest pushed =
     ∙ ap (λ (ns : List ℕ). now ++ ns) (sym (going_split rs k outside mia moment o is))
     ∙ rest
 
-pub gone_start : (rs : List ResourceData) (outside : ℕ) (mia : Option ℕ) (moment : ℕ) (now : List ℕ) → now ≡ [] → now ++ numbers_of (going (outside - 0) mia moment (drop 0 rs)) ≡ numbers_of (going outside mia moment rs)
-gone_start rs outside mia moment now none =
-    let same : outside - 0 ≡ outside = omega arith in
-    ap (λ (ns : List ℕ). ns ++ numbers_of (going (outside - 0) mia moment rs)) none ∙ ap (λ (n : ℕ). numbers_of (going n mia moment rs)) same
-
--- where the rest has none that goes, the numbers so far are all
 -- where it is known that none is due, and none stands outside, none goes
 pub gone_none : (rs : List ResourceData) (outside : ℕ) (mia : Option ℕ) (moment : ℕ) → outside ≡ 0 → list_any (is_due_by mia moment) rs ≡ false → numbers_of (going outside mia moment rs) ≡ []
 gone_none rs outside mia moment first none =
@@ -186,11 +180,6 @@ pub gone_quiet : (rs : List ResourceData) (k outside : ℕ) (mia : Option ℕ) (
 gone_quiet rs k outside mia moment now all past none rest =
     let zero_left : outside - k ≡ 0 = omega arith in
     let nothing : going (outside - k) mia moment (drop k rs) ≡ [] = ap (λ (n : ℕ). going n mia moment (drop k rs)) zero_left ∙ none_end mia moment (drop k rs) (none_later mia moment k rs none) in
-    sym (append-nil now) ∙ ap (λ (gs : List ResourceData). now ++ numbers_of gs) (sym nothing) ∙ rest
-
-pub gone_all : (rs : List ResourceData) (k outside : ℕ) (mia : Option ℕ) (moment : ℕ) (now all : List ℕ) → length rs ≤ k → now ++ numbers_of (going (outside - k) mia moment (drop k rs)) ≡ all → now ≡ all
-gone_all rs k outside mia moment now all past rest =
-    let nothing : going (outside - k) mia moment (drop k rs) ≡ [] = ap (going (outside - k) mia moment) (drop_all k rs past) ∙ going_nil (outside - k) mia moment in
     sym (append-nil now) ∙ ap (λ (gs : List ResourceData). now ++ numbers_of gs) (sym nothing) ∙ rest
 
 -- what goes is what isn't kept

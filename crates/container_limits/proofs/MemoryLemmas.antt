@@ -19,10 +19,6 @@ some_back (x ∷ xs) ys some = λ e. cc
 some_part : (now head tail all : List ℕ) → now ++ (head ++ tail) ≡ all → head ≢ [] → all ≢ []
 some_part now head tail all is some e = some_back now (head ++ tail) (some_front head tail some) (is ∙ e)
 
--- one that passes isn't nothing
-pub one_passes : (p : ResourceData → Bool) (r : ResourceData) → p r ≡ true → numbers_of (filter p (r ∷ [])) ≢ []
-one_passes p r passes = rw passes (λ e. cc)
-
 -- where the instance at a place goes, something goes
 pub going_some : (rs : List ResourceData) (k outside : ℕ) (mia : Option ℕ) (moment : ℕ) (now all : List ℕ) (o : Option ResourceData) → o ≡ slice_get rs k → now ++ numbers_of (going (outside - k) mia moment (drop k rs)) ≡ all → numbers_of (filter (goes (nat_lt k outside) mia moment) (option_to_list o)) ≢ [] → all ≢ []
 going_some rs k outside mia moment now all o is rest some =

@@ -86,6 +86,3 @@ over_turn q rs k now after all rest pushed =
     ∙ append_assoc now (numbers_of head) (numbers_of tail)
     ∙ ap (λ (ns : List ℕ). now ++ ns) (sym (over_split q rs k))
     ∙ rest
-
-pub over_all : (q : ResourceData → Bool) (rs : List ResourceData) (k : ℕ) (now all : List ℕ) → length rs ≤ k → now ++ numbers_of (filter q (drop k rs)) ≡ all → now ≡ all
-over_all q rs k now all past rest = sym (append-nil now) ∙ ap (λ (ss : List ResourceData). now ++ numbers_of (filter q ss)) (sym (drop_all k rs past)) ∙ rest

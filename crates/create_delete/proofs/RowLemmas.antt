@@ -13,13 +13,6 @@ use Rattle.tree_model.specs.Shown.{with_rows}
 use Rattle.tree_model.proofs.ShownLemmas.{with_rows-append}
 use Rattle.create_delete.specs.Changing.{is_told, is_told_at}
 
--- four lists of them
-pub with_rows-four : (a b c d rows one two three four : List Row) → one ≡ with_rows a rows → two ≡ with_rows b one → three ≡ with_rows c two → four ≡ with_rows d three → four ≡ with_rows (a ++ b ++ c ++ d) rows
-with_rows-four a b c d rows one two three four first second third last =
-    last ∙ ap (with_rows d) (third ∙ ap (with_rows c) (second ∙ ap (with_rows b) first))
-    ∙ ap (with_rows d) (ap (with_rows c) (sym (with_rows-append a b rows)) ∙ sym (with_rows-append (a ++ b) c rows))
-    ∙ sym (with_rows-append ((a ++ b) ++ c) d rows)
-
 -- none of them is of the attribute
 abbrev pub lacks_attr : Attr → List Row → Bool
 lacks_attr a rows = list_all (λ (row : Row). not (is_attr row.0 a)) rows
@@ -30,13 +23,6 @@ value_unset a (row ∷ more) rows none =
     let parts = and_parts (not (is_attr row.0 a)) (lacks_attr a more) none in
     value_unset a more (with_value row.0 row.1 rows) parts.1
     ∙ value-with_value_other row.0 a row.1 rows (λ e. both_ways _ (not-true _ parts.0) (ap (is_attr row.0) e ∙ is_attr-itself row.0))
-
--- one of them is, and none after it
-pub value_put : (a : Attr) (d : Data) (front more rows : List Row) → lacks_attr a more ≡ true → value_of a (with_rows (front ++ (a, d) ∷ more) rows) ≡ Some d
-value_put a d front more rows none =
-    ap (value_of a) (with_rows-append front ((a, d) ∷ more) rows)
-    ∙ value_unset a more (with_value a d (with_rows front rows)) none
-    ∙ value-with_value_same a d (with_rows front rows)
 
 -- ---- after an update
 

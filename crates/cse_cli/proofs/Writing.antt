@@ -12,19 +12,12 @@ pub record IsUnderWay (old now : Option (List ℕ)) (bytes rest : List ℕ) : Ty
   pub whole : bytes ≡ done ++ rest
   pub appended : Appends old now done
 
-pub Appends-nothing : (old : Option (List ℕ)) → Appends old old []
-Appends-nothing None = tt
-Appends-nothing (Some xs) = grind (arith, common_steps)
-
 pub Appends-both : (old mid new : Option (List ℕ)) (a b : List ℕ)
     → Appends old mid a → Appends mid new b → Appends old new (a ++ b)
 Appends-both None mid new a b p q = tt
 Appends-both (Some xs) None new a b p q = absurd p
 Appends-both (Some xs) (Some ys) None a b p q = absurd q
 Appends-both (Some xs) (Some ys) (Some zs) a b p q = q ∙ ap (λ v. v ++ b) p ∙ append_assoc xs a b
-
-pub IsUnderWay-start : (old : Option (List ℕ)) (bytes : List ℕ) → IsUnderWay old old bytes bytes
-IsUnderWay-start old bytes = record { done = []; whole = refl; appended = Appends-nothing old }
 
 -- one more piece was written
 pub IsUnderWay-next : (old mid new : Option (List ℕ)) (bytes rest : List ℕ) (n : ℕ)
@@ -35,13 +28,6 @@ IsUnderWay-next old mid new bytes rest n w p = record {
       ∙ sym (append_assoc w.done (take n rest) (drop n rest));
   appended = Appends-both old mid new w.done (take n rest) w.appended p;
 }
-
--- nothing is left
-pub IsUnderWay-end : (old now : Option (List ℕ)) (bytes rest : List ℕ)
-    → IsUnderWay old now bytes rest → rest ≡ [] → Appends old now bytes
-IsUnderWay-end old now bytes rest w e =
-    let all : bytes ≡ w.done = grind (arith, common_steps, w.whole, e) in
-    rw all w.appended
 
 -- the device gave up
 pub IsUnderWay-stop : (old mid new : Option (List ℕ)) (bytes rest : List ℕ)

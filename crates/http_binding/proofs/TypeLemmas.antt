@@ -14,14 +14,6 @@ use Rattle.http_binding.specs.MediaTypes.{is_type_digits}
 at_most_five : (ds : List ℕ) → is_filled 5 ds ≡ true → length ds ≤ 5
 at_most_five ds h = grind (arith, nat_tests)
 
-as_numeral : (ds : List ℕ) → is_filled 5 ds ≡ true → is_filled 18 ds ≡ true
-as_numeral ds h = grind (arith, nat_tests)
-
-pub are_numeral : (ds : List ℕ) → is_type_digits ds ≡ true → is_numeral ds ≡ true
-are_numeral ds h =
-    let parts = and_parts (is_filled 5 ds) (list_all is_ascii_digit ds) h in
-    and_from (is_filled numeral_limit ds) (list_all is_ascii_digit ds) (as_numeral ds parts.0) parts.1
-
 pub are_short : (ds : List ℕ) → is_type_digits ds ≡ true → digits_value 10 ds < 10 ^ 5
 are_short ds h =
     let parts = and_parts (is_filled 5 ds) (list_all is_ascii_digit ds) h in

@@ -53,13 +53,6 @@ pub pairs_all : {X : Type 0} (pairs : X → List Pair) (xs : List X) (i : ℕ) (
     → last ≡ extend_pairs start (flat_map pairs (take i xs)) → last ≡ extend_pairs start (flat_map pairs xs)
 pairs_all pairs xs i start last all so = so ∙ ap (λ ys. extend_pairs start (flat_map pairs ys)) (take_all i xs all)
 
--- three parts of a query
-pub in_three : (a b c : List Pair) (start one two three : List ℕ) → one ≡ extend_pairs start a → two ≡ extend_pairs one b → three ≡ extend_pairs two c
-    → three ≡ extend_pairs start (a ++ b ++ c)
-in_three a b c start one two three first second third =
-    third ∙ ap (λ text. extend_pairs text c) (second ∙ ap (λ text. extend_pairs text b) first ∙ sym (fold-append with_more start a b))
-    ∙ sym (fold-append with_more start (a ++ b) c)
-
 -- what a filter has of a condition that is this one
 pub condition_more : {A E : Type 0} (result : Result A E) (f : FilterParts) (condition one : Condition) (key : List ℕ) (texts : List (List ℕ)) (start last : List ℕ) → condition ≡ one → key ≡ name_of_condition condition
     → texts ≡ condition_texts f one → OnOk result (last ≡ extend_pairs start (pairs_at key texts)) → OnOk result (last ≡ extend_pairs start (condition_pairs f condition))

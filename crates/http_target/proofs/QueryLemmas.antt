@@ -320,21 +320,5 @@ nothing_is_said op = record { rcn = tt; fc = tt; drt = tt }
 
 -- ---- pair by pair
 
-at_pair : (op : Op) (pairs : List Pair) (i : ℕ) (pair : Pair) (q : Query) → i < length pairs → pair ≡ get_or pairs i pair
-    → said_by op (drop i pairs) q ≡ and_then (pair_said op pair q) (said_by op (drop (i + 1) pairs))
-at_pair op pairs i pair q h is =
-    ap (λ ps. said_by op ps q) (drop_more pairs i pair h) ∙ ap (λ p. and_then (pair_said op p q) (said_by op (drop (i + 1) pairs))) (sym is)
-
-pub pair_good : (op : Op) (pairs : List Pair) (i : ℕ) (pair : Pair) (q next : Query) (told : Result Query BindFault) → told ≡ said_by op (drop i pairs) q
-    → i < length pairs → pair ≡ get_or pairs i pair → pair_said op pair q ≡ Ok next → told ≡ said_by op (drop (i + 1) pairs) next
-pair_good op pairs i pair q next told so h is good =
-    so ∙ at_pair op pairs i pair q h is ∙ ap (λ r. and_then r (said_by op (drop (i + 1) pairs))) good
-
-pub pair_bad : (op : Op) (pairs : List Pair) (i : ℕ) (pair : Pair) (q : Query) (told : Result Query BindFault) (fault : BindFault) → told ≡ said_by op (drop i pairs) q
-    → i < length pairs → pair ≡ get_or pairs i pair → (fault ≡ bind.OutOfMemory) ⊎ (pair_said op pair q ≡ Err fault) → (fault ≡ bind.OutOfMemory) ⊎ (told ≡ Err fault)
-pair_bad op pairs i pair q told fault so h is (inl memory) = inl memory
-pair_bad op pairs i pair q told fault so h is (inr bad) =
-    inr (so ∙ at_pair op pairs i pair q h is ∙ ap (λ r. and_then r (said_by op (drop (i + 1) pairs))) bad)
-
 pub pairs_end : (op : Op) (pairs : List Pair) (i : ℕ) (q : Query) (told : Result Query BindFault) → told ≡ said_by op (drop i pairs) q → length pairs ≤ i → told ≡ Ok q
 pairs_end op pairs i q told so all = so ∙ ap (λ ps. said_by op ps q) (drop_all i pairs all)

@@ -27,13 +27,6 @@ word_first rest next h =
     let p = some_by (nat_lt (index_of 32 rest) (length rest)) (drop (index_of 32 rest + 1) rest) next h in
     slice_split_first is_blank rest 0 (ltb-true (index_of 32 rest) (length rest) p.0) ∙ ap (λ t. split_once_front 32 rest ∷ words_of t) (sym p.1)
 
-pub word_shorter : (rest next : List ℕ) → Some next ≡ split_once_back 32 rest → length next < length rest
-word_shorter rest next h =
-    let p = some_by (nat_lt (index_of 32 rest) (length rest)) (drop (index_of 32 rest + 1) rest) next h in
-    let low : index_of 32 rest < length rest = ltb-true (index_of 32 rest) (length rest) p.0 in
-    let size : length next ≡ length rest - (index_of 32 rest + 1) = ap length p.1 ∙ length-drop (index_of 32 rest + 1) rest in
-    omega arith
-
 pub word_on : (rest next : List ℕ) (words more : List (List ℕ)) (text : List ℕ) → words ++ words_of rest ≡ words_of text
     → Some next ≡ split_once_back 32 rest → more ≡ words ++ split_once_front 32 rest ∷ [] → more ++ words_of next ≡ words_of text
 word_on rest next words more text whole h pushed =
@@ -65,15 +58,3 @@ word_last rest words all text whole h pushed =
     pushed ∙ ap (λ w. words ++ w) (sym (one_word rest none)) ∙ whole
 
 -- ---- the pairs of a query, one after another
-
-pub pair_on : (pairs more before after whole : List Pair) (pair : Pair) → pairs ++ map decoded_pair before ≡ whole
-    → before ≡ pair ∷ after → more ≡ pairs ++ decoded_pair pair ∷ [] → more ++ map decoded_pair after ≡ whole
-pair_on pairs more before after whole pair so is pushed =
-    ap (λ ps. ps ++ map decoded_pair after) pushed ∙ append_assoc pairs (decoded_pair pair ∷ []) (map decoded_pair after)
-    ∙ ap (λ ps. pairs ++ map decoded_pair ps) (sym is) ∙ so
-
-pub pairs_done : (pairs before whole : List Pair) → pairs ++ map decoded_pair before ≡ whole → before ≡ [] → pairs ≡ whole
-pairs_done pairs before whole so is = sym (append-nil pairs) ∙ ap (λ ps. pairs ++ map decoded_pair ps) (sym is) ∙ so
-
-pub pairs_fewer : (before after : List Pair) (pair : Pair) → before ≡ pair ∷ after → length after < length before
-pairs_fewer before after pair is = omega (arith, ap length is)

@@ -99,15 +99,7 @@ date_ranges year month day is = ranges_of year month day (days_of_month year mon
 pub is_date-ranges : (year month day : ℕ) → IsInRange 1970 9999 year → IsInRange 1 12 month → IsInRange 1 (days_of_month year month) day → is_date year month day ≡ true
 is_date-ranges year month day y m d = in_ranges year month day (days_of_month year month) y.0 y.1 m.0 m.1 d.0 d.1
 
--- what `jiff` takes for a date from 1970 on is one
-pub is_date-jiff : (year month day : ℕ) → 1970 ≤ year → IsDate (pos year) (pos month) (pos day) → is_date year month day ≡ true
-is_date-jiff year month day late date =
-    let y : IsInRange 1970 9999 year = (late, omega (arith, signed_arith, date.0.1)) in
-    let m : IsInRange 1 12 month = (omega (arith, signed_arith, date.1.0), omega (arith, signed_arith, date.1.1)) in
-    let d : IsInRange 1 (days_of_month year month) day = (omega (arith, signed_arith, date.2.0), omega (arith, signed_arith, date.2.1)) in
-    is_date-ranges year month day y m d
-
--- and the other way round
+-- a date is one that `jiff` takes
 pub jiff-is_date : (year month day : ℕ) → is_date year month day ≡ true → IsDate (pos year) (pos month) (pos day)
 jiff-is_date year month day is =
     let r = date_ranges year month day is in
@@ -115,9 +107,3 @@ jiff-is_date year month day is =
     let m : IsBetween (pos 1) (pos 12) (pos month) = (omega (arith, signed_arith, r.1.0), omega (arith, signed_arith, r.1.1)) in
     let d : IsBetween (pos 1) (pos (days_of_month year month)) (pos day) = (omega (arith, signed_arith, r.2.0), omega (arith, signed_arith, r.2.1)) in
     (y, m, d)
-
-not_true : (b : Bool) → (b ≡ true → ⊥) → b ≡ false
-not_true b never = elim b as (λ v. (v ≡ true → ⊥) → v ≡ false) [ true ↦ λ h. absurd (h refl) | false ↦ λ h. refl ] never
-
-pub is_date-not_jiff : (year month day : ℕ) → (IsDate (pos year) (pos month) (pos day) → ⊥) → is_date year month day ≡ false
-is_date-not_jiff year month day none = not_true _ (λ is. none (jiff-is_date year month day is))

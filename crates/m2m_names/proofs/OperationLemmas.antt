@@ -12,7 +12,3 @@ op_again Retrieve = refl
 op_again Update = refl
 op_again Delete = refl
 op_again Notify = refl
-
--- operations with one number are one operation
-pub same_op : (a b : Op) → (op_row a).number ≡ (op_row b).number → a ≡ b
-same_op = same_key (λ op. (op_row op).number) op_of_number op_again

@@ -167,10 +167,6 @@ moment_at-only text at h =
     let checked : checked_moment h.stamp ≡ Some at = ap (λ b. cond b (Some (moment h.stamp)) None) h.is ∙ value in
     bind_again (stamp_at text) _ (h.stamp, h.fraction) _ read (ap (λ b. cond b (checked_moment h.stamp) None) h.tail ∙ checked)
 
--- a text has one moment
-pub one_moment : (text : List ℕ) (m n : ℕ) → IsTimestamp text m → IsTimestamp text n → m ≡ n
-one_moment text m n a b = same_Some m n (sym (moment_at-only text m a) ∙ moment_at-only text n b)
-
 -- what stands for a moment is a timestamp of it
 pub timestamp_is : (at : ℕ) → at ≤ last_moment → IsTimestamp (timestamp at) at
 timestamp_is at last =

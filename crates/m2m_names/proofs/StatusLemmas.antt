@@ -32,23 +32,10 @@ any_none : {X : Type 0} (p : X → Bool) (xs : List X) → find p xs ≡ None �
 any_none p [] e = refl
 any_none p (x ∷ xs) e = any_step x (p x) (list_any p xs) (find p xs) (any_none p xs) e
 
-both : (a b : Bool) → a ≡ true → b ≡ false → (a && not b) ≡ true
-both true false p q = refl
-both true true p q = sym q
-both false b p q = p
-
-range_of : (a b : Bool) → (a && not b) ≡ true → a ≡ true
-range_of true b e = refl
-range_of false b e = e
-
 unnamed_of : (a b : Bool) → (a && not b) ≡ true → b ≡ false
 unnamed_of true true e = sym e
 unnamed_of true false e = refl
 unnamed_of false b e = let h : false ≡ true = e in cc
-
--- a number of four digits that no code with a name has is another number
-pub other_where : (n : ℕ) → is_in_range 1000 9999 n ≡ true → named_code n ≡ None → IsTrue (is_other n)
-other_where n range none = both _ _ range (any_none (λ r. eqb (rsc_row r).number n) named_codes none)
 
 -- and such a number has no code with a name
 pub unnamed_where : (n : ℕ) → IsTrue (is_other n) → named_code n ≡ None
@@ -65,10 +52,6 @@ same_other a b p =
 pub other_code-true : (n : ℕ) (b : Bool) (known : IsTrue b → IsTrue (is_other n)) (o : OtherNumber) → o.number ≡ n → b ≡ true → other_code n b known ≡ Some (Other o)
 other_code-true n true known o same e = ap (λ x. Some (Other x)) (same_other _ o (sym same))
 other_code-true n false known o same e = let h : false ≡ true = e in cc
-
-other_code-false : (n : ℕ) (b : Bool) (known : IsTrue b → IsTrue (is_other n)) → b ≡ false → other_code n b known ≡ None
-other_code-false n true known e = let h : true ≡ false = e in cc
-other_code-false n false known e = refl
 
 -- an other number is found as such
 pub other_again : (o : OtherNumber) (n : ℕ) → o.number ≡ n → named_code n ≡ None → rsc_of_number n ≡ Some (Other o)
@@ -98,10 +81,6 @@ rsc_again NotAcceptable = refl
 rsc_again TooManyMembers = refl
 rsc_again WrongMember = refl
 rsc_again (Other o) = other_again o o.number refl (unnamed_where o.number o.outside)
-
--- status codes with one number are one status code
-pub same_rsc : (a b : Rsc) → (rsc_row a).number ≡ (rsc_row b).number → a ≡ b
-same_rsc = same_key (λ r. (rsc_row r).number) rsc_of_number rsc_again
 
 -- ---- how many digits the numbers have
 

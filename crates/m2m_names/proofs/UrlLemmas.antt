@@ -224,7 +224,3 @@ pub url_within : (text : List ℕ) (place : ℕ) → IsUrl text place → place 
 url_within text place u =
     let size = ap length u.bytes in
     omega (arith, u.ends, size, length-append (u.host ++ u.port) u.path, length-append u.host u.port)
-
--- a URL has one place at which its host and port end
-pub one_url : (text : List ℕ) (place other : ℕ) → IsUrl text place → IsUrl text other → place ≡ other
-one_url text place other a b = same_Some place other (sym (url_only text place a) ∙ url_only text other b)

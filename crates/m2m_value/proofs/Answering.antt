@@ -54,14 +54,6 @@ one_more_pair : (es : List Entry) (e : Entry) (rest : Result Pairs ValFault) →
 one_more_pair es e (Ok ps) = ap Ok (sym (pairs_onto-push es e ps))
 one_more_pair es e (Err fault) = refl
 
-pub nothing_kept : (rest : Result Elements ValFault) → rest ≡ after_kept [] rest
-nothing_kept (Ok es) = refl
-nothing_kept (Err fault) = refl
-
-pub no_pair_kept : (rest : Result Pairs ValFault) → rest ≡ pairs_after_kept [] rest
-no_pair_kept (Ok ps) = refl
-no_pair_kept (Err fault) = refl
-
 pub element_kept : (ds more : List Data) (j : json.Data) (js : json.Items) (d : Data) → value_kept j ≡ Ok d → more ≡ ds ++ d ∷ [] → after_kept ds (elements_in (json.item j js)) ≡ after_kept more (elements_in js)
 element_kept ds more j js d told pushed =
     ap (λ r. after_kept ds (followed r (λ e. followed (elements_in js) (λ es. Ok (element e es))))) told ∙ one_more ds d (elements_in js) ∙ ap (λ l. after_kept l (elements_in js)) (sym pushed)

@@ -35,15 +35,6 @@ pub member_kept : (old : Members) (k : List ℕ) (j : json.Json) (d : Data) (ms 
     → of_members (json.member k j ms) old ≡ of_members ms (put k d old)
 member_kept old k j d ms e = rw e refl
 
-pub none_before : (o : Option Items) → o ≡ option_map (items_before []) o
-none_before None = refl
-none_before (Some ds) = refl
-
--- the whole text
-pub whole_read : (o : Option (json.Json × List Token)) (j : json.Json) (d : Data) → o ≡ Some (j, []) → of_json j ≡ Some d
-    → option_and_then of_json (option_and_then (λ p. if_last p.0 p.1) o) ≡ Some d
-whole_read o j d read e = ap (λ x. option_and_then of_json (option_and_then (λ p. if_last p.0 p.1) x)) read ∙ e
-
 -- ---- what stands in a list or an object is less deep
 
 pub below_items : (j : json.Json) (js : json.Items) (n : ℕ) → items_depth (json.item j js) ≤ n → (depth j ≤ n) × (items_depth js ≤ n)

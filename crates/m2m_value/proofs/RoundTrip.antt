@@ -174,9 +174,6 @@ mutual
 
 -- ---- the text is UTF-8
 
-one : (byte : ℕ) → byte < 128 → IsUtf8 (byte ∷ [])
-one byte h = IsUtf8-are_ascii (byte ∷ []) (rw (lt-ltb _ _ h) refl)
-
 comma_utf8 : (b : Bool) → IsUtf8 (if b then [] else 44 ∷ [])
 comma_utf8 true = IsUtf8-nil
 comma_utf8 false = IsUtf8-are_ascii _ refl

@@ -97,9 +97,3 @@ swept_keep picks all now stayed place r after h inside read stay is =
           ∙ joined _ ∙ sym turn ∙ h.pass;
       order = subst AreAscending (sym (ap (λ (f : List ResourceData). f ++ drop (place + 1) after) front ∙ ap (λ (b : List ResourceData). (take stayed now ++ r ∷ []) ++ b) back ∙ joined (drop (place + 1) now) ∙ ap (λ rest. take stayed now ++ rest) (sym next))) h.order;
     }
-
-pub swept_end : (picks : ResourceData → Bool) (all now : List ResourceData) (stayed place : ℕ) → IsSwept picks all now stayed place → length all ≤ place → take stayed now ≡ without picks all
-swept_end picks all now stayed place h done =
-    let len : length now ≡ length all = h.len in
-    let none : drop place now ≡ [] = drop_all place now (omega arith) in
-    sym (ap (λ rest. take stayed now ++ staying picks (take stayed now) rest) none ∙ append-nil (take stayed now)) ∙ h.pass

@@ -9,9 +9,3 @@ read_keeps None rest held read now took is = tt
 read_keeps (Some xs) None held read now took is = absurd took
 read_keeps (Some xs) (Some ys) held read now took is =
     ap (λ v. v ++ ys) is ∙ append_assoc held read ys ∙ ap (λ v. held ++ v) (sym took)
-
--- a read that failed took nothing
-pub still_keeps : (left rest : Option (List ℕ)) (held : List ℕ) → Keeps left rest → Keeps (prepend_known held left) (prepend_known held rest)
-still_keeps None rest held kept = tt
-still_keeps (Some xs) None held kept = absurd kept
-still_keeps (Some xs) (Some ys) held kept = ap (λ v. held ++ v) kept

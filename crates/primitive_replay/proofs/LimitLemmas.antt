@@ -15,7 +15,3 @@ too_many n m more = grind (arith, nat_tests)
 pub line_at_long : (place : ℕ) (text : List ℕ) → line_limit < length text → line_at place text ≡ None
 line_at_long place text long =
     rw (too_many (length text) line_limit long, and_no (nat_le place most_lines)) refl
-
--- a place behind the last
-pub line_at_late : (place : ℕ) (text : List ℕ) → most_lines < place → line_at place text ≡ None
-line_at_late place text late = rw (too_many place most_lines late) refl

@@ -31,14 +31,3 @@ last_fault OutOfMemory place held stream left none some gives kept end = kept
 pub long_fault : (place : ℕ) (held : List ℕ) (stream left : Option (List ℕ)) → Keeps stream (prepend_known held left)
     → IsFront (Ok TooLong) held left → NextIs place (Err Bad) stream (prepend_known held left)
 long_fault place held stream left kept front = (kept, long_bad place stream held left kept front.0 front.1)
-
--- nothing is left
-pub next_end : (place : ℕ) (held : List ℕ) (stream left : Option (List ℕ)) → Keeps stream (prepend_known held left)
-    → IsFront (Ok End) held left → NextIs place (Ok None) stream (prepend_known held left)
-next_end place held stream left kept front = prepend_known-end stream left held kept front.0 front.1
-
--- nothing was settled
-pub unsettled : (f : LineFault) (place : ℕ) (stream now : Option (List ℕ)) → f ≢ Bad → Keeps stream now → NextIs place (Err f) stream now
-unsettled Bad place stream now other kept = absurd (other refl)
-unsettled ReadFault place stream now other kept = kept
-unsettled OutOfMemory place stream now other kept = kept

@@ -51,7 +51,3 @@ edit_refused e o request r es admitted content =
     ∙ first_fault-append (named_places e (named_by Update request r)) (creation_places Update e o request r)
     ∙ or_nothing (first_fault (named_places e (named_by Update request r)))
     ∙ ap (λ (x : Option (List Entry)). fault_named e (unwrap_or x [])) content
-
-pub edit_not_admitted : (e : EntityData) (o : List ℕ) (request : RequestParts) (r : ResourceData) → is_content_for Updating request r.ty ≡ false → first_fault (content_places Update e request r ++ creation_places Update e o request r) ≡ Some BadRequest
-edit_not_admitted e o request r refused =
-    ap (λ (b : Bool). first_fault ((unless b BadRequest ∷ named_places e (named_by Update request r)) ++ creation_places Update e o request r)) refused

@@ -305,9 +305,6 @@ insert-LacksRow a d rows i h = rw (h.before, h.after) refl
 pub remove-HoldsRow : (a : Attr) (rows : List Row) (i : ℕ) → HoldsRow a rows i → remove rows i ≡ without_value a rows
 remove-HoldsRow a rows i h = rw (h.before, h.after, add-one) refl
 
-pub same-LacksRow : (a : Attr) (rows : List Row) (i : ℕ) → LacksRow a rows i → rows ≡ without_value a rows
-same-LacksRow a rows i h = rw (h.before, h.after) (sym (take-append-drop i rows))
-
 pub no_rows : AreInOrder []
 unfolding IsStrictlySortedBy
 no_rows = tt

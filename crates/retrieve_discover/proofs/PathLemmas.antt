@@ -69,7 +69,3 @@ path_down nodes r path more tree found parent is grew =
 -- a parent's number is the smaller one
 pub above_child : (nodes : List ResourceData) (r : ResourceData) → is_tree nodes ≡ true → at r.number nodes ≡ Some r → r.parent < r.number
 above_child nodes r tree found = (stands nodes tree r.number r found).above
-
--- what was gone down is cut off again
-pub cut_back : (path more back : List ℕ) (above : ℕ) (tail : List ℕ) → above ≡ length path → more ≡ path ++ tail → back ≡ take above more → back ≡ path
-cut_back path more back above tail size grew is = is ∙ ap (take above) grew ∙ take_at path tail above (sym size)

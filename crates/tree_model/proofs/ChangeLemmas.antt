@@ -51,31 +51,11 @@ filter_both p q (r ∷ nodes) = elim (cases_Bool (q r)) [
   | inr f ↦ rw f (filter_both p q nodes)
 ]
 
--- what is left of those that were picked are those that are spared
-pub picked-without : (p picks : ResourceData → Bool) (nodes : List ResourceData) → is_tree nodes ≡ true → filter p (without picks nodes) ≡ filter (λ r. is_spared picks nodes r.number && p r) nodes
-picked-without p picks nodes tree = ap (filter p) (without-spared picks nodes tree) ∙ filter_both p (λ r. is_spared picks nodes r.number) nodes
-
 filter_same : (p q : ResourceData → Bool) → ((r : ResourceData) → p r ≡ q r) → (nodes : List ResourceData) → filter p nodes ≡ filter q nodes
 filter_same p q same [] = refl
 filter_same p q same (r ∷ nodes) = rw (same r, filter_same p q same nodes) refl
 
-and_turned : (a b : Bool) → (a && b) ≡ (b && a)
-and_turned true true = refl
-and_turned true false = refl
-and_turned false true = refl
-and_turned false false = refl
-
--- the same, as a filter of those that were picked
-pub picked_spared : (p picks : ResourceData → Bool) (nodes : List ResourceData) → is_tree nodes ≡ true → filter p (without picks nodes) ≡ filter (λ r. is_spared picks nodes r.number) (filter p nodes)
-picked_spared p picks nodes tree =
-    picked-without p picks nodes tree
-    ∙ filter_same (λ r. is_spared picks nodes r.number && p r) (λ r. p r && is_spared picks nodes r.number) (λ r. and_turned (is_spared picks nodes r.number) (p r)) nodes
-    ∙ sym (filter_both (λ r. is_spared picks nodes r.number) p nodes)
-
 -- ---- sizes
-
-pub sizes_of-append : (container : ℕ) (nodes : List ResourceData) (r : ResourceData) → sizes_of container (nodes ++ r ∷ []) ≡ sizes_of container nodes + sum_by instance_size (instances_of container (r ∷ []))
-sizes_of-append container nodes r = ap (sum_by instance_size) (picked-append (is_instance container) nodes r) ∙ sum_by-append instance_size (instances_of container nodes) (instances_of container (r ∷ []))
 
 -- where what takes a place is picked as what had it, and has its size
 pub sum-replaced : (p : ResourceData → Bool) (size : ResourceData → ℕ) (r : ResourceData) (nodes : List ResourceData) → ((s : ResourceData) → at r.number nodes ≡ Some s → (p s ≡ p r) × (size s ≡ size r)) → sum_by size (filter p (replaced r nodes)) ≡ sum_by size (filter p nodes)
@@ -100,10 +80,6 @@ sum-replaced p size r (s ∷ nodes) same = elim (cases_Bool (has_number r.number
         | inr v ↦ rw (f, v) rest
       ]
 ]
-
--- the sizes of a container's instances after a removal are those of the instances that stay
-pub sizes_of-without : (container : ℕ) (picks : ResourceData → Bool) (nodes : List ResourceData) → is_tree nodes ≡ true → sizes_of container (without picks nodes) ≡ sum_by instance_size (filter (λ r. is_spared picks nodes r.number) (instances_of container nodes))
-sizes_of-without container picks nodes tree = ap (sum_by instance_size) (picked_spared (is_instance container) picks nodes tree)
 
 -- and so a removal makes no count and no sum greater
 pub count-without : (picks q : ResourceData → Bool) (stayed nodes : List ResourceData) → length (filter q (staying picks stayed nodes)) ≤ length (filter q nodes)
@@ -142,15 +118,6 @@ sum-without picks q size stayed (r ∷ nodes) = elim (cases_Bool (stays picks st
 
 -- ---- whether something is there, as AE-IDs, CSE-IDs and channels are
 
-pub any-append : (p : ResourceData → Bool) (nodes : List ResourceData) (r : ResourceData) → list_any p (nodes ++ r ∷ []) ≡ (list_any p nodes || list_any p (r ∷ []))
-any-append p nodes r = list_any-append p nodes (r ∷ [])
-
-pub has_ae_id-append : (aei : Option (List ℕ)) (nodes : List ResourceData) (r : ResourceData) → has_ae_id aei (nodes ++ r ∷ []) ≡ (has_ae_id aei nodes || has_ae_id aei (r ∷ []))
-has_ae_id-append aei nodes r = any-append (λ s. same_text (ae_id s) aei) nodes r
-
-pub has_cse_id-append : (csi : Option (List ℕ)) (nodes : List ResourceData) (r : ResourceData) → has_cse_id csi (nodes ++ r ∷ []) ≡ (has_cse_id csi nodes || has_cse_id csi (r ∷ []))
-has_cse_id-append csi nodes r = any-append (λ s. same_text (cse_id s) csi) nodes r
-
 -- what has a test that the new one passes as the old one did, the list has as before
 pub any-replaced : (p : ResourceData → Bool) (r : ResourceData) (nodes : List ResourceData) → ((s : ResourceData) → at r.number nodes ≡ Some s → p s ≡ p r) → list_any p (replaced r nodes) ≡ list_any p nodes
 any-replaced p r [] same = refl
@@ -166,18 +133,11 @@ any_both p q (r ∷ nodes) = elim (cases_Bool (q r)) [
   | inr f ↦ rw f (any_both p q nodes)
 ]
 
--- after a removal it is there where one that is spared passes
-pub any-without : (p picks : ResourceData → Bool) (nodes : List ResourceData) → is_tree nodes ≡ true → list_any p (without picks nodes) ≡ list_any (λ r. is_spared picks nodes r.number && p r) nodes
-any-without p picks nodes tree = ap (list_any p) (without-spared picks nodes tree) ∙ any_both p (λ r. is_spared picks nodes r.number) nodes
-
 -- what isn't there isn't there after a removal
 pub none-without : (p picks : ResourceData → Bool) (nodes : List ResourceData) → list_any p nodes ≡ false → list_any p (without picks nodes) ≡ false
 none-without p picks nodes none = false_from_ne_true _ (λ t. both_ways _ none (staying_any picks p [] nodes t))
 
 -- ---- who is found, by an AE-ID, a CSE-ID, or as a channel
-
-pub found-append : (p : ResourceData → Bool) (nodes : List ResourceData) (r : ResourceData) → find p (nodes ++ r ∷ []) ≡ option_or (find p nodes) (find p (r ∷ []))
-found-append p nodes r = find-append p nodes (r ∷ [])
 
 -- where what takes a place passes as what had it
 pub found-replaced : (p : ResourceData → Bool) (r : ResourceData) (nodes : List ResourceData) → ((s : ResourceData) → at r.number nodes ≡ Some s → p s ≡ p r) → resource_number (find p (replaced r nodes)) ≡ resource_number (find p nodes)
@@ -202,10 +162,6 @@ find_both p q (r ∷ nodes) = elim (cases_Bool (q r)) [
   ]
   | inr f ↦ rw f (find_both p q nodes)
 ]
-
--- after a removal it is the first of those that are spared
-pub found-without : (p picks : ResourceData → Bool) (nodes : List ResourceData) → is_tree nodes ≡ true → find p (without picks nodes) ≡ find (λ r. is_spared picks nodes r.number && p r) nodes
-found-without p picks nodes tree = ap (find p) (without-spared picks nodes tree) ∙ find_both p (λ r. is_spared picks nodes r.number) nodes
 
 -- ---- depth
 

@@ -110,10 +110,6 @@ placed_found p nodes k n tree is =
     let there = number_some (slice_get (filter p nodes) k) n is in
     ap (λ (m : ℕ). at m nodes) (sym there.2) ∙ at_filtered p nodes k there.0 (tree_ascends nodes tree) there.1 ∙ sym there.1
 
-pub none_placed : (o : Option ResourceData) → None ≡ resource_number o → None ≡ o
-none_placed None is = refl
-none_placed (Some r) is = cc
-
 -- what a filter has at a place passes it
 pub passes_filter : (p : ResourceData → Bool) (nodes : List ResourceData) (k : ℕ) (r : ResourceData) → slice_get (filter p nodes) k ≡ Some r → p r ≡ true
 passes_filter p [] k r found = cc

@@ -129,9 +129,6 @@ quiet_pushed (Err _) nodes after r until ok err tree next quiet = ap (are_quiet 
 pub due-replaced_other : (nodes : List ResourceData) (r s : ResourceData) → s.parent ≢ r.number → due (replaced r nodes) s ≡ due nodes s
 due-replaced_other nodes r s apart = ap (λ (o : Option ResourceData). due_under o s) (at-replaced_other s.parent r nodes apart)
 
-pub due-replaced : (nodes : List ResourceData) (r s : ResourceData) → has r.number nodes ≡ true → s.parent ≡ r.number → due (replaced r nodes) s ≡ due_under (Some r) s
-due-replaced nodes r s there under = ap (λ (o : Option ResourceData). due_under o s) (ap (λ (n : ℕ). at n (replaced r nodes)) under ∙ at-replaced r nodes there)
-
 -- an instance whose container allows another age is due when it expires, or at that age, which is no
 -- earlier where that isn't lower
 lowered_from : (until et ct : ℕ) (old age : Option ℕ) → from until (lowered_age old age) ≡ true → until ≤ lesser et (option_map (λ a. ct + a) old) → until ≤ lesser et (option_map (λ a. ct + a) age)

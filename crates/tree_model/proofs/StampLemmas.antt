@@ -98,7 +98,3 @@ pub stamped_at : (n lt st : ℕ) (nodes : List ResourceData) (i : ℕ) (d : Reso
 stamped_at n lt st nodes i d place =
     let found : at n nodes ≡ Some (get_or nodes i d) = place.found d in
     sym (ap (λ (o : Option ResourceData). option_map_or (λ s. replaced (restamped lt st s) nodes) o nodes) found ∙ place.written (restamped lt st (get_or nodes i d)) (at_number n nodes (get_or nodes i d) found))
-
--- what stands there has a state tag
-pub state_at : (n : ℕ) (nodes : List ResourceData) (i : ℕ) (d : ResourceData) → StandsAt n nodes i → has_state n nodes ≡ true → is_some (value_of St (get_or nodes i d).attrs) ≡ true
-state_at n nodes i d place has = sym (ap (λ (o : Option ResourceData). option_map_or (λ r. is_some (value_of St r.attrs)) o false) (place.found d)) ∙ has

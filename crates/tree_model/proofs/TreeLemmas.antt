@@ -170,9 +170,6 @@ staying_wider narrow wide within more less (r ∷ nodes) covers = elim (cases_Bo
   ]
 ]
 
-pub without_wider : (narrow wide : ResourceData → Bool) → ((r : ResourceData) → narrow r ≡ true → wide r ≡ true) → (nodes : List ResourceData) → without wide (without narrow nodes) ≡ without wide nodes
-without_wider narrow wide within nodes = staying_wider narrow wide within [] [] nodes (λ n there. there)
-
 -- picks that agree leave the same
 pub staying-same : (p q : ResourceData → Bool) → ((r : ResourceData) → p r ≡ q r) → (stayed nodes : List ResourceData) → staying p stayed nodes ≡ staying q stayed nodes
 staying-same p q same stayed [] = refl
@@ -191,9 +188,6 @@ staying-map g p q number parent pick stayed (r ∷ nodes) = elim (cases_Bool (st
   | inl t ↦ rw (stays-map g p q number parent pick stayed r, t) (ap (λ rest. g r ∷ rest) (rw (sym (map-append g stayed (r ∷ []))) (staying-map g p q number parent pick (stayed ++ r ∷ []) nodes)))
   | inr f ↦ rw (stays-map g p q number parent pick stayed r, f) (staying-map g p q number parent pick stayed nodes)
 ]
-
-pub without-map : (g : ResourceData → ResourceData) (p q : ResourceData → Bool) → ((r : ResourceData) → (g r).number ≡ r.number) → ((r : ResourceData) → (g r).parent ≡ r.parent) → ((r : ResourceData) → q (g r) ≡ p r) → (nodes : List ResourceData) → without q (map g nodes) ≡ map g (without p nodes)
-without-map g p q number parent pick nodes = staying-map g p q number parent pick [] nodes
 
 -- by the look-up
 pub has_from_at : (n : ℕ) (nodes : List ResourceData) → at n nodes ≡ None → has n nodes ≡ false
