@@ -81,7 +81,7 @@ sum-replaced p size r (s ∷ nodes) same = elim (cases_Bool (has_number r.number
       ]
 ]
 
--- and so a removal makes no count and no sum greater
+-- a removal makes no count and no sum greater
 pub count-without : (picks q : ResourceData → Bool) (stayed nodes : List ResourceData) → length (filter q (staying picks stayed nodes)) ≤ length (filter q nodes)
 count-without picks q stayed [] = omega arith
 count-without picks q stayed (r ∷ nodes) = elim (cases_Bool (stays picks stayed r)) [
