@@ -1,9 +1,11 @@
 -- Laws of the binding on the side that asks.
-use Rattle.std.specs.Prelude.{◌≡◌, ◌≤◌, ℕ, Bool, List, ◌++◌, length, IsTrue, IfSome}
-use Rattle.std.specs.Prelude.{Ok}
+use Rattle.std.specs.Prelude.{◌≡◌, ◌≤◌, ℕ, Bool, List, ◌++◌, length, IsTrue, IfSome, count_by}
+use Rattle.std.specs.Prelude.{Ok, bytes_eq}
 use Rattle.m2m_value.specs.Data.{depth}
 use Rattle.m2m_value.specs.Reading.{reading_depth}
 use Rattle.m2m_value.specs.Sound.{IsSound}
+use Rattle.filter_criteria.specs.Conditions.{name_of_condition}
+use Rattle.filter_criteria.specs.declared.condition.Condition.{Condition}
 use Rattle.primitive_json.specs.Laws.{IsOfKinds, IsReplyOfKinds}
 use Rattle.primitive_json.specs.Notes.{IsSomeUrl}
 use Rattle.primitive_json.specs.declared.request.RequestParts.{RequestParts}
@@ -17,6 +19,7 @@ use Rattle.http_target.specs.Targets.{address_of_path}
 use Rattle.http_client_binding.specs.declared.target.Aim.{Aim}
 use Rattle.http_client_binding.specs.ReplyReading.{reply_in}
 use Rattle.http_client_binding.specs.Asking.{target_text, request_frame}
+use Rattle.http_client_binding.specs.QueryWriting.{written_order}
 use Rattle.http_client_binding.specs.TargetWriting.{path_of_address, has_own_path}
 
 -- The identifier of a reply is of its kind, and its content no deeper than a text is read.
@@ -34,6 +37,13 @@ ReplyIsSaid =
 abbrev pub AddressIsReadBack : Type 0
 AddressIsReadBack =
     (to : List ℕ) → IsTrue (has_own_path to) → address_of_path (path_of_address to) ≡ to
+
+-- Each condition that a filter may have stands in the order of writing, and once.
+abbrev pub EachConditionIsWritten : Type 0
+EachConditionIsWritten =
+    (condition : Condition)
+    → count_by (λ other. bytes_eq (name_of_condition other) (name_of_condition condition))
+    written_order ≡ 1
 
 -- The parameters of a request are of their kinds, it goes to a URL, its target is one of the
 -- grammar, and its head and its body are no longer than a frame's may be.

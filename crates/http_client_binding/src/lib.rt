@@ -12,7 +12,10 @@ mod request;
 mod target;
 
 pub use http_binding::BindFault;
-pub use laws::{a_reply_is_said_by_its_frame, a_request_is_read_back, an_address_is_read_back};
+pub use laws::{
+    a_reply_is_said_by_its_frame, a_request_is_read_back, an_address_is_read_back,
+    each_condition_is_written,
+};
 pub use reply::to_reply;
 pub use request::of_request;
 pub use std::alloc::AllocError as OutOfMemory;
