@@ -15,11 +15,11 @@ use Rattle.http_frames.specs.declared.frame.Start.TheVariants.{Ask, Answer}
 use Rattle.http_frames.specs.declared.frame.Frame.{Frame}
 use Rattle.http_frames.specs.declared.head.HeadSpans.{HeadSpans}
 use Rattle.http_frames.specs.declared.look.FrameSpans.{FrameSpans}
-use Rattle.http_frames.specs.Body.{counted, carried_limit}
+use Rattle.http_frames.specs.Body.{counted}
 use Rattle.http_frames.specs.Chunks.{chunks_text, chunks_body, LacksLine, LacksPart}
 use Rattle.http_frames.specs.ChunkLooks.{WaitsForChunk}
 use Rattle.http_frames.specs.Looks.{WaitsFor}
-use Rattle.http_frames.specs.Frame.{head_limit, lines_limit, body_limit, IsFrame}
+use Rattle.http_frames.specs.Frame.{head_limit, lines_limit, body_limit, frame_limit, IsFrame}
 use Rattle.http_frames.specs.Stream.{BeginsWithFrame, HasNoFrame}
 use Rattle.http_frames.specs.Text.{IsSoundFrame, phrase_of, IsLine}
 use Rattle.http_frames.specs.Spans.{start_at, lines_at, framing_at, frame_at, IsFrameAt, IsGoodHead, AreBehind, HasNoHead, CanNotBegin}
@@ -241,7 +241,7 @@ lacks_few most part (inr p) =
     omega (arith, p.announces.fits, p.fits, ap length p.text_is, length-append (print_chunk_line p.line) p.part)
 
 -- where a chunk is lacking, no more is there than a message may have
-chunk_small : (side : Side) (bytes : List ℕ) → LackChunk side bytes → length bytes < head_limit + carried_limit (body_limit side)
+chunk_small : (side : Side) (bytes : List ℕ) → LackChunk side bytes → length bytes < frame_limit side
 chunk_small side bytes lack =
     let before = chunks_text lack.chunks in
     let part = lacks_few (body_limit side - length (chunks_body lack.chunks)) lack.part lack.lacks in

@@ -1,5 +1,5 @@
 -- One message on the stream: a head, and the body that its lines announce (RFC 9112, section 2.1).
-use Rattle.std.specs.Prelude.{◌≡◌, ◌≤◌, ℕ, List, ◌++◌, length, map}
+use Rattle.std.specs.Prelude.{◌≡◌, ◌≤◌, ℕ, ◌+◌, List, ◌++◌, length, map}
 use Rattle.httparse.specs.Grammar.{RequestHead, IsRequestHead, print_request, ResponseHead}
 use Rattle.httparse.specs.Grammar.{IsResponseHead, print_response, status_code}
 use Rattle.httparse.specs.Spans.{name_and_value}
@@ -9,7 +9,7 @@ use Rattle.http_frames.specs.declared.frame.Start.{Start}
 use Rattle.http_frames.specs.declared.frame.Start.TheVariants.{Ask, Answer}
 use Rattle.http_frames.specs.declared.frame.Frame.{Frame}
 use Rattle.http_frames.specs.Lines.{Line}
-use Rattle.http_frames.specs.Body.{framing_of, CarriesBody}
+use Rattle.http_frames.specs.Body.{framing_of, CarriesBody, carried_limit}
 
 -- a head has at most so many bytes, blank lines before it counted
 abbrev pub head_limit : ℕ
@@ -27,6 +27,10 @@ body_limit Reply = 1048576
 -- and on either side at most so many
 abbrev pub largest_body : ℕ
 largest_body = body_limit Reply
+
+-- a message has at most so many bytes: those of its head, and those that carry its body
+abbrev pub frame_limit : Side → ℕ
+frame_limit side = head_limit + carried_limit (body_limit side)
 
 -- The text is the head of a request that says this (RFC 9112, section 3).
 pub record IsRequestText (text : List ℕ) (start : Start) (lines : List Line) : Type 0 where

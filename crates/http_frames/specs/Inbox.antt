@@ -8,8 +8,7 @@ use Rattle.http_frames.specs.declared.frame.Next.{Next}
 use Rattle.http_frames.specs.declared.frame.Next.TheVariants.{Message, End}
 use Rattle.http_frames.specs.declared.fault.FrameFault.{FrameFault}
 use Rattle.http_frames.specs.declared.fault.FrameFault.TheVariants.{NoFrame, ReadFault, OutOfMemory}
-use Rattle.http_frames.specs.Body.{carried_limit}
-use Rattle.http_frames.specs.Frame.{head_limit, body_limit}
+use Rattle.http_frames.specs.Frame.{frame_limit}
 use Rattle.http_frames.specs.Stream.{BeginsWithFrame, HasNoFrame, Frames}
 use Rattle.http_frames.specs.Waiting.{piece_limit, ReadsAsNeeded}
 
@@ -49,7 +48,7 @@ is_refusal (Err OutOfMemory) = false
 
 -- an inbox of its own holds fewer bytes: those of the longest frame, and a piece
 abbrev pub most_held : Side → ℕ
-most_held side = head_limit + carried_limit (body_limit side) + piece_limit
+most_held side = frame_limit side + piece_limit
 
 -- The frame stood in front of what is held now, in the bytes held before and those that the
 -- source gave, which were few where those were.

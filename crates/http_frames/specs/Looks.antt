@@ -1,11 +1,10 @@
 -- What a look for a frame answers says of the bytes.
-use Rattle.std.specs.Prelude.{◌+◌, ◌<◌, ◌≤◌, ℕ, List, length}
+use Rattle.std.specs.Prelude.{◌<◌, ◌≤◌, ℕ, List, length}
 use Rattle.httparse.specs.declared.spans.HeaderSpan.{HeaderSpan}
 use Rattle.http_frames.specs.declared.frame.Side.{Side}
 use Rattle.http_frames.specs.declared.look.Look.{Look}
 use Rattle.http_frames.specs.declared.look.Look.TheVariants.{Whole, Short, Never}
-use Rattle.http_frames.specs.Body.{carried_limit}
-use Rattle.http_frames.specs.Frame.{head_limit, body_limit}
+use Rattle.http_frames.specs.Frame.{frame_limit}
 use Rattle.http_frames.specs.Spans.{IsFrameAt, CanNotBegin}
 use Rattle.http_frames.specs.Waiting.{StaysUnsettled}
 
@@ -14,7 +13,7 @@ use Rattle.http_frames.specs.Waiting.{StaysUnsettled}
 pub record WaitsFor (side : Side) (bytes : List ℕ) (need : ℕ) : Type 0 where
   pub more_wanted : length bytes < need
   pub stays : StaysUnsettled side bytes need
-  pub most : need ≤ head_limit + carried_limit (body_limit side)
+  pub most : need ≤ frame_limit side
 
 -- A frame stands there; or the look waits for more; or no frame can stand there.
 abbrev pub IsLook : Side → List ℕ → List HeaderSpan → List ℕ → Look → Type 0

@@ -1,6 +1,5 @@
-use Rattle.std.proofs.Common.{◌≡◌, ◌+◌, ◌-◌, length}
-use Rattle.http_frames.specs.Frame.{head_limit, body_limit}
-use Rattle.http_frames.specs.Body.{carried_limit}
+use Rattle.std.proofs.Common.{◌≡◌, ◌-◌, length}
+use Rattle.http_frames.specs.Frame.{frame_limit}
 use Rattle.http_frames.specs.Inbox.{Reads}
 use Rattle.http_frames.specs.Spans.{IsWalked}
 use Rattle.http_frames.specs.Waiting.{ReadsAsNeeded}
@@ -16,4 +15,4 @@ invariant-reads g l = record {
 }
 
 abbrev pub decreases-reads : goal.decreases-reads
-decreases-reads g l = head_limit + carried_limit (body_limit l.side) - length l.held
+decreases-reads g l = frame_limit l.side - length l.held
