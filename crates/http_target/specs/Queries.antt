@@ -1,5 +1,5 @@
 -- The query of a request (TS-0009, 6.2.2.3): its pairs, and what they say.
-use Rattle.std.specs.Prelude.{ℕ, ◌==◌, Bool, not, ◌&&◌, ◌||◌, ℤ, pos, List, [], ◌∷◌, ◌++◌, map}
+use Rattle.std.specs.Prelude.{ℕ, ◌==◌, Bool, ◌&&◌, ℤ, pos, List, [], ◌∷◌, ◌++◌, map}
 use Rattle.std.specs.Prelude.{bytes_eq, codes, Option, Some, None, option_map, option_and_then}
 use Rattle.std.specs.Prelude.{unwrap_or, is_some, if◌then◌else◌, Result, Ok, Err}
 use Rattle.std.specs.List.{list_all, filter_map, slice_split}
@@ -21,8 +21,9 @@ use Rattle.filter_criteria.specs.declared.condition.Sort.TheVariants.{Moment, Co
 use Rattle.filter_criteria.specs.declared.condition.Sort.TheVariants.{Use}
 use Rattle.filter_criteria.specs.declared.filter.FilterParts.{FilterParts}
 use Rattle.filter_criteria.specs.declared.filter.FilterUsage.{FilterUsage}
-use Rattle.primitive_json.specs.Kinds.{number_spelled, is_among, result_contents, address_forms}
-use Rattle.primitive_json.specs.Members.{retrieves, has_result, name_of_member}
+use Rattle.primitive_json.specs.Form.{has_fit_result}
+use Rattle.primitive_json.specs.Kinds.{number_spelled, is_among, address_forms}
+use Rattle.primitive_json.specs.Members.{retrieves, name_of_member}
 use Rattle.primitive_json.specs.declared.member.Member.TheVariants as members
 use Rattle.http_target.specs.declared.fault.BindFault.{BindFault}
 use Rattle.http_target.specs.declared.fault.BindFault.TheVariants as bind
@@ -74,7 +75,7 @@ whole_spelled s = option_map pos (number_spelled s)
 
 -- the content of the result: one of those of the operation, where it has any, else any number
 abbrev pub is_result : Op → ℤ → Bool
-is_result op z = not (has_result op) || is_among (result_contents op) z
+is_result op z = has_fit_result op (Some z)
 
 abbrev pub result_spelled : Op → List ℕ → Option ℤ
 result_spelled op s = where_it (is_result op) (whole_spelled s)
