@@ -29,7 +29,7 @@ use Rattle.http_frames.specs.Text.{phrase_of, start_text, line_text, frame_text,
 use Rattle.http_frames.proofs.TextLemmas.{written_is_read}
 use Rattle.http_binding.specs.declared.headers.Field.TheVariants.{Id}
 use Rattle.http_binding.specs.Headers.{field_name, type_field, code_field, length_field, connection_field}
-use Rattle.http_binding.specs.Replying.{body_of, id_lines, type_lines, close_lines, reply_lines, reply_frame, reply_text, written_minor}
+use Rattle.http_binding.specs.Replying.{body_of, content_lines, id_lines, close_lines, reply_lines, reply_frame, reply_text, written_minor}
 use Rattle.http_binding.specs.MediaTypes.{json_type}
 use Rattle.http_binding.specs.Laws.{IsWithinLimits}
 use Rattle.http_binding.proofs.GraphicLemmas.{line_is, decimal_graphic, length_is}
@@ -68,7 +68,7 @@ short_id (Some id) h =
     let short = leb-true (length id) 128 (and_parts (ltb 0 (length id)) _ parts.0).1 in
     All-cons IsShortLine (field_name Id, id) [] (short_line (field_name Id) id refl (omega arith) (AllPass-from_list_all is_ascii_graphic id parts.1) short) (All-nil IsShortLine)
 
-short_type : (content : Option Data) → All IsShortLine (type_lines content)
+short_type : (content : Option Data) → All IsShortLine (content_lines None content)
 unfolding is_token_byte
 short_type None = All-nil IsShortLine
 short_type (Some content) =
@@ -99,14 +99,14 @@ short_lines reply close h =
     let row = (number_in_range reply.rsc).1 in
     let last = (length_field, decimal size) ∷ close_lines close in
     All-cons IsShortLine (code_field, decimal number) _ (short_number code_field number refl (omega arith) (omega arith))
-    (All-append IsShortLine (id_lines reply.rqi) (type_lines reply.pc ++ last) (short_id reply.rqi h.rqi)
-    (All-append IsShortLine (type_lines reply.pc) last (short_type reply.pc)
+    (All-append IsShortLine (id_lines reply.rqi) (content_lines None reply.pc ++ last) (short_id reply.rqi h.rqi)
+    (All-append IsShortLine (content_lines None reply.pc) last (short_type reply.pc)
     (All-cons IsShortLine (length_field, decimal size) (close_lines close) (short_number length_field size refl (omega arith) (body_small size h.body)) (short_close close))))
 
 -- how many they are, and what they say of the body
 abbrev lines_with : List ℕ → Option (List ℕ) → Option Data → List ℕ → Bool → List Line
 lines_with code id content size close =
-    (code_field, code) ∷ (id_lines id ++ (type_lines content ++ ((length_field, size) ∷ close_lines close)))
+    (code_field, code) ∷ (id_lines id ++ (content_lines None content ++ ((length_field, size) ∷ close_lines close)))
 
 record Announces (size : List ℕ) (lines : List Line) : Type 0 where
   count : length lines ≤ 5

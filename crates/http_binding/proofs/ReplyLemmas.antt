@@ -1,5 +1,5 @@
 -- What is written of a reply is the text of its frame.
-use Rattle.std.proofs.Common.{◌≡◌, ℕ, ◌+◌, ◌/◌, ◌%◌, ◌<◌, ◌≤◌, Bool, List, [], ◌∷◌, ◌++◌, length, codes, refl, sym, ap, ◌∙◌, arith, append_assoc}
+use Rattle.std.proofs.Common.{◌≡◌, ℕ, ◌+◌, ◌/◌, ◌%◌, ◌<◌, ◌≤◌, Bool, List, [], ◌∷◌, ◌++◌, length, codes, None, refl, sym, ap, ◌∙◌, arith, append_assoc}
 use Rattle.std.specs.Fmt.{decimal}
 use Rattle.std.specs.List.{flat_map}
 use Rattle.std.proofs.lemmas.Fmt.{decimal_step, decimal_digit}
@@ -13,7 +13,7 @@ use Rattle.http_frames.specs.Text.{status_digits, phrase_of, start_text, line_te
 use Rattle.http_frames.specs.Lines.{Line}
 use Rattle.http_frames.specs.declared.frame.Start.TheVariants.{Answer}
 use Rattle.http_binding.specs.Headers.{code_field, length_field}
-use Rattle.http_binding.specs.Replying.{body_of, id_lines, type_lines, close_lines, reply_text, written_minor}
+use Rattle.http_binding.specs.Replying.{body_of, content_lines, id_lines, close_lines, reply_text, written_minor}
 
 -- a number of three digits
 three_digits : (n : ℕ) → 100 ≤ n → n < 1000 → decimal n ≡ (48 + n / 10 / 10) ∷ (48 + n / 10 % 10) ∷ (48 + n % 10) ∷ []
@@ -67,13 +67,13 @@ in_parts start code id type size close end body = simp append_assoc refl
 pub reply_made : (reply : ReplyParts) (close : Bool) (len : ℕ) (start body one two three : List ℕ) → start ≡ []
     → len ≡ length body → body ≡ body_of reply.pc
     → one ≡ start ++ (start_text (Answer (rsc_row reply.rsc).http written_minor) ++ (line_text (code_field, decimal (rsc_row reply.rsc).number) ++ flat_map line_text (id_lines reply.rqi)))
-    → two ≡ one ++ (flat_map line_text (type_lines reply.pc) ++ (line_text (length_field, decimal len) ++ flat_map line_text (close_lines close)))
+    → two ≡ one ++ (flat_map line_text (content_lines None reply.pc) ++ (line_text (length_field, decimal len) ++ flat_map line_text (close_lines close)))
     → three ≡ two ++ (crlf_bytes ++ body) → three ≡ reply_text reply close
 reply_made reply close len start body one two three empty len_is body_is one_is two_is three_is =
     let first = start_text (Answer (rsc_row reply.rsc).http written_minor) in
     let code : Line = (code_field, decimal (rsc_row reply.rsc).number) in
     let id = id_lines reply.rqi in
-    let type = type_lines reply.pc in
+    let type = content_lines None reply.pc in
     let size = λ (n : ℕ). line_text (length_field, decimal n) in
     let closing = close_lines close in
     let size_is : len ≡ length (body_of reply.pc) = len_is ∙ ap length body_is in

@@ -1,9 +1,9 @@
 //! The frame of a reply.
-ghost use Rattle.std.specs.Prelude.{◌≡◌, ◌++◌, ◌∷◌, [], IfOk, OnOk, length};
+ghost use Rattle.std.specs.Prelude.{◌≡◌, ◌++◌, ◌∷◌, [], IfOk, None, OnOk, length};
 ghost use Rattle.std.specs.Fmt.{decimal};
 ghost use Rattle.m2m_names.specs.StatusCodes.{rsc_row};
 ghost use Rattle.http_binding.specs.Headers.{code_field, length_field};
-ghost use Rattle.http_binding.specs.Replying.{body_of, id_lines, type_lines};
+ghost use Rattle.http_binding.specs.Replying.{body_of, content_lines, id_lines};
 ghost use Rattle.http_binding.specs.Replying.{reply_lines, reply_frame};
 
 use crate::OutOfMemory;
@@ -36,7 +36,7 @@ fn push_id(alloc: Global, lines: &mut Vec<Line>, id: &Option<Text>) -> Result<()
 
 /// Puts the line with the type of the content behind the others, where there is some.
 fn push_type(alloc: Global, lines: &mut Vec<Line>, content: &Option<Val>) -> Result<(), OutOfMemory>
-    ensures { OnOk result (lines.new.items ≡ lines.old.items ++ type_lines content.now) }
+    ensures { OnOk result (lines.new.items ≡ lines.old.items ++ content_lines None content.now) }
 {
     match content {
         Some(_) => push_field(alloc, lines, TYPE_FIELD, JSON_TYPE.as_bytes()),
@@ -66,7 +66,7 @@ fn push_body(
     len: usize,
 ) -> Result<(), OutOfMemory>
     ensures { OnOk result (lines.new.items
-        ≡ lines.old.items ++ (type_lines reply.now.pc ++ (length_field, decimal len) ∷ [])) }
+        ≡ lines.old.items ++ (content_lines None reply.now.pc ++ (length_field, decimal len) ∷ [])) }
 {
     push_type(alloc, lines, &reply.pc)?;
     push_length(alloc, lines, len)

@@ -1,6 +1,6 @@
 //! The bytes of a reply, and their way into a sink.
 ghost use Rattle.std.specs.Prelude.{◌≡◌, ◌≢◌, ◌≤◌, ◌+◌, ◌-◌, ◌++◌, Err, IfOk, OnOk, codes, length};
-ghost use Rattle.std.specs.Prelude.{[], drop};
+ghost use Rattle.std.specs.Prelude.{[], None, drop};
 ghost use Rattle.std.specs.Fmt.{decimal};
 ghost use Rattle.std.specs.Io.KnownBytes.{Appends};
 ghost use Rattle.m2m_io.specs.Counts.{Rose};
@@ -11,7 +11,7 @@ ghost use Rattle.m2m_names.specs.StatusCodes.{rsc_row};
 ghost use Rattle.http_frames.specs.declared.frame.Start.TheVariants.{Answer};
 ghost use Rattle.http_frames.specs.Text.{line_text, phrase_of, start_text};
 ghost use Rattle.http_binding.specs.Headers.{code_field, length_field};
-ghost use Rattle.http_binding.specs.Replying.{body_of, id_lines, type_lines, close_lines};
+ghost use Rattle.http_binding.specs.Replying.{body_of, content_lines, id_lines, close_lines};
 ghost use Rattle.http_binding.specs.Replying.{reply_text, written_minor};
 ghost use Rattle.http_binding.specs.Rooms.{head_room};
 
@@ -80,7 +80,7 @@ fn append_id(out: &mut Vec<u8>, id: &Option<Text>) -> Result<(), OutOfMemory>
 /// Appends the line that tells the type of the content, where there is some.
 fn append_type(out: &mut Vec<u8>, content: &Option<Val>) -> Result<(), OutOfMemory>
     ensures { OnOk result (out.new.items
-        ≡ out.old.items ++ flat_map line_text (type_lines content.now)) }
+        ≡ out.old.items ++ flat_map line_text (content_lines None content.now)) }
 {
     if let Some(_) = content {
         out.extend_from_slice(b"Content-Type: application/json\r\n")?;
@@ -129,7 +129,7 @@ fn append_framing(
     close: bool,
 ) -> Result<(), OutOfMemory>
     ensures { OnOk result (out.new.items ≡ out.old.items
-        ++ (flat_map line_text (type_lines content.now)
+        ++ (flat_map line_text (content_lines None content.now)
         ++ (line_text (length_field, decimal len) ++ flat_map line_text (close_lines close)))) }
 {
     append_type(out, content)?;

@@ -36,10 +36,10 @@ use Rattle.http_binding.specs.Binding.{created_type}
 use Rattle.http_binding.specs.Headers.{origin_field, id_field, expiry_field, type_field, length_field, connection_field}
 use Rattle.http_binding.specs.MediaTypes.{json_type, semicolon, type_parameter, equals_sign}
 use Rattle.http_binding.specs.Methods.{method_text}
-use Rattle.http_binding.specs.Replying.{body_of, id_lines, close_lines, written_minor}
+use Rattle.http_binding.specs.Replying.{body_of, content_type, content_lines, id_lines, close_lines, written_minor}
 use Rattle.http_binding.proofs.GraphicLemmas.{Graphic, digit_graphic, decimal_graphic, length_is, token_is, line_is}
 use Rattle.http_client_binding.specs.declared.target.Aim.{Aim}
-use Rattle.http_client_binding.specs.Asking.{target_text, host_field, origin_lines, expiry_lines, content_type, content_lines, caller_lines, body_lines, request_frame}
+use Rattle.http_client_binding.specs.Asking.{target_text, host_field, origin_lines, expiry_lines, caller_lines, ending_lines, request_frame}
 use Rattle.http_client_binding.specs.TargetWriting.{host_of}
 use Rattle.http_client_binding.specs.Laws.{IsSendable}
 use Rattle.http_client_binding.proofs.UrlLemmas.{host_passes}
@@ -97,14 +97,14 @@ ending_is n small =
     All-cons IsLine (length_field, decimal n) (close_lines true) (line_is length_field (decimal n) refl (decimal_graphic n))
     (All-cons IsLine (connection_field, value) [] (line_is connection_field value refl (AllPass-from_list_all is_ascii_graphic value refl)) (All-nil IsLine))
 
-lines_are : (r : RequestParts) (url : List ℕ) (aim : Aim) → IsSendable r url aim → All IsLine (caller_lines r url ++ body_lines r)
+lines_are : (r : RequestParts) (url : List ℕ) (aim : Aim) → IsSendable r url aim → All IsLine (caller_lines r url ++ ending_lines r)
 unfolding is_token_byte
 lines_are r url aim h =
     let kinds = kinds_apart r h.kinds in
     let id = id_lines (Some r.rqi) in
     let behind = id ++ expiry_lines r.rqet in
     let last = (length_field, decimal (length (body_of r.pc))) ∷ close_lines true in
-    All-append IsLine (caller_lines r url) (body_lines r)
+    All-append IsLine (caller_lines r url) (ending_lines r)
     (All-cons IsLine (host_field, host_of url) (origin_lines r.fr ++ behind) (line_is host_field (host_of url) refl (host_passes url h.is_url))
     (All-append IsLine (origin_lines r.fr) behind (origin_is r.fr h.kinds.fr)
     (All-append IsLine id (expiry_lines r.rqet) (id_is r.rqi kinds.rqi) (expiry_is r.rqet h.kinds.rqet))))
@@ -151,7 +151,7 @@ request_sound r url aim h =
     let start = Ask (method_text r.op) (target_text r url aim) written_minor in
     let body = body_of r.pc in
     let says = announces (host_of url) r.fr r.rqi r.rqet (created_type r.op r.ty) r.pc (decimal (length body)) in
-    let framing = framing_is start (length body) (caller_lines r url ++ body_lines r) (omega (arith, h.body)) says in
+    let framing = framing_is start (length body) (caller_lines r url ++ ending_lines r) (omega (arith, h.body)) says in
     record {
       start = (method_token r.op, h.target, omega arith);
       lines = lines_are r url aim h;

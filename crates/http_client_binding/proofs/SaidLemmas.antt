@@ -32,7 +32,7 @@ use Rattle.http_target.specs.Chain.{and_then}
 use Rattle.http_binding.specs.Headers.{code_field, length_field, is_some_text}
 use Rattle.http_client_binding.specs.Laws.{IsTold}
 use Rattle.http_client_binding.specs.ReplyReading.{is_code_text, code_spelled, lone_code, code_in, some_content, content_said, reply_in}
-use Rattle.http_binding.specs.Replying.{body_of, id_lines, type_lines, close_lines, reply_lines, reply_frame, written_minor}
+use Rattle.http_binding.specs.Replying.{body_of, content_lines, id_lines, close_lines, reply_lines, reply_frame, written_minor}
 
 then_is : {T : Type 0} (test : Bool) (x y : T) → test ≡ true → (if test then x else y) ≡ x
 then_is true x y h = refl
@@ -41,7 +41,7 @@ then_is false x y h = absurd (false≢true h)
 -- ---- the lines
 
 code_named : (code size : List ℕ) (id : Option (List ℕ)) (content : Option Data) (close : Bool)
-    → values_named code_field ((code_field, code) ∷ (id_lines id ++ (type_lines content ++ ((length_field, size) ∷ close_lines close)))) ≡ code ∷ []
+    → values_named code_field ((code_field, code) ∷ (id_lines id ++ (content_lines None content ++ ((length_field, size) ∷ close_lines close)))) ≡ code ∷ []
 unfolding is_same_name
 code_named code size None None false = refl
 code_named code size None None true = refl
@@ -90,7 +90,7 @@ kept false id fault h = absurd (false≢true h)
 abbrev frame_with : ℕ → List ℕ → Option (List ℕ) → Option Data → List ℕ → Bool → List ℕ → Frame
 frame_with http code id content size close body = record {
   start = Answer http written_minor;
-  lines = (code_field, code) ∷ (id_lines id ++ (type_lines content ++ ((length_field, size) ∷ close_lines close)));
+  lines = (code_field, code) ∷ (id_lines id ++ (content_lines None content ++ ((length_field, size) ∷ close_lines close)));
   body = body;
 }
 

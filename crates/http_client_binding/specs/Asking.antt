@@ -1,8 +1,6 @@
 -- The frame of a request to a URL (TS-0009, 6.2 to 6.5; RFC 9112, sections 3 to 6).
-use Rattle.std.specs.Prelude.{ℕ, true, List, [], ◌∷◌, ◌++◌, length, codes, Option, Some, None}
-use Rattle.std.specs.Fmt.{decimal}
+use Rattle.std.specs.Prelude.{ℕ, true, List, [], ◌∷◌, ◌++◌, codes, Option, Some, None}
 use Rattle.http_uri.specs.Grammar.{or_slash}
-use Rattle.m2m_value.specs.Data.{Data}
 use Rattle.primitive_json.specs.Writing.{expiry_text}
 use Rattle.primitive_json.specs.declared.request.RequestParts.{RequestParts}
 use Rattle.primitive_json.specs.declared.request.When.{When}
@@ -10,10 +8,9 @@ use Rattle.http_frames.specs.declared.frame.Start.TheVariants.{Ask}
 use Rattle.http_frames.specs.declared.frame.Frame.{Frame}
 use Rattle.http_frames.specs.Lines.{Line}
 use Rattle.http_binding.specs.Binding.{created_type}
-use Rattle.http_binding.specs.Headers.{origin_field, expiry_field, type_field, length_field}
-use Rattle.http_binding.specs.MediaTypes.{json_type, semicolon, type_parameter, equals_sign}
+use Rattle.http_binding.specs.Headers.{origin_field, expiry_field}
 use Rattle.http_binding.specs.Methods.{method_text}
-use Rattle.http_binding.specs.Replying.{body_of, id_lines, close_lines, written_minor}
+use Rattle.http_binding.specs.Replying.{body_of, id_lines, body_lines, written_minor}
 use Rattle.http_client_binding.specs.declared.target.Aim.{Aim}
 use Rattle.http_client_binding.specs.declared.target.Aim.TheVariants.{Direct, Peer}
 use Rattle.http_client_binding.specs.TargetWriting.{host_of, path_and_query_of, root_path}
@@ -41,27 +38,15 @@ abbrev pub expiry_lines : Option When → List Line
 expiry_lines None = []
 expiry_lines (Some when) = (expiry_field, expiry_text when) ∷ []
 
--- the type of the content, with the number of the type that is to be created
-abbrev pub content_type : Option ℕ → List ℕ
-content_type None = json_type
-content_type (Some number) =
-    json_type ++ semicolon ∷ type_parameter ++ equals_sign ∷ decimal number
-
-abbrev pub content_lines : Option ℕ → Option Data → List Line
-content_lines type None = []
-content_lines type (Some content) = (type_field, content_type type) ∷ []
-
 -- the lines that speak of host and caller
 abbrev pub caller_lines : RequestParts → List ℕ → List Line
 caller_lines r url =
     (host_field, host_of url)
     ∷ (origin_lines r.fr ++ (id_lines (Some r.rqi) ++ expiry_lines r.rqet))
 
--- and those that speak of the body, and of the connection, which closes behind the reply
-abbrev pub body_lines : RequestParts → List Line
-body_lines r =
-    content_lines (created_type r.op r.ty) r.pc
-    ++ ((length_field, decimal (length (body_of r.pc))) ∷ close_lines true)
+-- those that speak of the body, and of the connection, which closes behind the reply
+abbrev pub ending_lines : RequestParts → List Line
+ending_lines r = body_lines (created_type r.op r.ty) r.pc true
 
 -- ---- the frame
 
@@ -69,6 +54,6 @@ body_lines r =
 abbrev pub request_frame : RequestParts → List ℕ → Aim → Frame
 request_frame r url aim = record {
   start = Ask (method_text r.op) (target_text r url aim) written_minor;
-  lines = caller_lines r url ++ body_lines r;
+  lines = caller_lines r url ++ ending_lines r;
   body = body_of r.pc;
 }

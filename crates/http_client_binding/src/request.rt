@@ -3,7 +3,7 @@ ghost use Rattle.std.specs.Prelude.{◌≡◌, ◌++◌, ◌∷◌, true, IfOk, 
 ghost use Rattle.std.specs.Fmt.{decimal};
 ghost use Rattle.std.specs.Option.{ForSome};
 ghost use Rattle.http_binding.specs.Headers.{length_field};
-ghost use Rattle.http_binding.specs.Replying.{body_of, close_lines};
+ghost use Rattle.http_binding.specs.Replying.{body_of, close_lines, content_lines, content_type};
 ghost use Rattle.primitive_json.specs.Notes.{IsSomeUrl};
 ghost use Rattle.primitive_json.specs.Requests.{IsSoundRequest, IsSoundWhen};
 ghost use Rattle.http_client_binding.specs.Asking as spec;
@@ -95,7 +95,7 @@ fn push_caller(
 
 /// The type of the content, with the number of the type that is to be created.
 fn content_type(alloc: Global, number: Option<u32>) -> Result<String, OutOfMemory>
-    ensures { IfOk result (λ text. string_bytes text ≡ spec.content_type number) }
+    ensures { IfOk result (λ text. string_bytes text ≡ content_type number) }
 {
     match number {
         Some(number) => format!(in alloc; "application/json;ty={number}"),
@@ -111,7 +111,7 @@ fn push_type(
     content: &Option<Val>,
 ) -> Result<(), OutOfMemory>
     ensures { OnOk result (lines.new.items
-        ≡ lines.old.items ++ spec.content_lines number content.now) }
+        ≡ lines.old.items ++ content_lines number content.now) }
 {
     match content {
         Some(_) => {
@@ -139,7 +139,7 @@ fn push_body(
     len: usize,
 ) -> Result<(), OutOfMemory>
     requires { len ≡ length (body_of request.now.pc) }
-    ensures { OnOk result (lines.new.items ≡ lines.old.items ++ spec.body_lines request.now) }
+    ensures { OnOk result (lines.new.items ≡ lines.old.items ++ spec.ending_lines request.now) }
 {
     push_type(
         alloc,
@@ -161,7 +161,7 @@ fn lines_of(
     requires sound { IsSoundRequest request.now }
     requires len { len ≡ length (body_of request.now.pc) }
     ensures { IfOk result (λ lines. lines
-        ≡ spec.caller_lines request.now url.now ++ spec.body_lines request.now) }
+        ≡ spec.caller_lines request.now url.now ++ spec.ending_lines request.now) }
 {
     let mut lines = Vec::with_capacity(alloc, MOST_LINES)?;
     push_caller(alloc, &mut lines, request, url)?;

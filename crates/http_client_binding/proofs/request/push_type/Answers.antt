@@ -1,6 +1,6 @@
 use Rattle.std.proofs.Common.{◌≡◌, ◌++◌, ◌∷◌, [], OnOk, sym, subst, ◌∙◌}
 use Rattle.http_binding.specs.Headers.{type_field}
-use Rattle.http_client_binding.specs.Asking.{content_lines}
+use Rattle.http_binding.specs.Replying.{content_lines}
 use Rattle.http_client_binding.proofs.request.push_type.Goals as goal
 
 pub returns-in_ok-text-in-Some : goal.returns-in_ok-text-in-Some
