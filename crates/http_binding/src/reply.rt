@@ -66,7 +66,8 @@ fn push_body(
     len: usize,
 ) -> Result<(), OutOfMemory>
     ensures { OnOk result (lines.new.items
-        ≡ lines.old.items ++ (content_lines None reply.now.pc ++ (length_field, decimal len) ∷ [])) }
+        ≡ lines.old.items
+        ++ (content_lines None reply.now.pc ++ (length_field, decimal len) ∷ [])) }
 {
     push_type(alloc, lines, &reply.pc)?;
     push_length(alloc, lines, len)
