@@ -5,6 +5,7 @@ pub mod FrameLemmas
 pub mod HeadLemmas
 pub mod HeldLemmas
 pub mod InboxLemmas
+pub mod JudgeLemmas
 pub mod LinesLemmas
 pub mod LookLemmas
 pub mod TextLemmas

@@ -1,6 +1,6 @@
 -- How long a body is, and how it stands on the stream (RFC 9112, section 6).
 use Rattle.std.specs.Prelude.{◌≡◌, ◌≤◌, ◌+◌, ◌*◌, ◌==◌, ℕ, ◌&&◌, List, [], ◌∷◌}
-use Rattle.std.specs.Prelude.{length, codes}
+use Rattle.std.specs.Prelude.{length, codes, ⊤}
 use Rattle.std.specs.Prelude.{if◌then◌else◌}
 use Rattle.std.specs.Str.Parse.{digits_value}
 use Rattle.m2m_names.specs.Name.{is_numeral}
@@ -62,6 +62,12 @@ abbrev pub CarriesBody : ℕ → Framing → List ℕ → List ℕ → Type 0
 CarriesBody limit (counted n) carried body = (carried ≡ body) × (length body ≡ n) × (n ≤ limit)
 CarriesBody limit chunked carried body = IsChunked carried body × (length body ≤ limit)
 CarriesBody limit refused carried body = ⊥
+
+-- A message may have such a head: it announces chunks, or no more than so many bytes.
+abbrev pub AnnouncesBody : ℕ → Framing → Type 0
+AnnouncesBody limit (counted n) = n ≤ limit
+AnnouncesBody limit chunked = ⊤
+AnnouncesBody limit refused = ⊥
 
 -- so many bytes of the stream carry a body of so many at most: each byte in a chunk of its own,
 -- with the longest line and its CR LF, and then the longest last line and CR LF

@@ -1,13 +1,15 @@
 -- When more bytes have to be read, and where the last read began.
 use Rattle.std.specs.Prelude.{◌≡◌, ◌-◌, ◌<◌, ◌≤◌, ◌⊎◌, ℕ, List, ◌++◌, length, All}
 use Rattle.httparse.specs.Grammar.{MayBecomeRequest, MayBecomeResponse}
+use Rattle.httparse.specs.Grammar.{ChunkLine, IsChunkLine, print_chunk_line, chunk_size}
 use Rattle.http_frames.specs.declared.frame.Side.{Side}
 use Rattle.http_frames.specs.declared.frame.Side.TheVariants.{Request, Reply}
 use Rattle.http_frames.specs.declared.frame.Start.{Start}
 use Rattle.http_frames.specs.Lines.{Line}
-use Rattle.http_frames.specs.Body.{framing_of, counted, chunked}
-use Rattle.http_frames.specs.Chunks.{Chunk, IsChunk, chunks_text, chunks_body, LacksLine, LacksPart}
-use Rattle.http_frames.specs.Frame.{head_limit, body_limit, IsLimitedHead}
+use Rattle.http_frames.specs.Body.{framing_of, counted, chunked, AnnouncesBody}
+use Rattle.http_frames.specs.Chunks.{Announces, Chunk, IsChunk, chunks_text, chunks_body}
+use Rattle.http_frames.specs.Chunks.{LacksLine, LacksPart}
+use Rattle.http_frames.specs.Frame.{head_limit, body_limit, IsHead, IsLimitedHead}
 use Rattle.http_frames.specs.Spans.{HasNoHead}
 use Rattle.http_frames.specs.Stream.{HasNoFrame}
 
@@ -87,3 +89,20 @@ pub record EndsBelow (need : ℕ) (first all : List ℕ) : Type 0 where
   pub all_is : all ≡ (first ++ earlier) ++ piece
   pub below : length (first ++ earlier) < need
   pub small : length piece ≤ piece_limit
+
+-- Bytes that begin with a whole head are unsettled only where a message may have that head: it is
+-- within the limits, and announces a body that is.
+abbrev pub WholeHeadsAreJudged : Type 0
+WholeHeadsAreJudged =
+    (side : Side) (head rest : List ℕ) (start : Start) (lines : List Line)
+    → IsHead side head start lines → IsUnsettled side (head ++ rest)
+    → IsLimitedHead side head start lines
+    × AnnouncesBody (body_limit side) (framing_of start lines)
+
+-- And where a chunk is wanted, bytes that begin with a whole chunk line only where that is within
+-- the limit, and says that no more bytes follow than the body may still have.
+abbrev pub WholeLinesAreJudged : Type 0
+WholeLinesAreJudged =
+    (most : ℕ) (line : ChunkLine) (rest : List ℕ) → IsChunkLine line
+    → LacksLine (print_chunk_line line ++ rest) ⊎ LacksPart most (print_chunk_line line ++ rest)
+    → Announces line (chunk_size line) × (chunk_size line ≤ most)

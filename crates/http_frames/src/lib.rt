@@ -24,6 +24,9 @@ pub use fault::{FrameFault, PutFault};
 pub use frame::{Frame, Next, Side, Start};
 pub use held::PIECE;
 pub use inbox::Inbox;
-pub use laws::{frames_are_unique, no_frame_begins_another, what_is_written_is_read};
+pub use laws::{
+    frames_are_unique, no_frame_begins_another, what_is_written_is_read,
+    whole_chunk_lines_are_judged, whole_heads_are_judged,
+};
 pub use lines::{Found, Lines};
 pub use write::{phrase_of, write_frame};
