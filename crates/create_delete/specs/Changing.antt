@@ -23,7 +23,8 @@ use Rattle.addressing.specs.Names.{structured_of}
 use Rattle.attribute_rules.specs.Admission.{is_named}
 use Rattle.attribute_rules.specs.Contents.{edit_in, edited}
 use Rattle.container_limits.specs.Limits.{evicted, limits_of}
-use Rattle.tree_model.specs.Shown.{attributes_of, members_of, shown_rows, typed_member, with_rows, wrapped}
+use Rattle.tree_model.specs.Shown.{attributes_of, members_of, shown_rows, typed_member}
+use Rattle.tree_model.specs.Shown.{with_rows, wrapped}
 use Rattle.tree_model.specs.Tree.{at, instances_of, replaced, restamped_at, without}
 use Rattle.request_rules.specs.Creation.{Creation, new_resource, new_size, next_state}
 use Rattle.entity_model.specs.Entity.{EntityData}
