@@ -21,7 +21,7 @@ use Rattle.resource_model.specs.Resource.{ResourceData, is_ty, has_number, ae_id
 use Rattle.tree_model.specs.Tree.{at, has, is_child, child_of, of_type, replaced, resource_of_id, stays, staying, typed_at, without}
 use Rattle.policy_eval.specs.Alike.{is_attr_in, id_attrs, Alike, AreAlike, FindAlike}
 use Rattle.m2m_names.specs.Operations.{all_bits}
-use Rattle.policy_eval.specs.Rules.{only, Rule, rule_for, rule_for, policy_named, policy_of, policies_of, rules_by, listed_in, ids_at, lists_ids, registree, linked_rules, channel_rules, rules_of, fan_rules, link_rules}
+use Rattle.policy_eval.specs.Rules.{only, Rule, rule_for, rules_in, policy_named, policy_of, policies_of, rules_by, listed_in, ids_at, lists_ids, registree, linked_rules, channel_rules, rules_of, fan_rules, link_rules}
 use Rattle.policy_eval.specs.Rights.{is_subject, with_rule, with_rules, bits_by, do_give, update_bit, grants, relinks, fan_grants}
 use Rattle.policy_eval.proofs.BitLemmas.{with_rules-append}
 
