@@ -74,8 +74,8 @@ module _ (g : ResourceData → ResourceData) (number : (r : ResourceData) → (g
       by_found (Some r) =
           let same : is_ty (g r).ty t ≡ is_ty r.ty t = ap (λ (u : Ty). is_ty u t) (ty r) in
           elim (cases_Bool (is_ty r.ty t)) [
-            | inl yes ↦ rw (same ∙ yes, yes) refl
-            | inr no ↦ rw (same ∙ no, no) refl
+            | inl h ↦ rw (same ∙ h, h) refl
+            | inr h ↦ rw (same ∙ h, h) refl
           ]
 
   is_at-kept : (t : Ty) (n : ℕ) (nodes : List ResourceData) → is_at t n (map g nodes) ≡ is_at t n nodes
