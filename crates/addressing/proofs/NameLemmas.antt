@@ -22,6 +22,7 @@ use Rattle.m2m_names.proofs.StatusLemmas.{find_none}
 use Rattle.resource_model.specs.Home.{HomeData}
 use Rattle.resource_model.specs.Resource.{ResourceData, has_number, id_of}
 use Rattle.tree_model.specs.Tree.{ae_of, at, child_of, may_stand, has, is_child, is_tree, line_of, resource_number}
+use Rattle.tree_model.proofs.IdLemmas.{resource_of_id-id_of}
 use Rattle.tree_model.proofs.GrowthLemmas.{IsNext, growth, line-append, next_fits, root_parent, stands, zero_lacks}
 use Rattle.tree_model.proofs.TreeLemmas.{at-append, has-append, has_at, has_from_at}
 use Rattle.m2m_names.specs.Urls.{point_limit}
@@ -80,10 +81,7 @@ id_is_no_mark ty n small = false_from_ne_true _ (λ is.
     cc)
 
 id_found : (nodes : List ResourceData) (r : ResourceData) → at r.number nodes ≡ Some r → r.number < 2 ^ 63 → id_named (id_of r) nodes ≡ Some r.number
-id_found nodes r found small =
-    let there : is_at r.ty r.number nodes ≡ true = rw found (eq-eqb (ty_row r.ty).number (ty_row r.ty).number refl) in
-    ap (option_and_then (λ (id : Ty × ℕ). cond (is_at id.0 id.1 nodes) (Some id.1) None)) (id_parts-id_text r.ty r.number small)
-    ∙ ap (λ b. cond b (Some r.number) None) there
+id_found nodes r found small = ap resource_number (resource_of_id-id_of nodes r small found)
 
 pub named_by_id : (home : HomeData) (nodes : List ResourceData) (r : ResourceData) → at r.number nodes ≡ Some r → r.number < 2 ^ 63 → child_of 0 (id_of r) nodes ≡ None → spot_named home (id_of r) nodes ≡ Some (Resource r.number)
 named_by_id home nodes r found small other =

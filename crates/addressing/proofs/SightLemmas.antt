@@ -1,6 +1,6 @@
 -- What an address names is the same on a list that keeps numbers, parents, types, names and AE-IDs.
 use Rattle.std.specs.Prelude.{bytes_eq, codes, filter, slice_get}
-use Rattle.std.proofs.Common.{◌≡◌, ℕ, ◌+◌, ◌-◌, ◌==◌, Bool, true, false, cond, ◌&&◌, List, [], ◌∷◌, length, map, find, Option, Some, None, inl, inr, refl, sym, ap, ap₂, ◌∙◌}
+use Rattle.std.proofs.Common.{◌≡◌, ℕ, ◌+◌, ◌-◌, ◌==◌, Bool, true, false, cond, ◌&&◌, List, [], ◌∷◌, length, map, find, Option, Some, None, is_some, inl, inr, refl, sym, ap, ap₂, ◌∙◌}
 use Rattle.std.specs.Option.{option_and_then, option_map, option_map_or, option_or}
 use Rattle.std.proofs.lemmas.Bool.{cases_Bool}
 use Rattle.std.proofs.lemmas.List.{length-map}
@@ -10,7 +10,7 @@ use Rattle.m2m_names.specs.declared.types.Ty.{Ty}
 use Rattle.m2m_names.specs.declared.types.Ty.TheVariants.{ContentInstance, Group, PollingChannel}
 use Rattle.resource_model.specs.Home.{HomeData}
 use Rattle.resource_model.specs.Resource.{ResourceData, ae_id, is_ty}
-use Rattle.tree_model.specs.Tree.{ae_of, at, child_of, children_of, first_number, instance_of, instances_of, is_ae, is_child, is_instance, is_under, last_number, number_at, resource_number, same_text}
+use Rattle.tree_model.specs.Tree.{ae_of, at, child_of, children_of, first_number, instance_of, instances_of, is_ae, is_child, is_instance, is_under, last_number, number_at, of_type, resource_number, same_text, typed_at}
 use Rattle.tree_model.proofs.TreeLemmas.{at-map}
 use Rattle.policy_eval.specs.Seen.{seen, seen_list}
 use Rattle.policy_eval.proofs.SeenLemmas.{ae_id-seen}
@@ -66,19 +66,31 @@ module _ (g : ResourceData → ResourceData) (number : (r : ResourceData) → (g
       ∙ number_at-kept (length (instances_of n nodes) - 1) (instances_of n nodes)
   instance_of-kept false n nodes = ap first_number (instances_of-kept n nodes) ∙ number_at-kept 0 (instances_of n nodes)
 
-  is_at-kept : (t : Ty) (n : ℕ) (nodes : List ResourceData) → is_at t n (map g nodes) ≡ is_at t n nodes
-  is_at-kept t n nodes = ap (λ (o : Option ResourceData). option_map_or (λ (r : ResourceData). is_ty r.ty t) o false) (at-map g number n nodes) ∙ of_type (at n nodes)
+  typed_at-kept : (t : Ty) (n : ℕ) (nodes : List ResourceData) → typed_at t n (map g nodes) ≡ option_map g (typed_at t n nodes)
+  typed_at-kept t n nodes = ap (option_and_then (of_type t)) (at-map g number n nodes) ∙ by_found (at n nodes)
     where
-      of_type : (o : Option ResourceData) → option_map_or (λ (r : ResourceData). is_ty r.ty t) (option_map g o) false ≡ option_map_or (λ (r : ResourceData). is_ty r.ty t) o false
-      of_type None = refl
-      of_type (Some r) = ap (λ (u : Ty). is_ty u t) (ty r)
+      by_found : (o : Option ResourceData) → option_and_then (of_type t) (option_map g o) ≡ option_map g (option_and_then (of_type t) o)
+      by_found None = refl
+      by_found (Some r) =
+          let same : is_ty (g r).ty t ≡ is_ty r.ty t = ap (λ (u : Ty). is_ty u t) (ty r) in
+          elim (cases_Bool (is_ty r.ty t)) [
+            | inl h ↦ rw (same ∙ h, h) refl
+            | inr h ↦ rw (same ∙ h, h) refl
+          ]
+
+  is_at-kept : (t : Ty) (n : ℕ) (nodes : List ResourceData) → is_at t n (map g nodes) ≡ is_at t n nodes
+  is_at-kept t n nodes = ap is_some (typed_at-kept t n nodes) ∙ by_found (typed_at t n nodes)
+    where
+      by_found : (o : Option ResourceData) → is_some (option_map g o) ≡ is_some o
+      by_found None = refl
+      by_found (Some r) = refl
 
   id_named-kept : (s : List ℕ) (nodes : List ResourceData) → id_named s (map g nodes) ≡ id_named s nodes
   id_named-kept s nodes = by_parts (id_parts s)
     where
-      by_parts : (o : Option (Ty × ℕ)) → option_and_then (λ (id : Ty × ℕ). cond (is_at id.0 id.1 (map g nodes)) (Some id.1) None) o ≡ option_and_then (λ (id : Ty × ℕ). cond (is_at id.0 id.1 nodes) (Some id.1) None) o
+      by_parts : (o : Option (Ty × ℕ)) → resource_number (option_and_then (λ (id : Ty × ℕ). typed_at id.0 id.1 (map g nodes)) o) ≡ resource_number (option_and_then (λ (id : Ty × ℕ). typed_at id.0 id.1 nodes) o)
       by_parts None = refl
-      by_parts (Some id) = ap (λ b. cond b (Some id.1) None) (is_at-kept id.0 id.1 nodes)
+      by_parts (Some id) = ap resource_number (typed_at-kept id.0 id.1 nodes) ∙ number_of-kept (typed_at id.0 id.1 nodes)
 
   first_named-kept : (s : List ℕ) (nodes : List ResourceData) → first_named s (map g nodes) ≡ first_named s nodes
   first_named-kept s nodes =

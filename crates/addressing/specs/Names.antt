@@ -1,15 +1,14 @@
 -- What an address names (TS-0001, 9.3.1 and 9.6), on the list of resources.
 use Rattle.std.specs.Prelude.{ℕ, ◌+◌, Bool, true, false, ◌&&◌, List, [], ◌∷◌, length, bytes_eq}
 use Rattle.std.specs.Prelude.{if◌then◌else◌, map, reverse, Option, Some, None, option_and_then}
-use Rattle.std.specs.Prelude.{option_map}
-use Rattle.std.specs.Option.{option_map_or, option_or}
-use Rattle.m2m_names.specs.Ids.{id_parts}
+use Rattle.std.specs.Prelude.{is_some, option_map}
+use Rattle.std.specs.Option.{option_or}
 use Rattle.m2m_names.specs.Name.{base_mark, fan_name, newest_name, oldest_name, poll_name}
 use Rattle.m2m_names.specs.declared.types.Ty.{Ty}
 use Rattle.m2m_names.specs.declared.types.Ty.TheVariants.{Group, PollingChannel}
-use Rattle.resource_model.specs.Resource.{ResourceData, is_ty}
-use Rattle.tree_model.specs.Tree.{ae_of, at, child_of, children_of, first_number, instance_of}
-use Rattle.tree_model.specs.Tree.{line_of}
+use Rattle.resource_model.specs.Resource.{ResourceData}
+use Rattle.tree_model.specs.Tree.{ae_of, child_of, children_of, first_number, instance_of}
+use Rattle.tree_model.specs.Tree.{line_of, resource_number, resource_of_id, typed_at}
 use Rattle.addressing.specs.Addresses.{joined}
 use Rattle.addressing.specs.declared.addr.Addr.{Addr}
 use Rattle.addressing.specs.declared.addr.Addr.TheVariants.{Local, Foreign, OtherProvider}
@@ -18,7 +17,7 @@ use Rattle.addressing.specs.declared.spot.Spot.TheVariants.{Resource, Fan, Poll}
 
 -- the resource of the number is of the type
 abbrev pub is_at : Ty → ℕ → List ResourceData → Bool
-is_at ty n nodes = option_map_or (λ (r : ResourceData). is_ty r.ty ty) (at n nodes) false
+is_at ty n nodes = is_some (typed_at ty n nodes)
 
 -- the resource that an address names, where it names none of the virtual ones
 abbrev pub spot_resource : Spot → Option ℕ
@@ -37,11 +36,9 @@ abbrev pub base_named : List ℕ → List ResourceData → Option ℕ
 base_named segment nodes =
     if bytes_eq segment base_mark then base_of nodes else child_of 0 segment nodes
 
--- a resource id is the resource of its number, where that is of its type
+-- the resource of a resource id
 abbrev pub id_named : List ℕ → List ResourceData → Option ℕ
-id_named segment nodes =
-    option_and_then (λ (id : Ty × ℕ). if is_at id.0 id.1 nodes then Some id.1 else None)
-    (id_parts segment)
+id_named segment nodes = resource_number (resource_of_id segment nodes)
 
 -- the CSEBase, else the resource of that id, else the application entity of that AE-ID
 abbrev pub first_named : List ℕ → List ResourceData → Option ℕ

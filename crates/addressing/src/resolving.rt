@@ -6,11 +6,11 @@ ghost use Rattle.addressing.specs.Names.{IsLocal, segments_of};
 
 use crate::addr::Addr;
 use crate::spot::Spot;
-use m2m_names::{Ty, read_id};
+use m2m_names::Ty;
 use m2m_value::Text;
 use std::marker::Brand;
 use std::sync::ledger::{Blank, Ledger};
-use tree_model::{Steps, Tree};
+use tree_model::{Steps, Tree, resource_of_id, typed_at};
 
 /// What a local address names. It asks for one child for each segment at most, and else looks up.
 pub fn resolve<T: Tree, L: Ledger>(tree: &T, addr: &Addr, steps: &mut Steps<L>) -> Option<Spot>
@@ -92,21 +92,14 @@ fn base_named<T: Tree, L: Ledger>(tree: &T, segment: &[u8], steps: &mut Steps<L>
 fn id_named<T: Tree>(tree: &T, segment: &[u8]) -> Option<u64>
     ensures { result ≡ spec.id_named segment.now (T.nodes tree.now) }
 {
-    let (ty, number) = read_id(segment)?;
-    if is_at(tree, ty, number) {
-        Some(number)
-    } else {
-        None
-    }
+    let named = resource_of_id(tree, segment)?;
+    Some(named.number())
 }
 
 fn is_at<T: Tree>(tree: &T, ty: Ty, number: u64) -> bool
     ensures { result ≡ spec.is_at ty number (T.nodes tree.now) }
 {
-    match tree.get(number) {
-        Some(resource) => resource.is(ty),
-        None => false,
-    }
+    typed_at(tree, ty, number).is_some()
 }
 
 /// What names say from a resource on, the first of which has place 1.

@@ -1,14 +1,14 @@
 -- What the limits of a container leave of its instances (TS-0001, 9.6.6).
 use Rattle.std.specs.Prelude.{◌≡◌, ℕ, ◌+◌, ◌==◌, nat_le, List, [], ◌∷◌, ◌++◌, length, take, drop}
 use Rattle.std.specs.Prelude.{map, filter, find, sum_by, Bool, true, false, not, ◌&&◌, ◌||◌}
-use Rattle.std.specs.Prelude.{if◌then◌else◌, Option, option_to_list, unwrap_or}
+use Rattle.std.specs.Prelude.{if◌then◌else◌, Option, Some, option_to_list, unwrap_or}
 use Rattle.std.specs.Bool.{OnTrue}
 use Rattle.std.specs.List.{list_any}
 use Rattle.std.specs.Option.{is_none, option_map_or}
-use Rattle.m2m_names.specs.declared.attributes.Attr.TheVariants.{Mbs, Mia, Mni}
+use Rattle.m2m_names.specs.declared.attributes.Attr.TheVariants.{Mbs, Mni}
 use Rattle.resource_model.specs.Attributes.{count_at}
 use Rattle.resource_model.specs.Resource.{ResourceData}
-use Rattle.tree_model.specs.Tree.{age_of, has, instance_size, end_by}
+use Rattle.tree_model.specs.Tree.{age_of, end_by, has, has_come, instance_size}
 use Rattle.container_limits.specs.declared.limits.Limits.{Limits}
 
 -- at most the limit, where there is one
@@ -20,7 +20,7 @@ abbrev pub limits_of : ResourceData → Limits
 limits_of c = record {
   mni = count_at Mni c.attrs;
   mbs = count_at Mbs c.attrs;
-  mia = count_at Mia c.attrs;
+  mia = age_of (Some c);
 }
 
 -- a count, and a sum of sizes, are within the limits
@@ -49,7 +49,7 @@ longest_fit limits new rs = unwrap_or (find (do_fit limits new) (suffixes rs)) [
 
 -- it is due by then
 abbrev pub is_due_by : Option ℕ → ℕ → ResourceData → Bool
-is_due_by mia moment r = nat_le (end_by mia r) moment
+is_due_by mia moment r = has_come moment (end_by mia r)
 
 -- it isn't due yet
 abbrev pub lasts : Option ℕ → ℕ → ResourceData → Bool

@@ -6,7 +6,6 @@ use Rattle.std.specs.List.{list_any}
 use Rattle.std.specs.Option.{option_map_or}
 use Rattle.std.specs.Ordering.{int_eq}
 use Rattle.m2m_names.specs.Members.{rce_name}
-use Rattle.m2m_names.specs.Types.{ty_member}
 use Rattle.m2m_names.specs.declared.attributes.Attr.{Attr}
 use Rattle.m2m_names.specs.declared.attributes.Attr.TheVariants.{Acpi, Et, Lt, Macp, St}
 use Rattle.m2m_names.specs.declared.codes.Rsc.TheVariants.{BadChild, Created, Deleted, NotAllowed}
@@ -24,7 +23,8 @@ use Rattle.addressing.specs.Names.{structured_of}
 use Rattle.attribute_rules.specs.Admission.{is_named}
 use Rattle.attribute_rules.specs.Contents.{edit_in, edited}
 use Rattle.container_limits.specs.Limits.{evicted, limits_of}
-use Rattle.tree_model.specs.Shown.{attributes_of, members_of, shown_rows, with_rows, wrapped}
+use Rattle.tree_model.specs.Shown.{attributes_of, members_of, shown_rows, typed_member}
+use Rattle.tree_model.specs.Shown.{with_rows, wrapped}
 use Rattle.tree_model.specs.Tree.{at, instances_of, replaced, restamped_at, without}
 use Rattle.request_rules.specs.Creation.{Creation, new_resource, new_size, next_state}
 use Rattle.entity_model.specs.Entity.{EntityData}
@@ -90,7 +90,7 @@ attributes_and_address e r =
     object (pairs_of ((
       rce_name,
       object (pairs_of (
-          (ty_member r.ty, object (pairs_of (members_of (shown_rows e.home e.nodes r))))
+          typed_member r.ty (members_of (shown_rows e.home e.nodes r))
           ∷ (codes "uri", address_last e r) ∷ [])),
     ) ∷ []))
 

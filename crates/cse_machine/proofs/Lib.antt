@@ -6,3 +6,4 @@ pub mod GuardLemmas
 pub mod HistoryLemmas
 pub mod SightLemmas
 pub mod AlikeLemmas
+pub mod OrderLemmas

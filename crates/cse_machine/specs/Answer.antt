@@ -3,6 +3,7 @@ use Rattle.std.specs.Prelude.{◌≡◌, ℕ, nat_lt, Bool, true, false, not, �
 use Rattle.std.specs.Prelude.{Option, Some, is_ok, is_some, option_and_then, if◌then◌else◌}
 use Rattle.std.specs.Option.{option_map_or}
 use Rattle.std.specs.Ordering.{int_eq}
+use Rattle.m2m_names.specs.declared.codes.Rsc.{Rsc}
 use Rattle.m2m_names.specs.declared.codes.Rsc.TheVariants.{BadRequest, Internal, NonBlocking}
 use Rattle.m2m_names.specs.declared.codes.Rsc.TheVariants.{RequestTimeout}
 use Rattle.m2m_names.specs.declared.operations.Op.{Op}
@@ -39,6 +40,7 @@ use Rattle.create_delete.specs.Changing.{performed}
 use Rattle.create_delete.specs.Guard.{NamesInOrder}
 use Rattle.cse_machine.specs.declared.event.Outcome.{Outcome}
 use Rattle.cse_machine.specs.declared.event.Outcome.TheVariants.{Done}
+use Rattle.request_rules.specs.Order.{fault_on}
 use Rattle.request_rules.specs.Requests.{child_ty}
 use Rattle.request_rules.specs.Rights.{is_discovery}
 use Rattle.cse_machine.specs.Rights.{asking, claimed_originator}
@@ -148,6 +150,15 @@ reading_reply e request n =
     if is_discovery request
     then discovered e.home e.nodes (claimed_originator e.home request) request n
     else retrieved e.home e.nodes (claimed_originator e.home request) request n
+
+-- Where a place in the order of refusals refuses a Retrieve of a resource that is there, that is
+-- its answer; what it is refused by besides, its conditions, comes behind.
+abbrev pub RetrievesAreRefusedInOrder : Type 0
+RetrievesAreRefusedInOrder =
+    (e : EntityData) (request : RequestParts) (target : ResourceData) (fault : Rsc)
+    → at target.number e.nodes ≡ Some target
+    → fault_on Retrieve e (claimed_originator e.home request) request target ≡ Some fault
+    → reading_reply e request target.number ≡ refusal request fault
 
 -- what an operation that may change something gives, for its originator: a refusal by the first
 -- place that doesn't hold, or what is done

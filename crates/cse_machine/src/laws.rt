@@ -1,5 +1,5 @@
 //! Laws of the machine, over its definitions.
-ghost use Rattle.cse_machine.specs.Answer.{KindsHaveTheForm};
+ghost use Rattle.cse_machine.specs.Answer.{KindsHaveTheForm, RetrievesAreRefusedInOrder};
 ghost use Rattle.cse_machine.specs.Guard.{StepsAreGuarded, HistoriesAreGuarded};
 ghost use Rattle.cse_machine.specs.Guard.{RefusalsChangeNothing, RetrievesChangeNoResource};
 ghost use Rattle.cse_machine.specs.Guard.{WantOfMemoryChangesNothing};
@@ -76,4 +76,10 @@ pub fn a_history_goes_one_way()
 /// that is read from a value or from a frame.
 pub fn what_is_of_its_kinds_has_the_form()
     ensures { KindsHaveTheForm }
+{}
+
+/// The order of refusals holds of a Retrieve as of every other operation: the place that refuses it
+/// there is what it is answered.
+pub fn a_retrieve_is_refused_in_order()
+    ensures { RetrievesAreRefusedInOrder }
 {}

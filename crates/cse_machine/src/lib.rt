@@ -20,7 +20,7 @@ mod machine;
 
 pub use event::{Event, Outcome};
 pub use laws::{
-    a_history_goes_one_way, a_sight_has_the_shape_of_its_entity,
+    a_history_goes_one_way, a_retrieve_is_refused_in_order, a_sight_has_the_shape_of_its_entity,
     a_step_changes_what_is_asked_alone, an_originator_is_answered_by_what_it_sees,
     equal_sights_are_answered_alike, nothing_is_shown_or_changed_without_a_grant,
     steps_make_a_legal_history, what_is_of_its_kinds_has_the_form,

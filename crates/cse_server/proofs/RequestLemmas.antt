@@ -2,18 +2,19 @@
 use Rattle.std.proofs.Common.{◌≡◌, ℕ, List, [], ◌∷◌, Option, Some, None, Result, Ok, Err, ap, subst}
 use Rattle.std.specs.List.{cons_option}
 use Rattle.std.specs.Option.{unwrap_or}
+use Rattle.std.specs.Result.{result_ok}
 use Rattle.primitive_json.specs.declared.reply.ReplyParts.{ReplyParts}
 use Rattle.primitive_json.specs.declared.request.RequestParts.{RequestParts}
 use Rattle.http_frames.specs.declared.frame.Frame.{Frame}
 use Rattle.http_target.specs.declared.fault.BindFault.{BindFault}
 use Rattle.http_binding.specs.Binding.{binding}
-use Rattle.cse_server.specs.Talk.{bound, request_in, requests_in, reply_for}
+use Rattle.cse_server.specs.Talk.{request_in, requests_in, reply_for}
 
 abbrev IsNone : Option RequestParts → Type 0
 IsNone None = Unit {0}
 IsNone (Some r) = ⊥
 
-bound_ok : (b : Result RequestParts BindFault) (request : RequestParts) → bound b ≡ Some request → b ≡ Ok request
+bound_ok : (b : Result RequestParts BindFault) (request : RequestParts) → result_ok b ≡ Some request → b ≡ Ok request
 bound_ok (Ok r) request e = ap Ok (ap (λ (o : Option RequestParts). unwrap_or o r) e)
 bound_ok (Err fault) request e = absurd (subst IsNone e tt)
 

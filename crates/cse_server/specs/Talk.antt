@@ -1,27 +1,22 @@
 -- What a connection is answered, by its frames and the replies to their requests (TS-0009, 6; RFC
 -- 9112, 9.3).
 use Rattle.std.specs.Prelude.{ℕ, ◌+◌, Bool, true, false, not, ◌&&◌, ◌||◌, List, [], ◌∷◌, ◌++◌}
-use Rattle.std.specs.Prelude.{Option, Some, None, Result, Ok, Err, if◌then◌else◌}
+use Rattle.std.specs.Prelude.{Option, Some, None, if◌then◌else◌}
 use Rattle.std.specs.List.{filter_map}
+use Rattle.std.specs.Result.{result_ok}
 use Rattle.m2m_names.specs.declared.codes.Rsc.TheVariants.{BadRequest}
 use Rattle.primitive_json.specs.declared.reply.ReplyParts.{ReplyParts}
 use Rattle.primitive_json.specs.declared.request.RequestParts.{RequestParts}
 use Rattle.http_frames.specs.declared.frame.Frame.{Frame}
 use Rattle.http_binding.specs.Binding.{binding, echo_of}
 use Rattle.http_binding.specs.Replying.{reply_text}
-use Rattle.http_target.specs.declared.fault.BindFault.{BindFault}
 use Rattle.cse_server.specs.Closing.{closes}
 
 -- ---- the requests
 
--- what is bound, without the reason where nothing is
-abbrev pub bound : Result RequestParts BindFault → Option RequestParts
-bound (Ok request) = Some request
-bound (Err fault) = None
-
 -- the request that a frame binds to
 abbrev pub request_in : Frame → Option RequestParts
-request_in frame = bound (binding frame)
+request_in frame = result_ok (binding frame)
 
 -- the requests of frames, in order: one of each frame that binds
 abbrev pub requests_in : List Frame → List RequestParts

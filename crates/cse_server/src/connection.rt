@@ -1,11 +1,12 @@
 //! One connection, from its first frame to its end.
 ghost use Rattle.std.specs.Prelude.{◌≡◌, ◌≢◌, ◌<◌, ◌≤◌, ◌+◌, length, false, Some, None, Err, IfOk};
 ghost use Rattle.std.specs.Prelude.{MatchOption};
+ghost use Rattle.std.specs.Result.{result_ok};
 ghost use Rattle.m2m_io.specs.Counts.{Rose};
 ghost use Rattle.m2m_io.specs.Outside.{outside};
 ghost use Rattle.http_frames.specs.Inbox.{TakesNext, most_held, stream_of};
 ghost use Rattle.http_frames.specs.declared.frame.Side.TheVariants.{Request as AsRequest};
-ghost use Rattle.cse_server.specs.Talk.{bound, request_in};
+ghost use Rattle.cse_server.specs.Talk.{request_in};
 ghost use Rattle.cse_server.specs.Connection.{Serves, ServesFrom};
 ghost use Rattle.cse_server.specs.Way.{Goes, Hears, Refuses, Turns};
 
@@ -51,7 +52,7 @@ impl From<PutFault> for Ended {
 }
 
 /// The reply to a frame: by what the desk answers the request that it binds to, if any.
-fn reply_to<D, C, L>(
+fn reply_for<D, C, L>(
     alloc: Global,
     desk: &D,
     seat: &mut D::Seat,
@@ -65,7 +66,7 @@ where
     C: Clock,
     L: Link,
     requires seats { D.seats desk.now seat.old }
-    requires asked { bound asked ≡ request_in frame.now }
+    requires asked { result_ok asked ≡ request_in frame.now }
     ensures seats { D.seats desk.now seat.new }
     ensures hears { Hears D.grown seat.old seat.new
         (outside None None (C.readings clock.old) (L.exchanges link.old))
@@ -121,7 +122,7 @@ where
     if let Err(BindFault::OutOfMemory) = asked {
         return Some(Ended::Memory);
     }
-    let Ok(reply) = reply_to(alloc, desk, seat, clock, link, frame, asked) else {
+    let Ok(reply) = reply_for(alloc, desk, seat, clock, link, frame, asked) else {
         return Some(Ended::Memory);
     };
     let close = closes(place, frame);
@@ -133,7 +134,7 @@ where
 }
 
 /// Ends a connection on which no frame can stand.
-fn refuse<X: Connection>(alloc: Global, conn: &mut X, room: &mut ReplyRoom) -> Ended
+fn end_refused<X: Connection>(alloc: Global, conn: &mut X, room: &mut ReplyRoom) -> Ended
     ensures refuses { Refuses (X.written conn.old) (X.written conn.new) result }
     ensures count { X.Sink.faults conn.old ≤ X.Sink.faults conn.new }
     ensures cause { result ≡ Ended.WriteFault
@@ -225,7 +226,7 @@ where
             ended
         }
         Ok(Next::End) => Some(Ended::Closed),
-        Err(FrameFault::NoFrame) => Some(refuse(alloc, conn, room)),
+        Err(FrameFault::NoFrame) => Some(end_refused(alloc, conn, room)),
         Err(FrameFault::ReadFault) => Some(Ended::ReadFault),
         Err(FrameFault::OutOfMemory) => Some(Ended::Memory),
     }

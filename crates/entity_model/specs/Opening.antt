@@ -14,6 +14,10 @@ use Rattle.policy_eval.specs.Rules.{written_rule, written_rules}
 use Rattle.policy_eval.specs.Rights.{create_bit}
 use Rattle.entity_model.specs.Entity.{EntityData, cut}
 
+-- the number of the CSEBase
+abbrev pub base_number : ℕ
+base_number = 1
+
 -- the number of the administrator's policy
 abbrev pub admin_policy : ℕ
 admin_policy = 2
@@ -44,7 +48,7 @@ opening_rows =
 -- the CSEBase (TS-0001, 9.6.3)
 abbrev pub opening_base : HomeData → ℕ → ResourceData
 opening_base home moment = record {
-  number = 1;
+  number = base_number;
   ty = CseBase;
   name = home.base;
   parent = 0;
@@ -61,7 +65,7 @@ opening_policy home moment = record {
   number = admin_policy;
   ty = AccessControlPolicy;
   name = codes "acpAdmin";
-  parent = 1;
+  parent = base_number;
   owner = home.admin;
   ct = moment;
   lt = moment;

@@ -6,11 +6,14 @@ ghost use Rattle.tree_model.specs.Tree.{may_stand};
 ghost use Rattle.policy_eval.specs.Rules as policies;
 ghost use Rattle.entity_model.specs.Opening as spec;
 
-use m2m_names::{Attr, LAST_MOMENT, Ty};
+use m2m_names::{ALL_BITS, Attr, LAST_MOMENT, Ty};
 use m2m_value::{Items, Members, Text, Val};
 use resource_model::id_text;
 use std::alloc::{AllocError as OutOfMemory, Global};
 use tree_model::{Attrs, Home, Moments, Resource, Tree};
+
+/// The number of the CSEBase.
+const BASE_NUMBER: u64 = 1;
 
 /// The number of the administrator's policy.
 const ADMIN_POLICY: u64 = 2;
@@ -50,7 +53,7 @@ fn written_rules(alloc: Global, rules: Vec<Val>) -> Result<Val, OutOfMemory>
 fn admin_rule(alloc: Global, home: &Home) -> Result<Val, OutOfMemory>
     ensures { IfOk result (λ v. v ≡ spec.admin_rule home.now) }
 {
-    written_rule(alloc, home.admin().copy(alloc)?, 63)
+    written_rule(alloc, home.admin().copy(alloc)?, ALL_BITS)
 }
 
 // Everyone may create.
@@ -119,7 +122,7 @@ fn opening_base(alloc: Global, home: &Home, moment: u64) -> Result<Resource, Out
     let owner = home.admin().copy(alloc)?;
     let attrs = base_attrs(alloc)?;
     let moments = moments_from(moment);
-    Ok(Resource::of(1, Ty::CseBase, name, 0, owner, moments, attrs))
+    Ok(Resource::of(BASE_NUMBER, Ty::CseBase, name, 0, owner, moments, attrs))
 }
 
 fn opening_policy(alloc: Global, home: &Home, moment: u64) -> Result<Resource, OutOfMemory>
@@ -134,7 +137,7 @@ fn opening_policy(alloc: Global, home: &Home, moment: u64) -> Result<Resource, O
         ADMIN_POLICY,
         Ty::AccessControlPolicy,
         name,
-        1,
+        BASE_NUMBER,
         owner,
         moments,
         attrs,

@@ -9,7 +9,7 @@ ghost use Rattle.tree_model.specs.Tree.{instances_of, instance_size, sizes_of, c
 use m2m_names::{Attr, Ty};
 use resource_model::Resource;
 
-pub(crate) fn is_named(resource: &Resource, parent: u64, name: &[u8]) -> bool
+pub(crate) fn is_child(resource: &Resource, parent: u64, name: &[u8]) -> bool
     ensures { result ≡ is_child parent name.now resource.now }
 {
     resource.parent() == parent && resource.name().entries() == name
@@ -50,7 +50,7 @@ fn size_in_bytes(resource: &Resource) -> u64
 pub(crate) fn child_in(resources: &[Resource], parent: u64, name: &[u8]) -> Option<u64>
     ensures { result ≡ child_of parent name.now resources.now }
 {
-    let found = resources.iter().find(|r| is_named(r, parent, name))?;
+    let found = resources.iter().find(|r| is_child(r, parent, name))?;
     Some(found.number())
 }
 

@@ -10,6 +10,7 @@ use Rattle.std.specs.Option.{option_and_then, option_map_or, option_or}
 use Rattle.m2m_names.specs.Types.{ty_row}
 use Rattle.m2m_names.specs.declared.attributes.Attr.{Attr}
 use Rattle.m2m_names.specs.declared.attributes.Attr.TheVariants.{Acpi, Aei, Csi, Macp, Pv, Pvs}
+use Rattle.m2m_names.specs.Ids.{id_parts}
 use Rattle.m2m_names.specs.declared.types.Ty.{Ty}
 use Rattle.m2m_names.specs.declared.types.Ty.TheVariants.{AccessControlPolicy, Ae, ContentInstance, PollingChannel, RemoteCse}
 use Rattle.m2m_value.specs.Data.{Data}
@@ -17,10 +18,10 @@ use Rattle.m2m_value.specs.View.{as_text}
 use Rattle.resource_model.specs.Attributes.{value_of}
 use Rattle.resource_model.specs.Home.{HomeData}
 use Rattle.resource_model.specs.Resource.{ResourceData, is_ty, has_number, ae_id, cse_id}
-use Rattle.tree_model.specs.Tree.{at, has, is_child, child_of, replaced, stays, staying, without}
+use Rattle.tree_model.specs.Tree.{at, has, is_child, child_of, of_type, replaced, resource_of_id, stays, staying, typed_at, without}
 use Rattle.policy_eval.specs.Alike.{is_attr_in, id_attrs, Alike, AreAlike, FindAlike}
 use Rattle.m2m_names.specs.Operations.{all_bits}
-use Rattle.policy_eval.specs.Rules.{only, Rule, rule_for, rules_in, policy_number, policy_at, policy_named, policy_of, policies_of, rules_by, listed_in, ids_at, lists_ids, registree, linked_rules, channel_rules, rules_of, fan_rules, link_rules}
+use Rattle.policy_eval.specs.Rules.{only, Rule, rule_for, rules_in, policy_named, policy_of, policies_of, rules_by, listed_in, ids_at, lists_ids, registree, linked_rules, channel_rules, rules_of, fan_rules, link_rules}
 use Rattle.policy_eval.specs.Rights.{is_subject, with_rule, with_rules, bits_by, do_give, update_bit, grants, relinks, fan_grants}
 use Rattle.policy_eval.proofs.BitLemmas.{with_rules-append}
 
@@ -225,7 +226,18 @@ module _ (home : HomeData) (o : List ℕ) where
   FindPolicies (Some s) None = ⊥
   FindPolicies (Some s) (Some r) = Alike home o s r × (is_ty r.ty AccessControlPolicy ≡ true)
 
-  policy_alike : (p q : Option ResourceData) → FindAlike home o p q → FindPolicies (option_and_then (λ (r : ResourceData). cond (is_ty r.ty AccessControlPolicy) (Some r) None) p) (option_and_then (λ (r : ResourceData). cond (is_ty r.ty AccessControlPolicy) (Some r) None) q)
+  type_alike : (ty : Ty) (p q : Option ResourceData) → FindAlike home o p q → FindAlike home o (option_and_then (of_type ty) p) (option_and_then (of_type ty) q)
+  type_alike ty None None found = tt
+  type_alike ty None (Some r) found = absurd found
+  type_alike ty (Some s) None found = absurd found
+  type_alike ty (Some s) (Some r) found =
+      let same = ty-alike s r found ty in
+      elim (cases_Bool (is_ty r.ty ty)) [
+        | inl t ↦ rw (same ∙ t, t) found
+        | inr f ↦ rw (same ∙ f, f) tt
+      ]
+
+  policy_alike : (p q : Option ResourceData) → FindAlike home o p q → FindPolicies (option_and_then (of_type AccessControlPolicy) p) (option_and_then (of_type AccessControlPolicy) q)
   policy_alike None None found = tt
   policy_alike None (Some r) found = absurd found
   policy_alike (Some s) None found = absurd found
@@ -274,13 +286,13 @@ module _ (home : HomeData) (o : List ℕ) where
     policy_of-alike : (id : Data) → FindPolicies (policy_of ss id) (policy_of rs id)
     policy_of-alike id = by_text (as_text id)
       where
-        by_number : (x : Option ℕ) → FindPolicies (option_and_then (policy_at ss) x) (option_and_then (policy_at rs) x)
-        by_number None = tt
-        by_number (Some n) = policy_alike (at n ss) (at n rs) (at-alike ss rs all n)
+        by_parts : (x : Option (Ty × ℕ)) → FindAlike home o (option_and_then (λ (q : Ty × ℕ). typed_at q.0 q.1 ss) x) (option_and_then (λ (q : Ty × ℕ). typed_at q.0 q.1 rs) x)
+        by_parts None = tt
+        by_parts (Some q) = type_alike q.0 (at q.1 ss) (at q.1 rs) (at-alike ss rs all q.1)
 
         by_text : (x : Option (List ℕ)) → FindPolicies (option_and_then (policy_named ss) x) (option_and_then (policy_named rs) x)
         by_text None = tt
-        by_text (Some text) = by_number (policy_number text)
+        by_text (Some text) = policy_alike (resource_of_id text ss) (resource_of_id text rs) (by_parts (id_parts text))
 
     same_joined : (attr : Attr) → ((s r : ResourceData) → Alike home o s r → is_ty r.ty AccessControlPolicy ≡ true → GiveSame home o (by_list attr s) (by_list attr r)) → (ids : List Data) (a : ℕ) → with_rules home o a (rules_by attr ss ids) ≡ with_rules home o a (rules_by attr rs ids)
     same_joined attr same [] a = refl

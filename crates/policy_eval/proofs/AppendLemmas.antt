@@ -1,24 +1,26 @@
 -- Equal sights stay equal where the same resource is appended.
 use Rattle.std.specs.Prelude.{nat_lt}
-use Rattle.std.proofs.Common.{◌≡◌, ℕ, ◌<◌, List, [], ◌∷◌, ◌++◌, map, Bool, true, false, cond, ◌&&◌, ◌||◌, Option, Some, None, inl, inr, refl, sym, ap, ◌∙◌, subst, arith}
+use Rattle.std.proofs.Common.{◌≡◌, ℕ, ◌<◌, List, [], ◌∷◌, ◌++◌, map, Bool, true, false, cond, ◌&&◌, ◌||◌, Option, Some, None, is_some, inl, inr, refl, sym, ap, ◌∙◌, subst, arith}
 use Rattle.std.proofs.lemmas.Bool.{cases_Bool, both_ways, and_from, and_parts, or_cases, or_left, or_right, or_parts, ne_eqb}
 use Rattle.std.proofs.lemmas.List.{map-append}
 use Rattle.std.proofs.lemmas.Option.{same_Some}
 use Rattle.std.specs.List.{list_any}
 use Rattle.std.specs.Option.{option_and_then, option_map_or, option_or}
 use Rattle.m2m_names.specs.declared.attributes.Attr.TheVariants.{Acpi, Macp}
+use Rattle.m2m_names.specs.Ids.{id_parts}
+use Rattle.m2m_names.specs.declared.types.Ty.{Ty}
 use Rattle.m2m_names.specs.declared.types.Ty.TheVariants.{AccessControlPolicy, Container, ContentInstance, CseBase, Group}
 use Rattle.m2m_value.specs.Data.{Data}
 use Rattle.m2m_value.specs.View.{as_text}
 use Rattle.resource_model.specs.Attributes.{value_of}
 use Rattle.resource_model.specs.Home.{HomeData}
 use Rattle.resource_model.specs.Resource.{ResourceData, is_ty, has_number}
-use Rattle.tree_model.specs.Tree.{at, due, due_under, may_stand, fits_in, is_taken, is_well_formed}
+use Rattle.tree_model.specs.Tree.{at, due, due_under, may_stand, fits_in, is_taken, is_well_formed, of_type, typed_at}
 use Rattle.tree_model.proofs.GrowthLemmas.{IsNext, below_has, grows-append, next_fits, stands, tree_from_well_formed}
 use Rattle.tree_model.proofs.TreeLemmas.{at-append, at_has, at_number}
 use Rattle.policy_eval.specs.Alike.{Alike, AreAlike, FindAlike}
 use Rattle.policy_eval.specs.Changes.{is_id_of, does_link, is_linked, learns_limits}
-use Rattle.policy_eval.specs.Rules.{listed_in, fan_rules, policy_number, policy_at, policy_named, policy_of}
+use Rattle.policy_eval.specs.Rules.{listed_in, fan_rules, policy_named, policy_of}
 use Rattle.policy_eval.specs.Rights.{bits_by, has_bits, update_bit}
 use Rattle.policy_eval.specs.Seen.{create_bit, retrieve_bit, has_bit, fills, is_filled_in, seen, seen_list}
 use Rattle.policy_eval.proofs.AlikeLemmas.{alike_itself, append-alike, at-alike, fan_rules-alike, map_from_zip, rules-alike, ty-alike}
@@ -26,6 +28,13 @@ use Rattle.policy_eval.proofs.DueLemmas.{due_base, due_other, in_container, or_n
 use Rattle.policy_eval.proofs.EqualLemmas.{same_alike}
 use Rattle.policy_eval.proofs.LookupLemmas.{FindSame, FindsSame, MaySame, find_itself, judge_itself, may_the_same, seen_found, seen_same}
 use Rattle.policy_eval.proofs.TwiceLemmas.{zip-found}
+
+-- what has the type and is a policy; that of an id's type and number
+abbrev policy_of_type : Ty → Option ResourceData → Option ResourceData
+policy_of_type ty found = option_and_then (of_type AccessControlPolicy) (option_and_then (of_type ty) found)
+
+abbrev policy_by : Option (Ty × ℕ) → List ResourceData → Option ResourceData
+policy_by parts nodes = option_and_then (of_type AccessControlPolicy) (option_and_then (λ (q : Ty × ℕ). typed_at q.0 q.1 nodes) parts)
 
 -- ---- lists of which the originator sees the same are alike
 
@@ -120,27 +129,25 @@ module _ (xs : List ResourceData) (r : ResourceData) (well : is_well_formed (xs 
       let before : n < r.number = below_has r.number n xs next.number (at_has n xs s found) in
       at_earlier s.parent (omega arith)
 
-  policy_before : (n : ℕ) → (is_ty r.ty AccessControlPolicy && has_number n r) ≡ false → policy_at (xs ++ r ∷ []) n ≡ policy_at xs n
-  policy_before n other =
-      ap (option_and_then (λ (p : ResourceData). cond (is_ty p.ty AccessControlPolicy) (Some p) None)) (at-append n xs (r ∷ []))
-      ∙ by_found (at n xs) (is_ty r.ty AccessControlPolicy) (has_number n r) refl refl other
-    where
-      by_found : (p : Option ResourceData) (policy here : Bool) → is_ty r.ty AccessControlPolicy ≡ policy → has_number n r ≡ here → (policy && here) ≡ false → option_and_then (λ (q : ResourceData). cond (is_ty q.ty AccessControlPolicy) (Some q) None) (option_or p (cond (has_number n r) (Some r) None)) ≡ option_and_then (λ (q : ResourceData). cond (is_ty q.ty AccessControlPolicy) (Some q) None) p
-      by_found (Some p) policy here is place none = refl
-      by_found None policy false is place none = rw place refl
-      by_found None false true is place none = rw (place, is) refl
-      by_found None true true is place none = absurd (both_ways true none refl)
-
   policies_before : (id : Data) → is_id_of r id ≡ false → policy_of (xs ++ r ∷ []) id ≡ policy_of xs id
   policies_before id other = by_text (as_text id) other
     where
-      by_number : (n : Option ℕ) → (is_ty r.ty AccessControlPolicy && option_map_or (λ m. has_number m r) n false) ≡ false → option_and_then (policy_at (xs ++ r ∷ [])) n ≡ option_and_then (policy_at xs) n
-      by_number None none = refl
-      by_number (Some n) none = policy_before n none
+      none_there : (p : Option ResourceData) → is_some p ≡ false → p ≡ None
+      none_there None none = refl
+      none_there (Some q) none = cc
 
-      by_text : (text : Option (List ℕ)) → (is_ty r.ty AccessControlPolicy && option_map_or (λ m. has_number m r) (option_and_then policy_number text) false) ≡ false → option_and_then (policy_named (xs ++ r ∷ [])) text ≡ option_and_then (policy_named xs) text
+      by_found : (ty : Ty) (p here : Option ResourceData) → is_some (policy_of_type ty here) ≡ false → policy_of_type ty (option_or p here) ≡ policy_of_type ty p
+      by_found ty (Some p) here none = refl
+      by_found ty None here none = none_there (policy_of_type ty here) none
+
+      by_parts : (parts : Option (Ty × ℕ)) → is_some (policy_by parts (r ∷ [])) ≡ false → policy_by parts (xs ++ r ∷ []) ≡ policy_by parts xs
+      by_parts None none = refl
+      by_parts (Some q) none =
+          ap (policy_of_type q.0) (at-append q.1 xs (r ∷ [])) ∙ by_found q.0 (at q.1 xs) (at q.1 (r ∷ [])) none
+
+      by_text : (text : Option (List ℕ)) → is_some (option_and_then (policy_named (r ∷ [])) text) ≡ false → option_and_then (policy_named (xs ++ r ∷ [])) text ≡ option_and_then (policy_named xs) text
       by_text None none = refl
-      by_text (Some text) none = by_number (policy_number text) none
+      by_text (Some text) none = by_parts (id_parts text) none
 
   module _ (unlinked : is_linked r xs ≡ false) where
     finds : FindsSame (is_id_of r) (xs ++ r ∷ []) xs

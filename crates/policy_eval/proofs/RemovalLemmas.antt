@@ -7,14 +7,16 @@ use Rattle.std.specs.Option.{option_and_then, option_map_or}
 use Rattle.m2m_value.specs.View.{as_text}
 use Rattle.m2m_names.specs.declared.attributes.Attr.{Attr}
 use Rattle.m2m_names.specs.declared.attributes.Attr.TheVariants.{Acpi, Macp, Pv, Pvs}
+use Rattle.m2m_names.specs.Ids.{id_parts}
+use Rattle.m2m_names.specs.declared.types.Ty.{Ty}
 use Rattle.m2m_names.specs.declared.types.Ty.TheVariants.{AccessControlPolicy, ContentInstance, PollingChannel}
 use Rattle.m2m_value.specs.Data.{Data}
 use Rattle.resource_model.specs.Attributes.{value_of}
 use Rattle.resource_model.specs.Home.{HomeData}
 use Rattle.resource_model.specs.Resource.{ResourceData, is_ty}
-use Rattle.tree_model.specs.Tree.{at, is_spared, is_tree, without}
+use Rattle.tree_model.specs.Tree.{at, is_spared, is_tree, of_type, resource_of_id, typed_at, without}
 use Rattle.tree_model.proofs.GrowthLemmas.{at-without}
-use Rattle.policy_eval.specs.Rules.{Rule, rules_in, policy_number, policy_at, policy_named, policy_of, policies_of, rules_by, ids_at, lists_ids, linked_rules, channel_rules, rules_of, fan_rules, link_rules}
+use Rattle.policy_eval.specs.Rules.{Rule, rules_in, policy_named, policy_of, policies_of, rules_by, ids_at, lists_ids, linked_rules, channel_rules, rules_of, fan_rules, link_rules}
 use Rattle.policy_eval.specs.Rights.{with_rules, bits_by, do_give, update_bit, grants, relinks, fan_grants}
 use Rattle.policy_eval.specs.Laws.{IsNeverGained}
 use Rattle.policy_eval.proofs.BitLemmas.{IsBelow, below_itself, below_through, zero_below, with_rules_adds, with_rules_more, with_rules-append, has_more}
@@ -44,8 +46,9 @@ then_found f (Some x) p b kept found = rw (kept x refl) found
 policy_kept : (less more : List ResourceData) → Keeps less more → (id : Data) (p : ResourceData) → policy_of less id ≡ Some p → policy_of more id ≡ Some p
 policy_kept less more keeps id p found =
     then_kept (policy_named less) (policy_named more) (as_text id) p
-    (λ text. then_kept (policy_at less) (policy_at more) (policy_number text) p
-    (λ n. then_found _ (at n less) (at n more) p (keeps.found n)))
+    (λ text. then_found (of_type AccessControlPolicy) (resource_of_id text less) (resource_of_id text more) p
+    (λ r. then_kept (λ (q : Ty × ℕ). typed_at q.0 q.1 less) (λ (q : Ty × ℕ). typed_at q.0 q.1 more) (id_parts text) r
+    (λ q. then_found (of_type q.0) (at q.1 less) (at q.1 more) r (keeps.found q.1))))
     found
 
 -- a list of policies that lacks some gives no more

@@ -10,6 +10,7 @@ use Rattle.std.specs.Option.{option_and_then}
 use Rattle.std.specs.Ordering.{is_lt}
 use Rattle.m2m_names.specs.declared.attributes.Attr.{Attr}
 use Rattle.m2m_names.specs.declared.attributes.Attr.TheVariants.{Acpi, Aei, Csi, Macp, Mia, Pv, Pvs}
+use Rattle.m2m_names.specs.Ids.{id_parts}
 use Rattle.m2m_names.specs.declared.types.Ty.{Ty}
 use Rattle.m2m_names.specs.declared.types.Ty.TheVariants.{AccessControlPolicy, Ae, Container, ContentInstance, CseBase, Group, RemoteCse}
 use Rattle.m2m_value.specs.Data.{Data}
@@ -18,12 +19,12 @@ use Rattle.resource_model.specs.Attributes.{Row, attr_cmp, is_attr, rows_before,
 use Rattle.resource_model.specs.Home.{HomeData}
 use Rattle.resource_model.specs.Resource.{ResourceData, is_ty, ae_id, cse_id}
 use Rattle.resource_model.proofs.AttributeLemmas.{is_attr-itself, is_attr-same, value-with_value_other, value-without_value_other}
-use Rattle.tree_model.specs.Tree.{at, due, due_under, is_taken, is_well_formed, replaced}
+use Rattle.tree_model.specs.Tree.{at, due, due_under, is_taken, is_well_formed, of_type, replaced, resource_of_id, typed_at}
 use Rattle.tree_model.proofs.GrowthLemmas.{tree_from_well_formed}
 use Rattle.tree_model.proofs.TreeLemmas.{at-replaced, at-replaced_other, at_has, at_number, map-replaced}
 use Rattle.policy_eval.specs.Alike.{is_attr_in}
 use Rattle.policy_eval.specs.Changes.{NewValue, ShowNoMore, changed, do_judge, do_reach, does_judge, seen_changes, with_change, with_changes}
-use Rattle.policy_eval.specs.Rules.{ids_at, policy_at, policy_named, policy_number}
+use Rattle.policy_eval.specs.Rules.{ids_at, policy_named}
 use Rattle.policy_eval.specs.Rights.{update_bit}
 use Rattle.policy_eval.specs.Seen.{retrieve_bit, discovery_bit, has_bit, fills, is_filled_in, may_use, seen_value, seen_row, seen_owner, seen, seen_list}
 use Rattle.policy_eval.proofs.AlikeLemmas.{cse_named, map_from_zip, same_ids}
@@ -138,13 +139,13 @@ reach_kept b changes one none = test_kept (is_attr_in (Mia ∷ Macp ∷ [])) b c
 
 -- ---- a resource gets changes
 
-policy_same : (p q : Option ResourceData) → FindSame p q → FindSame (option_and_then (λ (r : ResourceData). cond (is_ty r.ty AccessControlPolicy) (Some r) None) p) (option_and_then (λ (r : ResourceData). cond (is_ty r.ty AccessControlPolicy) (Some r) None) q)
-policy_same None None found = tt
-policy_same None (Some r) found = absurd found
-policy_same (Some s) None found = absurd found
-policy_same (Some s) (Some r) found =
-    let same : is_ty s.ty AccessControlPolicy ≡ is_ty r.ty AccessControlPolicy = ap (λ ty. is_ty ty AccessControlPolicy) found.ty in
-    elim (cases_Bool (is_ty r.ty AccessControlPolicy)) [
+type_same : (ty : Ty) (p q : Option ResourceData) → FindSame p q → FindSame (option_and_then (of_type ty) p) (option_and_then (of_type ty) q)
+type_same ty None None found = tt
+type_same ty None (Some r) found = absurd found
+type_same ty (Some s) None found = absurd found
+type_same ty (Some s) (Some r) found =
+    let same : is_ty s.ty ty ≡ is_ty r.ty ty = ap (λ own. is_ty own ty) found.ty in
+    elim (cases_Bool (is_ty r.ty ty)) [
       | inl t ↦ rw (same ∙ t, t) found
       | inr f ↦ rw (same ∙ f, f) tt
     ]
@@ -221,13 +222,13 @@ module _ (home : HomeData) (o : List ℕ) (xs : List ResourceData) (well : is_we
     above = λ m s at_m. find_same s.parent;
   }
     where
-      by_number : (x : Option ℕ) → FindSame (option_and_then (policy_at (replaced (changed changes lt et r) xs)) x) (option_and_then (policy_at xs) x)
-      by_number None = tt
-      by_number (Some m) = policy_same (at m zs) (at m xs) (find_same m)
+      by_parts : (x : Option (Ty × ℕ)) → FindSame (option_and_then (λ (q : Ty × ℕ). typed_at q.0 q.1 zs) x) (option_and_then (λ (q : Ty × ℕ). typed_at q.0 q.1 xs) x)
+      by_parts None = tt
+      by_parts (Some q) = type_same q.0 (at q.1 zs) (at q.1 xs) (find_same q.1)
 
       by_text : (x : Option (List ℕ)) → FindSame (option_and_then (policy_named (replaced (changed changes lt et r) xs)) x) (option_and_then (policy_named xs) x)
       by_text None = tt
-      by_text (Some text) = by_number (policy_number text)
+      by_text (Some text) = type_same AccessControlPolicy (resource_of_id text zs) (resource_of_id text xs) (by_parts (id_parts text))
 
   -- an instance of a container whose greatest age is changed is seen with its end
   end_same : (s : ResourceData) → at s.number xs ≡ Some s → (has_bit home xs o retrieve_bit s || is_filled_in home xs o s) ≡ false → due (replaced (changed changes lt et r) xs) s ≡ due xs s

@@ -1,28 +1,24 @@
 -- What a change of a list has to leave alone, so that an originator still sees the same of two
 -- lists.
-use Rattle.std.specs.Prelude.{◌≡◌, ℕ, Bool, true, false, ◌&&◌, ◌||◌, List, [], ◌∷◌, map, Option}
-use Rattle.std.specs.Prelude.{Some, None, option_and_then, unwrap_or}
+use Rattle.std.specs.Prelude.{◌≡◌, ℕ, Bool, true, false, ◌||◌, List, [], ◌∷◌, map, Option}
+use Rattle.std.specs.Prelude.{Some, None, is_some, option_and_then, unwrap_or}
 use Rattle.std.specs.List.{list_any}
-use Rattle.std.specs.Option.{option_map_or}
 use Rattle.m2m_names.specs.declared.attributes.Attr.{Attr}
 use Rattle.m2m_names.specs.declared.attributes.Attr.TheVariants.{Acpi, Macp, Mia, Pv, Pvs}
 use Rattle.m2m_names.specs.declared.types.Ty.{Ty}
-use Rattle.m2m_names.specs.declared.types.Ty.TheVariants.{AccessControlPolicy, ContentInstance}
+use Rattle.m2m_names.specs.declared.types.Ty.TheVariants.{ContentInstance}
 use Rattle.m2m_value.specs.Data.{Data}
-use Rattle.m2m_value.specs.View.{as_text}
 use Rattle.resource_model.specs.Attributes.{Row, with_value, without_value}
 use Rattle.resource_model.specs.Home.{HomeData}
-use Rattle.resource_model.specs.Resource.{ResourceData, is_ty, has_number}
+use Rattle.resource_model.specs.Resource.{ResourceData, is_ty}
 use Rattle.policy_eval.specs.Alike.{is_attr_in, id_attrs}
-use Rattle.policy_eval.specs.Rules.{policy_number, linked_ids}
+use Rattle.policy_eval.specs.Rules.{linked_ids, policy_of}
 use Rattle.policy_eval.specs.Rights.{create_bit, retrieve_bit, update_bit, grants}
 use Rattle.policy_eval.specs.Seen.{has_bit, seen_value}
 
--- the resource is a policy, and the id is its resource id
+-- the resource is a policy, and the id names it: so it does in a list of nothing else
 abbrev pub is_id_of : ResourceData → Data → Bool
-is_id_of p id =
-    is_ty p.ty AccessControlPolicy
-    && option_map_or (λ n. has_number n p) (option_and_then policy_number (as_text id)) false
+is_id_of p id = is_some (policy_of (p ∷ []) id)
 
 -- the resource names the policy
 abbrev pub does_link : ResourceData → ResourceData → Bool

@@ -15,7 +15,7 @@ use Rattle.m2m_value.specs.Data.{Data, number, text, list, object, elements_of, 
 use Rattle.m2m_value.specs.View.{as_list, as_number, as_object, as_text, member_of}
 use Rattle.resource_model.specs.Attributes.{value_of}
 use Rattle.resource_model.specs.Resource.{ResourceData, is_ty, ae_id, cse_id}
-use Rattle.tree_model.specs.Tree.{at}
+use Rattle.tree_model.specs.Tree.{at, of_type, resource_of_id, typed_at}
 
 -- ---- rules as they are written
 
@@ -82,13 +82,12 @@ policy_number id =
 
 -- the policy of a number
 abbrev pub policy_at : List ResourceData → ℕ → Option ResourceData
-policy_at nodes n =
-    option_and_then (λ (r : ResourceData). if is_ty r.ty AccessControlPolicy then Some r else None)
-    (at n nodes)
+policy_at nodes n = typed_at AccessControlPolicy n nodes
 
 -- the policy that an id names
 abbrev pub policy_named : List ResourceData → List ℕ → Option ResourceData
-policy_named nodes id = option_and_then (policy_at nodes) (policy_number id)
+policy_named nodes id =
+    option_and_then (of_type AccessControlPolicy) (resource_of_id id nodes)
 
 abbrev pub policy_of : List ResourceData → Data → Option ResourceData
 policy_of nodes id = option_and_then (policy_named nodes) (as_text id)

@@ -1,12 +1,10 @@
 //! Rules and policies as resources keep them.
 ghost use Rattle.std.specs.Prelude.{◌≡◌, codes, map, option_map};
-ghost use Rattle.m2m_names.specs.declared.types.Ty.TheVariants.{AccessControlPolicy};
-ghost use Rattle.resource_model.specs.Resource.{is_ty};
 ghost use Rattle.policy_eval.specs.Rules as spec;
 
-use m2m_names::{ALL_BITS, Attr, Ty, read_id};
+use m2m_names::{ALL_BITS, Attr, Ty};
 use m2m_value::Val;
-use tree_model::{Resource, Tree};
+use tree_model::{Resource, Tree, of_type, resource_of_id, typed_at};
 
 /// The member of an object.
 fn member_at<'a>(value: &'a Val, key: &[u8]) -> Option<&'a Val>
@@ -78,37 +76,19 @@ fn sum_of_bits(n: i64) -> u32
     }
 }
 
-/// The number in the resource id of a policy.
-fn policy_number(id: &[u8]) -> Option<u64>
-    ensures { result ≡ spec.policy_number id.now }
-{
-    let (ty, number) = read_id(id)?;
-    if is_policy(ty) { Some(number) } else { None }
-}
-
-fn is_policy(ty: Ty) -> bool
-    ensures { result ≡ is_ty ty AccessControlPolicy }
-{
-    ty.number() == Ty::AccessControlPolicy.number()
-}
-
 /// The policy of a number.
 pub fn policy_at<T: Tree>(tree: &T, number: u64) -> Option<&Resource>
     ensures { option_map (λ r. r.now) result ≡ spec.policy_at (T.nodes tree.now) number }
 {
-    let resource = tree.get(number)?;
-    if resource.is(Ty::AccessControlPolicy) {
-        Some(resource)
-    } else {
-        None
-    }
+    typed_at(tree, Ty::AccessControlPolicy, number)
 }
 
 /// The policy that an id names: one look-up.
 pub fn policy_named<'a, T: Tree>(tree: &'a T, id: &Val) -> Option<&'a Resource>
     ensures { option_map (λ r. r.now) result ≡ spec.policy_of (T.nodes tree.now) id.now }
 {
-    policy_at(tree, policy_number(id.as_text()?.entries())?)
+    let named = resource_of_id(tree, id.as_text()?.entries())?;
+    of_type(named, Ty::AccessControlPolicy)
 }
 
 /// The ids that an attribute of a resource lists.

@@ -14,7 +14,7 @@ use m2m_value::Val;
 use tree_model::{Home, Resource, Tree};
 
 /// Whether an entry of `acor` names the originator.
-fn is_named(home: &Home, o: &[u8], entries: &[Val]) -> bool
+fn is_subject(home: &Home, o: &[u8], entries: &[Val]) -> bool
     ensures { result ≡ spec.is_subject home.now o.now (named (texts_of entries.now)) }
 {
     for entry in entries {
@@ -30,7 +30,7 @@ fn is_named(home: &Home, o: &[u8], entries: &[Val]) -> bool
 fn with_rule(home: &Home, o: &[u8], bits: u32, rule: &Val) -> u32
     ensures { result ≡ spec.with_rule home.now o.now bits (spec_rules.stated_rule rule.now) }
 {
-    if is_named(home, o, entries_of(rule)) {
+    if is_subject(home, o, entries_of(rule)) {
         bits | bits_of(rule)
     } else {
         bits

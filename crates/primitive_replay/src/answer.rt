@@ -32,7 +32,7 @@ fn starved_reply(event: Event) -> Reply
 }
 
 /// Puts a request to an entity at a reading of the clock, and gives the reply.
-pub(crate) fn reply_to<T: Tree>(
+pub(crate) fn put_request<T: Tree>(
     alloc: Global,
     entity: &mut Entity<T>,
     reading: u64,

@@ -9,7 +9,7 @@ ghost use Rattle.primitive_replay.specs.Lines.{most_lines};
 ghost use Rattle.primitive_replay.specs.Script.{Replays, ReplaysFrom};
 ghost use Rattle.primitive_replay.specs.Way.{ReplaysUpTo, TakesLine, fault_status};
 
-use crate::answer::{put_reply, reply_to};
+use crate::answer::{put_reply, put_request};
 use crate::fault::LineFault;
 use crate::held::Held;
 use crate::line::{Line, MOST_LINES};
@@ -46,7 +46,7 @@ fn take_line<T: Tree, O: Sink, L: Link>(
             None
         }
         Line::Ask(request) => {
-            let reply = reply_to(alloc, entity, *reading, request);
+            let reply = put_request(alloc, entity, *reading, request);
             put_reply(alloc, out, reply)
         }
     }

@@ -10,7 +10,7 @@ use Rattle.m2m_names.specs.Ids.{id_text}
 use Rattle.m2m_names.specs.Name.{is_name}
 use Rattle.m2m_names.specs.Types.{ty_row}
 use Rattle.m2m_names.specs.declared.attributes.Attr.TheVariants.{Acpi, Aei, Con, Cr, Cs, Csi, Macp}
-use Rattle.m2m_names.specs.declared.attributes.Attr.TheVariants.{Mbs, Mia, Mni, Rn, St}
+use Rattle.m2m_names.specs.declared.attributes.Attr.TheVariants.{Rn, St}
 use Rattle.m2m_names.specs.declared.types.Ty.{Ty}
 use Rattle.m2m_names.specs.declared.types.Ty.TheVariants.{Ae, Container, ContentInstance}
 use Rattle.m2m_names.specs.declared.types.Ty.TheVariants.{PollingChannel, RemoteCse}
@@ -24,7 +24,7 @@ use Rattle.tree_model.specs.Shown.{own_cse_id, with_rows}
 use Rattle.tree_model.specs.Tree.{level_of, has_ae_id, has_channel, has_child, has_cse_id}
 use Rattle.attribute_rules.specs.Admission.{is_named}
 use Rattle.attribute_rules.specs.Contents.{named_text, wanted_in}
-use Rattle.container_limits.specs.Limits.{is_within}
+use Rattle.container_limits.specs.Limits.{is_within, limits_of}
 use Rattle.entity_model.specs.Entity.{EntityData}
 use Rattle.request_rules.specs.Policies.{link_row}
 use Rattle.request_rules.specs.Requests.{expiry_for}
@@ -124,8 +124,8 @@ is_below n bound = option_map_or (nat_lt n) bound true
 -- sizes is passed (TS-0001, 9.6.6)
 abbrev pub takes_instance : ResourceData → ℕ → Bool
 takes_instance container size =
-    nat_le size largest_size && is_within size (count_at Mbs container.attrs)
-    && is_below 0 (count_at Mni container.attrs) && is_below 0 (count_at Mia container.attrs)
+    nat_le size largest_size && is_within size (limits_of container).mbs
+    && is_below 0 (limits_of container).mni && is_below 0 (limits_of container).mia
 
 abbrev pub is_small : Creation → Bool
 is_small c = not (is_ty c.ty ContentInstance) || takes_instance c.parent (new_size c)

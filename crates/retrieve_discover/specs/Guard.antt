@@ -1,6 +1,6 @@
 -- By which right a reply tells of resources other than its target (TS-0001, 9.6.2).
 use Rattle.std.specs.Prelude.{◌≡◌, ℕ, Bool, ◌||◌, List, [], Contains, Some, is_none, IsTrue}
-use Rattle.std.specs.Prelude.{bytes_eq}
+use Rattle.std.specs.Prelude.{bytes_eq, false, true}
 use Rattle.std.specs.List.{list_all, list_any}
 use Rattle.std.specs.Option.{option_map_or}
 use Rattle.m2m_names.specs.Ids.{count_bound}
@@ -11,7 +11,7 @@ use Rattle.resource_model.specs.Resource.{ResourceData, id_of}
 use Rattle.policy_eval.specs.Rights.{discovery_bit, grants, retrieve_bit}
 use Rattle.tree_model.specs.Tree.{are_below, at, child_of, is_tree}
 use Rattle.addressing.specs.Laws.{have_free_names}
-use Rattle.addressing.specs.Names.{structured_of}
+use Rattle.retrieve_discover.specs.Findings.{address_in}
 use Rattle.retrieve_discover.specs.Told.{addresses_in, ids_below, references_in}
 
 -- ---- addresses of resources
@@ -20,7 +20,7 @@ use Rattle.retrieve_discover.specs.Told.{addresses_in, ids_below, references_in}
 -- (TS-0001, 9.3.1)
 abbrev pub is_address_of : List ResourceData → List ℕ → ResourceData → Bool
 is_address_of nodes address r =
-    bytes_eq address (id_of r) || bytes_eq address (structured_of r.number nodes)
+    bytes_eq address (address_in true nodes r) || bytes_eq address (address_in false nodes r)
 
 -- no resource without a parent, as the CSEBase is, is named as this one's resource id spells
 abbrev pub is_no_name : List ResourceData → ResourceData → Bool

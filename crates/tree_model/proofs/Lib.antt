@@ -10,3 +10,4 @@ pub mod RowLemmas
 pub mod StampLemmas
 pub mod ChangeLemmas
 pub mod ApartLemmas
+pub mod IdLemmas

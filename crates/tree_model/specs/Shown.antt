@@ -94,9 +94,13 @@ shown_rows home nodes r = with_rows (added_rows home nodes r) r.attrs
 abbrev pub members_of : List Row → List Entry
 members_of rows = map (λ row. (attr_short row.0, row.1)) rows
 
--- one member, named by the type, that has the object of these (TS-0004, 8.4)
+-- a member, named by the type, that has the object of these (TS-0004, 8.4)
+abbrev pub typed_member : Ty → List Entry → Entry
+typed_member ty members = (ty_member ty, object (pairs_of members))
+
+-- that member alone
 abbrev pub under_type : Ty → List Entry → Data
-under_type ty members = object (pairs_of ((ty_member ty, object (pairs_of members)) ∷ []))
+under_type ty members = object (pairs_of (typed_member ty members ∷ []))
 
 -- the same with the members of all attributes
 abbrev pub wrapped : Ty → List Row → Data

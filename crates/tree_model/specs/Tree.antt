@@ -3,11 +3,13 @@ use Rattle.std.specs.Prelude.{◌≡◌, ◌<◌, map, pos, is_some, slice_index
 use Rattle.std.specs.Prelude.{◌+◌, ◌-◌, ◌==◌, nat_le, nat_lt, min, List, [], ◌∷◌, ◌++◌, length}
 use Rattle.std.specs.Prelude.{filter, find, reverse, sum_by, Bool, true, false, not, ◌&&◌, ◌||◌}
 use Rattle.std.specs.Prelude.{if◌then◌else◌, Option, Some, None, option_map, unwrap_or}
+use Rattle.std.specs.Prelude.{option_and_then}
 use Rattle.std.specs.List.{list_all, list_any}
 use Rattle.std.specs.List.Sorted.{IsStrictlySortedBy}
 use Rattle.std.specs.Option.{option_map_or}
 use Rattle.std.specs.Ordering.{nat_cmp}
 use Rattle.std.specs.Str.{bytes_eq}
+use Rattle.m2m_names.specs.Ids.{id_parts}
 use Rattle.m2m_names.specs.Types.{does_take}
 use Rattle.m2m_names.specs.declared.attributes.Attr.TheVariants.{Mia, Cs, St}
 use Rattle.m2m_names.specs.declared.types.Ty.{Ty}
@@ -27,6 +29,19 @@ at n nodes = find (has_number n) nodes
 -- whether there is one
 abbrev pub has : ℕ → List ResourceData → Bool
 has n nodes = list_any (has_number n) nodes
+
+-- the resource, where it is of this type
+abbrev pub of_type : Ty → ResourceData → Option ResourceData
+of_type ty r = if is_ty r.ty ty then Some r else None
+
+-- the resource of a number, where it is of this type
+abbrev pub typed_at : Ty → ℕ → List ResourceData → Option ResourceData
+typed_at ty n nodes = option_and_then (of_type ty) (at n nodes)
+
+-- the resource that a resource id names: that of its number, where it is of its type
+abbrev pub resource_of_id : List ℕ → List ResourceData → Option ResourceData
+resource_of_id id nodes =
+    option_and_then (λ (p : Ty × ℕ). typed_at p.0 p.1 nodes) (id_parts id)
 
 -- it has this parent
 abbrev pub is_under : ℕ → ResourceData → Bool
@@ -226,9 +241,13 @@ due_under parent r =
 abbrev pub due : List ResourceData → ResourceData → Option ℕ
 due nodes r = due_under (at r.parent nodes) r
 
+-- by the first moment the second has come
+abbrev pub has_come : ℕ → ℕ → Bool
+has_come moment at = nat_le at moment
+
 -- it is due by then
 abbrev pub is_due_under : Option ResourceData → ℕ → ResourceData → Bool
-is_due_under parent moment r = option_map_or (λ at. nat_le at moment) (due_under parent r) false
+is_due_under parent moment r = option_map_or (has_come moment) (due_under parent r) false
 
 abbrev pub is_due : List ResourceData → ℕ → ResourceData → Bool
 is_due nodes moment r = is_due_under (at r.parent nodes) moment r

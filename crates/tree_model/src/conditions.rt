@@ -20,7 +20,7 @@ use resource_model::Resource;
 pub fn may_insert<T: Tree>(tree: &T, resource: &Resource) -> bool
     ensures { result ≡ may_stand (T.nodes tree.now) resource.now }
 {
-    is_above(tree, resource.number()) && has_place(tree, resource) && is_free(tree, resource)
+    is_above(tree, resource.number()) && is_placed(tree, resource) && is_free(tree, resource)
 }
 
 /// Whether the resource may replace the one of its number: that one has the same type, name,
@@ -59,10 +59,10 @@ fn is_above<T: Tree>(tree: &T, number: u64) -> bool
     ensures { result ≡ are_below number (T.nodes tree.now) }
 {
     let count = tree.len();
-    is_below(tree.nth(count.saturating_sub(1)), number)
+    is_lower(tree.nth(count.saturating_sub(1)), number)
 }
 
-fn is_below(last: Option<&Resource>, number: u64) -> bool
+fn is_lower(last: Option<&Resource>, number: u64) -> bool
     ensures { result ≡ option_map_or (λ (r : ResourceData). nat_lt r.number number) (option_map
         (λ r. r.now) last.entry) true }
 {
@@ -72,7 +72,7 @@ fn is_below(last: Option<&Resource>, number: u64) -> bool
     }
 }
 
-fn has_place<T: Tree>(tree: &T, resource: &Resource) -> bool
+fn is_placed<T: Tree>(tree: &T, resource: &Resource) -> bool
     ensures { result ≡ is_placed (T.nodes tree.now) resource.now }
 {
     stands_in(tree, resource.parent()) || is_first_of(tree, resource)

@@ -2,6 +2,7 @@
 ghost use Rattle.std.specs.Prelude.{◌≡◌, ℕ, ◌<◌, List, [], ◌∷◌, ◌++◌, filter, Bool, IsTrue, Some};
 ghost use Rattle.std.specs.Prelude.{length, option_map};
 ghost use Rattle.std.specs.Option.{option_or};
+ghost use Rattle.m2m_names.specs.Ids.{count_bound};
 ghost use Rattle.m2m_names.specs.declared.attributes.Attr.{Attr};
 ghost use Rattle.m2m_names.specs.declared.attributes.Attr.TheVariants.{Cbs, Cni, Ri};
 ghost use Rattle.m2m_names.specs.declared.types.Ty.TheVariants.{Container};
@@ -12,7 +13,7 @@ ghost use Rattle.resource_model.specs.Resource.{ResourceData, ae_id, cse_id, id_
 ghost use Rattle.tree_model.specs.Shown.{added_rows, shown_rows, shown_count};
 ghost use Rattle.tree_model.specs.Tree.{at, line_of, replaced, without, is_spared, fits_in};
 ghost use Rattle.tree_model.specs.Tree.{is_tree, is_well_formed, standing, are_quiet, live};
-ghost use Rattle.tree_model.specs.Tree.{instances_of, sizes_of};
+ghost use Rattle.tree_model.specs.Tree.{instances_of, resource_of_id, sizes_of};
 
 /// A removal takes exactly the resources that are picked, and those with a picked resource among
 /// the ones that they stand under.
@@ -41,6 +42,12 @@ pub fn a_well_formed_tree_stays_one()
         → IsTrue (is_well_formed (replaced r nodes)) }
     ensures removed { (picks : ResourceData → Bool) (nodes : List ResourceData)
         → IsTrue (is_well_formed nodes) → IsTrue (is_well_formed (without picks nodes)) }
+{}
+
+/// A resource is named by its resource id.
+pub fn a_resource_is_named_by_its_id()
+    ensures { (nodes : List ResourceData) (r : ResourceData) → r.number < count_bound
+        → at r.number nodes ≡ Some r → resource_of_id (id_of r) nodes ≡ Some r }
 {}
 
 /// No two resources share what stands once: siblings their name, application entities their AE-ID,

@@ -24,6 +24,7 @@ mod placed;
 mod showing;
 mod steps;
 mod tree;
+mod typed;
 mod walk;
 
 pub use conditions::{
@@ -32,7 +33,7 @@ pub use conditions::{
 pub use expiry::{due, due_under, earlier, is_due, lowered_age};
 pub use laws::{
     a_line_goes_up_from_parent_to_parent, a_removal_takes_what_is_picked_and_what_stands_below,
-    a_well_formed_tree_stays_one, all_is_live_while_it_is_quiet,
+    a_resource_is_named_by_its_id, a_well_formed_tree_stays_one, all_is_live_while_it_is_quiet,
     an_attribute_is_shown_as_added_or_else_as_kept, no_two_resources_share_what_stands_once,
 };
 pub use placed::{child_at, instance_at, subscription_at};
@@ -44,4 +45,5 @@ pub use showing::{attributes, content, members_of, shown, under_type};
 pub use std::alloc::AllocError as OutOfMemory;
 pub use steps::{Steps, child_named};
 pub use tree::Tree;
+pub use typed::{of_type, resource_of_id, typed_at};
 pub use walk::{Walk, over};

@@ -1,5 +1,5 @@
 //! The attributes of a resource as they are shown.
-ghost use Rattle.std.specs.Prelude.{◌≡◌, ◌≤◌, ◌++◌, codes, map, take, IfOk, OnOk, IsUtf8};
+ghost use Rattle.std.specs.Prelude.{◌≡◌, ◌≤◌, ◌++◌, map, take, IfOk, OnOk, IsUtf8};
 ghost use Rattle.m2m_names.specs.Attributes.{attr_short};
 ghost use Rattle.m2m_names.specs.Stamps.{last_moment};
 ghost use Rattle.m2m_names.specs.Types as types;
@@ -9,6 +9,7 @@ ghost use Rattle.resource_model.specs.Attributes.{with_value};
 ghost use Rattle.resource_model.specs.Resource.{is_ty};
 ghost use Rattle.tree_model.specs.Shown.{shown_types, shown_moment, shown_ty, shown_count};
 ghost use Rattle.tree_model.specs.Shown.{parent_id, common_rows, base_rows, expiry_rows};
+ghost use Rattle.tree_model.specs.Shown.{own_cse_id};
 ghost use Rattle.tree_model.specs.Shown.{container_rows, default_row, group_rows, added_rows};
 ghost use Rattle.tree_model.specs.Shown.{with_rows, shown_rows, wrapped, attributes_of};
 ghost use Rattle.tree_model.specs.Shown as spec;
@@ -148,7 +149,7 @@ fn add_common<T: Tree>(
         (T.nodes tree.now) resource.now) attrs.old) }
 {
     add_before_type(alloc, tree, resource, attrs)?;
-    attrs.set(Attr::Ty, number_of(resource.ty()))
+    attrs.set(Attr::Ty, shown_ty(resource.ty()))
 }
 
 // What the CSEBase shows, put in the order of the names, so that little is moved.
@@ -162,11 +163,11 @@ fn add_to_base<T: Tree>(
     ensures { OnOk result (attrs.new ≡ with_rows
         (common_rows (T.nodes tree.now) base.now ++ base_rows home.now) attrs.old) }
 {
-    attrs.set(Attr::Csi, Val::of_text(cse_id(alloc, home)?))?;
+    attrs.set(Attr::Csi, Val::of_text(own_cse_id(alloc, home)?))?;
     attrs.set(Attr::Cst, Val::of_num(home.cst()))?;
     add_before_type(alloc, tree, base, attrs)?;
-    attrs.set(Attr::Srt, all_types(alloc)?)?;
-    attrs.set(Attr::Ty, number_of(base.ty()))
+    attrs.set(Attr::Srt, shown_types(alloc)?)?;
+    attrs.set(Attr::Ty, shown_ty(base.ty()))
 }
 
 fn add_counts<T: Tree>(tree: &T, resource: &Resource, attrs: &mut Attrs) -> Result<(), OutOfMemory>
@@ -236,8 +237,8 @@ fn id_of_parent<T: Tree>(alloc: Global, tree: &T, resource: &Resource) -> Result
     }
 }
 
-fn cse_id(alloc: Global, home: &Home) -> Result<Text, OutOfMemory>
-    ensures value { IfOk result (λ t. t ≡ codes "/" ++ home.now.csi) }
+fn own_cse_id(alloc: Global, home: &Home) -> Result<Text, OutOfMemory>
+    ensures value { IfOk result (λ t. t ≡ own_cse_id home.now) }
     ensures utf8 { IfOk result (λ t. IsUtf8 t) }
 {
     let csi = home.csi().entries();
@@ -247,13 +248,13 @@ fn cse_id(alloc: Global, home: &Home) -> Result<Text, OutOfMemory>
     Ok(Text::of(bytes))
 }
 
-fn number_of(ty: Ty) -> Val
+fn shown_ty(ty: Ty) -> Val
     ensures { result ≡ shown_ty ty }
 {
     Val::of_num(ty.number() as i64)
 }
 
-fn all_types(alloc: Global) -> Result<Val, OutOfMemory>
+fn shown_types(alloc: Global) -> Result<Val, OutOfMemory>
     ensures { IfOk result (λ v. v ≡ shown_types) }
 {
     Ok(Val::of_list(Items::of(all_numbers(alloc)?)))
@@ -264,7 +265,7 @@ fn all_numbers(alloc: Global) -> Result<Vec<Val>, OutOfMemory>
 {
     let mut numbers = Vec::with_capacity(alloc, Ty::ALL.len())?;
     for ty in &Ty::ALL {
-        numbers.push_reserved(number_of(*ty));
+        numbers.push_reserved(shown_ty(*ty));
     }
     Ok(numbers)
 }

@@ -10,14 +10,14 @@ pub returns-in-Err-OutOfMemory-clause-turns : goal.returns-in-Err-OutOfMemory-cl
 returns-in-Err-OutOfMemory-clause-turns g c =
     unheard_turn g.D.Desk.grown g.met.D.Desk.grown_by_nothing c.args.place c.args.seat.now _ c.args.frame.now
 
-pub returns-in_default-reply_to-clause-turns : goal.returns-in_default-reply_to-clause-turns
-returns-in_default-reply_to-clause-turns g c =
-    starved_turn g.D.Desk.grown c.args.place c.args.seat.now c.reply_to.new.seat _ _ c.args.frame.now
-    c.reply_to.result c.reply_to.ensures.hears refl
+pub returns-in_default-reply_for-clause-turns : goal.returns-in_default-reply_for-clause-turns
+returns-in_default-reply_for-clause-turns g c =
+    starved_turn g.D.Desk.grown c.args.place c.args.seat.now c.reply_for.new.seat _ _ c.args.frame.now
+    c.reply_for.result c.reply_for.ensures.hears refl
 
 pub returns-in-Ok-put_reply-clause-turns : goal.returns-in-Ok-put_reply-clause-turns
 returns-in-Ok-put_reply-clause-turns g c =
-    turned g.D.Desk.grown c.args.place c.args.seat.now c.reply_to.new.seat _ _
+    turned g.D.Desk.grown c.args.place c.args.seat.now c.reply_for.new.seat _ _
     c.args.frame.now c.in-Ok.reply (Some Closed) c.in-Ok.ensures.hears (
       sym c.closes-close.ensures ∙ c.if-close.true,
       subst (λ (b : Bool). Appends (g.X.Sink.written c.args.conn.now) (g.X.Sink.written c.put_reply.new.conn) (reply_text c.in-Ok.reply b)) c.closes-close.ensures c.in-Ok-put_reply.ensures.ok,
@@ -25,7 +25,7 @@ returns-in-Ok-put_reply-clause-turns g c =
 
 pub returns-in-Ok-2-clause-turns : goal.returns-in-Ok-2-clause-turns
 returns-in-Ok-2-clause-turns g c =
-    turned g.D.Desk.grown c.args.place c.args.seat.now c.reply_to.new.seat _ _
+    turned g.D.Desk.grown c.args.place c.args.seat.now c.reply_for.new.seat _ _
     c.args.frame.now c.in-Ok.reply _ c.in-Ok.ensures.hears (
       sym c.closes-close.ensures ∙ c.if-close.false,
       subst (λ (b : Bool). Appends (g.X.Sink.written c.args.conn.now) (g.X.Sink.written c.put_reply.new.conn) (reply_text c.in-Ok.reply b)) c.closes-close.ensures c.in-Ok-2.ensures.ok,
@@ -34,6 +34,6 @@ returns-in-Ok-2-clause-turns g c =
 pub returns-clause-turns : goal.returns-clause-turns
 returns-clause-turns g c =
     rw c.from.ensures
-    (turned g.D.Desk.grown c.args.place c.args.seat.now c.reply_to.new.seat _ _ c.args.frame.now c.in-Ok.reply _ c.in-Ok.ensures.hears
+    (turned g.D.Desk.grown c.args.place c.args.seat.now c.reply_for.new.seat _ _ c.args.frame.now c.in-Ok.reply _ c.in-Ok.ensures.hears
     (put_says c.args.place c.args.frame.now _ _ _ c.in-Err.fault
     (subst (λ (b : Bool). AppendsPrefix (g.X.Sink.written c.args.conn.now) (g.X.Sink.written c.put_reply.new.conn) (reply_text c.in-Ok.reply b)) c.closes-close.ensures c.in-Err.ensures.err)))

@@ -34,7 +34,7 @@ returns-in-Ok-End-clause-next g c =
 pub returns-in-Err-NoFrame-clause-next : goal.returns-in-Err-NoFrame-clause-next
 returns-in-Err-NoFrame-clause-next g c =
     let next = rw c.in-Err-NoFrame.field-0-is at c.in-Err-NoFrame.ensures.next in
-    rw (c.refuse.ensures.left, ← c.read_next.ensures.written) (serves_refused g.D.Desk.grown g.met.D.Desk.grown_by_nothing c.args.place c.args.seat.now _ _ _ _ _ _ _ _ c.refuse.result next.kept (next.small c.requires.few) (next.no_frame c.requires.still_open refl) c.refuse.ensures.refuses)
+    rw (c.end_refused.ensures.left, ← c.read_next.ensures.written) (serves_refused g.D.Desk.grown g.met.D.Desk.grown_by_nothing c.args.place c.args.seat.now _ _ _ _ _ _ _ _ c.end_refused.result next.kept (next.small c.requires.few) (next.no_frame c.requires.still_open refl) c.end_refused.ensures.refuses)
 
 pub returns-in-Err-ReadFault-clause-next : goal.returns-in-Err-ReadFault-clause-next
 returns-in-Err-ReadFault-clause-next g c =

@@ -2,7 +2,7 @@ use Rattle.std.proofs.Common.{◌≡◌, ◌++◌, rules, sym, subst, codes}
 use Rattle.std.proofs.lemmas.Str.{IsUtf8-append}
 use Rattle.std.specs.Str.{IsUtf8}
 use Rattle.tree_model.proofs.ShownLemmas.{slash_utf8}
-use Rattle.tree_model.proofs.showing.cse_id.Goals as goal
+use Rattle.tree_model.proofs.showing.own_cse_id.Goals as goal
 
 pub returns-clause-utf8 : goal.returns-clause-utf8
 returns-clause-utf8 c =

@@ -1,17 +1,17 @@
 use Rattle.std.proofs.Common.{◌≡◌, List, [], ◌∷◌, IfOk, refl, sym, ap, subst, ◌∙◌}
+use Rattle.std.specs.Result.{result_ok}
 use Rattle.primitive_json.specs.declared.reply.ReplyParts.{ReplyParts}
 use Rattle.primitive_json.specs.declared.request.RequestParts.{RequestParts}
 use Rattle.turn_desk.proofs.GrowthLemmas.{AsksAll-nothing, AsksAll-ask}
 use Rattle.cse_server.specs.Replies.{GivesReplies}
-use Rattle.cse_server.specs.Talk.{bound}
 use Rattle.cse_server.proofs.RepliesLemmas.{gives-one}
 use Rattle.cse_server.proofs.RequestLemmas.{binds, requests_in-one, reply_for-one}
 use Rattle.cse_server.proofs.WayLemmas.{Tells-nil}
-use Rattle.cse_server.proofs.connection.reply_to.Goals as goal
+use Rattle.cse_server.proofs.connection.reply_for.Goals as goal
 
 pub returns-in-Err-clause-hears : goal.returns-in-Err-clause-hears
 returns-in-Err-clause-hears g c =
-    let none = sym c.requires.asked ∙ ap bound c.in-Err.is in
+    let none = sym c.requires.asked ∙ ap result_ok c.in-Err.is in
     record {
       asks = record {
         readings = [];
@@ -28,7 +28,7 @@ returns-in-Err-clause-hears g c =
 
 pub returns-clause-hears : goal.returns-clause-hears
 returns-clause-hears g c =
-    let some = sym c.requires.asked ∙ ap bound c.in-Ok.is in
+    let some = sym c.requires.asked ∙ ap result_ok c.in-Ok.is in
     let by = c.reply_by.ensures.replies c.in-Ok.request (binds c.args.frame.now c.in-Ok.request some) in
     record {
       asks = record {

@@ -2,7 +2,7 @@ use Rattle.std.proofs.Common.{◌≡◌, drop}
 use Rattle.std.specs.List.{list_any}
 use Rattle.policy_eval.specs.Originators.{does_name}
 use Rattle.policy_eval.specs.Rules.{texts_of}
-use Rattle.policy_eval.proofs.rights.is_named.Given as goal
+use Rattle.policy_eval.proofs.rights.is_subject.Given as goal
 
 abbrev pub invariant-loop-entry : goal.invariant-loop-entry
 invariant-loop-entry l =

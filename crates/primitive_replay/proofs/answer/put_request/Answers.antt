@@ -1,7 +1,7 @@
 use Rattle.std.proofs.Common.{[], refl, sym, subst}
 use Rattle.cse_machine.specs.declared.event.Outcome.{Outcome}
 use Rattle.cse_server.specs.Replies.{GivesReply}
-use Rattle.primitive_replay.proofs.answer.reply_to.Goals as goal
+use Rattle.primitive_replay.proofs.answer.put_request.Goals as goal
 
 pub returns-in-Starved : goal.returns-in-Starved
 returns-in-Starved g c = record {
