@@ -17,3 +17,6 @@ pub cost_of_all : (before first now each : ℕ) (name : List ℕ) (names : List 
 cost_of_all before first now each name names one rest =
     let more : 1 + length names ≤ length (name ∷ names) = omega arith in
     omega (arith, one, rest, mul-le-mul_left each more)
+
+-- what looking for a name costs
+pub ruleset costs_of_looking = (cost_of_first, cost_of_all)

@@ -312,3 +312,6 @@ reversed_names (t ∷ names) =
 
 pub structured_from : (nodes : List ResourceData) (n : ℕ) (names : List (Bor (List ℕ))) → map (λ x. x.now) names ≡ map (λ (s : ResourceData). s.name) (line_of n nodes) → joined (map (λ x. x.now) (reverse names)) ≡ structured_of n nodes
 structured_from nodes n names is = ap joined (reversed_names names ∙ ap reverse is)
+
+-- how the names grow from a resource up to the CSEBase
+pub ruleset names_upwards = (line_push, line_done, parent_below, line_of_empty)

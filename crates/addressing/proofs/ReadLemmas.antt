@@ -63,3 +63,12 @@ names_fail names parts rest all name before is none = false_from_ne_true _ (λ a
 
 pub all_read : (names all : List (List ℕ)) → names ++ [] ≡ all → names ≡ all
 all_read names all is = sym (append-nil names) ∙ is
+
+-- an address in absolute form, by whether a CSE is said
+pub ruleset by_provider_cases = (by_provider_cut, by_provider_alone)
+
+-- an address with a CSE, by whether anything is said behind it
+pub ruleset by_cse_cases = (by_cse_cut, by_cse_alone)
+
+-- the names so far, and where one is none
+pub ruleset names_so_far = (names_push, parts_push, names_fail, all_read)

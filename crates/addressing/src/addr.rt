@@ -69,7 +69,7 @@ fn of_segments(alloc: Global, segments: &[Text], home: &Home) -> Result<Text, Al
     if segments.is_empty() {
         slashed(alloc, home.csi().entries())
     } else {
-        with_slashes(alloc, &references(alloc, segments)?)
+        with_slashes(alloc, &borrowed(alloc, segments)?)
     }
 }
 
@@ -83,7 +83,7 @@ pub(crate) fn slashed(alloc: Global, bytes: &[u8]) -> Result<Text, AllocError>
     Ok(Text::of(text))
 }
 
-fn references(alloc: Global, texts: &[Text]) -> Result<Vec<&Text>, AllocError>
+fn borrowed(alloc: Global, texts: &[Text]) -> Result<Vec<&Text>, AllocError>
     ensures { IfOk result (λ all. map (λ t. t.now) all.items ≡ texts.now) }
 {
     texts.iter().collect(alloc)

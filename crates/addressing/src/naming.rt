@@ -21,7 +21,7 @@ pub fn structured<T: Tree>(alloc: Global, tree: &T, number: u64) -> Result<Text,
 }
 
 /// The names of a resource, of its parent, and so on up to the CSEBase.
-#[tactic(auto, using(crate::proofs::NameLemmas::line_push, crate::proofs::NameLemmas::line_done, crate::proofs::NameLemmas::parent_below, crate::proofs::NameLemmas::line_of_empty))]
+#[tactic(auto, using(crate::proofs::NameLemmas::names_upwards))]
 fn names_up<T: Tree>(alloc: Global, tree: &T, number: u64) -> Result<Vec<&Text>, AllocError>
     ensures { IfOk result (λ names. map (λ t. t.now) names.items
         ≡ map (λ r. r.name) (line_of number (T.nodes tree.now))) }

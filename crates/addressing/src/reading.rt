@@ -38,7 +38,7 @@ fn shaped(alloc: Global, text: &[u8], home: &Home) -> Result<Addr, AddrFault>
 }
 
 /// What stands before the first slash, and behind it.
-fn cut(text: &[u8]) -> Option<(&[u8], &[u8])>
+fn cut_at(text: &[u8]) -> Option<(&[u8], &[u8])>
     ensures parts { option_map (λ c. (c.0.now, c.1.now)) result ≡ spec.cut_at text.now }
     ensures shorter { IfSome result (λ c. length c.1.now < length text.now) }
 {
@@ -65,11 +65,11 @@ fn is_slash(byte: u8) -> bool
 }
 
 /// A provider, and behind it the slash of an SP-relative address.
-#[tactic(auto, using(crate::proofs::ReadLemmas::by_provider_cut, crate::proofs::ReadLemmas::by_provider_alone))]
+#[tactic(auto, using(crate::proofs::ReadLemmas::by_provider_cases))]
 fn by_provider(alloc: Global, rest: &[u8], home: &Home) -> Result<Addr, AddrFault>
     ensures { GivesAddress result (unless_shapeless (spec.by_provider home.now rest.now)) }
 {
-    match cut(rest) {
+    match cut_at(rest) {
         Some((sp, behind)) => of_provider(alloc, sp, behind, home),
         None => Err(AddrFault::Shape),
     }
@@ -93,11 +93,11 @@ fn of_provider(alloc: Global, sp: &[u8], behind: &[u8], home: &Home) -> Result<A
 }
 
 /// A CSE-ID without its slash, and behind it nothing, or a slash and names.
-#[tactic(auto, using(crate::proofs::ReadLemmas::by_cse_cut, crate::proofs::ReadLemmas::by_cse_alone))]
+#[tactic(auto, using(crate::proofs::ReadLemmas::by_cse_cases))]
 fn by_cse(alloc: Global, rest: &[u8], home: &Home) -> Result<Addr, AddrFault>
     ensures { GivesAddress result (unless_shapeless (spec.by_cse home.now rest.now)) }
 {
-    match cut(rest) {
+    match cut_at(rest) {
         Some((csi, behind)) => under(alloc, rest, csi, behind, home),
         None => alone(alloc, rest, home),
     }
@@ -155,7 +155,7 @@ fn by_names(alloc: Global, text: &[u8]) -> Result<Addr, AddrFault>
     Ok(Addr::Local(names_in(alloc, text)?))
 }
 
-#[tactic(auto, using(crate::proofs::ReadLemmas::names_push, crate::proofs::ReadLemmas::parts_push, crate::proofs::ReadLemmas::names_fail, crate::proofs::ReadLemmas::all_read))]
+#[tactic(auto, using(crate::proofs::ReadLemmas::names_so_far))]
 fn names_in(alloc: Global, text: &[u8]) -> Result<Labels, AddrFault>
     ensures ok { IfOk result (λ names.
         (names ≡ between_slashes text.now) × IsTrue (are_names (between_slashes text.now))) }
@@ -182,7 +182,7 @@ fn first_part(text: &[u8]) -> (&[u8], Option<&[u8]>)
         ≡ result.0.now ∷ parts_left (option_map (λ t. t.now) result.1) }
     ensures shorter { IfSome result.1 (λ t. length t.now < length text.now) }
 {
-    match cut(text) {
+    match cut_at(text) {
         Some((front, behind)) => (front, Some(behind)),
         None => (text, None),
     }

@@ -46,7 +46,7 @@ fn resolved<T: Tree, L: Ledger>(tree: &T, addr: &Addr, blank: Blank) -> Option<S
     resolve(tree, addr, &mut steps)
 }
 
-#[tactic(auto, using(crate::proofs::CostLemmas::cost_of_first, crate::proofs::CostLemmas::cost_of_all))]
+#[tactic(auto, using(crate::proofs::CostLemmas::costs_of_looking))]
 fn spot_of<T: Tree, L: Ledger>(tree: &T, segments: &[Text], steps: &mut Steps<L>) -> Option<Spot>
     ensures value { result ≡ spec.spot_of segments.now (T.nodes tree.now) }
     ensures counted { steps.old ≤ steps.new }

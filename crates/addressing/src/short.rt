@@ -39,7 +39,7 @@ fn without_provider<'a>(text: &'a [u8], home: &Home) -> &'a [u8]
 fn behind_provider<'a>(text: &'a [u8], home: &Home) -> Option<&'a [u8]>
     ensures { option_map (λ t. t.now) result ≡ spec.behind_provider home.now text.now }
 {
-    behind(behind(text, b"//")?, home.sp().entries())
+    behind_front(behind_front(text, b"//")?, home.sp().entries())
 }
 
 /// Behind own CSE-ID and `/`; else the text.
@@ -55,11 +55,14 @@ fn without_cse<'a>(text: &'a [u8], home: &Home) -> &'a [u8]
 fn behind_cse<'a>(text: &'a [u8], home: &Home) -> Option<&'a [u8]>
     ensures { option_map (λ t. t.now) result ≡ spec.behind_cse home.now text.now }
 {
-    behind(behind(behind(text, b"/")?, home.csi().entries())?, b"/")
+    behind_front(
+        behind_front(behind_front(text, b"/")?, home.csi().entries())?,
+        b"/",
+    )
 }
 
 /// What stands behind a front, where the text has it.
-fn behind<'a>(text: &'a [u8], front: &[u8]) -> Option<&'a [u8]>
+fn behind_front<'a>(text: &'a [u8], front: &[u8]) -> Option<&'a [u8]>
     ensures { option_map (λ t. t.now) result ≡ spec.behind front.now text.now }
 {
     if text.starts_with(front) {

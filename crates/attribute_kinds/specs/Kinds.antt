@@ -53,12 +53,16 @@ is_rules es =
     are_keys_among (acr_name ∷ []) es
     && has_member acr_name (is_list_of (is_object_of is_rule)) es
 
--- criteria of notification: at most `net`, a list, not empty, of kinds of event, 1 to 4, and `atr`,
--- a list of labels (TS-0001, 9.6.8)
+-- a kind of event, 1 to 4 (TS-0001, 9.6.8)
+abbrev pub is_event_kind : ℕ → Bool
+is_event_kind n = is_in_range 1 4 n
+
+-- criteria of notification: at most `net`, a list, not empty, of kinds of event, and `atr`, a list of
+-- labels (TS-0001, 9.6.8)
 abbrev pub is_criteria : List Entry → Bool
 is_criteria es =
     are_keys_among (codes "net" ∷ codes "atr" ∷ []) es
-    && may_have_member (codes "net") (is_some_of (is_count_of (is_in_range 1 4))) es
+    && may_have_member (codes "net") (is_some_of (is_count_of is_event_kind)) es
     && may_have_member (codes "atr") (is_list_of is_label) es
 
 -- the type of a group's members: 0 for any, which is the profile's, or the number of a type

@@ -1,6 +1,5 @@
 //! Values that are lists.
 ghost use Rattle.std.specs.Prelude.{◌≡◌, is_some, false};
-ghost use Rattle.std.specs.Int.{is_in_range};
 ghost use Rattle.std.specs.List.{list_all};
 ghost use Rattle.std.specs.Option.{option_map_or};
 ghost use Rattle.m2m_names.specs.Name as names;
@@ -36,7 +35,7 @@ fn are_originators(values: &[Val]) -> bool
 }
 
 fn are_event_kinds(values: &[Val]) -> bool
-    ensures { result ≡ list_all (shapes.is_count_of (is_in_range 1 4)) values.now }
+    ensures { result ≡ list_all (shapes.is_count_of spec.is_event_kind) values.now }
 {
     values.iter().all(|value| is_number_within(1, 4, value))
 }
@@ -109,7 +108,7 @@ pub fn is_originators(value: &Val) -> bool
 
 /// A list, not empty, of kinds of event: 1 to 4.
 pub fn is_event_kinds(value: &Val) -> bool
-    ensures { result ≡ shapes.is_some_of (shapes.is_count_of (is_in_range 1 4)) value.now }
+    ensures { result ≡ shapes.is_some_of (shapes.is_count_of spec.is_event_kind) value.now }
 {
     match list_in(value) {
         Some(values) => 0 < values.len() && are_event_kinds(values),

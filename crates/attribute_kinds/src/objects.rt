@@ -123,7 +123,7 @@ pub fn is_rules(value: &Val) -> bool
 
 fn may_have_event_kinds(members: &Members) -> bool
     ensures { result ≡ shapes.may_have_member (codes "net")
-        (shapes.is_some_of (shapes.is_count_of (is_in_range 1 4))) members.now }
+        (shapes.is_some_of (shapes.is_count_of spec.is_event_kind)) members.now }
 {
     match members.get(b"net") {
         Some(value) => is_event_kinds(value),

@@ -28,7 +28,7 @@ pub fn attributes_in(ty: Ty, content: &Val) -> Option<&Members>
     only_value(ty.member(), content.as_obj()?.entries())?.as_obj()
 }
 
-fn members_of(value: Val) -> Option<Members>
+fn into_members(value: Val) -> Option<Members>
     ensures { result ≡ views.as_object value }
 {
     match value.into_node() {
@@ -56,7 +56,7 @@ fn take_only(name: &str, members: Members) -> Option<Val>
 pub fn take_attributes(ty: Ty, content: Val) -> Option<Members>
     ensures { result ≡ spec.attributes_in ty content }
 {
-    members_of(take_only(ty.member(), members_of(content)?)?)
+    into_members(take_only(ty.member(), into_members(content)?)?)
 }
 
 fn is_named(attr: Attr, members: &Members) -> bool

@@ -102,7 +102,7 @@ fn kept_row(key: &Text, value: Val) -> Option<(Attr, Val)>
 }
 
 // Takes what a member of a creation says: the name, or a row.
-fn keep(
+fn keep_member(
     name: &mut Option<Text>,
     rows: &mut Vec<(Attr, Val)>,
     key: &Text,
@@ -132,7 +132,7 @@ pub fn wanted_in(alloc: Global, members: Members) -> Result<Wanted, OutOfMemory>
     let mut rows = Vec::with_capacity(alloc, members.entries().len() + ASSIGNED)?;
     let mut name = None;
     for (key, value) in members.into_vec() {
-        keep(&mut name, &mut rows, &key, value)?;
+        keep_member(&mut name, &mut rows, &key, value)?;
     }
     Ok(Wanted {
         name,

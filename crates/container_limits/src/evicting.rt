@@ -176,12 +176,12 @@ fn push_gone(
         (option_to_list (option_map (λ r. r.now) resource.entry))) ≢ []) }
 {
     match resource {
-        Some(resource) => push_number(numbers, resource, outside, mia, moment),
+        Some(resource) => push_if_it_goes(numbers, resource, outside, mia, moment),
         None => Ok(()),
     }
 }
 
-fn push_number(
+fn push_if_it_goes(
     numbers: &mut Vec<u64>,
     resource: &Resource,
     outside: bool,

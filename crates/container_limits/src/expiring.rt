@@ -55,12 +55,12 @@ fn push_overdue<T: Tree>(
         (option_to_list (slice_get (T.nodes tree.now) k))) ≢ []) }
 {
     match tree.nth(k) {
-        Some(resource) => push_number(numbers, tree, resource, moment),
+        Some(resource) => push_if_overdue(numbers, tree, resource, moment),
         None => Ok(()),
     }
 }
 
-fn push_number<T: Tree>(
+fn push_if_overdue<T: Tree>(
     numbers: &mut Vec<u64>,
     tree: &T,
     resource: &Resource,

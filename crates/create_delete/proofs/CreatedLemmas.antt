@@ -304,3 +304,6 @@ wanted_is ty content es named = ap (λ (o : Option (List Entry)). wanted_in (unw
 
 pub last_is_moment : (e : EntityData) → IsSoundEntity e → e.last ≤ last_moment
 last_is_moment e sound = (let most : e.last ≤ last_reading = sound.last in omega arith)
+
+-- the parts of what a creation makes
+pub ruleset parts_of_the_created = (few_numbers, small_contents, wanted_is, last_is_moment)

@@ -135,3 +135,6 @@ deletion_keeps e o request n r sound left = by_fault (fault_at Delete e o reques
     by_fault None is =
         spared_found (is_spared (has_number n) e.nodes r.number) (at r.number e.nodes) r
         (sym (at-without (has_number n) r.number e.nodes (tree_from_well_formed e.nodes sound.tree)) ∙ ap (at r.number) (sym (done_on e o request n is).after) ∙ left)
+
+-- a deletion that is done, and one that is refused
+pub ruleset deletion_cases = (delete_done, deletable, refused_at)

@@ -57,3 +57,9 @@ all_removed numbers i after first tree past held =
 
 pub one_less_is_tree : (n : ℕ) (nodes : List ResourceData) → is_tree nodes ≡ true → is_tree (without_all (n ∷ []) nodes) ≡ true
 one_less_is_tree n nodes tree = is_tree-without (is_numbered_in (n ∷ [])) nodes tree
+
+-- what is removed so far
+pub ruleset removals_so_far = (one_more, nothing_removed)
+
+-- a resource that is there, and one that is not
+pub ruleset removal_cases = (one_removed, none_removed, one_less_is_tree)

@@ -121,7 +121,7 @@ pub(crate) fn link<T: Tree>(
 }
 
 // All that it keeps beside what the content gives it.
-fn fill<T: Tree>(
+fn add_besides<T: Tree>(
     alloc: Global,
     entity: &Entity<T>,
     o: &[u8],
@@ -153,7 +153,7 @@ fn moments_at(moment: u64, et: Option<u64>) -> Moments
 }
 
 /// The resource that a creation makes which no place refuses, whose content names these attributes.
-#[tactic(auto, using(crate::proofs::CreatedLemmas::few_numbers, crate::proofs::CreatedLemmas::small_contents, crate::proofs::CreatedLemmas::wanted_is, crate::proofs::CreatedLemmas::last_is_moment))]
+#[tactic(auto, using(crate::proofs::CreatedLemmas::parts_of_the_created))]
 pub(crate) fn new_resource<T: Tree>(
     alloc: Global,
     entity: &Entity<T>,
@@ -175,7 +175,7 @@ pub(crate) fn new_resource<T: Tree>(
     let name = new_name(alloc, ty, entity.next, wanted.name)?;
     let owner = new_owner(alloc, o, ty, entity.next)?;
     let mut attrs = wanted.attrs;
-    fill(alloc, entity, o, ty, parent, members, &mut attrs)?;
+    add_besides(alloc, entity, o, ty, parent, members, &mut attrs)?;
     let number = entity.next;
     let parent = parent.number();
     Ok(Resource::of(number, ty, name, parent, owner, moments, attrs))

@@ -14,7 +14,7 @@ ghost use Rattle.create_delete.specs.Changing.{performed_at};
 ghost use Rattle.create_delete.specs.Joining.{gone_by, IsAllowed, MayJoin};
 
 use crate::building::{new_resource, next_state, tell_soundness};
-use crate::joining::{Filling, put};
+use crate::joining::{Filling, put_newcomer};
 use crate::pushing::pushed_out;
 use crate::telling::created_content;
 use entity_model::{Entity, refuse, reply_to};
@@ -221,6 +221,6 @@ fn apply<T: Tree>(entity: &mut Entity<T>, prepared: Prepared) -> Result<Reply, O
         (entity.new ≡ after_joining entity.old prepared.resource prepared.filling) }
     ensures err { OnErr result (entity.new ≡ entity.old) }
 {
-    put(entity, prepared.resource, prepared.filling)?;
+    put_newcomer(entity, prepared.resource, prepared.filling)?;
     Ok(prepared.reply)
 }

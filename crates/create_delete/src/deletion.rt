@@ -20,7 +20,7 @@ use tree_model::Tree;
 
 /// Deletes the resource of a number, with all that stands below it, for an originator in its short
 /// form, or refuses to; 4004 where there is none. Where memory runs out, nothing has changed.
-#[tactic(auto, using(crate::proofs::DeletionLemmas::delete_done, crate::proofs::DeletionLemmas::deletable, crate::proofs::PerformedLemmas::refused_at))]
+#[tactic(auto, using(crate::proofs::DeletionLemmas::deletion_cases))]
 pub fn delete<T: Tree>(
     alloc: Global,
     entity: &mut Entity<T>,

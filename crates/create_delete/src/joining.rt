@@ -23,7 +23,7 @@ pub(crate) struct Filling {
 }
 
 /// Puts a resource last, with what it does besides. Where memory runs out, nothing has changed.
-pub(crate) fn put<T: Tree>(
+pub(crate) fn put_newcomer<T: Tree>(
     entity: &mut Entity<T>,
     resource: Resource,
     filling: Option<Filling>,

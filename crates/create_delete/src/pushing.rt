@@ -49,7 +49,7 @@ pub(crate) fn pushed_by<T: Tree>(
 }
 
 /// Removes the resources of these numbers, with all that stands below them.
-#[tactic(auto, using(crate::proofs::PushingLemmas::one_more, crate::proofs::PushingLemmas::nothing_removed))]
+#[tactic(auto, using(crate::proofs::PushingLemmas::removals_so_far))]
 pub(crate) fn remove_all<T: Tree>(tree: &mut T, numbers: &[u64])
     requires { IsTrue (is_tree (T.nodes tree.old)) }
     ensures { T.nodes tree.new ≡ spec.without_all numbers.now (T.nodes tree.old) }
@@ -59,7 +59,7 @@ pub(crate) fn remove_all<T: Tree>(tree: &mut T, numbers: &[u64])
     }
 }
 
-#[tactic(auto, using(crate::proofs::PushingLemmas::one_removed, crate::proofs::PushingLemmas::none_removed, crate::proofs::PushingLemmas::one_less_is_tree))]
+#[tactic(auto, using(crate::proofs::PushingLemmas::removal_cases))]
 fn remove<T: Tree>(tree: &mut T, number: u64)
     requires { IsTrue (is_tree (T.nodes tree.old)) }
     ensures value { T.nodes tree.new ≡ spec.without_all (number ∷ []) (T.nodes tree.old) }

@@ -159,3 +159,6 @@ module _ {S O C L D : Type 0} where
     write_steady = λ _. refl;
     link = refl;
   }
+
+-- what each command does
+pub ruleset runs_each = (runs_http, runs_replay, runs_serve)

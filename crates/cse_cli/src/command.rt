@@ -40,7 +40,7 @@ fn asked_by<'a>(
 }
 
 /// Does a task at this home, and tells nobody how it ended.
-#[tactic(auto, using(crate::proofs::RunningLemmas::runs_http, crate::proofs::RunningLemmas::runs_replay, crate::proofs::RunningLemmas::runs_serve))]
+#[tactic(auto, using(crate::proofs::RunningLemmas::runs_each))]
 fn run_task<R, S: Source, O: Sink, D: Door + Send, C: Clock + Send, L: Link + Send>(
     rt: &R,
     alloc: Global,

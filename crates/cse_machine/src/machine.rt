@@ -202,7 +202,7 @@ fn operate<T: Tree>(
 {
     match request.parts().op {
         Op::Create => create(alloc, entity, o, request, number),
-        Op::Retrieve => read(alloc, entity, request, o, number),
+        Op::Retrieve => read_target(alloc, entity, request, o, number),
         Op::Update => update(alloc, entity, o, request, number),
         Op::Delete => delete(alloc, entity, o, request, number),
         Op::Notify => unreachable!(),
@@ -210,7 +210,7 @@ fn operate<T: Tree>(
 }
 
 // What reading it gives.
-fn read<T: Tree>(
+fn read_target<T: Tree>(
     alloc: Global,
     entity: &Entity<T>,
     request: &Request,

@@ -47,7 +47,7 @@ fn between_spaces(text: &[u8]) -> &[u8]
     before_spaces(behind_spaces(text))
 }
 
-fn is_named(text: &[u8], name: &[u8]) -> bool
+fn is_same_name(text: &[u8], name: &[u8]) -> bool
     ensures { result ≡ is_same_name text.now name.now }
 {
     text.eq_ignore_ascii_case(name)
@@ -56,9 +56,9 @@ fn is_named(text: &[u8], name: &[u8]) -> bool
 fn is_media_type(text: &[u8]) -> bool
     ensures { result ≡ spec.is_media_type text.now }
 {
-    is_named(text, JSON_TYPE.as_bytes())
-        || is_named(text, b"application/vnd.onem2m-res+json")
-        || is_named(text, b"application/vnd.onem2m-ntfy+json")
+    is_same_name(text, JSON_TYPE.as_bytes())
+        || is_same_name(text, b"application/vnd.onem2m-res+json")
+        || is_same_name(text, b"application/vnd.onem2m-ntfy+json")
 }
 
 fn is_type_digits(text: &[u8]) -> bool

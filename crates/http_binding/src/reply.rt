@@ -25,7 +25,11 @@ fn push_code(alloc: Global, lines: &mut Vec<Line>, code: u16) -> Result<(), OutO
 }
 
 /// Puts the line with the request's identifier behind the others, where there is one.
-fn push_id(alloc: Global, lines: &mut Vec<Line>, id: &Option<Text>) -> Result<(), OutOfMemory>
+fn push_request_id(
+    alloc: Global,
+    lines: &mut Vec<Line>,
+    id: &Option<Text>,
+) -> Result<(), OutOfMemory>
     ensures { OnOk result (lines.new.items ≡ lines.old.items ++ id_lines id.now) }
 {
     match id {
@@ -55,7 +59,7 @@ fn push_primitive(
         ++ ((code_field, decimal (rsc_row reply.now.rsc).number) ∷ id_lines reply.now.rqi)) }
 {
     push_code(alloc, lines, reply.rsc.number())?;
-    push_id(alloc, lines, &reply.rqi)
+    push_request_id(alloc, lines, &reply.rqi)
 }
 
 /// The lines that speak of the body.

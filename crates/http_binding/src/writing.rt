@@ -254,7 +254,7 @@ fn body_in(text: &[u8]) -> &[u8]
 
 /// A head and the body that stands behind room for one. The body is copied only where the head has
 /// no room there.
-fn joined(mut head: Vec<u8>, mut text: Vec<u8>) -> Result<ReplyBytes, OutOfMemory>
+fn put_together(mut head: Vec<u8>, mut text: Vec<u8>) -> Result<ReplyBytes, OutOfMemory>
     requires { head_room ≤ length text.items }
     ensures { IfOk result (λ bytes. bytes ≡ head.items ++ drop head_room text.items) }
 {
@@ -287,7 +287,7 @@ fn reply_bytes(
     let parts = reply.parts();
     let text = body_behind_room(room.take_text(alloc), &parts.pc)?;
     let head = head_for(room.take_head(alloc), parts, text.len() - HEAD_ROOM, close)?;
-    joined(head, text)
+    put_together(head, text)
 }
 
 /// Writes a reply by one call of the sink (TS-0009, 6.3 to 6.5). It says whether the connection

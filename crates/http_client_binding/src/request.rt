@@ -9,7 +9,7 @@ ghost use Rattle.primitive_json.specs.Requests.{IsSoundRequest, IsSoundWhen};
 ghost use Rattle.http_client_binding.specs.Asking as spec;
 
 use crate::OutOfMemory;
-use crate::target::{Aim, host_of, target_of};
+use crate::target::{Aim, host_of, target_text};
 use http_binding::{
     EXPIRY_FIELD, ID_FIELD, JSON_TYPE, ORIGIN_FIELD, TYPE_FIELD, WRITTEN_MINOR, body_of,
     created_type, method_text, push_close, push_field, push_length,
@@ -41,7 +41,7 @@ fn start_of(
 {
     Ok(Start::Ask {
         method: Text::from_slice(alloc, method_text(request.op).as_bytes())?,
-        target: target_of(alloc, request, url, aim)?,
+        target: target_text(alloc, request, url, aim)?,
         minor: WRITTEN_MINOR,
     })
 }

@@ -121,7 +121,7 @@ fn peer_target(alloc: Global, request: &RequestParts, url: &[u8]) -> Result<Text
 }
 
 /// The target of a request to a URL.
-pub(crate) fn target_of(
+pub(crate) fn target_text(
     alloc: Global,
     request: &RequestParts,
     url: &[u8],

@@ -294,3 +294,15 @@ goes_on limit (w ∷ ws) (c ∷ cs) l z q us vs a e fits =
     let most : limit - n - length (chunks_body ws) ≡ limit - length (chunks_body (w ∷ ws)) =
     omega (arith, s.1, length-append w.part (chunks_body ws)) in
     subst (λ m. GoesOn m z) most more
+
+-- how a look for an end goes
+pub ruleset end_cases = (end_later, end_no_cr, end_cr, end_no_lf, end_whole)
+
+-- how a look behind a chunk line goes
+pub ruleset behind_line_cases = (found_chunk, found_end, behind_waits, behind_excluded)
+
+-- how a look goes where no chunk line is found
+pub ruleset no_line_cases = (line_waits, line_too_long)
+
+-- a chunk that is passed
+pub ruleset passing = (chunk_within, walked_on)

@@ -61,3 +61,9 @@ reply_exceeds room bytes over = record {
       let count : length lines ≡ length h.head.fields = ap length h.lines_are ∙ length-map h.head.fields name_and_value in
       omega arith;
 }
+
+-- how a look for the head of a request goes
+pub ruleset request_cases = (request_at, no_request, request_exceeds)
+
+-- how a look for the head of a reply goes
+pub ruleset reply_cases = (reply_at, no_reply, reply_exceeds)

@@ -379,3 +379,9 @@ some_bytes side bytes = record {
       let whole : length text ≡ length f.head + length f.carried = ap length f.bytes_are ∙ length-append f.head f.carried in
       omega arith;
 }
+
+-- how a look behind a head goes
+pub ruleset behind_head_cases = (no_body, walked_none_yet, behind_walked)
+
+-- how a look at a head that is whole goes
+pub ruleset head_cases = (head_too_long, walked_none_yet)

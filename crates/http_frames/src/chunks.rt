@@ -44,7 +44,7 @@ pub(crate) enum EndLook {
 }
 
 /// Whether `n` bytes and CR LF stand at the front.
-#[tactic(auto, using(crate::proofs::ChunkLemmas::end_later, crate::proofs::ChunkLemmas::end_no_cr, crate::proofs::ChunkLemmas::end_cr, crate::proofs::ChunkLemmas::end_no_lf, crate::proofs::ChunkLemmas::end_whole))]
+#[tactic(auto, using(crate::proofs::ChunkLemmas::end_cases))]
 fn look_for_end(text: &[u8], n: usize) -> EndLook
     requires { n ≤ largest_body }
     ensures { IsEndLook text.now n result }
@@ -74,7 +74,7 @@ fn front_of(text: &[u8]) -> &[u8]
 }
 
 /// What stands behind a chunk line that ends at `start` and says that so many bytes follow.
-#[tactic(auto, using(crate::proofs::ChunkLemmas::found_chunk, crate::proofs::ChunkLemmas::found_end, crate::proofs::ChunkLemmas::behind_waits, crate::proofs::ChunkLemmas::behind_excluded))]
+#[tactic(auto, using(crate::proofs::ChunkLemmas::behind_line_cases))]
 fn look_behind_line(text: &[u8], most: usize, start: usize, size: usize) -> ChunkLook
     requires line { IsLineAt text.now start size }
     requires fits { size ≤ most }
@@ -103,7 +103,7 @@ fn look_at_line(text: &[u8], most: usize, start: usize, size: u64) -> ChunkLook
 }
 
 /// What stands there where no whole chunk line does.
-#[tactic(auto, using(crate::proofs::ChunkLemmas::line_waits, crate::proofs::ChunkLemmas::line_too_long))]
+#[tactic(auto, using(crate::proofs::ChunkLemmas::no_line_cases))]
 fn look_without_line(text: &[u8], most: usize) -> Stop
     requires none { HasNoChunkLine (take chunk_line_limit text.now) }
     requires may { MayBecomeChunkLine (take chunk_line_limit text.now) }
@@ -152,7 +152,7 @@ impl Walked {
     }
 
     /// Walks over one more chunk, whose line ends `start` bytes behind those that were walked.
-    #[tactic(auto, using(crate::proofs::ChunkLemmas::chunk_within, crate::proofs::ChunkLemmas::walked_on))]
+    #[tactic(auto, using(crate::proofs::ChunkLemmas::passing))]
     fn pass(&mut self, carried: &[u8], start: usize, size: usize) -> Result<(), AllocError>
         requires chunks { AreChunksAt carried.now self.old.at self.old.body.items }
         requires within { self.old.at ≤ length carried.now }

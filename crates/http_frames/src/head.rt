@@ -41,7 +41,7 @@ pub(crate) enum HeadLook {
     Never,
 }
 
-#[tactic(auto, using(crate::proofs::HeadLemmas::request_at, crate::proofs::HeadLemmas::no_request, crate::proofs::HeadLemmas::request_exceeds))]
+#[tactic(auto, using(crate::proofs::HeadLemmas::request_cases))]
 fn look_for_request(bytes: &[u8], headers: &mut [HeaderSpan]) -> HeadLook
     ensures whole { IfWhole result (IsHeadAt Side.Request bytes.now headers.new) }
     ensures not_yet { OnNotYet result (HasNoHead Side.Request bytes.now) }
@@ -63,7 +63,7 @@ fn look_for_request(bytes: &[u8], headers: &mut [HeaderSpan]) -> HeadLook
     }
 }
 
-#[tactic(auto, using(crate::proofs::HeadLemmas::reply_at, crate::proofs::HeadLemmas::no_reply, crate::proofs::HeadLemmas::reply_exceeds))]
+#[tactic(auto, using(crate::proofs::HeadLemmas::reply_cases))]
 fn look_for_reply(bytes: &[u8], headers: &mut [HeaderSpan]) -> HeadLook
     ensures whole { IfWhole result (IsHeadAt Side.Reply bytes.now headers.new) }
     ensures not_yet { OnNotYet result (HasNoHead Side.Reply bytes.now) }

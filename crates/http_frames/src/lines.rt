@@ -33,7 +33,7 @@ pub enum Found<T> {
 
 /// Whether two names of fields are the same, without regard to case (RFC 9110, section 5.1). Most
 /// are spelled alike.
-fn is_named(name: &[u8], wanted: &[u8]) -> bool
+fn is_same_name(name: &[u8], wanted: &[u8]) -> bool
     ensures { result ≡ is_same_name name.now wanted.now }
 {
     name == wanted || name.eq_ignore_ascii_case(wanted)
@@ -57,7 +57,7 @@ impl<'a> Found<&'a [u8]> {
         ensures { found_as (λ value. value.now) result
             ≡ found_with_line (found_as (λ value. value.now) self.entry) name.now line.now }
     {
-        if is_named(line.0.entries(), name) {
+        if is_same_name(line.0.entries(), name) {
             self.and(line.1.entries())
         } else {
             self

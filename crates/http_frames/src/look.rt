@@ -60,7 +60,7 @@ fn body_limit(side: Side) -> usize
 }
 
 /// What frame has this head and a body of so many bytes.
-#[tactic(auto, using(crate::proofs::LookLemmas::too_large, crate::proofs::WaitLemmas::body_waits, crate::proofs::LookLemmas::whole_frame))]
+#[tactic(auto, using(crate::proofs::WaitLemmas::body_cases))]
 fn look_for_body(side: Side, bytes: &[u8], headers: &[HeaderSpan], head: HeadSpans, n: u64) -> Look
     requires good { IsGoodHead side bytes.now headers.now head }
     requires framing { framing_at bytes.now headers.now head ≡ counted n }
@@ -83,7 +83,7 @@ fn look_for_body(side: Side, bytes: &[u8], headers: &[HeaderSpan], head: HeadSpa
 }
 
 /// What frame has this head and the chunks that were walked, behind which a walk stopped.
-#[tactic(auto, using(crate::proofs::LookLemmas::chunks_whole, crate::proofs::LookLemmas::chunks_never, crate::proofs::WaitLemmas::chunks_wait))]
+#[tactic(auto, using(crate::proofs::WaitLemmas::chunks_cases))]
 fn look_behind_chunks(
     side: Side,
     bytes: &[u8],
@@ -133,7 +133,7 @@ fn look_for_chunks(
 }
 
 /// What frame has this head. One that announces chunks is kept.
-#[tactic(auto, using(crate::proofs::LookLemmas::no_body, crate::proofs::LookLemmas::walked_none_yet, crate::proofs::LookLemmas::behind_walked))]
+#[tactic(auto, using(crate::proofs::LookLemmas::behind_head_cases))]
 fn look_behind(
     side: Side,
     bytes: &[u8],
@@ -160,7 +160,7 @@ fn look_behind(
 }
 
 /// What frame has the head that was found, whose length isn't judged yet.
-#[tactic(auto, using(crate::proofs::LookLemmas::head_too_long, crate::proofs::LookLemmas::walked_none_yet))]
+#[tactic(auto, using(crate::proofs::LookLemmas::head_cases))]
 fn look_at_head(
     side: Side,
     bytes: &[u8],
@@ -186,7 +186,7 @@ fn look_at_head(
 /// What frame stands at the front, where no head was found yet. Where its lines are is written to
 /// `headers`. A head that is still coming is parsed anew after each read, since a read is made only
 /// where the bytes held may still become one, and that httparse tells of all of them alone.
-#[tactic(auto, using(crate::proofs::LookLemmas::no_head_within, crate::proofs::LookLemmas::too_many_lines, crate::proofs::WaitLemmas::empty_waits, crate::proofs::WaitLemmas::head_waits, crate::proofs::LookLemmas::walked_none_yet))]
+#[tactic(auto, using(crate::proofs::WaitLemmas::start_cases))]
 fn look_from_start(
     side: Side,
     bytes: &[u8],

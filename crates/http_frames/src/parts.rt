@@ -61,7 +61,7 @@ fn lines_of(
 }
 
 /// The body that the spans cover, where `chunks` is what its chunks carry, if it has any.
-fn body_of(
+fn body_at(
     rooms: &mut Rooms,
     alloc: Global,
     bytes: &[u8],
@@ -96,6 +96,6 @@ pub(crate) fn frame_of(
     Ok(Frame {
         start: start_of(rooms, alloc, bytes, spans.start)?,
         lines: lines_of(rooms, alloc, bytes, &headers[..spans.lines])?,
-        body: body_of(rooms, alloc, bytes, spans, chunks)?,
+        body: body_at(rooms, alloc, bytes, spans, chunks)?,
     })
 }

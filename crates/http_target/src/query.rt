@@ -8,7 +8,7 @@ ghost use Rattle.http_target.specs.Chain.{ReadsAs};
 ghost use Rattle.http_target.specs.Said.{said_by, query_said};
 ghost use Rattle.http_target.specs.Queries as spec;
 
-use crate::target::{before, behind, is_text};
+use crate::target::{before, behind, is_utf8};
 use crate::{BindFault, OutOfMemory};
 use filter_criteria::{Condition, FilterParts, FilterUsage, Sort};
 use form_urlencoded::{decode, raw_pairs};
@@ -129,7 +129,7 @@ fn words_of(alloc: Global, text: &[u8]) -> Result<Vec<Text>, OutOfMemory>
 fn spells_label(text: &[u8]) -> bool
     ensures { result ≡ spec.spells_label text.now }
 {
-    is_label_text(text) && is_text(text)
+    is_label_text(text) && is_utf8(text)
 }
 
 fn are_labels(words: &[Text]) -> bool
@@ -176,7 +176,7 @@ fn are_types(words: &[Text]) -> bool
 }
 
 /// Puts the number of a type that a word is behind the others.
-fn push_type(types: &mut Vec<u64>, word: &Text) -> Result<(), OutOfMemory>
+fn push_type_number(types: &mut Vec<u64>, word: &Text) -> Result<(), OutOfMemory>
     ensures { OnOk result (types.new.items
         ≡ types.old.items ++ filter_map spec.type_spelled (word.now ∷ [])) }
 {
@@ -192,7 +192,7 @@ fn types_of(alloc: Global, words: &[Text]) -> Result<Vec<u64>, OutOfMemory>
 {
     let mut types = Vec::with_capacity(alloc, words.len())?;
     for word in words {
-        push_type(&mut types, word)?;
+        push_type_number(&mut types, word)?;
     }
     Ok(types)
 }

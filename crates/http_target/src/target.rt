@@ -93,7 +93,7 @@ pub fn behind(mark: u8, text: &[u8]) -> Option<&[u8]>
     split_at_mark(mark, text).1
 }
 
-pub(crate) fn is_text(bytes: &[u8]) -> bool
+pub(crate) fn is_utf8(bytes: &[u8]) -> bool
     ensures { result ≡ is_utf8 bytes.now }
 {
     match std::str::from_utf8(bytes) {
@@ -117,7 +117,7 @@ pub(crate) fn is_path_and_query(text: &[u8]) -> bool
     ensures { result ≡ spec.is_path_and_query text.now }
 {
     let (path, query) = split_at_mark(b'?', text);
-    are_of_path(path) && query.is_none_or(|query| are_of_query(query)) && is_text(text)
+    are_of_path(path) && query.is_none_or(|query| are_of_query(query)) && is_utf8(text)
 }
 
 /// Whether the target, whose text without a fragment this is, is in origin-form.
@@ -235,12 +235,12 @@ fn read_address(alloc: Global, path: &[u8]) -> Result<Text, OutOfMemory>
 }
 
 /// What the path and the query of a target say.
-fn said_by(alloc: Global, parts: PathAndQuery<'_>) -> Result<Target<'_>, BindFault>
+fn said_by_target(alloc: Global, parts: PathAndQuery<'_>) -> Result<Target<'_>, BindFault>
     ensures value { ReadsAs seen_target result (said_by_target (seen_parts parts.entry)) }
     ensures utf8 { IfOk result (λ target. IsUtf8 target.to) }
 {
     let to = read_address(alloc, parts.path)?;
-    if is_filled(to.entries(), TARGET_LIMIT) && is_text(to.entries()) {
+    if is_filled(to.entries(), TARGET_LIMIT) && is_utf8(to.entries()) {
         Ok(Target {
             to,
             query: parts.query.unwrap_or(b""),
@@ -259,7 +259,7 @@ pub fn target_of(alloc: Global, start: &Start) -> Result<Target<'_>, BindFault>
         return Err(BindFault::Target);
     };
     match target_parts(alloc, target.entries())? {
-        Some(parts) => said_by(alloc, parts),
+        Some(parts) => said_by_target(alloc, parts),
         None => Err(BindFault::Target),
     }
 }

@@ -23,3 +23,6 @@ prefix_behind (Some xs) (Some ys) (Some zs) a b whole p =
     let short : length a + p.0 ≤ length (a ++ b) = rw length-append (omega (arith, p.1)) in
     let same : take (length a + p.0) (a ++ b) ≡ a ++ take p.0 b = take-append-add a b p.0 in
     (length a + p.0, short, rw same (p.2 ∙ ap (λ v. v ++ take p.0 b) whole ∙ append_assoc xs a (take p.0 b)))
+
+-- a prefix of one text behind another
+pub ruleset prefixes = (prefix_front, prefix_behind)

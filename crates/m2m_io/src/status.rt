@@ -89,7 +89,7 @@ impl From<Status> for ExitCode {
 }
 
 /// Writes a text, and then two others.
-#[tactic(auto, using(crate::proofs::ToldLemmas::prefix_front, crate::proofs::ToldLemmas::prefix_behind))]
+#[tactic(auto, using(crate::proofs::ToldLemmas::prefixes))]
 fn put_three<K: Sink>(sink: &mut K, a: &[u8], b: &[u8], c: &[u8]) -> Result<(), Failed>
     ensures ok { OnOk result (Appends (K.written sink.old) (K.written sink.new)
         (a.now ++ (b.now ++ c.now))) }
@@ -106,7 +106,7 @@ fn put_three<K: Sink>(sink: &mut K, a: &[u8], b: &[u8], c: &[u8]) -> Result<(), 
 }
 
 /// Writes two texts, one behind the other.
-#[tactic(auto, using(crate::proofs::ToldLemmas::prefix_front, crate::proofs::ToldLemmas::prefix_behind))]
+#[tactic(auto, using(crate::proofs::ToldLemmas::prefixes))]
 fn put_two<K: Sink>(sink: &mut K, a: &[u8], b: &[u8]) -> Result<(), Failed>
     ensures ok { OnOk result (Appends (K.written sink.old) (K.written sink.new) (a.now ++ b.now)) }
     ensures err { OnErr result (AppendsPrefix (K.written sink.old) (K.written sink.new)

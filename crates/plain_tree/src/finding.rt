@@ -127,7 +127,7 @@ fn first_from_the_end(resources: &[Resource], ty: Ty, parent: u64) -> Option<u64
 }
 
 /// How many instances a container has.
-pub(crate) fn count_in(resources: &[Resource], container: u64) -> u64
+pub(crate) fn count_of_instances(resources: &[Resource], container: u64) -> u64
     ensures { result ≡ length (instances_of container resources.now) }
 {
     let mut count = 0;

@@ -2,7 +2,7 @@
 ghost use Rattle.std.specs.Prelude.{◌≡◌, []};
 
 use crate::finding::{
-    ae_in, channel_in, child_in, count_in, cse_in, kid_in, kin_in, last_kin_in, sizes_in,
+    ae_in, channel_in, child_in, count_of_instances, cse_in, kid_in, kin_in, last_kin_in, sizes_in,
 };
 use crate::nodes::Nodes;
 use m2m_names::Ty;
@@ -92,7 +92,7 @@ impl Tree for ListTree {
     }
 
     fn instance_count(&self, container: u64) -> u64 {
-        count_in(self.nodes.entries(), container)
+        count_of_instances(self.nodes.entries(), container)
     }
 
     fn instance_sizes(&self, container: u64) -> u128 {

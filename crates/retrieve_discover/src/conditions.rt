@@ -129,12 +129,12 @@ fn lists(labels: &Val, label: &[u8]) -> bool
         (as_list labels.now) false }
 {
     match labels.as_list() {
-        Some(items) => is_among(items.entries(), label),
+        Some(items) => lists_label(items.entries(), label),
         None => false,
     }
 }
 
-fn is_among(values: &[Val], label: &[u8]) -> bool
+fn lists_label(values: &[Val], label: &[u8]) -> bool
     ensures { result ≡ list_any (spec.is_that_label label.now) values.now }
 {
     values.iter().any(|value| is_that_label(value, label))

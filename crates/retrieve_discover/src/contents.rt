@@ -16,7 +16,7 @@ use std::alloc::{AllocError as OutOfMemory, Global};
 use tree_model::{Home, Resource, Tree, attributes, under_type};
 
 /// The content of the reply to a Retrieve of the target, by its result content.
-pub(crate) fn content<T: Tree>(
+pub(crate) fn content_of_reply<T: Tree>(
     alloc: Global,
     tree: &T,
     home: &Home,

@@ -5,7 +5,7 @@ ghost use Rattle.tree_model.specs.Tree.{at, has, is_tree};
 ghost use Rattle.retrieve_discover.specs.Replies.{retrieved, retrieved_of};
 
 use crate::conditions::meets_any;
-use crate::contents::content;
+use crate::contents::content_of_reply;
 use crate::replies::succeed;
 use entity_model::refuse;
 use m2m_names::{Op, Rsc};
@@ -61,6 +61,6 @@ fn retrieve_of<T: Tree>(
     if !meets_any(tree, request.parts().fc.as_ref(), target) {
         return refuse(alloc, request, Rsc::NotFound);
     }
-    let shown = content(alloc, tree, home, o, request, target)?;
+    let shown = content_of_reply(alloc, tree, home, o, request, target)?;
     succeed(alloc, request, shown)
 }

@@ -44,7 +44,7 @@ fn right_after(conn: &mut MemConn, bytes: &str, right: &Arc<AtomicU64>) -> u64 {
 }
 
 /// The first connection of a door that was opened.
-fn first_of(door: &mut MemDoor<MemConn>) -> Result<Option<MemConn>, Failed> {
+fn first_connection(door: &mut MemDoor<MemConn>) -> Result<Option<MemConn>, Failed> {
     door.open(b"127.0.0.1:8080")?;
     door.next()
 }
@@ -54,7 +54,7 @@ fn a_connection_of_a_door_is_right_once(rt: HostRuntime) -> Result<(), Fail> {
     let alloc = rt.alloc();
     let right = Arc::new(alloc, AtomicU64::new(0))?;
     let mut door = MemDoor::new(vec![in alloc; conn(alloc, &right)?]?, Vec::new(alloc));
-    let mut talk = first_of(&mut door)?.ok_or("a connection")?;
+    let mut talk = first_connection(&mut door)?.ok_or("a connection")?;
     for (bytes, want) in [("ab", 0), ("a", 0), ("b", 1), ("", 1), ("c", 1)] {
         assert_eq!(rt; right_after(&mut talk, bytes, &right), want, "{bytes}");
     }

@@ -81,18 +81,27 @@ impl Connection for Client {
 }
 
 /// A container, and an instance in it.
-const OTHERS: &str =
-    "POST /cse-in HTTP/1.1\r\nX-M2M-Origin: CAdmin\r\nX-M2M-RI: r1\r\nContent-Type: application/json;ty=3\r\nContent-Length: 22\r\n\r\n{\"m2m:cnt\":{\"rn\":\"a\"}}";
+const OTHERS: &str = "\
+POST /cse-in HTTP/1.1\r\nX-M2M-Origin: CAdmin\r\nX-M2M-RI: r1\r\n\
+Content-Type: application/json;ty=3\r\nContent-Length: 22\r\n\r\n\
+{\"m2m:cnt\":{\"rn\":\"a\"}}";
 
-const OTHER: &str =
-    "POST /cse-in/a HTTP/1.1\r\nX-M2M-Origin: CAdmin\r\nX-M2M-RI: r2\r\nContent-Type: application/json;ty=4\r\nContent-Length: 27\r\n\r\n{\"m2m:cin\":{\"con\":\"other\"}}";
+const OTHER: &str = "\
+POST /cse-in/a HTTP/1.1\r\nX-M2M-Origin: CAdmin\r\nX-M2M-RI: r2\r\n\
+Content-Type: application/json;ty=4\r\nContent-Length: 27\r\n\r\n\
+{\"m2m:cin\":{\"con\":\"other\"}}";
 
 /// Another container, and an instance in it, of which the reply says nothing; and then its newest.
-const MINE: &str =
-    "POST /cse-in HTTP/1.1\r\nX-M2M-Origin: CAdmin\r\nX-M2M-RI: r3\r\nContent-Type: application/json;ty=3\r\nContent-Length: 22\r\n\r\n{\"m2m:cnt\":{\"rn\":\"b\"}}";
+const MINE: &str = "\
+POST /cse-in HTTP/1.1\r\nX-M2M-Origin: CAdmin\r\nX-M2M-RI: r3\r\n\
+Content-Type: application/json;ty=3\r\nContent-Length: 22\r\n\r\n\
+{\"m2m:cnt\":{\"rn\":\"b\"}}";
 
-const MINE_AND_NEWEST: &str =
-    "POST /cse-in/b?rcn=0 HTTP/1.1\r\nX-M2M-Origin: CAdmin\r\nX-M2M-RI: r4\r\nContent-Type: application/json;ty=4\r\nContent-Length: 26\r\n\r\n{\"m2m:cin\":{\"con\":\"mine\"}}GET /cse-in/b/la HTTP/1.1\r\nX-M2M-Origin: CAdmin\r\nX-M2M-RI: r5\r\n\r\n";
+const MINE_AND_NEWEST: &str = "\
+POST /cse-in/b?rcn=0 HTTP/1.1\r\nX-M2M-Origin: CAdmin\r\nX-M2M-RI: r4\r\n\
+Content-Type: application/json;ty=4\r\nContent-Length: 26\r\n\r\n\
+{\"m2m:cin\":{\"con\":\"mine\"}}GET /cse-in/b/la HTTP/1.1\r\nX-M2M-Origin: CAdmin\r\n\
+X-M2M-RI: r5\r\n\r\n";
 
 /// A client that says one thing, and then another a hundred times.
 fn a_client(

@@ -158,3 +158,6 @@ serves_over t e = inl (takes_as t e)
 pub serves_enough : {accept : Option ℕ} {ending : Option Ending} {start now : DoorTold}
     → TakesConnections accept ending start now → ending ≡ Some Enough → ServesDoor accept start now
 serves_enough t e = inr (takes_as t e)
+
+-- how a door ends
+pub ruleset served_cases = (serves_over, serves_enough, takes_as)

@@ -121,7 +121,7 @@ impl<D: Door, J: Entrance> Gate<D, J> {
     }
 
     /// The door, which gives no more connections; at `Err` it failed.
-    #[tactic(auto, using(crate::proofs::GateLemmas::serves_over, crate::proofs::GateLemmas::serves_enough, crate::proofs::GateLemmas::takes_as))]
+    #[tactic(auto, using(crate::proofs::GateLemmas::served_cases))]
     pub fn into_served(self) -> Result<D, D>
         requires { HasEnded self.ending }
         ensures ok { IfOk result (λ door. ServesDoor J.accept J.start

@@ -10,7 +10,7 @@ ghost use Rattle.workers.specs.Shares.{HasGrown, HaveGrown, IsJoinedOf};
 
 use crate::gate::{Entrance, Gate};
 use crate::service::Service;
-use crate::sharing::{Job, jobs_at, joined};
+use crate::sharing::{Job, jobs_at, joined_seat};
 use m2m_io::Door;
 use std::alloc::Global;
 use std::marker::Brand;
@@ -161,7 +161,7 @@ where
         (known_to_all jobs.items) result }
 {
     work_all(rt, desk, gate, service, &mut jobs);
-    joined(desk, seat, jobs)
+    joined_seat(desk, seat, jobs)
 }
 
 /// Serves what a gate lets in: by workers, and what is left when they have ended at one bench more.

@@ -63,7 +63,7 @@ pub(crate) fn jobs_at<O: Object, R, B: Drop>(
 }
 
 /// One seat for this one and those of the jobs.
-pub(crate) fn joined<O: Object, R, B: Drop>(
+pub(crate) fn joined_seat<O: Object, R, B: Drop>(
     desk: &TurnDesk<O, R>,
     seat: DeskSeat<O>,
     jobs: Vec<Job<O, B>>,

@@ -20,14 +20,14 @@ loop-key-preserved c =
     let sorted : AreSorted (e ∷ rest) = subst AreSorted step l.invariant.order in
     record {
       rows =
-          ap (λ xs. xs ++ filter_map kept_row rest) c.in_ok-keep.ensures.rows
+          ap (λ xs. xs ++ filter_map kept_row rest) c.in_ok-keep_member.ensures.rows
           ∙ joined l.rows.items (kept_row e) (filter_map kept_row rest)
           ∙ ap (λ es. l.rows.items ++ filter_map kept_row es) (sym step) ∙ l.invariant.rows;
       name =
-          ap (λ name. option_or name (named_text Rn rest)) c.in_ok-keep.ensures.name
+          ap (λ name. option_or name (named_text Rn rest)) c.in_ok-keep_member.ensures.name
           ∙ name_step l.name e rest sorted
           ∙ ap (λ es. option_or l.name (named_text Rn es)) (sym step) ∙ l.invariant.name;
-      utf8 = c.in_ok-keep.ensures.utf8 l.invariant.utf8;
+      utf8 = c.in_ok-keep_member.ensures.utf8 l.invariant.utf8;
       order = sorted_rest e rest sorted;
     }
 

@@ -5,7 +5,7 @@ use Rattle.http_binding.proofs.writing.reply_bytes.Goals as goal
 
 pub returns : goal.returns
 returns c =
-    subst (λ (t : List ℕ). IfOk c.joined.result (λ bytes. bytes ≡ t))
+    subst (λ (t : List ℕ). IfOk c.put_together.result (λ bytes. bytes ≡ t))
     (ap (λ t. c.in_ok-head.head.items ++ t) c.in_ok-text.ensures.body ∙ c.in_ok-head.ensures
     ∙ ap (λ (r : ReplyParts). reply_text r c.args.close) c.parts-parts.ensures.same)
-    c.joined.ensures
+    c.put_together.ensures

@@ -3,21 +3,21 @@ use Rattle.http_frames.specs.Lines.{is_same_name}
 use Rattle.http_frames.proofs.LinesLemmas.{line_same, line_other}
 use Rattle.http_frames.proofs.lines.Found+ref+slice+u8.and_line.Goals as goal
 
-pub returns-then-is_named : goal.returns-then-is_named
-returns-then-is_named c =
+pub returns-then-is_same_name : goal.returns-then-is_same_name
+returns-then-is_same_name c =
     let now : Bor (List ℕ) → List ℕ = λ v. v.now in
     let line = c.args.line.now in
     let name = c.args.name.now in
-    let tested : c.is_named.result ≡ is_same_name line.0 name =
-    c.is_named.ensures ∙ ap (λ t. is_same_name t name) c.entries.ensures in
-    line_same now c.args.self _ c.entries-then-is_named.result name line (sym tested ∙ c.if-is_named.true)
-    c.and.ensures c.entries-then-is_named.ensures
+    let tested : c.is_same_name.result ≡ is_same_name line.0 name =
+    c.is_same_name.ensures ∙ ap (λ t. is_same_name t name) c.entries.ensures in
+    line_same now c.args.self _ c.entries-then-is_same_name.result name line (sym tested ∙ c.if-is_same_name.true)
+    c.and.ensures c.entries-then-is_same_name.ensures
 
-pub returns-else-is_named : goal.returns-else-is_named
-returns-else-is_named c =
+pub returns-else-is_same_name : goal.returns-else-is_same_name
+returns-else-is_same_name c =
     let now : Bor (List ℕ) → List ℕ = λ v. v.now in
     let line = c.args.line.now in
     let name = c.args.name.now in
-    let tested : c.is_named.result ≡ is_same_name line.0 name =
-    c.is_named.ensures ∙ ap (λ t. is_same_name t name) c.entries.ensures in
-    line_other now c.args.self c.args.self name line (sym tested ∙ c.if-is_named.false) refl
+    let tested : c.is_same_name.result ≡ is_same_name line.0 name =
+    c.is_same_name.ensures ∙ ap (λ t. is_same_name t name) c.entries.ensures in
+    line_other now c.args.self c.args.self name line (sym tested ∙ c.if-is_same_name.false) refl

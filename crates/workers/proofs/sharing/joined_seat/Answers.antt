@@ -5,7 +5,7 @@ use Rattle.turn_desk.specs.Seats.{known_to}
 use Rattle.workers.specs.Jobs.{known_to_all, IsSeatedAt, AreSeated}
 use Rattle.workers.specs.Shares.{AddUpTo}
 use Rattle.workers.proofs.SharesLemmas.{on_self, on_on, on_joined, add_join, nothing_left}
-use Rattle.workers.proofs.sharing.joined.Goals as goal
+use Rattle.workers.proofs.sharing.joined_seat.Goals as goal
 
 pub loop-job-init : goal.loop-job-init
 loop-job-init g c =

@@ -1,6 +1,6 @@
 use Rattle.std.proofs.Common.{◌≡◌, ◌≤◌, ◌+◌, take, drop, length}
 use Rattle.tree_model.specs.Tree.{instances_of}
-use Rattle.plain_tree.proofs.finding.count_in.Given as goal
+use Rattle.plain_tree.proofs.finding.count_of_instances.Given as goal
 
 -- what was counted and what is left is all
 abbrev pub invariant-loop-resource : goal.invariant-loop-resource

@@ -1,6 +1,6 @@
 use Rattle.std.proofs.Common.{sym, ◌∙◌}
 use Rattle.http_frames.proofs.LinesLemmas.{is_same_name_from, same_name-alike}
-use Rattle.http_frames.proofs.lines.is_named.Goals as goal
+use Rattle.http_frames.proofs.lines.is_same_name.Goals as goal
 
 pub returns-then-eq : goal.returns-then-eq
 returns-then-eq c = c.if-eq.true ∙ sym (same_name-alike c.args.name.now c.args.wanted.now (sym c.eq.ensures ∙ c.if-eq.true))

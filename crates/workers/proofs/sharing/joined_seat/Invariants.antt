@@ -3,7 +3,7 @@ use Rattle.std.specs.Vec.Iter.{into_iter_items, into_iter_len}
 use Rattle.turn_desk.specs.Seats.{IsSeated, known_to}
 use Rattle.workers.specs.Jobs.{known_to_all, AreSeated}
 use Rattle.workers.specs.Shares.{HasGoneOn, Carries}
-use Rattle.workers.proofs.sharing.joined.Given as goal
+use Rattle.workers.proofs.sharing.joined_seat.Given as goal
 
 abbrev pub invariant-loop-job : goal.invariant-loop-job
 invariant-loop-job g l =

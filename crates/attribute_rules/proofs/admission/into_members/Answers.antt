@@ -1,7 +1,7 @@
 use Rattle.std.proofs.Common.{Some, sym, ap, ◌∙◌}
 use Rattle.m2m_value.specs.View.{as_object}
 use Rattle.m2m_value.proofs.Levels.{entries-pairs_of}
-use Rattle.attribute_rules.proofs.admission.members_of.Goals as goal
+use Rattle.attribute_rules.proofs.admission.into_members.Goals as goal
 
 pub returns-in-Obj : goal.returns-in-Obj
 returns-in-Obj c = ap Some (sym (entries-pairs_of c.in-Obj.members)) ∙ ap as_object c.in-Obj.ensures.top
