@@ -57,8 +57,8 @@ is_rules es =
 abbrev pub is_event_kind : ℕ → Bool
 is_event_kind n = is_in_range 1 4 n
 
--- criteria of notification: at most `net`, a list, not empty, of kinds of event, and `atr`, a list of
--- labels (TS-0001, 9.6.8)
+-- criteria of notification: at most `net`, a list, not empty, of kinds of event, and `atr`, a list
+-- of labels (TS-0001, 9.6.8)
 abbrev pub is_criteria : List Entry → Bool
 is_criteria es =
     are_keys_among (codes "net" ∷ codes "atr" ∷ []) es
