@@ -26,7 +26,8 @@ use Rattle.policy_eval.proofs.RetrievedLemmas.{attributes-seen}
 use Rattle.policy_eval.proofs.SeenLemmas.{at-seen, grants-seen, seen_shows}
 use Rattle.retrieve_discover.specs.Conditions.{meets_any}
 use Rattle.entity_model.specs.Places.{wanted_content}
-use Rattle.retrieve_discover.specs.Contents.{content, may_retrieve, members, most_references, most_shown, reference, references, references_alone, referred, shown_forest, whole, with_forest, with_last, with_member, with_references}
+use Rattle.retrieve_discover.specs.Contents.{content, may_retrieve, members, most_shown, reference, references, references_alone, referred, shown_forest, whole, with_forest, with_last, with_member, with_references}
+use Rattle.retrieve_discover.specs.Findings.{most_listed}
 use Rattle.retrieve_discover.specs.Descendants.{Forest, bare, rooted, cut_forest, forest_of}
 use Rattle.retrieve_discover.specs.Replies.{is_by_id, refusal, retrieved, retrieved_of, success}
 use Rattle.retrieve_discover.proofs.OrderLemmas.{Each, IsFound, each_found, in_order-tree}
@@ -92,9 +93,9 @@ module _ (home : HomeData) (nodes : List ResourceData) (o : List ℕ) (well : is
 
   referred-seen : (n : ℕ) → referred home (map g nodes) o n ≡ map g (referred home nodes o n)
   referred-seen n =
-      ap (λ rs. take most_references (filter (may_retrieve home (map g nodes) o) rs)) (children-map g (λ s. refl) (λ s. refl) n nodes)
-      ∙ ap (take most_references) (filter-map g (may_retrieve home (map g nodes) o) goes (children_of n nodes) (each_allowed (children_of n nodes)))
-      ∙ take-map g most_references (filter goes (children_of n nodes))
+      ap (λ rs. take most_listed (filter (may_retrieve home (map g nodes) o) rs)) (children-map g (λ s. refl) (λ s. refl) n nodes)
+      ∙ ap (take most_listed) (filter-map g (may_retrieve home (map g nodes) o) goes (children_of n nodes) (each_allowed (children_of n nodes)))
+      ∙ take-map g most_listed (filter goes (children_of n nodes))
 
   reference-seen : (by_id : Bool) (rs : List ResourceData) → map (reference by_id (map g nodes)) (map g rs) ≡ map (reference by_id nodes) rs
   reference-seen by_id [] = refl

@@ -14,9 +14,9 @@ use Rattle.tree_model.proofs.TreeLemmas.{has_at}
 use Rattle.policy_eval.specs.Rights.{grants}
 use Rattle.policy_eval.specs.Seen.{discovery_bit, retrieve_bit}
 use Rattle.retrieve_discover.specs.Conditions.{meets, meets_any}
-use Rattle.retrieve_discover.specs.Contents.{content, may_retrieve, most_references, most_shown, referred, shown_forest}
+use Rattle.retrieve_discover.specs.Contents.{content, may_retrieve, most_shown, referred, shown_forest}
 use Rattle.retrieve_discover.specs.Descendants.{below, forest_of, preorder}
-use Rattle.retrieve_discover.specs.Findings.{address_list, all_found, found, found_addresses, is_found, most_of}
+use Rattle.retrieve_discover.specs.Findings.{address_list, all_found, found, found_addresses, is_found, most_listed, most_of}
 use Rattle.retrieve_discover.specs.Replies.{discovered, is_by_id, refusal, retrieved, retrieved_of, success}
 use Rattle.retrieve_discover.proofs.ForestLemmas.{preorder-cut}
 
@@ -45,7 +45,7 @@ module _ (home : HomeData) (nodes : List ResourceData) (o : List ℕ) where
   pub referred_granted : (n : ℕ) → All (Grants home nodes o retrieve_bit) (referred home nodes o n)
   referred_granted n =
       let goes = may_retrieve home nodes o in
-      All-take (Grants home nodes o retrieve_bit) most_references (filter goes (children_of n nodes)) (filter_passes goes (children_of n nodes))
+      All-take (Grants home nodes o retrieve_bit) most_listed (filter goes (children_of n nodes)) (filter_passes goes (children_of n nodes))
 
   pub found_granted : (f : FilterParts) (n : ℕ) → All (Grants home nodes o discovery_bit) (found home nodes o f n)
   found_granted f n =

@@ -29,9 +29,9 @@ use Rattle.tree_model.proofs.ShownLemmas.{shown_value}
 use Rattle.policy_eval.specs.Rights.{discovery_bit, grants, retrieve_bit}
 use Rattle.retrieve_discover.specs.Conditions.{meets, meets_any}
 use Rattle.entity_model.specs.Places.{wanted_content}
-use Rattle.retrieve_discover.specs.Contents.{content, may_retrieve, members, most_references, most_shown, reference, references, references_alone, referred, shown_forest, whole, with_forest, with_references}
+use Rattle.retrieve_discover.specs.Contents.{content, may_retrieve, members, most_shown, reference, references, references_alone, referred, shown_forest, whole, with_forest, with_references}
 use Rattle.retrieve_discover.specs.Descendants.{Forest, below, forest_of}
-use Rattle.retrieve_discover.specs.Findings.{address, address_in, address_list, found, found_addresses, is_found, most_of}
+use Rattle.retrieve_discover.specs.Findings.{address, address_in, address_list, found, found_addresses, is_found, most_listed, most_of}
 use Rattle.retrieve_discover.specs.Guard.{AreNamedByRight, HasOwnAddresses, IsNamedByRight, IsShownByRight, OthersAreShownByRight}
 use Rattle.retrieve_discover.specs.Replies.{discovered, is_by_id, refusal, retrieved, retrieved_of, success}
 use Rattle.retrieve_discover.specs.Told.{addresses_in, ids_below, ids_shown, is_object, listed_parts, references_in, references_shown, shown_id, shown_reference, unframed, values_among, values_under}
@@ -105,7 +105,7 @@ module _ (home : HomeData) (nodes : List ResourceData) (o : List ℕ) (own : Has
 
   referred_found : (n : ℕ) → Each (IsGranted retrieve_bit) (referred home nodes o n)
   referred_found n =
-      each-take (IsGranted retrieve_bit) most_references (filter (may_retrieve home nodes o) (children_of n nodes))
+      each-take (IsGranted retrieve_bit) most_listed (filter (may_retrieve home nodes o) (children_of n nodes))
       (each-filter (IsFound nodes) (may_retrieve home nodes o) (children_of n nodes)
       (only_first (IsFound nodes) (λ r. is_under n r ≡ true) (children_of n nodes) (each-filter (IsFound nodes) (is_under n) nodes all_there)))
 

@@ -21,7 +21,7 @@ use Rattle.tree_model.specs.Tree.{children_of}
 use Rattle.entity_model.specs.Places.{wanted_content}
 use Rattle.retrieve_discover.specs.Descendants.{Forest, bare, rooted, below, cut_forest, forest_of}
 use Rattle.retrieve_discover.specs.Descendants.{line_below}
-use Rattle.retrieve_discover.specs.Findings.{address}
+use Rattle.retrieve_discover.specs.Findings.{address, most_listed}
 
 -- ---- objects
 
@@ -39,14 +39,10 @@ with_member key d es = insert_entry (slice_cmp nat_cmp) es key d
 abbrev pub may_retrieve : HomeData → List ResourceData → List ℕ → ResourceData → Bool
 may_retrieve home nodes o r = grants home nodes o retrieve_bit r.number
 
--- the most references that are given (the number is the profile's)
-abbrev pub most_references : ℕ
-most_references = 4_096
-
 -- the first of those children that the originator may retrieve
 abbrev pub referred : HomeData → List ResourceData → List ℕ → ℕ → List ResourceData
 referred home nodes o n =
-    take most_references (filter (may_retrieve home nodes o) (children_of n nodes))
+    take most_listed (filter (may_retrieve home nodes o) (children_of n nodes))
 
 -- a reference: name, type and address of a child (the form is the profile's)
 abbrev pub reference : Bool → List ResourceData → ResourceData → Data

@@ -13,13 +13,13 @@ use Rattle.addressing.specs.Names.{structured_of}
 use Rattle.retrieve_discover.specs.Conditions.{meets}
 use Rattle.retrieve_discover.specs.Descendants.{below}
 
--- the most addresses that are given (the number is the profile's)
-abbrev pub most_found : ℕ
-most_found = 4_096
+-- the most addresses, or references, that a reply lists (the number is the profile's)
+abbrev pub most_listed : ℕ
+most_listed = 4_096
 
 -- the most that a filter asks for
 abbrev pub most_of : FilterParts → ℕ
-most_of f = min (unwrap_or f.lim most_found) most_found
+most_of f = min (unwrap_or f.lim most_listed) most_listed
 
 -- the resource is found: the originator has DISCOVERY on it, and it meets all conditions
 abbrev pub is_found : HomeData → List ResourceData → List ℕ → FilterParts → ResourceData → Bool

@@ -8,6 +8,7 @@ ghost use Rattle.retrieve_discover.specs.Replies.{discovered};
 
 use crate::finding::{Wanted, find_below};
 use crate::paths::path_to;
+use crate::references::MOST_LISTED;
 use crate::replies::{is_by_id, succeed};
 use entity_model::refuse;
 use m2m_names::{DISCOVERY_BIT, Rsc};
@@ -16,9 +17,6 @@ use policy_eval::granted;
 use primitive_json::{Filter, FilterParts, Reply, Request};
 use std::alloc::{AllocError as OutOfMemory, Global};
 use tree_model::{Home, Resource, Tree};
-
-/// The most addresses that are given.
-const MOST_FOUND: u64 = 4_096;
 
 /// Answers a discovery below the target: the addresses of those descendants that meet all
 /// conditions of the filter and on which the originator has DISCOVERY, each resource before what
@@ -95,7 +93,8 @@ fn addresses<T: Tree>(
 fn limit(filter: &FilterParts) -> usize
     ensures { result ≡ spec.most_of filter.now }
 {
-    filter.lim.unwrap_or(MOST_FOUND).min(MOST_FOUND) as usize
+    let most = MOST_LISTED as u64;
+    filter.lim.unwrap_or(most).min(most) as usize
 }
 
 fn from_target<T: Tree>(

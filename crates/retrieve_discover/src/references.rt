@@ -13,8 +13,8 @@ use m2m_value::{Items, Members, Text, Val};
 use std::alloc::{AllocError as OutOfMemory, Global};
 use tree_model::{Resource, Tree, child_at};
 
-/// The most references that are given.
-const MOST_REFERENCES: usize = 4_096;
+/// The most references, or addresses, that a reply lists.
+pub(crate) const MOST_LISTED: usize = 4_096;
 
 /// References to the first of those children of a resource that the originator may retrieve.
 pub(crate) fn references<T: Tree>(
@@ -47,7 +47,7 @@ fn all_references<T: Tree>(
     let mut path = path_to(alloc, look.tree, target)?;
     let mut references = Vec::new(alloc);
     for k in 0..look.tree.len() {
-        if references.len() >= MOST_REFERENCES {
+        if references.len() >= MOST_LISTED {
             return Ok(references);
         }
         match child_at(look.tree, target.number(), k) {

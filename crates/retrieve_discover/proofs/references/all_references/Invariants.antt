@@ -2,7 +2,8 @@ use Rattle.std.proofs.Common.{◌≡◌, ◌++◌, ◌≤◌, take, drop, length
 use Rattle.std.specs.Str.{IsUtf8}
 use Rattle.tree_model.specs.Tree.{children_of}
 use Rattle.addressing.specs.Names.{structured_of}
-use Rattle.retrieve_discover.specs.Contents.{may_retrieve, most_references, reference}
+use Rattle.retrieve_discover.specs.Contents.{may_retrieve, reference}
+use Rattle.retrieve_discover.specs.Findings.{most_listed}
 use Rattle.retrieve_discover.proofs.WalkLemmas.{kept}
 use Rattle.retrieve_discover.proofs.references.all_references.Given as goal
 
@@ -13,8 +14,8 @@ invariant-loop-k g l =
     let keep = kept (reference l.look.by_id nodes) (may_retrieve l.look.home.now nodes l.look.o.now) in
     let kids = children_of l.target.number nodes in
     record {
-      told : take most_references (l.references.items ++ keep (drop l.k kids)) ≡ take most_references (keep kids);
-      room : length l.references.items ≤ most_references;
+      told : take most_listed (l.references.items ++ keep (drop l.k kids)) ≡ take most_listed (keep kids);
+      room : length l.references.items ≤ most_listed;
       path : l.path.items ≡ structured_of l.target.number nodes;
       utf8 : IsUtf8 l.path.items;
     }
