@@ -1,7 +1,6 @@
 pub mod PartLemmas
 pub mod BackLemmas
 pub mod NameLemmas
-pub mod SightLemmas
 pub mod ShortLemmas
 pub mod ReadLemmas
 pub mod CostLemmas

@@ -25,6 +25,7 @@ use Rattle.tree_model.specs.Tree.{ae_of, at, child_of, may_stand, has, is_child,
 use Rattle.tree_model.proofs.IdLemmas.{resource_of_id-id_of}
 use Rattle.tree_model.proofs.GrowthLemmas.{IsNext, growth, line-append, next_fits, root_parent, stands, zero_lacks}
 use Rattle.tree_model.proofs.TreeLemmas.{at-append, has-append, has_at, has_from_at}
+use Rattle.tree_model.proofs.QuietLemmas.{found_passes}
 use Rattle.m2m_names.specs.Urls.{point_limit}
 use Rattle.addressing.specs.Addresses.{are_names, joined}
 use Rattle.addressing.specs.Laws.{have_free_names, named_here, spot_named}
@@ -110,15 +111,6 @@ free_name name free =
     let pcu = or_parts (bytes_eq name (codes "pcu")) _ fopt.1 in
     let dash = or_parts (bytes_eq name (codes "-")) _ none.1 in
     record { la = la.0; ol = ol.0; fopt = fopt.0; pcu = pcu.0; dash = dash.0 }
-
-all_at : (p : ResourceData → Bool) (nodes : List ResourceData) (n : ℕ) (r : ResourceData) → list_all p nodes ≡ true → at n nodes ≡ Some r → p r ≡ true
-all_at p [] n r all found = let none : None ≡ Some r = found in cc
-all_at p (s ∷ nodes) n r all found =
-    let parts = and_parts (p s) (list_all p nodes) all in
-    elim (cases_Bool (has_number n s)) [
-      | inl t ↦ subst (λ (x : ResourceData). p x ≡ true) (same_Some s r (rw t at found)) parts.0
-      | inr f ↦ all_at p nodes n r parts.1 (rw f at found)
-    ]
 
 -- ---- a resource is the child of its name, and of a parent that is there
 
@@ -258,7 +250,7 @@ leads_below nodes tree r found free child up = record {
 leads : (nodes : List ResourceData) → is_tree nodes ≡ true → have_free_names nodes ≡ true → (k : ℕ) (r : ResourceData) → r.number < k → at r.number nodes ≡ Some r → Leads nodes r.number (names_to r.number nodes)
 leads nodes tree free zero r below found = absurd (omega (arith, below))
 leads nodes tree free (suc k) r below found =
-    let own : is_free_name r.name ≡ true = all_at (λ (s : ResourceData). is_free_name s.name) nodes r.number r free found in
+    let own : is_free_name r.name ≡ true = found_passes (λ (s : ResourceData). is_free_name s.name) r.number nodes r free found in
     let stood = child_of_its_name nodes tree r.number r found in
     elim stood.placed [
       | inl root ↦ leads_at_base nodes tree r found own stood.child root

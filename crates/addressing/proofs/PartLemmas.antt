@@ -83,3 +83,12 @@ between_slashes-joined name (next ∷ names) is =
     let parts = and_parts (is_name name) (are_names (next ∷ names)) is in
     slice_split_at is_slash name 47 (joined (next ∷ names)) (name_has_no_slash name parts.0) refl
     ∙ ap (λ rest. name ∷ rest) (between_slashes-joined next names parts.1)
+
+-- one name more stands behind a slash
+joined_last : (x : List ℕ) (xs : List (List ℕ)) (y : List ℕ) → joined ((x ∷ xs) ++ y ∷ []) ≡ joined (x ∷ xs) ++ 47 ∷ y
+joined_last x [] y = refl
+joined_last x (z ∷ xs) y = ap (λ rest. x ++ 47 ∷ rest) (joined_last z xs y) ∙ sym (append_assoc x (47 ∷ joined (z ∷ xs)) (47 ∷ y))
+
+pub joined_after : (front : List (List ℕ)) (x y : List ℕ) → joined ((front ++ x ∷ []) ++ y ∷ []) ≡ joined (front ++ x ∷ []) ++ 47 ∷ y
+joined_after [] x y = joined_last x [] y
+joined_after (z ∷ front) x y = joined_last z (front ++ x ∷ []) y

@@ -4,13 +4,12 @@ ghost use Rattle.m2m_names.specs.Ids.{count_bound};
 ghost use Rattle.resource_model.specs.Home.{HomeData, IsHome};
 ghost use Rattle.resource_model.specs.Resource.{ResourceData, id_of};
 ghost use Rattle.tree_model.specs.Tree.{at, child_of, is_tree};
-ghost use Rattle.policy_eval.specs.Seen.{seen_list};
 ghost use Rattle.addressing.specs.declared.spot.Spot.TheVariants.{Resource};
 ghost use Rattle.addressing.specs.declared.addr.Addr.{Addr};
 ghost use Rattle.m2m_names.specs.Urls.{point_limit};
 ghost use Rattle.addressing.specs.Addresses.{KeepsText, address_of, printed};
 ghost use Rattle.addressing.specs.Laws.{have_free_names, spot_named};
-ghost use Rattle.addressing.specs.Names.{spot_of, structured_of};
+ghost use Rattle.addressing.specs.Names.{structured_of};
 
 /// What an address that was read prints as is read as the same address, where it keeps a text.
 pub fn what_is_printed_is_read_back()
@@ -29,11 +28,4 @@ pub fn a_resource_is_named_by_its_addresses()
     ensures id { (home : HomeData) (nodes : List ResourceData) (r : ResourceData) →
         at r.number nodes ≡ Some r → r.number < count_bound → child_of 0 (id_of r) nodes ≡ None →
         spot_named home (id_of r) nodes ≡ Some (Resource r.number) }
-{}
-
-/// What an address names is the same on the list as an originator sees it.
-pub fn sight_keeps_what_is_named()
-    ensures { (home : HomeData) (nodes : List ResourceData) (o : List ℕ)
-        (segments : List (List ℕ)) →
-        spot_of segments (seen_list home nodes o) ≡ spot_of segments nodes }
 {}

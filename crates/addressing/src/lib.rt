@@ -9,6 +9,13 @@
 //!
 //! Callers owe that `resolve` gets local segments, `print` an address that keeps its text, and
 //! `structured` a number that the tree has. `resolve` and `short_fr` take no memory.
+//!
+//! ```text
+//! let addr = parse(alloc, b"cse-in/dev/room/la", home)?;
+//! let spot = name_spot(tree, &addr); // Some(Spot::Resource(number)) where it is there
+//! let originator = short_fr(b"/id-in/CDev", home); // Some(b"CDev")
+//! Ok(spot)
+//! ```
 #![tactic(auto)]
 
 mod addr;
@@ -20,9 +27,7 @@ mod short;
 mod spot;
 
 pub use addr::{Addr, AddrFault, print};
-pub use laws::{
-    a_resource_is_named_by_its_addresses, sight_keeps_what_is_named, what_is_printed_is_read_back,
-};
+pub use laws::{a_resource_is_named_by_its_addresses, what_is_printed_is_read_back};
 pub use m2m_value::Labels as Segments;
 pub use naming::structured;
 pub use reading::parse;

@@ -11,6 +11,12 @@
 //! A content is walked once to judge it, up to the first member with a fault, and once more to move
 //! out of it what it gives, or the key of the fault that is told. These are two walks since a
 //! refusal takes no memory: nothing is taken before the last member is judged.
+//!
+//! ```text
+//! let kind = kind_of(Ty::Container, Attr::Mni); // a count
+//! let named = mandatory(Ty::ContentInstance); // [Attr::Con]
+//! admit_create(alloc, Ty::Container, content) // or its first fault
+//! ```
 #![tactic(auto)]
 
 mod admission;

@@ -88,6 +88,8 @@ impl Sink for Gets {
 
     ghost faults = { λ s. s.faults };
 
+    ghost puts = { λ _. None };
+
     ghost kept_by_put = { λ _. no_side };
 
     fn put(&mut self, bytes: &[u8]) -> Result<(), Failed> {

@@ -64,7 +64,7 @@ mod reader;
 mod verdict;
 
 use case::Case;
-use cse_cli::words;
+use devices::words;
 use fault::Fault;
 use std::alloc::Global;
 use std::process::ExitCode;

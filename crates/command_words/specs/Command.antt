@@ -9,6 +9,8 @@ use Rattle.resource_model.specs.Home.{HomeData, default_home, first_bad}
 use Rattle.command_words.specs.Options.{Choice, choices, option_value, are_options}
 use Rattle.command_words.specs.declared.command.Command as declared_command
 use Rattle.command_words.specs.declared.command.Serving as declared_serving
+use Rattle.command_words.specs.declared.command.Logged as declared_logged
+use Rattle.command_words.specs.declared.command.Logged.TheVariants as declared_kinds
 use Rattle.command_words.specs.declared.command.Task as declared_task
 use Rattle.command_words.specs.declared.command.Task.TheVariants as declared_tasks
 use Rattle.command_words.specs.declared.home.HomeWords as declared_home
@@ -48,6 +50,23 @@ listen_option = codes "--listen"
 abbrev pub accept_option : List ℕ
 accept_option = codes "--accept"
 
+-- how many connections it serves at a time, and what it logs
+abbrev pub workers_option : List ℕ
+workers_option = codes "--workers"
+
+abbrev pub log_option : List ℕ
+log_option = codes "--log"
+
+-- what can be logged
+abbrev pub requests_word : List ℕ
+requests_word = codes "requests"
+
+abbrev pub faults_word : List ℕ
+faults_word = codes "faults"
+
+abbrev pub nothing_word : List ℕ
+nothing_word = codes "nothing"
+
 -- ---- the options that a command takes
 
 -- those that say a home
@@ -56,7 +75,7 @@ home_options = id_option ∷ base_option ∷ sp_option ∷ admin_option ∷ type
 
 -- those that only a server takes
 abbrev pub serving_options : List (List ℕ)
-serving_options = listen_option ∷ accept_option ∷ []
+serving_options = listen_option ∷ accept_option ∷ workers_option ∷ log_option ∷ []
 
 -- the command takes an option of this name
 abbrev pub takes : List ℕ → List ℕ → Bool
@@ -80,10 +99,19 @@ home_said os = option_map (λ cst. record {
   admin = unwrap_or (option_value admin_option os) default_home.admin;
 }) (cse_type_said (option_value type_option os))
 
--- where a server listens, and how many connections it accepts, where that is limited
+-- a line for each request, or for each fault alone, or nothing
+pub data Logged : Type 0 where
+  requests : Logged
+  faults : Logged
+  nothing : Logged
+
+-- Where a server listens, how many connections it accepts, where that is limited, how many it
+-- serves at a time, and what it logs.
 pub record Serving : Type 0 where
   pub listen : List ℕ
   pub accept : Option ℕ
+  pub workers : ℕ
+  pub log : Logged
 
 -- where a server listens that is told nothing
 abbrev pub usual_address : List ℕ
@@ -93,22 +121,51 @@ usual_address = codes "127.0.0.1:8080"
 abbrev pub most_accepted : ℕ
 most_accepted = 1_000_000_000
 
--- how many connections a text says
-abbrev pub count_in : List ℕ → Option ℕ
-count_in text = option_and_then
-    (λ n. if nat_le 1 n && nat_le n most_accepted then Some n else None) (number_written text)
+-- how many it serves at a time that is told nothing
+abbrev pub usual_workers : ℕ
+usual_workers = 256
+
+-- as many as it can be told to serve at a time
+abbrev pub most_workers : ℕ
+most_workers = 4_096
+
+-- the count that a text says, which is at least 1 and at most this one
+abbrev pub count_in : List ℕ → ℕ → Option ℕ
+count_in text most = option_and_then
+    (λ n. if nat_le 1 n && nat_le n most then Some n else None) (number_written text)
 
 -- the limit that an option says, or else none
 abbrev pub accept_said : Option (List ℕ) → Option (Option ℕ)
 accept_said None = Some None
-accept_said (Some text) = option_map (λ n. Some n) (count_in text)
+accept_said (Some text) = option_map (λ n. Some n) (count_in text most_accepted)
+
+-- how many connections an option says that are served at a time, or else the usual number
+abbrev pub workers_said : Option (List ℕ) → Option ℕ
+workers_said None = Some usual_workers
+workers_said (Some text) = count_in text most_workers
+
+-- what a text says that is to be logged
+abbrev pub logged_in : List ℕ → Option Logged
+logged_in text = if bytes_eq text requests_word then Some requests
+    else if bytes_eq text faults_word then Some faults
+    else if bytes_eq text nothing_word then Some nothing
+    else None
+
+-- what an option says that is to be logged, or else the faults
+abbrev pub log_said : Option (List ℕ) → Option Logged
+log_said None = Some faults
+log_said (Some text) = logged_in text
 
 -- the server that options say
 abbrev pub serving_said : List Choice → Option Serving
-serving_said os = option_map (λ accept. record {
+serving_said os = option_and_then (λ accept. option_and_then (λ workers. option_map (λ log. record {
   listen = unwrap_or (option_value listen_option os) usual_address;
   accept = accept;
-}) (accept_said (option_value accept_option os))
+  workers = workers;
+  log = log;
+}) (log_said (option_value log_option os)))
+    (workers_said (option_value workers_option os)))
+    (accept_said (option_value accept_option os))
 
 -- ---- the command
 
@@ -165,9 +222,20 @@ home_by home = record {
   admin = home.admin.now;
 }
 
+-- what is to be logged, as it was read
+abbrev pub logged_by : declared_logged.Logged → Logged
+logged_by declared_kinds.Requests = requests
+logged_by declared_kinds.Faults = faults
+logged_by declared_kinds.Nothing = nothing
+
 -- the server that was read
 abbrev pub serving_by : declared_serving.Serving → Serving
-serving_by s = record { listen = s.listen.now; accept = s.accept }
+serving_by s = record {
+  listen = s.listen.now;
+  accept = s.accept;
+  workers = s.workers;
+  log = logged_by s.log;
+}
 
 -- the task that was read
 abbrev pub task_by : declared_task.Task → Task

@@ -14,11 +14,24 @@ use m2m_names::read_digits;
 use resource_model::{ADMIN, BASE, CSE_ID, CSE_TYPE, SERVICE_PROVIDER};
 use std::alloc::{AllocError as OutOfMemory, Global};
 
-/// Where a server listens, and how many connections it accepts, where that is limited.
+/// What a server writes into its log.
+#[derive(Clone, Copy, Debug, PartialEq, Eq)]
+pub enum Logged {
+    /// A line for each request, and one for each fault.
+    Requests,
+    /// A line for each fault of a connection.
+    Faults,
+    Nothing,
+}
+
+/// Where a server listens, how many connections it accepts, where that is limited, how many it
+/// serves at a time, and what it logs.
 #[derive(Clone, Copy, Debug)]
 pub struct Serving<'a> {
     pub listen: &'a str,
     pub accept: Option<u64>,
+    pub workers: u64,
+    pub log: Logged,
 }
 
 /// What is to be done.
@@ -44,6 +57,12 @@ const USUAL_ADDRESS: &str = "127.0.0.1:8080";
 
 /// As many connections as a server can be told to accept.
 const MOST_ACCEPTED: u64 = 1_000_000_000;
+
+/// So many connections are served at a time where a server is told nothing.
+const USUAL_WORKERS: u64 = 256;
+
+/// As many workers as a server can be told to have.
+const MOST_WORKERS: u64 = 4_096;
 
 fn cse_type_said(said: Option<&str>) -> Option<i64>
     ensures { result ≡ spec.cse_type_said (option_map (λ text. text.now) said.entry) }
@@ -77,12 +96,12 @@ fn home_said<'a>(options: &ArgMatches<'a>) -> Option<HomeWords<'a>>
     })
 }
 
-/// How many connections a text says.
-fn count_in(text: &[u8]) -> Option<u64>
-    ensures { result ≡ spec.count_in text.now }
+/// The count that a text says, which is at least 1 and at most this one.
+fn count_in(text: &[u8], most: u64) -> Option<u64>
+    ensures { result ≡ spec.count_in text.now most }
 {
     let count = read_digits(text)?;
-    if 1 <= count && count <= MOST_ACCEPTED {
+    if 1 <= count && count <= most {
         Some(count)
     } else {
         None
@@ -93,8 +112,42 @@ fn accept_said(said: Option<&str>) -> Option<Option<u64>>
     ensures { result ≡ spec.accept_said (option_map (λ text. text.now) said.entry) }
 {
     match said {
-        Some(text) => Some(Some(count_in(text.as_bytes())?)),
+        Some(text) => Some(Some(count_in(text.as_bytes(), MOST_ACCEPTED)?)),
         None => Some(None),
+    }
+}
+
+fn workers_said(said: Option<&str>) -> Option<u64>
+    ensures { result ≡ spec.workers_said (option_map (λ text. text.now) said.entry) }
+{
+    match said {
+        Some(text) => count_in(text.as_bytes(), MOST_WORKERS),
+        None => Some(USUAL_WORKERS),
+    }
+}
+
+/// What a text says that is to be logged.
+fn logged_in(text: &str) -> Option<Logged>
+    ensures { option_map spec.logged_by result ≡ spec.logged_in text.now }
+{
+    if text == names::REQUESTS {
+        Some(Logged::Requests)
+    } else if text == names::FAULTS {
+        Some(Logged::Faults)
+    } else if text == names::NOTHING {
+        Some(Logged::Nothing)
+    } else {
+        None
+    }
+}
+
+fn log_said(said: Option<&str>) -> Option<Logged>
+    ensures { option_map spec.logged_by result
+        ≡ spec.log_said (option_map (λ text. text.now) said.entry) }
+{
+    match said {
+        Some(text) => logged_in(text),
+        None => Some(Logged::Faults),
     }
 }
 
@@ -104,9 +157,13 @@ fn serving_said<'a>(options: &ArgMatches<'a>) -> Option<Serving<'a>>
         → option_map spec.serving_by result ≡ spec.serving_said os }
 {
     let accept = accept_said(option_value(names::ACCEPT, options))?;
+    let workers = workers_said(option_value(names::WORKERS, options))?;
+    let log = log_said(option_value(names::LOG, options))?;
     Some(Serving {
         listen: option_value(names::LISTEN, options).unwrap_or(USUAL_ADDRESS),
         accept,
+        workers,
+        log,
     })
 }
 

@@ -5,6 +5,13 @@
 //! no dash. What is read has the home of an entity as texts, and `HomeWords::home` makes a `Home`
 //! of them where each of them is admitted. A list of words is a command exactly where both give
 //! something (`command_in` of specs/Command), unless memory runs out.
+//!
+//! ```text
+//! let Some(command) = read_command(alloc, words)? else {
+//!     return Ok(None); // the words are no command
+//! };
+//! command.home.home(alloc)
+//! ```
 #![tactic(auto)]
 
 mod command;
@@ -12,5 +19,5 @@ mod home;
 mod names;
 mod program;
 
-pub use command::{Command, Serving, Task, read_command};
+pub use command::{Command, Logged, Serving, Task, read_command};
 pub use home::HomeWords;

@@ -21,3 +21,13 @@ pub(crate) const TYPE: &str = "--type";
 pub(crate) const LISTEN: &str = "--listen";
 /// How many connections a server accepts.
 pub(crate) const ACCEPT: &str = "--accept";
+/// How many connections a server serves at a time.
+pub(crate) const WORKERS: &str = "--workers";
+/// What a server writes into its log.
+pub(crate) const LOG: &str = "--log";
+
+pub(crate) const REQUESTS: &str = "requests";
+
+pub(crate) const FAULTS: &str = "faults";
+
+pub(crate) const NOTHING: &str = "nothing";

@@ -87,7 +87,9 @@ fn serving<'a>(alloc: Global) -> Result<Command<'a>, OutOfMemory>
 {
     let command = homed(alloc, names::SERVE)?;
     let command = with_option(alloc, command, names::LISTEN)?;
-    with_option(alloc, command, names::ACCEPT)
+    let command = with_option(alloc, command, names::ACCEPT)?;
+    let command = with_option(alloc, command, names::WORKERS)?;
+    with_option(alloc, command, names::LOG)
 }
 
 /// The program with no command yet: no name of it stands among the words, and nothing asks for

@@ -1,6 +1,6 @@
 -- What the limits leave, and what goes.
 use Rattle.std.specs.Prelude.{nat_lt}
-use Rattle.std.proofs.Common.{◌≡◌, ℕ, zero, suc, ◌+◌, ◌-◌, ◌<◌, ◌≤◌, List, [], ◌∷◌, ◌++◌, length, map, take, drop, Bool, true, false, not, ◌&&◌, ◌||◌, Option, Some, None, option_to_list, unwrap_or, inl, inr, refl, sym, ap, ◌∙◌, arith, append_assoc, length-append}
+use Rattle.std.proofs.Common.{◌≡◌, ℕ, zero, suc, ◌+◌, ◌-◌, ◌<◌, ◌≤◌, List, [], ◌∷◌, ◌++◌, length, take, drop, Bool, true, false, not, ◌&&◌, Option, Some, None, option_to_list, unwrap_or, inl, inr, refl, sym, ap, ◌∙◌, arith, append_assoc, length-append}
 use Rattle.std.proofs.lemmas.Bool.{cases_Bool, or_parts, false≢true, ltb-true, ltb-false}
 use Rattle.std.proofs.lemmas.List.{append-nil, drop_all, map-append, take-append-drop}
 use Rattle.std.proofs.lemmas.List.Elements.{filter-append}
@@ -11,16 +11,13 @@ use Rattle.std.specs.List.{filter, list_any, slice_get, sum_by}
 use Rattle.std.specs.Option.{is_none}
 use Rattle.resource_model.specs.Resource.{ResourceData}
 use Rattle.tree_model.specs.Tree.{has, instance_size}
-use Rattle.container_limits.specs.Limits.{is_within, is_unlimited, do_fit, suffixes, longest_fit, is_due_by, lasts, goes, going, kept, evicted, numbers_of}
+use Rattle.container_limits.specs.Limits.{is_within, is_unlimited, do_fit, longest_fit, is_due_by, lasts, goes, going, kept, evicted, numbers_of}
 use Rattle.container_limits.specs.declared.limits.Limits.{Limits}
 use Rattle.tree_model.proofs.OrderLemmas.{ascend}
-use Rattle.container_limits.proofs.PlaceLemmas.{drop_step, lacked_all}
+use Rattle.tree_model.proofs.StepLemmas.{drop_step, not_not}
+use Rattle.container_limits.proofs.PlaceLemmas.{lacked_all}
 
 -- ---- due or not
-
-pub not_not : (b : Bool) → not (not b) ≡ b
-not_not true = refl
-not_not false = refl
 
 filter_same : (p q : ResourceData → Bool) → ((r : ResourceData) → p r ≡ q r) → (rs : List ResourceData) → filter p rs ≡ filter q rs
 filter_same p q same [] = refl

@@ -1,10 +1,11 @@
 -- Which of a container's instances are not among those that stay.
 use Rattle.std.specs.Prelude.{nat_lt}
-use Rattle.std.proofs.Common.{◌≡◌, ℕ, zero, suc, ◌+◌, ◌<◌, List, [], ◌∷◌, ◌++◌, drop, Bool, true, false, not, ◌&&◌, ◌||◌, option_to_list, inl, inr, refl, sym, ap, ◌∙◌, arith}
+use Rattle.std.proofs.Common.{◌≡◌, ℕ, zero, suc, ◌+◌, ◌<◌, List, [], ◌∷◌, ◌++◌, drop, Bool, true, false, not, ◌||◌, Option, Some, None, Bor, option_map, inl, inr, refl, sym, ap, ◌∙◌, arith}
 use Rattle.std.proofs.lemmas.Bool.{cases_Bool, and_parts, ltb-true, ne_eqb, eq-eqb}
 use Rattle.std.proofs.lemmas.List.Elements.{filter-append}
 use Rattle.std.proofs.lemmas.List.Folds.{list_all-append}
 use Rattle.std.proofs.Math.Numerals.{suc-eq-add-one}
+use Rattle.std.specs.Iterator.{YieldsFirstRef}
 use Rattle.std.specs.List.{filter, slice_get}
 use Rattle.resource_model.specs.Resource.{ResourceData}
 use Rattle.tree_model.specs.Tree.{has}
@@ -59,13 +60,25 @@ lacked_all p front back order =
     ∙ ap (λ (ss : List ResourceData). ss ++ filter (is_not_in (filter p back)) back) (lacked_front p front back order)
     ∙ ap (λ (ss : List ResourceData). front ++ ss) (lacked p back (ascend_back front back order))
 
--- ---- one step along a list
+-- ---- going over a list
 
-drop_step_suc : (rs : List ResourceData) (k : ℕ) → drop k rs ≡ option_to_list (slice_get rs k) ++ drop (suc k) rs
-drop_step_suc [] zero = refl
-drop_step_suc [] (suc k) = refl
-drop_step_suc (r ∷ rs) zero = refl
-drop_step_suc (r ∷ rs) (suc k) = drop_step_suc rs k
+next_place : (rs : List ResourceData) (k : ℕ) → (slice_get (drop k rs) 0 ≡ slice_get rs k) × (drop 1 (drop k rs) ≡ drop (suc k) rs)
+next_place [] zero = (refl, refl)
+next_place [] (suc k) = (refl, refl)
+next_place (r ∷ rs) zero = (refl, refl)
+next_place (r ∷ rs) (suc k) = next_place rs k
 
-pub drop_step : (rs : List ResourceData) (k : ℕ) → drop k rs ≡ option_to_list (slice_get rs k) ++ drop (k + 1) rs
-drop_step rs k = drop_step_suc rs k ∙ ap (λ (n : ℕ). option_to_list (slice_get rs k) ++ drop n rs) (suc-eq-add-one k)
+-- the first of what is left from a place on stands there, and the rest is left from the next one on
+pub taken : (rs left after : List ResourceData) (k : ℕ) (o : Option (Bor ResourceData)) → left ≡ drop k rs → YieldsFirstRef (λ rest. rest) left o after → (option_map (λ r. r.now) o ≡ slice_get rs k) × (after ≡ drop (k + 1) rs)
+taken rs left after k None is got =
+    let none : drop k rs ≡ [] = sym is ∙ got.0 in
+    let place = next_place rs k in (
+      sym (sym place.0 ∙ ap (λ (ss : List ResourceData). slice_get ss 0) none),
+      got.1 ∙ sym (ap (drop 1) none) ∙ place.1 ∙ ap (λ n. drop n rs) (suc-eq-add-one k),
+    )
+taken rs left after k (Some x) is got =
+    let some : drop k rs ≡ x.now ∷ after = sym is ∙ got in
+    let place = next_place rs k in (
+      sym (sym place.0 ∙ ap (λ (ss : List ResourceData). slice_get ss 0) some),
+      sym (ap (drop 1) some) ∙ place.1 ∙ ap (λ n. drop n rs) (suc-eq-add-one k),
+    )

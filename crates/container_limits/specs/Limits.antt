@@ -1,6 +1,6 @@
 -- What the limits of a container leave of its instances (TS-0001, 9.6.6).
 use Rattle.std.specs.Prelude.{◌≡◌, ℕ, ◌+◌, ◌==◌, nat_le, List, [], ◌∷◌, ◌++◌, length, take, drop}
-use Rattle.std.specs.Prelude.{map, filter, find, sum_by, Bool, true, false, not, ◌&&◌, ◌||◌}
+use Rattle.std.specs.Prelude.{filter, find, sum_by, Bool, true, false, not, ◌&&◌, ◌||◌}
 use Rattle.std.specs.Prelude.{if◌then◌else◌, Option, Some, option_to_list, unwrap_or}
 use Rattle.std.specs.Bool.{OnTrue}
 use Rattle.std.specs.List.{list_any}
@@ -9,6 +9,7 @@ use Rattle.m2m_names.specs.declared.attributes.Attr.TheVariants.{Mbs, Mni}
 use Rattle.resource_model.specs.Attributes.{count_at}
 use Rattle.resource_model.specs.Resource.{ResourceData}
 use Rattle.tree_model.specs.Tree.{age_of, end_by, has, has_come, instance_size}
+pub use Rattle.tree_model.specs.Tree.{numbers_of}
 use Rattle.container_limits.specs.declared.limits.Limits.{Limits}
 
 -- at most the limit, where there is one
@@ -75,9 +76,6 @@ is_mia_of container mia = option_map_or (is_age (age_of container)) mia true
 -- what stays of these instances: of those that aren't due, the longest suffix that fits
 abbrev pub kept : Limits → Option ℕ → ℕ → List ResourceData → List ResourceData
 kept limits new moment rs = longest_fit limits new (filter (lasts limits.mia moment) rs)
-
-abbrev pub numbers_of : List ResourceData → List ℕ
-numbers_of rs = map (λ (r : ResourceData). r.number) rs
 
 -- the numbers of those that go, oldest first
 abbrev pub evicted : Limits → Option ℕ → ℕ → List ResourceData → List ℕ

@@ -10,7 +10,7 @@ use crate::limits::{Limits, Total, is_due_by, is_total_within, is_unlimited};
 use m2m_value::Numbers;
 use resource_model::Resource;
 use std::alloc::{AllocError as OutOfMemory, Global};
-use tree_model::{Tree, instance_at};
+use tree_model::{Tree, over_instances};
 
 /// The numbers of the instances of a container that these limits push out at a moment, oldest
 /// first: those that are due, and then those outside the longest suffix that fits, where one of
@@ -73,18 +73,14 @@ fn count_before_fit<T: Tree>(
 {
     let lasting = total_of(tree, container, limits.mia, moment, quiet);
     let mut left = with_new(lasting, new_size);
+    let mut oldest = over_instances(tree, container);
     let count = tree.instance_count(container);
     for k in 0..count {
         if is_total_within(left, limits) {
             return k;
         }
-        left = without(
-            left,
-            instance_at(tree, container, k),
-            false,
-            limits.mia,
-            moment,
-        );
+        let instance = oldest.next();
+        left = without(left, instance, false, limits.mia, moment);
     }
     count
 }
@@ -146,17 +142,13 @@ fn some_gone<T: Tree>(
         (numbers_of (going outside mia moment (instances_of container (T.nodes tree.now))) ≢ []) }
 {
     let mut numbers = Vec::new(alloc);
+    let mut oldest = over_instances(tree, container);
     for k in 0..tree.instance_count(container) {
         if k >= outside && quiet {
             return Ok(numbers);
         }
-        push_gone(
-            &mut numbers,
-            instance_at(tree, container, k),
-            k < outside,
-            mia,
-            moment,
-        )?;
+        let instance = oldest.next();
+        push_gone(&mut numbers, instance, k < outside, mia, moment)?;
     }
     Ok(numbers)
 }

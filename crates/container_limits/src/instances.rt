@@ -8,7 +8,7 @@ ghost use Rattle.container_limits.specs.Limits.{IsQuiet};
 use crate::limits::{Total, is_due_by};
 use m2m_names::Attr;
 use resource_model::Resource;
-use tree_model::{Tree, instance_at};
+use tree_model::{Tree, over_instances};
 
 fn size(resource: &Resource) -> u64
     ensures { result ≡ instance_size resource.now }
@@ -108,8 +108,10 @@ pub(crate) fn lasting_total<T: Tree>(
     ensures small { result.sizes < 2 ^ 127 }
 {
     let mut total = total(tree, container);
+    let mut oldest = over_instances(tree, container);
     for k in 0..tree.instance_count(container) {
-        total = without(total, instance_at(tree, container, k), true, mia, moment);
+        let instance = oldest.next();
+        total = without(total, instance, true, mia, moment);
     }
     total
 }

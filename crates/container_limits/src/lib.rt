@@ -8,6 +8,12 @@
 //! that is within the limits on their count and on the sum of their sizes; a law says that it fits,
 //! and that no longer one does. Both take memory only for what goes, and look at nothing else where
 //! the tree knows that nothing is due.
+//!
+//! ```text
+//! let limits = Limits::of(container); // its `mni`, `mbs` and `mia`
+//! let new_size = Some(4); // of an instance that is to come
+//! evictions(alloc, tree, container.number(), limits, new_size, moment)
+//! ```
 #![tactic(auto)]
 
 mod evicting;

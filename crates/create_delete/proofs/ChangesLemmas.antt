@@ -17,7 +17,7 @@ use Rattle.tree_model.proofs.ChangeLemmas.{unpicked-replaced}
 use Rattle.tree_model.proofs.GrowthLemmas.{has-without, tree_from_well_formed}
 use Rattle.tree_model.proofs.TreeLemmas.{at_has, at_number, at-replaced_other, has_from_at}
 use Rattle.container_limits.specs.Limits.{evicted, limits_of}
-use Rattle.container_limits.proofs.LimitLemmas.{not_not}
+use Rattle.tree_model.proofs.StepLemmas.{not_not}
 use Rattle.entity_model.specs.Entity.{EntityData}
 use Rattle.entity_model.specs.Places.{Effect}
 use Rattle.entity_model.specs.Sound.{IsSoundEntity}
@@ -46,14 +46,14 @@ use Rattle.create_delete.proofs.UpdatedLemmas.{pruning}
 numbered_alike : (out : List ℕ) (x r : ResourceData) → x.number ≡ r.number → is_numbered_in out x ≡ is_numbered_in out r
 numbered_alike out x r same = ap (λ (m : ℕ). list_any (nat_eq m) out) same
 
-gone_are : (picks : ResourceData → Bool) (nodes left : List ResourceData) → is_tree nodes ≡ true → ((r : ResourceData) → at r.number nodes ≡ Some r → has r.number left ≡ not (picks r)) → only_in nodes left ≡ filter picks nodes
+pub gone_are : (picks : ResourceData → Bool) (nodes left : List ResourceData) → is_tree nodes ≡ true → ((r : ResourceData) → at r.number nodes ≡ Some r → has r.number left ≡ not (picks r)) → only_in nodes left ≡ filter picks nodes
 gone_are picks nodes left tree each = filter_found (λ r. not (has r.number left)) picks nodes tree (λ r found. ap not (each r found) ∙ not_not (picks r))
 
-none_false : (nodes : List ResourceData) → list_all (λ (s : ResourceData). not false) nodes ≡ true
+pub none_false : (nodes : List ResourceData) → list_all (λ (s : ResourceData). not false) nodes ≡ true
 none_false [] = refl
 none_false (s ∷ nodes) = none_false nodes
 
-nothing_apart : (nodes : List ResourceData) → only_in nodes nodes ≡ []
+pub nothing_apart : (nodes : List ResourceData) → only_in nodes nodes ≡ []
 nothing_apart nodes = filter_among (λ s. not (has s.number nodes)) (λ s. false) nodes (λ s there. ap not there) ∙ nothing_picked (λ s. false) nodes (none_false nodes)
 
 -- ---- a Delete
@@ -92,7 +92,7 @@ module _ (e : EntityData) (sound : IsSoundEntity e) (c : ResourceData) (new : Is
   ]
 
   -- it isn't pushed out itself
-  c_left : at c.number (nodes_updated e c) ≡ Some c
+  pub c_left : at c.number (nodes_updated e c) ≡ Some c
   c_left = by_left (at c.number (nodes_updated e c)) refl
     where
       by_left : (x : Option ResourceData) → at c.number (nodes_updated e c) ≡ x → x ≡ Some c
@@ -110,7 +110,7 @@ module _ (e : EntityData) (sound : IsSoundEntity e) (c : ResourceData) (new : Is
 -- ---- a Create
 
 -- what comes last is what is new
-only_last : (e : EntityData) (r : ResourceData) → IsSoundEntity e → IsNewcomer e r → only_in (e.nodes ++ r ∷ []) e.nodes ≡ r ∷ []
+pub only_last : (e : EntityData) (r : ResourceData) → IsSoundEntity e → IsNewcomer e r → only_in (e.nodes ++ r ∷ []) e.nodes ≡ r ∷ []
 only_last e r sound new =
     filter-append (λ s. not (has s.number e.nodes)) e.nodes (r ∷ [])
     ∙ ap (λ (rs : List ResourceData). rs ++ filter (λ s. not (has s.number e.nodes)) (r ∷ [])) (nothing_apart e.nodes)
@@ -169,7 +169,7 @@ module _ (e : EntityData) (sound : IsSoundEntity e) (r c : ResourceData) (st : �
       (λ s found. ap (λ (m : ℕ). not (has m e.nodes)) (at_number stamped.number all s found))
       (ap not (at_has c.number e.nodes c (container_there e sound r c st filling)))
 
-  fresh : only_in left e.nodes ≡ r ∷ []
+  pub fresh : only_in left e.nodes ≡ r ∷ []
   fresh =
       ap (λ (rs : List ResourceData). only_in rs e.nodes) (sym (same_filled e sound r c st filling) ∙ all_but_out r.parent (replaced_by (grown_by e r) stamped) stamped (Some (instance_size r)) before (r ∷ []) (filling_pruning e r c st sound filling))
       ∙ filter_swap (λ s. not (has s.number e.nodes)) (λ s. not (is_numbered_in out_stamped s)) with_stamped

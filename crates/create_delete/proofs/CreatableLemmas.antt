@@ -6,11 +6,10 @@ use Rattle.std.specs.Option.{option_map_or}
 use Rattle.m2m_names.specs.Types.{does_take}
 use Rattle.m2m_names.specs.declared.operations.Op.TheVariants.{Create}
 use Rattle.m2m_names.specs.declared.types.Ty.{Ty}
-use Rattle.m2m_value.specs.Data.{Data, Entry}
+use Rattle.m2m_value.specs.Data.{Entry}
 use Rattle.primitive_json.specs.declared.request.RequestParts.{RequestParts}
 use Rattle.resource_model.specs.Resource.{ResourceData}
 use Rattle.tree_model.specs.Tree.{at}
-use Rattle.attribute_rules.specs.Admission.{are_admitted, attributes_in, is_admitted}
 use Rattle.attribute_rules.specs.declared.table.Writing.TheVariants.{Create as Creating}
 use Rattle.entity_model.specs.Entity.{EntityData}
 use Rattle.entity_model.specs.Places.{Place}
@@ -67,29 +66,18 @@ content_of e o request parent ty none child = sym (ap (λ (x : Option Ty). optio
 pub names_attributes : (e : EntityData) (o : List ℕ) (request : RequestParts) (parent : ResourceData) (ty : Ty) → fault_on Create e o request parent ≡ None → child_ty request ≡ Some ty → content_for request ty ≡ None → ⊥
 names_attributes e o request parent ty none child lacks = names_some Creating request ty (content_of e o request parent ty none child) lacks
 
--- so it has a content
-pub creates_content : (e : EntityData) (o : List ℕ) (request : RequestParts) (parent : ResourceData) (ty : Ty) → fault_on Create e o request parent ≡ None → child_ty request ≡ Some ty → request.pc ≡ None → ⊥
-creates_content e o request parent ty none child lacks = names_attributes e o request parent ty none child (ap (option_and_then (attributes_in ty)) lacks)
-
--- the content is admitted
-pub admitted_content : (e : EntityData) (o : List ℕ) (request : RequestParts) (parent : ResourceData) (ty : Ty) (content : Data) → fault_on Create e o request parent ≡ None → child_ty request ≡ Some ty → request.pc ≡ Some content → is_admitted Creating ty content ≡ true
-admitted_content e o request parent ty content none child is =
-    sym (ap (λ (x : Option Data). option_map_or (is_admitted Creating ty) x false) is)
-    ∙ admitted_for Creating request ty (content_of e o request parent ty none child)
-
 -- ---- the creation is allowed
 
-pub allowed : (e : EntityData) (o : List ℕ) (request : RequestParts) (parent : ResourceData) (ty : Ty) (content : Data) (es : List Entry) → fault_on Create e o request parent ≡ None → at parent.number e.nodes ≡ Some parent → child_ty request ≡ Some ty → request.pc ≡ Some content → content_for request ty ≡ Some es → IsAllowed (creation_of e o ty parent es)
-allowed e o request parent ty content es none there child is whole =
+pub allowed : (e : EntityData) (o : List ℕ) (request : RequestParts) (parent : ResourceData) (ty : Ty) (es : List Entry) → fault_on Create e o request parent ≡ None → at parent.number e.nodes ≡ Some parent → child_ty request ≡ Some ty → content_for request ty ≡ Some es → IsAllowed (creation_of e o ty parent es)
+allowed e o request parent ty es none there child whole =
     let h = holds e o request parent none in
     let names : named_by Create request parent ≡ es = named_is request parent ty es child whole in
     let unique = and_parts (is_unique (creation_of e o ty parent es)) _ (sym (ap (list_all (λ (p : Place). p.holds)) (new_is e o request parent ty es child whole)) ∙ h.new) in
     let room = and_parts (has_room (creation_of e o ty parent es)) _ unique.1 in
-    let named : attributes_in ty content ≡ Some es = sym (ap (option_and_then (attributes_in ty)) is) ∙ whole in
     record {
       parent = there;
       takes = sym (ap (λ (x : Option Ty). option_map_or (does_take parent.ty) x false) child) ∙ h.taken;
-      admitted = sym (ap (λ (x : Option (List Entry)). option_map_or (are_admitted Creating ty) x false) named) ∙ admitted_content e o request parent ty content none child is;
+      admitted = admitted_for Creating request ty es (content_of e o request parent ty none child) whole;
       later = ap (expires_later e) (sym names) ∙ h.later;
       live = ap (links_live e) (sym names) ∙ h.live;
       unique = unique.0;

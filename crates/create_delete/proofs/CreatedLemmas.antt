@@ -25,8 +25,9 @@ use Rattle.tree_model.specs.Shown.{with_rows, own_cse_id}
 use Rattle.tree_model.specs.Tree.{at, age_end, due_under, may_stand, has_ae_id, has_child, has_channel, has_cse_id, is_due, is_placed, lesser, same_text, instance_size}
 use Rattle.tree_model.proofs.ShownLemmas.{with_rows-append}
 use Rattle.tree_model.proofs.TreeLemmas.{at_has}
-use Rattle.attribute_rules.specs.Admission.{attributes_in}
+use Rattle.attribute_rules.specs.Admission.{attributes_in, is_admitted}
 use Rattle.attribute_rules.specs.Contents.{named_text, wanted_in, wanted_of}
+use Rattle.attribute_rules.specs.declared.table.Writing.TheVariants.{Create as Creating}
 use Rattle.attribute_rules.proofs.ValueLemmas.{value_wanted}
 use Rattle.container_limits.specs.Limits.{is_within}
 use Rattle.policy_eval.specs.Rules.{listed_in, ids_at}
@@ -35,6 +36,7 @@ use Rattle.entity_model.specs.Sound.{is_known_id, largest_size, IsSoundEntity}
 use Rattle.request_rules.specs.Creation.{Creation, creator_rows, given_rows, has_place, has_room, is_below, is_free_cse_id, is_single, is_small, new_ae_id, new_name, new_resource, new_rows, new_size, next_state, takes_instance}
 use Rattle.request_rules.specs.Policies.{link_row}
 use Rattle.request_rules.specs.Requests.{named_expiry}
+use Rattle.request_rules.proofs.EditingLemmas.{attributes_admitted}
 use Rattle.create_delete.specs.Changing.{filling_of, pushed_out}
 use Rattle.create_delete.specs.Joining.{IsAllowed, MayJoin}
 use Rattle.create_delete.specs.Newcomer.{IsFilling, IsNewcomer}
@@ -302,8 +304,12 @@ small_contents c may is = (let small : new_size c ≤ 1048576 = (taking c.parent
 pub wanted_is : (ty : Ty) (content : Data) (es : List Entry) → attributes_in ty content ≡ Some es → wanted_of ty content ≡ wanted_in es
 wanted_is ty content es named = ap (λ (o : Option (List Entry)). wanted_in (unwrap_or o [])) named
 
+-- a content whose attributes are admitted is admitted
+pub content_admitted : (c : Creation) (content : Data) → IsAllowed c → attributes_in c.ty content ≡ Some c.named → is_admitted Creating c.ty content ≡ true
+content_admitted c content may named = attributes_admitted Creating c.ty content c.named named ∙ may.admitted
+
 pub last_is_moment : (e : EntityData) → IsSoundEntity e → e.last ≤ last_moment
 last_is_moment e sound = (let most : e.last ≤ last_reading = sound.last in omega arith)
 
 -- the parts of what a creation makes
-pub ruleset parts_of_the_created = (few_numbers, small_contents, wanted_is, last_is_moment)
+pub ruleset parts_of_the_created = (few_numbers, small_contents, wanted_is, content_admitted, last_is_moment)

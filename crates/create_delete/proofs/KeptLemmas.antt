@@ -9,7 +9,7 @@ use Rattle.resource_model.specs.Resource.{ResourceData}
 use Rattle.tree_model.specs.Tree.{has, stays, staying}
 use Rattle.tree_model.proofs.GrowthLemmas.{has-filter}
 use Rattle.container_limits.specs.Limits.{numbers_of}
-use Rattle.container_limits.proofs.LimitLemmas.{not_not}
+use Rattle.tree_model.proofs.StepLemmas.{not_not}
 use Rattle.tree_model.proofs.OrderLemmas.{are_above, ascend, above_lacks}
 
 -- ---- filters

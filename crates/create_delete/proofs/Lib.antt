@@ -8,9 +8,9 @@ pub mod JoinedLemmas
 pub mod JoiningLemmas
 pub mod KeptLemmas
 pub mod LeftLemmas
-pub mod ListingLemmas
 pub mod NewcomerLemmas
 pub mod PerformedLemmas
+pub mod PlannedLemmas
 pub mod PrunedLemmas
 pub mod PushingLemmas
 pub mod RelinkLemmas

@@ -21,7 +21,7 @@ use Rattle.attribute_rules.specs.Contents.{does_clear, edit_in, edited}
 use Rattle.attribute_rules.specs.declared.table.Writing.TheVariants.{Update as Updating}
 use Rattle.attribute_rules.proofs.ContentsLemmas.{same_text}
 use Rattle.attribute_rules.proofs.ValueLemmas.{value_edited}
-use Rattle.policy_eval.specs.Alike.{is_attr_in}
+use Rattle.policy_eval.specs.Rules.{is_attr_in}
 use Rattle.container_limits.specs.Limits.{limits_of}
 use Rattle.entity_model.specs.Entity.{EntityData}
 use Rattle.request_rules.specs.Policies.{link_row}

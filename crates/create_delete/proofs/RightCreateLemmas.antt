@@ -13,7 +13,7 @@ use Rattle.m2m_names.specs.declared.codes.Rsc.TheVariants.{BadChild}
 use Rattle.m2m_names.specs.declared.operations.Op.TheVariants.{Create}
 use Rattle.m2m_names.specs.declared.types.Ty.{Ty}
 use Rattle.m2m_names.specs.declared.types.Ty.TheVariants.{Container, ContentInstance}
-use Rattle.m2m_value.specs.Data.{Data, Entry, number}
+use Rattle.m2m_value.specs.Data.{Entry, number}
 use Rattle.m2m_value.specs.Node.{AreSorted}
 use Rattle.primitive_json.specs.declared.request.RequestParts.{RequestParts}
 use Rattle.resource_model.specs.Resource.{ResourceData, is_ty, has_number}
@@ -23,9 +23,8 @@ use Rattle.tree_model.proofs.GrowthLemmas.{below_lacks}
 use Rattle.tree_model.proofs.StampLemmas.{restamped_is}
 use Rattle.tree_model.proofs.TreeLemmas.{at_has, at_none, at_number, at-append, at-replaced, at-replaced_other}
 use Rattle.container_limits.specs.Limits.{evicted, kept, limits_of}
-use Rattle.policy_eval.specs.Alike.{is_attr_in}
 use Rattle.policy_eval.specs.Rights.{bits_by, has_bits}
-use Rattle.policy_eval.specs.Rules.{rules_of}
+use Rattle.policy_eval.specs.Rules.{is_attr_in, rules_of}
 use Rattle.entity_model.specs.Entity.{EntityData}
 use Rattle.entity_model.specs.Places.{Effect, refused}
 use Rattle.entity_model.specs.Sound.{IsSoundEntity}
@@ -39,7 +38,7 @@ use Rattle.create_delete.specs.Guard.{ChangesByRight, DiffersIn, filling_attrs, 
 use Rattle.create_delete.specs.Joining.{IsAllowed, MayFill, MayJoin}
 use Rattle.create_delete.specs.Newcomer.{IsFilling, IsNewcomer}
 use Rattle.create_delete.specs.declared.joining.Filling.{Filling}
-use Rattle.create_delete.proofs.CreatableLemmas.{allowed, creates_content, names_attributes, names_type}
+use Rattle.create_delete.proofs.CreatableLemmas.{allowed, names_attributes, names_type}
 use Rattle.create_delete.proofs.CreatedLemmas.{may_join}
 use Rattle.create_delete.proofs.GrownLemmas.{grown_by, sound_grown}
 use Rattle.create_delete.proofs.InstanceLemmas.{grown_tree, instance_type, is_container, limits_restamped, pruning, there}
@@ -134,7 +133,7 @@ module _ (e : EntityData) (sound : IsSoundEntity e) (r c : ResourceData) (st : �
       ap (λ l. without_all (evicted l (Some (instance_size r)) e.last before) turned) (limits_restamped e.last st c)
       ∙ sym (ap (without_all out) (restamped_is all r.parent e.last st c (grown_tree e r c st sound filling) (there e r c st sound filling)))
 
-  named : c.number ≡ r.parent
+  pub named : c.number ≡ r.parent
   named = at_number r.parent e.nodes c filling.container
 
   pub container_there : at c.number e.nodes ≡ Some c
@@ -198,27 +197,30 @@ module _ (e : EntityData) (sound : IsSoundEntity e) (r c : ResourceData) (st : �
         both_ways (is_attr_in filling_attrs a) none (subst (λ (x : Attr). is_attr_in filling_attrs x ≡ true) (sym is) refl));
   }
 
+  pub itself : is_instance r.parent r ≡ true
+  itself = and_from _ _ (eq-eqb r.parent r.parent refl) filling.instance
+
   stamped_by_right : (o : List ℕ) → IsChangedByRight e o after c stamped
   stamped_by_right o = inr (inr (r, (lacks e sound r filling.new, new_left), ap (λ (m : ℕ). is_instance m r) named ∙ itself, tag_alone))
-    where
-      itself : is_instance r.parent r ≡ true
-      itself = and_from _ _ (eq-eqb r.parent r.parent refl) filling.instance
 
-  changed : (o : List ℕ) (a b : ResourceData) → IsChanged e.nodes nodes_filled a b → IsChangedByRight e o after a b
-  changed o a b change = elim (cases_eq b.number c.number) [
+  -- of what stood there the container alone differs
+  pub changed_is : (a b : ResourceData) → IsChanged e.nodes nodes_filled a b → (c ≡ a) × (stamped ≡ b)
+  changed_is a b change = elim (cases_eq b.number c.number) [
     | inl is ↦
         let now : at c.number turned ≡ Some b = ap (λ (m : ℕ). at m turned) (sym is) ∙ filled_left.stood b.number b change.is in
         let was : at c.number e.nodes ≡ Some a = ap (λ (m : ℕ). at m e.nodes) (sym is ∙ change.same) ∙ change.was in
-        by_same (same_Some c a (sym container_there ∙ was)) (same_Some stamped b (sym stamped_there ∙ now))
+        (same_Some c a (sym container_there ∙ was), same_Some stamped b (sym stamped_there ∙ now))
     | inr other ↦
         let was : at b.number e.nodes ≡ Some a = ap (λ (m : ℕ). at m e.nodes) change.same ∙ change.was in
         absurd (change.differs (same_Some b a (sym (stood_grown b.number b other change.is) ∙ older_there e sound r filling.new b.number a was)))
   ]
-    where
-      by_same : c ≡ a → stamped ≡ b → IsChangedByRight e o after a b
-      by_same was now = subst (λ (x : ResourceData). IsChangedByRight e o after x b) was (subst (λ (x : ResourceData). IsChangedByRight e o after c x) now (stamped_by_right o))
 
-  removed : (s : ResourceData) → IsGone e.nodes nodes_filled s → is_instance r.parent s ≡ true
+  changed : (o : List ℕ) (a b : ResourceData) → IsChanged e.nodes nodes_filled a b → IsChangedByRight e o after a b
+  changed o a b change =
+      let same = changed_is a b change in
+      subst (λ (x : ResourceData). IsChangedByRight e o after x b) same.0 (subst (λ (x : ResourceData). IsChangedByRight e o after c x) same.1 (stamped_by_right o))
+
+  pub removed : (s : ResourceData) → IsGone e.nodes nodes_filled s → is_instance r.parent s ≡ true
   removed s gone = elim (cases_eq s.number c.number) [
     | inl is ↦
         let none : at stamped.number nodes_filled ≡ None = ap (λ (m : ℕ). at m nodes_filled) (sym is) ∙ gone.1 in
@@ -260,6 +262,7 @@ pub record IsCreate (e : EntityData) (o : List ℕ) (request : RequestParts) (n 
   pub entity : made.e ≡ e
   pub originator : made.o ≡ o
   pub parent : made.parent.number ≡ n
+  pub by : (t : ResourceData) (ty : Ty) → at n e.nodes ≡ Some t → child_ty request ≡ Some ty → made ≡ creation_by e o request t ty
   pub sorted : AreSorted made.named
   pub may : IsAllowed made
   pub right : is_granted made.e made.o (op_row Create).bit made.parent.number ≡ true
@@ -274,18 +277,18 @@ module _ (e : EntityData) (o : List ℕ) (request : RequestParts) (n : ℕ) (con
         entity = refl;
         originator = refl;
         parent = number;
+        by = λ u kind found names.
+            ap (λ (x : Option (List Entry)). creation_of e o ty t (unwrap_or x [])) (sym whole)
+            ∙ ap (creation_by e o request t) (same_Some ty kind (sym child ∙ names))
+            ∙ ap (λ (x : ResourceData). creation_by e o request x kind) (same_Some t u (sym stands ∙ found));
         sorted = content ty es whole;
-        may = by_content request.pc refl (ap (λ (m : ℕ). at m e.nodes) number ∙ stands);
+        may = allowed e o request t ty es fault (ap (λ (m : ℕ). at m e.nodes) number ∙ stands) child whole;
         right = creates_by e o request t.number (and_parts (may_do Create e o request t.number) _ (all_hold (places Create e o request t) fault)).0;
         after =
             ap (λ (x : Effect). x.after) (done_at Create e o request n t stands none)
             ∙ ap (λ (x : Option Ty). (option_map_or (λ (y : Ty). create_effect request (creation_by e o request t y)) x (refused e request BadChild)).after) child
             ∙ ap (λ (x : Option (List Entry)). (create_effect request (creation_of e o ty t (unwrap_or x []))).after) whole;
       }
-    where
-      by_content : (pc : Option Data) → request.pc ≡ pc → at t.number e.nodes ≡ Some t → IsAllowed (creation_of e o ty t es)
-      by_content None is own = absurd (creates_content e o request t ty fault child is)
-      by_content (Some d) is own = allowed e o request t ty d es fault own child is whole
 
   by_names : (t : ResourceData) → at n e.nodes ≡ Some t → fault_on Create e o request t ≡ None → (ty : Ty) → child_ty request ≡ Some ty → (x : Option (List Entry)) → content_for request ty ≡ x → IsCreate e o request n
   by_names t stands fault ty child None is = absurd (names_attributes e o request t ty fault child is)
@@ -302,16 +305,16 @@ module _ (e : EntityData) (o : List ℕ) (request : RequestParts) (n : ℕ) (con
 
 -- its resource joins
 module _ (e : EntityData) (o : List ℕ) (request : RequestParts) (n : ℕ) (sound : IsSoundEntity e) (originator : is_originator o ≡ true) (content : NamesInOrder request) (none : fault_at Create e o request n ≡ None) where
-  create : IsCreate e o request n
+  pub create : IsCreate e o request n
   create = is_create e o request n content none
 
-  made_sound : IsSoundEntity create.made.e
+  pub made_sound : IsSoundEntity create.made.e
   made_sound = subst IsSoundEntity (sym create.entity) sound
 
-  joins : MayJoin create.made.e (new_resource create.made) (filling_of create.made)
+  pub joins : MayJoin create.made.e (new_resource create.made) (filling_of create.made)
   joins = may_join create.made made_sound (ap is_originator create.originator ∙ originator) create.sorted create.may
 
-  after_is : (performed_at Create e o request n).after ≡ after_joining create.made.e (new_resource create.made) (filling_of create.made)
+  pub after_is : (performed_at Create e o request n).after ≡ after_joining create.made.e (new_resource create.made) (filling_of create.made)
   after_is = create.after
 
   pub create_by_right : ChangesByRight Create e o n (performed_at Create e o request n).after

@@ -5,7 +5,7 @@ use Rattle.std.proofs.lemmas.Option.{same_Some}
 use Rattle.m2m_names.specs.Operations.{op_row}
 use Rattle.m2m_names.specs.declared.operations.Op.TheVariants.{Update}
 use Rattle.m2m_names.specs.declared.types.Ty.TheVariants.{Container, ContentInstance}
-use Rattle.m2m_value.specs.Data.{Data, Entry}
+use Rattle.m2m_value.specs.Data.{Entry}
 use Rattle.m2m_value.specs.Node.{AreSorted}
 use Rattle.primitive_json.specs.declared.request.RequestParts.{RequestParts}
 use Rattle.resource_model.specs.Resource.{ResourceData, is_ty}
@@ -32,7 +32,7 @@ use Rattle.create_delete.proofs.PushingLemmas.{nothing_removed}
 use Rattle.create_delete.proofs.RelinkLemmas.{limits_kept, links_stay, names_link, names_no_link, relinked}
 use Rattle.create_delete.proofs.ReplacedLemmas.{replaced_by, still_there}
 use Rattle.create_delete.proofs.ReplacementLemmas.{replacement}
-use Rattle.create_delete.proofs.UpdatableLemmas.{updatable, updates_attributes, updates_content}
+use Rattle.create_delete.proofs.UpdatableLemmas.{updatable, updates_attributes}
 use Rattle.create_delete.proofs.UpdatedLemmas.{pruning, sound_updated}
 
 -- the entity in which a resource is as it is now
@@ -167,6 +167,7 @@ pub record IsUpdate (e : EntityData) (o : List ℕ) (request : RequestParts) (n 
   pub target : ResourceData
   pub number : target.number ≡ n
   pub es : List Entry
+  pub named : named_by Update request target ≡ es
   pub sorted : AreSorted es
   pub may : IsUpdatable e es target
   pub whole : content_for request target.ty ≡ Some es
@@ -182,18 +183,15 @@ module _ (e : EntityData) (o : List ℕ) (request : RequestParts) (n : ℕ) (con
         target = t;
         number = number;
         es = es;
+        named = names;
         sorted = content t.ty es whole;
-        may = by_content request.pc refl (ap (λ (m : ℕ). at m e.nodes) number ∙ there);
+        may = updatable e o request t es fault (ap (λ (m : ℕ). at m e.nodes) number ∙ there) whole;
         whole = whole;
         right = (and_parts (may_do Update e o request t.number) _ (all_hold (places Update e o request t) fault)).0;
         after =
             ap (λ (x : Effect). x.after) (done_at Update e o request n t there none)
             ∙ ap (λ (xs : List Entry). (update_effect e request xs t).after) names;
       }
-    where
-      by_content : (pc : Option Data) → request.pc ≡ pc → at t.number e.nodes ≡ Some t → IsUpdatable e es t
-      by_content None is own = absurd (updates_content e o request t fault is)
-      by_content (Some d) is own = updatable e o request t d es fault own is whole
 
   by_names : (t : ResourceData) → at n e.nodes ≡ Some t → fault_on Update e o request t ≡ None → (x : Option (List Entry)) → content_for request t.ty ≡ x → IsUpdate e o request n
   by_names t there fault None is = absurd (updates_attributes e o request t fault is)

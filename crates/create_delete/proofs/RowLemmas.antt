@@ -32,6 +32,12 @@ edited_in_turn a b d rows one two three first second third =
     third ∙ ap (with_rows d) (second ∙ ap (with_rows b) first)
     ∙ ap (with_rows d) (sym (with_rows-append a b rows)) ∙ sym (with_rows-append (a ++ b) d rows)
 
+-- and four after a creation
+pub given_in_turn : (a b d f rows one two three four : List Row) → one ≡ with_rows a rows → two ≡ with_rows b one → three ≡ with_rows d two → four ≡ with_rows f three → four ≡ with_rows (a ++ b ++ d ++ f) rows
+given_in_turn a b d f rows one two three four first second third fourth =
+    fourth ∙ ap (with_rows f) (edited_in_turn a b d rows one two three first second third)
+    ∙ sym (with_rows-append (a ++ b ++ d) f rows)
+
 -- ---- what is told
 
 keys_told : (es : List Entry) (rows : List Row) → keys_of (filter (is_told es) rows) ≡ filter (is_told_at es) (keys_of rows)

@@ -1,20 +1,19 @@
 -- What holds of an update that no place refuses.
-use Rattle.std.proofs.Common.{◌≡◌, ℕ, List, [], true, false, Option, Some, None, option_and_then, unwrap_or, sym, ap, ◌∙◌}
+use Rattle.std.proofs.Common.{◌≡◌, ℕ, List, [], true, Option, Some, None, unwrap_or, sym, ap, ◌∙◌}
 use Rattle.std.proofs.lemmas.Bool.{and_parts}
-use Rattle.std.specs.Option.{option_map_or}
 use Rattle.m2m_names.specs.declared.operations.Op.TheVariants.{Update}
 use Rattle.m2m_value.specs.Data.{Data, Entry}
 use Rattle.primitive_json.specs.declared.request.RequestParts.{RequestParts}
 use Rattle.resource_model.specs.Resource.{ResourceData}
 use Rattle.tree_model.specs.Tree.{at}
-use Rattle.attribute_rules.specs.Admission.{are_admitted, attributes_in, is_admitted}
+use Rattle.attribute_rules.specs.Admission.{attributes_in, is_admitted}
 use Rattle.attribute_rules.specs.declared.table.Writing.TheVariants.{Update as Updating}
 use Rattle.entity_model.specs.Entity.{EntityData}
 use Rattle.request_rules.specs.Order.{expires_later, fault_on, places}
 use Rattle.request_rules.specs.Policies.{links_live}
 use Rattle.request_rules.specs.Requests.{admits_content, content_for, is_content_for, is_for, named_by, takes_child}
 use Rattle.request_rules.specs.Rights.{may_do}
-use Rattle.request_rules.proofs.EditingLemmas.{admitted_for, names_some}
+use Rattle.request_rules.proofs.EditingLemmas.{admitted_for, attributes_admitted, names_some}
 use Rattle.request_rules.proofs.OrderLemmas.{all_hold}
 use Rattle.create_delete.specs.Updating.{IsUpdatable}
 
@@ -39,26 +38,19 @@ holds e o request r none =
 pub updates_attributes : (e : EntityData) (o : List ℕ) (request : RequestParts) (r : ResourceData) → fault_on Update e o request r ≡ None → content_for request r.ty ≡ None → ⊥
 updates_attributes e o request r none lacks = names_some Updating request r.ty (holds e o request r none).admits lacks
 
--- it has a content
-pub updates_content : (e : EntityData) (o : List ℕ) (request : RequestParts) (r : ResourceData) → fault_on Update e o request r ≡ None → request.pc ≡ None → ⊥
-updates_content e o request r none lacks = updates_attributes e o request r none (ap (option_and_then (attributes_in r.ty)) lacks)
-
--- which is admitted
-pub admitted_update : (e : EntityData) (o : List ℕ) (request : RequestParts) (r : ResourceData) (content : Data) → fault_on Update e o request r ≡ None → request.pc ≡ Some content → is_admitted Updating r.ty content ≡ true
-admitted_update e o request r content none is =
-    sym (ap (λ (x : Option Data). option_map_or (is_admitted Updating r.ty) x false) is)
-    ∙ admitted_for Updating request r.ty (holds e o request r none).admits
-
 -- and it may be done
-pub updatable : (e : EntityData) (o : List ℕ) (request : RequestParts) (r : ResourceData) (content : Data) (es : List Entry) → fault_on Update e o request r ≡ None → at r.number e.nodes ≡ Some r → request.pc ≡ Some content → content_for request r.ty ≡ Some es → IsUpdatable e es r
-updatable e o request r content es none there is whole =
+pub updatable : (e : EntityData) (o : List ℕ) (request : RequestParts) (r : ResourceData) (es : List Entry) → fault_on Update e o request r ≡ None → at r.number e.nodes ≡ Some r → content_for request r.ty ≡ Some es → IsUpdatable e es r
+updatable e o request r es none there whole =
     let h = holds e o request r none in
     let names : named_by Update request r ≡ es = ap (λ (x : Option (List Entry)). unwrap_or x []) whole in
-    let named : attributes_in r.ty content ≡ Some es = sym (ap (option_and_then (attributes_in r.ty)) is) ∙ whole in
     record {
       stands = there;
       kind = h.kind;
-      admitted = sym (ap (λ (x : Option (List Entry)). option_map_or (are_admitted Updating r.ty) x false) named) ∙ admitted_update e o request r content none is;
+      admitted = admitted_for Updating request r.ty es h.admits whole;
       later = ap (expires_later e) (sym names) ∙ h.later;
       live = ap (links_live e) (sym names) ∙ h.live;
     }
+
+-- a content whose attributes are admitted is admitted
+pub update_admitted : (e : EntityData) (es : List Entry) (r : ResourceData) (content : Data) → IsUpdatable e es r → attributes_in r.ty content ≡ Some es → is_admitted Updating r.ty content ≡ true
+update_admitted e es r content may named = attributes_admitted Updating r.ty content es named ∙ may.admitted

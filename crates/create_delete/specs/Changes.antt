@@ -11,21 +11,15 @@ use Rattle.m2m_names.specs.declared.operations.Op.TheVariants.{Notify}
 use Rattle.m2m_value.specs.Data.{Entry}
 use Rattle.primitive_json.specs.declared.request.RequestParts.{RequestParts}
 use Rattle.resource_model.specs.Resource.{ResourceData}
-use Rattle.resource_model.specs.declared.resource.Change.{Change}
-use Rattle.resource_model.specs.declared.resource.Change.TheVariants.{Created, Updated, Deleted}
+pub use Rattle.tree_model.specs.Changes.{ChangeData, created, updated, deleted, change_of, those_of}
+pub use Rattle.tree_model.specs.Changes.{first_of, those_below, creation_changes, update_changes}
+pub use Rattle.tree_model.specs.Changes.{deletion_changes}
 use Rattle.tree_model.specs.Tree.{at, has}
 pub use Rattle.tree_model.specs.Tree.{is_at_or_below}
 use Rattle.entity_model.specs.Entity.{EntityData}
 use Rattle.request_rules.specs.Order.{fault_at}
 use Rattle.request_rules.specs.Requests.{named_by}
 use Rattle.create_delete.specs.Changing.{performed_at}
-
--- What happened to a resource: it is new; it was the first and is the second after an Update that
--- named these attributes; or it was this one, and is gone.
-pub data ChangeData : Type 0 where
-  created : ResourceData → ChangeData
-  updated : ResourceData → ResourceData → List Attr → ChangeData
-  deleted : ResourceData → ChangeData
 
 -- what stands in the first list alone, in order of creation
 abbrev pub only_in : List ResourceData → List ResourceData → List ResourceData
@@ -66,38 +60,3 @@ abbrev pub changes_at : Op → EntityData → List ℕ → RequestParts → ℕ 
 changes_at op e o request n =
     option_map_or (λ fault. []) (fault_at op e o request n)
     (changes_by op request n e (performed_at op e o request n).after)
-
--- ---- the same as a list that is gone through
-
--- the change that a value of the code lends
-abbrev pub change_of : Change → ChangeData
-change_of (Created r) = created r.now
-change_of (Updated before after named) = updated before.now after.now named.now
-change_of (Deleted r) = deleted r.now
-
--- the resources of these numbers, in the order of the numbers
-abbrev pub those_of : List ℕ → List ResourceData → List ResourceData
-those_of numbers nodes = filter_map (λ n. at n nodes) numbers
-
--- the changes that come first, if one is given
-abbrev pub first_of : Option Change → List ChangeData
-first_of (Some c) = change_of c ∷ []
-first_of None = []
-
--- of these resources those at or below the one of the number, where one is given
-abbrev pub those_below : Option ℕ → List ResourceData → List ResourceData → List ResourceData
-those_below (Some n) nodes left = filter (is_at_or_below n nodes) left
-those_below None nodes left = []
-
--- a creation makes the resource, and then pushes out those of these numbers
-abbrev pub creation_changes : List ResourceData → ResourceData → List ℕ → List ChangeData
-creation_changes nodes r gone = created r ∷ map deleted (those_of gone nodes)
-
--- an update of these attributes makes the second of the first, and then pushes out those
-abbrev pub update_changes : List ResourceData → ResourceData → ResourceData → List Attr → List ℕ
-    → List ChangeData
-update_changes nodes r s named gone = updated r s named ∷ map deleted (those_of gone nodes)
-
--- a deletion takes the resource of the number, and then what stands below it
-abbrev pub deletion_changes : List ResourceData → ℕ → List ChangeData
-deletion_changes nodes n = map deleted (filter (is_at_or_below n nodes) nodes)

@@ -1,8 +1,7 @@
 -- What a Create, an Update and a Delete leave, and what they reply (TS-0001, 10.2; TS-0004, 7.3.3
 -- and 7.5.2).
-use Rattle.std.specs.Prelude.{ℕ, ℤ, pos, nat_eq, Bool, ◌||◌, List, [], ◌∷◌, ◌++◌}
+use Rattle.std.specs.Prelude.{ℕ, ℤ, pos, Bool, ◌||◌, List, [], ◌∷◌, ◌++◌}
 use Rattle.std.specs.Prelude.{◌+◌, codes, filter, Option, Some, None, if◌then◌else◌}
-use Rattle.std.specs.List.{list_any}
 use Rattle.std.specs.Option.{option_map_or}
 use Rattle.std.specs.Ordering.{int_eq}
 use Rattle.m2m_names.specs.Members.{rce_name}
@@ -26,6 +25,7 @@ use Rattle.container_limits.specs.Limits.{evicted, limits_of}
 use Rattle.tree_model.specs.Shown.{attributes_of, members_of, shown_rows, typed_member}
 use Rattle.tree_model.specs.Shown.{with_rows, wrapped}
 use Rattle.tree_model.specs.Tree.{at, instances_of, replaced, restamped_at, without}
+pub use Rattle.tree_model.specs.Tree.{is_numbered_in, without_all}
 use Rattle.request_rules.specs.Creation.{Creation, new_resource, new_size, next_state}
 use Rattle.entity_model.specs.Entity.{EntityData}
 use Rattle.request_rules.specs.Order.{creation_by, places}
@@ -36,14 +36,6 @@ use Rattle.request_rules.specs.Requests.{child_ty, expiry_for, named_by}
 use Rattle.create_delete.specs.declared.joining.Filling.{Filling}
 
 -- ---- what limits push out
-
--- it has one of these numbers
-abbrev pub is_numbered_in : List ℕ → ResourceData → Bool
-is_numbered_in numbers r = list_any (nat_eq r.number) numbers
-
--- what stays where the resources of these numbers are removed, with all that stands below them
-abbrev pub without_all : List ℕ → List ResourceData → List ResourceData
-without_all numbers nodes = without (is_numbered_in numbers) nodes
 
 -- the numbers of the instances that a container pushes out as it is, before one of this size, if
 -- any, oldest first (TS-0001, 9.6.6)
@@ -131,6 +123,10 @@ updated_resource e es r = record r {
       with_rows (state_row r ++ link_row e es Acpi ++ link_row e es Macp)
       (edited (edit_in es) r.attrs);
 }
+
+-- the resource after the update that a request asks for
+abbrev pub updated_by : EntityData → RequestParts → ResourceData → ResourceData
+updated_by e request r = updated_resource e (named_by Update request r) r
 
 -- a container pushes out what doesn't fit its limits any more
 abbrev pub pushed_by : EntityData → ResourceData → List ℕ

@@ -14,7 +14,7 @@ use Rattle.primitive_json.specs.declared.request.RequestParts.{RequestParts}
 use Rattle.resource_model.specs.Attributes.{value_of}
 use Rattle.resource_model.specs.Resource.{ResourceData, is_ty}
 use Rattle.tree_model.specs.Tree.{at, is_at_or_below, is_instance}
-use Rattle.policy_eval.specs.Alike.{is_attr_in}
+use Rattle.policy_eval.specs.Rules.{is_attr_in}
 use Rattle.policy_eval.specs.Rights.{create_bit, update_bit, delete_bit, relinks}
 use Rattle.entity_model.specs.Entity.{EntityData}
 use Rattle.request_rules.specs.Requests.{content_for}

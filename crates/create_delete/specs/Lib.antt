@@ -1,7 +1,7 @@
 pub mod Changes
 pub mod Changing
-pub mod Codes
 pub mod Guard
 pub mod Joining
 pub mod Newcomer
+pub mod Prepared
 pub mod Updating

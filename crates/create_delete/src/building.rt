@@ -1,19 +1,15 @@
 //! The resource that a Create makes.
-ghost use Rattle.std.specs.Prelude.{◌≡◌, ◌<◌, true, IfOk, IsTrue, IsUtf8, OnOk, Some};
-ghost use Rattle.std.specs.Prelude.{pos, unwrap_or};
+ghost use Rattle.std.specs.Prelude.{◌≡◌, ◌<◌, IfOk, IsTrue, IsUtf8, OnOk, Some, pos};
+ghost use Rattle.std.specs.Prelude.{unwrap_or};
 ghost use Rattle.m2m_names.specs.Ids.{count_bound};
 ghost use Rattle.m2m_names.specs.Name.{is_originator};
 ghost use Rattle.m2m_names.specs.Stamps.{last_moment};
 ghost use Rattle.m2m_value.specs.Data as json;
-ghost use Rattle.m2m_names.specs.declared.types.Ty.TheVariants.{ContentInstance};
 ghost use Rattle.resource_model.specs.Attributes.{with_value};
-ghost use Rattle.resource_model.specs.Resource.{is_ty};
-ghost use Rattle.attribute_rules.specs.Admission.{attributes_in, is_admitted};
-ghost use Rattle.attribute_rules.specs.declared.table.Writing.TheVariants.{Create};
 ghost use Rattle.tree_model.specs.Shown.{with_rows};
-ghost use Rattle.entity_model.specs.Sound.{IsSoundEntity};
+ghost use Rattle.attribute_rules.specs.Admission.{attributes_in};
 ghost use Rattle.request_rules.specs.Creation as spec;
-ghost use Rattle.request_rules.specs.Creation.{creation_of};
+ghost use Rattle.request_rules.specs.Judged.{creation_for};
 ghost use Rattle.request_rules.specs.Policies as policies;
 ghost use Rattle.create_delete.specs.Joining.{IsAllowed};
 
@@ -21,16 +17,11 @@ use attribute_rules::take_wanted;
 use entity_model::Entity;
 use m2m_names::{Attr, LARGEST_COUNT, LAST_MOMENT, Ty};
 use m2m_value::{Items, Members, Text, Val};
-use request_rules::{listed, new_ae_id, new_name, new_owner, policy_ids, size_named};
+use request_rules::{
+    AllowedCreate, listed, new_ae_id, new_name, new_owner, policy_ids, size_named,
+};
 use std::alloc::{AllocError as OutOfMemory, Global};
 use tree_model::{Attrs, Moments, Resource, Tree};
-
-/// That an entity is sound, which is told by its last moment.
-pub(crate) fn tell_soundness<T: Tree>(entity: &Entity<T>)
-    ensures { IsSoundEntity entity.now }
-{
-    let _last = entity.last;
-}
 
 /// The state tag of a resource after one more change.
 pub(crate) fn next_state(resource: &Resource) -> u64
@@ -55,27 +46,25 @@ fn set_text(attrs: &mut Attrs, attr: Attr, text: Text) -> Result<(), OutOfMemory
     attrs.set(attr, Val::of_text(text))
 }
 
-// What the CSE gives a resource of the type besides.
+// What the CSE gives a new resource besides.
 fn give<T: Tree>(
     alloc: Global,
     entity: &Entity<T>,
     o: &[u8],
-    ty: Ty,
-    parent: &Resource,
-    members: &Members,
+    create: &AllowedCreate,
     attrs: &mut Attrs,
 ) -> Result<(), OutOfMemory>
     requires originator { IsTrue (is_originator o.now) }
-    requires size { is_ty ty ContentInstance ≡ true → spec.size_named members.now < count_bound }
-    ensures { OnOk result (attrs.new ≡ with_rows (spec.given_rows ty
-        (creation_of entity.now o.now ty parent.now members.now)) attrs.old) }
+    requires allowed { IsAllowed (creation_for entity.now o.now create.now) }
+    ensures { OnOk result (attrs.new ≡ with_rows (spec.given_rows create.now.ty
+        (creation_for entity.now o.now create.now)) attrs.old) }
 {
-    match ty {
+    match create.ty {
         Ty::Ae => set_text(attrs, Attr::Aei, new_ae_id(alloc, o, entity.next)?),
         Ty::Container => set_count(attrs, Attr::St, 0),
         Ty::ContentInstance => {
-            set_count(attrs, Attr::Cs, size_named(members))?;
-            set_count(attrs, Attr::St, next_state(parent))
+            set_count(attrs, Attr::Cs, size_named(create.named))?;
+            set_count(attrs, Attr::St, next_state(create.parent))
         }
         _ => Ok(()),
     }
@@ -125,20 +114,18 @@ fn add_besides<T: Tree>(
     alloc: Global,
     entity: &Entity<T>,
     o: &[u8],
-    ty: Ty,
-    parent: &Resource,
-    members: &Members,
+    create: &AllowedCreate,
     attrs: &mut Attrs,
 ) -> Result<(), OutOfMemory>
     requires originator { IsTrue (is_originator o.now) }
-    requires size { is_ty ty ContentInstance ≡ true → spec.size_named members.now < count_bound }
+    requires allowed { IsAllowed (creation_for entity.now o.now create.now) }
     ensures { OnOk result (attrs.new ≡ with_rows (spec.rows_besides
-        (creation_of entity.now o.now ty parent.now members.now)) attrs.old) }
+        (creation_for entity.now o.now create.now)) attrs.old) }
 {
-    give(alloc, entity, o, ty, parent, members, attrs)?;
-    sign(alloc, o, members, attrs)?;
-    link(alloc, entity, members, Attr::Acpi, attrs)?;
-    link(alloc, entity, members, Attr::Macp, attrs)?;
+    give(alloc, entity, o, create, attrs)?;
+    sign(alloc, o, create.named, attrs)?;
+    link(alloc, entity, create.named, Attr::Acpi, attrs)?;
+    link(alloc, entity, create.named, Attr::Macp, attrs)?;
     Ok(())
 }
 
@@ -152,31 +139,34 @@ fn moments_at(moment: u64, et: Option<u64>) -> Moments
     }
 }
 
-/// The resource that a creation makes which no place refuses, whose content names these attributes.
+/// The resource that a Create makes which no place refuses.
 #[tactic(auto, using(crate::proofs::CreatedLemmas::parts_of_the_created))]
 pub(crate) fn new_resource<T: Tree>(
     alloc: Global,
     entity: &Entity<T>,
     o: &[u8],
-    ty: Ty,
-    parent: &Resource,
-    content: &Val,
-    members: &Members,
+    create: &AllowedCreate,
 ) -> Result<Resource, OutOfMemory>
     requires originator { IsTrue (is_originator o.now) }
-    requires admitted { IsTrue (is_admitted Create ty content.now) }
-    requires named { attributes_in ty content.now ≡ Some members.now }
-    requires allowed { IsAllowed (creation_of entity.now o.now ty parent.now members.now) }
+    requires allowed { IsAllowed (creation_for entity.now o.now create.now) }
+    requires named { attributes_in create.now.ty create.now.content.now
+        ≡ Some create.now.named.now }
     ensures { IfOk result (λ r.
-        r ≡ spec.new_resource (creation_of entity.now o.now ty parent.now members.now)) }
+        r ≡ spec.new_resource (creation_for entity.now o.now create.now)) }
 {
-    let wanted = take_wanted(alloc, ty, content.copy(alloc)?)?;
+    let wanted = take_wanted(alloc, create.ty, create.content.copy(alloc)?)?;
     let moments = moments_at(entity.last, wanted.et);
-    let name = new_name(alloc, ty, entity.next, wanted.name)?;
-    let owner = new_owner(alloc, o, ty, entity.next)?;
+    let name = new_name(alloc, create.ty, entity.next, wanted.name)?;
+    let owner = new_owner(alloc, o, create.ty, entity.next)?;
     let mut attrs = wanted.attrs;
-    add_besides(alloc, entity, o, ty, parent, members, &mut attrs)?;
-    let number = entity.next;
-    let parent = parent.number();
-    Ok(Resource::of(number, ty, name, parent, owner, moments, attrs))
+    add_besides(alloc, entity, o, create, &mut attrs)?;
+    Ok(Resource::of(
+        entity.next,
+        create.ty,
+        name,
+        create.parent.number(),
+        owner,
+        moments,
+        attrs,
+    ))
 }

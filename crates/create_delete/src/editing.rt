@@ -13,8 +13,8 @@ use crate::building::{link, next_state, set_count};
 use attribute_rules::{Edit, take_edit};
 use entity_model::Entity;
 use m2m_names::{Attr, LAST_MOMENT, Ty};
-use m2m_value::{Members, Val};
-use request_rules::named_expiry;
+use m2m_value::Members;
+use request_rules::{AllowedUpdate, named_expiry};
 use resource_model::AttrSet;
 use std::alloc::{AllocError as OutOfMemory, Global};
 use tree_model::{Attrs, Moments, Resource, Tree};
@@ -64,28 +64,26 @@ fn count_change(resource: &Resource, attrs: &mut Attrs) -> Result<(), OutOfMemor
     }
 }
 
-// The attributes after an update whose content is admitted and names these.
+// The attributes after an update.
 #[tactic(auto, using(crate::proofs::RowLemmas::edited_in_turn))]
 fn updated_attrs<T: Tree>(
     alloc: Global,
     entity: &Entity<T>,
-    resource: &Resource,
-    content: &Val,
-    members: &Members,
+    update: &AllowedUpdate,
 ) -> Result<Attrs, OutOfMemory>
-    requires admitted { IsTrue (is_admitted Update resource.now.ty content.now) }
-    requires named { attributes_in resource.now.ty content.now ≡ Some members.now }
-    ensures { IfOk result (λ a.
-        a ≡ (spec.updated_resource entity.now members.now resource.now).attrs) }
+    requires admitted { IsTrue
+        (is_admitted Update update.now.target.now.ty update.now.content.now) }
+    requires named { attributes_in update.now.target.now.ty update.now.content.now
+        ≡ Some update.now.named.now }
+    ensures { IfOk result (λ a. a ≡ (spec.updated_resource entity.now
+        update.now.named.now update.now.target.now).attrs) }
 {
-    let mut attrs = resource.attrs().copy(alloc)?;
-    edit(
-        take_edit(alloc, resource.ty(), content.copy(alloc)?)?,
-        &mut attrs,
-    )?;
-    count_change(resource, &mut attrs)?;
-    link(alloc, entity, members, Attr::Acpi, &mut attrs)?;
-    link(alloc, entity, members, Attr::Macp, &mut attrs)?;
+    let mut attrs = update.target.attrs().copy(alloc)?;
+    let content = update.content.copy(alloc)?;
+    edit(take_edit(alloc, update.target.ty(), content)?, &mut attrs)?;
+    count_change(update.target, &mut attrs)?;
+    link(alloc, entity, update.named, Attr::Acpi, &mut attrs)?;
+    link(alloc, entity, update.named, Attr::Macp, &mut attrs)?;
     Ok(attrs)
 }
 
@@ -101,26 +99,28 @@ fn expiry_after(members: &Members, et: u64) -> u64
     }
 }
 
-/// The resource after an update whose content is admitted and names these attributes.
+/// The resource after an update.
 #[tactic(auto, using(crate::proofs::CreatedLemmas::last_is_moment))]
 pub(crate) fn updated_resource<T: Tree>(
     alloc: Global,
     entity: &Entity<T>,
-    resource: &Resource,
-    content: &Val,
-    members: &Members,
+    update: &AllowedUpdate,
 ) -> Result<Resource, OutOfMemory>
-    requires admitted { IsTrue (is_admitted Update resource.now.ty content.now) }
-    requires named { attributes_in resource.now.ty content.now ≡ Some members.now }
-    ensures { IfOk result (λ r. r ≡ spec.updated_resource entity.now members.now resource.now) }
+    requires admitted { IsTrue
+        (is_admitted Update update.now.target.now.ty update.now.content.now) }
+    requires named { attributes_in update.now.target.now.ty update.now.content.now
+        ≡ Some update.now.named.now }
+    ensures { IfOk result (λ r. r ≡ spec.updated_resource entity.now
+        update.now.named.now update.now.target.now) }
 {
+    let resource = update.target;
     let name = resource.name().copy(alloc)?;
     let owner = resource.owner().copy(alloc)?;
-    let attrs = updated_attrs(alloc, entity, resource, content, members)?;
+    let attrs = updated_attrs(alloc, entity, update)?;
     let moments = Moments {
         ct: resource.ct(),
         lt: entity.last,
-        et: expiry_after(members, resource.et()),
+        et: expiry_after(update.named, resource.et()),
     };
     Ok(Resource::of(
         resource.number(),

@@ -7,7 +7,6 @@ ghost use Rattle.create_delete.specs.Joining.{MayFill, MayJoin};
 ghost use Rattle.create_delete.specs.Newcomer.{IsNewcomer};
 
 use crate::growth::put_last;
-use crate::pushing::remove_all;
 use entity_model::Entity;
 use m2m_value::Numbers;
 use std::alloc::AllocError as OutOfMemory;
@@ -65,6 +64,6 @@ fn fill<T: Tree>(
     entity
         .tree
         .restamp(filling.container, entity.last, filling.state);
-    remove_all(&mut entity.tree, filling.gone.entries());
+    entity.tree.remove_all(filling.gone.entries());
     Ok(())
 }

@@ -6,26 +6,31 @@
 //! it prepares, which takes all memory; and it applies, which can't fail but where a resource is
 //! put last, which comes first. Where memory runs out nothing has changed. What is prepared lends
 //! the changes that it makes, one after another (`Changes`): those by which the entity comes to be
-//! what the call leaves (`changes_at` of `specs/Changes`).
+//! what the call leaves (`changes_at` of `specs/Changes`). The crate change_laws says what holds of
+//! each operation.
 //!
-//! An originator is passed in its short form. A content for a group isn't admitted yet.
+//! An originator is passed in its short form. A content for a group is admitted as the table says,
+//! but its members aren't judged: callers refuse groups.
+//!
+//! ```text
+//! let reply = create(alloc, entity, b"CDev", request, 1)?; // below the CSEBase
+//! let status = reply.parts().rsc; // Rsc::Created, or the first refusal
+//! delete(alloc, entity, b"CDev", request, 3)
+//! ```
 #![tactic(auto)]
 
 mod building;
-mod changes;
 mod creation;
 mod deletion;
 mod editing;
 mod growth;
 mod guard;
 mod joining;
-mod laws;
 mod listing;
 mod pushing;
 mod telling;
 mod updating;
 
-pub use changes::the_changes_are_those_that_are_prepared;
 pub use creation::create;
 pub use deletion::delete;
 pub use growth::{
@@ -36,10 +41,7 @@ pub use guard::{
     a_container_keeps_the_newest_that_fit, an_entity_stays_sound,
     nothing_is_changed_without_a_grant,
 };
-pub use laws::{
-    a_deletion_takes_what_stands_at_or_below_its_target, a_refusal_changes_nothing,
-    nothing_is_done_without_the_right,
-};
-pub use listing::{Changes, named_attrs};
+pub use listing::named_attrs;
 pub use std::alloc::AllocError as OutOfMemory;
+pub use tree_model::Changes;
 pub use updating::update;

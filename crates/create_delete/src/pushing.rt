@@ -1,8 +1,7 @@
 //! What the limits of a container push out (TS-0001, 9.6.6).
-ghost use Rattle.std.specs.Prelude.{◌≡◌, [], ◌∷◌, IfOk, IsTrue};
+ghost use Rattle.std.specs.Prelude.{◌≡◌, IfOk};
 ghost use Rattle.m2m_names.specs.declared.types.Ty.TheVariants.{Container};
 ghost use Rattle.resource_model.specs.Resource.{is_ty};
-ghost use Rattle.tree_model.specs.Tree.{is_tree};
 ghost use Rattle.create_delete.specs.Changing as spec;
 
 use container_limits::{Limits, evictions};
@@ -10,7 +9,7 @@ use entity_model::Entity;
 use m2m_names::Ty;
 use m2m_value::Numbers;
 use std::alloc::{AllocError as OutOfMemory, Global};
-use tree_model::{Resource, Tree, stands_in};
+use tree_model::{Resource, Tree};
 
 /// The numbers of the instances that a container pushes out as it is, before one of this size, if
 /// any, oldest first.
@@ -45,27 +44,5 @@ pub(crate) fn pushed_by<T: Tree>(
         pushed_out(alloc, entity, resource, None)
     } else {
         Ok(Numbers::of(Vec::new(alloc)))
-    }
-}
-
-/// Removes the resources of these numbers, with all that stands below them.
-#[tactic(auto, using(crate::proofs::PushingLemmas::removals_so_far))]
-pub(crate) fn remove_all<T: Tree>(tree: &mut T, numbers: &[u64])
-    requires { IsTrue (is_tree (T.nodes tree.old)) }
-    ensures { T.nodes tree.new ≡ spec.without_all numbers.now (T.nodes tree.old) }
-{
-    for number in numbers {
-        remove(tree, *number);
-    }
-}
-
-#[tactic(auto, using(crate::proofs::PushingLemmas::removal_cases))]
-fn remove<T: Tree>(tree: &mut T, number: u64)
-    requires { IsTrue (is_tree (T.nodes tree.old)) }
-    ensures value { T.nodes tree.new ≡ spec.without_all (number ∷ []) (T.nodes tree.old) }
-    ensures tree { IsTrue (is_tree (T.nodes tree.new)) }
-{
-    if stands_in(tree, number) {
-        tree.remove_subtree(number);
     }
 }

@@ -8,7 +8,6 @@ ghost use Rattle.addressing.specs.Names.{structured_of};
 ghost use Rattle.entity_model.specs.Places as places;
 ghost use Rattle.create_delete.specs.Changing as spec;
 
-use crate::building::tell_soundness;
 use addressing::structured;
 use entity_model::{Entity, wanted_content};
 use m2m_names::{Attr, Ty};
@@ -32,7 +31,6 @@ fn path_to_last<T: Tree>(
         ≡ structured_of resource.now.number (entity.now.nodes ++ resource.now ∷ [])) }
     ensures utf8 { IfOk result (λ t. IsUtf8 t) }
 {
-    tell_soundness(entity);
     let mut path = structured(alloc, &entity.tree, resource.parent())?.into_vec();
     path.push(b'/')?;
     path.extend_from_slice(resource.name().entries())?;

@@ -3,19 +3,61 @@
 
 ghost use Rattle.std.specs.Prelude.{◌≤◌, IfOk, vec_len};
 
-use cse_cli::{StdIn, StdOut, SystemClock, run, words};
+use command_words::{Logged, Task, read_command};
+use cse_cli::run;
 use cse_server::Bench;
+use devices::{Log, LogLevel, StdIn, StdOut, SystemClock, TcpDoor, words};
 use m2m_io::{MemLink, Status};
 use std::alloc::{AllocError, Global};
 use std::process::ExitCode;
 use std::time::Clock;
-use tcp_door::TcpDoor;
 
-/// So many workers serve at once: a client that says nothing holds one of them.
-const WORKERS: usize = 256;
+/// As many workers as a server can be told to have.
+const MOST_WORKERS: u64 = 4_096;
+
+/// What a server is told that the devices have to know: how many benches it needs, what it logs,
+/// and what the CSE is called.
+#[derive(Drop)]
+struct Told {
+    benches: usize,
+    log: LogLevel,
+    whom: String,
+}
 
 /// Each worker has a bench, and one more is for what is left when they have ended.
-const BENCHES: usize = WORKERS + 1;
+fn benches_of(workers: u64) -> usize
+    ensures { 2 ≤ result }
+{
+    workers.clamp(1, MOST_WORKERS) as usize + 1
+}
+
+fn level_of(logged: Logged) -> LogLevel {
+    match logged {
+        Logged::Requests => LogLevel::Requests,
+        Logged::Faults => LogLevel::Faults,
+        Logged::Nothing => LogLevel::Nothing,
+    }
+}
+
+/// What words tell the devices; at every other command they are told nothing.
+fn told_by(alloc: Global, words: &[&str]) -> Result<Told, AllocError>
+    ensures { IfOk result (λ told. 2 ≤ told.benches) }
+{
+    if let Some(command) = read_command(alloc, words)?
+        && let Task::Serve(serving) = command.task
+    {
+        return Ok(Told {
+            benches: benches_of(serving.workers),
+            log: level_of(serving.log),
+            whom: format!(in alloc; "/{}", command.home.csi)?,
+        });
+    }
+    Ok(Told {
+        benches: benches_of(1),
+        log: LogLevel::Nothing,
+        whom: String::new(alloc),
+    })
+}
 
 /// The system's clock, and a link that has no answers.
 fn bench<R: Clock>(rt: R, alloc: Global) -> Bench<SystemClock<R>, MemLink> {
@@ -28,11 +70,13 @@ fn bench<R: Clock>(rt: R, alloc: Global) -> Bench<SystemClock<R>, MemLink> {
 fn all_benches<R: Clock + Copy + Drop>(
     rt: R,
     alloc: Global,
+    count: usize,
 ) -> Result<Vec<Bench<SystemClock<R>, MemLink>>, AllocError>
+    requires { 2 ≤ count }
     ensures { IfOk result (λ benches. 2 ≤ vec_len benches) }
 {
     let mut benches = Vec::new(alloc);
-    while benches.len() < BENCHES {
+    while benches.len() < count {
         benches.push(bench(rt, alloc))?;
     }
     Ok(benches)
@@ -54,7 +98,13 @@ fn main(rt: HostRuntime) -> ExitCode {
     else {
         return starved();
     };
-    let Ok(benches) = all_benches(rt, alloc) else {
+    let Ok(told) = told_by(alloc, &texts) else {
+        return starved();
+    };
+    let Ok(benches) = all_benches(rt, alloc, told.benches) else {
+        return starved();
+    };
+    let Ok(log) = Log::new(rt, alloc, told.log) else {
         return starved();
     };
     let (status, _) = run(
@@ -64,7 +114,7 @@ fn main(rt: HostRuntime) -> ExitCode {
         &mut StdIn::new(rt.stdin()),
         &mut StdOut::new(rt.stdout()),
         &mut StdOut::new(rt.stderr()),
-        TcpDoor::new(rt),
+        TcpDoor::new(log, told.whom),
         &mut bench(rt, alloc),
         benches,
     );

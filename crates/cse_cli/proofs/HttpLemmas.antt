@@ -1,9 +1,8 @@
 -- Streams that were lent to a connection, and how it ended.
-use Rattle.std.proofs.Common.{◌≡◌, ℕ, List, ◌∷◌, [], Option, get_or, refl, sym, ap, subst}
+use Rattle.std.proofs.Common.{◌≡◌, ℕ, List, ◌∷◌, [], Option, get_or, refl, sym, ap, subst, ◌∙◌}
 use Rattle.m2m_io.specs.declared.status.Status.{Status}
 use Rattle.m2m_io.specs.declared.status.Status.TheVariants.{ReadFault, WriteFault, Usage}
-use Rattle.m2m_io.specs.Link.{Exchange}
-use Rattle.m2m_io.specs.Outside.{Outside, outside}
+use Rattle.cse_server.specs.Outside.{EndsByFault, LinkTold, Outside, SinkTold, outside}
 use Rattle.turn_desk.specs.Entries.{Marked}
 use Rattle.cse_machine.specs.declared.event.Event.{Event}
 use Rattle.cse_machine.specs.declared.event.Outcome.{Outcome}
@@ -64,13 +63,30 @@ never_usage EndedReading e = subst IsUsage (sym e) tt
 never_usage EndedWriting e = subst IsUsage (sym e) tt
 never_usage EndedStarved e = subst IsUsage (sym e) tt
 
+-- a fault of reading is the status of a connection that ended by it, and of writing likewise
+pub reads_of : {status : Status} (ended : Ended) (before now : ℕ) → status ≡ status_of ended
+    → EndsByFault EndedReading ended before now → EndsByFault ReadFault status before now
+reads_of ended before now is h = record {
+  count = h.count;
+  cause = λ e. h.cause (ended_reading ended (sym is ∙ e));
+  steady = λ other. h.steady (λ e. other (is ∙ ap status_of e));
+}
+
+pub writes_of : {status : Status} (ended : Ended) (before now : ℕ) → status ≡ status_of ended
+    → EndsByFault EndedWriting ended before now → EndsByFault WriteFault status before now
+writes_of ended before now is h = record {
+  count = h.count;
+  cause = λ e. h.cause (ended_writing ended (sym is ∙ e));
+  steady = λ other. h.steady (λ e. other (is ∙ ap status_of e));
+}
+
 -- ---- the same connection, by other names
 
 pub serves_same : {S : Type 0} (grown : S → List (Marked Event Outcome) → S → Type 0) (seat before after : S)
-    (left0 left1 old0 old1 given : Option (List ℕ)) (link : Option (List Exchange)) (new : Outside) (ended : Ended)
+    (left0 left1 : Option (List ℕ)) (old0 old1 : SinkTold) (given : Option (List ℕ)) (link : LinkTold) (new : Outside) (ended : Ended)
     → seat ≡ before → left0 ≡ left1 → old0 ≡ old1
     → Serves grown seat after (outside left0 old0 given link) new ended → Serves grown before after (outside left1 old1 given link) new ended
 serves_same {S = S} grown seat before after left0 left1 old0 old1 given link new ended b l o h =
     subst (λ (s : S). Serves grown s after (outside left1 old1 given link) new ended) b
     (subst (λ (v : Option (List ℕ)). Serves grown seat after (outside v old1 given link) new ended) l
-    (subst (λ (v : Option (List ℕ)). Serves grown seat after (outside left0 v given link) new ended) o h))
+    (subst (λ (v : SinkTold). Serves grown seat after (outside left0 v given link) new ended) o h))

@@ -1,4 +1,3 @@
-mod Writing
 mod HttpLemmas
 mod WordsLemmas
 mod ServeLemmas

@@ -1,16 +1,23 @@
 -- A server, from its words to its door.
-use Rattle.std.proofs.Common.{◌≡◌, ◌≢◌, ℕ, ◌*◌, true, Option, subst, inl, inr, arith}
+use Rattle.std.proofs.Common.{◌≡◌, ◌⊎◌, ℕ, List, ◌∷◌, [], ◌++◌, ◌*◌, Option, Some, refl, ap, subst, ◌∙◌, inl, inr, arith}
 use Rattle.m2m_io.specs.Told.{Tells, TellsStill}
 use Rattle.m2m_io.specs.declared.status.Status.{Status}
-use Rattle.m2m_io.specs.declared.status.Status.TheVariants.{Usage, WriteFault}
+use Rattle.command_words.specs.Command.{Serving}
 use Rattle.atomic_table.specs.Seated.{TableId}
 use Rattle.turn_desk.specs.declared.shared.DeskSeat.{DeskSeat}
 use Rattle.turn_desk.specs.declared.view.View.{View}
 use Rattle.turn_desk.specs.Seats.{known_to}
-use Rattle.turn_desk.specs.Shared.{newcomer, IsWhole}
+use Rattle.turn_desk.specs.Shared.{Leaves, newcomer, IsWhole, OwnsAll}
 use Rattle.workers.specs.Gate.{DoorTold}
 use Rattle.workers.specs.Shares.{HasPartOf, HasComeBack}
-use Rattle.cse_cli.specs.Serve.{ServesOpen, RunsServe}
+use Rattle.workers.specs.Shifts.{IsServed}
+use Rattle.resource_model.specs.Home.{HomeData}
+use Rattle.entity_model.specs.Entity.{EntityData}
+use Rattle.entity_model.specs.Opening.{opening}
+use Rattle.cse_server.specs.Attending.{SendsWhatIsLeft}
+use Rattle.cse_server.specs.Outside.{LinkTold}
+use Rattle.cse_server.specs.declared.bench.Bench.{Bench}
+use Rattle.cse_cli.specs.Serve.{OpensServer, RunsServe, ServesObject, ServesOpen}
 
 whole-part : {X E R : Type 0} (object : X) (lent back : View X E R) → lent ≡ newcomer object → HasPartOf lent back
     → IsWhole back
@@ -22,31 +29,59 @@ pub whole_again : {X E R : Type 0} {step : ℕ → E → X → R → X → Type 
     {back : DeskSeat X E R} → HasComeBack step desk lent back → lent ≡ newcomer object → IsWhole (known_to back)
 whole_again {object = object} {lent = lent} {back = back} came first = whole-part object lent (known_to back) first came.part
 
--- a door that was opened, and then served
-pub runs_open : {accept : Option ℕ} {start between now : DoorTold} {status : Status}
-    → Tells (λ _. true) start.opened between.opened → TellsStill start.given between.given
-    → TellsStill start.ended between.ended → between.faults ≡ start.faults
-    → ServesOpen accept between now status → RunsServe accept start now status
-runs_open {between = between} opened given ended steady serves = inr (inr (record {
-  between = between;
-  opens = record { opened = opened; given = given; ended = ended; steady = steady };
-  serves = serves;
-}))
+-- at a desk of this object, of which the first seat was lent and has come back
+pub serves_object : {X E R C B A : Type 0} {step : ℕ → E → X → R → X → Type 0} {desk : TableId}
+    {attends : DeskSeat X E R → C → B → DeskSeat X E R → A → B → Type 0} {benches : List B} {object : X} {lent back : DeskSeat X E R}
+    (left : X) → HasComeBack step desk (known_to lent) back → known_to lent ≡ newcomer object → IsServed attends benches lent back
+    → ((opening : X) → (known_to back).opening ≡ Some opening → Leaves step opening (known_to back).seen left) → OwnsAll (known_to back)
+    → ServesObject step attends benches object
+serves_object {X = X} {E = E} {R = R} {object = object} {lent = lent} {back = back} left came first served leaves all = record {
+  lent = lent;
+  back = back;
+  first = first;
+  served = served;
+  all = all;
+  left = left;
+  leaves = leaves object (came.on.opening ∙ ap (λ (v : View X E R). v.opening) first);
+}
 
--- a server ends with no status that is of words or of writing
-open-is_other : (accept : Option ℕ) (start now : DoorTold) (status : Status) → ServesOpen accept start now status
-    → (status ≢ Usage) × (status ≢ WriteFault)
-open-is_other accept start now status h = elim h [
-  | inl done ↦ (λ e. cc, λ e. cc)
-  | inr other ↦ elim other [ inl fault ↦ (λ e. cc, λ e. cc) | inr starved ↦ (λ e. cc, λ e. cc) ]
-]
+-- what is known where the first seat has come back
+pub ruleset comes_back = (whole_again, serves_object)
 
-pub is_other : (accept : Option ℕ) (start now : DoorTold) (status : Status) → RunsServe accept start now status
-    → (status ≢ Usage) × (status ≢ WriteFault)
-is_other accept start now status h = elim h [
-  | inl starved ↦ (λ e. cc, λ e. cc)
-  | inr other ↦ elim other [
-    | inl fault ↦ (λ e. cc, λ e. cc)
-    | inr served ↦ open-is_other accept served.between now status served.serves
-  ]
-]
+-- ---- the door and the first bench
+
+module _ {C L : Type 0} {served : EntityData → Type 0} {home : HomeData} {clock : C → Option (List ℕ)} {link : L → LinkTold} where
+  -- the clock gave a reading, and memory ran out or the door failed to open
+  pub opens_none : {serving : Serving} {before after : C} {carrier : L} {start now : DoorTold} {status : Status} (reading : ℕ)
+      → Tells (λ given. given ++ reading ∷ []) (clock before) (clock after)
+      → RunsServe (served (opening home reading)) serving start now status
+      → OpensServer served serving home clock link (record { clock = before; link = carrier }) (record { clock = after; link = carrier }) start now status
+  opens_none {after = after} {carrier = carrier} reading given serves = record {
+    reading = reading;
+    between = record { clock = after; link = carrier };
+    given = given;
+    link_is = refl;
+    serves = serves;
+    sends = inl refl;
+  }
+
+  -- it gave one, the door was opened and served, and what was left was sent
+  pub opens_open : {serving : Serving} {before after : C} {carrier : L} {left : Bench C L} {start between now : DoorTold} {status : Status} (reading : ℕ)
+      → Tells (λ given. given ++ reading ∷ []) (clock before) (clock after)
+      → Tells (λ _. Some serving.listen) start.opened between.opened → TellsStill start.given between.given
+      → TellsStill start.ended between.ended → between.faults ≡ start.faults
+      → ServesOpen (served (opening home reading)) serving.accept between now status
+      → (left ≡ record { clock = after; link = carrier }) ⊎ SendsWhatIsLeft clock link (record { clock = after; link = carrier }) left
+      → OpensServer served serving home clock link (record { clock = before; link = carrier }) left start now status
+  opens_open {after = after} {carrier = carrier} {between = between} reading given opened gave ended steady serves sends = record {
+    reading = reading;
+    between = record { clock = after; link = carrier };
+    given = given;
+    link_is = refl;
+    serves = inr (inr (record {
+      between = between;
+      opens = record { opened = opened; given = gave; ended = ended; steady = steady };
+      serves = serves;
+    }));
+    sends = sends;
+  }

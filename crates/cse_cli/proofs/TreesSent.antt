@@ -2,7 +2,7 @@
 use denote.Param.Send.{IsSend, sendable}
 use denote.Param.SendFields.{declared_send}
 use Rattle.std.proofs.Crossing.{crosses}
-use Rattle.http_workers.proofs.ValuesSent.{text_send, val_send}
+use Rattle.cse_server.proofs.ValuesSent.{text_send, val_send}
 use Rattle.m2m_names.specs.contracts.attributes.Attr as attr
 use Rattle.m2m_names.specs.contracts.types.Ty as ty
 use Rattle.resource_model.specs.contracts.attrs.Attrs as attrs

@@ -1,6 +1,6 @@
 -- What the program does with its streams: the headline.
 use Rattle.std.specs.Prelude.{◌≡◌, ◌⊎◌, ℕ, List, [], ◌∷◌, ◌++◌, Option}
-use Rattle.m2m_io.specs.Outside.{Outside}
+use Rattle.cse_server.specs.Outside.{Outside}
 use Rattle.m2m_io.specs.Told.{Tells}
 use Rattle.m2m_io.specs.declared.status.Status.{Status}
 use Rattle.m2m_io.specs.declared.status.Status.TheVariants.{Done, ReadFault, WriteFault, Memory}

@@ -1,68 +1,60 @@
 -- What is done for the words of a command line.
-use Rattle.std.specs.Prelude.{◌≡◌, ◌≢◌, ◌≤◌, ◌⊎◌, Option, Some, None}
-use Rattle.m2m_io.specs.Counts.{Rose}
+use Rattle.std.specs.Prelude.{◌≡◌, ◌≢◌, ◌⊎◌, Option, Some, None}
 use Rattle.m2m_io.specs.declared.status.Status.{Status}
 use Rattle.m2m_io.specs.declared.status.Status.TheVariants.{Usage, ReadFault, WriteFault, Memory}
 use Rattle.resource_model.specs.Home.{HomeData}
-use Rattle.command_words.specs.Command.{Command, Serving, http, replay, serve}
+use Rattle.command_words.specs.Command.{Command, Serving, Task, http, replay, serve}
+use Rattle.cse_server.specs.Outside.{EndsByFault, Outside}
 use Rattle.cse_cli.specs.Devices.{Devices}
 use Rattle.cse_cli.specs.Run.{RunsHttp, RunsReplay}
-use Rattle.cse_cli.specs.Serve.{RunsServe, GivesOneAtMost}
-use Rattle.cse_cli.specs.Words.{command_at}
+use Rattle.entity_model.specs.Entity.{EntityData}
+use Rattle.cse_cli.specs.Serve.{OpensServer}
 
--- it is this command, at this home
-abbrev pub IsHttp : Option Command → HomeData → Type 0
-IsHttp asked home = asked ≡ Some (command_at http home)
+module _ {S O C L D : Type 0} where
+  -- Words that are no command: they are usage, unless memory runs out for reading them. Nothing is
+  -- read or written, no reading is taken, no exchange made, and the door stays as it was.
+  pub record RefusesWords (old new : Devices S O C L D) (status : Status) : Type 0 where
+    pub status_is : (status ≡ Usage) ⊎ (status ≡ Memory)
+    pub still : new ≡ old
 
-abbrev pub IsReplay : Option Command → HomeData → Type 0
-IsReplay asked home = asked ≡ Some (command_at replay home)
+  -- A command that works with the two streams did this with them. The door stays as it was. A fault
+  -- is told where a stream failed, and only there.
+  pub record RunsStreams (did : Outside → Outside → Status → Type 0)
+      (old new : Devices S O C L D) (status : Status) : Type 0 where
+    pub done : did old.told new.told status
+    pub no_usage : status ≢ Usage
+    pub reads : EndsByFault ReadFault status old.read_faults new.read_faults
+    pub writes : EndsByFault WriteFault status old.write_faults new.write_faults
+    pub door : new.door ≡ old.door
 
-abbrev pub IsServe : Option Command → Serving → HomeData → Type 0
-IsServe asked serving home = asked ≡ Some (command_at (serve serving) home)
+  -- A server with this door: it opened its entity and the door, and served its connections, unless
+  -- memory ran out before. It reads nothing of the input and writes nothing to the output.
+  pub record RunsServer (served : EntityData → Type 0) (serving : Serving) (home : HomeData)
+      (old new : Devices S O C L D) (status : Status) : Type 0 where
+    pub opens : ((status ≡ Memory) × (new ≡ old))
+        ⊎ OpensServer served serving home old.clock_tells old.link_tells
+        old.bench new.bench old.door_told new.door_told status
+    pub no_usage : status ≢ Usage
+    pub input : new.input ≡ old.input
+    pub out : new.out ≡ old.out
 
--- it isn't the command of a server
-abbrev pub IsNoServe : Option Command → Type 0
-IsNoServe asked = (serving : Serving) (home : HomeData) → ¬ (IsServe asked serving home)
+  -- A task was done at this home. With `http` an entity opens at the first reading of the clock,
+  -- and the output gets exactly the replies that the machine gives the requests of the input, one
+  -- after another, as far as the status says. With `replay` it opens at the reading 0, and the
+  -- output gets exactly the script of the lines of the input. With `serve` it opens at the first
+  -- reading of the clock, the door is opened where the words say, and its connections are `served`
+  -- by that entity until it gives no more.
+  abbrev pub RunsTask : (Serving → EntityData → Type 0) → Task → HomeData
+      → Devices S O C L D → Devices S O C L D → Status → Type 0
+  RunsTask served http home old new status = RunsStreams (RunsHttp home) old new status
+  RunsTask served replay home old new status = RunsStreams (RunsReplay home) old new status
+  RunsTask served (serve serving) home old new status =
+      RunsServer (served serving) serving home old new status
 
--- What words ask for was done with these devices, and ended with this status. None is asked for by
--- words that are no command.
-pub record RunsCommand {S O C L D : Type 0} (asked : Option Command)
-    (old new : Devices S O C L D) (status : Status) : Type 0 where
-  -- words that are no command are usage, unless memory runs out for reading them, and no others are
-  pub usage : status ≡ Usage → asked ≡ None
-  pub refused : asked ≡ None → (status ≡ Usage) ⊎ (status ≡ Memory)
-  -- then nothing is read or written, no reading is taken and no exchange made
-  pub nothing : asked ≡ None
-      → (new.input ≡ old.input) × (new.out ≡ old.out) × (new.bench ≡ old.bench)
-  -- An entity with this home opens at the first reading of the clock. Then the output gets exactly
-  -- the replies that the machine gives the requests of the input, one after another, as far as the
-  -- status says.
-  pub http : (home : HomeData) → IsHttp asked home
-      → RunsHttp home old.told new.told status
-  -- An entity with this home opens at the reading 0, and the output gets exactly the script of the
-  -- lines of the input, as far as the status says: BadLine where the line of that number is the
-  -- first bad one.
-  pub replay : (home : HomeData) → IsReplay asked home
-      → RunsReplay home old.told new.told status
-  -- The door is opened, and its connections are served until it gives no more. All is well where it
-  -- gave None, or as many connections as are to be accepted; a read fault is one of the door, at
-  -- which it didn't open, or gave no more connections; and where memory ran out, none was taken.
-  pub serve : (serving : Serving) (home : HomeData) → IsServe asked serving home
-      → RunsServe serving.accept old.door_told new.door_told status
-  -- a server reads nothing of the input, writes nothing to the output and exchanges nothing
-  pub still : (serving : Serving) (home : HomeData) → IsServe asked serving home
-      → (new.input ≡ old.input) × (new.out ≡ old.out) × (new.bench.link ≡ old.bench.link)
-  -- its clock gives one reading, or none
-  pub opens : (serving : Serving) (home : HomeData) → IsServe asked serving home
-      → GivesOneAtMost old.told.readings new.told.readings
-  -- at every other command the door comes back as it was
-  pub door : IsNoServe asked → new.door ≡ old.door
-  -- a fault is told where a stream failed, and only there; that of a server is one of the door
-  pub read_count : old.read_faults ≤ new.read_faults
-  pub read_cause : IsNoServe asked → status ≡ ReadFault → Rose old.read_faults new.read_faults
-  pub read_steady : status ≢ ReadFault → new.read_faults ≡ old.read_faults
-  pub write_count : old.write_faults ≤ new.write_faults
-  pub write_cause : status ≡ WriteFault → Rose old.write_faults new.write_faults
-  pub write_steady : status ≢ WriteFault → new.write_faults ≡ old.write_faults
-  -- no exchange failed, as none was made
-  pub link : new.link_faults ≡ old.link_faults
+  -- What words ask for was done with these devices, and ended with this status. None is asked for
+  -- by words that are no command.
+  abbrev pub RunsCommand : (Serving → EntityData → Type 0) → Option Command
+      → Devices S O C L D → Devices S O C L D → Status → Type 0
+  RunsCommand served None old new status = RefusesWords old new status
+  RunsCommand served (Some command) old new status =
+      RunsTask served command.task command.home old new status

@@ -1,15 +1,31 @@
--- What the command `serve` does with its door.
-use Rattle.std.specs.Prelude.{◌≡◌, ◌⊎◌, ◌++◌, ◌∷◌, [], true, Option, Some, List, ℕ}
+-- What the command `serve` does with its door, and what its entity becomes.
+use Rattle.std.specs.Prelude.{◌≡◌, ◌⊎◌, ◌+◌, ◌++◌, ◌∷◌, [], Option, Some, List, ℕ, max, take}
 use Rattle.m2m_io.specs.Counts.{Rose}
 use Rattle.m2m_io.specs.Told.{Tells, TellsStill}
 use Rattle.m2m_io.specs.declared.status.Status.{Status}
 use Rattle.m2m_io.specs.declared.status.Status.TheVariants.{Done, ReadFault, Memory}
+use Rattle.turn_desk.specs.declared.shared.DeskSeat.{DeskSeat}
+use Rattle.turn_desk.specs.Seats.{known_to}
+use Rattle.turn_desk.specs.Shared.{Leaves, OwnsAll, newcomer}
+use Rattle.resource_model.specs.Home.{HomeData}
+use Rattle.command_words.specs.Command.{Serving}
+use Rattle.entity_model.specs.Entity.{EntityData}
+use Rattle.entity_model.specs.Opening.{opening}
+use Rattle.cse_machine.specs.Step.{Step}
+use Rattle.cse_machine.specs.declared.event.Event.{Event}
+use Rattle.cse_machine.specs.declared.event.Outcome.{Outcome}
+use Rattle.cse_server.specs.Attending.{SendsWhatIsLeft}
+use Rattle.cse_server.specs.Outside.{LinkTold}
+use Rattle.cse_server.specs.declared.bench.Bench.{Bench}
 use Rattle.workers.specs.declared.gate.Ending.TheVariants.{Fault}
 use Rattle.workers.specs.Gate.{DoorTold, TakesConnections, ServesDoor}
+use Rattle.workers.specs.Shifts.{IsServed}
 
--- The door was opened. No connection was taken from it, and it didn't fail.
-pub record Opens (start now : DoorTold) : Type 0 where
-  pub opened : Tells (λ _. true) start.opened now.opened
+-- ---- the door
+
+-- The door was opened at this address. No connection was taken from it, and it didn't fail.
+pub record Opens (address : List ℕ) (start now : DoorTold) : Type 0 where
+  pub opened : Tells (λ _. Some address) start.opened now.opened
   pub given : TellsStill start.given now.given
   pub ended : TellsStill start.ended now.ended
   pub steady : now.faults ≡ start.faults
@@ -23,27 +39,62 @@ pub record FailsToOpen (start now : DoorTold) : Type 0 where
 
 -- An open door was served, and this is the status: all is well where it was served to its end, as
 -- it gave None, or as many connections as are to be accepted; a read fault is one of the door,
--- which gave no more connections than that before; and where memory ran out, nothing was taken.
-abbrev pub ServesOpen : Option ℕ → DoorTold → DoorTold → Status → Type 0
-ServesOpen accept start now status = ((status ≡ Done) × ServesDoor accept start now)
-    ⊎ ((status ≡ ReadFault) × TakesConnections accept (Some Fault) start now)
+-- which gave no more connections than that before; in both cases its connections were `served`. And
+-- where memory ran out, nothing was taken.
+abbrev pub ServesOpen : Type 0 → Option ℕ → DoorTold → DoorTold → Status → Type 0
+ServesOpen served accept start now status = ((status ≡ Done) × ServesDoor accept start now × served)
+    ⊎ ((status ≡ ReadFault) × TakesConnections accept (Some Fault) start now × served)
     ⊎ ((status ≡ Memory) × (now ≡ start))
 
--- The door was opened, and then served.
-pub record OpensAndServes (accept : Option ℕ) (start now : DoorTold) (status : Status)
-    : Type 0 where
+-- The door was opened where the words say, and then served.
+pub record OpensAndServes (served : Type 0) (serving : Serving) (start now : DoorTold)
+    (status : Status) : Type 0 where
   pub between : DoorTold
-  pub opens : Opens start between
-  pub serves : ServesOpen accept between now status
+  pub opens : Opens serving.listen start between
+  pub serves : ServesOpen served serving.accept between now status
 
 -- The command `serve` did this with its door: it was opened and served, unless memory ran out
 -- before, which left it as it was, or it failed to open, which is a read fault.
-abbrev pub RunsServe : Option ℕ → DoorTold → DoorTold → Status → Type 0
-RunsServe accept start now status = ((status ≡ Memory) × (now ≡ start))
+abbrev pub RunsServe : Type 0 → Serving → DoorTold → DoorTold → Status → Type 0
+RunsServe served serving start now status = ((status ≡ Memory) × (now ≡ start))
     ⊎ ((status ≡ ReadFault) × FailsToOpen start now)
-    ⊎ OpensAndServes accept start now status
+    ⊎ OpensAndServes served serving start now status
 
--- a clock gave one reading, or none
-abbrev pub GivesOneAtMost : Option (List ℕ) → Option (List ℕ) → Type 0
-GivesOneAtMost old new = (new ≡ old)
-    ⊎ ((reading : ℕ) × Tells (λ given. given ++ reading ∷ []) old new)
+-- ---- the entity
+
+-- At a desk of this object connections were attended to, by a worker at each of these benches but
+-- the last.
+pub record ServesObject {X E R C B A : Type 0} (step : ℕ → E → X → R → X → Type 0)
+    (attends : DeskSeat X E R → C → B → DeskSeat X E R → A → B → Type 0)
+    (benches : List B) (object : X) : Type 0 where
+  -- the first seat of the desk was lent, and came back
+  pub lent : DeskSeat X E R
+  pub back : DeskSeat X E R
+  pub first : known_to lent ≡ newcomer object
+  -- what it has gained is what attending gave
+  pub served : IsServed attends benches lent back
+  -- nobody else asked, and by what was asked the object has become this one
+  pub all : OwnsAll (known_to back)
+  pub left : X
+  pub leaves : Leaves step object (known_to back).seen left
+
+-- Connections were attended to by an entity that opened as this one, by as many workers as the
+-- words say, where there are benches for so many.
+abbrev pub ServesEntity : {C B A : Type 0} → (DeskSeat EntityData Event Outcome → C → B
+    → DeskSeat EntityData Event Outcome → A → B → Type 0)
+    → List B → Serving → EntityData → Type 0
+ServesEntity attends benches serving opened =
+    ServesObject Step attends (take (max 1 serving.workers + 1) benches) opened
+
+-- A server with this first bench, whose clock gives one reading: at it the entity with this home
+-- opens, by which the connections of the door are then `served`. At the end what is left in the
+-- outbox is sent with the bench.
+pub record OpensServer {C L : Type 0} (served : EntityData → Type 0) (serving : Serving)
+    (home : HomeData) (clock : C → Option (List ℕ)) (link : L → LinkTold)
+    (bench left : Bench C L) (start now : DoorTold) (status : Status) : Type 0 where
+  pub reading : ℕ
+  pub between : Bench C L
+  pub given : Tells (λ given. given ++ reading ∷ []) (clock bench.clock) (clock between.clock)
+  pub link_is : between.link ≡ bench.link
+  pub serves : RunsServe (served (opening home reading)) serving start now status
+  pub sends : (left ≡ between) ⊎ SendsWhatIsLeft clock link between left

@@ -5,7 +5,9 @@ ghost use Rattle.m2m_io.specs.Told.{AppendsUnlessFault};
 ghost use Rattle.command_words.specs.Command.{command_in, task_by};
 ghost use Rattle.cse_cli.specs.Devices.{devices_by};
 ghost use Rattle.cse_cli.specs.Running.{RunsCommand};
+ghost use Rattle.cse_cli.specs.Serve.{ServesEntity};
 ghost use Rattle.cse_cli.specs.Words.{command_at};
+ghost use Rattle.cse_server.specs.Attending.{Attends, SeatGrows, conn_tells, link_tells};
 ghost use Rattle.workers.specs.Gate.{door_tells};
 
 use crate::http::serve_streams;
@@ -40,7 +42,6 @@ fn asked_by<'a>(
 }
 
 /// Does a task at this home, and tells nobody how it ended.
-#[tactic(auto, using(crate::proofs::RunningLemmas::runs_each))]
 fn run_task<R, S: Source, O: Sink, D: Door + Send, C: Clock + Send, L: Link + Send>(
     rt: &R,
     alloc: Global,
@@ -57,9 +58,13 @@ where
     C: Drop,
     L: Drop,
     requires benches { 2 ≤ vec_len benches }
-    ensures { let devices = devices_by S.left S.faults O.written O.faults C.readings
-        L.exchanges L.faults (door_tells D.opened D.given D.ended D.faults) in
-        RunsCommand (Some (command_at (task_by task.entry) home))
+    ensures { let devices = devices_by S.left S.faults O.written O.puts O.faults C.readings
+        (link_tells L.exchanges L.faults) (door_tells D.opened D.given D.ended D.faults) in
+        let attends = Attends SeatGrows
+        (conn_tells D.Conn.left D.Conn.written D.Conn.puts D.Conn.Source.faults
+        D.Conn.Sink.faults) C.readings (link_tells L.exchanges L.faults) in
+        RunsCommand (ServesEntity attends benches.items)
+        (Some (command_at (task_by task.entry) home))
         (devices input.old out.old first.old door)
         (devices input.new out.new first.new result.1) result.0 }
 {
@@ -71,7 +76,6 @@ where
 }
 
 /// Does what the words name, and tells nobody how it ended.
-#[tactic(auto, using(crate::proofs::RunningLemmas::runs_usage))]
 fn run_words<'a, R, S: Source, O: Sink, D: Door + Send, C: Clock + Send, L: Link + Send>(
     rt: &R,
     alloc: Global,
@@ -87,9 +91,13 @@ where
     C: Drop,
     L: Drop,
     requires benches { 2 ≤ vec_len benches }
-    ensures { let devices = devices_by S.left S.faults O.written O.faults C.readings
-        L.exchanges L.faults (door_tells D.opened D.given D.ended D.faults) in
-        RunsCommand (command_in (map (λ word. word.now) words.now))
+    ensures { let devices = devices_by S.left S.faults O.written O.puts O.faults C.readings
+        (link_tells L.exchanges L.faults) (door_tells D.opened D.given D.ended D.faults) in
+        let attends = Attends SeatGrows
+        (conn_tells D.Conn.left D.Conn.written D.Conn.puts D.Conn.Source.faults
+        D.Conn.Sink.faults) C.readings (link_tells L.exchanges L.faults) in
+        RunsCommand (ServesEntity attends benches.items)
+        (command_in (map (λ word. word.now) words.now))
         (devices input.old out.old first.old door)
         (devices input.new out.new first.new result.1) result.0 }
 {
@@ -126,11 +134,15 @@ where
     L: Drop,
     requires benches { 2 ≤ vec_len benches }
 
-    // What the words ask for is done: `RunsCommand` has a field for each thing that is promised.
-    // Words that are no command are usage, unless memory runs out for reading them.
-    ensures runs { let devices = devices_by S.left S.faults O.written O.faults C.readings
-        L.exchanges L.faults (door_tells D.opened D.given D.ended D.faults) in
-        RunsCommand (command_in (map (λ word. word.now) words.now))
+    // What the words ask for is done: `RunsCommand` has a case for each command, and one for words
+    // that are none.
+    ensures runs { let devices = devices_by S.left S.faults O.written O.puts O.faults C.readings
+        (link_tells L.exchanges L.faults) (door_tells D.opened D.given D.ended D.faults) in
+        let attends = Attends SeatGrows
+        (conn_tells D.Conn.left D.Conn.written D.Conn.puts D.Conn.Source.faults
+        D.Conn.Sink.faults) C.readings (link_tells L.exchanges L.faults) in
+        RunsCommand (ServesEntity attends benches.items)
+        (command_in (map (λ word. word.now) words.now))
         (devices input.old out.old first.old door)
         (devices input.new out.new first.new result.1) result.0 }
 

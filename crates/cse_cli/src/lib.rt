@@ -2,16 +2,18 @@
 //! and the benches, and answers with the status. The commands so far are `http`, which serves the
 //! input and the output as one connection of an entity, `replay`, which answers the lines of the
 //! input, and `serve`, which serves the connections of the door. Callers see of each what
-//! `RunsCommand` says (specs/Running). Beside them stand the adapters that make these of the real
-//! devices. An adapter counts the errors of its device, and tells what the device tells: the
-//! standard streams and the system's clock tell nothing.
+//! `RunsCommand` says (specs/Running).
+//!
+//! ```text
+//! let words = ["serve", "--listen", "127.0.0.1:8080"];
+//! let (status, door) = run(rt, alloc, &words, input, out, err, door, first, benches);
+//! status.number() // 0 where all is well
+//! ```
 #![tactic(auto)]
 
-mod adapters;
 mod command;
 mod http;
 mod replay;
 mod serve;
 
-pub use adapters::{StdIn, StdOut, SystemClock, words};
 pub use command::run;

@@ -1,7 +1,6 @@
 //! The command `replay`.
 ghost use Rattle.std.specs.Prelude.{◌≡◌, ◌≢◌, ◌≤◌};
-ghost use Rattle.m2m_io.specs.Counts.{Rose};
-ghost use Rattle.m2m_io.specs.Outside.{outside};
+ghost use Rattle.cse_server.specs.Outside.{EndsByFault, link_told, outside, sink_told};
 ghost use Rattle.cse_cli.specs.Run.{RunsReplay};
 
 use cse_server::Bench;
@@ -19,21 +18,17 @@ pub(crate) fn replay_lines<S: Source, O: Sink, C: Clock, L: Link>(
     out: &mut O,
     bench: &mut Bench<C, L>,
 ) -> Status
-    ensures runs { let old = outside (S.left input.old) (O.written out.old)
-        (C.readings bench.old.clock) (L.exchanges bench.old.link) in
-        let new = outside (S.left input.new) (O.written out.new)
-        (C.readings bench.new.clock) (L.exchanges bench.new.link) in
+    ensures runs { let old = outside (S.left input.old)
+        (sink_told (O.written out.old) (O.puts out.old)) (C.readings bench.old.clock)
+        (link_told (L.exchanges bench.old.link) (L.faults bench.old.link)) in
+        let new = outside (S.left input.new)
+        (sink_told (O.written out.new) (O.puts out.new)) (C.readings bench.new.clock)
+        (link_told (L.exchanges bench.new.link) (L.faults bench.new.link)) in
         RunsReplay home old new result }
     ensures command { result ≢ Status.Usage }
-    ensures read_count { S.faults input.old ≤ S.faults input.new }
-    ensures read_cause { result ≡ Status.ReadFault
-        → Rose (S.faults input.old) (S.faults input.new) }
-    ensures read_steady { result ≢ Status.ReadFault → S.faults input.new ≡ S.faults input.old }
-    ensures write_count { O.faults out.old ≤ O.faults out.new }
-    ensures write_cause { result ≡ Status.WriteFault → Rose (O.faults out.old) (O.faults out.new) }
-    ensures write_steady { result ≢ Status.WriteFault → O.faults out.new ≡ O.faults out.old }
+    ensures reads { EndsByFault Status.ReadFault result (S.faults input.old) (S.faults input.new) }
+    ensures writes { EndsByFault Status.WriteFault result (O.faults out.old) (O.faults out.new) }
     ensures clock { bench.new.clock ≡ bench.old.clock }
-    ensures link { L.faults bench.new.link ≡ L.faults bench.old.link }
 {
     replay(alloc, home, input, out, &mut bench.link)
 }

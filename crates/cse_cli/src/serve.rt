@@ -1,14 +1,15 @@
 //! The command `serve`.
-ghost use Rattle.std.specs.Prelude.{◌≡◌, ◌≢◌, ◌≤◌, ◌++◌, ◌∷◌, [], ℕ, vec_len};
-ghost use Rattle.m2m_io.specs.Told.{Tells};
+ghost use Rattle.std.specs.Prelude.{◌≡◌, ◌≢◌, ◌≤◌, ◌+◌, ◌⊎◌, max, take, vec_len};
+ghost use Rattle.command_words.specs.Command.{serving_by};
+ghost use Rattle.cse_server.specs.Attending.{Attends, SeatGrows, SendsWhatIsLeft, conn_tells};
+ghost use Rattle.cse_server.specs.Attending.{link_tells};
 ghost use Rattle.workers.specs.Gate.{door_tells};
-ghost use Rattle.cse_cli.specs.Serve.{RunsServe, ServesOpen};
+ghost use Rattle.cse_cli.specs.Serve.{OpensServer, ServesEntity, ServesObject, ServesOpen};
 
 use crate::http::opened;
 use command_words::Serving;
 use cse_machine::{Event, Outcome};
-use cse_server::Bench;
-use http_workers::{ServeFault, serve};
+use cse_server::{Bench, ServeFault, serve};
 use m2m_io::{Clock, Door, Link, Status};
 use std::alloc::Global;
 use std::sync::Wait;
@@ -18,7 +19,7 @@ use turn_desk::{Object, TurnDesk};
 
 /// Serves the connections of an open door, of which so many are accepted at most, at a desk of this
 /// object.
-#[tactic(auto, using(crate::proofs::ServeLemmas::whole_again))]
+#[tactic(auto, using(crate::proofs::ServeLemmas::comes_back))]
 fn serve_at_desk<R, O, D, C, L>(
     rt: &R,
     own_rt: R,
@@ -36,9 +37,14 @@ where
     C: Clock + Send + Drop,
     L: Link + Send + Drop,
     requires benches { 2 ≤ vec_len benches }
-    ensures serves { ServesOpen accept (door_tells D.opened D.given D.ended D.faults door)
+    ensures serves { let attends = Attends SeatGrows
+        (conn_tells D.Conn.left D.Conn.written D.Conn.puts D.Conn.Source.faults
+        D.Conn.Sink.faults) C.readings (link_tells L.exchanges L.faults) in
+        ServesOpen (ServesObject O.step attends benches.items object) accept
+        (door_tells D.opened D.given D.ended D.faults door)
         (door_tells D.opened D.given D.ended D.faults result.1) result.0 }
-    ensures first { first.new ≡ first.old }
+    ensures first { (first.new ≡ first.old)
+        ⊎ SendsWhatIsLeft C.readings (link_tells L.exchanges L.faults) first.old first.new }
     ensures command { result.0 ≢ Status.Usage }
 {
     let Ok((desk, seat)) = TurnDesk::new(own_rt, alloc, object) else {
@@ -60,9 +66,24 @@ where
     }
 }
 
+/// The benches of as many workers as the words say, and one more; fewer where there are no more.
+fn benches_for<C: Clock + Drop, L: Link + Drop>(
+    serving: Serving<'_>,
+    mut benches: Vec<Bench<C, L>>,
+) -> Vec<Bench<C, L>>
+    requires { 2 ≤ vec_len benches }
+    ensures some { 2 ≤ vec_len result }
+    ensures front { result.items
+        ≡ take (max 1 serving.entry.workers + 1) benches.items }
+{
+    let workers = serving.workers.max(1) as usize;
+    benches.truncate(workers.saturating_add(1));
+    benches
+}
+
 /// Opens an entity with this home at the clock's first reading, opens the door where the words say,
-/// and serves its connections, of which as many are accepted at most as they say.
-#[tactic(auto, using(crate::proofs::ServeLemmas::runs_open))]
+/// and serves its connections, of which as many are accepted at most as they say, by as many
+/// workers as they say.
 pub(crate) fn serve_door<R, D, C, L>(
     rt: &R,
     alloc: Global,
@@ -78,12 +99,14 @@ where
     C: Clock + Send + Drop,
     L: Link + Send + Drop,
     requires benches { 2 ≤ vec_len benches }
-    ensures serves { RunsServe serving.entry.accept
+    ensures opens { let attends = Attends SeatGrows
+        (conn_tells D.Conn.left D.Conn.written D.Conn.puts D.Conn.Source.faults
+        D.Conn.Sink.faults) C.readings (link_tells L.exchanges L.faults) in
+        OpensServer (ServesEntity attends benches.items (serving_by serving.entry))
+        (serving_by serving.entry) home C.readings (link_tells L.exchanges L.faults)
+        first.old first.new
         (door_tells D.opened D.given D.ended D.faults door)
         (door_tells D.opened D.given D.ended D.faults result.1) result.0 }
-    ensures clock { (reading : ℕ) × Tells (λ given. given ++ reading ∷ [])
-        (C.readings first.old.clock) (C.readings first.new.clock) }
-    ensures link { first.new.link ≡ first.old.link }
     ensures command { result.0 ≢ Status.Usage }
 {
     let reading = first.clock.now();
@@ -104,6 +127,6 @@ where
         door,
         serving.accept,
         first,
-        benches,
+        benches_for(serving, benches),
     )
 }

@@ -1,9 +1,2 @@
 pub mod PlaceLemmas
-pub mod OwnLemmas
-pub mod WayLemmas
-pub mod ChangingLemmas
-pub mod GuardLemmas
-pub mod HistoryLemmas
-pub mod SightLemmas
-pub mod AlikeLemmas
-pub mod OrderLemmas
+pub mod OutcomeLemmas

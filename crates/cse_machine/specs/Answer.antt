@@ -1,9 +1,9 @@
 -- What a CSE answers a request (TS-0001, 10.2; TS-0004, 7.2 and 7.3.3).
 use Rattle.std.specs.Prelude.{◌≡◌, ℕ, nat_lt, Bool, true, false, not, ◌&&◌, List, [], ◌∷◌}
-use Rattle.std.specs.Prelude.{Option, Some, is_ok, is_some, option_and_then, if◌then◌else◌}
+use Rattle.std.specs.Prelude.{Option, Some, Result, Ok, Err, is_ok, is_some, option_and_then}
+use Rattle.std.specs.Prelude.{if◌then◌else◌}
 use Rattle.std.specs.Option.{option_map_or}
 use Rattle.std.specs.Ordering.{int_eq}
-use Rattle.m2m_names.specs.declared.codes.Rsc.{Rsc}
 use Rattle.m2m_names.specs.declared.codes.Rsc.TheVariants.{BadRequest, Internal, NonBlocking}
 use Rattle.m2m_names.specs.declared.codes.Rsc.TheVariants.{RequestTimeout}
 use Rattle.m2m_names.specs.declared.operations.Op.{Op}
@@ -18,7 +18,6 @@ use Rattle.m2m_names.specs.declared.types.Ty.TheVariants.{ContainerAnnc, Content
 use Rattle.m2m_names.specs.declared.types.Ty.TheVariants.{GroupAnnc}
 use Rattle.primitive_json.specs.Form.{has_form}
 use Rattle.primitive_json.specs.Kinds.{blocking_request}
-use Rattle.primitive_json.specs.Laws.{IsOfKinds}
 use Rattle.primitive_json.specs.Members.{creates}
 use Rattle.primitive_json.specs.declared.reply.ReplyParts.{ReplyParts}
 use Rattle.primitive_json.specs.declared.request.RequestParts.{RequestParts}
@@ -29,18 +28,20 @@ use Rattle.resource_model.specs.Resource.{ResourceData, is_ty}
 use Rattle.tree_model.specs.Tree.{at}
 use Rattle.addressing.specs.Addresses.{address_of}
 use Rattle.addressing.specs.Laws.{spot_named}
-use Rattle.addressing.specs.Names.{spot_resource}
+use Rattle.addressing.specs.Names.{spot_of, spot_resource}
 use Rattle.addressing.specs.Short.{short_of}
+use Rattle.addressing.specs.declared.addr.Addr.{Addr}
+use Rattle.addressing.specs.declared.addr.Addr.TheVariants.{Local, Foreign, OtherProvider}
+use Rattle.addressing.specs.declared.addr.AddrFault.{AddrFault}
 use Rattle.addressing.specs.declared.spot.Spot.{Spot}
 use Rattle.entity_model.specs.Entity.{EntityData}
-use Rattle.entity_model.specs.Places.{refusal, Effect, answering, on_found, Place, unless}
-use Rattle.entity_model.specs.Places.{unless_refused}
+use Rattle.entity_model.specs.Places.{absent, refusal, refused, Effect, reply_alone, on_found}
+use Rattle.entity_model.specs.Places.{Place, first_fault, unless}
 use Rattle.retrieve_discover.specs.Replies.{discovered, retrieved}
 use Rattle.create_delete.specs.Changing.{performed}
 use Rattle.create_delete.specs.Guard.{NamesInOrder}
 use Rattle.cse_machine.specs.declared.event.Outcome.{Outcome}
 use Rattle.cse_machine.specs.declared.event.Outcome.TheVariants.{Done}
-use Rattle.request_rules.specs.Order.{fault_on}
 use Rattle.request_rules.specs.Requests.{child_ty}
 use Rattle.request_rules.specs.Rights.{is_discovery}
 use Rattle.cse_machine.specs.Rights.{asking, claimed_originator}
@@ -137,11 +138,6 @@ form_places e request = unless (has_form request) BadRequest ∷ originator_plac
 abbrev pub first_places : EntityData → RequestParts → List Place
 first_places e request = unless (is_served request) BadRequest ∷ form_places e request
 
--- A request of its kinds isn't refused for its form; so is each of them that is read from a value
--- or from a frame.
-abbrev pub KindsHaveTheForm : Type 0
-KindsHaveTheForm = (request : RequestParts) → IsOfKinds request → has_form request ≡ true
-
 -- ---- one operation
 
 -- what a Retrieve of the resource of a number is answered (TS-0001, 10.2.3 and 10.2.6)
@@ -151,30 +147,23 @@ reading_reply e request n =
     then discovered e.home e.nodes (claimed_originator e.home request) request n
     else retrieved e.home e.nodes (claimed_originator e.home request) request n
 
--- Where a place in the order of refusals refuses a Retrieve of a resource that is there, that is
--- its answer; what it is refused by besides, its conditions, comes behind.
-abbrev pub RetrievesAreRefusedInOrder : Type 0
-RetrievesAreRefusedInOrder =
-    (e : EntityData) (request : RequestParts) (target : ResourceData) (fault : Rsc)
-    → at target.number e.nodes ≡ Some target
-    → fault_on Retrieve e (claimed_originator e.home request) request target ≡ Some fault
-    → reading_reply e request target.number ≡ refusal request fault
-
 -- what an operation that may change something gives, for its originator: a refusal by the first
 -- place that doesn't hold, or what is done
-unfoldable pub changing : Op → EntityData → RequestParts → ResourceData → Effect
-changing op e request target = performed op e (claimed_originator e.home request) request target
+unfoldable pub change_effect : Op → EntityData → RequestParts → ResourceData → Effect
+change_effect op e request target =
+    performed op e (claimed_originator e.home request) request target
 
 -- what an operation on a resource gives: a Retrieve reads it, and every other may change something
 -- (TS-0001, 10.2)
-abbrev pub operated_by : Op → EntityData → RequestParts → ResourceData → Effect
-operated_by Create e request target = changing Create e request target
-operated_by Retrieve e request target = answering e (reading_reply e request target.number)
-operated_by Update e request target = changing Update e request target
-operated_by Delete e request target = changing Delete e request target
-operated_by Notify e request target = changing Notify e request target
+abbrev pub operation_effect : Op → EntityData → RequestParts → ResourceData → Effect
+operation_effect Create e request target = change_effect Create e request target
+operation_effect Retrieve e request target =
+    reply_alone e (reading_reply e request target.number)
+operation_effect Update e request target = change_effect Update e request target
+operation_effect Delete e request target = change_effect Delete e request target
+operation_effect Notify e request target = change_effect Notify e request target
 
--- ---- one request
+-- ---- one request to an address here
 
 -- the resource at what an address names
 abbrev pub resource_at : List ResourceData → Spot → Option ResourceData
@@ -185,34 +174,55 @@ abbrev pub addressed : EntityData → List ℕ → Option ResourceData
 addressed e to = option_and_then (resource_at e.nodes) (spot_named e.home to e.nodes)
 
 -- what an operation gives on the resource that was found, if one was
-abbrev pub operated_on : Op → EntityData → RequestParts → Option ResourceData → Effect
-operated_on op e request found = on_found e request (operated_by op e request) found
+abbrev pub found_effect : Op → EntityData → RequestParts → Option ResourceData → Effect
+found_effect op e request found = on_found e request (operation_effect op e request) found
 
 -- what a request to a resource gives
-abbrev pub to_resource : EntityData → RequestParts → Option ResourceData → Effect
-to_resource e request found = operated_on request.op e request found
+abbrev pub resource_effect : EntityData → RequestParts → Option ResourceData → Effect
+resource_effect e request found = found_effect request.op e request found
 
--- what a request gives at what its address names. That this is no resource comes before any right;
--- so does a foreign address, as no request goes on to another CSE yet, and so do fan-out points and
--- poll points, as they aren't served yet.
-abbrev pub at_spot : EntityData → RequestParts → Option Spot → Effect
-at_spot e request spot = to_resource e request (option_and_then (resource_at e.nodes) spot)
+-- what a request gives at what its address names here. That this is no resource comes before any
+-- right; and so do fan-out points and poll points, as they aren't served yet.
+abbrev pub spot_effect : EntityData → RequestParts → Option Spot → Effect
+spot_effect e request spot =
+    resource_effect e request (option_and_then (resource_at e.nodes) spot)
 
--- what comes of a request at what its address names, unless one of these places refuses it
-abbrev pub judged_at : List Place → EntityData → RequestParts → Option Spot → Effect
-judged_at places e request spot = unless_refused places e request (at_spot e request spot)
+-- ---- one request to any address
+
+-- what comes of an event: its outcome, and the entity after it
+pub record EventEffect : Type 0 where
+  pub outcome : Outcome
+  pub after : EntityData
+
+-- it is done: its outcome is a reply
+abbrev pub as_done : Effect → EventEffect
+as_done effect = record { outcome = Done effect.reply; after = effect.after }
+
+-- what a request gives by where its address leads, which is judged before anything is looked up: to
+-- what it names here; to another CSE, or to another provider; or nowhere, as it is none. No request
+-- goes on to another CSE yet, and no other CSE is known, so that such an address names nothing.
+abbrev pub address_effect : EntityData → RequestParts → Result Addr AddrFault → EventEffect
+address_effect e request (Ok (Local segments)) =
+    as_done (spot_effect e request (spot_of segments e.nodes))
+address_effect e request (Ok (Foreign text)) = as_done (refused e request absent)
+address_effect e request (Ok OtherProvider) = as_done (refused e request absent)
+address_effect e request (Err fault) = as_done (refused e request BadRequest)
+
+-- what comes of a request by its address, unless one of these places refuses it
+abbrev pub judged_effect : List Place → EntityData → RequestParts → Result Addr AddrFault
+    → EventEffect
+judged_effect places e request address =
+    option_map_or (λ fault. as_done (refused e request fault)) (first_fault places)
+    (address_effect e request address)
 
 -- what comes of a request to an entity from which what is due is gone
-abbrev pub effect_of : EntityData → RequestParts → Effect
+abbrev pub effect_of : EntityData → RequestParts → EventEffect
 effect_of e request =
-    judged_at (first_places e request) e request (spot_named e.home request.to e.nodes)
-
--- the outcome, and the entity after it
-abbrev pub given : EntityData → RequestParts → Outcome × EntityData
-given e request = (Done (effect_of e request).reply, (effect_of e request).after)
+    judged_effect (first_places e request) e request (address_of e.home request.to)
 
 -- these are what it gives, and what its content names stands in order, as in each request that is
 -- heard
 abbrev pub ComesOf : EntityData → RequestParts → Outcome → EntityData → Type 0
 ComesOf e request outcome after =
-    (outcome ≡ (given e request).0) × (after ≡ (given e request).1) × NamesInOrder request
+    (outcome ≡ (effect_of e request).outcome) × (after ≡ (effect_of e request).after)
+    × NamesInOrder request

@@ -1,10 +1,8 @@
 -- What has happened at a CSE: its events one after another, with their readings and outcomes.
-use Rattle.std.specs.Prelude.{◌≡◌, ℕ, List, [], ◌∷◌, ◌++◌, ⊤}
-use Rattle.std.specs.List.{All}
+use Rattle.std.specs.Prelude.{List, ⊤}
 use Rattle.turn_desk.specs.declared.entry.Entry.{Entry}
-use Rattle.turn_desk.specs.Entries.{entry_of, readings_of, events_of, outcomes_of, Runs}
+use Rattle.turn_desk.specs.Entries.{Runs}
 use Rattle.entity_model.specs.Entity.{EntityData}
-use Rattle.entity_model.specs.Sound.{IsSoundEntity}
 use Rattle.cse_machine.specs.declared.event.Event.{Event}
 use Rattle.cse_machine.specs.declared.event.Outcome.{Outcome}
 use Rattle.cse_machine.specs.declared.event.Outcome.TheVariants.{Done, Starved}
@@ -18,35 +16,7 @@ History = List (Entry Event Outcome)
 abbrev pub HistoryLeaves : EntityData → History → EntityData → Type 0
 HistoryLeaves opening history e = Runs Step opening history e
 
--- Where nothing has happened, the entity is the one that opened.
-abbrev pub BeginsLegal : Type 0
-BeginsLegal = (opening : EntityData) → HistoryLeaves opening [] opening
-
--- A history grows by a step of the entity that it leaves.
-abbrev pub StaysLegal : Type 0
-StaysLegal =
-    (opening before after : EntityData) (history : History)
-    (reading : ℕ) (event : Event) (outcome : Outcome)
-    → HistoryLeaves opening history before → Step reading event before outcome after
-    → HistoryLeaves opening (history ++ entry_of reading event outcome ∷ []) after
-
--- A sound entity is sound after every history.
-abbrev pub StaysSound : Type 0
-StaysSound =
-    (opening e : EntityData) (history : History)
-    → IsSoundEntity opening → HistoryLeaves opening history e → IsSoundEntity e
-
 -- there was memory for it
 abbrev pub IsDone : Outcome → Type 0
 IsDone (Done reply) = ⊤
 IsDone (Starved done) = ⊥
-
--- Two histories from one entity that have the same events at the same readings have the same
--- outcomes and leave the same entity, where there was memory for all of them.
-abbrev pub GoesOneWay : Type 0
-GoesOneWay =
-    (opening e other : EntityData) (history twin : History)
-    → HistoryLeaves opening history e → HistoryLeaves opening twin other
-    → readings_of history ≡ readings_of twin → events_of history ≡ events_of twin
-    → All IsDone (outcomes_of history) → All IsDone (outcomes_of twin)
-    → (outcomes_of history ≡ outcomes_of twin) × (e ≡ other)

@@ -1,6 +1,5 @@
 pub mod Rights
 pub mod Answer
+pub mod Fan
 pub mod Step
 pub mod History
-pub mod Sight
-pub mod Guard

@@ -5,14 +5,16 @@ ghost use Rattle.m2m_names.specs.Name.{is_originator};
 ghost use Rattle.m2m_names.specs.declared.operations.Op.TheVariants.{Retrieve};
 ghost use Rattle.tree_model.specs.Tree.{at, has};
 ghost use Rattle.addressing.specs.Addresses.{GivesAddress, address_of};
-ghost use Rattle.addressing.specs.Laws.{spot_named, named_here};
 ghost use Rattle.addressing.specs.Short.{short_of};
-ghost use Rattle.cse_machine.specs.Answer.{address_places, at_spot, effect_of, judged_at};
-ghost use Rattle.cse_machine.specs.Answer.{form_places, operated_on, reading_reply, time_places};
-ghost use Rattle.cse_machine.specs.Answer.{to_resource};
+ghost use Rattle.entity_model.specs.Places.{refusal};
+ghost use Rattle.cse_machine.specs.Answer.{address_effect, address_places, effect_of};
+ghost use Rattle.cse_machine.specs.Answer.{form_places, found_effect, judged_effect};
+ghost use Rattle.cse_machine.specs.Answer.{reading_reply, resource_effect, spot_effect};
+ghost use Rattle.cse_machine.specs.Answer.{time_places};
 ghost use Rattle.cse_machine.specs.Answer as spec;
 ghost use Rattle.cse_machine.specs.Rights.{claimed_originator};
 ghost use Rattle.cse_machine.specs.Step.{Step};
+ghost use Rattle.cse_machine.specs.declared.event.Outcome.TheVariants.{Done};
 
 use crate::event::{Event, Outcome};
 use crate::judging::{is_blocking, is_in_time, is_served, said_originator, tell_order};
@@ -28,7 +30,7 @@ use tree_model::Tree;
 
 /// Takes one event at a reading of the clock, in seconds since 1970: what is due by then is
 /// removed, and the request is answered on what is left. Where memory runs out, nothing has changed
-/// but that.
+/// but that; and not even that where the expiry ran out of memory.
 pub fn step<T: Tree>(alloc: Global, entity: &mut Entity<T>, reading: u64, event: &Event) -> Outcome
     ensures { Step reading event.now entity.old result entity.new }
 {
@@ -45,9 +47,16 @@ fn ask<T: Tree>(alloc: Global, entity: &mut Entity<T>, reading: u64, request: &R
         return Outcome::Starved { done: 0 };
     }
     match answer(alloc, entity, request) {
-        Ok(reply) => Outcome::Done(reply),
+        Ok(outcome) => outcome,
         Err(_) => Outcome::Starved { done: 0 },
     }
+}
+
+// The outcome of a request that is refused.
+fn turn_down(alloc: Global, request: &Request, fault: Rsc) -> Result<Outcome, OutOfMemory>
+    ensures { IfOk result (λ x. x ≡ Done (refusal request.now fault)) }
+{
+    Ok(Outcome::Done(refuse(alloc, request, fault)?))
 }
 
 // What the request gives on the entity as it stands.
@@ -55,15 +64,15 @@ fn answer<T: Tree>(
     alloc: Global,
     entity: &mut Entity<T>,
     request: &Request,
-) -> Result<Reply, OutOfMemory>
-    ensures reply { IfOk result (λ r. r ≡ (effect_of entity.old request.now).reply) }
+) -> Result<Outcome, OutOfMemory>
+    ensures outcome { IfOk result (λ x. x ≡ (effect_of entity.old request.now).outcome) }
     ensures after { OnOk result (entity.new ≡ (effect_of entity.old request.now).after) }
     ensures err { OnErr result (entity.new ≡ entity.old) }
 {
     if is_served(request) {
         answer_served(alloc, entity, request)
     } else {
-        refuse(alloc, request, Rsc::BadRequest)
+        turn_down(alloc, request, Rsc::BadRequest)
     }
 }
 
@@ -72,27 +81,25 @@ fn answer_served<T: Tree>(
     alloc: Global,
     entity: &mut Entity<T>,
     request: &Request,
-) -> Result<Reply, OutOfMemory>
+) -> Result<Outcome, OutOfMemory>
     requires { IsTrue (spec.is_served request.now) }
-    ensures reply { IfOk result (λ r. r ≡ (judged_at (form_places entity.old request.now)
-        entity.old request.now
-        (spot_named entity.old.home request.now.to entity.old.nodes)).reply) }
-    ensures after { OnOk result (entity.new ≡ (judged_at (form_places entity.old request.now)
-        entity.old request.now
-        (spot_named entity.old.home request.now.to entity.old.nodes)).after) }
+    ensures outcome { IfOk result (λ x. x ≡ (judged_effect (form_places entity.old request.now)
+        entity.old request.now (address_of entity.old.home request.now.to)).outcome) }
+    ensures after { OnOk result (entity.new ≡ (judged_effect (form_places entity.old request.now)
+        entity.old request.now (address_of entity.old.home request.now.to)).after) }
     ensures err { OnErr result (entity.new ≡ entity.old) }
 {
     if !has_form(request) {
-        return refuse(alloc, request, Rsc::BadRequest);
+        return turn_down(alloc, request, Rsc::BadRequest);
     }
-    match originator(entity, request) {
-        Some(o) => answer_to(alloc, entity, request, o),
-        None => refuse(alloc, request, Rsc::BadRequest),
+    match asking(entity, request) {
+        Some(originator) => answer_to(alloc, entity, request, originator),
+        None => turn_down(alloc, request, Rsc::BadRequest),
     }
 }
 
 // Whom the request is judged as, in the short form.
-fn originator<'a, T: Tree>(entity: &Entity<T>, request: &'a Request) -> Option<&'a [u8]>
+fn asking<'a, T: Tree>(entity: &Entity<T>, request: &'a Request) -> Option<&'a [u8]>
     ensures value { option_map (λ o. o.now) result
         ≡ option_and_then (short_of entity.now.home) (spec.said_originator request.now) }
     ensures originator { IfSome result (λ o. IsTrue (is_originator o.now)) }
@@ -115,23 +122,21 @@ fn answer_to<T: Tree>(
     alloc: Global,
     entity: &mut Entity<T>,
     request: &Request,
-    o: &[u8],
-) -> Result<Reply, OutOfMemory>
+    originator: &[u8],
+) -> Result<Outcome, OutOfMemory>
     requires served { IsTrue (spec.is_served request.now) }
-    requires originator { IsTrue (is_originator o.now) }
-    requires claimed { claimed_originator entity.old.home request.now ≡ o.now }
-    ensures reply { IfOk result (λ r. r ≡ (judged_at (address_places entity.old request.now)
-        entity.old request.now
-        (spot_named entity.old.home request.now.to entity.old.nodes)).reply) }
-    ensures after { OnOk result (entity.new ≡ (judged_at (address_places entity.old request.now)
-        entity.old request.now
-        (spot_named entity.old.home request.now.to entity.old.nodes)).after) }
+    requires originator { IsTrue (is_originator originator.now) }
+    requires claimed { claimed_originator entity.old.home request.now ≡ originator.now }
+    ensures outcome { IfOk result (λ x. x ≡ (judged_effect (address_places entity.old request.now)
+        entity.old request.now (address_of entity.old.home request.now.to)).outcome) }
+    ensures after { OnOk result (entity.new ≡ (judged_effect (address_places entity.old request.now)
+        entity.old request.now (address_of entity.old.home request.now.to)).after) }
     ensures err { OnErr result (entity.new ≡ entity.old) }
 {
     match address(alloc, entity, request) {
-        Ok(addr) => answer_at(alloc, entity, request, o, &addr),
+        Ok(addr) => answer_at(alloc, entity, request, originator, &addr),
         Err(AddrFault::OutOfMemory) => Err(OutOfMemory),
-        Err(_) => refuse(alloc, request, Rsc::BadRequest),
+        Err(_) => turn_down(alloc, request, Rsc::BadRequest),
     }
 }
 
@@ -140,26 +145,51 @@ fn answer_at<T: Tree>(
     alloc: Global,
     entity: &mut Entity<T>,
     request: &Request,
-    o: &[u8],
+    originator: &[u8],
     addr: &Addr,
-) -> Result<Reply, OutOfMemory>
+) -> Result<Outcome, OutOfMemory>
     requires served { IsTrue (spec.is_served request.now) }
-    requires originator { IsTrue (is_originator o.now) }
-    requires claimed { claimed_originator entity.old.home request.now ≡ o.now }
-    ensures reply { IfOk result (λ r. r ≡ (judged_at (time_places entity.old request.now)
-        entity.old request.now (named_here (Ok addr.now) entity.old.nodes)).reply) }
-    ensures after { OnOk result (entity.new ≡ (judged_at (time_places entity.old request.now)
-        entity.old request.now (named_here (Ok addr.now) entity.old.nodes)).after) }
+    requires originator { IsTrue (is_originator originator.now) }
+    requires claimed { claimed_originator entity.old.home request.now ≡ originator.now }
+    ensures outcome { IfOk result (λ x. x ≡ (judged_effect (time_places entity.old request.now)
+        entity.old request.now (Ok addr.now)).outcome) }
+    ensures after { OnOk result (entity.new ≡ (judged_effect (time_places entity.old request.now)
+        entity.old request.now (Ok addr.now)).after) }
     ensures err { OnErr result (entity.new ≡ entity.old) }
 {
     if !is_in_time(entity, request) {
-        return refuse(alloc, request, Rsc::RequestTimeout);
+        return turn_down(alloc, request, Rsc::RequestTimeout);
     }
     if !is_blocking(request) {
-        return refuse(alloc, request, Rsc::NonBlocking);
+        return turn_down(alloc, request, Rsc::NonBlocking);
     }
-    let spot = name_spot(&entity.tree, addr);
-    reach(alloc, entity, request, o, spot)
+    lead(alloc, entity, request, originator, addr)
+}
+
+// What it gives by where its address leads: here, or elsewhere, where nothing is known yet.
+fn lead<T: Tree>(
+    alloc: Global,
+    entity: &mut Entity<T>,
+    request: &Request,
+    originator: &[u8],
+    addr: &Addr,
+) -> Result<Outcome, OutOfMemory>
+    requires served { IsTrue (spec.is_served request.now) }
+    requires originator { IsTrue (is_originator originator.now) }
+    requires claimed { claimed_originator entity.old.home request.now ≡ originator.now }
+    ensures outcome { IfOk result (λ x. x
+        ≡ (address_effect entity.old request.now (Ok addr.now)).outcome) }
+    ensures after { OnOk result (entity.new
+        ≡ (address_effect entity.old request.now (Ok addr.now)).after) }
+    ensures err { OnErr result (entity.new ≡ entity.old) }
+{
+    match addr {
+        Addr::Local(_) => {
+            let spot = name_spot(&entity.tree, addr);
+            Ok(Outcome::Done(reach(alloc, entity, request, originator, spot)?))
+        }
+        Addr::Foreign(_) | Addr::OtherProvider => turn_down(alloc, request, Rsc::NotFound),
+    }
 }
 
 // What it gives at what its address names.
@@ -167,18 +197,18 @@ fn reach<T: Tree>(
     alloc: Global,
     entity: &mut Entity<T>,
     request: &Request,
-    o: &[u8],
+    originator: &[u8],
     spot: Option<Spot>,
 ) -> Result<Reply, OutOfMemory>
     requires served { IsTrue (spec.is_served request.now) }
-    requires originator { IsTrue (is_originator o.now) }
-    requires claimed { claimed_originator entity.old.home request.now ≡ o.now }
-    ensures reply { IfOk result (λ r. r ≡ (at_spot entity.old request.now spot).reply) }
-    ensures after { OnOk result (entity.new ≡ (at_spot entity.old request.now spot).after) }
+    requires originator { IsTrue (is_originator originator.now) }
+    requires claimed { claimed_originator entity.old.home request.now ≡ originator.now }
+    ensures reply { IfOk result (λ r. r ≡ (spot_effect entity.old request.now spot).reply) }
+    ensures after { OnOk result (entity.new ≡ (spot_effect entity.old request.now spot).after) }
     ensures err { OnErr result (entity.new ≡ entity.old) }
 {
     match spot {
-        Some(Spot::Resource(number)) => operate(alloc, entity, request, o, number),
+        Some(Spot::Resource(number)) => operate(alloc, entity, request, originator, number),
         Some(Spot::Fan { .. } | Spot::Poll(_)) | None => refuse(alloc, request, Rsc::NotFound),
     }
 }
@@ -188,23 +218,23 @@ fn operate<T: Tree>(
     alloc: Global,
     entity: &mut Entity<T>,
     request: &Request,
-    o: &[u8],
+    originator: &[u8],
     number: u64,
 ) -> Result<Reply, OutOfMemory>
     requires served { IsTrue (spec.is_served request.now) }
-    requires originator { IsTrue (is_originator o.now) }
-    requires claimed { claimed_originator entity.old.home request.now ≡ o.now }
+    requires originator { IsTrue (is_originator originator.now) }
+    requires claimed { claimed_originator entity.old.home request.now ≡ originator.now }
     ensures reply { IfOk result (λ r. r
-        ≡ (to_resource entity.old request.now (at number entity.old.nodes)).reply) }
+        ≡ (resource_effect entity.old request.now (at number entity.old.nodes)).reply) }
     ensures after { OnOk result (entity.new
-        ≡ (to_resource entity.old request.now (at number entity.old.nodes)).after) }
+        ≡ (resource_effect entity.old request.now (at number entity.old.nodes)).after) }
     ensures err { OnErr result (entity.new ≡ entity.old) }
 {
     match request.parts().op {
-        Op::Create => create(alloc, entity, o, request, number),
-        Op::Retrieve => read_target(alloc, entity, request, o, number),
-        Op::Update => update(alloc, entity, o, request, number),
-        Op::Delete => delete(alloc, entity, o, request, number),
+        Op::Create => create(alloc, entity, originator, request, number),
+        Op::Retrieve => read_target(alloc, entity, request, originator, number),
+        Op::Update => update(alloc, entity, originator, request, number),
+        Op::Delete => delete(alloc, entity, originator, request, number),
         Op::Notify => unreachable!(),
     }
 }
@@ -214,16 +244,16 @@ fn read_target<T: Tree>(
     alloc: Global,
     entity: &Entity<T>,
     request: &Request,
-    o: &[u8],
+    originator: &[u8],
     number: u64,
 ) -> Result<Reply, OutOfMemory>
-    requires originator { IsTrue (is_originator o.now) }
-    requires claimed { claimed_originator entity.now.home request.now ≡ o.now }
+    requires originator { IsTrue (is_originator originator.now) }
+    requires claimed { claimed_originator entity.now.home request.now ≡ originator.now }
     ensures { IfOk result (λ r. r
-        ≡ (operated_on Retrieve entity.now request.now (at number entity.now.nodes)).reply) }
+        ≡ (found_effect Retrieve entity.now request.now (at number entity.now.nodes)).reply) }
 {
     match find(entity, number) {
-        Some(target) => read_resource(alloc, entity, request, o, target.number()),
+        Some(target) => read_resource(alloc, entity, request, originator, target.number()),
         None => refuse(alloc, request, Rsc::NotFound),
     }
 }
@@ -232,19 +262,19 @@ fn read_resource<T: Tree>(
     alloc: Global,
     entity: &Entity<T>,
     request: &Request,
-    o: &[u8],
+    originator: &[u8],
     number: u64,
 ) -> Result<Reply, OutOfMemory>
-    requires originator { IsTrue (is_originator o.now) }
-    requires claimed { claimed_originator entity.now.home request.now ≡ o.now }
+    requires originator { IsTrue (is_originator originator.now) }
+    requires claimed { claimed_originator entity.now.home request.now ≡ originator.now }
     requires resource { IsTrue (has number entity.now.nodes) }
     ensures { IfOk result (λ r. r ≡ reading_reply entity.now request.now number) }
 {
     let tree = &entity.tree;
     let home = &entity.home;
     if is_discovery(request) {
-        discover(alloc, tree, home, o, request, number)
+        discover(alloc, tree, home, originator, request, number)
     } else {
-        retrieve(alloc, tree, home, o, request, number)
+        retrieve(alloc, tree, home, originator, request, number)
     }
 }

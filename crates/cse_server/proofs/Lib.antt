@@ -1,3 +1,4 @@
+pub mod LinkLemmas
 pub mod RepliesLemmas
 pub mod TalkLemmas
 pub mod WayLemmas
@@ -8,6 +9,5 @@ pub mod PutLemmas
 pub mod TurnLemmas
 pub mod SideLemmas
 pub mod MostLemmas
-pub mod LawLemmas
-pub mod GuardedLemmas
-pub mod OneWayLemmas
+pub mod ValuesSent
+pub mod Sent

@@ -1,23 +1,24 @@
 -- Replies that outcomes give, joined and compared.
 use Rattle.std.proofs.Common.{◌≡◌, List, [], ◌∷◌, ◌++◌, length, refl, sym, ap, subst, ◌∙◌, arith, append_assoc, append-nil}
-use Rattle.m2m_io.specs.Link.{Exchange}
+use Rattle.std.proofs.lemmas.List.Elements.{All-tail}
+use Rattle.m2m_io.specs.Link.{Carrying}
 use Rattle.primitive_json.specs.declared.reply.ReplyParts.{ReplyParts}
 use Rattle.primitive_json.specs.declared.request.RequestParts.{RequestParts}
 use Rattle.cse_machine.specs.Answer.{starved}
 use Rattle.cse_machine.specs.declared.event.Outcome.{Outcome}
 use Rattle.cse_machine.specs.declared.event.Outcome.TheVariants.{Done, Starved}
-use Rattle.cse_server.specs.Replies.{GivesReply, GivesReplies}
+use Rattle.cse_server.specs.Replies.{GivesReply, GivesReplies, IsAnsweredHere, WhatIsAnsweredHereIsNotCarried}
 
 -- one outcome
-pub gives-one : (request : RequestParts) (outcome : Outcome) (reply : ReplyParts) (exchanges : List Exchange)
-    → GivesReply request outcome reply exchanges → GivesReplies (request ∷ []) (outcome ∷ []) (reply ∷ []) exchanges
-gives-one request outcome reply exchanges g = (exchanges, [], sym (append-nil exchanges), g, refl)
+pub gives-one : (request : RequestParts) (outcome : Outcome) (reply : ReplyParts) (carried : List Carrying)
+    → GivesReply request outcome reply carried → GivesReplies (request ∷ []) (outcome ∷ []) (reply ∷ []) carried
+gives-one request outcome reply carried g = (carried, [], sym (append-nil carried), g, refl)
 
 -- the outcomes of some requests, and of others behind them
-pub gives-append : (xs ys : List RequestParts) (os os' : List Outcome) (ps ps' : List ReplyParts) (es es' : List Exchange)
+pub gives-append : (xs ys : List RequestParts) (os os' : List Outcome) (ps ps' : List ReplyParts) (es es' : List Carrying)
     → GivesReplies xs os ps es → GivesReplies ys os' ps' es' → GivesReplies (xs ++ ys) (os ++ os') (ps ++ ps') (es ++ es')
 gives-append [] ys [] os' [] ps' es es' first then =
-    subst (λ (v : List Exchange). GivesReplies ys os' ps' (v ++ es')) (sym first) then
+    subst (λ (v : List Carrying). GivesReplies ys os' ps' (v ++ es')) (sym first) then
 gives-append [] ys [] os' (p ∷ ps) ps' es es' first then = absurd first
 gives-append [] ys (o ∷ os) os' [] ps' es es' first then = absurd first
 gives-append [] ys (o ∷ os) os' (p ∷ ps) ps' es es' first then = absurd first
@@ -27,13 +28,13 @@ gives-append (x ∷ xs) ys (o ∷ os) os' [] ps' es es' first then = absurd firs
 gives-append (x ∷ xs) ys (o ∷ os) os' (p ∷ ps) ps' es es' first then = (
   first.0,
   first.1 ++ es',
-  ap (λ (v : List Exchange). v ++ es') first.2 ∙ append_assoc first.0 first.1 es',
+  ap (λ (v : List Carrying). v ++ es') first.2 ∙ append_assoc first.0 first.1 es',
   first.3,
   gives-append xs ys os os' ps ps' first.1 es' first.4 then,
 )
 
 -- each request has its reply
-pub gives-length : (xs : List RequestParts) (os : List Outcome) (ps : List ReplyParts) (es : List Exchange)
+pub gives-length : (xs : List RequestParts) (os : List Outcome) (ps : List ReplyParts) (es : List Carrying)
     → GivesReplies xs os ps es → length ps ≡ length xs
 gives-length [] [] [] es g = refl
 gives-length [] [] (p ∷ ps) es g = absurd g
@@ -44,14 +45,14 @@ gives-length (x ∷ xs) [] (p ∷ ps) es g = absurd g
 gives-length (x ∷ xs) (o ∷ os) [] es g = absurd g
 gives-length (x ∷ xs) (o ∷ os) (p ∷ ps) es g = let rest = gives-length xs os ps g.1 g.4 in omega (arith, rest)
 
--- one outcome gives one reply, at one cost
-reply_one_way : (request : RequestParts) (outcome : Outcome) (reply other : ReplyParts) (es fs : List Exchange)
+-- one outcome gives one reply, for which one list is carried
+reply_one_way : (request : RequestParts) (outcome : Outcome) (reply other : ReplyParts) (es fs : List Carrying)
     → GivesReply request outcome reply es → GivesReply request outcome other fs → (reply ≡ other) × (es ≡ fs)
 reply_one_way request (Done answered) reply other es fs g h = (g.0 ∙ sym h.0, g.1 ∙ sym h.1)
 reply_one_way request (Starved done) reply other es fs g h = (g.0 ∙ sym h.0, g.1 ∙ sym h.1)
 
--- the same outcomes of the same requests give the same replies, at the same cost
-pub gives_one_way : (xs : List RequestParts) (os : List Outcome) (ps qs : List ReplyParts) (es fs : List Exchange)
+-- the same outcomes of the same requests give the same replies, for which the same is carried
+pub gives_one_way : (xs : List RequestParts) (os : List Outcome) (ps qs : List ReplyParts) (es fs : List Carrying)
     → GivesReplies xs os ps es → GivesReplies xs os qs fs → (ps ≡ qs) × (es ≡ fs)
 gives_one_way [] [] [] [] es fs g h = (refl, g ∙ sym h)
 gives_one_way [] [] [] (q ∷ qs) es fs g h = absurd h
@@ -66,3 +67,18 @@ gives_one_way (x ∷ xs) (o ∷ os) (p ∷ ps) (q ∷ qs) es fs g h =
     let first = reply_one_way x o p q g.0 h.0 g.3 h.3 in
     let rest = gives_one_way xs os ps qs g.1 h.1 g.4 h.4 in
     (cc (first.0, rest.0), g.2 ∙ (λ i. first.1 i ++ rest.1 i) ∙ sym h.2)
+
+-- ---- what the entity itself answers
+
+no_cost : (request : RequestParts) (outcome : Outcome) (reply : ReplyParts) (carried : List Carrying) → GivesReply request outcome reply carried → carried ≡ []
+no_cost request (Done answered) reply carried g = g.1
+no_cost request (Starved done) reply carried g = g.1
+
+pub not_carried : WhatIsAnsweredHereIsNotCarried
+not_carried [] [] [] carried g here = g
+not_carried [] [] (p ∷ ps) carried g here = absurd g
+not_carried [] (o ∷ os) ps carried g here = absurd g
+not_carried (x ∷ xs) [] ps carried g here = absurd g
+not_carried (x ∷ xs) (o ∷ os) [] carried g here = absurd g
+not_carried (x ∷ xs) (o ∷ os) (p ∷ ps) carried g here =
+    g.2 ∙ (λ i. no_cost x o p g.0 g.3 i ++ not_carried xs os ps g.1 g.4 (All-tail IsAnsweredHere o os here) i)

@@ -1,5 +1,5 @@
 -- The talk of frames that are joined.
-use Rattle.std.proofs.Common.{◌≡◌, ℕ, ◌+◌, Bool, true, false, List, [], ◌∷◌, ◌++◌, length, Option, Some, None, IsTrue, cond, inl, inr, refl, sym, ap, subst, ◌∙◌, arith, append_assoc, append-nil}
+use Rattle.std.proofs.Common.{◌≡◌, ℕ, ◌+◌, Bool, true, false, List, [], ◌∷◌, ◌++◌, length, Option, Some, None, IsTrue, cond, inl, inr, refl, sym, ap, subst, ◌∙◌, arith, append_assoc, append-nil, length-append}
 use Rattle.std.proofs.lemmas.Bool.{cases_Bool, true≢false}
 use Rattle.std.specs.List.{cons_option}
 use Rattle.std.proofs.lemmas.List.Elements.{filter_map-append}
@@ -8,7 +8,7 @@ use Rattle.http_frames.specs.declared.frame.Frame.{Frame}
 use Rattle.http_binding.specs.Replying.{reply_text}
 use Rattle.primitive_json.specs.declared.reply.ReplyParts.{ReplyParts}
 use Rattle.cse_server.specs.Closing.{closes}
-use Rattle.cse_server.specs.Talk.{request_in, requests_in, reply_for, replies_behind, reply_texts, last_reply, talk, before_last, talk_before_last, some_closes, ends_at_close}
+use Rattle.cse_server.specs.Talk.{request_in, requests_in, reply_for, replies_behind, reply_texts, last_reply, talk, before_last, talk_before_last, talk_length, some_closes, ends_at_close}
 
 -- ---- places
 
@@ -119,6 +119,19 @@ before_last-joined xs (y ∷ ys) place false rs more stays same = (
   sym (reply_texts-append xs (before_last (y ∷ ys)) place rs more stays same)
       ∙ ap (λ fs. reply_texts fs place (rs ++ more)) (sym (before_last-append xs y ys)) ∙ sym (append-nil _),
 )
+
+-- where something is said last, nothing more
+pub before_last-whole : (xs ys : List Frame) (place : ℕ) (refused : Bool) (rs more : List ReplyParts) → some_closes xs place ≡ false → length rs ≡ length (requests_in xs)
+    → (k : ℕ) → k + 1 ≡ talk_length ys refused
+    → reply_texts xs place rs ++ talk_before_last (place + length xs) ys refused more ≡ talk_before_last place (xs ++ ys) refused (rs ++ more)
+before_last-whole xs ys place true rs more stays same k some = sym (reply_texts-append xs ys place rs more stays same)
+before_last-whole xs [] place false rs more stays same k some = absurd (omega (arith, some))
+before_last-whole xs (y ∷ ys) place false rs more stays same k some =
+    sym (reply_texts-append xs (before_last (y ∷ ys)) place rs more stays same)
+    ∙ ap (λ fs. reply_texts fs place (rs ++ more)) (sym (before_last-append xs y ys))
+
+pub talk_length-append : (xs ys : List Frame) (refused : Bool) → talk_length (xs ++ ys) refused ≡ length xs + talk_length ys refused
+talk_length-append xs ys refused = rw length-append (omega arith)
 
 -- nothing is said before what is said last of at most one frame
 pub nothing_before : (place : ℕ) (refused : Bool) → talk_before_last place [] refused [] ≡ []

@@ -1,10 +1,9 @@
 -- The turn of one frame, and what stands next on a connection.
 use Rattle.std.proofs.Common.{◌≡◌, ℕ, ◌+◌, ◌<◌, Bool, true, false, List, [], ◌∷◌, ◌++◌, length, Option, Some, None, IfSome, IsTrue, MatchOption, Result, Ok, inl, inr, refl, sym, ap, subst, ◌∙◌, arith, append-nil}
 use Rattle.std.proofs.lemmas.Bool.{false≢true, true≢false}
-use Rattle.std.specs.Io.KnownBytes.{Appends, IsAtEnd}
-use Rattle.m2m_io.specs.Link.{Exchange}
-use Rattle.m2m_io.specs.Outside.{Outside, outside}
-use Rattle.m2m_io.specs.Told.{AppendsPrefix, Tells}
+use Rattle.std.specs.Io.KnownBytes.{IsAtEnd}
+use Rattle.cse_server.specs.Outside.{Carries, LinkTold, Outside, Puts, PutsPart, SinkTold, outside}
+use Rattle.m2m_io.specs.Told.{Tells}
 use Rattle.primitive_json.specs.declared.reply.ReplyParts.{ReplyParts}
 use Rattle.turn_desk.specs.Entries.{Marked}
 use Rattle.turn_desk.proofs.GrowthLemmas.{AsksAll-nothing}
@@ -20,17 +19,13 @@ use Rattle.cse_machine.specs.declared.event.Outcome.{Outcome}
 use Rattle.cse_server.specs.declared.connection.Ended.{Ended}
 use Rattle.cse_server.specs.declared.connection.Ended.TheVariants.{Closed, NoFrame, ReadFault, WriteFault, Memory}
 use Rattle.cse_server.specs.Closing.{closes}
-use Rattle.cse_server.specs.Talk.{reply_texts, last_reply, talk, talk_before_last, some_closes, ends_at_close}
-use Rattle.cse_server.specs.Connection.{ReadsLittle, RefusesRightly, EndsRightly, AppendsCut, Says, AsksFrames, ServesFrom}
-use Rattle.cse_server.specs.Way.{Leads, Goes, Hears, Refuses, SaysTurn, Turns, end_of_put}
+use Rattle.cse_server.specs.Talk.{reply_texts, last_reply, talk, talk_before_last, talk_length, some_closes, ends_at_close}
+use Rattle.cse_server.specs.Connection.{ReadsLittle, RefusesRightly, EndsRightly, PutsCut, Says, AsksFrames, ServesFrom}
+use Rattle.cse_server.specs.Way.{AnswersFrame, Leads, Goes, Hears, Refuses, SaysTurn, end_of_put}
 use Rattle.cse_server.proofs.NextLemmas.{kept_leads, reads_little, ended_empty, refused_rightly, reply_texts-one, some_closes-one}
-use Rattle.cse_server.proofs.PutLemmas.{prefix_none, cut_first}
+use Rattle.cse_server.proofs.LinkLemmas.{Tells-nil, carries_nothing}
+use Rattle.cse_server.proofs.PutLemmas.{puts_none, puts_nothing, cut_first}
 use Rattle.cse_server.proofs.TalkLemmas.{nothing_before}
-use Rattle.cse_server.proofs.WayLemmas.{Tells-nil}
-
-appends_nothing : (o : Option (List ℕ)) → Appends o o []
-appends_nothing None = tt
-appends_nothing (Some xs) = sym (append-nil xs)
 
 abbrev is_none_end : Option Ended → Type 0
 is_none_end None = Unit {0}
@@ -46,21 +41,30 @@ end_or e (Some d) = d
 some_same : (ended : Ended) → Some ended ≡ Some Memory → ended ≡ Memory
 some_same ended e = ap (end_or ended) e
 
--- what an answer says that ended the connection, before which nothing was said
-turn_says : (place : ℕ) (frame : Frame) (ended : Ended) (old new : Option (List ℕ)) (before text : List ℕ) → before ≡ []
-    → SaysTurn place frame (Some ended) old new text → Says ended old new before (text ++ [])
-turn_says place frame Closed old new before text none said =
-    subst (λ (v : List ℕ). Appends old new v) (sym (append-nil text)) said.1
-turn_says place frame NoFrame old new before text none said = absurd said
-turn_says place frame ReadFault old new before text none said = absurd said
-turn_says place frame WriteFault old new before text none said =
-    subst (λ (v : List ℕ). AppendsCut old new before v) (sym (append-nil text)) (cut_first old new before text none said)
-turn_says place frame Memory old new before text none said =
-    subst (λ (v : List ℕ). AppendsCut old new before v) (sym (append-nil text)) (cut_first old new before text none said)
+-- what an answer to a frame says that ended the connection: one reply, before which nothing was said
+answered_says : (place : ℕ) (frame : Frame) (ended : Ended) (before text : List ℕ) (count : ℕ) (old new : SinkTold) → before ≡ [] → count ≡ 1
+    → SaysTurn place frame (Some ended) text old new → Says ended before (text ++ []) count old new
+answered_says place frame Closed before text count old new none one said =
+    subst (λ (n : ℕ). Puts (text ++ []) n old new) (sym one) (subst (λ (v : List ℕ). Puts v 1 old new) (sym (append-nil text)) said.1)
+answered_says place frame NoFrame before text count old new none one said = absurd said
+answered_says place frame ReadFault before text count old new none one said = absurd said
+answered_says place frame WriteFault before text count old new none one said =
+    subst (λ (n : ℕ). PutsCut before (text ++ []) n old new) (sym one)
+    (subst (λ (v : List ℕ). PutsCut before v 1 old new) (sym (append-nil text)) (cut_first old new before text none said))
+answered_says place frame Memory before text count old new none one said =
+    inr (record { less = 0; is_less = sym one; put = rw none (puts_nothing old new said) })
 
-turn_ends : (place : ℕ) (frame : Frame) (ended : Ended) (heard : List Frame) (old new : Option (List ℕ)) (text rest : List ℕ)
+-- and where memory ran out before the frame was heard: nothing
+unheard_says : (place : ℕ) (frame : Frame) (ended : Ended) (before text : List ℕ) (count : ℕ) (old new : SinkTold) → ended ≡ Memory → text ≡ [] → count ≡ 0
+    → SaysTurn place frame (Some ended) text old new → Says ended before (text ++ []) count old new
+unheard_says place frame ended before text count old new memory none zero said =
+    let kept : new ≡ old = subst (λ (e : Ended). SaysTurn place frame (Some e) text old new) memory said in
+    subst (λ (e : Ended). Says e before (text ++ []) count old new) (sym memory)
+    (inl (rw (none, zero) (puts_nothing old new kept)))
+
+turn_ends : (place : ℕ) (frame : Frame) (ended : Ended) (heard : List Frame) (old new : SinkTold) (text rest : List ℕ)
     (src : Option (List ℕ)) → heard ≡ frame ∷ [] → IfSome src (ReadsLittle rest)
-    → SaysTurn place frame (Some ended) old new text → EndsRightly place ended false heard rest src
+    → SaysTurn place frame (Some ended) text old new → EndsRightly place ended false heard rest src
 turn_ends place frame Closed heard old new text rest src same little said =
     (refl, λ stays. absurd (true≢false (sym (some_closes-one frame place true said.0) ∙ ap (λ (fs : List Frame). some_closes fs place) (sym same) ∙ stays)), little)
 turn_ends place frame NoFrame heard old new text rest src same little said = absurd said
@@ -74,8 +78,8 @@ EndsOn place ended heard src bytes =
     (rest : List ℕ) × BeginsWithFrames Request bytes heard rest × RefusesRightly place false heard rest × EndsRightly place ended false heard rest src
 
 turn_stream : (left src : Option (List ℕ)) (held : List ℕ) (place : ℕ) (frame : Frame) (ended : Ended) (heard : List Frame)
-    (old new : Option (List ℕ)) (text : List ℕ) → heard ≡ frame ∷ [] → length held < most_held Request
-    → Leads left (frame ∷ []) (stream_of held src) → SaysTurn place frame (Some ended) old new text
+    (old new : SinkTold) (text : List ℕ) → heard ≡ frame ∷ [] → length held < most_held Request
+    → Leads left (frame ∷ []) (stream_of held src) → SaysTurn place frame (Some ended) text old new
     → IfSome left (EndsOn place ended heard src)
 turn_stream None src held place frame ended heard old new text same few leads said = tt
 turn_stream (Some bytes) None held place frame ended heard old new text same few leads said = absurd leads
@@ -97,69 +101,66 @@ starved_stream (Some bytes) src place ended heard same memory little = (
 )
 
 module _ {S : Type 0} (grown : S → List (Marked Event Outcome) → S → Type 0) where
-  -- the reply to the frame was put, or some of it
+  -- the reply to the frame was put, or some of it; or it wasn't begun
   pub turned : {E : Type 0} (place : ℕ) (before after : S) (old new : Outside) (frame : Frame) (r : ReplyParts) (ended : Option Ended)
-      → Hears {E = E} grown before after (outside None None old.readings old.exchanges)
-      (outside None None new.readings new.exchanges) frame (Ok r)
-      → SaysTurn place frame ended old.written new.written (reply_text r (closes place frame))
-      → Turns place grown before after old new frame ended
+      → Hears {E = E} grown before after old.readings new.readings old.link new.link frame (Ok r)
+      → SaysTurn place frame ended (reply_text r (closes place frame)) old.out new.out
+      → AnswersFrame place grown before after old new frame ended
   turned place before after old new frame r ended h said = record {
     heard = frame ∷ [];
     either = inl refl;
     asks = h.asks;
-    said = subst (λ (text : List ℕ). SaysTurn place frame ended old.written new.written text)
+    said = subst (λ (text : List ℕ). SaysTurn place frame ended text old.out new.out)
         (ap (λ (v : ReplyParts). reply_text v (closes place frame)) h.replied ∙ sym (reply_texts-one frame place h.asks.replies)) said;
   }
 
   -- memory ran out before there was a reply
   pub starved_turn : {E : Type 0} (place : ℕ) (before after : S) (old new : Outside) (frame : Frame) (r : Result ReplyParts E)
-      → Hears grown before after (outside None None old.readings old.exchanges)
-      (outside None None new.readings new.exchanges) frame r
-      → new.written ≡ old.written → Turns place grown before after old new frame (Some Memory)
+      → Hears grown before after old.readings new.readings old.link new.link frame r
+      → new.out ≡ old.out → AnswersFrame place grown before after old new frame (Some Memory)
   starved_turn place before after old new frame r h same = record {
     heard = frame ∷ [];
     either = inl refl;
     asks = h.asks;
-    said = subst (λ (v : Option (List ℕ)). AppendsPrefix old.written v (reply_texts (frame ∷ []) place h.asks.replies)) (sym same)
-        (prefix_none old.written (reply_texts (frame ∷ []) place h.asks.replies));
+    said = same;
   }
 
   module _ (nothing : (seat : S) → grown seat [] seat) where
     -- no frame was put to the seat
-    abbrev asks_none : (seat : S) (given now : Option (List ℕ)) (told more : Option (List Exchange)) → now ≡ given → more ≡ told → AsksFrames grown seat seat given now told more []
-    asks_none seat given now told more readings exchanges = record {
+    abbrev asks_none : (seat : S) (given now : Option (List ℕ)) (told more : LinkTold) → now ≡ given → more ≡ told → AsksFrames grown seat seat given now told more []
+    asks_none seat given now told more readings link = record {
       readings = [];
       outcomes = [];
       replies = [];
-      exchanges = [];
+      carried = [];
       asked = AsksAll-nothing grown nothing seat;
       clock = subst (λ (v : Option (List ℕ)). Tells (λ list. list ++ []) given v) (sym readings) (Tells-nil given);
       gives = refl;
-      link = subst (λ (v : Option (List Exchange)). Tells (λ list. list ++ []) told v) (sym exchanges) (Tells-nil told);
+      link = subst (λ (v : LinkTold). Carries [] told v) (sym link) (carries_nothing told);
     }
 
     -- memory ran out before the frame was heard
-    pub unheard_turn : (place : ℕ) (seat : S) (old : Outside) (frame : Frame) → Turns place grown seat seat old old frame (Some Memory)
+    pub unheard_turn : (place : ℕ) (seat : S) (old : Outside) (frame : Frame) → AnswersFrame place grown seat seat old old frame (Some Memory)
     unheard_turn place seat old frame = record {
       heard = [];
       either = inr (refl, refl);
-      asks = asks_none seat old.readings old.readings old.exchanges old.exchanges refl refl;
-      said = prefix_none old.written [];
+      asks = asks_none seat old.readings old.readings old.link old.link refl refl;
+      said = refl;
     }
 
     -- nothing was heard, and the connection ended so
     pub serves_none : (place : ℕ) (seat : S) (old new : Outside) (refused : Bool) (ended : Ended)
-        → new.readings ≡ old.readings → new.exchanges ≡ old.exchanges
+        → new.readings ≡ old.readings → new.link ≡ old.link
         → IfSome old.left (λ bytes. RefusesRightly place refused [] bytes × EndsRightly place ended refused [] bytes new.left)
-        → Says ended old.written new.written [] (talk place [] refused [])
+        → Says ended [] (talk place [] refused []) (talk_length [] refused) old.out new.out
         → ServesFrom place grown seat seat old new ended
-    serves_none place seat old new refused ended readings exchanges stream said = record {
+    serves_none place seat old new refused ended readings link stream said = record {
       heard = [];
       refused = refused;
-      asks = asks_none seat old.readings new.readings old.exchanges new.exchanges readings exchanges;
+      asks = asks_none seat old.readings new.readings old.link new.link readings link;
       up_to = refl;
       stream = here old.left stream;
-      said = subst (λ (before : List ℕ). Says ended old.written new.written before (talk place [] refused []))
+      said = subst (λ (before : List ℕ). Says ended before (talk place [] refused []) (talk_length [] refused) old.out new.out)
           (sym (nothing_before place refused)) said;
     }
       where
@@ -169,11 +170,11 @@ module _ {S : Type 0} (grown : S → List (Marked Event Outcome) → S → Type 
         here (Some bytes) h = (bytes, refl, h.0, h.1)
 
     -- the stream ended behind a frame
-    pub serves_end : (place : ℕ) (seat : S) (left rest : Option (List ℕ)) (held now : List ℕ) (old given : Option (List ℕ)) (link : Option (List Exchange))
+    pub serves_end : (place : ℕ) (seat : S) (left rest : Option (List ℕ)) (held now : List ℕ) (old : SinkTold) (given : Option (List ℕ)) (link : LinkTold)
         → Reads left rest held now → length now < most_held Request → now ≡ [] → IsAtEnd rest
         → ServesFrom place grown seat seat (outside (stream_of held left) old given link) (outside rest old given link) Closed
     serves_end place seat left rest held now old given link reads few none end =
-        serves_none place seat (outside (stream_of held left) old given link) (outside rest old given link) false Closed refl refl (all left reads) (appends_nothing old)
+        serves_none place seat (outside (stream_of held left) old given link) (outside rest old given link) false Closed refl refl (all left reads) (puts_none old)
       where
         all : (left : Option (List ℕ)) → Reads left rest held now → IfSome (stream_of held left) (λ bytes. RefusesRightly place false [] bytes × EndsRightly place Closed false [] bytes rest)
         all None r = tt
@@ -182,11 +183,11 @@ module _ {S : Type 0} (grown : S → List (Marked Event Outcome) → S → Type 
             ((λ t. absurd (false≢true t)), (refl, λ stays. nothing, reads_little (Some l) rest held now r few))
 
     -- reading failed
-    pub serves_fault : (place : ℕ) (seat : S) (left rest : Option (List ℕ)) (held now : List ℕ) (old given : Option (List ℕ)) (link : Option (List Exchange))
+    pub serves_fault : (place : ℕ) (seat : S) (left rest : Option (List ℕ)) (held now : List ℕ) (old : SinkTold) (given : Option (List ℕ)) (link : LinkTold)
         → Reads left rest held now → length now < most_held Request → HasNoFrame Request now
         → ServesFrom place grown seat seat (outside (stream_of held left) old given link) (outside rest old given link) ReadFault
     serves_fault place seat left rest held now old given link reads few none =
-        serves_none place seat (outside (stream_of held left) old given link) (outside rest old given link) false ReadFault refl refl (all left rest reads) (appends_nothing old)
+        serves_none place seat (outside (stream_of held left) old given link) (outside rest old given link) false ReadFault refl refl (all left rest reads) (puts_none old)
       where
         all : (left rest : Option (List ℕ)) → Reads left rest held now → IfSome (stream_of held left) (λ bytes. RefusesRightly place false [] bytes × EndsRightly place ReadFault false [] bytes rest)
         all None rest r = tt
@@ -195,31 +196,31 @@ module _ {S : Type 0} (grown : S → List (Marked Event Outcome) → S → Type 
             ((λ t. absurd (false≢true t)), (refl, refl, record { reads = record { held = now; rest_is = kept_leads (Some l) (Some m) held now r; few = few }; none = none }))
 
     -- memory ran out
-    pub serves_starved : (place : ℕ) (seat : S) (left rest : Option (List ℕ)) (old given : Option (List ℕ)) (link : Option (List Exchange))
+    pub serves_starved : (place : ℕ) (seat : S) (left rest : Option (List ℕ)) (old : SinkTold) (given : Option (List ℕ)) (link : LinkTold)
         → IfSome left (λ bytes. IfSome rest (ReadsLittle bytes))
         → ServesFrom place grown seat seat (outside left old given link) (outside rest old given link) Memory
     serves_starved place seat left rest old given link little =
         serves_none place seat (outside left old given link) (outside rest old given link) false Memory refl refl (all left little)
-        (cut_first old old [] [] refl (prefix_none old []))
+        (inl (puts_none old))
       where
         all : (left : Option (List ℕ)) → IfSome left (λ bytes. IfSome rest (ReadsLittle bytes)) → IfSome left (λ bytes. RefusesRightly place false [] bytes × EndsRightly place Memory false [] bytes rest)
         all None h = tt
         all (Some bytes) h = ((λ t. absurd (false≢true t)), h)
 
     -- no frame can stand
-    pub serves_refused : (place : ℕ) (seat : S) (left rest : Option (List ℕ)) (held now : List ℕ) (old new given : Option (List ℕ)) (link : Option (List Exchange)) (ended : Ended)
+    pub serves_refused : (place : ℕ) (seat : S) (left rest : Option (List ℕ)) (held now : List ℕ) (old new : SinkTold) (given : Option (List ℕ)) (link : LinkTold) (ended : Ended)
         → Reads left rest held now → length now < most_held Request → HoldsNoFrame Request now rest → Refuses old new ended
         → ServesFrom place grown seat seat (outside (stream_of held left) old given link) (outside rest new given link) ended
     serves_refused place seat left rest held now old new given link ended reads few holds put =
         serves_none place seat (outside (stream_of held left) old given link) (outside rest new given link) true ended refl refl
         (all left reads ended put) (says ended put)
       where
-        says : (ended : Ended) → Refuses old new ended → Says ended old new [] last_reply
+        says : (ended : Ended) → Refuses old new ended → Says ended [] last_reply 1 old new
         says Closed put = absurd put
         says NoFrame put = put
         says ReadFault put = absurd put
         says WriteFault put = cut_first old new [] last_reply refl put
-        says Memory put = cut_first old new [] last_reply refl put
+        says Memory put = inr (record { less = 0; is_less = refl; put = puts_nothing old new put })
 
         ends : (ended : Ended) (bytes : List ℕ) → Refuses old new ended → IfSome rest (ReadsLittle bytes) → EndsRightly place ended true [] bytes rest
         ends Closed bytes put little = absurd put
@@ -237,16 +238,16 @@ module _ {S : Type 0} (grown : S → List (Marked Event Outcome) → S → Type 
 
   -- the frame was answered, and the connection goes on
   goes_on : (place : ℕ) (before after : S) (left rest : Option (List ℕ)) (old new : Outside) (frame : Frame)
-      → Leads left (frame ∷ []) rest → Turns place grown before after old new frame None
-      → Goes place (place + 1) grown before after (outside left old.written old.readings old.exchanges)
-      (outside rest new.written new.readings new.exchanges)
+      → Leads left (frame ∷ []) rest → AnswersFrame place grown before after old new frame None
+      → Goes place (place + 1) grown before after (outside left old.out old.readings old.link)
+      (outside rest new.out new.readings new.link)
   goes_on place before after left rest old new frame leads t = record {
     heard = t.heard;
     asks = t.asks;
     places = ap (λ (fs : List Frame). place + length fs) e;
     stays_on = rw e (some_closes-one frame place false t.said.0);
     stream = subst (λ (fs : List Frame). Leads left fs rest) (sym e) leads;
-    said = t.said.1;
+    said = subst (λ (n : ℕ). Puts (reply_texts t.heard place t.asks.replies) n old.out new.out) (sym (ap (λ (fs : List Frame). length fs) e)) t.said.1;
   }
     where
       e : t.heard ≡ frame ∷ []
@@ -255,9 +256,9 @@ module _ {S : Type 0} (grown : S → List (Marked Event Outcome) → S → Type 
   -- the frame was answered, and the connection ended
   pub serves_turn : (place : ℕ) (before after : S) (left src : Option (List ℕ)) (held : List ℕ) (old new : Outside) (frame : Frame) (ended : Ended)
       → length held < most_held Request → IfSome left (λ bytes. IfSome src (ReadsLittle bytes))
-      → Leads left (frame ∷ []) (stream_of held src) → Turns place grown before after old new frame (Some ended)
-      → ServesFrom place grown before after (outside left old.written old.readings old.exchanges)
-      (outside src new.written new.readings new.exchanges) ended
+      → Leads left (frame ∷ []) (stream_of held src) → AnswersFrame place grown before after old new frame (Some ended)
+      → ServesFrom place grown before after (outside left old.out old.readings old.link)
+      (outside src new.out new.readings new.link) ended
   serves_turn place before after left src held old new frame ended few little leads t = record {
     heard = t.heard;
     refused = false;
@@ -267,25 +268,28 @@ module _ {S : Type 0} (grown : S → List (Marked Event Outcome) → S → Type 
       | inr starved ↦ subst (λ (fs : List Frame). IsTrue (ends_at_close fs place)) (sym starved.0) refl
     ];
     stream = elim t.either [
-      | inl same ↦ turn_stream left src held place frame ended t.heard old.written new.written (reply_texts t.heard place t.asks.replies) same few leads t.said
+      | inl same ↦ turn_stream left src held place frame ended t.heard old.out new.out (reply_texts t.heard place t.asks.replies) same few leads t.said
       | inr starved ↦ starved_stream left src place ended t.heard starved.0 (some_same ended starved.1) little
     ];
-    said = turn_says place frame ended old.written new.written _ (reply_texts t.heard place t.asks.replies)
-        (elim t.either [
-          | inl same ↦ ap (λ (fs : List Frame). talk_before_last place fs false t.asks.replies) same
-          | inr starved ↦ ap (λ (fs : List Frame). talk_before_last place fs false t.asks.replies) starved.0
-        ]) t.said;
+    said = elim t.either [
+      | inl same ↦
+          answered_says place frame ended _ (reply_texts t.heard place t.asks.replies) (talk_length t.heard false) old.out new.out
+          (ap (λ (fs : List Frame). talk_before_last place fs false t.asks.replies) same) (ap (λ (fs : List Frame). talk_length fs false) same) t.said
+      | inr starved ↦
+          unheard_says place frame ended _ (reply_texts t.heard place t.asks.replies) (talk_length t.heard false) old.out new.out (some_same ended starved.1)
+          (ap (λ (fs : List Frame). reply_texts fs place t.asks.replies) starved.0) (ap (λ (fs : List Frame). talk_length fs false) starved.0) t.said
+    ];
   }
 
   -- a frame stood next, and was answered
   pub message_next : (place : ℕ) (before after : S) (left src : Option (List ℕ)) (held : List ℕ) (old new : Outside) (frame : Frame) (r : Option Ended) (P : Type 0) → P
       → length held < most_held Request → IfSome left (λ bytes. IfSome src (ReadsLittle bytes))
-      → Leads left (frame ∷ []) (stream_of held src) → Turns place grown before after old new frame r
+      → Leads left (frame ∷ []) (stream_of held src) → AnswersFrame place grown before after old new frame r
       → MatchOption r
-      (P × Goes place (place + 1) grown before after (outside left old.written old.readings old.exchanges)
-      (outside (stream_of held src) new.written new.readings new.exchanges))
-      (ServesFrom place grown before after (outside left old.written old.readings old.exchanges)
-      (outside src new.written new.readings new.exchanges))
+      (P × Goes place (place + 1) grown before after (outside left old.out old.readings old.link)
+      (outside (stream_of held src) new.out new.readings new.link))
+      (ServesFrom place grown before after (outside left old.out old.readings old.link)
+      (outside src new.out new.readings new.link))
   message_next place before after left src held old new frame None P p few little leads t =
       (p, goes_on place before after left (stream_of held src) old new frame leads t)
   message_next place before after left src held old new frame (Some ended) P p few little leads t =
@@ -293,7 +297,7 @@ module _ {S : Type 0} (grown : S → List (Marked Event Outcome) → S → Type 
 
   module _ (nothing : (seat : S) → grown seat [] seat) where
     -- no frame stood yet
-    pub goes_none : (place : ℕ) (seat : S) (left : Option (List ℕ)) (held : List ℕ) (old given : Option (List ℕ)) (link : Option (List Exchange)) → held ≡ []
+    pub goes_none : (place : ℕ) (seat : S) (left : Option (List ℕ)) (held : List ℕ) (old : SinkTold) (given : Option (List ℕ)) (link : LinkTold) → held ≡ []
         → Goes place place grown seat seat (outside left old given link) (outside (stream_of held left) old given link)
     goes_none place seat left held old given link none = record {
       heard = [];
@@ -301,7 +305,7 @@ module _ {S : Type 0} (grown : S → List (Marked Event Outcome) → S → Type 
       places = omega arith;
       stays_on = refl;
       stream = rw none (start left);
-      said = appends_nothing old;
+      said = puts_none old;
     }
       where
         start : (left : Option (List ℕ)) → Leads left [] (stream_of [] left)
@@ -309,9 +313,10 @@ module _ {S : Type 0} (grown : S → List (Marked Event Outcome) → S → Type 
         start (Some bytes) = refl
 
 -- what was put of a reply where the sink or memory failed
-pub put_says : (place : ℕ) (frame : Frame) (old new : Option (List ℕ)) (text : List ℕ) (fault : PutFault) → AppendsPrefix old new text → SaysTurn place frame (Some (end_of_put fault)) old new text
-put_says place frame old new text PutWrite said = said
-put_says place frame old new text PutMemory said = said
+pub put_says : (place : ℕ) (frame : Frame) (text : List ℕ) (old new : SinkTold) (fault : PutFault)
+    → (fault ≡ PutWrite → PutsPart text old new) → (fault ≡ PutMemory → new ≡ old) → SaysTurn place frame (Some (end_of_put fault)) text old new
+put_says place frame text old new PutWrite part none = part refl
+put_says place frame text old new PutMemory part none = none refl
 
 -- what follows where a call didn't end the connection
 pub next_goes : (Goes : Type 0) (Serves : Ended → Type 0) (r : Option Ended) → ((ended : Ended) → r ≡ Some ended → ⊥) → MatchOption r Goes Serves → Goes

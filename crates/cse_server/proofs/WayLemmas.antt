@@ -1,11 +1,8 @@
 -- A connection on its way, joined with what comes next.
-use Rattle.std.proofs.Common.{◌≡◌, ℕ, ◌+◌, Bool, false, List, [], ◌∷◌, ◌++◌, length, map, Option, Some, None, IfSome, sym, ap, subst, ◌∙◌, arith, append_assoc, append-nil, length-append}
-use Rattle.std.proofs.KnownBytes.{Appends-trans}
+use Rattle.std.proofs.Common.{◌≡◌, ℕ, ◌+◌, Bool, false, List, [], ◌∷◌, ◌++◌, length, map, Option, Some, None, IfSome, inl, inr, sym, ap, subst, ◌∙◌, arith, length-append}
 use Rattle.std.proofs.lemmas.List.{map-append}
-use Rattle.std.specs.Io.KnownBytes.{Appends}
-use Rattle.m2m_io.specs.Link.{Exchange}
-use Rattle.m2m_io.specs.Outside.{Outside}
-use Rattle.m2m_io.specs.Told.{Tells}
+use Rattle.m2m_io.specs.Link.{Carrying}
+use Rattle.cse_server.specs.Outside.{LinkTold, Outside, Puts, SinkTold}
 use Rattle.primitive_json.specs.declared.reply.ReplyParts.{ReplyParts}
 use Rattle.primitive_json.specs.declared.request.RequestParts.{RequestParts}
 use Rattle.turn_desk.specs.Entries.{Marked}
@@ -17,28 +14,16 @@ use Rattle.cse_machine.specs.declared.event.Event.TheVariants.{Ask}
 use Rattle.cse_machine.specs.declared.event.Outcome.{Outcome}
 use Rattle.cse_server.specs.declared.connection.Ended.{Ended}
 use Rattle.cse_server.specs.declared.connection.Ended.TheVariants.{Closed, NoFrame, ReadFault, WriteFault, Memory}
-use Rattle.cse_server.specs.Talk.{requests_in, reply_texts, talk, talk_before_last, some_closes}
+use Rattle.cse_server.specs.Talk.{requests_in, reply_texts, talk, talk_before_last, talk_length, some_closes}
 use Rattle.http_frames.specs.declared.frame.Side.TheVariants.{Request}
 use Rattle.http_frames.specs.Stream.{BeginsWithFrames}
 use Rattle.cse_server.specs.Connection.{RefusesRightly, EndsRightly, Says, AsksFrames, ServesFrom}
 use Rattle.cse_server.specs.Replies.{GivesReplies}
 use Rattle.cse_server.specs.Way.{Leads, Goes}
-use Rattle.cse_server.proofs.TalkLemmas.{some_closes-append, ends_at_close-append, requests_in-append, reply_texts-append, talk-append, before_last-joined}
+use Rattle.cse_server.proofs.TalkLemmas.{some_closes-append, ends_at_close-append, requests_in-append, reply_texts-append, talk-append, talk_length-append, before_last-joined, before_last-whole}
 use Rattle.cse_server.proofs.RepliesLemmas.{gives-append, gives-length}
-use Rattle.cse_server.proofs.PutLemmas.{cut_behind}
-
--- ---- readings and exchanges
-
-pub Tells-append : {A : Type 0} (a b : List A) (x y z : Option (List A))
-    → Tells (λ given. given ++ a) x y → Tells (λ given. given ++ b) y z → Tells (λ given. given ++ (a ++ b)) x z
-Tells-append a b x y None p q = tt
-Tells-append a b x None (Some zs) p q = absurd q
-Tells-append a b None (Some ys) (Some zs) p q = absurd p
-Tells-append a b (Some xs) (Some ys) (Some zs) p q = q ∙ ap (λ v. v ++ b) p ∙ append_assoc xs a b
-
-pub Tells-nil : {A : Type 0} (x : Option (List A)) → Tells (λ given. given ++ []) x x
-Tells-nil None = tt
-Tells-nil (Some xs) = sym (append-nil xs)
+use Rattle.cse_server.proofs.LinkLemmas.{Carries-append, Tells-append}
+use Rattle.cse_server.proofs.PutLemmas.{Puts-append, cut_behind, less_behind}
 
 -- ---- streams
 
@@ -82,17 +67,22 @@ stream_then place between xs ys refused ended (Some a) (Some b) now stays places
   Ends-then place between ended refused xs ys then.0 now stays places then.3,
 )
 
-Says-then : (ended : Ended) (old put new : Option (List ℕ)) (replied before both more last : List ℕ) → replied ++ before ≡ both ++ last → Appends old put replied → Says ended put new before more → Says ended old new both (replied ++ more)
-Says-then Closed old put new replied before both more last joined a b = Appends-trans old put new replied more a b
-Says-then NoFrame old put new replied before both more last joined a b = Appends-trans old put new replied more a b
-Says-then ReadFault old put new replied before both more last joined a b = Appends-trans old put new replied more a b
-Says-then WriteFault old put new replied before both more last joined a b = cut_behind old put new replied before both more last joined a b
-Says-then Memory old put new replied before both more last joined a b = cut_behind old put new replied before both more last joined a b
+-- Replies that were put, and then what a connection says as it ends: `before` is all but what it says last.
+module _ (old mid new : SinkTold) (replied before both more last : List ℕ) (m n : ℕ) (joined : replied ++ before ≡ both ++ last) (whole : (k : ℕ) → k + 1 ≡ n → replied ++ before ≡ both) (first : Puts replied m old mid) where
+  Says-then : (ended : Ended) → Says ended before more n mid new → Says ended both (replied ++ more) (m + n) old new
+  Says-then Closed then = Puts-append old mid new replied more m n first then
+  Says-then NoFrame then = Puts-append old mid new replied more m n first then
+  Says-then ReadFault then = Puts-append old mid new replied more m n first then
+  Says-then WriteFault then = cut_behind old mid new replied before both more last m n joined first then
+  Says-then Memory then = elim then [
+    | inl all ↦ inl (Puts-append old mid new replied more m n first all)
+    | inr less ↦ inr (less_behind old mid new replied before both m n (whole less.less less.is_less) first less)
+  ]
 
 -- ---- replies
 
 -- the replies to frames that are joined
-gave-append : (xs ys : List Frame) (os os' : List Outcome) (ps ps' : List ReplyParts) (es es' : List Exchange)
+gave-append : (xs ys : List Frame) (os os' : List Outcome) (ps ps' : List ReplyParts) (es es' : List Carrying)
     → GivesReplies (requests_in xs) os ps es → GivesReplies (requests_in ys) os' ps' es'
     → GivesReplies (requests_in (xs ++ ys)) (os ++ os') (ps ++ ps') (es ++ es')
 gave-append xs ys os os' ps ps' es es' first then =
@@ -109,16 +99,16 @@ module _ {S : Type 0} (grown : S → List (Marked Event Outcome) → S → Type 
       subst (λ (v : List Event). AsksAll grown before (rs ++ rs') v (os ++ os') after) (sym events)
       (AsksAll-append grown on first then)
 
-  abbrev asks-append : (before between after : S) (g g' g'' : Option (List ℕ)) (t t' t'' : Option (List Exchange)) (xs ys : List Frame) → AsksFrames grown before between g g' t t' xs → AsksFrames grown between after g' g'' t' t'' ys → AsksFrames grown before after g g'' t t'' (xs ++ ys)
+  abbrev asks-append : (before between after : S) (g g' g'' : Option (List ℕ)) (t t' t'' : LinkTold) (xs ys : List Frame) → AsksFrames grown before between g g' t t' xs → AsksFrames grown between after g' g'' t' t'' ys → AsksFrames grown before after g g'' t t'' (xs ++ ys)
   asks-append before between after g g' g'' t t' t'' xs ys a b = record {
     readings = a.readings ++ b.readings;
     outcomes = a.outcomes ++ b.outcomes;
     replies = a.replies ++ b.replies;
-    exchanges = a.exchanges ++ b.exchanges;
+    carried = a.carried ++ b.carried;
     asked = asked-append before between after a.readings b.readings xs ys a.outcomes b.outcomes a.asked b.asked;
     clock = Tells-append a.readings b.readings g g' g'' a.clock b.clock;
-    gives = gave-append xs ys a.outcomes b.outcomes a.replies b.replies a.exchanges b.exchanges a.gives b.gives;
-    link = Tells-append a.exchanges b.exchanges t t' t'' a.link b.link;
+    gives = gave-append xs ys a.outcomes b.outcomes a.replies b.replies a.carried b.carried a.gives b.gives;
+    link = Carries-append a.carried b.carried t t' t'' a.link b.link;
   }
 
   -- ---- what goes on, and then goes on or ends
@@ -129,14 +119,14 @@ module _ {S : Type 0} (grown : S → List (Marked Event Outcome) → S → Type 
       → Goes place next grown before after old new
   Goes-then place between next before seat after old mid new a b = record {
     heard = a.heard ++ b.heard;
-    asks = asks-append before seat after old.readings mid.readings new.readings old.exchanges mid.exchanges new.exchanges a.heard b.heard a.asks b.asks;
+    asks = asks-append before seat after old.readings mid.readings new.readings old.link mid.link new.link a.heard b.heard a.asks b.asks;
     places = rw length-append (omega (arith, a.places, b.places));
     stays_on = some_closes-append a.heard b.heard place a.stays_on ∙ ap (some_closes b.heard) a.places ∙ b.stays_on;
     stream = Leads-append a.heard b.heard old.left mid.left new.left a.stream b.stream;
     said =
-        let fit = gives-length (requests_in a.heard) a.asks.outcomes a.asks.replies a.asks.exchanges a.asks.gives in
-        rw (reply_texts-append a.heard b.heard place a.asks.replies b.asks.replies a.stays_on fit, a.places)
-        (Appends-trans old.written mid.written new.written _ _ a.said b.said);
+        let fit = gives-length (requests_in a.heard) a.asks.outcomes a.asks.replies a.asks.carried a.asks.gives in
+        rw (reply_texts-append a.heard b.heard place a.asks.replies b.asks.replies a.stays_on fit, a.places, length-append)
+        (Puts-append old.out mid.out new.out _ _ (length a.heard) (length b.heard) a.said b.said);
   }
 
   pub Serves-then : (place between : ℕ) (before seat after : S) (old mid new : Outside) (ended : Ended)
@@ -146,15 +136,17 @@ module _ {S : Type 0} (grown : S → List (Marked Event Outcome) → S → Type 
   Serves-then place between before seat after old mid new ended a b = record {
     heard = a.heard ++ b.heard;
     refused = b.refused;
-    asks = asks-append before seat after old.readings mid.readings new.readings old.exchanges mid.exchanges new.exchanges a.heard b.heard a.asks b.asks;
+    asks = asks-append before seat after old.readings mid.readings new.readings old.link mid.link new.link a.heard b.heard a.asks b.asks;
     up_to = ends_at_close-append a.heard b.heard place a.stays_on (rw a.places b.up_to);
     stream = stream_then place between a.heard b.heard b.refused ended old.left mid.left new.left a.stays_on a.places a.stream b.stream;
     said =
-        let fit = gives-length (requests_in a.heard) a.asks.outcomes a.asks.replies a.asks.exchanges a.asks.gives in
+        let fit = gives-length (requests_in a.heard) a.asks.outcomes a.asks.replies a.asks.carried a.asks.gives in
         let joined = before_last-joined a.heard b.heard place b.refused a.asks.replies b.asks.replies a.stays_on fit in
-        let before : reply_texts a.heard place a.asks.replies ++ talk_before_last between b.heard b.refused b.asks.replies ≡ talk_before_last place (a.heard ++ b.heard) b.refused (a.asks.replies ++ b.asks.replies) ++ joined.0 =
-        ap (λ n. reply_texts a.heard place a.asks.replies ++ talk_before_last n b.heard b.refused b.asks.replies) (sym a.places) ∙ joined.1 in
-        rw (talk-append a.heard b.heard place b.refused a.asks.replies b.asks.replies a.stays_on fit, a.places)
-        (Says-then ended old.written mid.written new.written (reply_texts a.heard place a.asks.replies) (talk_before_last between b.heard b.refused b.asks.replies) (talk_before_last place (a.heard ++ b.heard) b.refused (a.asks.replies ++ b.asks.replies))
-        (talk between b.heard b.refused b.asks.replies) joined.0 before a.said b.said);
+        let whole = before_last-whole a.heard b.heard place b.refused a.asks.replies b.asks.replies a.stays_on fit in
+        let said =
+        Says-then old.out mid.out new.out (reply_texts a.heard place a.asks.replies) (talk_before_last (place + length a.heard) b.heard b.refused b.asks.replies)
+        (talk_before_last place (a.heard ++ b.heard) b.refused (a.asks.replies ++ b.asks.replies)) (talk (place + length a.heard) b.heard b.refused b.asks.replies) joined.0
+        (length a.heard) (talk_length b.heard b.refused) joined.1 whole a.said ended
+        (rw a.places b.said) in
+        rw (talk-append a.heard b.heard place b.refused a.asks.replies b.asks.replies a.stays_on fit, talk_length-append a.heard b.heard b.refused) said;
   }

@@ -1,10 +1,10 @@
 -- What serving a connection does: to its bytes, to the seat at the desk, to the clock and to the
 -- link.
-use Rattle.std.specs.Prelude.{◌≡◌, ◌≢◌, ℕ, ◌<◌, Bool, true, false, List, [], ◌∷◌, ◌++◌, length, map}
-use Rattle.std.specs.Prelude.{Option, IfSome, IsTrue}
+use Rattle.std.specs.Prelude.{◌≡◌, ◌≢◌, ◌⊎◌, ℕ, ◌+◌, ◌<◌, Bool, true, false, List, [], ◌∷◌}
+use Rattle.std.specs.Prelude.{◌++◌, length, map, Option, IfSome, IsTrue}
 use Rattle.std.specs.Io.KnownBytes.{Appends}
-use Rattle.m2m_io.specs.Link.{Exchange}
-use Rattle.m2m_io.specs.Outside.{Outside}
+use Rattle.m2m_io.specs.Link.{Carrying}
+use Rattle.cse_server.specs.Outside.{Carries, LinkTold, Outside, Puts, SinkTold}
 use Rattle.m2m_io.specs.Told.{Tells}
 use Rattle.primitive_json.specs.declared.reply.ReplyParts.{ReplyParts}
 use Rattle.turn_desk.specs.Entries.{Marked}
@@ -20,7 +20,8 @@ use Rattle.cse_server.specs.declared.connection.Ended.{Ended}
 use Rattle.cse_server.specs.declared.connection.Ended.TheVariants.{Closed, NoFrame, ReadFault}
 use Rattle.cse_server.specs.declared.connection.Ended.TheVariants.{WriteFault, Memory}
 use Rattle.cse_server.specs.Replies.{GivesReplies}
-use Rattle.cse_server.specs.Talk.{requests_in, talk, talk_before_last, some_closes, ends_at_close}
+use Rattle.cse_server.specs.Talk.{requests_in, talk, talk_before_last, talk_length, some_closes}
+use Rattle.cse_server.specs.Talk.{ends_at_close}
 
 -- ---- how it ends
 
@@ -56,36 +57,45 @@ EndsRightly place ReadFault refused heard rest now =
 EndsRightly place WriteFault refused heard rest now = IfSome now (ReadsLittle rest)
 EndsRightly place Memory refused heard rest now = IfSome now (ReadsLittle rest)
 
--- The first of these texts is written, and then a part of what the second has behind it.
-pub record AppendsCut (old new : Option (List ℕ)) (before text : List ℕ) : Type 0 where
+-- The first of these texts is written, and then a part of what the second has behind it, by so many
+-- puts.
+pub record PutsCut (before text : List ℕ) (count : ℕ) (old new : SinkTold) : Type 0 where
   pub part : List ℕ
   pub unsaid : List ℕ
   pub text_is : text ≡ before ++ (part ++ unsaid)
-  pub written : Appends old new (before ++ part)
+  pub put : Puts (before ++ part) count old new
 
--- The bytes that are written where it ends so: all of its talk; or all but what the talk ends with,
--- and of that a part.
-abbrev pub Says : Ended → Option (List ℕ) → Option (List ℕ) → List ℕ → List ℕ → Type 0
-Says Closed old new before text = Appends old new text
-Says NoFrame old new before text = Appends old new text
-Says ReadFault old new before text = Appends old new text
-Says WriteFault old new before text = AppendsCut old new before text
-Says Memory old new before text = AppendsCut old new before text
+-- the first of these texts is written, by one put less than so many
+pub record PutsOneLess (before : List ℕ) (count : ℕ) (old new : SinkTold) : Type 0 where
+  pub less : ℕ
+  pub is_less : less + 1 ≡ count
+  pub put : Puts before less old new
+
+-- The bytes that are written where it ends so, each reply by one put: all of its talk, which has so
+-- many replies. Where writing failed, they are all replies but the last one, and of that a part;
+-- where memory ran out, they are all of them, or all but the last one, which isn't begun.
+abbrev pub Says : Ended → List ℕ → List ℕ → ℕ → SinkTold → SinkTold → Type 0
+Says Closed before text count old new = Puts text count old new
+Says NoFrame before text count old new = Puts text count old new
+Says ReadFault before text count old new = Puts text count old new
+Says WriteFault before text count old new = PutsCut before text count old new
+Says Memory before text count old new =
+    Puts text count old new ⊎ PutsOneLess before count old new
 
 -- Frames were put to a seat: it asked each request to which one of them binds, in order, at the
--- readings that a clock gave, and the outcomes gave the replies at the cost of the exchanges that a
--- link made. Clock and link told these before and tell those now.
+-- readings that a clock gave, and the outcomes gave the replies, for which this was carried over a
+-- link. Clock and link told these before and tell those now.
 pub record AsksFrames {S : Type 0} (grown : S → List (Marked Event Outcome) → S → Type 0)
-    (before after : S) (given now : Option (List ℕ)) (told more : Option (List Exchange))
+    (before after : S) (given now : Option (List ℕ)) (told more : LinkTold)
     (frames : List Frame) : Type 0 where
   pub readings : List ℕ
   pub outcomes : List Outcome
   pub replies : List ReplyParts
-  pub exchanges : List Exchange
+  pub carried : List Carrying
   pub asked : AsksAll grown before readings (map Ask (requests_in frames)) outcomes after
   pub clock : Tells (λ list. list ++ readings) given now
-  pub gives : GivesReplies (requests_in frames) outcomes replies exchanges
-  pub link : Tells (λ list. list ++ exchanges) told more
+  pub gives : GivesReplies (requests_in frames) outcomes replies carried
+  pub link : Carries carried told more
 
 -- A connection was served at a seat, from the frame at this place on, what the objects outside told
 -- being first `old` and now `new`. Of the bytes that it had left, `heard` are the requests that
@@ -96,8 +106,7 @@ pub record ServesFrom {S : Type 0} (place : ℕ)
   pub heard : List Frame
   pub refused : Bool
   -- they were put to the seat
-  pub asks : AsksFrames grown before after old.readings new.readings
-      old.exchanges new.exchanges heard
+  pub asks : AsksFrames grown before after old.readings new.readings old.link new.link heard
   -- they are the requests of the stream up to the first that closes, and it ended as they and the
   -- rest say
   pub up_to : IsTrue (ends_at_close heard place)
@@ -105,8 +114,8 @@ pub record ServesFrom {S : Type 0} (place : ℕ)
       × RefusesRightly place refused heard rest
       × EndsRightly place ended refused heard rest new.left)
   -- their talk by these replies is written
-  pub said : Says ended old.written new.written
-      (talk_before_last place heard refused asks.replies) (talk place heard refused asks.replies)
+  pub said : Says ended (talk_before_last place heard refused asks.replies)
+      (talk place heard refused asks.replies) (talk_length heard refused) old.out new.out
 
 -- A connection was served at a seat, from its first frame on.
 abbrev pub Serves : {S : Type 0} → (S → List (Marked Event Outcome) → S → Type 0) → S → S

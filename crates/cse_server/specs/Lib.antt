@@ -1,6 +1,7 @@
+pub mod Attending
 pub mod Closing
 pub mod Connection
-pub mod Laws
+pub mod Outside
 pub mod Replies
 pub mod Talk
 pub mod Way

@@ -1,7 +1,7 @@
 -- What a connection is answered, by its frames and the replies to their requests (TS-0009, 6; RFC
 -- 9112, 9.3).
 use Rattle.std.specs.Prelude.{ℕ, ◌+◌, Bool, true, false, not, ◌&&◌, ◌||◌, List, [], ◌∷◌, ◌++◌}
-use Rattle.std.specs.Prelude.{Option, Some, None, if◌then◌else◌}
+use Rattle.std.specs.Prelude.{Option, Some, None, if◌then◌else◌, length}
 use Rattle.std.specs.List.{filter_map}
 use Rattle.std.specs.Result.{result_ok}
 use Rattle.m2m_names.specs.declared.codes.Rsc.TheVariants.{BadRequest}
@@ -85,3 +85,8 @@ talk place frames refused replies =
 abbrev pub talk_before_last : ℕ → List Frame → Bool → List ReplyParts → List ℕ
 talk_before_last place frames refused replies =
     reply_texts (if refused then frames else before_last frames) place replies
+
+-- how many replies the talk has: one to each of its frames, of which none stands behind one that
+-- closes, and the last one where the rest is refused
+abbrev pub talk_length : List Frame → Bool → ℕ
+talk_length frames refused = length frames + (if refused then 1 else 0)

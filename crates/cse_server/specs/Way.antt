@@ -1,10 +1,8 @@
 -- A connection on its way: what its calls say of the frames so far.
 use Rattle.std.specs.Prelude.{◌≡◌, ◌⊎◌, ℕ, ◌+◌, true, false, List, [], ◌∷◌, ◌++◌, length}
 use Rattle.std.specs.Prelude.{Option, Some, None, IfOk, Result, ⊤}
-use Rattle.std.specs.Io.KnownBytes.{Appends}
-use Rattle.m2m_io.specs.Link.{Exchange}
-use Rattle.m2m_io.specs.Outside.{Outside}
-use Rattle.m2m_io.specs.Told.{AppendsPrefix, Tells}
+use Rattle.m2m_io.specs.Link.{Carrying}
+use Rattle.cse_server.specs.Outside.{Carries, LinkTold, Outside, Puts, PutsPart, SinkTold}
 use Rattle.primitive_json.specs.declared.request.RequestParts.{RequestParts}
 use Rattle.primitive_json.specs.declared.reply.ReplyParts.{ReplyParts}
 use Rattle.turn_desk.specs.Entries.{Marked}
@@ -36,30 +34,29 @@ Leads (Some stream) heard (Some rest) = BeginsWithFrames Request stream heard re
 pub record Goes {S : Type 0} (place next : ℕ) (grown : S → List (Marked Event Outcome) → S → Type 0)
     (before after : S) (old new : Outside) : Type 0 where
   pub heard : List Frame
-  pub asks : AsksFrames grown before after old.readings new.readings
-      old.exchanges new.exchanges heard
+  pub asks : AsksFrames grown before after old.readings new.readings old.link new.link heard
   pub places : place + length heard ≡ next
   pub stays_on : some_closes heard place ≡ false
   pub stream : Leads old.left heard new.left
-  pub said : Appends old.written new.written (reply_texts heard place asks.replies)
+  pub said : Puts (reply_texts heard place asks.replies) (length heard) old.out new.out
 
 -- The outcome of a request gave this reply over a link that told `old` before and tells `new` now,
 -- unless memory ran out.
 pub record RepliesOver {E : Type 0}
-    (request : RequestParts) (outcome : Outcome) (old new : Option (List Exchange))
+    (request : RequestParts) (outcome : Outcome) (old new : LinkTold)
     (result : Result ReplyParts E) : Type 0 where
   pub reply : ReplyParts
-  pub exchanges : List Exchange
-  pub gives : GivesReply request outcome reply exchanges
-  pub link : Tells (λ told. told ++ exchanges) old new
+  pub carried : List Carrying
+  pub gives : GivesReply request outcome reply carried
+  pub link : Carries carried old new
   pub replied : IfOk result (λ r. r ≡ reply)
 
 -- A frame was asked, if it binds, and this is the reply, unless memory ran out.
 pub record Hears {S E : Type 0}
     (grown : S → List (Marked Event Outcome) → S → Type 0) (before after : S)
-    (old new : Outside) (frame : Frame) (result : Result ReplyParts E) : Type 0 where
-  pub asks : AsksFrames grown before after old.readings new.readings
-      old.exchanges new.exchanges (frame ∷ [])
+    (given now : Option (List ℕ)) (told more : LinkTold)
+    (frame : Frame) (result : Result ReplyParts E) : Type 0 where
+  pub asks : AsksFrames grown before after given now told more (frame ∷ [])
   pub replied : IfOk result (λ r. r ≡ reply_for frame (request_in frame) asks.replies)
 
 -- how a connection ends where a reply isn't written
@@ -67,30 +64,29 @@ abbrev pub end_of_put : PutFault → Ended
 end_of_put PutWrite = WriteFault
 end_of_put PutMemory = Memory
 
--- The last reply was written, or a prefix of it.
-abbrev pub Refuses : Option (List ℕ) → Option (List ℕ) → Ended → Type 0
+-- The last reply was written by one put, or a prefix of it; or it wasn't begun.
+abbrev pub Refuses : SinkTold → SinkTold → Ended → Type 0
 Refuses old new Closed = ⊥
-Refuses old new NoFrame = Appends old new last_reply
+Refuses old new NoFrame = Puts last_reply 1 old new
 Refuses old new ReadFault = ⊥
-Refuses old new WriteFault = AppendsPrefix old new last_reply
-Refuses old new Memory = AppendsPrefix old new last_reply
+Refuses old new WriteFault = PutsPart last_reply old new
+Refuses old new Memory = new ≡ old
 
--- What an answer to the frame at this place says: that the connection goes on, that the frame
--- closed it, or a fault.
-abbrev pub SaysTurn : ℕ → Frame → Option Ended → Option (List ℕ) → Option (List ℕ) → List ℕ → Type 0
-SaysTurn place frame None old new text = (closes place frame ≡ false) × Appends old new text
-SaysTurn place frame (Some Closed) old new text = (closes place frame ≡ true) × Appends old new text
-SaysTurn place frame (Some NoFrame) old new text = ⊥
-SaysTurn place frame (Some ReadFault) old new text = ⊥
-SaysTurn place frame (Some WriteFault) old new text = AppendsPrefix old new text
-SaysTurn place frame (Some Memory) old new text = AppendsPrefix old new text
+-- What an answer to the frame at this place says, each reply by one put: that the connection goes
+-- on, that the frame closed it, or a fault.
+abbrev pub SaysTurn : ℕ → Frame → Option Ended → List ℕ → SinkTold → SinkTold → Type 0
+SaysTurn place frame None text old new = (closes place frame ≡ false) × Puts text 1 old new
+SaysTurn place frame (Some Closed) text old new = (closes place frame ≡ true) × Puts text 1 old new
+SaysTurn place frame (Some NoFrame) text old new = ⊥
+SaysTurn place frame (Some ReadFault) text old new = ⊥
+SaysTurn place frame (Some WriteFault) text old new = PutsPart text old new
+SaysTurn place frame (Some Memory) text old new = new ≡ old
 
 -- The frame at this place was heard and answered; or it wasn't heard, as memory ran out before.
-pub record Turns {S : Type 0} (place : ℕ) (grown : S → List (Marked Event Outcome) → S → Type 0)
+pub record AnswersFrame {S : Type 0} (place : ℕ)
+    (grown : S → List (Marked Event Outcome) → S → Type 0)
     (before after : S) (old new : Outside) (frame : Frame) (ended : Option Ended) : Type 0 where
   pub heard : List Frame
   pub either : (heard ≡ frame ∷ []) ⊎ ((heard ≡ []) × (ended ≡ Some Memory))
-  pub asks : AsksFrames grown before after old.readings new.readings
-      old.exchanges new.exchanges heard
-  pub said : SaysTurn place frame ended old.written new.written
-      (reply_texts heard place asks.replies)
+  pub asks : AsksFrames grown before after old.readings new.readings old.link new.link heard
+  pub said : SaysTurn place frame ended (reply_texts heard place asks.replies) old.out new.out

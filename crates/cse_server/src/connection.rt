@@ -1,14 +1,13 @@
 //! One connection, from its first frame to its end.
-ghost use Rattle.std.specs.Prelude.{◌≡◌, ◌≢◌, ◌<◌, ◌≤◌, ◌+◌, length, false, Some, None, Err, IfOk};
-ghost use Rattle.std.specs.Prelude.{MatchOption};
+ghost use Rattle.std.specs.Prelude.{◌≡◌, ◌<◌, ◌+◌, length, false, Some, None, MatchOption};
 ghost use Rattle.std.specs.Result.{result_ok};
-ghost use Rattle.m2m_io.specs.Counts.{Rose};
-ghost use Rattle.m2m_io.specs.Outside.{outside};
+ghost use Rattle.m2m_io.specs.Counts.{CountsFault};
+ghost use Rattle.cse_server.specs.Outside.{EndsByFault, link_told, outside, sink_told};
 ghost use Rattle.http_frames.specs.Inbox.{TakesNext, most_held, stream_of};
 ghost use Rattle.http_frames.specs.declared.frame.Side.TheVariants.{Request as AsRequest};
 ghost use Rattle.cse_server.specs.Talk.{request_in};
 ghost use Rattle.cse_server.specs.Connection.{Serves, ServesFrom};
-ghost use Rattle.cse_server.specs.Way.{Goes, Hears, Refuses, Turns};
+ghost use Rattle.cse_server.specs.Way.{AnswersFrame, Goes, Hears, Refuses};
 
 use crate::closing::{MOST_FRAMES, closes};
 use crate::replying::{put_last_reply, put_reply, refusal_of, reply_by};
@@ -69,9 +68,9 @@ where
     requires asked { result_ok asked ≡ request_in frame.now }
     ensures seats { D.seats desk.now seat.new }
     ensures hears { Hears D.grown seat.old seat.new
-        (outside None None (C.readings clock.old) (L.exchanges link.old))
-        (outside None None (C.readings clock.new) (L.exchanges link.new)) frame.now result }
-    ensures link { L.faults link.new ≡ L.faults link.old }
+        (C.readings clock.old) (C.readings clock.new)
+        (link_told (L.exchanges link.old) (L.faults link.old))
+        (link_told (L.exchanges link.new) (L.faults link.new)) frame.now result }
 {
     match asked {
         Err(_) => refusal_of(alloc, frame),
@@ -103,20 +102,18 @@ where
     L: Link,
     requires { D.seats desk.now seat.old }
     ensures seats { D.seats desk.now seat.new }
-    ensures turns { let old = outside (X.left conn.old) (X.written conn.old)
-        (C.readings clock.old) (L.exchanges link.old) in
-        let new = outside (X.left conn.new) (X.written conn.new)
-        (C.readings clock.new) (L.exchanges link.new) in
-        Turns place D.grown seat.old seat.new old new frame.now result }
-    ensures count { X.Sink.faults conn.old ≤ X.Sink.faults conn.new }
-    ensures cause { result ≡ Some Ended.WriteFault
-        → Rose (X.Sink.faults conn.old) (X.Sink.faults conn.new) }
-    ensures steady { result ≢ Some Ended.WriteFault
-        → X.Sink.faults conn.new ≡ X.Sink.faults conn.old }
+    ensures answers { let old = outside (X.left conn.old)
+        (sink_told (X.written conn.old) (X.puts conn.old)) (C.readings clock.old)
+        (link_told (L.exchanges link.old) (L.faults link.old)) in
+        let new = outside (X.left conn.new)
+        (sink_told (X.written conn.new) (X.puts conn.new)) (C.readings clock.new)
+        (link_told (L.exchanges link.new) (L.faults link.new)) in
+        AnswersFrame place D.grown seat.old seat.new old new frame.now result }
+    ensures writes { EndsByFault (Some Ended.WriteFault) result
+        (X.Sink.faults conn.old) (X.Sink.faults conn.new) }
     ensures left { X.left conn.new ≡ X.left conn.old }
     ensures read_faults { X.Source.faults conn.new ≡ X.Source.faults conn.old }
     ensures holds { (X.kept_by_read conn.new).holds ≡ (X.kept_by_read conn.old).holds }
-    ensures link { L.faults link.new ≡ L.faults link.old }
 {
     let asked = to_request_in(alloc, scratch, frame);
     if let Err(BindFault::OutOfMemory) = asked {
@@ -135,12 +132,10 @@ where
 
 /// Ends a connection on which no frame can stand.
 fn end_refused<X: Connection>(alloc: Global, conn: &mut X, room: &mut ReplyRoom) -> Ended
-    ensures refuses { Refuses (X.written conn.old) (X.written conn.new) result }
-    ensures count { X.Sink.faults conn.old ≤ X.Sink.faults conn.new }
-    ensures cause { result ≡ Ended.WriteFault
-        → Rose (X.Sink.faults conn.old) (X.Sink.faults conn.new) }
-    ensures steady { result ≢ Ended.WriteFault
-        → X.Sink.faults conn.new ≡ X.Sink.faults conn.old }
+    ensures refuses { Refuses (sink_told (X.written conn.old) (X.puts conn.old))
+        (sink_told (X.written conn.new) (X.puts conn.new)) result }
+    ensures writes { EndsByFault Ended.WriteFault result
+        (X.Sink.faults conn.old) (X.Sink.faults conn.new) }
     ensures left { X.left conn.new ≡ X.left conn.old }
     ensures read_faults { X.Source.faults conn.new ≡ X.Source.faults conn.old }
     ensures holds { (X.kept_by_read conn.new).holds ≡ (X.kept_by_read conn.old).holds }
@@ -159,12 +154,10 @@ fn read_next<X: Connection>(
 ) -> Result<Next, FrameFault>
     ensures next { TakesNext AsRequest (X.left conn.old) (X.left conn.new)
         inbox.old inbox.new result }
-    ensures count { X.Source.faults conn.old ≤ X.Source.faults conn.new }
-    ensures cause { result ≡ Err FrameFault.ReadFault
-        → Rose (X.Source.faults conn.old) (X.Source.faults conn.new) }
-    ensures steady { result ≢ Err FrameFault.ReadFault
-        → X.Source.faults conn.new ≡ X.Source.faults conn.old }
+    ensures faults { CountsFault FrameFault.ReadFault result
+        (X.Source.faults conn.old) (X.Source.faults conn.new) }
     ensures written { X.written conn.new ≡ X.written conn.old }
+    ensures puts { X.puts conn.new ≡ X.puts conn.old }
     ensures write_faults { X.Sink.faults conn.new ≡ X.Sink.faults conn.old }
     ensures holds { (X.kept_by_read conn.new).holds ≡ (X.kept_by_read conn.old).holds }
 {
@@ -196,26 +189,20 @@ where
     ensures few { length inbox.new.held < most_held AsRequest }
     ensures seats { D.seats desk.now seat.new }
     ensures next { let stream = stream_of inbox.old.held (X.left conn.old) in
-        let old = outside stream (X.written conn.old)
-        (C.readings clock.old) (L.exchanges link.old) in
-        let new = outside (X.left conn.new) (X.written conn.new)
-        (C.readings clock.new) (L.exchanges link.new) in
+        let old = outside stream (sink_told (X.written conn.old) (X.puts conn.old))
+        (C.readings clock.old) (link_told (L.exchanges link.old) (L.faults link.old)) in
+        let new = outside (X.left conn.new)
+        (sink_told (X.written conn.new) (X.puts conn.new)) (C.readings clock.new)
+        (link_told (L.exchanges link.new) (L.faults link.new)) in
         let on = record new { left = stream_of inbox.new.held (X.left conn.new) } in
         MatchOption result
         ((inbox.new.refused ≡ false) × Goes place (place + 1) D.grown seat.old seat.new old on)
         (ServesFrom place D.grown seat.old seat.new old new) }
-    ensures read_count { X.Source.faults conn.old ≤ X.Source.faults conn.new }
-    ensures read_cause { result ≡ Some Ended.ReadFault
-        → Rose (X.Source.faults conn.old) (X.Source.faults conn.new) }
-    ensures read_steady { result ≢ Some Ended.ReadFault
-        → X.Source.faults conn.new ≡ X.Source.faults conn.old }
-    ensures write_count { X.Sink.faults conn.old ≤ X.Sink.faults conn.new }
-    ensures write_cause { result ≡ Some Ended.WriteFault
-        → Rose (X.Sink.faults conn.old) (X.Sink.faults conn.new) }
-    ensures write_steady { result ≢ Some Ended.WriteFault
-        → X.Sink.faults conn.new ≡ X.Sink.faults conn.old }
+    ensures reads { EndsByFault (Some Ended.ReadFault) result
+        (X.Source.faults conn.old) (X.Source.faults conn.new) }
+    ensures writes { EndsByFault (Some Ended.WriteFault) result
+        (X.Sink.faults conn.old) (X.Sink.faults conn.new) }
     ensures holds { (X.kept_by_read conn.new).holds ≡ (X.kept_by_read conn.old).holds }
-    ensures link { L.faults link.new ≡ L.faults link.old }
 {
     match read_next(alloc, conn, inbox) {
         Ok(Next::Message(frame)) => {
@@ -238,8 +225,9 @@ where
 /// doesn't is refused, and the connection goes on. It closes behind the reply to a frame that asks
 /// for it, to one of HTTP/1.0 and to the 10,000th. Where no frame can stand, one last reply says
 /// so. Each reply is written by one call of the connection. Where memory runs out in the event of a
-/// request, its reply says so and the connection goes on; elsewhere it ends the connection. The
-/// link is for requests that go on to another entity; none do as yet.
+/// request, its reply says so and the connection goes on; elsewhere it ends the connection, and a
+/// reply for which it ran out isn't begun. The link is for requests that go on to another entity;
+/// none do as yet.
 pub fn serve_connection<D, X, C, L>(
     alloc: Global,
     desk: &D,
@@ -255,28 +243,22 @@ where
     L: Link,
     requires { D.seats desk.now seat.old }
     ensures seats { D.seats desk.now seat.new }
-    ensures serves { let old = outside (X.left conn.old) (X.written conn.old)
-        (C.readings clock.old) (L.exchanges link.old) in
-        let new = outside (X.left conn.new) (X.written conn.new)
-        (C.readings clock.new) (L.exchanges link.new) in
+    ensures serves { let old = outside (X.left conn.old)
+        (sink_told (X.written conn.old) (X.puts conn.old)) (C.readings clock.old)
+        (link_told (L.exchanges link.old) (L.faults link.old)) in
+        let new = outside (X.left conn.new)
+        (sink_told (X.written conn.new) (X.puts conn.new)) (C.readings clock.new)
+        (link_told (L.exchanges link.new) (L.faults link.new)) in
         Serves D.grown seat.old seat.new old new result }
 
     // A fault is answered where the connection failed in this call, and only there.
-    ensures read_count { X.Source.faults conn.old ≤ X.Source.faults conn.new }
-    ensures read_cause { result ≡ Ended.ReadFault
-        → Rose (X.Source.faults conn.old) (X.Source.faults conn.new) }
-    ensures read_steady { result ≢ Ended.ReadFault
-        → X.Source.faults conn.new ≡ X.Source.faults conn.old }
-    ensures write_count { X.Sink.faults conn.old ≤ X.Sink.faults conn.new }
-    ensures write_cause { result ≡ Ended.WriteFault
-        → Rose (X.Sink.faults conn.old) (X.Sink.faults conn.new) }
-    ensures write_steady { result ≢ Ended.WriteFault
-        → X.Sink.faults conn.new ≡ X.Sink.faults conn.old }
+    ensures reads { EndsByFault Ended.ReadFault result
+        (X.Source.faults conn.old) (X.Source.faults conn.new) }
+    ensures writes { EndsByFault Ended.WriteFault result
+        (X.Sink.faults conn.old) (X.Sink.faults conn.new) }
 
-    // A connection that borrows its sides still holds these, and no exchange failed, as none was
-    // made.
+    // A connection that borrows its sides still holds these.
     ensures holds { (X.kept_by_read conn.new).holds ≡ (X.kept_by_read conn.old).holds }
-    ensures link { L.faults link.new ≡ L.faults link.old }
 {
     let Ok(mut inbox) = Inbox::new(alloc) else {
         return Ended::Memory;

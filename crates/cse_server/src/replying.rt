@@ -1,8 +1,9 @@
 //! Replies, and their way into a connection.
-ghost use Rattle.std.specs.Prelude.{◌≡◌, ◌≢◌, ◌≤◌, Ok, Err, IfOk, IfSome, OnOk, OnErr, IsUtf8};
+ghost use Rattle.std.specs.Prelude.{◌≡◌, ◌≢◌, ◌+◌, Ok, Err, IfOk, IfSome, OnOk, IsUtf8};
 ghost use Rattle.std.specs.Io.KnownBytes.{Appends};
-ghost use Rattle.m2m_io.specs.Counts.{Rose};
-ghost use Rattle.m2m_io.specs.Told.{AppendsPrefix};
+ghost use Rattle.m2m_io.specs.Counts.{CountsFault};
+ghost use Rattle.cse_server.specs.Outside.{link_told};
+ghost use Rattle.m2m_io.specs.Told.{AppendsPrefix, Tells};
 ghost use Rattle.primitive_json.specs.declared.request.RequestParts.{RequestParts};
 ghost use Rattle.http_binding.specs.Binding.{binding, echo_of};
 ghost use Rattle.http_binding.specs.Replying.{reply_text};
@@ -64,9 +65,9 @@ pub(crate) fn reply_by<L: Link>(
     frame: &Frame,
     outcome: Outcome,
 ) -> Result<Reply, OutOfMemory>
-    ensures replies { (request : RequestParts) → binding frame.now ≡ Ok request
-        → RepliesOver request outcome (L.exchanges link.old) (L.exchanges link.new) result }
-    ensures link { L.faults link.new ≡ L.faults link.old }
+    ensures { (request : RequestParts) → binding frame.now ≡ Ok request
+        → RepliesOver request outcome (link_told (L.exchanges link.old) (L.faults link.old))
+        (link_told (L.exchanges link.new) (L.faults link.new)) result }
 {
     match outcome {
         Outcome::Done(reply) => Ok(reply),
@@ -84,13 +85,15 @@ pub(crate) fn put_reply<X: Connection>(
 ) -> Result<(), PutFault>
     ensures ok { OnOk result
         (Appends (X.written conn.old) (X.written conn.new) (reply_text reply.now close)) }
-    ensures err { OnErr result
-        (AppendsPrefix (X.written conn.old) (X.written conn.new) (reply_text reply.now close)) }
-    ensures count { X.Sink.faults conn.old ≤ X.Sink.faults conn.new }
-    ensures cause { result ≡ Err PutFault.WriteFault
-        → Rose (X.Sink.faults conn.old) (X.Sink.faults conn.new) }
-    ensures steady { result ≢ Err PutFault.WriteFault
-        → X.Sink.faults conn.new ≡ X.Sink.faults conn.old }
+    ensures fault { result ≡ Err PutFault.WriteFault
+        → AppendsPrefix (X.written conn.old) (X.written conn.new) (reply_text reply.now close) }
+
+    // One put writes it, or fails; where memory runs out, it isn't begun.
+    ensures puts { result ≢ Err PutFault.OutOfMemory
+        → Tells (λ puts. puts + 1) (X.puts conn.old) (X.puts conn.new) }
+    ensures memory { result ≡ Err PutFault.OutOfMemory → conn.new ≡ conn.old }
+    ensures faults { CountsFault PutFault.WriteFault result
+        (X.Sink.faults conn.old) (X.Sink.faults conn.new) }
     ensures left { X.left conn.new ≡ X.left conn.old }
     ensures read_faults { X.Source.faults conn.new ≡ X.Source.faults conn.old }
     ensures holds { (X.kept_by_read conn.new).holds ≡ (X.kept_by_read conn.old).holds }
@@ -105,13 +108,13 @@ pub(crate) fn put_last_reply<X: Connection>(
     room: &mut ReplyRoom,
 ) -> Result<(), PutFault>
     ensures ok { OnOk result (Appends (X.written conn.old) (X.written conn.new) last_reply) }
-    ensures err { OnErr result
-        (AppendsPrefix (X.written conn.old) (X.written conn.new) last_reply) }
-    ensures count { X.Sink.faults conn.old ≤ X.Sink.faults conn.new }
-    ensures cause { result ≡ Err PutFault.WriteFault
-        → Rose (X.Sink.faults conn.old) (X.Sink.faults conn.new) }
-    ensures steady { result ≢ Err PutFault.WriteFault
-        → X.Sink.faults conn.new ≡ X.Sink.faults conn.old }
+    ensures fault { result ≡ Err PutFault.WriteFault
+        → AppendsPrefix (X.written conn.old) (X.written conn.new) last_reply }
+    ensures puts { result ≢ Err PutFault.OutOfMemory
+        → Tells (λ puts. puts + 1) (X.puts conn.old) (X.puts conn.new) }
+    ensures memory { result ≡ Err PutFault.OutOfMemory → conn.new ≡ conn.old }
+    ensures faults { CountsFault PutFault.WriteFault result
+        (X.Sink.faults conn.old) (X.Sink.faults conn.new) }
     ensures left { X.left conn.new ≡ X.left conn.old }
     ensures read_faults { X.Source.faults conn.new ≡ X.Source.faults conn.old }
     ensures holds { (X.kept_by_read conn.new).holds ≡ (X.kept_by_read conn.old).holds }

@@ -1,5 +1,5 @@
 //! Two streams as one connection.
-ghost use Rattle.std.specs.Prelude.{◌≡◌, [], ◌∷◌};
+ghost use Rattle.std.specs.Prelude.{◌≡◌, [], ◌∷◌, None};
 ghost use Rattle.m2m_io.specs.Sides.{side_of};
 
 use m2m_io::{Connection, Failed, Sink, Source};
@@ -29,7 +29,7 @@ impl<S: Source, O: Sink> Source for Wire<'_, S, O> {
     ghost faults = { λ w. S.faults w.input.now };
 
     ghost kept_by_read = { λ w. side_of (O.written w.out.now) (O.faults w.out.now)
-        (w.input.ghost_name ∷ w.out.ghost_name ∷ []) };
+        (O.puts w.out.now) (w.input.ghost_name ∷ w.out.ghost_name ∷ []) };
 
     fn read(&mut self, buf: &mut [u8]) -> Result<usize, Failed> {
         self.input.read(buf)
@@ -41,7 +41,9 @@ impl<S: Source, O: Sink> Sink for Wire<'_, S, O> {
 
     ghost faults = { λ w. O.faults w.out.now };
 
-    ghost kept_by_put = { λ w. side_of (S.left w.input.now) (S.faults w.input.now)
+    ghost puts = { λ w. O.puts w.out.now };
+
+    ghost kept_by_put = { λ w. side_of (S.left w.input.now) (S.faults w.input.now) None
         (w.input.ghost_name ∷ w.out.ghost_name ∷ []) };
 
     fn put(&mut self, bytes: &[u8]) -> Result<(), Failed> {

@@ -2,3 +2,4 @@ pub mod RemovalLemmas
 pub mod NumberLemmas
 pub mod SoundLemmas
 pub mod WrittenLemmas
+pub mod ExpiryLemmas

@@ -26,9 +26,10 @@ use Rattle.tree_model.proofs.LiveLemmas.{without_none}
 use Rattle.m2m_names.specs.Name.{is_free_name, is_originator}
 use Rattle.attribute_rules.specs.Kinds.{are_kinds}
 use Rattle.container_limits.specs.Limits.{is_within}
-use Rattle.entity_model.specs.Entity.{EntityData, last_reading, cut, event_moment, swept}
+use Rattle.entity_model.specs.Entity.{EntityData, blank, last_reading, cut, event_moment, swept}
 use Rattle.entity_model.specs.Opening.{opening_base, opening_policy, opening_nodes, opening}
 use Rattle.policy_eval.proofs.NameLemmas.{policy_number-id_of}
+use Rattle.entity_model.proofs.NumberLemmas.{swept_is}
 use Rattle.entity_model.specs.Sound.{is_known_id, has_known_ids, has_free_name, has_size, has_state_tag, is_shallow, is_within_limits, begins_with_base, cse_ids, are_distinct, has_one_channel, spares_first, greatest_count, IsSoundEntity}
 use Rattle.entity_model.proofs.RemovalLemmas.{staying_length}
 
@@ -216,7 +217,7 @@ sound_framed e framed limits due = record {
   due = due;
 }
 
-pub framed_left : (p : ResourceData → Bool) (e : EntityData) (last : ℕ) → IsFramed e → spares_first p e.nodes ≡ true → last ≤ last_reading → IsFramed (record { home = e.home; nodes = without p e.nodes; next = e.next; last = last })
+pub framed_left : (p : ResourceData → Bool) (e : EntityData) (last : ℕ) → IsFramed e → spares_first p e.nodes ≡ true → last ≤ last_reading → IsFramed (record e { nodes = without p e.nodes; last = last })
 framed_left p e last framed spared small =
     let tree = tree_from_well_formed e.nodes framed.tree in
     let fewer : length (without p e.nodes) ≤ length e.nodes = staying_length p [] e.nodes in
@@ -239,7 +240,7 @@ framed_left p e last framed spared small =
       last = small;
     }
 
-pub sound_left : (p : ResourceData → Bool) (e : EntityData) (last : ℕ) → IsSoundEntity e → spares_first p e.nodes ≡ true → last ≤ last_reading → list_any (is_due (without p e.nodes) last) (without p e.nodes) ≡ false → IsSoundEntity (record { home = e.home; nodes = without p e.nodes; next = e.next; last = last })
+pub sound_left : (p : ResourceData → Bool) (e : EntityData) (last : ℕ) → IsSoundEntity e → spares_first p e.nodes ≡ true → last ≤ last_reading → list_any (is_due (without p e.nodes) last) (without p e.nodes) ≡ false → IsSoundEntity (record e { nodes = without p e.nodes; last = last })
 sound_left p e last sound spared small none =
     sound_framed _ (framed_left p e last (framed_from e sound) spared small)
     (all_left p is_within_limits e.nodes (limits_left p e.nodes) sound.limits) none
@@ -265,13 +266,18 @@ sound_swept reading e sound =
     (moment_small e.last reading sound.last)
     (none_live e.nodes (event_moment e.last reading) (tree_from_well_formed e.nodes sound.tree))
 
-pub sound_removed : (p : ResourceData → Bool) (e : EntityData) → IsSoundEntity e → spares_first p e.nodes ≡ true → IsSoundEntity (record { home = e.home; nodes = without p e.nodes; next = e.next; last = e.last })
+-- and so is what is left at the moment of an event, by its parts
+pub sound_moved : {e : EntityData} → IsSoundEntity e → (reading moment : ℕ) (after : List ResourceData) → moment ≡ event_moment e.last reading → after ≡ live moment e.nodes → IsSoundEntity (record e { nodes = after; last = moment })
+sound_moved {e} sound reading moment after when left =
+    subst IsSoundEntity (sym (swept_is e reading moment after when left)) (sound_swept reading e sound)
+
+pub sound_removed : (p : ResourceData → Bool) (e : EntityData) → IsSoundEntity e → spares_first p e.nodes ≡ true → IsSoundEntity (record e { nodes = without p e.nodes })
 sound_removed p e sound spared = sound_left p e e.last sound spared sound.last (none_due_left p e.nodes e.last (tree_from_well_formed e.nodes sound.tree) sound.due)
 
 -- where no time passes, nothing is due
 pub swept_still : (reading : ℕ) (e : EntityData) → IsSoundEntity e → cut reading ≤ e.last → swept reading e ≡ e
 swept_still reading e sound early =
-    let entity : List ResourceData → ℕ → EntityData = λ nodes last. record { home = e.home; nodes = nodes; next = e.next; last = last } in
+    let entity : List ResourceData → ℕ → EntityData = λ nodes last. record e { nodes = nodes; last = last } in
     let same : event_moment e.last reading ≡ e.last = omega arith in
     let all : live e.last e.nodes ≡ e.nodes = without_none (is_due e.nodes e.last) e.nodes (tree_from_well_formed e.nodes sound.tree) sound.due in
     ap (λ (m : ℕ). entity (live m e.nodes) m) same ∙ ap (λ (nodes : List ResourceData). entity nodes e.last) all
@@ -347,9 +353,9 @@ sound_opening home reading is = record {
 }
 
 -- the same, of what stands for its parts
-pub sound_opened : (home : HomeData) (reading moment : ℕ) (nodes : List ResourceData) → IsHome home → moment ≡ cut reading → nodes ≡ opening_nodes home moment → IsSoundEntity (record { home = home; nodes = nodes; next = 3; last = moment })
+pub sound_opened : (home : HomeData) (reading moment : ℕ) (nodes : List ResourceData) → IsHome home → moment ≡ cut reading → nodes ≡ opening_nodes home moment → IsSoundEntity (record (blank home) { nodes = nodes; next = 3; last = moment })
 sound_opened home reading moment nodes is when stand =
-    let entity : List ResourceData → ℕ → EntityData = λ ns m. record { home = home; nodes = ns; next = 3; last = m } in
+    let entity : List ResourceData → ℕ → EntityData = λ ns m. record (blank home) { nodes = ns; next = 3; last = m } in
     let same : entity nodes moment ≡ opening home reading = ap (λ (ns : List ResourceData). entity ns moment) stand ∙ ap (λ (m : ℕ). entity (opening_nodes home m) m) when in
     subst IsSoundEntity (sym same) (sound_opening home reading is)
 

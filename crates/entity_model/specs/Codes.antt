@@ -4,7 +4,7 @@ use Rattle.std.specs.Coded.{Coded, code_by, coded×, coded_ℕ, coded_ℤ, coded
 use Rattle.resource_model.specs.Codes.{resource_code}
 use Rattle.resource_model.specs.Home.{HomeData}
 use Rattle.resource_model.specs.Resource.{ResourceData}
-use Rattle.entity_model.specs.Entity.{EntityData}
+use Rattle.entity_model.specs.Entity.{EntityData, blank}
 
 abbrev HomeParts : Type 0
 HomeParts = List ℕ × (List ℕ × (List ℕ × (ℤ × List ℕ)))
@@ -26,5 +26,5 @@ entity_code =
     code_by EntityParts
     (coded× home_code (coded× (coded_list resource_code) (coded× coded_ℕ coded_ℕ)))
     (λ e. (e.home, (e.nodes, (e.next, e.last))))
-    (λ p. record { home = p.0; nodes = p.1.0; next = p.1.1.0; last = p.1.1.1 })
+    (λ p. record (blank p.0) { nodes = p.1.0; next = p.1.1.0; last = p.1.1.1 })
     (λ _. refl)

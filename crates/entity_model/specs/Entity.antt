@@ -1,5 +1,5 @@
 -- An entity: its home, its resources, its next number and its last moment (TS-0001, 6.2 and 9.6.3).
-use Rattle.std.specs.Prelude.{ℕ, ◌-◌, min, max, List}
+use Rattle.std.specs.Prelude.{ℕ, ◌-◌, min, max, List, []}
 use Rattle.m2m_names.specs.Stamps.{last_moment}
 use Rattle.resource_model.specs.Home.{HomeData}
 use Rattle.resource_model.specs.Resource.{ResourceData}
@@ -13,6 +13,10 @@ pub record EntityData : Type 0 where
   pub next : ℕ
   pub last : ℕ
 
+-- an entity of which nothing is known but its home: no resource, no number and no moment
+abbrev pub blank : HomeData → EntityData
+blank home = record { home = home; nodes = []; next = 0; last = 0 }
+
 -- the last moment of an event: the second before the last that a timestamp has
 abbrev pub last_reading : ℕ
 last_reading = last_moment - 1
@@ -25,10 +29,12 @@ cut reading = min reading last_reading
 abbrev pub event_moment : ℕ → ℕ → ℕ
 event_moment last reading = max last (cut reading)
 
--- the entity as an event finds it: without what is due by then, and what stands below that
--- (TS-0001, 9.6.1.3.2)
+-- what an expiry at a moment leaves of an entity: without what is due by then, and what stands
+-- below that (TS-0001, 9.6.1.3.2)
+abbrev pub expired : ℕ → EntityData → EntityData
+expired moment e = record e { nodes = live moment e.nodes; last = moment }
+
+-- the entity as an event finds it: expired at the moment of the event; what is told of the changes
+-- of that expiry has its place here, ahead of all that the event gives
 abbrev pub swept : ℕ → EntityData → EntityData
-swept reading e = record e {
-  nodes = live (event_moment e.last reading) e.nodes;
-  last = event_moment e.last reading;
-}
+swept reading e = expired (event_moment e.last reading) e

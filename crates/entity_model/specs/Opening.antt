@@ -12,7 +12,7 @@ use Rattle.resource_model.specs.Resource.{ResourceData}
 use Rattle.policy_eval.specs.Originators.{everyone}
 use Rattle.policy_eval.specs.Rules.{written_rule, written_rules}
 use Rattle.policy_eval.specs.Rights.{create_bit}
-use Rattle.entity_model.specs.Entity.{EntityData, cut}
+use Rattle.entity_model.specs.Entity.{EntityData, blank, cut}
 
 -- the number of the CSEBase
 abbrev pub base_number : ℕ
@@ -78,8 +78,7 @@ opening_nodes home moment = opening_base home moment ∷ opening_policy home mom
 
 -- the entity as it opens
 abbrev pub opening : HomeData → ℕ → EntityData
-opening home reading = record {
-  home = home;
+opening home reading = record (blank home) {
   nodes = opening_nodes home (cut reading);
   next = 3;
   last = cut reading;

@@ -39,12 +39,12 @@ pub record Effect : Type 0 where
   pub after : EntityData
 
 -- a reply that leaves the entity as it is
-abbrev pub answering : EntityData → ReplyParts → Effect
-answering e reply = record { reply = reply; after = e }
+abbrev pub reply_alone : EntityData → ReplyParts → Effect
+reply_alone e reply = record { reply = reply; after = e }
 
 -- a refusal leaves the entity as it is
 abbrev pub refused : EntityData → RequestParts → Rsc → Effect
-refused e request rsc = answering e (refusal request rsc)
+refused e request rsc = reply_alone e (refusal request rsc)
 
 -- what comes of a request on the resource that was found, if one was
 abbrev pub on_found : EntityData → RequestParts → (ResourceData → Effect) → Option ResourceData

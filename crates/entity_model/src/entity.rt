@@ -19,7 +19,7 @@ pub struct Entity<T: Tree> {
 }
 
 impl<T: Tree> Model for Entity<T> {
-    ghost use Rattle.entity_model.specs.Entity.{EntityData};
+    ghost use Rattle.entity_model.specs.Entity.{EntityData, blank};
     ghost use Rattle.entity_model.specs.Codes.{entity_code};
 
     ghost Value = { EntityData };
@@ -28,16 +28,13 @@ impl<T: Tree> Model for Entity<T> {
 
     ghost use Rattle.entity_model.specs.Sound.{IsSoundEntity};
 
-    ghost view = { λ e. record {
-      home = e.home;
+    ghost view = { λ e. record (blank e.home) {
       nodes = T.nodes e.tree;
       next = e.next;
-      last =
-          e.last;
+      last = e.last;
     } };
 
-    ghost invariant = { λ e. IsSoundEntity (record {
-      home = e.home;
+    ghost invariant = { λ e. IsSoundEntity (record (blank e.home) {
       nodes = T.nodes e.tree;
       next = e.next;
       last = e.last;

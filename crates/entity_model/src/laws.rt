@@ -1,10 +1,12 @@
 //! What holds of every entity.
-ghost use Rattle.std.specs.Prelude.{◌≡◌, ℕ, ◌≤◌, List, Bool, IsTrue, filter, take};
+ghost use Rattle.std.specs.Prelude.{◌≡◌, ℕ, ◌≤◌, List, Bool, IsTrue, filter, map, not, take};
 ghost use Rattle.m2m_names.specs.declared.types.Ty.TheVariants.{CseBase};
 ghost use Rattle.resource_model.specs.Home.{HomeData, IsHome};
 ghost use Rattle.resource_model.specs.Resource.{ResourceData, is_ty};
-ghost use Rattle.tree_model.specs.Tree.{without};
-ghost use Rattle.entity_model.specs.Entity.{EntityData, cut, swept};
+ghost use Rattle.tree_model.specs.Changes.{deleted};
+ghost use Rattle.tree_model.specs.Tree.{has, without};
+ghost use Rattle.entity_model.specs.Entity.{EntityData, cut, expired, swept};
+ghost use Rattle.entity_model.specs.Expiry.{expiry_changes};
 ghost use Rattle.entity_model.specs.Opening.{opening};
 ghost use Rattle.entity_model.specs.Sound.{IsSoundEntity, spares_first};
 
@@ -30,4 +32,10 @@ pub fn a_sound_entity_has_one_base()
 pub fn nothing_expires_while_no_time_passes()
     ensures { (reading : ℕ) (e : EntityData) → IsSoundEntity e → cut reading ≤ e.last
         → swept reading e ≡ e }
+{}
+
+/// What an expiry tells is what it takes from a sound entity, in order of creation.
+pub fn an_expiry_tells_what_it_takes()
+    ensures { (moment : ℕ) (e : EntityData) → IsSoundEntity e → expiry_changes moment e.nodes
+        ≡ map deleted (filter (λ r. not (has r.number (expired moment e).nodes)) e.nodes) }
 {}

@@ -11,6 +11,13 @@
 //! Laws over every entity stand on functions without a body: an entity opens sound, and stays sound
 //! where something but the CSEBase is removed; its first resource is its only CSEBase; and while no
 //! time passes nothing expires.
+//!
+//! ```text
+//! let home = Home::with_defaults(alloc)?;
+//! let mut entity = Entity::open(alloc, home, ListTree::new(alloc), 1_700_000_000)?;
+//! sweep(alloc, &mut entity, 1_700_000_060)?; // removes what has expired by then
+//! Ok(entity)
+//! ```
 #![tactic(auto)]
 
 mod entity;
@@ -22,8 +29,8 @@ mod sweeping;
 
 pub use entity::Entity;
 pub use laws::{
-    a_sound_entity_has_one_base, nothing_expires_while_no_time_passes,
-    opening_expiry_and_removal_are_sound,
+    a_sound_entity_has_one_base, an_expiry_tells_what_it_takes,
+    nothing_expires_while_no_time_passes, opening_expiry_and_removal_are_sound,
 };
 pub use moments::event_moment;
 pub use replying::{refuse, reply_to, wanted_content};

@@ -16,6 +16,12 @@
 //! Here too stands what filters and the primitives around them share: members of objects by their
 //! names (`members_in`, `value_at`), objects of the members that are there (`push_member`,
 //! `sorted_object`), and a few kinds of values.
+//!
+//! ```text
+//! let labels = Condition::named(b"lbl"); // Some(Condition::Labels)
+//! let filter = plain_filter(alloc, &value)?; // all conditions but the labels
+//! write_filter(alloc, filter.parts())
+//! ```
 #![tactic(auto)]
 
 mod bounds;

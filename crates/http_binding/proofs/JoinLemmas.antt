@@ -1,5 +1,5 @@
 -- A head and the body that stands behind room for one.
-use Rattle.std.proofs.Common.{◌≡◌, ℕ, ◌+◌, ◌-◌, ◌≤◌, List, ◌++◌, length, take, drop, ap, ◌∙◌, arith}
+use Rattle.std.proofs.Common.{◌≡◌, ℕ, ◌-◌, ◌≤◌, List, ◌++◌, length, take, drop, ap, ◌∙◌, arith}
 use Rattle.std.proofs.lemmas.List.{drop_at, drop-drop, length-take-le}
 use borrow.Rule.Slice.PartMut.{put_mid, post_of}
 

@@ -1,13 +1,12 @@
 -- The digits of a type's number.
 use Rattle.std.proofs.Common.{◌≡◌, ℕ, ◌^◌, ◌<◌, ◌≤◌, true, List, length, arith}
-use Rattle.std.proofs.lemmas.Bool.{and_parts, and_from}
+use Rattle.std.proofs.lemmas.Bool.{and_parts}
 use Rattle.std.proofs.lemmas.Bool.Decides.{nat_tests}
 use Rattle.std.proofs.lemmas.Str.Parse.{digits_value_short}
 use Rattle.std.specs.Char.{is_ascii_digit}
 use Rattle.std.specs.List.{list_all}
 use Rattle.std.specs.Str.Parse.{digits_value}
 use Rattle.m2m_names.specs.Name.{is_filled}
-use Rattle.primitive_json.specs.Kinds.{is_numeral, numeral_limit}
 use Rattle.m2m_names.proofs.NumeralLemmas.{own}
 use Rattle.http_binding.specs.MediaTypes.{is_type_digits}
 

@@ -1,5 +1,5 @@
 -- Laws of the binding.
-use Rattle.std.specs.Prelude.{◌≡◌, ◌≤◌, ℕ, Bool, List, ◌++◌, length, IsTrue, Option, Some}
+use Rattle.std.specs.Prelude.{◌≡◌, ◌≤◌, ℕ, Bool, List, ◌++◌, length, Option, Some}
 use Rattle.std.specs.Prelude.{is_some, option_map}
 use Rattle.m2m_names.specs.declared.operations.Op.{Op}
 use Rattle.primitive_json.specs.Laws.{IsOfKinds, HasShortExpiry, IsReplyOfKinds}

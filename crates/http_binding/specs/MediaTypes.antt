@@ -6,6 +6,7 @@ use Rattle.std.specs.List.{list_any, prefix_len, suffix_len, slice_split}
 use Rattle.std.specs.Option.{option_map_or}
 use Rattle.std.specs.Str.Parse.{digits_value}
 use Rattle.http_uri.specs.ByteClasses.{split_once_front, split_once_back}
+use Rattle.httparse.specs.Grammar.{is_token}
 use Rattle.m2m_names.specs.Name.{is_decimal}
 use Rattle.m2m_names.specs.Types.{is_type_number}
 use Rattle.http_frames.specs.Lines.{is_same_name}
@@ -76,12 +77,13 @@ abbrev pub type_digits_said : List ℕ → Option TypeNumber
 type_digits_said digits =
     if is_type_digits digits then Some (Some (digits_value 10 digits)) else None
 
--- what is said with one more parameter, behind what was said before: a parameter has a name and a
--- value, on the two sides of the first `=`; other names are unread
+-- what is said with one more parameter, behind what was said before: a parameter has a name, which
+-- is a token, and a value, on the two sides of the first `=`; other names are unread (RFC 9110,
+-- 5.6.6)
 abbrev pub parameter_said : TypeNumber → List ℕ → List ℕ → Option TypeNumber
 parameter_said before name value =
-    if (length name == 0) then None
-    else (if bytes_eq name type_parameter then type_digits_said value else Some before)
+    if bytes_eq name type_parameter then type_digits_said value
+    else (if is_token name then Some before else None)
 
 abbrev pub piece_said : TypeNumber → List ℕ → Option TypeNumber
 piece_said before piece =

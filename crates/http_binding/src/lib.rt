@@ -9,6 +9,12 @@
 //! The parts of a request each have a module: the method, the header fields with the type of the
 //! content, and the body; the target, with the address that a path is, and the query, with the
 //! conditions of a filter, stand in the crate http_target.
+//!
+//! ```text
+//! let request = to_request(alloc, frame)?; // or the first fault of the frame
+//! let identifier = echo_id(frame); // that the reply repeats
+//! Ok(of_reply(alloc, reply, false)?)
+//! ```
 #![tactic(auto)]
 
 mod headers;

@@ -7,6 +7,7 @@ ghost use Rattle.http_binding.specs.MediaTypes as spec;
 use crate::method::Method;
 use crate::names::{JSON_TYPE, TYPE_PARAMETER};
 use http_target::{before, behind};
+use httparse::is_token;
 use m2m_names::{are_digits, is_filled, is_type_number};
 use primitive_json::digits_number;
 
@@ -82,12 +83,12 @@ fn type_digits_said(digits: &[u8]) -> Option<TypeNumber>
 fn parameter_said(before: TypeNumber, name: &[u8], value: &[u8]) -> Option<TypeNumber>
     ensures { result ≡ spec.parameter_said before name.now value.now }
 {
-    if name.is_empty() {
-        None
-    } else if name == TYPE_PARAMETER.as_bytes() {
+    if name == TYPE_PARAMETER.as_bytes() {
         type_digits_said(value)
-    } else {
+    } else if is_token(name) {
         Some(before)
+    } else {
+        None
     }
 }
 

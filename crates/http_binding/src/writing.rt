@@ -3,8 +3,8 @@ ghost use Rattle.std.specs.Prelude.{◌≡◌, ◌≢◌, ◌≤◌, ◌+◌, �
 ghost use Rattle.std.specs.Prelude.{[], None, drop};
 ghost use Rattle.std.specs.Fmt.{decimal};
 ghost use Rattle.std.specs.Io.KnownBytes.{Appends};
-ghost use Rattle.m2m_io.specs.Counts.{Rose};
-ghost use Rattle.m2m_io.specs.Told.{AppendsPrefix};
+ghost use Rattle.m2m_io.specs.Counts.{CountsFault};
+ghost use Rattle.m2m_io.specs.Told.{AppendsPrefix, Tells};
 ghost use Rattle.std.specs.List.{flat_map};
 ghost use Rattle.httparse.specs.Ascii.{crlf_bytes};
 ghost use Rattle.m2m_names.specs.StatusCodes.{rsc_row};
@@ -302,16 +302,18 @@ pub fn write_reply_text<K: Sink>(
     ensures ok { OnOk result
         (Appends (K.written sink.old) (K.written sink.new) (reply_text reply.now close)) }
 
-    // Where the sink failed, a prefix is written; after want of memory, nothing.
+    // Where the sink failed, a prefix is written; where memory ran out, the reply isn't begun.
     ensures fault { result ≡ Err PutFault.WriteFault
         → AppendsPrefix (K.written sink.old) (K.written sink.new) (reply_text reply.now close) }
     ensures memory { result ≡ Err PutFault.OutOfMemory → sink.new ≡ sink.old }
 
+    // Where memory didn't run out, the sink had one put.
+    ensures puts { result ≢ Err PutFault.OutOfMemory
+        → Tells (λ n. n + 1) (K.puts sink.old) (K.puts sink.new) }
+
     // WriteFault comes where the sink failed in this call, and only there.
-    ensures count { K.faults sink.old ≤ K.faults sink.new }
-    ensures cause { result ≡ Err PutFault.WriteFault
-        → Rose (K.faults sink.old) (K.faults sink.new) }
-    ensures steady { result ≢ Err PutFault.WriteFault → K.faults sink.new ≡ K.faults sink.old }
+    ensures faults { CountsFault PutFault.WriteFault result (K.faults sink.old)
+        (K.faults sink.new) }
 
     // The side that is read, of a sink that is a source as well, stays as it is.
     ensures beside { K.kept_by_put sink.new ≡ K.kept_by_put sink.old }

@@ -3,6 +3,12 @@
 //! Callers see the frame of a request as a function of the request, of the URL and of what the URL
 //! stands for (`request_frame`), and a reply as a function of its frame (`reply_in`). They owe a
 //! URL, as `m2m_names::read_url` tells one. Each request closes its connection behind the reply.
+//!
+//! ```text
+//! let url = b"http://127.0.0.1:8081";
+//! let frame = of_request(alloc, request, url, Aim::Peer)?;
+//! to_reply(alloc, answer)
+//! ```
 #![tactic(auto)]
 
 mod laws;

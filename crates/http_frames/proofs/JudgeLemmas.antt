@@ -1,14 +1,14 @@
 -- What a whole head or a whole chunk line says is judged before more is read.
-use Rattle.std.proofs.Common.{◌≡◌, ℕ, ◌≤◌, ◌⊎◌, List, ◌++◌, length, refl, sym, ap, subst, ◌∙◌, inl, inr}
-use Rattle.httparse.specs.Grammar.{ChunkLine, IsChunkLine, print_chunk_line, chunk_size}
+use Rattle.std.proofs.Common.{◌≡◌, ℕ, ◌≤◌, List, ◌++◌, length, refl, sym, ap, subst, ◌∙◌, inl, inr}
+use Rattle.httparse.specs.Grammar.{ChunkLine, print_chunk_line, chunk_size}
 use Rattle.httparse.proofs.ChunkLemmas.{chunk_line_unique}
 use Rattle.http_frames.specs.declared.frame.Side.{Side}
 use Rattle.http_frames.specs.declared.frame.Start.{Start}
 use Rattle.http_frames.specs.Lines.{Line}
 use Rattle.http_frames.specs.Body.{Framing, framing_of, AnnouncesBody}
-use Rattle.http_frames.specs.Chunks.{Announces, chunk_line_limit, chunks_text, LacksLine, LacksPart}
+use Rattle.http_frames.specs.Chunks.{chunks_text}
 use Rattle.http_frames.specs.Frame.{body_limit, IsHead, IsLimitedHead}
-use Rattle.http_frames.specs.Waiting.{LackHead, LackBody, LackChunk, IsUnsettled, WholeHeadsAreJudged, WholeLinesAreJudged}
+use Rattle.http_frames.specs.Waiting.{WholeHeadsAreJudged, WholeLinesAreJudged}
 use Rattle.http_frames.proofs.FrameLemmas.{IsHead_unique}
 
 -- the head is the one of which this is known

@@ -2,7 +2,7 @@
 ghost use Rattle.std.specs.Prelude.{◌≡◌, ◌≢◌, ◌+◌, ◌<◌, ◌≤◌, [], Ok, Err, false, IsTrue, IfOk};
 ghost use Rattle.std.specs.Prelude.{OnOk, OnErr, length, take, drop};
 ghost use Rattle.std.specs.Io.KnownBytes.{IsAtEnd};
-ghost use Rattle.m2m_io.specs.Counts.{Rose};
+ghost use Rattle.m2m_io.specs.Counts.{CountsFault};
 ghost use Rattle.http_frames.specs.Inbox.{Reads};
 ghost use Rattle.http_frames.specs.Rooms.{room_limit};
 ghost use Rattle.http_frames.specs.Waiting.{EndsBelow, piece_limit};
@@ -127,10 +127,8 @@ fn read_behind<S: Source>(
     ensures most { IfOk result (λ n. n ≤ piece_limit) }
     ensures at_end { result ≡ Ok 0 → IsAtEnd (S.left src.new) }
     ensures err { OnErr result (take end.new bytes.new ≡ take end.old bytes.old) }
-    ensures faults { S.faults src.old ≤ S.faults src.new }
     ensures beside { S.kept_by_read src.new ≡ S.kept_by_read src.old }
-    ensures cause { result ≡ Err FrameFault.ReadFault → Rose (S.faults src.old) (S.faults src.new) }
-    ensures steady { result ≢ Err FrameFault.ReadFault → S.faults src.new ≡ S.faults src.old }
+    ensures faults { CountsFault FrameFault.ReadFault result (S.faults src.old) (S.faults src.new) }
     ensures other { result ≢ Err FrameFault.NoFrame }
 {
     let n = src.read(&mut bytes[*end..*end + PIECE])?;
@@ -177,11 +175,9 @@ impl Held {
         ensures most { IfOk result (λ n. n ≤ piece_limit) }
         ensures end { result ≡ Ok 0 → IsAtEnd (S.left src.new) }
         ensures err { OnErr result (self.new ≡ self.old) }
-        ensures faults { S.faults src.old ≤ S.faults src.new }
         ensures beside { S.kept_by_read src.new ≡ S.kept_by_read src.old }
-        ensures cause { result ≡ Err FrameFault.ReadFault
-            → Rose (S.faults src.old) (S.faults src.new) }
-        ensures steady { result ≢ Err FrameFault.ReadFault → S.faults src.new ≡ S.faults src.old }
+        ensures faults { CountsFault FrameFault.ReadFault result (S.faults src.old)
+            (S.faults src.new) }
         ensures other { result ≢ Err FrameFault.NoFrame }
     {
         make_room(&mut self.bytes, &mut self.start, &mut self.end)?;
@@ -197,11 +193,9 @@ impl Held {
         ensures ends { EndsBelow need self.old self.new }
         ensures ended { result ≡ Ok false → (length self.new < need) × IsAtEnd (S.left src.new) }
         ensures err { OnErr result (length self.new < need) }
-        ensures faults { S.faults src.old ≤ S.faults src.new }
         ensures beside { S.kept_by_read src.new ≡ S.kept_by_read src.old }
-        ensures cause { result ≡ Err FrameFault.ReadFault
-            → Rose (S.faults src.old) (S.faults src.new) }
-        ensures steady { result ≢ Err FrameFault.ReadFault → S.faults src.new ≡ S.faults src.old }
+        ensures faults { CountsFault FrameFault.ReadFault result (S.faults src.old)
+            (S.faults src.new) }
         ensures other { result ≢ Err FrameFault.NoFrame }
     {
         while self.bytes().len() < need {

@@ -2,7 +2,7 @@
 ghost use Rattle.std.specs.Prelude.{◌≡◌, ◌≢◌, ◌<◌, ◌≤◌, [], false, true, None, Ok};
 ghost use Rattle.std.specs.Prelude.{Err, IfOk, OnOk, OnErr, length, drop};
 ghost use Rattle.std.specs.Io.KnownBytes.{IsAtEnd};
-ghost use Rattle.m2m_io.specs.Counts.{Rose};
+ghost use Rattle.m2m_io.specs.Counts.{CountsFault};
 ghost use Rattle.http_frames.specs.Frame.{lines_limit};
 ghost use Rattle.http_frames.specs.Stream.{HasNoFrame};
 ghost use Rattle.http_frames.specs.Spans.{IsFrameAt, AreWithin, frame_at};
@@ -67,10 +67,8 @@ fn settle<S: Source>(
     ensures at_end { OnSettledEnd result (IsAtEnd (S.left src.new)) }
     ensures never { OnSettledNever result (HoldsNoFrame side held.new (S.left src.new)) }
     ensures waiting { result ≡ Err FrameFault.ReadFault → HasNoFrame side held.new }
-    ensures faults { S.faults src.old ≤ S.faults src.new }
     ensures beside { S.kept_by_read src.new ≡ S.kept_by_read src.old }
-    ensures cause { result ≡ Err FrameFault.ReadFault → Rose (S.faults src.old) (S.faults src.new) }
-    ensures steady { result ≢ Err FrameFault.ReadFault → S.faults src.new ≡ S.faults src.old }
+    ensures faults { CountsFault FrameFault.ReadFault result (S.faults src.old) (S.faults src.new) }
     ensures other { result ≢ Err FrameFault.NoFrame }
 {
     'reads: loop {
@@ -126,10 +124,8 @@ fn read_next<S: Source>(
     ensures no_frame { result ≡ Err FrameFault.NoFrame
         → HoldsNoFrame side held.new (S.left src.new) }
     ensures waiting { result ≡ Err FrameFault.ReadFault → HasNoFrame side held.new }
-    ensures faults { S.faults src.old ≤ S.faults src.new }
     ensures beside { S.kept_by_read src.new ≡ S.kept_by_read src.old }
-    ensures cause { result ≡ Err FrameFault.ReadFault → Rose (S.faults src.old) (S.faults src.new) }
-    ensures steady { result ≢ Err FrameFault.ReadFault → S.faults src.new ≡ S.faults src.old }
+    ensures faults { CountsFault FrameFault.ReadFault result (S.faults src.old) (S.faults src.new) }
 {
     let mut walked = Walked::new(alloc);
     match settle(held, src, side, headers, &mut walked)? {
@@ -209,11 +205,9 @@ impl Inbox {
         ensures over { self.old.refused ≡ true → result ≡ Err FrameFault.NoFrame }
         ensures over_still { self.old.refused ≡ true → (self.new ≡ self.old) × (src.new ≡ src.old) }
         ensures waiting { result ≡ Err FrameFault.ReadFault → HasNoFrame side self.new.held }
-        ensures faults { S.faults src.old ≤ S.faults src.new }
         ensures beside { S.kept_by_read src.new ≡ S.kept_by_read src.old }
-        ensures cause { result ≡ Err FrameFault.ReadFault
-            → Rose (S.faults src.old) (S.faults src.new) }
-        ensures steady { result ≢ Err FrameFault.ReadFault → S.faults src.new ≡ S.faults src.old }
+        ensures faults { CountsFault FrameFault.ReadFault result (S.faults src.old)
+            (S.faults src.new) }
     {
         if self.refused {
             return Err(FrameFault::NoFrame);
@@ -257,10 +251,8 @@ impl Inbox {
         ensures over { self.old.refused ≡ true → (self.new ≡ self.old) × (src.new ≡ src.old) }
 
         // ReadFault comes where the source failed in this call, and only there.
-        ensures count { S.faults src.old ≤ S.faults src.new }
-        ensures cause { result ≡ Err FrameFault.ReadFault
-            → Rose (S.faults src.old) (S.faults src.new) }
-        ensures steady { result ≢ Err FrameFault.ReadFault → S.faults src.new ≡ S.faults src.old }
+        ensures faults { CountsFault FrameFault.ReadFault result (S.faults src.old)
+            (S.faults src.new) }
 
         // The side that is written, of a source that is a sink as well, stays as it is.
         ensures beside { S.kept_by_read src.new ≡ S.kept_by_read src.old }
@@ -286,10 +278,8 @@ impl Inbox {
         ensures over { self.old.refused ≡ true → (self.new ≡ self.old) × (src.new ≡ src.old) }
 
         // ReadFault comes where the source failed in this call, and only there.
-        ensures count { S.faults src.old ≤ S.faults src.new }
-        ensures cause { result ≡ Err FrameFault.ReadFault
-            → Rose (S.faults src.old) (S.faults src.new) }
-        ensures steady { result ≢ Err FrameFault.ReadFault → S.faults src.new ≡ S.faults src.old }
+        ensures faults { CountsFault FrameFault.ReadFault result (S.faults src.old)
+            (S.faults src.new) }
 
         // The side that is written, of a source that is a sink as well, stays as it is.
         ensures beside { S.kept_by_read src.new ≡ S.kept_by_read src.old }

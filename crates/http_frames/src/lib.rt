@@ -4,6 +4,13 @@
 //! Callers see the frames of the stream one after another, and that its end comes, or that no frame
 //! can stand there. They decide when a connection closes, since the line `Connection` is left to
 //! them, and look lines up by name with `Lines::find`.
+//!
+//! ```text
+//! let mut inbox = Inbox::new(alloc)?;
+//! let Next::Message(frame) = inbox.next_request(alloc, source)? else { return Ok(()) };
+//! let host = frame.lines.find(b"host"); // absent, one, or repeated
+//! Ok(())
+//! ```
 #![tactic(auto)]
 
 mod body;

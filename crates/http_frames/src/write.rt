@@ -2,8 +2,8 @@
 ghost use Rattle.std.specs.Prelude.{◌≡◌, ◌≢◌, ◌+◌, ◌<◌, ◌≤◌, ◌++◌, [], ◌∷◌, Err, IfOk, OnOk};
 ghost use Rattle.std.specs.Prelude.{flat_map};
 ghost use Rattle.std.specs.Io.KnownBytes.{Appends};
-ghost use Rattle.m2m_io.specs.Counts.{Rose};
-ghost use Rattle.m2m_io.specs.Told.{AppendsPrefix};
+ghost use Rattle.m2m_io.specs.Counts.{CountsFault};
+ghost use Rattle.m2m_io.specs.Told.{AppendsPrefix, Tells};
 ghost use Rattle.http_frames.specs.Text.{version_text, status_digits, phrase_of, start_text};
 ghost use Rattle.http_frames.specs.Text.{line_text, frame_text};
 
@@ -145,11 +145,13 @@ pub fn write_frame<O: Sink>(alloc: Global, frame: &Frame, sink: &mut O) -> Resul
         → AppendsPrefix (O.written sink.old) (O.written sink.new) (frame_text frame.now) }
     ensures memory { result ≡ Err PutFault.OutOfMemory → sink.new ≡ sink.old }
 
+    // Where memory didn't run out, the sink had one put.
+    ensures puts { result ≢ Err PutFault.OutOfMemory
+        → Tells (λ n. n + 1) (O.puts sink.old) (O.puts sink.new) }
+
     // WriteFault comes where the sink failed in this call, and only there.
-    ensures count { O.faults sink.old ≤ O.faults sink.new }
-    ensures cause { result ≡ Err PutFault.WriteFault
-        → Rose (O.faults sink.old) (O.faults sink.new) }
-    ensures steady { result ≢ Err PutFault.WriteFault → O.faults sink.new ≡ O.faults sink.old }
+    ensures faults { CountsFault PutFault.WriteFault result (O.faults sink.old)
+        (O.faults sink.new) }
 
     // The side that is read, of a sink that is a source as well, stays as it is.
     ensures beside { O.kept_by_put sink.new ≡ O.kept_by_put sink.old }

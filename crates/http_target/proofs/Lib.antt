@@ -1,4 +1,5 @@
 pub mod AuthorityLemmas
 pub mod QueryLemmas
 pub mod TargetLemmas
+mod UriLemmas
 pub mod WordLemmas

@@ -1,5 +1,5 @@
 -- What the pairs of a query say is of its kinds.
-use Rattle.std.proofs.Common.{◌≡◌, ◌⊎◌, inl, inr, ℕ, ◌+◌, ◌^◌, ◌<◌, ◌≤◌, Bool, true, false, List, [], ◌∷◌, ◌++◌, length, drop, get_or, Option, Some, None, Result, Ok, Err, IfSome, refl, sym, ap, subst, ◌∙◌, arith}
+use Rattle.std.proofs.Common.{◌≡◌, ℕ, ◌^◌, ◌<◌, ◌≤◌, Bool, true, false, List, [], ◌∷◌, ◌++◌, length, drop, Option, Some, None, Result, Ok, Err, IfSome, refl, sym, ap, subst, ◌∙◌, arith}
 use Rattle.std.specs.Bool.{if◌then◌else◌}
 use Rattle.std.specs.Prelude.{ℤ, option_map, option_and_then, unwrap_or}
 use Rattle.std.specs.List.{list_all, filter_map, cons_option, AllByRecursion}
@@ -8,7 +8,7 @@ use Rattle.std.specs.Result.{result_unwrap_or, is_ok}
 use Rattle.std.specs.Str.{IsUtf8, is_utf8}
 use Rattle.std.specs.Str.Parse.{digits_value}
 use Rattle.std.proofs.lemmas.Bool.{and_parts, and_from, leb-true, false≢true}
-use Rattle.std.proofs.lemmas.List.{drop_more, drop_all}
+use Rattle.std.proofs.lemmas.List.{drop_all}
 use Rattle.std.proofs.lemmas.Str.{IsUtf8-from_is_utf8}
 use Rattle.m2m_names.specs.Types.{is_type_number}
 use Rattle.m2m_names.specs.StampReading.{moment_at}
@@ -30,7 +30,6 @@ use Rattle.primitive_json.specs.Kinds.{is_numeral, number_spelled, address_forms
 use Rattle.primitive_json.specs.Members.{retrieves}
 use Rattle.m2m_names.proofs.NumeralLemmas.{numeral_bound}
 use Rattle.http_target.specs.declared.fault.BindFault.{BindFault}
-use Rattle.http_target.specs.declared.fault.BindFault.TheVariants as bind
 use Rattle.http_target.specs.declared.query.Key.{Key}
 use Rattle.http_target.specs.declared.query.Key.TheVariants.{ResultContent, ResponseType, DesiredForm, Unread, OfFilter}
 use Rattle.http_target.specs.declared.query.Query.{Query}

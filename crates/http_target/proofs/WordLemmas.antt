@@ -1,13 +1,12 @@
 -- The words of a text, one after another.
-use Rattle.std.proofs.Common.{◌≡◌, ℕ, ◌+◌, ◌-◌, ◌<◌, ◌==◌, suc, Bool, true, false, not, nat_lt, List, [], ◌∷◌, ◌++◌, map, length, drop, Some, None, is_some, unwrap_or, refl, sym, ap, ◌∙◌, arith, append_assoc}
+use Rattle.std.proofs.Common.{◌≡◌, ℕ, ◌+◌, ◌==◌, suc, Bool, true, false, not, nat_lt, List, [], ◌∷◌, ◌++◌, length, drop, Some, None, is_some, unwrap_or, refl, sym, ap, ◌∙◌, arith, append_assoc}
 use Rattle.std.specs.Bool.{if◌then◌else◌}
 use Rattle.std.specs.List.{onto_first}
 use Rattle.std.proofs.lemmas.Bool.{false≢true, ltb-true, lt-ltb}
 use Rattle.std.proofs.lemmas.Bool.Decides.{nat_tests}
-use Rattle.std.proofs.lemmas.List.{length-drop, append-nil}
 use Rattle.std.proofs.lemmas.List.Splits.{slice_split_first, slice_split-cons_no}
 use Rattle.http_uri.specs.ByteClasses.{index_of, split_once_front, split_once_back}
-use Rattle.http_target.specs.Queries.{Pair, decoded_pair, words_of}
+use Rattle.http_target.specs.Queries.{words_of}
 
 -- a space
 abbrev is_blank : ℕ → Bool

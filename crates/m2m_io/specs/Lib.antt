@@ -4,7 +4,6 @@ pub mod Counts
 pub mod Door
 pub mod Link
 pub mod LinkFault
-pub mod Outside
 pub mod Sides
 pub mod Sink
 pub mod Source

@@ -1,7 +1,7 @@
 -- What a link has exchanged with neighbours.
 use Rattle.std.specs.Prelude.{◌≡◌, ℕ, List, [], ◌∷◌, ◌++◌, Bool, true, false, ◌||◌, Option, Some}
 use Rattle.std.specs.Prelude.{None, if◌then◌else◌}
-use Rattle.std.specs.Option.{option_map}
+use Rattle.std.specs.Option.{option_map, option_to_list}
 use Rattle.std.specs.declared.result.Result.{Result}
 use Rattle.std.specs.declared.result.Result.TheVariants.{Ok, Err}
 use Rattle.m2m_io.specs.declared.fault.LinkFault.{LinkFault}
@@ -15,6 +15,21 @@ pub record Exchange : Type 0 where
   pub host : List ℕ
   pub request : List ℕ
   pub answer : Option (List ℕ)
+
+-- What came of carrying one request to a neighbour: the exchange that a link made for it, if it came
+-- to that, and the mark of one in which memory ran out, before the exchange, in it or behind it.
+pub record Carrying : Type 0 where
+  pub made : Option Exchange
+  pub starved : Bool
+
+-- the exchanges that were made, in order
+abbrev pub made_in : List Carrying → List Exchange
+made_in [] = []
+made_in (carrying ∷ rest) = option_to_list carrying.made ++ made_in rest
+
+-- these were carried, and their exchanges are told behind the others
+abbrev pub TellsCarried : List Carrying → Option (List Exchange) → Option (List Exchange) → Type 0
+TellsCarried carried old new = Tells (λ told. told ++ made_in carried) old new
 
 -- one more exchange is told behind the others
 abbrev pub TellsExchange : Option (List Exchange) → Option (List Exchange) → Exchange → Type 0

@@ -1,6 +1,6 @@
 //! The numbered calls of an object in memory.
 ghost use Rattle.std.specs.Prelude.{◌≡◌, ◌≤◌, is_err, is_ok, OnOk, OnErr, if◌then◌else◌};
-ghost use Rattle.m2m_io.specs.Counts.{Rose, fails_next, after_call, after_fault, no_calls};
+ghost use Rattle.m2m_io.specs.Counts.{CountsFaults, fails_next, after_call, after_fault, no_calls};
 
 use crate::Failed;
 use std::marker::Model;
@@ -69,9 +69,7 @@ impl Calls {
         ensures variant { is_err result ≡ fails_next self.old }
         ensures after { self.new
             ≡ (if is_ok result then after_call self.old else after_fault self.old) }
-        ensures count { self.old.faults ≤ self.new.faults }
-        ensures cause { OnErr result (Rose self.old.faults self.new.faults) }
-        ensures steady { OnOk result (self.new.faults ≡ self.old.faults) }
+        ensures faults { CountsFaults result self.old.faults self.new.faults }
     {
         if self.is_next_to_fail() {
             self.count_fault();

@@ -1,36 +1,36 @@
 //! Connections: what is read and written.
-ghost use Rattle.std.specs.Prelude.{◌≡◌, ◌<◌, ◌≤◌, ◌++◌, ◌||◌, ◌&&◌, [], Some, false, length};
+ghost use Rattle.std.specs.Prelude.{◌≡◌, ◌<◌, ◌≤◌, ◌+◌, ◌++◌, [], Some, None, false, length};
 ghost use Rattle.std.specs.Prelude.{is_err, is_ok, IfOk, OnOk, OnErr, if◌then◌else◌};
 ghost use Rattle.std.specs.Io.{ReadsAtMost};
 ghost use Rattle.std.specs.Io.KnownBytes.{ReadConsumes, Appends};
 ghost use Rattle.std.specs.Str.{bytes_eq};
-ghost use Rattle.m2m_io.specs.Counts.{Rose, fails_next, after_call, after_fault};
+ghost use Rattle.m2m_io.specs.Counts.{CountsFaults, fails_next, after_call, after_fault, told_calls};
 ghost use Rattle.m2m_io.specs.Source.{next_count};
 ghost use Rattle.m2m_io.specs.Sides.{KeepsSides, side_of};
-ghost use Rattle.m2m_io.specs.Told.{AppendsPrefix};
+ghost use Rattle.m2m_io.specs.Told.{AppendsPrefix, Tells};
 
 use crate::{Failed, MemSink, MemSource, Sink, Source};
 use std::marker::Model;
 use std::sync::Arc;
 use std::sync::atomic::{AtomicU64, Ordering};
 
-/// A stream that is read and written. Reading it leaves what was written and how often writing
-/// failed, and writing it what is left to read and how often reading failed.
+/// A stream that is read and written. Reading it leaves what was written, how often writing failed
+/// and how many puts there were, and writing it what is left to read and how often reading failed.
 pub trait Connection: Source + Sink {
     /// Both sides are kept so.
     ghost keeps_sides: { KeepsSides Self.left Self.Source.faults Self.kept_by_read
-        Self.written Self.Sink.faults Self.kept_by_put };
+        Self.written Self.Sink.faults Self.puts Self.kept_by_put };
 }
 
 /// A connection in memory, for doors: it is read from a source and written to a sink, and reports
-/// when what was written is what was expected.
+/// whether what was written is just what was expected.
 #[derive(Drop)]
 pub struct MemConn {
     input: MemSource,
     out: MemSink,
     expected: Vec<u8>,
     right: Arc<AtomicU64>,
-    was_right: bool,
+    is_right: bool,
 }
 
 impl Model for MemConn {
@@ -42,25 +42,25 @@ impl Model for MemConn {
       input = c.input;
       out = c.out;
       expected = c.expected.items;
-      was_right = c.was_right;
+      is_right = c.is_right;
     } };
 }
 
 impl MemConn {
-    /// A connection that adds one to `right` at the first put that leaves just the bytes `expected`
-    /// in `out`.
+    /// A connection that counts in `right` while the bytes in `out` are just those `expected`, from
+    /// the put on that left them so: it adds one there, and takes it back at a put behind them.
     pub fn new(input: MemSource, out: MemSink, expected: Vec<u8>, right: Arc<AtomicU64>) -> Self
         ensures input { result.input ≡ input }
         ensures out { result.out ≡ out }
         ensures expected { result.expected ≡ expected.items }
-        ensures was_right { result.was_right ≡ false }
+        ensures is_right { result.is_right ≡ false }
     {
         MemConn {
             input,
             out,
             expected,
             right,
-            was_right: false,
+            is_right: false,
         }
     }
 }
@@ -70,17 +70,15 @@ impl Source for MemConn {
 
     ghost faults = { λ c. c.input.calls.faults };
 
-    ghost kept_by_read = { λ c. side_of (Some c.out.written) c.out.calls.faults [] };
+    ghost kept_by_read = { λ c. side_of (Some c.out.written) c.out.calls.faults
+        (told_calls c.out.calls) [] };
 
     fn read(&mut self, buf: &mut [u8]) -> Result<usize, Failed>
         requires room { 0 < length buf.old }
         ensures bound { ReadsAtMost result buf.new }
         ensures bytes { ReadConsumes (Some self.old.input.left)
             (Some self.new.input.left) result buf.new }
-        ensures count { self.old.input.calls.faults ≤ self.new.input.calls.faults }
-        ensures cause { OnErr result
-            (Rose self.old.input.calls.faults self.new.input.calls.faults) }
-        ensures steady { OnOk result (self.new.input.calls.faults ≡ self.old.input.calls.faults) }
+        ensures faults { CountsFaults result self.old.input.calls.faults self.new.input.calls.faults }
 
         // It is read as its input is, and nothing else of it changes.
         ensures variant { is_err result ≡ fails_next self.old.input.calls }
@@ -103,36 +101,42 @@ impl Sink for MemConn {
 
     ghost faults = { λ c. c.out.calls.faults };
 
-    ghost kept_by_put = { λ c. side_of (Some c.input.left) c.input.calls.faults [] };
+    ghost puts = { λ c. told_calls c.out.calls };
+
+    ghost kept_by_put = { λ c. side_of (Some c.input.left) c.input.calls.faults None [] };
 
     fn put(&mut self, bytes: &[u8]) -> Result<(), Failed>
         ensures ok { OnOk result
             (Appends (Some self.old.out.written) (Some self.new.out.written) bytes.now) }
         ensures err { OnErr result
             (AppendsPrefix (Some self.old.out.written) (Some self.new.out.written) bytes.now) }
-        ensures count { self.old.out.calls.faults ≤ self.new.out.calls.faults }
-        ensures cause { OnErr result (Rose self.old.out.calls.faults self.new.out.calls.faults) }
-        ensures steady { OnOk result (self.new.out.calls.faults ≡ self.old.out.calls.faults) }
+        ensures faults { CountsFaults result self.old.out.calls.faults self.new.out.calls.faults }
+        ensures puts { Tells (λ n. n + 1) (told_calls self.old.out.calls)
+            (told_calls self.new.out.calls) }
 
-        // It is written as its sink is, and was right from the first put on that left just what was
-        // expected.
+        // It is written as its sink is, and is right where the last put that was done left just what
+        // was expected.
         ensures fails { OnOk result (fails_next self.old.out.calls ≡ false) }
         ensures whole { self.new.out.written
             ≡ (if is_ok result then self.old.out.written ++ bytes.now else self.old.out.written) }
         ensures calls { self.new.out.calls
             ≡ (if is_ok result then after_call self.old.out.calls
             else after_fault self.old.out.calls) }
-        ensures right { self.new.was_right
-            ≡ (self.old.was_right ||
-            (is_ok result && bytes_eq self.new.out.written self.old.expected)) }
+        ensures right { self.new.is_right
+            ≡ (if is_ok result then bytes_eq self.new.out.written self.old.expected
+            else self.old.is_right) }
         ensures input { self.new.input ≡ self.old.input }
         ensures expected { self.new.expected ≡ self.old.expected }
     {
         self.out.put(bytes)?;
-        if !self.was_right && self.out.written() == self.expected.as_slice() {
-            self.was_right = true;
+        let is_right = self.out.written() == self.expected.as_slice();
+        if is_right && !self.is_right {
             self.right.fetch_add(1, Ordering::SeqCst);
         }
+        if self.is_right && !is_right {
+            self.right.fetch_sub(1, Ordering::SeqCst);
+        }
+        self.is_right = is_right;
         Ok(())
     }
 }

@@ -1,8 +1,9 @@
 //! What accepts connections.
-ghost use Rattle.std.specs.Prelude.{◌≡◌, ◌≤◌, ◌++◌, [], ℕ, Bool, Option, None, Some, true, false};
-ghost use Rattle.std.specs.Prelude.{is_err, is_ok, OnOk, OnErr, IfOk, IsNone, if◌then◌else◌};
+ghost use Rattle.std.specs.Prelude.{◌≡◌, ◌≤◌, ◌++◌, [], ℕ, Bool, List, Option, None, Some, true};
+ghost use Rattle.std.specs.Prelude.{false, is_err, is_ok, OnOk, OnErr, IfOk, IsNone};
+ghost use Rattle.std.specs.Prelude.{if◌then◌else◌};
 ghost use Rattle.std.specs.Option.{option_to_list};
-ghost use Rattle.m2m_io.specs.Counts.{Rose, no_calls, fails_next, after_call, after_fault};
+ghost use Rattle.m2m_io.specs.Counts.{CountsFaults, no_calls, fails_next, after_call, after_fault};
 ghost use Rattle.m2m_io.specs.Door.{given_after, ended_after, told_given};
 ghost use Rattle.m2m_io.specs.Told.{Tells, TellsStill};
 
@@ -16,8 +17,9 @@ use std::marker::Model;
 pub trait Door {
     type Conn: Connection + Send + Drop;
 
-    /// Whether `open` has answered Ok, where the door tells it.
-    ghost opened: { Self → Option Bool };
+    /// The address at which `open` has last answered Ok, or None where it never has, where the door
+    /// tells it.
+    ghost opened: { Self → Option (Option (List ℕ)) };
 
     /// How many connections were given, where the door tells it.
     ghost given: { Self → Option ℕ };
@@ -31,13 +33,12 @@ pub trait Door {
 
     /// Opens the door at an address, which stands as `host:port`.
     fn open(&mut self, at: &[u8]) -> Result<(), Failed>
-        ensures ok { OnOk result (Tells (λ _. true) (opened self.old) (opened self.new)) }
+        ensures ok { OnOk result
+            (Tells (λ _. Some at.now) (opened self.old) (opened self.new)) }
         ensures err { OnErr result (TellsStill (opened self.old) (opened self.new)) }
         ensures given { TellsStill (given self.old) (given self.new) }
         ensures ended { TellsStill (ended self.old) (ended self.new) }
-        ensures count { faults self.old ≤ faults self.new }
-        ensures cause { OnErr result (Rose (faults self.old) (faults self.new)) }
-        ensures steady { OnOk result (faults self.new ≡ faults self.old) };
+        ensures faults { CountsFaults result (faults self.old) (faults self.new) };
 
     /// The next connection, or None, after which no other is given.
     fn next(&mut self) -> Result<Option<Self::Conn>, Failed>
@@ -45,31 +46,32 @@ pub trait Door {
         ensures ended { Tells (ended_after result) (ended self.old) (ended self.new) }
         ensures over { ended self.old ≡ Some true → IfOk result (λ conn. IsNone conn) }
         ensures opened { TellsStill (opened self.old) (opened self.new) }
-        ensures count { faults self.old ≤ faults self.new }
-        ensures cause { OnErr result (Rose (faults self.old) (faults self.new)) }
-        ensures steady { OnOk result (faults self.new ≡ faults self.old) };
+        ensures faults { CountsFaults result (faults self.old) (faults self.new) };
 }
 
 /// A door in memory, which gives these connections in order and then None. It tells how many it
-/// gave until it has had 2^64 - 1 calls.
+/// gave until it has had 2^64 - 1 calls, and where it was opened until no memory is found for the
+/// address.
 #[derive(Drop)]
 pub struct MemDoor<X> {
     conns: VecDeque<X>,
-    opened: bool,
+    address: Option<Vec<u8>>,
+    is_silent: bool,
     given: u64,
     ended: bool,
     calls: Calls,
 }
 
 impl<X> Model for MemDoor<X> {
-    ghost use Rattle.std.specs.Prelude.{◌≡◌, ◌≤◌, true, length};
+    ghost use Rattle.std.specs.Prelude.{◌≡◌, ◌≤◌, true, length, Some, None, if◌then◌else◌};
+    ghost use Rattle.std.specs.Option.{option_map};
     ghost use Rattle.m2m_io.specs.Door.{DoorData};
 
     ghost Value = { DoorData X };
 
     ghost view = { λ d. record {
       conns = d.conns.items;
-      opened = d.opened;
+      opened = if d.is_silent then None else Some (option_map (λ a. a.items) d.address);
       given = d.given;
       ended = d.ended;
       calls = d.calls;
@@ -84,14 +86,15 @@ impl<X> MemDoor<X> {
     /// those of `open` counted with those of `next`.
     pub fn new(conns: Vec<X>, fails: Vec<u64>) -> Self
         ensures conns { result.conns ≡ conns.items }
-        ensures opened { result.opened ≡ false }
+        ensures opened { result.opened ≡ Some None }
         ensures given { result.given ≡ 0 }
         ensures ended { result.ended ≡ false }
         ensures calls { result.calls ≡ no_calls fails.items }
     {
         MemDoor {
             conns: VecDeque::from_vec(conns),
-            opened: false,
+            address: None,
+            is_silent: false,
             given: 0,
             ended: false,
             calls: Calls::new(fails),
@@ -102,7 +105,7 @@ impl<X> MemDoor<X> {
 impl<X: Connection + Send + Drop> Door for MemDoor<X> {
     type Conn = X;
 
-    ghost opened = { λ d. Some d.opened };
+    ghost opened = { λ d. d.opened };
 
     ghost given = { told_given };
 
@@ -111,13 +114,11 @@ impl<X: Connection + Send + Drop> Door for MemDoor<X> {
     ghost faults = { λ d. d.calls.faults };
 
     fn open(&mut self, at: &[u8]) -> Result<(), Failed>
-        ensures ok { OnOk result (Tells (λ _. true) (Some self.old.opened) (Some self.new.opened)) }
-        ensures err { OnErr result (TellsStill (Some self.old.opened) (Some self.new.opened)) }
+        ensures ok { OnOk result (Tells (λ _. Some at.now) self.old.opened self.new.opened) }
+        ensures err { OnErr result (TellsStill self.old.opened self.new.opened) }
         ensures given { TellsStill (told_given self.old) (told_given self.new) }
         ensures ended { TellsStill (Some self.old.ended) (Some self.new.ended) }
-        ensures count { self.old.calls.faults ≤ self.new.calls.faults }
-        ensures cause { OnErr result (Rose self.old.calls.faults self.new.calls.faults) }
-        ensures steady { OnOk result (self.new.calls.faults ≡ self.old.calls.faults) }
+        ensures faults { CountsFaults result self.old.calls.faults self.new.calls.faults }
 
         // Which calls fail, and what they leave.
         ensures variant { is_err result ≡ fails_next self.old.calls }
@@ -125,9 +126,11 @@ impl<X: Connection + Send + Drop> Door for MemDoor<X> {
         ensures calls { self.new.calls
             ≡ (if is_ok result then after_call self.old.calls else after_fault self.old.calls) }
     {
-        let _ = at;
         self.calls.next()?;
-        self.opened = true;
+        match Vec::from_slice(*self.conns.allocator(), at) {
+            Ok(at) => self.address = Some(at),
+            Err(_) => self.is_silent = true,
+        }
         Ok(())
     }
 
@@ -135,10 +138,8 @@ impl<X: Connection + Send + Drop> Door for MemDoor<X> {
         ensures given { Tells (given_after result) (told_given self.old) (told_given self.new) }
         ensures ended { Tells (ended_after result) (Some self.old.ended) (Some self.new.ended) }
         ensures over { Some self.old.ended ≡ Some true → IfOk result (λ conn. IsNone conn) }
-        ensures opened { TellsStill (Some self.old.opened) (Some self.new.opened) }
-        ensures count { self.old.calls.faults ≤ self.new.calls.faults }
-        ensures cause { OnErr result (Rose self.old.calls.faults self.new.calls.faults) }
-        ensures steady { OnOk result (self.new.calls.faults ≡ self.old.calls.faults) }
+        ensures opened { TellsStill self.old.opened self.new.opened }
+        ensures faults { CountsFaults result self.old.calls.faults self.new.calls.faults }
 
         // Which calls fail, and which connection each other one gives.
         ensures variant { is_err result ≡ fails_next self.old.calls }

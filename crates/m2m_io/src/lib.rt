@@ -4,6 +4,12 @@
 //! on an object failing where its count of faults rose, and only there, and on nothing that an
 //! object doesn't tell. Beside each trait stands an object in memory that tells all of it, made
 //! without memory, and the status with which the program ends.
+//!
+//! ```text
+//! let n = source.read(buf)?; // 0 at the end of the source
+//! sink.put(&buf[..n])?;
+//! Status::Done.put_line(sink)
+//! ```
 #![tactic(auto)]
 
 mod calls;

@@ -5,7 +5,7 @@ ghost use Rattle.std.specs.Prelude.{if◌then◌else◌};
 ghost use Rattle.std.specs.Option.{option_map};
 ghost use Rattle.m2m_io.specs.declared.fault.LinkFault.TheVariants.{Failed as failed};
 ghost use Rattle.m2m_io.specs.declared.fault.LinkFault.TheVariants.{OutOfMemory as starved};
-ghost use Rattle.m2m_io.specs.Counts.{Rose, is_exact, no_calls};
+ghost use Rattle.m2m_io.specs.Counts.{CountsFault, is_exact, no_calls};
 ghost use Rattle.m2m_io.specs.Link.{Exchange, TellsExchange, TellsAnswer, TakesAnswer};
 ghost use Rattle.m2m_io.specs.Link.{fails_next_exchange, told_after, calls_after};
 
@@ -40,10 +40,7 @@ pub trait Link {
             → TellsExchange (exchanges self.old) (exchanges self.new)
             (record { host = host.now; request = request.now; answer = None }) }
         ensures memory { IsErrOf result starved → IsNone (exchanges self.new) }
-        ensures count { faults self.old ≤ faults self.new }
-        ensures cause { IsErrOf result failed → Rose (faults self.old) (faults self.new) }
-        ensures steady { OnOk result (faults self.new ≡ faults self.old) }
-        ensures starved { IsErrOf result starved → faults self.new ≡ faults self.old };
+        ensures faults { CountsFault failed result (faults self.old) (faults self.new) };
 }
 
 /// One exchange that a link in memory has made.
@@ -260,10 +257,7 @@ impl MemLink {
         ensures memory { IsErrOf result starved → IsNone self.new.told }
         ensures kept { self.new.answers ≡ self.old.answers }
         ensures calls { self.new.calls ≡ calls_after self.old.calls result }
-        ensures count { self.old.calls.faults ≤ self.new.calls.faults }
-        ensures cause { IsErrOf result failed → Rose self.old.calls.faults self.new.calls.faults }
-        ensures steady { OnOk result (self.new.calls.faults ≡ self.old.calls.faults) }
-        ensures starved { IsErrOf result starved → self.new.calls.faults ≡ self.old.calls.faults }
+        ensures faults { CountsFault failed result self.old.calls.faults self.new.calls.faults }
     {
         if let Err(_) = tell(alloc, &mut self.told, host, request, None) {
             self.calls.count();
@@ -296,10 +290,7 @@ impl Link for MemLink {
         ensures fails { IsErrOf result failed → TellsExchange self.old.told self.new.told
             (record { host = host.now; request = request.now; answer = None }) }
         ensures memory { IsErrOf result starved → IsNone self.new.told }
-        ensures count { self.old.calls.faults ≤ self.new.calls.faults }
-        ensures cause { IsErrOf result failed → Rose self.old.calls.faults self.new.calls.faults }
-        ensures steady { OnOk result (self.new.calls.faults ≡ self.old.calls.faults) }
-        ensures starved { IsErrOf result starved → self.new.calls.faults ≡ self.old.calls.faults }
+        ensures faults { CountsFault failed result self.old.calls.faults self.new.calls.faults }
 
         // An exchange that is answered takes the first answer; one that isn't takes none.
         ensures answered { OnOk result

@@ -1,10 +1,10 @@
 //! Where bytes go to.
-ghost use Rattle.std.specs.Prelude.{◌≡◌, ◌≤◌, ◌++◌, ℕ, List, Option, Some, false, is_ok, OnOk};
+ghost use Rattle.std.specs.Prelude.{◌≡◌, ◌≤◌, ◌+◌, ◌++◌, ℕ, List, Option, Some, false, is_ok, OnOk};
 ghost use Rattle.std.specs.Prelude.{OnErr, if◌then◌else◌};
 ghost use Rattle.std.specs.Io.KnownBytes.{Appends};
-ghost use Rattle.m2m_io.specs.Counts.{Rose, no_calls, fails_next, after_call, after_fault};
-ghost use Rattle.m2m_io.specs.Sides.{Side, no_side};
-ghost use Rattle.m2m_io.specs.Told.{AppendsPrefix};
+ghost use Rattle.m2m_io.specs.Counts.{CountsFaults, no_calls, fails_next, after_call, after_fault, told_calls};
+ghost use Rattle.m2m_io.specs.Sides.{SideTold, no_side};
+ghost use Rattle.m2m_io.specs.Told.{AppendsPrefix, Tells};
 
 use crate::Failed;
 use crate::calls::Calls;
@@ -19,22 +19,24 @@ pub trait Sink {
     /// stops at 2^64 - 1.
     ghost faults: { Self → ℕ };
 
+    /// How many puts the sink has had, those that failed as well, where the sink tells it.
+    ghost puts: { Self → Option ℕ };
+
     /// What a put leaves as it is: the side that is read, of an object that is a source as well.
-    ghost kept_by_put: { Self → Side };
+    ghost kept_by_put: { Self → SideTold };
 
     /// Writes all the bytes. A call that failed wrote a prefix of them; a device that takes none of
     /// what is left of them has failed.
     fn put(&mut self, bytes: &[u8]) -> Result<(), Failed>
         ensures ok { OnOk result (Appends (written self.old) (written self.new) bytes.now) }
         ensures err { OnErr result (AppendsPrefix (written self.old) (written self.new) bytes.now) }
-        ensures count { faults self.old ≤ faults self.new }
-        ensures cause { OnErr result (Rose (faults self.old) (faults self.new)) }
-        ensures steady { OnOk result (faults self.new ≡ faults self.old) }
+        ensures faults { CountsFaults result (faults self.old) (faults self.new) }
+        ensures puts { Tells (λ n. n + 1) (puts self.old) (puts self.new) }
         ensures kept { kept_by_put self.new ≡ kept_by_put self.old };
 }
 
 /// A sink in memory. It fails at the calls that are to fail, and where the growth that a call needs
-/// is refused; then nothing was written.
+/// is refused; then nothing was written. It tells how many puts it had until it has had 2^64 - 1.
 #[derive(Debug, Drop)]
 pub struct MemSink {
     out: Vec<u8>,
@@ -75,6 +77,8 @@ impl Sink for MemSink {
 
     ghost faults = { λ s. s.calls.faults };
 
+    ghost puts = { λ s. told_calls s.calls };
+
     ghost kept_by_put = { λ _. no_side };
 
     fn put(&mut self, bytes: &[u8]) -> Result<(), Failed>
@@ -82,9 +86,8 @@ impl Sink for MemSink {
             (Appends (Some self.old.written) (Some self.new.written) bytes.now) }
         ensures err { OnErr result
             (AppendsPrefix (Some self.old.written) (Some self.new.written) bytes.now) }
-        ensures count { self.old.calls.faults ≤ self.new.calls.faults }
-        ensures cause { OnErr result (Rose self.old.calls.faults self.new.calls.faults) }
-        ensures steady { OnOk result (self.new.calls.faults ≡ self.old.calls.faults) }
+        ensures faults { CountsFaults result self.old.calls.faults self.new.calls.faults }
+        ensures puts { Tells (λ n. n + 1) (told_calls self.old.calls) (told_calls self.new.calls) }
 
         // A call that is to fail fails, and one that failed wrote nothing.
         ensures fails { OnOk result (fails_next self.old.calls ≡ false) }

@@ -3,8 +3,8 @@ ghost use Rattle.std.specs.Prelude.{◌≡◌, ◌<◌, ◌≤◌, ℕ, List, Op
 ghost use Rattle.std.specs.Prelude.{is_err, is_ok, IfOk, OnOk, OnErr, if◌then◌else◌};
 ghost use Rattle.std.specs.Io.{ReadsAtMost};
 ghost use Rattle.std.specs.Io.KnownBytes.{ReadConsumes};
-ghost use Rattle.m2m_io.specs.Counts.{Rose, no_calls, fails_next, after_call, after_fault};
-ghost use Rattle.m2m_io.specs.Sides.{Side, no_side};
+ghost use Rattle.m2m_io.specs.Counts.{CountsFaults, no_calls, fails_next, after_call, after_fault};
+ghost use Rattle.m2m_io.specs.Sides.{SideTold, no_side};
 ghost use Rattle.m2m_io.specs.Source.{next_count};
 
 use crate::Failed;
@@ -21,7 +21,7 @@ pub trait Source {
     ghost faults: { Self → ℕ };
 
     /// What a read leaves as it is: the side that is written, of an object that is a sink as well.
-    ghost kept_by_read: { Self → Side };
+    ghost kept_by_read: { Self → SideTold };
 
     /// Reads some bytes to the front of `buf` and answers how many; 0 only at the end. A read that
     /// failed took nothing.
@@ -29,9 +29,7 @@ pub trait Source {
         requires room { 0 < length buf.old }
         ensures bound { ReadsAtMost result buf.new }
         ensures bytes { ReadConsumes (left self.old) (left self.new) result buf.new }
-        ensures count { faults self.old ≤ faults self.new }
-        ensures cause { OnErr result (Rose (faults self.old) (faults self.new)) }
-        ensures steady { OnOk result (faults self.new ≡ faults self.old) }
+        ensures faults { CountsFaults result (faults self.old) (faults self.new) }
         ensures kept { kept_by_read self.new ≡ kept_by_read self.old };
 }
 
@@ -116,9 +114,7 @@ impl Source for MemSource {
         requires room { 0 < length buf.old }
         ensures bound { ReadsAtMost result buf.new }
         ensures bytes { ReadConsumes (Some self.old.left) (Some self.new.left) result buf.new }
-        ensures count { self.old.calls.faults ≤ self.new.calls.faults }
-        ensures cause { OnErr result (Rose self.old.calls.faults self.new.calls.faults) }
-        ensures steady { OnOk result (self.new.calls.faults ≡ self.old.calls.faults) }
+        ensures faults { CountsFaults result self.old.calls.faults self.new.calls.faults }
 
         // Which reads fail, and how much each other one gives.
         ensures variant { is_err result ≡ fails_next self.old.calls }

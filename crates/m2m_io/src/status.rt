@@ -1,7 +1,7 @@
 //! How the program ends.
 ghost use Rattle.std.specs.Prelude.{◌≡◌, ◌≤◌, ◌++◌, Some, OnOk, OnErr};
 ghost use Rattle.std.specs.Io.KnownBytes.{Appends};
-ghost use Rattle.m2m_io.specs.Counts.{Rose};
+ghost use Rattle.m2m_io.specs.Counts.{CountsFaults};
 ghost use Rattle.m2m_io.specs.Told.{AppendsPrefix};
 ghost use Rattle.m2m_io.specs.Status.{status_number, status_text, status_line};
 
@@ -52,9 +52,7 @@ impl Status {
             (Appends (K.written sink.old) (K.written sink.new) (status_line self)) }
         ensures err { OnErr result
             (AppendsPrefix (K.written sink.old) (K.written sink.new) (status_line self)) }
-        ensures count { K.faults sink.old ≤ K.faults sink.new }
-        ensures cause { OnErr result (Rose (K.faults sink.old) (K.faults sink.new)) }
-        ensures steady { OnOk result (K.faults sink.new ≡ K.faults sink.old) }
+        ensures faults { CountsFaults result (K.faults sink.old) (K.faults sink.new) }
 
         // A status without a text makes no call of the sink, and what a put keeps is kept.
         ensures none { self ≡ Status.Done → sink.new ≡ sink.old }
@@ -95,9 +93,7 @@ fn put_three<K: Sink>(sink: &mut K, a: &[u8], b: &[u8], c: &[u8]) -> Result<(), 
         (a.now ++ (b.now ++ c.now))) }
     ensures err { OnErr result
         (AppendsPrefix (K.written sink.old) (K.written sink.new) (a.now ++ (b.now ++ c.now))) }
-    ensures count { K.faults sink.old ≤ K.faults sink.new }
-    ensures cause { OnErr result (Rose (K.faults sink.old) (K.faults sink.new)) }
-    ensures steady { OnOk result (K.faults sink.new ≡ K.faults sink.old) }
+    ensures faults { CountsFaults result (K.faults sink.old) (K.faults sink.new) }
     ensures kept { K.kept_by_put sink.new ≡ K.kept_by_put sink.old }
 {
     sink.put(a)?;
@@ -111,9 +107,7 @@ fn put_two<K: Sink>(sink: &mut K, a: &[u8], b: &[u8]) -> Result<(), Failed>
     ensures ok { OnOk result (Appends (K.written sink.old) (K.written sink.new) (a.now ++ b.now)) }
     ensures err { OnErr result (AppendsPrefix (K.written sink.old) (K.written sink.new)
         (a.now ++ b.now)) }
-    ensures count { K.faults sink.old ≤ K.faults sink.new }
-    ensures cause { OnErr result (Rose (K.faults sink.old) (K.faults sink.new)) }
-    ensures steady { OnOk result (K.faults sink.new ≡ K.faults sink.old) }
+    ensures faults { CountsFaults result (K.faults sink.old) (K.faults sink.new) }
     ensures kept { K.kept_by_put sink.new ≡ K.kept_by_put sink.old }
 {
     sink.put(a)?;

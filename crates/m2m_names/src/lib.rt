@@ -7,6 +7,12 @@
 //! (`op_row`, `ty_row`, `rsc_row`, `attr_short`) and a variant by its number or name
 //! (`op_of_number`, `ty_of_number`, `rsc_of_number`, `attr_of_short`); a reader answers `None`
 //! exactly outside its table or grammar. Nothing here takes memory, and callers owe nothing.
+//!
+//! ```text
+//! let container = Ty::from_number(3); // Some(Ty::Container), whose short word is `cnt`
+//! let moment = read_stamp(b"20231114T221320"); // Some(1700000000)
+//! write_stamp(1_700_000_000, out)
+//! ```
 #![tactic(auto)]
 
 mod attributes;

@@ -17,6 +17,12 @@
 //! one pass over the value, and its bytes go straight to the end of `out`: no allocation where
 //! there is room for them, and otherwise those by which a vector grows, some fifteen from nothing
 //! to 64 KiB. A size is one pass over the value, without memory.
+//!
+//! ```text
+//! let mut out = Vec::new(alloc);
+//! write(&read(alloc, b"{ \"con\": 21 }")?, &mut out)?;
+//! Ok(out) // {"con":21}
+//! ```
 #![tactic(auto)]
 
 mod copy;

@@ -1,3 +1,4 @@
 pub mod PlaceLemmas
 pub mod SweepLemmas
 pub mod RemovalLemmas
+pub mod AfterLemmas

@@ -44,16 +44,16 @@ none_at : (n : ℕ) (nodes : List ResourceData) → ((k : ℕ) (d : ResourceData
 none_at n [] none = refl
 none_at n (s ∷ nodes) none = rw (ne_eqb s.number n (none 0 s (omega arith))) (none_at n nodes (λ k d within. none (suc k) d (omega arith)))
 
-equal_is : (m n : ℕ) → nat_cmp m n ≡ Equal → m ≡ n
+pub equal_is : (m n : ℕ) → nat_cmp m n ≡ Equal → m ≡ n
 equal_is m n e = grind (arith, nat_tests)
 
-less_is : (m n : ℕ) → nat_cmp m n ≡ Less → m < n
+pub less_is : (m n : ℕ) → nat_cmp m n ≡ Less → m < n
 less_is m n e = grind (arith, nat_tests)
 
-greater_is : (m n : ℕ) → nat_cmp m n ≡ Greater → n < m
+pub greater_is : (m n : ℕ) → nat_cmp m n ≡ Greater → n < m
 greater_is m n e = grind (arith, nat_tests)
 
-below_not_above : (m n : ℕ) → m < n → is_lt (nat_cmp n m) ≡ false
+pub below_not_above : (m n : ℕ) → m < n → is_lt (nat_cmp n m) ≡ false
 below_not_above m n less = grind (arith, nat_tests)
 
 searchable : (nodes : List ResourceData) (n : ℕ) → AreAscending nodes → IsNonDecreasingBy (λ r. ordering_index (nat_cmp r.number n)) nodes

@@ -1,16 +1,16 @@
 -- What a removal in place tests, and what it would test of the whole.
-use Rattle.std.specs.Prelude.{◌==◌, nat_le}
-use Rattle.std.proofs.Common.{◌≡◌, ℕ, List, [], ◌∷◌, ◌++◌, take, drop, Bool, true, false, cond, not, ◌&&◌, ◌||◌, Option, Some, None, inl, inr, refl, sym, ap, ◌∙◌}
+use Rattle.std.specs.Prelude.{◌==◌}
+use Rattle.std.proofs.Common.{◌≡◌, ℕ, List, ◌++◌, take, drop, Bool, true, false, cond, not, ◌&&◌, ◌||◌, Option, Some, None, inl, inr, refl, sym, ap, ◌∙◌}
 use Rattle.std.proofs.lemmas.Bool.{cases_Bool, or_cases, eqb-true, both_ways}
-use Rattle.std.specs.Option.{option_map_or, option_or}
-use Rattle.resource_model.specs.Resource.{ResourceData, has_number}
+use Rattle.std.specs.Option.{option_or}
+use Rattle.resource_model.specs.Resource.{ResourceData}
 use Rattle.plain_tree.specs.Removal.{picks_of}
 use Rattle.tree_model.specs.Tree.{at, has, stays, staying, without, is_spared, is_due, is_due_under, is_tree}
 use Rattle.plain_tree.specs.declared.removing.Removal.{Removal}
-use Rattle.plain_tree.specs.declared.removing.Removal.TheVariants.{Of, Due}
+use Rattle.plain_tree.specs.declared.removing.Removal.TheVariants.{Of, Those, Due}
 use Rattle.tree_model.proofs.GrowthLemmas.{zero_lacks, at-without}
 use Rattle.plain_tree.proofs.SweepLemmas.{IsSwept}
-use Rattle.tree_model.proofs.TreeLemmas.{at_has, at_none, at-append, has_at}
+use Rattle.tree_model.proofs.TreeLemmas.{at_none, at-append, has_at}
 
 and_no : (a : Bool) → (a && false) ≡ false
 and_no true = refl
@@ -44,6 +44,7 @@ parent_same p all front rest r tree is may = elim (cases_Bool (has r.parent fron
 -- a pick is tested among what stayed as among all, where the parent stayed
 pub picked_stays : (removal : Removal) (all now : List ResourceData) (stayed place : ℕ) (r : ResourceData) → is_tree all ≡ true → IsSwept (picks_of removal all) all now stayed place → stays (picks_of removal (take stayed now)) (take stayed now) r ≡ stays (picks_of removal all) (take stayed now) r
 picked_stays (Of n) all now stayed place r tree h = refl
+picked_stays (Those numbers) all now stayed place r tree h = refl
 picked_stays (Due moment) all now stayed place r tree h = elim (cases_Bool ((r.parent == 0) || has r.parent (take stayed now))) [
   | inl may ↦
       let same : at r.parent (take stayed now) ≡ at r.parent all = parent_same (is_due all moment) all (take stayed now) (staying (is_due all moment) (take stayed now) (drop place now)) r tree h.pass may in

@@ -1,7 +1,7 @@
 -- A removal in place: what has stayed so far, and what is still to be passed over.
 use Rattle.std.proofs.Common.{◌≡◌, ℕ, ◌+◌, ◌<◌, ◌≤◌, List, [], ◌∷◌, ◌++◌, map, length, take, drop, get_or, set, Bool, true, false, inl, inr, refl, sym, ap, ◌∙◌, subst, arith, append_assoc}
 use Rattle.std.proofs.lemmas.Bool.{cases_lt}
-use Rattle.std.proofs.lemmas.List.{append-nil, drop_more, drop_all, map-append, take_more_set, take-set-le, drop-set-lt, set-set, length-set}
+use Rattle.std.proofs.lemmas.List.{drop_more, map-append, take_more_set, take-set-le, drop-set-lt, set-set, length-set}
 use Rattle.std.specs.List.{AllByRecursion}
 use Rattle.std.specs.List.Sorted.{IsStrictlySortedBy}
 use Rattle.std.specs.Ordering.{nat_cmp}

@@ -6,11 +6,18 @@
 //! is one pass in place, which searches for no parent. `ListTree` keeps besides a moment before
 //! which nothing is due. Callers owe the conditions of `insert` and `replace`. Only an insert takes
 //! memory.
+//!
+//! ```text
+//! let mut tree = ListTree::new(alloc);
+//! let fits = may_insert(&tree, &resource);
+//! tree.len()
+//! ```
 #![tactic(auto)]
 
 mod finding;
 mod list_tree;
 mod nodes;
+mod overdue;
 mod places;
 mod placing;
 mod removing;

@@ -6,6 +6,7 @@ use crate::finding::{
 };
 use crate::nodes::Nodes;
 use m2m_names::Ty;
+use m2m_value::Numbers;
 use resource_model::Resource;
 use std::alloc::{AllocError as OutOfMemory, Global};
 use std::marker::Model;
@@ -63,6 +64,10 @@ impl Tree for ListTree {
         self.nodes.nth(k)
     }
 
+    fn after(&self, number: u64) -> Option<&Resource> {
+        self.nodes.after(number)
+    }
+
     fn get(&self, number: u64) -> Option<&Resource> {
         self.nodes.look_up(number)
     }
@@ -87,8 +92,8 @@ impl Tree for ListTree {
         }
     }
 
-    fn instance_at(&self, container: u64, k: u64) -> Option<u64> {
-        kin_in(self.nodes.entries(), Ty::ContentInstance, container, k)
+    fn instance_after(&self, container: u64, number: u64) -> Option<u64> {
+        self.nodes.instance_after(container, number)
     }
 
     fn instance_count(&self, container: u64) -> u64 {
@@ -115,6 +120,15 @@ impl Tree for ListTree {
         self.quiet
     }
 
+    fn due_numbers(&self, alloc: Global, moment: u64) -> Result<Numbers, OutOfMemory> {
+        // That it is a tree is told by its length.
+        let _count = self.nodes.len();
+        if moment < self.quiet {
+            return Ok(Numbers::of(Vec::new(alloc)));
+        }
+        Ok(Numbers::of(self.nodes.overdue(alloc, moment)?))
+    }
+
     fn insert(&mut self, resource: Resource) -> Result<(), (Resource, OutOfMemory)> {
         self.quiet = earlier(self.quiet, self.nodes.due(&resource));
         self.nodes.push(resource)
@@ -135,6 +149,10 @@ impl Tree for ListTree {
 
     fn remove_subtree(&mut self, number: u64) {
         self.nodes.remove_subtree(number)
+    }
+
+    fn remove_all(&mut self, numbers: &[u64]) {
+        self.nodes.remove_all(numbers)
     }
 
     fn expire(&mut self, moment: u64) {

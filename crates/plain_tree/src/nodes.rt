@@ -1,6 +1,6 @@
 //! The list of resources that every tree keeps.
-ghost use Rattle.std.specs.Prelude.{◌≡◌, ◌+◌, ◌<◌, ◌≤◌, IsSome, List, [], ◌∷◌, ◌++◌, length};
-ghost use Rattle.std.specs.Prelude.{slice_get, IsTrue, OnOk, OnErr, IfErr, Some, option_map};
+ghost use Rattle.std.specs.Prelude.{◌≡◌, ◌≢◌, ◌+◌, ◌<◌, ◌≤◌, IsSome, List, [], ◌∷◌, ◌++◌, length};
+ghost use Rattle.std.specs.Prelude.{slice_get, IsTrue, IfOk, OnOk, OnErr, IfErr, Some, option_map};
 ghost use Rattle.m2m_names.specs.Ids.{count_bound};
 ghost use Rattle.m2m_names.specs.Stamps.{last_moment};
 ghost use Rattle.m2m_names.specs.declared.attributes.Attr.TheVariants.{St};
@@ -8,12 +8,15 @@ ghost use Rattle.resource_model.specs.Attributes.{value_of};
 ghost use Rattle.resource_model.specs.Resource.{ResourceData, has_number};
 ghost use Rattle.tree_model.specs.Tree.{at, due, are_quiet, live, replaced, restamped, may_stand};
 ghost use Rattle.tree_model.specs.Tree.{restamped_at, has_state, without, is_tree, standing};
-ghost use Rattle.tree_model.specs.Tree.{AreAscending};
+ghost use Rattle.tree_model.specs.Tree.{AreAscending, DoAscend, instances_of, next_after};
+ghost use Rattle.tree_model.specs.Tree.{overdue_numbers, resource_number, without_all};
 
+use crate::finding::kin_after;
+use crate::overdue::overdue_in;
 use crate::places::Places;
-use crate::placing::{due_in, found, place};
-use crate::removing::{Removal, quiet_in, sweep_out};
-use m2m_names::Attr;
+use crate::placing::{due_in, found, found_after, place};
+use crate::removing::{Removal, quiet_in, sweep_out, sweep_out_all};
+use m2m_names::{Attr, Ty};
 use m2m_value::Val;
 use resource_model::Resource;
 use std::alloc::{AllocError as OutOfMemory, Global};
@@ -102,6 +105,28 @@ impl Nodes {
         due_in(&self.resources, resource)
     }
 
+    // The first resource that comes after a number.
+    pub(crate) fn after(&self, number: u64) -> Option<&Resource>
+        ensures { option_map (λ r. r.now) result ≡ next_after number self.now }
+    {
+        found_after(&self.resources, number)
+    }
+
+    // The first instance of a container that comes after a number.
+    pub(crate) fn instance_after(&self, container: u64, number: u64) -> Option<u64>
+        ensures { result ≡ resource_number (next_after number (instances_of container self.now)) }
+    {
+        kin_after(&self.resources, Ty::ContentInstance, container, number)
+    }
+
+    // The numbers of what is overdue at a moment.
+    pub(crate) fn overdue(&self, alloc: Global, moment: u64) -> Result<Vec<u64>, OutOfMemory>
+        ensures value { IfOk result (λ v. v.items ≡ overdue_numbers moment self.now) }
+        ensures memory { OnErr result (overdue_numbers moment self.now ≢ []) }
+    {
+        overdue_in(alloc, &self.resources, moment)
+    }
+
     // A moment before which nothing is due.
     pub(crate) fn quiet(&self) -> u64
         ensures { IsTrue (are_quiet result self.now) }
@@ -153,6 +178,15 @@ impl Nodes {
         ensures tree { IsTrue (is_tree self.old) }
     {
         sweep_out(&mut self.resources, &mut self.places, Removal::Of(number))
+    }
+
+    // Removes the resources of these numbers, which ascend, with all that stands below them.
+    pub(crate) fn remove_all(&mut self, numbers: &[u64])
+        requires { DoAscend numbers.now }
+        ensures value { self.new ≡ without_all numbers.now self.old }
+        ensures tree { IsTrue (is_tree self.old) }
+    {
+        sweep_out_all(&mut self.resources, &mut self.places, numbers)
     }
 
     // Removes what is due at a moment, with all that stands below it.

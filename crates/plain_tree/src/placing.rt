@@ -1,12 +1,12 @@
 //! Where a number stands among resources whose numbers ascend.
-ghost use Rattle.std.specs.Prelude.{◌≡◌, ◌-◌, ◌==◌, ◌||◌, nat_lt, true, false, None, option_map};
-ghost use Rattle.std.specs.Prelude.{MatchResult, slice_get};
+ghost use Rattle.std.specs.Prelude.{◌≡◌, ◌≤◌, ◌-◌, ◌==◌, ◌||◌, nat_le, nat_lt, true, false, None};
+ghost use Rattle.std.specs.Prelude.{MatchResult, drop, length, option_map, slice_get};
 ghost use Rattle.std.specs.Bool.{OnTrue};
 ghost use Rattle.std.specs.Option.{option_map_or};
 ghost use Rattle.std.specs.Ordering.{nat_cmp};
 ghost use Rattle.resource_model.specs.Resource.{ResourceData, has_number};
 ghost use Rattle.tree_model.specs.Tree as spec;
-ghost use Rattle.tree_model.specs.Tree.{at, AreAscending, StandsAt};
+ghost use Rattle.tree_model.specs.Tree.{all_after, at, next_after, AreAscending, StandsAt};
 
 use resource_model::Resource;
 use std::cmp::Ordering;
@@ -89,7 +89,8 @@ fn is_below_next(resources: &[Resource], number: u64, place: usize) -> bool
     }
 }
 
-fn at_place(resources: &[Resource], at: usize) -> Option<&Resource>
+/// The resource at a place.
+pub(crate) fn at_place(resources: &[Resource], at: usize) -> Option<&Resource>
     ensures { option_map (λ r. r.now) result ≡ slice_get resources.now at }
 {
     resources.get(at)
@@ -102,6 +103,29 @@ fn is_number_at(resources: &[Resource], number: u64, at: usize) -> bool
         Some(resource) => resource.number() == number,
         None => false,
     }
+}
+
+fn is_until(resource: &Resource, number: u64) -> bool
+    ensures { result ≡ nat_le resource.now.number number }
+{
+    resource.number() <= number
+}
+
+/// The place behind the resources with at most this number: those that come after it stand there.
+pub(crate) fn place_after(resources: &[Resource], number: u64) -> usize
+    requires { AreAscending resources.now }
+    ensures bound { result ≤ length resources.now }
+    ensures value { all_after number resources.now ≡ drop result resources.now }
+{
+    resources.partition_point(|resource| is_until(resource, number))
+}
+
+/// The first resource that comes after a number.
+pub(crate) fn found_after(resources: &[Resource], number: u64) -> Option<&Resource>
+    requires { AreAscending resources.now }
+    ensures { option_map (λ r. r.now) result ≡ next_after number resources.now }
+{
+    at_place(resources, place_after(resources, number))
 }
 
 /// When a resource is due whose parent stands there.

@@ -1,9 +1,12 @@
 //! Removals in place, and when what is left is due.
-ghost use Rattle.std.specs.Prelude.{◌≡◌, nat_le, false, IsTrue, is_some, option_map};
+ghost use Rattle.std.specs.Prelude.{◌≡◌, List, nat_eq, nat_le, false, IsTrue, is_some, option_map};
+ghost use Rattle.std.specs.List.{list_any};
 ghost use Rattle.std.specs.Option.{option_map_or};
-ghost use Rattle.plain_tree.specs.Removal.{picks_of, picks_under};
+ghost use Rattle.resource_model.specs.Resource.{ResourceData};
+ghost use Rattle.plain_tree.specs.Removal.{picks_of, picks_under, IsInOrder};
 ghost use Rattle.tree_model.specs.Tree as spec;
 ghost use Rattle.tree_model.specs.Tree.{stays, without, is_tree, are_quiet, AreAscending};
+ghost use Rattle.tree_model.specs.Tree.{without_all, DoAscend};
 
 use crate::places::Places;
 use crate::placing::{due_near, found_near};
@@ -12,9 +15,11 @@ use tree_model::{due_under, earlier};
 
 /// What a removal takes, besides all that stands below it.
 #[derive(Clone, Copy)]
-pub(crate) enum Removal {
+pub(crate) enum Removal<'a> {
     /// The resource of a number.
     Of(u64),
+    /// The resources of these numbers, which ascend.
+    Those(&'a [u64]),
     /// What is due at a moment.
     Due(u64),
 }
@@ -29,11 +34,25 @@ fn is_due_under(parent: Option<&Resource>, resource: &Resource, moment: u64) -> 
     }
 }
 
-fn is_picked(parent: Option<&Resource>, resource: &Resource, removal: Removal) -> bool
-    ensures { result ≡ picks_under removal (option_map (λ r. r.now) parent.entry) resource.now }
+// Whether a number is one of these.
+fn is_among(numbers: &[u64], number: u64) -> bool
+    requires { DoAscend numbers.now }
+    ensures { result ≡ list_any (nat_eq number) numbers.now }
+{
+    match numbers.binary_search(&number) {
+        Ok(_) => true,
+        Err(_) => false,
+    }
+}
+
+fn is_picked(parent: Option<&Resource>, resource: &Resource, removal: Removal<'_>) -> bool
+    requires { IsInOrder removal }
+    ensures { result
+        ≡ picks_under removal.entry (option_map (λ r. r.now) parent.entry) resource.now }
 {
     match removal {
         Removal::Of(number) => resource.number() == number,
+        Removal::Those(numbers) => is_among(numbers, resource.number()),
         Removal::Due(moment) => is_due_under(parent, resource, moment),
     }
 }
@@ -50,19 +69,21 @@ fn is_there(parent: Option<&Resource>) -> bool
 // Whether the resource stays, where these before it did. Its parent is likely to stand near, or
 // would stand there if it hadn't gone.
 #[tactic(auto, using(tree_model::proofs::TreeLemmas::there))]
-fn does_stay(stayed: &[Resource], near: usize, resource: &Resource, removal: Removal) -> bool
-    requires { AreAscending stayed.now }
-    ensures { result ≡ stays (picks_of removal stayed.now) stayed.now resource.now }
+fn does_stay(stayed: &[Resource], near: usize, resource: &Resource, removal: Removal<'_>) -> bool
+    requires order { AreAscending stayed.now }
+    requires removal { IsInOrder removal }
+    ensures { result ≡ stays (picks_of removal.entry stayed.now) stayed.now resource.now }
 {
     let parent = found_near(stayed, resource.parent(), near);
     !is_picked(parent, resource, removal) && (resource.parent() == 0 || is_there(parent))
 }
 
 /// Removes what a removal takes, in one pass.
-pub(crate) fn sweep_out(resources: &mut Vec<Resource>, places: &mut Places, removal: Removal)
-    requires { IsTrue (is_tree resources.old.items) }
+pub(crate) fn sweep_out(resources: &mut Vec<Resource>, places: &mut Places, removal: Removal<'_>)
+    requires tree { IsTrue (is_tree resources.old.items) }
+    requires removal { IsInOrder removal }
     ensures { resources.new.items ≡ without
-        (picks_of removal resources.old.items) resources.old.items }
+        (picks_of removal.entry resources.old.items) resources.old.items }
 {
     let mut stayed = 0;
     for at in 0..resources.len() {
@@ -77,6 +98,32 @@ pub(crate) fn sweep_out(resources: &mut Vec<Resource>, places: &mut Places, remo
     }
     resources.truncate(stayed);
     places.truncate(stayed);
+}
+
+/// Removes the resources of these numbers, with all that stands below them: of none it looks at
+/// nothing.
+pub(crate) fn sweep_out_all(resources: &mut Vec<Resource>, places: &mut Places, numbers: &[u64])
+    requires tree { IsTrue (is_tree resources.old.items) }
+    requires order { DoAscend numbers.now }
+    ensures { resources.new.items ≡ without_all numbers.now resources.old.items }
+{
+    if numbers.is_empty() {
+        return;
+    }
+    sweep_out(resources, places, removal_of(numbers));
+}
+
+// One number needs no search among numbers.
+fn removal_of(numbers: &[u64]) -> Removal<'_>
+    requires { DoAscend numbers.now }
+    ensures order { IsInOrder result }
+    ensures picks { (nodes : List ResourceData)
+        → without (picks_of result nodes) nodes ≡ without_all numbers.now nodes }
+{
+    match numbers {
+        [number] => Removal::Of(*number),
+        _ => Removal::Those(numbers),
+    }
 }
 
 /// The first moment at which one of them is due, or the last number.

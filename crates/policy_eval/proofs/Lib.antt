@@ -1,14 +1,3 @@
 pub mod FormLemmas
 pub mod BitLemmas
-pub mod RemovalLemmas
-pub mod AlikeLemmas
-pub mod SeenLemmas
-pub mod DueLemmas
 pub mod NameLemmas
-pub mod EqualLemmas
-pub mod RetrievedLemmas
-pub mod TwiceLemmas
-pub mod LookupLemmas
-pub mod AppendLemmas
-pub mod ReplaceLemmas
-pub mod ShapeLemmas

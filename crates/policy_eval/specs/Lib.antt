@@ -2,8 +2,3 @@ pub mod Originators
 pub mod Rules
 pub mod Rights
 pub mod Forms
-pub mod Laws
-pub mod Alike
-pub mod Seen
-pub mod Changes
-pub mod Shape

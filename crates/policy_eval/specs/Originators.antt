@@ -25,11 +25,12 @@ stem_of text = take (length text - 1) text
 
 -- the full form of a text stands at the front of the originator's
 abbrev pub is_front : HomeData → List ℕ → List ℕ → Bool
-is_front home o text = starts_with nat_eq (full_form home o) (full_form home text)
+is_front home originator text = starts_with nat_eq (full_form home originator) (full_form home text)
 
 -- the entry ends in `*`, and what stands before it is the front of the originator's full form
 abbrev pub fits_pattern : HomeData → List ℕ → List ℕ → Bool
-fits_pattern home o entry = ends_with nat_eq entry (codes "*") && is_front home o (stem_of entry)
+fits_pattern home originator entry =
+    ends_with nat_eq entry (codes "*") && is_front home originator (stem_of entry)
 
 -- the entry that names everyone
 abbrev pub everyone : List ℕ
@@ -37,6 +38,6 @@ everyone = codes "all"
 
 -- an entry of `acor` names the originator (TS-0001, 9.6.2.1)
 abbrev pub does_name : HomeData → List ℕ → List ℕ → Bool
-does_name home o entry =
+does_name home originator entry =
     bytes_eq entry everyone || bytes_eq entry (codes "*")
-    || is_same home o entry || fits_pattern home o entry
+    || is_same home originator entry || fits_pattern home originator entry

@@ -34,21 +34,21 @@ notify_bit = (op_row Notify).bit
 
 -- the originator is one of these
 abbrev pub is_subject : HomeData → List ℕ → Subjects → Bool
-is_subject home o (named entries) = list_any (does_name home o) entries
-is_subject home o (only text) = is_same home o text
+is_subject home originator (named entries) = list_any (does_name home originator) entries
+is_subject home originator (only text) = is_same home originator text
 
 -- these bits and those of a rule that is for the originator
 abbrev pub with_rule : HomeData → List ℕ → ℕ → Rule → ℕ
-with_rule home o bits rule =
-    if is_subject home o rule.subjects then bit_or bits rule.bits else bits
+with_rule home originator bits rule =
+    if is_subject home originator rule.subjects then bit_or bits rule.bits else bits
 
 -- these bits and those of all rules that are for the originator
 abbrev pub with_rules : HomeData → List ℕ → ℕ → List Rule → ℕ
-with_rules home o bits rules = fold (with_rule home o) bits rules
+with_rules home originator bits rules = fold (with_rule home originator) bits rules
 
 -- the bits that the originator has by rules: the union over those that are for it
 abbrev pub bits_by : HomeData → List ℕ → List Rule → ℕ
-bits_by home o rules = with_rules home o 0 rules
+bits_by home originator rules = with_rules home originator 0 rules
 
 -- all bits that are wanted are among those that are had
 abbrev pub has_bits : ℕ → ℕ → Bool
@@ -56,22 +56,23 @@ has_bits had wanted = bit_and had wanted == wanted
 
 -- whether rules give the originator these bits
 abbrev pub do_give : HomeData → List ℕ → ℕ → List Rule → Bool
-do_give home o wanted rules = has_bits (bits_by home o rules) wanted
+do_give home originator wanted rules = has_bits (bits_by home originator rules) wanted
 
 -- whether the rules of the resource of a number do; nobody has a right on what isn't there
 abbrev pub gives_at : (ResourceData → List Rule) → HomeData → List ResourceData → List ℕ → ℕ → ℕ →
     Bool
-gives_at rules home nodes o wanted n =
-    option_map_or (λ r. do_give home o wanted (rules r)) (at n nodes) false
+gives_at rules home nodes originator wanted n =
+    option_map_or (λ r. do_give home originator wanted (rules r)) (at n nodes) false
 
 -- the originator may do this to the resource of the number
 abbrev pub grants : HomeData → List ResourceData → List ℕ → ℕ → ℕ → Bool
-grants home nodes o wanted n = gives_at (rules_of nodes) home nodes o wanted n
+grants home nodes originator wanted n = gives_at (rules_of nodes) home nodes originator wanted n
 
 -- the originator may change its `acpi`
 abbrev pub relinks : HomeData → List ResourceData → List ℕ → ℕ → Bool
-relinks home nodes o n = gives_at (link_rules nodes) home nodes o update_bit n
+relinks home nodes originator n = gives_at (link_rules nodes) home nodes originator update_bit n
 
 -- the originator may do this through the group of the number
 abbrev pub fan_grants : HomeData → List ResourceData → List ℕ → ℕ → ℕ → Bool
-fan_grants home nodes o wanted n = gives_at (fan_rules nodes) home nodes o wanted n
+fan_grants home nodes originator wanted n =
+    gives_at (fan_rules nodes) home nodes originator wanted n

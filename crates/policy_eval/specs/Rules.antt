@@ -2,7 +2,7 @@
 use Rattle.std.specs.Prelude.{ℕ, nat_le, nat_lt, ℤ, pos, negsuc, Bool}
 use Rattle.std.specs.Prelude.{List, [], ◌∷◌, ◌++◌, length, map}
 use Rattle.std.specs.Prelude.{Option, Some, None, option_and_then, unwrap_or, if◌then◌else◌}
-use Rattle.std.specs.List.{filter_map, flat_map}
+use Rattle.std.specs.List.{filter_map, flat_map, list_any}
 use Rattle.std.specs.Option.{option_map_or, option_or}
 use Rattle.m2m_names.specs.declared.attributes.Attr.{Attr}
 use Rattle.m2m_names.specs.declared.attributes.Attr.TheVariants.{Acpi, Macp, Pv, Pvs}
@@ -14,7 +14,7 @@ use Rattle.m2m_names.specs.Members.{acr_name, acor_name, acop_name}
 use Rattle.m2m_names.specs.Operations.{all_bits}
 use Rattle.m2m_value.specs.Data.{Data, number, text, list, object, elements_of, pairs_of}
 use Rattle.m2m_value.specs.View.{as_list, as_number, as_object, as_text, member_of}
-use Rattle.resource_model.specs.Attributes.{value_of}
+use Rattle.resource_model.specs.Attributes.{is_attr, value_of}
 use Rattle.resource_model.specs.Resource.{ResourceData, is_ty, ae_id, cse_id}
 use Rattle.tree_model.specs.Tree.{at, of_type, resource_of_id, typed_at}
 
@@ -103,6 +103,10 @@ rules_by attr nodes ids =
     flat_map (λ (p : ResourceData). rules_in (value_of attr p.attrs)) (policies_of nodes ids)
 
 -- ---- the rules of a resource
+
+-- one of these attributes
+abbrev pub is_attr_in : List Attr → Attr → Bool
+is_attr_in attrs a = list_any (is_attr a) attrs
 
 -- the ids that an attribute of it lists; an empty list is as good as none
 abbrev pub ids_at : Attr → ResourceData → List Data

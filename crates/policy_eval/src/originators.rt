@@ -50,29 +50,29 @@ pub fn is_same(home: &Home, a: &[u8], b: &[u8]) -> bool
 }
 
 /// Whether the full form of a text stands at the front of the originator's.
-fn is_front(home: &Home, o: &[u8], text: &[u8]) -> bool
-    ensures { result ≡ spec.is_front home.now o.now text.now }
+fn is_front(home: &Home, originator: &[u8], text: &[u8]) -> bool
+    ensures { result ≡ spec.is_front home.now originator.now text.now }
 {
-    match (form_of(home, o), form_of(home, text)) {
-        (Form::Own(o), Form::Own(text)) => o.starts_with(text),
-        (Form::Other(o), Form::Other(text)) => o.starts_with(text),
+    match (form_of(home, originator), form_of(home, text)) {
+        (Form::Own(originator), Form::Own(text)) => originator.starts_with(text),
+        (Form::Other(originator), Form::Other(text)) => originator.starts_with(text),
         (Form::Own(_), Form::Other(text)) => home.csi().entries().starts_with(text),
         (Form::Other(_), Form::Own(_)) => false,
     }
 }
 
-fn fits_pattern(home: &Home, o: &[u8], entry: &[u8]) -> bool
-    ensures { result ≡ spec.fits_pattern home.now o.now entry.now }
+fn fits_pattern(home: &Home, originator: &[u8], entry: &[u8]) -> bool
+    ensures { result ≡ spec.fits_pattern home.now originator.now entry.now }
 {
-    entry.ends_with(b"*".as_slice()) && is_front(home, o, &entry[..entry.len() - 1])
+    entry.ends_with(b"*".as_slice()) && is_front(home, originator, &entry[..entry.len() - 1])
 }
 
 /// Whether an entry of `acor` names the originator.
-pub fn does_name(home: &Home, o: &[u8], entry: &[u8]) -> bool
-    ensures { result ≡ spec.does_name home.now o.now entry.now }
+pub fn does_name(home: &Home, originator: &[u8], entry: &[u8]) -> bool
+    ensures { result ≡ spec.does_name home.now originator.now entry.now }
 {
     entry == b"all".as_slice()
         || entry == b"*".as_slice()
-        || is_same(home, o, entry)
-        || fits_pattern(home, o, entry)
+        || is_same(home, originator, entry)
+        || fits_pattern(home, originator, entry)
 }

@@ -15,6 +15,12 @@
 //! conditions of a filter stand in one table each, in byte order of their names, in which a name
 //! is looked up; a request is judged member by member before anything is copied, so that a fault
 //! takes memory for its name alone. Reading and writing are linear in the value.
+//!
+//! ```text
+//! let request = request_from(alloc, value)?; // or the first fault of the value
+//! let operation = request.parts().op;
+//! Ok(write_request(alloc, &request)?)
+//! ```
 #![tactic(auto)]
 
 mod bounds;

@@ -1,4 +1,4 @@
-pub mod HeldLemmas
+pub mod BufferLemmas
 pub mod LineLemmas
 pub mod LimitLemmas
 pub mod StandLemmas

@@ -1,11 +1,8 @@
 -- One line taken, and what stands next.
-use Rattle.std.proofs.Common.{◌≡◌, ℕ, ◌+◌, ◌≤◌, List, [], ◌∷◌, ◌++◌, length, Option, Some, None, IfSome, MatchOption, Err, refl, sym, ap, subst, arith, append-nil}
-use Rattle.std.proofs.KnownBytes.{Appends-nil}
+use Rattle.std.proofs.Common.{◌≡◌, ℕ, ◌+◌, ◌≤◌, List, [], ◌∷◌, ◌++◌, length, Option, Some, None, IfSome, MatchOption, Err, inl, inr, refl, sym, ap, subst, arith, append-nil}
 use Rattle.std.specs.Io.KnownBytes.{IsAtEnd, Keeps, prepend_known}
 use Rattle.std.specs.Str.Lines.{lines}
-use Rattle.m2m_io.specs.Link.{Exchange}
-use Rattle.m2m_io.specs.Outside.{Outside, outside}
-use Rattle.m2m_io.specs.Told.{AppendsPrefix}
+use Rattle.cse_server.specs.Outside.{LinkTold, Outside, Puts, SinkTold, outside}
 use Rattle.m2m_io.specs.declared.status.Status.{Status}
 use Rattle.m2m_io.specs.declared.status.Status.TheVariants.{Done, Usage, BadLine, ReadFault, WriteFault, Memory, BadStream}
 use Rattle.primitive_json.specs.declared.reply.ReplyParts.{ReplyParts}
@@ -14,12 +11,12 @@ use Rattle.turn_desk.specs.Entries.{entry_of}
 use Rattle.entity_model.specs.Entity.{EntityData}
 use Rattle.cse_machine.specs.declared.event.Event.TheVariants.{Ask as AskEvent}
 use Rattle.cse_server.proofs.RepliesLemmas.{gives-one}
-use Rattle.cse_server.proofs.PutLemmas.{prefix_none}
-use Rattle.cse_server.proofs.WayLemmas.{Tells-nil}
+use Rattle.cse_server.proofs.LinkLemmas.{carries_nothing}
+use Rattle.cse_server.proofs.PutLemmas.{puts_none, puts_nothing}
 use Rattle.primitive_replay.specs.Front.{HasNoEnd, held_limit}
-use Rattle.primitive_replay.specs.Script.{AsksLines, StopsRightly, Replays, ReplaysFrom, Writes, WritesMost, reply_line, script}
+use Rattle.primitive_replay.specs.Script.{AsksLines, StopsRightly, Replays, ReplaysFrom, Writes, reply_line, reply_lines}
 use Rattle.primitive_replay.specs.Stream.{BeginsBadly, BeginsWithLines, LeadsTo, NextIs, HoldsLittle}
-use Rattle.primitive_replay.specs.Way.{RepliesTo, ReplaysUpTo, WritesReply, TakesLine, fault_status}
+use Rattle.primitive_replay.specs.Way.{RepliesTo, ReplaysUpTo, WritesReplies, WritesText, TakesLine, fault_status}
 use Rattle.primitive_replay.specs.declared.fault.LineFault.{LineFault}
 use Rattle.primitive_replay.specs.declared.fault.LineFault.TheVariants.{Bad, ReadFault as Unread, OutOfMemory as Starved}
 use Rattle.primitive_replay.specs.declared.line.Line.{Line}
@@ -28,70 +25,82 @@ use Rattle.primitive_replay.specs.declared.line.Line.TheVariants.{Empty, Reading
 -- ---- one line
 
 -- nothing was asked
-abbrev asks_nothing : (reading : ℕ) (e : EntityData) (told : Option (List Exchange)) → AsksLines reading e e told told []
+abbrev asks_nothing : (reading : ℕ) (e : EntityData) (told : LinkTold) → AsksLines reading e e told told []
 asks_nothing reading e told = record {
   history = [];
   replies = [];
-  exchanges = [];
+  carried = [];
   leaves = refl;
   readings_are = refl;
   events_are = refl;
   gives = refl;
-  link = Tells-nil told;
+  link = carries_nothing told;
 }
 
-pub takes_empty : (reading : ℕ) (e : EntityData) (told : Option (List Exchange)) (out : Option (List ℕ)) → TakesLine reading reading e e told told out out Empty None
+pub takes_empty : (reading : ℕ) (e : EntityData) (told : LinkTold) (out : SinkTold) → TakesLine reading reading e e told told out out Empty None
 takes_empty reading e told out = record {
   asks = record {
     history = [];
     replies = [];
-    exchanges = [];
+    carried = [];
     leaves = refl;
     readings_are = refl;
     events_are = refl;
     gives = refl;
-    link = Tells-nil told;
+    link = carries_nothing told;
   };
-  one_at_most = omega arith;
   reads = refl;
-  said = Appends-nil out;
+  said = puts_none out;
 }
 
-pub takes_reading : (reading moment : ℕ) (e : EntityData) (told : Option (List Exchange)) (out : Option (List ℕ)) → TakesLine reading moment e e told told out out (Reading moment) None
+pub takes_reading : (reading moment : ℕ) (e : EntityData) (told : LinkTold) (out : SinkTold) → TakesLine reading moment e e told told out out (Reading moment) None
 takes_reading reading moment e told out = record {
   asks = record {
     history = [];
     replies = [];
-    exchanges = [];
+    carried = [];
     leaves = refl;
     readings_are = refl;
     events_are = refl;
     gives = refl;
-    link = Tells-nil told;
+    link = carries_nothing told;
   };
-  one_at_most = omega arith;
   reads = refl;
-  said = Appends-nil out;
+  said = puts_none out;
 }
 
-pub takes_request : (reading : ℕ) (before after : EntityData) (told : Option (List Exchange)) (old new : Option (List ℕ))
+-- the line of one reply
+one_line : (status : Option Status) (reply : ReplyParts) (old new : SinkTold) → WritesText status (reply_line reply) old new → WritesReplies status (reply ∷ []) old new
+one_line None reply old new said = subst (λ (v : List ℕ). Puts v 1 old new) (sym (append-nil (reply_line reply))) said
+one_line (Some Done) reply old new said = said
+one_line (Some Usage) reply old new said = said
+one_line (Some (BadLine n)) reply old new said = said
+one_line (Some ReadFault) reply old new said = said
+one_line (Some WriteFault) reply old new said = record {
+  between = old;
+  before = record { whole = []; last = reply; replies_are = refl; said = puts_none old };
+  part = said;
+}
+one_line (Some Memory) reply old new said = record { whole = []; last = reply; replies_are = refl; said = puts_nothing old new said }
+one_line (Some BadStream) reply old new said = said
+
+pub takes_request : (reading : ℕ) (before after : EntityData) (told : LinkTold) (old new : SinkTold)
     (request : RequestParts) (reply : ReplyParts) (status : Option Status)
-    → RepliesTo reading before request reply after → WritesReply status old new (reply_line reply)
+    → RepliesTo reading before request reply after → WritesText status (reply_line reply) old new
     → TakesLine reading reading before after told told old new (Ask request) status
 takes_request reading before after told old new request reply status a said = record {
   asks = record {
     history = entry_of reading (AskEvent request) a.outcome ∷ [];
     replies = reply ∷ [];
-    exchanges = [];
+    carried = [];
     leaves = (after, a.step, refl);
     readings_are = refl;
     events_are = refl;
     gives = gives-one request a.outcome reply [] a.gives;
-    link = Tells-nil told;
+    link = carries_nothing told;
   };
-  one_at_most = omega arith;
   reads = refl;
-  said = subst (λ (v : List ℕ). WritesReply status old new v) (sym (append-nil (reply_line reply))) said;
+  said = one_line status reply old new said;
 }
 
 -- ---- what is left
@@ -103,7 +112,7 @@ little held left few = record { held = held; rest_is = refl; few = few }
 
 pub line_goes : (place reading now : ℕ) (before after : EntityData) (old on : Outside) (line : Line)
     → LeadsTo place old.left (line ∷ []) on.left
-    → TakesLine reading now before after old.exchanges on.exchanges old.written on.written line None
+    → TakesLine reading now before after old.link on.link old.out on.out line None
     → ReplaysUpTo place (place + 1) reading now before after old on
 line_goes place reading now before after old on line leads t = record {
   heard = line ∷ [];
@@ -114,53 +123,41 @@ line_goes place reading now before after old on line leads t = record {
   said = t.said;
 }
 
--- where a part of the reply was written
-most_said : (old new : Option (List ℕ)) (replies : List ReplyParts) → length replies ≤ 1 → AppendsPrefix old new (script replies) → WritesMost old new replies
-most_said old new replies one part = record {
-  whole = [];
-  last = replies;
-  told = old;
-  replies_are = refl;
-  one_at_most = one;
-  said = Appends-nil old;
-  part = part;
-}
+line_says : (status : Status) (replies : List ReplyParts) (after : EntityData) (old new : SinkTold)
+    → WritesReplies (Some status) replies old new → Writes status replies after old new
+line_says Done replies after old new said = absurd said
+line_says Usage replies after old new said = absurd said
+line_says (BadLine n) replies after old new said = absurd said
+line_says ReadFault replies after old new said = absurd said
+line_says WriteFault replies after old new said = said
+line_says Memory replies after old new said = inr said
+line_says BadStream replies after old new said = absurd said
 
-line_says : (status : Status) (old new : Option (List ℕ)) (replies : List ReplyParts) → length replies ≤ 1
-    → WritesReply (Some status) old new (script replies) → Writes status old new replies
-line_says Done old new replies one said = absurd said
-line_says Usage old new replies one said = absurd said
-line_says (BadLine n) old new replies one said = absurd said
-line_says ReadFault old new replies one said = absurd said
-line_says WriteFault old new replies one said = most_said old new replies one said
-line_says Memory old new replies one said = most_said old new replies one said
-line_says BadStream old new replies one said = absurd said
-
-line_stops : (place : ℕ) (status : Status) (old new : Option (List ℕ)) (text rest : List ℕ) (left : Option (List ℕ))
-    → IfSome left (HoldsLittle rest) → WritesReply (Some status) old new text → StopsRightly place status rest left
-line_stops place Done old new text rest left few said = absurd said
-line_stops place Usage old new text rest left few said = absurd said
-line_stops place (BadLine n) old new text rest left few said = absurd said
-line_stops place ReadFault old new text rest left few said = absurd said
-line_stops place WriteFault old new text rest left few said = few
-line_stops place Memory old new text rest left few said = few
-line_stops place BadStream old new text rest left few said = absurd said
+line_stops : (place : ℕ) (status : Status) (replies : List ReplyParts) (old new : SinkTold) (rest : List ℕ) (left : Option (List ℕ))
+    → IfSome left (HoldsLittle rest) → WritesReplies (Some status) replies old new → StopsRightly place status rest left
+line_stops place Done replies old new rest left few said = absurd said
+line_stops place Usage replies old new rest left few said = absurd said
+line_stops place (BadLine n) replies old new rest left few said = absurd said
+line_stops place ReadFault replies old new rest left few said = absurd said
+line_stops place WriteFault replies old new rest left few said = few
+line_stops place Memory replies old new rest left few said = few
+line_stops place BadStream replies old new rest left few said = absurd said
 
 abbrev EndsOn : ℕ → Status → List Line → Option (List ℕ) → List ℕ → Type 0
 EndsOn place status heard now bytes =
     (rest : List ℕ) × BeginsWithLines place bytes heard rest × StopsRightly (place + length heard) status rest now
 
 line_ends_on : (place : ℕ) (status : Status) (line : Line) (stream : Option (List ℕ)) (held : List ℕ) (left : Option (List ℕ))
-    (old new : Option (List ℕ)) (text : List ℕ) → length held ≤ held_limit
-    → LeadsTo place stream (line ∷ []) (prepend_known held left) → WritesReply (Some status) old new text
+    (replies : List ReplyParts) (old new : SinkTold) → length held ≤ held_limit
+    → LeadsTo place stream (line ∷ []) (prepend_known held left) → WritesReplies (Some status) replies old new
     → IfSome stream (EndsOn place status (line ∷ []) left)
-line_ends_on place status line None held left old new text few leads said = tt
-line_ends_on place status line (Some bytes) held None old new text few leads said = absurd leads
-line_ends_on place status line (Some bytes) held (Some ys) old new text few leads said =
-    (held ++ ys, leads, line_stops (place + length (line ∷ [])) status old new text (held ++ ys) (Some ys) (little held ys few) said)
+line_ends_on place status line None held left replies old new few leads said = tt
+line_ends_on place status line (Some bytes) held None replies old new few leads said = absurd leads
+line_ends_on place status line (Some bytes) held (Some ys) replies old new few leads said =
+    (held ++ ys, leads, line_stops (place + length (line ∷ [])) status replies old new (held ++ ys) (Some ys) (little held ys few) said)
 
-pub line_ends : (place reading now : ℕ) (before after : EntityData) (stream : Option (List ℕ)) (held : List ℕ) (left old new : Option (List ℕ))
-    (told more : Option (List Exchange)) (line : Line) (status : Status)
+pub line_ends : (place reading now : ℕ) (before after : EntityData) (stream : Option (List ℕ)) (held : List ℕ) (left : Option (List ℕ)) (old new : SinkTold)
+    (told more : LinkTold) (line : Line) (status : Status)
     → length held ≤ held_limit
     → LeadsTo place stream (line ∷ []) (prepend_known held left)
     → TakesLine reading now before after told more old new line (Some status)
@@ -168,13 +165,13 @@ pub line_ends : (place reading now : ℕ) (before after : EntityData) (stream : 
 line_ends place reading now before after stream held left old new told more line status few leads t = record {
   heard = line ∷ [];
   asks = t.asks;
-  stream = line_ends_on place status line stream held left old new (script t.asks.replies) few leads t.said;
-  said = line_says status old new t.asks.replies t.one_at_most t.said;
+  stream = line_ends_on place status line stream held left t.asks.replies old new few leads t.said;
+  said = line_says status t.asks.replies after old new t.said;
 }
 
 -- a line was taken, and it goes on or ends
-pub line_next : (place reading now : ℕ) (before after : EntityData) (stream : Option (List ℕ)) (held : List ℕ) (left old new : Option (List ℕ))
-    (told more : Option (List Exchange)) (line : Line) (status : Option Status)
+pub line_next : (place reading now : ℕ) (before after : EntityData) (stream : Option (List ℕ)) (held : List ℕ) (left : Option (List ℕ)) (old new : SinkTold)
+    (told more : LinkTold) (line : Line) (status : Option Status)
     → length held ≤ held_limit
     → LeadsTo place stream (line ∷ []) (prepend_known held left)
     → TakesLine reading now before after told more old new line status
@@ -200,24 +197,24 @@ next_goes P Q (Some s) on h = absurd (on s refl)
 still_begins : (place : ℕ) (bytes : List ℕ) → BeginsWithLines place bytes [] bytes
 still_begins place bytes = record { front = []; texts = []; bytes_are = refl; texts_are = refl; each = tt }
 
-nothing_said : (fault : LineFault) (place : ℕ) (out : Option (List ℕ)) → Writes (fault_status fault place) out out []
-nothing_said Bad place out = Appends-nil out
-nothing_said Unread place out = Appends-nil out
-nothing_said Starved place out = most_said out out [] (omega arith) (prefix_none out (script []))
+nothing_said : (fault : LineFault) (place : ℕ) (e : EntityData) (out : SinkTold) → Writes (fault_status fault place) [] e out out
+nothing_said Bad place e out = puts_none out
+nothing_said Unread place e out = puts_none out
+nothing_said Starved place e out = inl (puts_none out)
 
 at_end : (place : ℕ) (stream left : Option (List ℕ)) → IsAtEnd stream → IsAtEnd left → IfSome stream (EndsOn place Done [] left)
 at_end place None left end over = tt
 at_end place (Some bytes) left end over =
     ([], record { front = []; texts = []; bytes_are = end; texts_are = ap lines end; each = tt }, (refl, over))
 
-pub done_ends : (place reading : ℕ) (e : EntityData) (stream left out : Option (List ℕ)) (told : Option (List Exchange))
+pub done_ends : (place reading : ℕ) (e : EntityData) (stream left : Option (List ℕ)) (out : SinkTold) (told : LinkTold)
     → IsAtEnd stream → IsAtEnd left
     → ReplaysFrom place reading e e (outside stream out None told) (outside left out None told) Done
 done_ends place reading e stream left out told end over = record {
   heard = [];
   asks = asks_nothing reading e told;
   stream = at_end place stream left end over;
-  said = Appends-nil out;
+  said = puts_none out;
 }
 
 -- what is left where no line was taken
@@ -254,19 +251,19 @@ fault_ends_on fault place (Some bytes) held (Some ys) few next none = (
       (fault_bad fault place bytes (Some (held ++ ys)) next) none,
 )
 
-pub fault_ends : (fault : LineFault) (place reading : ℕ) (e : EntityData) (stream : Option (List ℕ)) (held : List ℕ) (left out : Option (List ℕ)) (told : Option (List Exchange))
+pub fault_ends : (fault : LineFault) (place reading : ℕ) (e : EntityData) (stream : Option (List ℕ)) (held : List ℕ) (left : Option (List ℕ)) (out : SinkTold) (told : LinkTold)
     → length held ≤ held_limit → NextIs place (Err fault) stream (prepend_known held left) → (fault ≡ Unread → HasNoEnd held)
     → ReplaysFrom place reading e e (outside stream out None told) (outside left out None told) (fault_status fault place)
 fault_ends fault place reading e stream held left out told few next none = record {
   heard = [];
   asks = asks_nothing reading e told;
   stream = fault_ends_on fault place stream held left few next none;
-  said = nothing_said fault place out;
+  said = nothing_said fault place e out;
 }
 
 -- ---- before the first line
 
-pub goes_none : (place reading : ℕ) (e : EntityData) (held : List ℕ) (left out : Option (List ℕ)) (told : Option (List Exchange)) → held ≡ []
+pub goes_none : (place reading : ℕ) (e : EntityData) (held : List ℕ) (left : Option (List ℕ)) (out : SinkTold) (told : LinkTold) → held ≡ []
     → ReplaysUpTo place place reading reading e e (outside left out None told) (outside (prepend_known held left) out None told)
 goes_none place reading e held left out told empty = record {
   heard = [];
@@ -274,7 +271,7 @@ goes_none place reading e held left out told empty = record {
   places = omega arith;
   reads = refl;
   stream = begins left;
-  said = Appends-nil out;
+  said = puts_none out;
 }
   where
     begins : (l : Option (List ℕ)) → LeadsTo place l [] (prepend_known held l)
@@ -282,13 +279,13 @@ goes_none place reading e held left out told empty = record {
     begins (Some bytes) = subst (λ (v : List ℕ). BeginsWithLines place bytes [] (v ++ bytes)) (sym empty) (still_begins place bytes)
 
 -- memory ran out before the first line
-pub starved_first : (e : EntityData) (left out readings : Option (List ℕ)) (told : Option (List Exchange))
+pub starved_first : (e : EntityData) (left : Option (List ℕ)) (out : SinkTold) (readings : Option (List ℕ)) (told : LinkTold)
     → ReplaysFrom 1 0 e e (outside left out readings told) (outside left out readings told) Memory
 starved_first e left out readings told = record {
   heard = [];
   asks = asks_nothing 0 e told;
   stream = here left;
-  said = most_said out out [] (omega arith) (prefix_none out (script []));
+  said = inl (puts_none out);
 }
   where
     here : (l : Option (List ℕ)) → IfSome l (EndsOn 1 Memory [] l)
@@ -298,7 +295,7 @@ starved_first e left out readings told = record {
 -- ---- for callers that have a clock
 
 -- what a clock told is no matter
-pub whatever_readings : (opening : EntityData) (left rest out now readings : Option (List ℕ)) (told more : Option (List Exchange)) (status : Status)
+pub whatever_readings : (opening : EntityData) (left rest : Option (List ℕ)) (out now : SinkTold) (readings : Option (List ℕ)) (told more : LinkTold) (status : Status)
     → Replays opening (outside left out None told) (outside rest now None more) status
     → Replays opening (outside left out readings told) (outside rest now readings more) status
 whatever_readings opening left rest out now readings told more status r = record {
@@ -308,4 +305,4 @@ whatever_readings opening left rest out now readings told more status r = record
 
 -- lines that are replayed are no faulty command line
 pub never_usage : (opening : EntityData) (old new : Outside) (status : Status) → Replays opening old new status → status ≡ Usage → ⊥
-never_usage opening old new status r e = subst (λ (s : Status). Writes s old.written new.written r.all.asks.replies) e r.all.said
+never_usage opening old new status r e = subst (λ (s : Status). Writes s r.all.asks.replies r.after old.out new.out) e r.all.said

@@ -1,13 +1,12 @@
 -- Lines on their way, joined with what comes next.
-use Rattle.std.proofs.Common.{◌≡◌, ℕ, ◌+◌, List, [], ◌∷◌, ◌++◌, length, map, Option, Some, None, IfSome, refl, sym, ap, subst, ◌∙◌, arith, append_assoc, length-append}
-use Rattle.std.proofs.KnownBytes.{Appends-trans}
+use Rattle.std.proofs.Common.{◌≡◌, ℕ, ◌+◌, List, [], ◌∷◌, ◌++◌, length, map, Option, Some, None, IfSome, inl, inr, refl, sym, ap, subst, ◌∙◌, arith, append_assoc, length-append}
 use Rattle.std.proofs.lemmas.List.{map-append}
 use Rattle.std.proofs.lemmas.List.Elements.{filter_map-append}
 use Rattle.std.proofs.lemmas.Grind.{flat_map-append}
-use Rattle.std.specs.Io.KnownBytes.{Appends}
+use Rattle.std.specs.List.{flat_map}
 use Rattle.std.specs.Str.Lines.{lines}
-use Rattle.m2m_io.specs.Link.{Exchange}
-use Rattle.m2m_io.specs.Outside.{Outside}
+use Rattle.m2m_io.specs.Link.{Carrying}
+use Rattle.cse_server.specs.Outside.{LinkTold, Outside, Puts, SinkTold}
 use Rattle.m2m_io.specs.declared.status.Status.{Status}
 use Rattle.m2m_io.specs.declared.status.Status.TheVariants.{Done, Usage, BadLine, ReadFault, WriteFault, Memory, BadStream}
 use Rattle.primitive_json.specs.declared.reply.ReplyParts.{ReplyParts}
@@ -20,8 +19,9 @@ use Rattle.cse_machine.specs.declared.event.Event.TheVariants.{Ask as AskEvent}
 use Rattle.cse_machine.specs.declared.event.Outcome.{Outcome}
 use Rattle.cse_server.specs.Replies.{GivesReplies}
 use Rattle.cse_server.proofs.RepliesLemmas.{gives-append}
-use Rattle.cse_server.proofs.WayLemmas.{Tells-append}
-use Rattle.primitive_replay.specs.Script.{request_on, requests_on, next_reading, reading_behind, readings_on, AsksLines, reply_line, script, WritesMost, Writes, StopsRightly, ReplaysFrom}
+use Rattle.cse_server.proofs.LinkLemmas.{Carries-append}
+use Rattle.cse_server.proofs.PutLemmas.{Puts-append}
+use Rattle.primitive_replay.specs.Script.{request_on, requests_on, next_reading, reading_behind, readings_on, AsksLines, items_left, line_of, reply_line, reply_lines, script, WritesAllButLast, WritesPartOfLast, Writes, StopsRightly, ReplaysFrom}
 use Rattle.primitive_replay.specs.Stream.{AreLines, BeginsWithLines, LeadsTo}
 use Rattle.primitive_replay.specs.Way.{ReplaysUpTo}
 use Rattle.primitive_replay.specs.declared.line.Line.{Line}
@@ -97,20 +97,20 @@ stream_then place between xs ys status (Some a) (Some b) now places first then =
 events-append : (xs ys : List Line) → map AskEvent (requests_on xs) ++ map AskEvent (requests_on ys) ≡ map AskEvent (requests_on (xs ++ ys))
 events-append xs ys = sym (map-append AskEvent (requests_on xs) (requests_on ys)) ∙ ap (map AskEvent) (sym (requests_on-append xs ys))
 
-gave-append : (xs ys : List Line) (os os' : List Outcome) (ps ps' : List ReplyParts) (es es' : List Exchange)
+gave-append : (xs ys : List Line) (os os' : List Outcome) (ps ps' : List ReplyParts) (es es' : List Carrying)
     → GivesReplies (requests_on xs) os ps es → GivesReplies (requests_on ys) os' ps' es'
     → GivesReplies (requests_on (xs ++ ys)) (os ++ os') (ps ++ ps') (es ++ es')
 gave-append xs ys os os' ps ps' es es' first then =
     subst (λ (v : List RequestParts). GivesReplies v (os ++ os') (ps ++ ps') (es ++ es')) (sym (requests_on-append xs ys))
     (gives-append (requests_on xs) (requests_on ys) os os' ps ps' es es' first then)
 
-abbrev asks-append : (reading now : ℕ) (before between after : EntityData) (t t' t'' : Option (List Exchange)) (xs ys : List Line)
+abbrev asks-append : (reading now : ℕ) (before between after : EntityData) (t t' t'' : LinkTold) (xs ys : List Line)
     → now ≡ reading_behind reading xs
     → AsksLines reading before between t t' xs → AsksLines now between after t' t'' ys → AsksLines reading before after t t'' (xs ++ ys)
 asks-append reading now before between after t t' t'' xs ys reads a b = record {
   history = a.history ++ b.history;
   replies = a.replies ++ b.replies;
-  exchanges = a.exchanges ++ b.exchanges;
+  carried = a.carried ++ b.carried;
   leaves = Runs-append Step a.history b.history before between after a.leaves b.leaves;
   readings_are = map-append (λ e. e.reading) a.history b.history
       ∙ ap (λ v. v ++ readings_of b.history) a.readings_are
@@ -120,37 +120,61 @@ asks-append reading now before between after t t' t'' xs ys reads a b = record {
       ∙ ap (λ v. v ++ events_of b.history) a.events_are
       ∙ ap (λ v. map AskEvent (requests_on xs) ++ v) b.events_are
       ∙ events-append xs ys;
-  gives = subst (λ (os : List Outcome). GivesReplies (requests_on (xs ++ ys)) os (a.replies ++ b.replies) (a.exchanges ++ b.exchanges))
+  gives = subst (λ (os : List Outcome). GivesReplies (requests_on (xs ++ ys)) os (a.replies ++ b.replies) (a.carried ++ b.carried))
       (sym (map-append (λ e. e.outcome) a.history b.history))
-      (gave-append xs ys (outcomes_of a.history) (outcomes_of b.history) a.replies b.replies a.exchanges b.exchanges a.gives b.gives);
-  link = Tells-append a.exchanges b.exchanges t t' t'' a.link b.link;
+      (gave-append xs ys (outcomes_of a.history) (outcomes_of b.history) a.replies b.replies a.carried b.carried a.gives b.gives);
+  link = Carries-append a.carried b.carried t t' t'' a.link b.link;
 }
 
 -- ---- what is written
 
-said-append : (old put new : Option (List ℕ)) (rs ss : List ReplyParts) → Appends old put (script rs) → Appends put new (script ss) → Appends old new (script (rs ++ ss))
-said-append old put new rs ss a b =
-    subst (λ (v : List ℕ). Appends old new v) (sym (flat_map-append reply_line rs ss)) (Appends-trans old put new (script rs) (script ss) a b)
+said-append : (rs ss : List ReplyParts) (old put new : SinkTold) → Puts (reply_lines rs) (length rs) old put → Puts (reply_lines ss) (length ss) put new
+    → Puts (reply_lines (rs ++ ss)) (length (rs ++ ss)) old new
+said-append rs ss old put new a b =
+    subst (λ (n : ℕ). Puts (reply_lines (rs ++ ss)) n old new) (sym (length-append rs ss))
+    (subst (λ (v : List ℕ). Puts v (length rs + length ss) old new) (sym (flat_map-append reply_line rs ss))
+    (Puts-append old put new (reply_lines rs) (reply_lines ss) (length rs) (length ss) a b))
 
-most-append : (old put new : Option (List ℕ)) (rs ss : List ReplyParts) → Appends old put (script rs) → WritesMost put new ss → WritesMost old new (rs ++ ss)
-most-append old put new rs ss a b = record {
+script-append : (rs ss : List ReplyParts) (items : List (List ℕ)) → reply_lines rs ++ script ss items ≡ script (rs ++ ss) items
+script-append rs ss items =
+    sym (append_assoc (reply_lines rs) (reply_lines ss) (flat_map line_of items))
+    ∙ ap (λ v. v ++ flat_map line_of items) (sym (flat_map-append reply_line rs ss))
+
+all-append : (rs ss : List ReplyParts) (items : List (List ℕ)) (old put new : SinkTold) → Puts (reply_lines rs) (length rs) old put
+    → Puts (script ss items) (length ss + length items) put new → Puts (script (rs ++ ss) items) (length (rs ++ ss) + length items) old new
+all-append rs ss items old put new a b =
+    let count : length rs + (length ss + length items) ≡ length (rs ++ ss) + length items = omega (arith, length-append rs ss) in
+    subst (λ (n : ℕ). Puts (script (rs ++ ss) items) n old new) count
+    (subst (λ (v : List ℕ). Puts v (length rs + (length ss + length items)) old new) (script-append rs ss items)
+    (Puts-append old put new (reply_lines rs) (script ss items) (length rs) (length ss + length items) a b))
+
+abbrev less-append : (rs ss : List ReplyParts) (old put new : SinkTold) → Puts (reply_lines rs) (length rs) old put → WritesAllButLast ss put new → WritesAllButLast (rs ++ ss) old new
+less-append rs ss old put new a b = record {
   whole = rs ++ b.whole;
   last = b.last;
-  told = b.told;
-  replies_are = ap (λ v. rs ++ v) b.replies_are ∙ sym (append_assoc rs b.whole b.last);
-  one_at_most = b.one_at_most;
-  said = said-append old put b.told rs b.whole a b.said;
+  replies_are = ap (λ v. rs ++ v) b.replies_are ∙ sym (append_assoc rs b.whole (b.last ∷ []));
+  said = said-append rs b.whole old put new a b.said;
+}
+
+part-append : (rs ss : List ReplyParts) (old put new : SinkTold) → Puts (reply_lines rs) (length rs) old put → WritesPartOfLast ss put new → WritesPartOfLast (rs ++ ss) old new
+part-append rs ss old put new a b = record {
+  between = b.between;
+  before = less-append rs ss old put b.between a b.before;
   part = b.part;
 }
 
-Writes-then : (status : Status) (old put new : Option (List ℕ)) (rs ss : List ReplyParts) → Appends old put (script rs) → Writes status put new ss → Writes status old new (rs ++ ss)
-Writes-then Done old put new rs ss a b = said-append old put new rs ss a b
-Writes-then Usage old put new rs ss a b = absurd b
-Writes-then (BadLine n) old put new rs ss a b = said-append old put new rs ss a b
-Writes-then ReadFault old put new rs ss a b = said-append old put new rs ss a b
-Writes-then WriteFault old put new rs ss a b = most-append old put new rs ss a b
-Writes-then Memory old put new rs ss a b = most-append old put new rs ss a b
-Writes-then BadStream old put new rs ss a b = absurd b
+Writes-then : (status : Status) (rs ss : List ReplyParts) (after : EntityData) (old put new : SinkTold) → Puts (reply_lines rs) (length rs) old put
+    → Writes status ss after put new → Writes status (rs ++ ss) after old new
+Writes-then Done rs ss after old put new a b = all-append rs ss (items_left after) old put new a b
+Writes-then Usage rs ss after old put new a b = absurd b
+Writes-then (BadLine n) rs ss after old put new a b = said-append rs ss old put new a b
+Writes-then ReadFault rs ss after old put new a b = said-append rs ss old put new a b
+Writes-then WriteFault rs ss after old put new a b = part-append rs ss old put new a b
+Writes-then Memory rs ss after old put new a b = elim b [
+  | inl all ↦ inl (said-append rs ss old put new a all)
+  | inr less ↦ inr (less-append rs ss old put new a less)
+]
+Writes-then BadStream rs ss after old put new a b = absurd b
 
 -- ---- what goes on, and then goes on or ends
 
@@ -159,11 +183,11 @@ pub ReplaysUpTo-then : (place between next reading then now : ℕ) (before entit
     → ReplaysUpTo place next reading now before after old new
 ReplaysUpTo-then place between next reading then now before entity after old mid new a b = record {
   heard = a.heard ++ b.heard;
-  asks = asks-append reading then before entity after old.exchanges mid.exchanges new.exchanges a.heard b.heard a.reads a.asks b.asks;
+  asks = asks-append reading then before entity after old.link mid.link new.link a.heard b.heard a.reads a.asks b.asks;
   places = sym (joined_place place between a.heard b.heard a.places) ∙ b.places;
   reads = b.reads ∙ ap (λ n. reading_behind n b.heard) a.reads ∙ sym (reading_behind-append a.heard b.heard reading);
   stream = LeadsTo-append place between a.heard b.heard old.left mid.left new.left a.places a.stream b.stream;
-  said = said-append old.written mid.written new.written a.asks.replies b.asks.replies a.said b.said;
+  said = said-append a.asks.replies b.asks.replies old.out mid.out new.out a.said b.said;
 }
 
 pub Replays-then : (place between reading then : ℕ) (before entity after : EntityData) (old mid new : Outside) (status : Status)
@@ -171,7 +195,7 @@ pub Replays-then : (place between reading then : ℕ) (before entity after : Ent
     → ReplaysFrom place reading before after old new status
 Replays-then place between reading then before entity after old mid new status a b = record {
   heard = a.heard ++ b.heard;
-  asks = asks-append reading then before entity after old.exchanges mid.exchanges new.exchanges a.heard b.heard a.reads a.asks b.asks;
+  asks = asks-append reading then before entity after old.link mid.link new.link a.heard b.heard a.reads a.asks b.asks;
   stream = stream_then place between a.heard b.heard status old.left mid.left new.left a.places a.stream b.stream;
-  said = Writes-then status old.written mid.written new.written a.asks.replies b.asks.replies a.said b.said;
+  said = Writes-then status a.asks.replies b.asks.replies after old.out mid.out new.out a.said b.said;
 }

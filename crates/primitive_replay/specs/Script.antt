@@ -1,11 +1,10 @@
 -- What is answered to lines, one after another.
-use Rattle.std.specs.Prelude.{◌≡◌, ℕ, ◌+◌, ◌≤◌, List, [], ◌∷◌, ◌++◌, length, map, Option, Some}
+use Rattle.std.specs.Prelude.{◌≡◌, ◌⊎◌, ℕ, ◌+◌, List, [], ◌∷◌, ◌++◌, length, map, Option, Some}
 use Rattle.std.specs.Prelude.{None, IfSome}
 use Rattle.std.specs.List.{filter_map, flat_map}
-use Rattle.std.specs.Io.KnownBytes.{Appends, IsAtEnd}
-use Rattle.m2m_io.specs.Link.{Exchange}
-use Rattle.m2m_io.specs.Outside.{Outside}
-use Rattle.m2m_io.specs.Told.{AppendsPrefix, Tells}
+use Rattle.std.specs.Io.KnownBytes.{IsAtEnd}
+use Rattle.m2m_io.specs.Link.{Carrying}
+use Rattle.cse_server.specs.Outside.{Carries, LinkTold, Outside, Puts, PutsPart, SinkTold}
 use Rattle.m2m_io.specs.declared.status.Status.{Status}
 use Rattle.m2m_io.specs.declared.status.Status.TheVariants.{Done, Usage, BadLine, ReadFault}
 use Rattle.m2m_io.specs.declared.status.Status.TheVariants.{WriteFault, Memory, BadStream}
@@ -53,49 +52,68 @@ readings_on reading (Reading moment ∷ heard) = readings_on moment heard
 readings_on reading (Ask request ∷ heard) = reading ∷ readings_on reading heard
 
 -- Lines were put to an entity: the machine took the request of each that has one, in order, at the
--- reading that the lines say, `reading` standing before them; and the outcomes gave the replies at
--- the cost of the exchanges that a link made, which it told before and tells now.
+-- reading that the lines say, `reading` standing before them; and the outcomes gave the replies,
+-- for which this was carried over a link, which told that before and tells this now.
 pub record AsksLines (reading : ℕ) (before after : EntityData)
-    (told more : Option (List Exchange)) (heard : List Line) : Type 0 where
+    (told more : LinkTold) (heard : List Line) : Type 0 where
   pub history : History
   pub replies : List ReplyParts
-  pub exchanges : List Exchange
+  pub carried : List Carrying
   pub leaves : HistoryLeaves before history after
   pub readings_are : readings_of history ≡ readings_on reading heard
   pub events_are : events_of history ≡ map AskEvent (requests_on heard)
-  pub gives : GivesReplies (requests_on heard) (outcomes_of history) replies exchanges
-  pub link : Tells (λ list. list ++ exchanges) told more
+  pub gives : GivesReplies (requests_on heard) (outcomes_of history) replies carried
+  pub link : Carries carried told more
 
 -- ---- what is written
 
--- a reply as a line: its compact JSON, and LF
+-- a text as a line: LF ends it
+abbrev pub line_of : List ℕ → List ℕ
+line_of text = text ++ 10 ∷ []
+
+-- a reply as a line: its compact JSON
 abbrev pub reply_line : ReplyParts → List ℕ
-reply_line reply = text_of (written_reply reply) ++ 10 ∷ []
+reply_line reply = line_of (text_of (written_reply reply))
 
--- The script of lines, the replies to their requests being these: a line for each of them. The
--- items of the outbox would stand behind these, and there are none as yet.
-abbrev pub script : List ReplyParts → List ℕ
-script replies = flat_map reply_line replies
+-- replies, a line for each of them
+abbrev pub reply_lines : List ReplyParts → List ℕ
+reply_lines replies = flat_map reply_line replies
 
--- The script of all these replies but the last one was written, and of that one a part.
-pub record WritesMost (old new : Option (List ℕ)) (replies : List ReplyParts) : Type 0 where
+-- the items in the outbox of an entity, each as the text of its line: there are none as yet
+abbrev pub items_left : EntityData → List (List ℕ)
+items_left entity = []
+
+-- The script of lines, the replies to their requests being these: a line for each of them, and
+-- behind them one for each of these items.
+abbrev pub script : List ReplyParts → List (List ℕ) → List ℕ
+script replies items = reply_lines replies ++ flat_map line_of items
+
+-- The lines of all these replies but the last one were written, each by one put.
+pub record WritesAllButLast (replies : List ReplyParts) (old new : SinkTold) : Type 0 where
   pub whole : List ReplyParts
-  pub last : List ReplyParts
-  pub told : Option (List ℕ)
-  pub replies_are : replies ≡ whole ++ last
-  pub one_at_most : length last ≤ 1
-  pub said : Appends old told (script whole)
-  pub part : AppendsPrefix told new (script last)
+  pub last : ReplyParts
+  pub replies_are : replies ≡ whole ++ last ∷ []
+  pub said : Puts (reply_lines whole) (length whole) old new
 
--- What is written where it ends so, the replies being these.
-abbrev pub Writes : Status → Option (List ℕ) → Option (List ℕ) → List ReplyParts → Type 0
-Writes Done old new replies = Appends old new (script replies)
-Writes Usage old new replies = ⊥
-Writes (BadLine n) old new replies = Appends old new (script replies)
-Writes ReadFault old new replies = Appends old new (script replies)
-Writes WriteFault old new replies = WritesMost old new replies
-Writes Memory old new replies = WritesMost old new replies
-Writes BadStream old new replies = ⊥
+-- They were, and of the line of the last one a part, by one put more.
+pub record WritesPartOfLast (replies : List ReplyParts) (old new : SinkTold) : Type 0 where
+  pub between : SinkTold
+  pub before : WritesAllButLast replies old between
+  pub part : PutsPart (reply_line before.last) between new
+
+-- What is written where it ends so, the replies being these, and the entity that is left this one:
+-- each line by one put. Where memory ran out, all lines are written, or all but the last one, which
+-- isn't begun.
+abbrev pub Writes : Status → List ReplyParts → EntityData → SinkTold → SinkTold → Type 0
+Writes Done replies after old new = Puts (script replies (items_left after))
+    (length replies + length (items_left after)) old new
+Writes Usage replies after old new = ⊥
+Writes (BadLine n) replies after old new = Puts (reply_lines replies) (length replies) old new
+Writes ReadFault replies after old new = Puts (reply_lines replies) (length replies) old new
+Writes WriteFault replies after old new = WritesPartOfLast replies old new
+Writes Memory replies after old new =
+    Puts (reply_lines replies) (length replies) old new ⊎ WritesAllButLast replies old new
+Writes BadStream replies after old new = ⊥
 
 -- ---- how it ends
 
@@ -121,10 +139,10 @@ StopsRightly place BadStream rest now = ⊥
 pub record ReplaysFrom (place reading : ℕ) (before after : EntityData)
     (old new : Outside) (status : Status) : Type 0 where
   pub heard : List Line
-  pub asks : AsksLines reading before after old.exchanges new.exchanges heard
+  pub asks : AsksLines reading before after old.link new.link heard
   pub stream : IfSome old.left (λ bytes. (rest : List ℕ) × BeginsWithLines place bytes heard rest
       × StopsRightly (place + length heard) status rest new.left)
-  pub said : Writes status old.written new.written asks.replies
+  pub said : Writes status asks.replies after old.out new.out
 
 -- Lines were replayed, from the first one on: the clock stands at 0 before them.
 pub record Replays (opening : EntityData) (old new : Outside) (status : Status) : Type 0 where

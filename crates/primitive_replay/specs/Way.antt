@@ -1,9 +1,6 @@
 -- Lines on their way: what its calls say of the lines so far.
-use Rattle.std.specs.Prelude.{◌≡◌, ℕ, ◌+◌, ◌≤◌, List, [], ◌∷◌, length, Option, Some, None}
-use Rattle.std.specs.Io.KnownBytes.{Appends}
-use Rattle.m2m_io.specs.Link.{Exchange}
-use Rattle.m2m_io.specs.Outside.{Outside}
-use Rattle.m2m_io.specs.Told.{AppendsPrefix}
+use Rattle.std.specs.Prelude.{◌≡◌, ℕ, ◌+◌, List, [], ◌∷◌, length, Option, Some, None}
+use Rattle.cse_server.specs.Outside.{LinkTold, Outside, Puts, PutsPart, SinkTold}
 use Rattle.m2m_io.specs.declared.status.Status.{Status}
 use Rattle.m2m_io.specs.declared.status.Status.TheVariants.{Done, Usage, BadLine, ReadFault}
 use Rattle.m2m_io.specs.declared.status.Status.TheVariants.{WriteFault, Memory, BadStream}
@@ -14,7 +11,8 @@ use Rattle.cse_machine.specs.Step.{Step}
 use Rattle.cse_machine.specs.declared.event.Event.TheVariants.{Ask as AskEvent}
 use Rattle.cse_machine.specs.declared.event.Outcome.{Outcome}
 use Rattle.cse_server.specs.Replies.{GivesReply}
-use Rattle.primitive_replay.specs.Script.{AsksLines, next_reading, reading_behind, script}
+use Rattle.primitive_replay.specs.Script.{AsksLines, WritesAllButLast, WritesPartOfLast}
+use Rattle.primitive_replay.specs.Script.{next_reading, reading_behind, reply_lines}
 use Rattle.primitive_replay.specs.Stream.{LeadsTo}
 use Rattle.primitive_replay.specs.declared.fault.LineFault.{LineFault}
 use Rattle.primitive_replay.specs.declared.fault.LineFault.TheVariants.{Bad, ReadFault as Unread}
@@ -27,39 +25,51 @@ fault_status Bad place = BadLine place
 fault_status Unread place = ReadFault
 fault_status Starved place = Memory
 
--- The machine took a request at a reading, and its outcome gave this reply, without an exchange.
+-- The machine took a request at a reading, and its outcome gave this reply, for which nothing was
+-- carried to a neighbour.
 pub record RepliesTo (reading : ℕ) (before : EntityData) (request : RequestParts)
     (reply : ReplyParts) (after : EntityData) : Type 0 where
   pub outcome : Outcome
   pub step : Step reading (AskEvent request) before outcome after
   pub gives : GivesReply request outcome reply []
 
--- what was written of these replies where none is told to have ended it, and else a part of them
-abbrev pub WritesReply : Option Status → Option (List ℕ) → Option (List ℕ) → List ℕ → Type 0
-WritesReply None old new text = Appends old new text
-WritesReply (Some Done) old new text = ⊥
-WritesReply (Some Usage) old new text = ⊥
-WritesReply (Some (BadLine n)) old new text = ⊥
-WritesReply (Some ReadFault) old new text = ⊥
-WritesReply (Some WriteFault) old new text = AppendsPrefix old new text
-WritesReply (Some Memory) old new text = AppendsPrefix old new text
-WritesReply (Some BadStream) old new text = ⊥
+-- what was written of a text: all of it by one put, and else a part of it, or nothing where memory
+-- ran out
+abbrev pub WritesText : Option Status → List ℕ → SinkTold → SinkTold → Type 0
+WritesText None text old new = Puts text 1 old new
+WritesText (Some Done) text old new = ⊥
+WritesText (Some Usage) text old new = ⊥
+WritesText (Some (BadLine n)) text old new = ⊥
+WritesText (Some ReadFault) text old new = ⊥
+WritesText (Some WriteFault) text old new = PutsPart text old new
+WritesText (Some Memory) text old new = new ≡ old
+WritesText (Some BadStream) text old new = ⊥
+
+-- what was written of these replies where none is told to have ended it, and else of the last one
+abbrev pub WritesReplies : Option Status → List ReplyParts → SinkTold → SinkTold → Type 0
+WritesReplies None replies old new = Puts (reply_lines replies) (length replies) old new
+WritesReplies (Some Done) replies old new = ⊥
+WritesReplies (Some Usage) replies old new = ⊥
+WritesReplies (Some (BadLine n)) replies old new = ⊥
+WritesReplies (Some ReadFault) replies old new = ⊥
+WritesReplies (Some WriteFault) replies old new = WritesPartOfLast replies old new
+WritesReplies (Some Memory) replies old new = WritesAllButLast replies old new
+WritesReplies (Some BadStream) replies old new = ⊥
 
 -- A line was taken: what it asks was answered, and the reading is that behind it.
 pub record TakesLine (reading now : ℕ) (before after : EntityData)
-    (told more : Option (List Exchange)) (old new : Option (List ℕ))
+    (told more : LinkTold) (old new : SinkTold)
     (line : Line) (status : Option Status) : Type 0 where
   pub asks : AsksLines reading before after told more (line ∷ [])
-  pub one_at_most : length asks.replies ≤ 1
   pub reads : now ≡ next_reading reading line
-  pub said : WritesReply status old new (script asks.replies)
+  pub said : WritesReplies status asks.replies old new
 
 -- It goes on: the lines from this place up to the next were taken and answered.
 pub record ReplaysUpTo (place next reading now : ℕ) (before after : EntityData)
     (old new : Outside) : Type 0 where
   pub heard : List Line
-  pub asks : AsksLines reading before after old.exchanges new.exchanges heard
+  pub asks : AsksLines reading before after old.link new.link heard
   pub places : place + length heard ≡ next
   pub reads : now ≡ reading_behind reading heard
   pub stream : LeadsTo place old.left heard new.left
-  pub said : Appends old.written new.written (script asks.replies)
+  pub said : Puts (reply_lines asks.replies) (length asks.replies) old.out new.out

@@ -1,10 +1,10 @@
 //! What a request on a line is answered, and its way to the sink.
-ghost use Rattle.std.specs.Prelude.{◌≡◌, ◌≢◌, ◌≤◌, ◌++◌, Some, IfOk};
-ghost use Rattle.m2m_io.specs.Counts.{Rose};
+ghost use Rattle.std.specs.Prelude.{◌≡◌, Some, IfOk};
+ghost use Rattle.cse_server.specs.Outside.{EndsByFault, sink_told};
 ghost use Rattle.primitive_json.specs.declared.request.RequestParts.{RequestParts};
 ghost use Rattle.cse_machine.specs.Answer.{starved};
 ghost use Rattle.primitive_replay.specs.Script.{reply_line};
-ghost use Rattle.primitive_replay.specs.Way.{RepliesTo, WritesReply};
+ghost use Rattle.primitive_replay.specs.Way.{RepliesTo, WritesText};
 
 use cse_machine::{Event, Outcome, step};
 use cse_server::bare_reply;
@@ -58,12 +58,14 @@ fn reply_text(alloc: Global, reply: Reply) -> Result<Vec<u8>, OutOfMemory>
     Ok(text)
 }
 
-/// Writes the reply as a line, by one call of the sink. None where it was written.
+/// Writes the reply as a line, by one call of the sink. None where it was written. Where memory
+/// runs out, it isn't begun.
 pub(crate) fn put_reply<O: Sink>(alloc: Global, out: &mut O, reply: Reply) -> Option<Status>
-    ensures said { WritesReply result (O.written out.old) (O.written out.new) (reply_line reply) }
-    ensures count { O.faults out.old ≤ O.faults out.new }
-    ensures cause { result ≡ Some Status.WriteFault → Rose (O.faults out.old) (O.faults out.new) }
-    ensures steady { result ≢ Some Status.WriteFault → O.faults out.new ≡ O.faults out.old }
+    ensures said { WritesText result (reply_line reply)
+        (sink_told (O.written out.old) (O.puts out.old))
+        (sink_told (O.written out.new) (O.puts out.new)) }
+    ensures writes { EndsByFault (Some Status.WriteFault) result
+        (O.faults out.old) (O.faults out.new) }
 {
     let Ok(text) = reply_text(alloc, reply) else {
         return Some(Status::Memory);

@@ -1,12 +1,12 @@
 //! What stands at the front of a stream of lines.
 ghost use Rattle.std.specs.Prelude.{◌≡◌, ◌≢◌, ◌≤◌, Err, length, take};
 ghost use Rattle.std.specs.Io.KnownBytes.{Keeps, prepend_known};
-ghost use Rattle.m2m_io.specs.Counts.{Rose};
+ghost use Rattle.m2m_io.specs.Counts.{CountsFault};
 ghost use Rattle.primitive_replay.specs.Front.{HasNoEnd, IsFront, IsFrontAtEnd, end_of};
 ghost use Rattle.primitive_replay.specs.Front.{held_limit};
 
 use crate::fault::LineFault;
-use crate::held::{Held, SHORT};
+use crate::line_buffer::{LineBuffer, SHORT};
 use m2m_io::Source;
 
 /// What stands at the front of a stream of lines, once that is settled.
@@ -41,7 +41,7 @@ fn end_behind(bytes: &[u8], seen: usize) -> usize
 }
 
 /// What stands there once nothing more comes.
-fn front_at_end(held: &Held) -> Front
+fn front_at_end(held: &LineBuffer) -> Front
     ensures { IsFrontAtEnd held.now result }
 {
     if held.bytes().is_empty() {
@@ -53,15 +53,12 @@ fn front_at_end(held: &Held) -> Front
 
 /// Reads until it is settled what stands at the front: only while no LF is held and fewer bytes
 /// than are too many. Each byte is looked at once.
-pub(crate) fn settle<S: Source>(held: &mut Held, src: &mut S) -> Result<Front, LineFault>
+pub(crate) fn settle<S: Source>(held: &mut LineBuffer, src: &mut S) -> Result<Front, LineFault>
     ensures stream { Keeps (prepend_known held.old (S.left src.old))
         (prepend_known held.new (S.left src.new)) }
     ensures front { IsFront result held.new (S.left src.new) }
     ensures few { length held.new ≤ held_limit }
-    ensures faults { S.faults src.old ≤ S.faults src.new }
-    ensures cause { result ≡ Err LineFault.ReadFault
-        → Rose (S.faults src.old) (S.faults src.new) }
-    ensures steady { result ≢ Err LineFault.ReadFault → S.faults src.new ≡ S.faults src.old }
+    ensures faults { CountsFault LineFault.ReadFault result (S.faults src.old) (S.faults src.new) }
     ensures other { result ≢ Err LineFault.Bad }
 {
     let mut seen = 0;

@@ -4,14 +4,20 @@
 //! home, and they see that what was written is the script of the lines that were taken, by the
 //! replies that the outcomes of a history of the machine give (`specs/Script`); what a line is, and
 //! which is bad (`specs/Lines`); and why it ended.
+//!
+//! ```text
+//! let home = Home::with_defaults(alloc)?;
+//! let status = replay(alloc, home, input, out, link);
+//! Ok(status) // Status::Done, or why it stopped
+//! ```
 #![tactic(auto)]
 
 mod answer;
 mod fault;
 mod front;
-mod held;
 mod laws;
 mod line;
+mod line_buffer;
 mod next;
 mod replaying;
 

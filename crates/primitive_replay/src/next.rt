@@ -3,15 +3,15 @@ ghost use Rattle.std.specs.Prelude.{◌≡◌, ◌≢◌, ◌+◌, ◌<◌, ◌�
 ghost use Rattle.std.specs.Prelude.{IfOk, IsSome, length};
 ghost use Rattle.std.specs.Io.KnownBytes.{IsAtEnd, Keeps, prepend_known};
 ghost use Rattle.std.specs.Str.Lines.{strip_carriage_return};
-ghost use Rattle.m2m_io.specs.Counts.{Rose};
+ghost use Rattle.m2m_io.specs.Counts.{CountsFault};
 ghost use Rattle.primitive_replay.specs.Front.{HasNoEnd, IsFront, end_of, held_limit};
 ghost use Rattle.primitive_replay.specs.Lines.{most_lines};
 ghost use Rattle.primitive_replay.specs.Stream.{NextIs};
 
 use crate::fault::LineFault;
 use crate::front::{Front, settle};
-use crate::held::Held;
 use crate::line::{Line, line_at};
+use crate::line_buffer::LineBuffer;
 use m2m_io::Source;
 use m2m_value::Scratch;
 use std::alloc::Global;
@@ -31,7 +31,7 @@ fn without_return(text: &[u8]) -> &[u8]
 fn take_ended(
     alloc: Global,
     scratch: &mut Scratch,
-    held: &mut Held,
+    held: &mut LineBuffer,
     place: u64,
     end: usize,
 ) -> Result<Option<Line>, LineFault>
@@ -57,7 +57,7 @@ fn take_ended(
 fn take_last(
     alloc: Global,
     scratch: &mut Scratch,
-    held: &mut Held,
+    held: &mut LineBuffer,
     place: u64,
 ) -> Result<Option<Line>, LineFault>
     requires none { HasNoEnd held.old }
@@ -84,7 +84,7 @@ fn take_last(
 fn take_front(
     alloc: Global,
     scratch: &mut Scratch,
-    held: &mut Held,
+    held: &mut LineBuffer,
     place: u64,
     front: Front,
 ) -> Result<Option<Line>, LineFault>
@@ -112,7 +112,7 @@ fn take_front(
 pub(crate) fn next_line<S: Source>(
     alloc: Global,
     scratch: &mut Scratch,
-    held: &mut Held,
+    held: &mut LineBuffer,
     src: &mut S,
     place: u64,
 ) -> Result<Option<Line>, LineFault>
@@ -122,10 +122,7 @@ pub(crate) fn next_line<S: Source>(
     ensures end { result ≡ Ok None → IsAtEnd (S.left src.new) }
     ensures few { length held.new ≤ held_limit }
     ensures waiting { result ≡ Err LineFault.ReadFault → HasNoEnd held.new }
-    ensures count { S.faults src.old ≤ S.faults src.new }
-    ensures cause { result ≡ Err LineFault.ReadFault
-        → Rose (S.faults src.old) (S.faults src.new) }
-    ensures steady { result ≢ Err LineFault.ReadFault → S.faults src.new ≡ S.faults src.old }
+    ensures faults { CountsFault LineFault.ReadFault result (S.faults src.old) (S.faults src.new) }
 {
     match settle(held, src) {
         Ok(front) => take_front(alloc, scratch, held, place, front),

@@ -1,8 +1,7 @@
 //! Lines, answered one after another.
 ghost use Rattle.std.specs.Prelude.{◌≡◌, ◌≢◌, ◌+◌, ◌≤◌, None, Some, IfOk, MatchOption};
 ghost use Rattle.std.specs.Io.KnownBytes.{prepend_known};
-ghost use Rattle.m2m_io.specs.Counts.{Rose};
-ghost use Rattle.m2m_io.specs.Outside.{outside};
+ghost use Rattle.cse_server.specs.Outside.{EndsByFault, link_told, outside, sink_told};
 ghost use Rattle.entity_model.specs.Opening.{opening};
 ghost use Rattle.primitive_replay.specs.Front.{held_limit};
 ghost use Rattle.primitive_replay.specs.Lines.{most_lines};
@@ -11,8 +10,8 @@ ghost use Rattle.primitive_replay.specs.Way.{ReplaysUpTo, TakesLine, fault_statu
 
 use crate::answer::{put_reply, put_request};
 use crate::fault::LineFault;
-use crate::held::Held;
 use crate::line::{Line, MOST_LINES};
+use crate::line_buffer::LineBuffer;
 use crate::next::next_line;
 use entity_model::Entity;
 use m2m_io::{Link, Sink, Source, Status};
@@ -31,13 +30,13 @@ fn take_line<T: Tree, O: Sink, L: Link>(
     line: Line,
 ) -> Option<Status>
     ensures takes { TakesLine reading.old reading.new entity.old entity.new
-        (L.exchanges link.old) (L.exchanges link.new) (O.written out.old) (O.written out.new)
-        line result }
-    ensures count { O.faults out.old ≤ O.faults out.new }
-    ensures cause { result ≡ Some Status.WriteFault → Rose (O.faults out.old) (O.faults out.new) }
-    ensures steady { result ≢ Some Status.WriteFault → O.faults out.new ≡ O.faults out.old }
+        (link_told (L.exchanges link.old) (L.faults link.old))
+        (link_told (L.exchanges link.new) (L.faults link.new))
+        (sink_told (O.written out.old) (O.puts out.old))
+        (sink_told (O.written out.new) (O.puts out.new)) line result }
+    ensures writes { EndsByFault (Some Status.WriteFault) result
+        (O.faults out.old) (O.faults out.new) }
     ensures read { result ≢ Some Status.ReadFault }
-    ensures link { L.faults link.new ≡ L.faults link.old }
 {
     match line {
         Line::Empty => None,
@@ -68,7 +67,7 @@ fn replay_next<T: Tree, S: Source, O: Sink, L: Link>(
     alloc: Global,
     entity: &mut Entity<T>,
     scratch: &mut Scratch,
-    held: &mut Held,
+    held: &mut LineBuffer,
     reading: &mut u64,
     input: &mut S,
     out: &mut O,
@@ -76,24 +75,20 @@ fn replay_next<T: Tree, S: Source, O: Sink, L: Link>(
     place: u64,
 ) -> Option<Status>
     ensures next { let old = outside (prepend_known held.old (S.left input.old))
-        (O.written out.old) None (L.exchanges link.old) in
-        let new = outside (S.left input.new) (O.written out.new) None (L.exchanges link.new) in
+        (sink_told (O.written out.old) (O.puts out.old)) None
+        (link_told (L.exchanges link.old) (L.faults link.old)) in
+        let new = outside (S.left input.new)
+        (sink_told (O.written out.new) (O.puts out.new)) None
+        (link_told (L.exchanges link.new) (L.faults link.new)) in
         let on = record new { left = prepend_known held.new (S.left input.new) } in
         MatchOption result
         (ReplaysUpTo place (place + 1) reading.old reading.new entity.old entity.new old on)
         (ReplaysFrom place reading.old entity.old entity.new old new) }
     ensures place { result ≡ None → place ≤ most_lines }
-    ensures read_count { S.faults input.old ≤ S.faults input.new }
-    ensures read_cause { result ≡ Some Status.ReadFault
-        → Rose (S.faults input.old) (S.faults input.new) }
-    ensures read_steady { result ≢ Some Status.ReadFault
-        → S.faults input.new ≡ S.faults input.old }
-    ensures write_count { O.faults out.old ≤ O.faults out.new }
-    ensures write_cause { result ≡ Some Status.WriteFault
-        → Rose (O.faults out.old) (O.faults out.new) }
-    ensures write_steady { result ≢ Some Status.WriteFault
-        → O.faults out.new ≡ O.faults out.old }
-    ensures link { L.faults link.new ≡ L.faults link.old }
+    ensures reads { EndsByFault (Some Status.ReadFault) result
+        (S.faults input.old) (S.faults input.new) }
+    ensures writes { EndsByFault (Some Status.WriteFault) result
+        (O.faults out.old) (O.faults out.new) }
 {
     match next_line(alloc, scratch, held, input, place) {
         Ok(Some(line)) => take_line(alloc, entity, reading, out, link, line),
@@ -117,7 +112,8 @@ fn opened(alloc: Global, home: Home) -> Result<Entity<ListTree>, OutOfMemory>
 /// on, in seconds since 1970; or it is a request in JSON. Any other line is bad, and so is one of
 /// more than 131,072 bytes, and the 1,000,001st. Lines are read as they come: each is answered
 /// before more is read than the bytes in which it ended. Behind a bad line nothing is read or
-/// written. At the end the items of the outbox would be written; there are none as yet. The link is
+/// written. Each reply is written by one call of the sink, and one for which memory ran out isn't
+/// begun. At the end the items of the outbox would be written; there are none as yet. The link is
 /// for requests that go on to another entity; none do as yet.
 ///
 /// A line is answered in time linear in it beside its event, and the bytes held and the room for
@@ -129,24 +125,19 @@ pub fn replay<S: Source, O: Sink, L: Link>(
     out: &mut O,
     link: &mut L,
 ) -> Status
-    ensures replays { let old = outside (S.left input.old) (O.written out.old)
-        None (L.exchanges link.old) in
-        let new = outside (S.left input.new) (O.written out.new) None (L.exchanges link.new) in
+    ensures replays { let old = outside (S.left input.old)
+        (sink_told (O.written out.old) (O.puts out.old)) None
+        (link_told (L.exchanges link.old) (L.faults link.old)) in
+        let new = outside (S.left input.new)
+        (sink_told (O.written out.new) (O.puts out.new)) None
+        (link_told (L.exchanges link.new) (L.faults link.new)) in
         Replays (opening home 0) old new result }
 
     // A fault is answered where the stream failed in this call, and only there.
-    ensures read_count { S.faults input.old ≤ S.faults input.new }
-    ensures read_cause { result ≡ Status.ReadFault
-        → Rose (S.faults input.old) (S.faults input.new) }
-    ensures read_steady { result ≢ Status.ReadFault → S.faults input.new ≡ S.faults input.old }
-    ensures write_count { O.faults out.old ≤ O.faults out.new }
-    ensures write_cause { result ≡ Status.WriteFault → Rose (O.faults out.old) (O.faults out.new) }
-    ensures write_steady { result ≢ Status.WriteFault → O.faults out.new ≡ O.faults out.old }
-
-    // No exchange failed, as none was made.
-    ensures link { L.faults link.new ≡ L.faults link.old }
+    ensures reads { EndsByFault Status.ReadFault result (S.faults input.old) (S.faults input.new) }
+    ensures writes { EndsByFault Status.WriteFault result (O.faults out.old) (O.faults out.new) }
 {
-    let Ok(mut held) = Held::new(alloc) else {
+    let Ok(mut held) = LineBuffer::new(alloc) else {
         return Status::Memory;
     };
     let Ok(mut entity) = opened(alloc, home) else {

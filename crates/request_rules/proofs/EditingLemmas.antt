@@ -1,6 +1,6 @@
--- The order in which an Update is refused, by what it names.
-use Rattle.std.proofs.Common.{◌≡◌, ℕ, List, [], ◌∷◌, ◌++◌, Bool, true, false, not, Option, Some, None, option_and_then, unwrap_or, refl, sym, ap, ◌∙◌}
-use Rattle.std.proofs.lemmas.Bool.{and_parts}
+-- Contents that name attributes, and the order in which an Update is refused by them.
+use Rattle.std.proofs.Common.{◌≡◌, ℕ, List, [], ◌∷◌, ◌++◌, Bool, true, false, not, Option, Some, None, option_and_then, unwrap_or, if◌then◌else◌, refl, sym, ap, ◌∙◌}
+use Rattle.std.proofs.lemmas.Bool.{and_parts, both_ways}
 use Rattle.std.specs.Option.{option_map_or, option_or}
 use Rattle.m2m_names.specs.declared.codes.Rsc.{Rsc}
 use Rattle.m2m_names.specs.declared.codes.Rsc.TheVariants.{BadRequest}
@@ -14,29 +14,36 @@ use Rattle.attribute_rules.specs.declared.table.Writing.{Writing}
 use Rattle.attribute_rules.specs.declared.table.Writing.TheVariants.{Update as Updating}
 use Rattle.entity_model.specs.Entity.{EntityData}
 use Rattle.entity_model.specs.Places.{first_fault, unless}
-use Rattle.request_rules.specs.Order.{named_places, content_places, creation_places, fault_named}
-use Rattle.request_rules.specs.Requests.{content_for, is_content_for, named_by, named_for, names_copy}
+use Rattle.request_rules.specs.Order.{content_places, creation_places, fault_edit, fault_named, named_places}
+use Rattle.request_rules.specs.Requests.{admits, content_for, is_content_for, named_by, names_copy}
 use Rattle.request_rules.proofs.OrderLemmas.{first_fault-append}
 
--- ---- an admitted content is there
+-- ---- which contents are for a type
 
-no_content : {X : Type 0} (g : X → Bool) (x : Option X) → x ≡ None → option_map_or g x false ≡ true → ⊥
-no_content g None none t = cc
-no_content g (Some y) none t = cc
+-- one that names attributes, where these are admitted
+pub content_admits : (writing : Writing) (request : RequestParts) (ty : Ty) (es : List Entry) → content_for request ty ≡ Some es → is_content_for writing request ty ≡ admits writing ty es
+content_admits writing request ty es is = ap (λ (x : Option (List Entry)). option_map_or (admits writing ty) x false) is
 
-some_content : {X : Type 0} (f : Data → Option X) (g : X → Bool) (pc : Option Data) → option_map_or (λ d. option_map_or g (f d) false) pc false ≡ true → option_and_then f pc ≡ None → ⊥
-some_content f g None t none = cc
-some_content f g (Some d) t none = no_content g (f d) none t
+-- and one that names none isn't
+pub no_content : (writing : Writing) (request : RequestParts) (ty : Ty) → content_for request ty ≡ None → is_content_for writing request ty ≡ false
+no_content writing request ty none = ap (λ (x : Option (List Entry)). option_map_or (admits writing ty) x false) none
 
--- it is admitted for the type
-pub admitted_for : (writing : Writing) (request : RequestParts) (ty : Ty) → is_content_for writing request ty ≡ true → option_map_or (is_admitted writing ty) request.pc false ≡ true
-admitted_for writing request ty admitted =
-    (and_parts (not (names_copy (named_for request ty))) (option_map_or (is_admitted writing ty) request.pc false) admitted).1
-
--- and names attributes
+-- so one for the type names attributes
 pub names_some : (writing : Writing) (request : RequestParts) (ty : Ty) → is_content_for writing request ty ≡ true → content_for request ty ≡ None → ⊥
-names_some writing request ty admitted none =
-    some_content (attributes_in ty) (are_admitted writing ty) request.pc (admitted_for writing request ty admitted) none
+names_some writing request ty is none = both_ways (is_content_for writing request ty) (no_content writing request ty none) is
+
+-- which are admitted
+pub admitted_for : (writing : Writing) (request : RequestParts) (ty : Ty) (es : List Entry) → is_content_for writing request ty ≡ true → content_for request ty ≡ Some es → are_admitted writing ty es ≡ true
+admitted_for writing request ty es is names =
+    (and_parts (not (names_copy es)) (are_admitted writing ty es) (sym (content_admits writing request ty es names) ∙ is)).1
+
+-- a content is admitted where what it names is
+pub attributes_admitted : (writing : Writing) (ty : Ty) (content : Data) (es : List Entry) → attributes_in ty content ≡ Some es → is_admitted writing ty content ≡ are_admitted writing ty es
+attributes_admitted writing ty content es names = ap (λ (x : Option (List Entry)). option_map_or (are_admitted writing ty) x false) names
+
+-- the attributes that the content of a request names
+pub content_names : (request : RequestParts) (ty : Ty) (content : Data) (es : List Entry) → request.pc ≡ Some content → attributes_in ty content ≡ Some es → content_for request ty ≡ Some es
+content_names request ty content es is names = ap (option_and_then (attributes_in ty)) is ∙ names
 
 -- ---- an Update
 
@@ -44,10 +51,21 @@ or_nothing : (x : Option Rsc) → option_or x None ≡ x
 or_nothing None = refl
 or_nothing (Some f) = refl
 
--- an admitted one is refused by what it names
-pub edit_refused : (e : EntityData) (o : List ℕ) (request : RequestParts) (r : ResourceData) (es : List Entry) → is_content_for Updating request r.ty ≡ true → content_for request r.ty ≡ Some es → first_fault (content_places Update e request r ++ creation_places Update e o request r) ≡ fault_named e es
-edit_refused e o request r es admitted content =
-    ap (λ (b : Bool). first_fault ((unless b BadRequest ∷ named_places e (named_by Update request r)) ++ creation_places Update e o request r)) admitted
-    ∙ first_fault-append (named_places e (named_by Update request r)) (creation_places Update e o request r)
-    ∙ or_nothing (first_fault (named_places e (named_by Update request r)))
-    ∙ ap (λ (x : Option (List Entry)). fault_named e (unwrap_or x [])) content
+module _ (e : EntityData) (o : List ℕ) (request : RequestParts) (r : ResourceData) where
+  -- by whether its content is admitted
+  admitting : (b : Bool) → is_content_for Updating request r.ty ≡ b → first_fault (content_places Update e request r ++ creation_places Update e o request r) ≡ first_fault ((unless b BadRequest ∷ named_places e (named_by Update request r)) ++ creation_places Update e o request r)
+  admitting b is = ap (λ (x : Bool). first_fault ((unless x BadRequest ∷ named_places e (named_by Update request r)) ++ creation_places Update e o request r)) is
+
+  -- it is refused by what it names
+  pub edit_refused : (es : List Entry) → content_for request r.ty ≡ Some es → first_fault (content_places Update e request r ++ creation_places Update e o request r) ≡ fault_edit e r.ty es
+  edit_refused es names = admitting (admits Updating r.ty es) (content_admits Updating request r.ty es names) ∙ by_admission (admits Updating r.ty es)
+    where
+      by_admission : (b : Bool) → first_fault ((unless b BadRequest ∷ named_places e (named_by Update request r)) ++ creation_places Update e o request r) ≡ (if b then fault_named e es else Some BadRequest)
+      by_admission true =
+          first_fault-append (named_places e (named_by Update request r)) (creation_places Update e o request r)
+          ∙ or_nothing (first_fault (named_places e (named_by Update request r)))
+          ∙ ap (λ (x : Option (List Entry)). fault_named e (unwrap_or x [])) names
+      by_admission false = refl
+
+  pub edit_names_none : content_for request r.ty ≡ None → first_fault (content_places Update e request r ++ creation_places Update e o request r) ≡ Some BadRequest
+  edit_names_none none = admitting false (no_content Updating request r.ty none)

@@ -1,4 +1,5 @@
 pub mod Creation
+pub mod Judged
 pub mod Order
 pub mod Policies
 pub mod Requests

@@ -1,7 +1,7 @@
 -- The order in which a request to a resource that is there is refused (TS-0004, 7.3.3).
 use Rattle.std.specs.Prelude.{ℕ, nat_lt, Bool, true, List, [], ◌∷◌, ◌++◌, Option}
 use Rattle.std.specs.Prelude.{Some, if◌then◌else◌}
-use Rattle.std.specs.Option.{option_map_or}
+use Rattle.std.specs.Option.{option_map_or, option_or}
 use Rattle.m2m_names.specs.declared.codes.Rsc.{Rsc}
 use Rattle.m2m_names.specs.declared.codes.Rsc.TheVariants.{BadChild, BadRequest, Conflict}
 use Rattle.m2m_names.specs.declared.codes.Rsc.TheVariants.{NoPrivilege, NotAcceptable, NotAllowed}
@@ -14,12 +14,14 @@ use Rattle.m2m_value.specs.Data.{Entry}
 use Rattle.primitive_json.specs.declared.request.RequestParts.{RequestParts}
 use Rattle.resource_model.specs.Resource.{ResourceData}
 use Rattle.tree_model.specs.Tree.{at}
+use Rattle.attribute_rules.specs.declared.table.Writing.TheVariants.{Create as Creating}
+use Rattle.attribute_rules.specs.declared.table.Writing.TheVariants.{Update as Updating}
 use Rattle.request_rules.specs.Creation.{Creation, creation_of, is_unique, has_room}
 use Rattle.entity_model.specs.Entity.{EntityData}
 use Rattle.entity_model.specs.Places.{Place, absent, first_fault, unless}
 use Rattle.request_rules.specs.Policies.{links_live}
-use Rattle.request_rules.specs.Requests.{is_for, takes_child, child_ty, admits_content, named_for}
-use Rattle.request_rules.specs.Requests.{named_by, named_expiry}
+use Rattle.request_rules.specs.Requests.{admits, admits_content, child_ty, is_for, named_by}
+use Rattle.request_rules.specs.Requests.{named_expiry, named_for, takes_child}
 use Rattle.request_rules.specs.Rights.{is_subscribing, may_do}
 
 -- a child that isn't taken: a subscription by what has none, any other by what isn't its parent
@@ -70,6 +72,16 @@ fault_named e es = first_fault (named_places e es)
 
 abbrev pub fault_new : Creation → Option Rsc
 fault_new c = first_fault (new_places c)
+
+-- the status by which an Update is refused that names these attributes of a resource of the type,
+-- and that by which a Create is that names those of the creation
+abbrev pub fault_edit : EntityData → Ty → List Entry → Option Rsc
+fault_edit e ty es = if admits Updating ty es then fault_named e es else Some BadRequest
+
+abbrev pub fault_creation : Creation → Option Rsc
+fault_creation c =
+    if admits Creating c.ty c.named then option_or (fault_named c.e c.named) (fault_new c)
+    else Some BadRequest
 
 -- Every operation is refused in this order. A test that doesn't concern an operation holds of it.
 abbrev pub places : Op → EntityData → List ℕ → RequestParts → ResourceData → List Place

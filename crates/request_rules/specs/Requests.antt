@@ -13,7 +13,7 @@ use Rattle.m2m_names.specs.declared.types.Ty.TheVariants.{Ae, ContentInstance, C
 use Rattle.m2m_value.specs.Data.{Entry}
 use Rattle.primitive_json.specs.declared.request.RequestParts.{RequestParts}
 use Rattle.resource_model.specs.Resource.{ResourceData, is_ty}
-use Rattle.attribute_rules.specs.Admission.{attributes_in, is_admitted, is_named}
+use Rattle.attribute_rules.specs.Admission.{are_admitted, attributes_in, is_named}
 use Rattle.attribute_rules.specs.Contents.{wanted_in}
 use Rattle.attribute_rules.specs.declared.table.Writing.{Writing}
 use Rattle.attribute_rules.specs.declared.table.Writing.TheVariants.{Create as Creating}
@@ -66,12 +66,15 @@ named_by op request r = option_map_or (named_for request) (content_ty op request
 abbrev pub names_copy : List Entry → Bool
 names_copy es = is_named At es || is_named Aa es
 
--- It is admitted for a resource of the type (TS-0004, 7.4), but one that asks for copies isn't, as
--- long as none are made.
+-- These attributes are admitted for a resource of the type (TS-0004, 7.4), but those that ask for
+-- copies aren't, as long as none are made.
+abbrev pub admits : Writing → Ty → List Entry → Bool
+admits writing ty es = not (names_copy es) && are_admitted writing ty es
+
+-- the content is one for the type, with such attributes
 abbrev pub is_content_for : Writing → RequestParts → Ty → Bool
 is_content_for writing request ty =
-    not (names_copy (named_for request ty))
-    && option_map_or (is_admitted writing ty) request.pc false
+    option_map_or (admits writing ty) (content_for request ty) false
 
 -- what is written is admitted
 abbrev pub admits_content : Op → RequestParts → ResourceData → Bool

@@ -4,6 +4,7 @@ ghost use Rattle.std.specs.Option.{option_map_or};
 ghost use Rattle.m2m_names.specs.Types.{does_take};
 ghost use Rattle.resource_model.specs.Resource as resources;
 ghost use Rattle.tree_model.specs.Tree.{at, has};
+ghost use Rattle.entity_model.specs.Sound.{IsSoundEntity};
 ghost use Rattle.request_rules.specs.Requests as spec;
 
 use entity_model::Entity;
@@ -16,6 +17,7 @@ pub fn find<T: Tree>(entity: &Entity<T>, number: u64) -> Option<&Resource>
     ensures value { option_map (λ r. r.now) result ≡ at number entity.now.nodes }
     ensures there { IfSome result (λ r. IsTrue (has r.now.number entity.now.nodes)) }
     ensures stands { IfSome result (λ r. at r.now.number entity.now.nodes ≡ Some r.now) }
+    ensures sound { IsSoundEntity entity.now }
 {
     entity.tree.get(number)
 }

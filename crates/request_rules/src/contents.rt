@@ -1,36 +1,13 @@
 //! The content of a request to a resource.
-ghost use Rattle.std.specs.Prelude.{◌≡◌, ◌≤◌, false, IfSome, option_map};
-ghost use Rattle.std.specs.Option.{option_map_or};
+ghost use Rattle.std.specs.Prelude.{◌≡◌, ◌≤◌, IfSome, Some};
 ghost use Rattle.m2m_names.specs.Stamps.{last_moment};
+ghost use Rattle.attribute_rules.specs.Admission.{attributes_in};
 ghost use Rattle.attribute_rules.specs.declared.table.Writing.TheVariants.{Create, Update};
-ghost use Rattle.attribute_rules.specs.Admission.{is_admitted};
 ghost use Rattle.request_rules.specs.Requests as spec;
 
-use crate::asking::child_ty;
-use attribute_rules::{admits_create, admits_update, attributes_in};
+use attribute_rules::{admits_create, admits_update};
 use m2m_names::{Attr, Ty, read_stamp};
 use m2m_value::{Members, Val};
-use primitive_json::Request;
-
-fn is_admitted_new(ty: Ty, content: Option<&Val>) -> bool
-    ensures { result
-        ≡ option_map_or (is_admitted Create ty) (option_map (λ d. d.now) content.entry) false }
-{
-    match content {
-        Some(content) => admits_create(ty, content),
-        None => false,
-    }
-}
-
-fn is_admitted_edit(ty: Ty, content: Option<&Val>) -> bool
-    ensures { result
-        ≡ option_map_or (is_admitted Update ty) (option_map (λ d. d.now) content.entry) false }
-{
-    match content {
-        Some(content) => admits_update(ty, content),
-        None => false,
-    }
-}
 
 fn names_copy(members: &Members) -> bool
     ensures { result ≡ spec.names_copy members.now }
@@ -39,46 +16,23 @@ fn names_copy(members: &Members) -> bool
         || members.get(Attr::Aa.short().as_bytes()).is_some()
 }
 
-// Whether the content asks for copies, where it is one for the type.
-fn asks_for_copies(request: &Request, ty: Ty) -> bool
-    ensures { result ≡ spec.names_copy (spec.named_for request.now ty) }
+/// Whether a content that names these attributes is admitted for a new resource of the type.
+#[tactic(auto, using(crate::proofs::EditingLemmas::attributes_admitted))]
+pub(crate) fn admits_new(ty: Ty, content: &Val, named: &Members) -> bool
+    requires { attributes_in ty content.now ≡ Some named.now }
+    ensures { result ≡ spec.admits Create ty named.now }
 {
-    match content_for(request, ty) {
-        Some(members) => names_copy(members),
-        None => false,
-    }
+    !names_copy(named) && admits_create(ty, content)
 }
 
-/// Whether the content is admitted for a new resource of the type.
-pub(crate) fn is_created_by(request: &Request, ty: Ty) -> bool
-    ensures { result ≡ spec.is_content_for Create request.now ty }
+/// Whether a content that names these attributes is admitted for a resource of the type that is to
+/// be updated.
+#[tactic(auto, using(crate::proofs::EditingLemmas::attributes_admitted))]
+pub(crate) fn admits_edit(ty: Ty, content: &Val, named: &Members) -> bool
+    requires { attributes_in ty content.now ≡ Some named.now }
+    ensures { result ≡ spec.admits Update ty named.now }
 {
-    !asks_for_copies(request, ty) && is_admitted_new(ty, request.parts().pc.as_ref())
-}
-
-/// Whether the content is admitted for a resource of the type that is to be updated.
-pub(crate) fn is_updated_by(request: &Request, ty: Ty) -> bool
-    ensures { result ≡ spec.is_content_for Update request.now ty }
-{
-    !asks_for_copies(request, ty) && is_admitted_edit(ty, request.parts().pc.as_ref())
-}
-
-/// Whether the content is admitted for what a Create names.
-pub(crate) fn creates_well(request: &Request) -> bool
-    ensures { result ≡ option_map_or (spec.is_content_for Create request.now)
-        (spec.child_ty request.now) false }
-{
-    match child_ty(request) {
-        Some(ty) => is_created_by(request, ty),
-        None => false,
-    }
-}
-
-/// The attributes that the content names, where it is one for the type.
-pub fn content_for(request: &Request, ty: Ty) -> Option<&Members>
-    ensures { option_map (λ m. m.now) result ≡ spec.content_for request.now ty }
-{
-    attributes_in(ty, request.parts().pc.as_ref()?)
+    !names_copy(named) && admits_update(ty, content)
 }
 
 /// The moment of expiry that a content names, in seconds since 1970.

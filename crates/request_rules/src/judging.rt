@@ -1,62 +1,64 @@
-//! The order in which a request to a resource is refused.
-ghost use Rattle.std.specs.Prelude.{◌≡◌, ◌++◌, Some, IfOk, IsTrue};
-ghost use Rattle.std.specs.Option.{option_or};
+//! The order in which a request to a resource is refused, and what one asks for that isn't.
+ghost use Rattle.std.specs.Prelude.{◌≡◌, ◌++◌, None, Some, IfErr, IfNone, IfOk, IfSome, IsTrue};
+ghost use Rattle.std.specs.Prelude.{OnOk};
 ghost use Rattle.m2m_names.specs.Name.{is_originator};
 ghost use Rattle.m2m_names.specs.declared.operations.Op.TheVariants as ops;
-ghost use Rattle.attribute_rules.specs.declared.table.Writing.TheVariants as writing;
-ghost use Rattle.tree_model.specs.Tree.{has};
+ghost use Rattle.tree_model.specs.Tree.{at, has};
+ghost use Rattle.attribute_rules.specs.Admission.{attributes_in};
 ghost use Rattle.entity_model.specs.Places.{first_fault};
+ghost use Rattle.entity_model.specs.Sound.{IsSoundEntity};
 ghost use Rattle.request_rules.specs.Creation.{creation_of};
+ghost use Rattle.request_rules.specs.Judged.{IsCreateOf, IsUpdateOf, Judges};
 ghost use Rattle.request_rules.specs.Order as spec;
 ghost use Rattle.request_rules.specs.Requests as requests;
 
 use crate::asking::{child_ty, find, is_for, takes_child};
-use crate::contents::{content_for, creates_well, is_updated_by};
+use crate::contents::{admits_edit, admits_new};
 use crate::refusing::{judge_creation, judge_named};
 use crate::rights::{is_subscribing, may_do};
+use attribute_rules::attributes_in;
 use entity_model::Entity;
 use m2m_names::{Op, Rsc, Ty};
-use m2m_value::Members;
+use m2m_value::{Members, Val};
 use primitive_json::Request;
 use std::alloc::{AllocError as OutOfMemory, Global};
 use tree_model::{Resource, Tree};
 
-/// The status with which a request to the resource of a number is refused by the first place that
-/// doesn't hold, for an originator in its short form; none, where it may be done. Nothing is
-/// changed.
-pub fn judge<T: Tree>(
-    alloc: Global,
-    op: Op,
-    entity: &Entity<T>,
-    o: &[u8],
-    request: &Request,
-    target: u64,
-) -> Result<Option<Rsc>, OutOfMemory>
-    requires { IsTrue (is_originator o.now) }
-    ensures { IfOk result (λ f. f ≡ spec.fault_at op entity.now o.now request.now target) }
-{
-    match find(entity, target) {
-        Some(resource) => judge_on(alloc, op, entity, o, request, resource),
-        None => Ok(Some(Rsc::NotFound)),
+/// Why a request isn't done: by the first place that refuses it, with its status, or for want of
+/// memory.
+#[derive(Clone, Copy, Debug, PartialEq, Eq)]
+pub enum Refusal {
+    Fault(Rsc),
+    OutOfMemory,
+}
+
+impl From<OutOfMemory> for Refusal {
+    ghost use Rattle.std.specs.Prelude.{◌≡◌};
+    ghost use Rattle.request_rules.specs.declared.judging.Refusal.{Refusal};
+
+    ghost from_gives = { λ _ e. e ≡ Refusal.OutOfMemory };
+
+    fn from(_: OutOfMemory) -> Self {
+        Refusal::OutOfMemory
     }
 }
 
-fn judge_on<T: Tree>(
-    alloc: Global,
-    op: Op,
-    entity: &Entity<T>,
-    o: &[u8],
-    request: &Request,
-    target: &Resource,
-) -> Result<Option<Rsc>, OutOfMemory>
-    requires originator { IsTrue (is_originator o.now) }
-    requires resource { IsTrue (has target.now.number entity.now.nodes) }
-    ensures { IfOk result (λ f. f ≡ spec.fault_on op entity.now o.now request.now target.now) }
-{
-    if let Some(fault) = judge_target(op, entity, o, request, target) {
-        return Ok(Some(fault));
-    }
-    judge_content(alloc, op, entity, o, request, target)
+/// A Create that no place refuses: the parent of the new resource, its type, the content, and the
+/// attributes that this names.
+#[derive(Clone, Copy)]
+pub struct AllowedCreate<'a> {
+    pub parent: &'a Resource,
+    pub ty: Ty,
+    pub content: &'a Val,
+    pub named: &'a Members,
+}
+
+/// An Update that no place refuses: the resource, the content, and the attributes that this names.
+#[derive(Clone, Copy)]
+pub struct AllowedUpdate<'a> {
+    pub target: &'a Resource,
+    pub content: &'a Val,
+    pub named: &'a Members,
 }
 
 // ---- the target
@@ -97,93 +99,113 @@ pub fn judge_target<T: Tree>(
     None
 }
 
-// ---- the content
-
-fn judge_content<T: Tree>(
-    alloc: Global,
-    op: Op,
-    entity: &Entity<T>,
-    o: &[u8],
-    request: &Request,
-    target: &Resource,
-) -> Result<Option<Rsc>, OutOfMemory>
-    requires { IsTrue (is_originator o.now) }
-    ensures { IfOk result (λ f. f ≡ first_fault
-        (spec.content_places op entity.now request.now target.now
-        ++ spec.creation_places op entity.now o.now request.now target.now)) }
-{
-    match op {
-        Op::Create => judge_new(alloc, entity, o, request, target),
-        Op::Retrieve => Ok(None),
-        Op::Update => judge_edit(alloc, entity, o, request, target),
-        Op::Delete => Ok(None),
-        Op::Notify => Ok(None),
-    }
-}
-
-// By the content of an Update.
-#[tactic(auto, using(crate::proofs::EditingLemmas::edit_refused))]
-fn judge_edit<T: Tree>(
-    alloc: Global,
-    entity: &Entity<T>,
-    o: &[u8],
-    request: &Request,
-    target: &Resource,
-) -> Result<Option<Rsc>, OutOfMemory>
-    ensures { IfOk result (λ f. f ≡ first_fault
-        (spec.content_places ops.Update entity.now request.now target.now
-        ++ spec.creation_places ops.Update entity.now o.now request.now target.now)) }
-{
-    if !is_updated_by(request, target.ty()) {
-        return Ok(Some(Rsc::BadRequest));
-    }
-    match content_for(request, target.ty()) {
-        Some(members) => judge_named(alloc, entity, members),
-        None => unreachable!(),
-    }
-}
-
-// By the content of a Create, and by what would be created.
-fn judge_new<T: Tree>(
-    alloc: Global,
+// The type of the child that a parent takes, or the status with which the right or the types refuse
+// a Create.
+fn judge_parent<T: Tree>(
     entity: &Entity<T>,
     o: &[u8],
     request: &Request,
     parent: &Resource,
-) -> Result<Option<Rsc>, OutOfMemory>
-    requires { IsTrue (is_originator o.now) }
-    ensures { IfOk result (λ f. f ≡ first_fault
-        (spec.content_places ops.Create entity.now request.now parent.now
-        ++ spec.creation_places ops.Create entity.now o.now request.now parent.now)) }
+) -> Result<Ty, Rsc>
+    requires originator { IsTrue (is_originator o.now) }
+    requires resource { IsTrue (has parent.now.number entity.now.nodes) }
+    ensures ok { OnOk result (first_fault
+        (spec.target_places ops.Create entity.now o.now request.now parent.now) ≡ None) }
+    ensures child { IfOk result (λ ty. requests.child_ty request.now ≡ Some ty) }
+    ensures err { IfErr result (λ fault. first_fault
+        (spec.target_places ops.Create entity.now o.now request.now parent.now) ≡ Some fault) }
 {
-    if !creates_well(request) {
-        return Ok(Some(Rsc::BadRequest));
+    if !may_do(Op::Create, entity, o, request, parent.number()) {
+        return Err(Rsc::NoPrivilege);
     }
     match child_ty(request) {
-        Some(ty) => judge_child(alloc, entity, o, request, parent, ty),
-        None => unreachable!(),
+        Some(ty) if parent.ty().takes(ty) => Ok(ty),
+        _ => Err(child_fault(request)),
     }
 }
 
-// By what an admitted content names.
-fn judge_child<T: Tree>(
+// ---- the content
+
+// A content for a resource of the type, and the attributes that it names.
+fn content_for(request: &Request, ty: Ty) -> Option<(&Val, &Members)>
+    ensures found { IfSome result (λ p. (request.now.pc ≡ Some p.0.now)
+        × (attributes_in ty p.0.now ≡ Some p.1.now)) }
+    ensures none { IfNone result (requests.content_for request.now ty ≡ None) }
+{
+    let content = request.parts().pc.as_ref()?;
+    let named = attributes_in(ty, content)?;
+    Some((content, named))
+}
+
+// ---- a Create
+
+/// Judges a Create under the resource of a number, for an originator in its short form. Nothing is
+/// changed.
+pub fn judge_create<'a, T: Tree>(
+    alloc: Global,
+    entity: &'a Entity<T>,
+    o: &[u8],
+    request: &'a Request,
+    parent: u64,
+) -> Result<AllowedCreate<'a>, Refusal>
+    requires { IsTrue (is_originator o.now) }
+    ensures { Judges result (spec.fault_at ops.Create entity.now o.now request.now parent)
+        (IsCreateOf entity.now request.now parent) }
+{
+    match find(entity, parent) {
+        Some(parent) => judge_under(alloc, entity, o, request, parent),
+        None => Err(Refusal::Fault(Rsc::NotFound)),
+    }
+}
+
+fn judge_under<'a, T: Tree>(
     alloc: Global,
     entity: &Entity<T>,
     o: &[u8],
-    request: &Request,
-    parent: &Resource,
-    ty: Ty,
-) -> Result<Option<Rsc>, OutOfMemory>
+    request: &'a Request,
+    parent: &'a Resource,
+) -> Result<AllowedCreate<'a>, Refusal>
     requires originator { IsTrue (is_originator o.now) }
-    requires child { requests.child_ty request.now ≡ Some ty }
-    requires admitted { IsTrue (requests.is_content_for writing.Create request.now ty) }
-    ensures { IfOk result (λ f. f ≡ first_fault
-        (spec.content_places ops.Create entity.now request.now parent.now
-        ++ spec.creation_places ops.Create entity.now o.now request.now parent.now)) }
+    requires sound { IsSoundEntity entity.now }
+    requires stands { at parent.now.number entity.now.nodes ≡ Some parent.now }
+    ensures { Judges result (spec.fault_on ops.Create entity.now o.now request.now parent.now)
+        (IsCreateOf entity.now request.now parent.now.number) }
 {
-    match content_for(request, ty) {
-        Some(members) => judge_members(alloc, entity, o, parent, ty, members),
-        None => unreachable!(),
+    match judge_parent(entity, o, request, parent) {
+        Ok(ty) => judge_child(alloc, entity, o, request, parent, ty),
+        Err(fault) => Err(Refusal::Fault(fault)),
+    }
+}
+
+// By the content, and by what would be created.
+fn judge_child<'a, T: Tree>(
+    alloc: Global,
+    entity: &Entity<T>,
+    o: &[u8],
+    request: &'a Request,
+    parent: &'a Resource,
+    ty: Ty,
+) -> Result<AllowedCreate<'a>, Refusal>
+    requires originator { IsTrue (is_originator o.now) }
+    requires sound { IsSoundEntity entity.now }
+    requires stands { at parent.now.number entity.now.nodes ≡ Some parent.now }
+    requires child { requests.child_ty request.now ≡ Some ty }
+    ensures { Judges result (first_fault
+        (spec.content_places ops.Create entity.now request.now parent.now
+        ++ spec.creation_places ops.Create entity.now o.now request.now parent.now))
+        (IsCreateOf entity.now request.now parent.now.number) }
+{
+    let Some((content, named)) = content_for(request, ty) else {
+        return Err(Refusal::Fault(Rsc::BadRequest));
+    };
+    match judge_members(alloc, entity, o, parent, ty, content, named)? {
+        Some(fault) => Err(Refusal::Fault(fault)),
+        None => Ok(AllowedCreate {
+            parent,
+            ty,
+            content,
+            named,
+        }),
     }
 }
 
@@ -194,14 +216,104 @@ fn judge_members<T: Tree>(
     o: &[u8],
     parent: &Resource,
     ty: Ty,
-    members: &Members,
+    content: &Val,
+    named: &Members,
 ) -> Result<Option<Rsc>, OutOfMemory>
-    requires { IsTrue (is_originator o.now) }
-    ensures { IfOk result (λ f. f ≡ option_or (spec.fault_named entity.now members.now)
-        (spec.fault_new (creation_of entity.now o.now ty parent.now members.now))) }
+    requires originator { IsTrue (is_originator o.now) }
+    requires named { attributes_in ty content.now ≡ Some named.now }
+    ensures { IfOk result (λ f.
+        f ≡ spec.fault_creation (creation_of entity.now o.now ty parent.now named.now)) }
 {
-    if let Some(fault) = judge_named(alloc, entity, members)? {
+    if !admits_new(ty, content, named) {
+        return Ok(Some(Rsc::BadRequest));
+    }
+    if let Some(fault) = judge_named(alloc, entity, named)? {
         return Ok(Some(fault));
     }
-    judge_creation(alloc, entity, o, ty, parent, members)
+    judge_creation(alloc, entity, o, ty, parent, named)
+}
+
+// ---- an Update
+
+/// Judges an Update of the resource of a number, for an originator in its short form. Nothing is
+/// changed.
+pub fn judge_update<'a, T: Tree>(
+    alloc: Global,
+    entity: &'a Entity<T>,
+    o: &[u8],
+    request: &'a Request,
+    target: u64,
+) -> Result<AllowedUpdate<'a>, Refusal>
+    requires { IsTrue (is_originator o.now) }
+    ensures { Judges result (spec.fault_at ops.Update entity.now o.now request.now target)
+        (IsUpdateOf entity.now request.now target) }
+{
+    match find(entity, target) {
+        Some(target) => judge_on(alloc, entity, o, request, target),
+        None => Err(Refusal::Fault(Rsc::NotFound)),
+    }
+}
+
+fn judge_on<'a, T: Tree>(
+    alloc: Global,
+    entity: &Entity<T>,
+    o: &[u8],
+    request: &'a Request,
+    target: &'a Resource,
+) -> Result<AllowedUpdate<'a>, Refusal>
+    requires originator { IsTrue (is_originator o.now) }
+    requires sound { IsSoundEntity entity.now }
+    requires stands { at target.now.number entity.now.nodes ≡ Some target.now }
+    ensures { Judges result (spec.fault_on ops.Update entity.now o.now request.now target.now)
+        (IsUpdateOf entity.now request.now target.now.number) }
+{
+    match judge_target(Op::Update, entity, o, request, target) {
+        Some(fault) => Err(Refusal::Fault(fault)),
+        None => judge_edit(alloc, entity, o, request, target),
+    }
+}
+
+// By the content.
+fn judge_edit<'a, T: Tree>(
+    alloc: Global,
+    entity: &Entity<T>,
+    o: &[u8],
+    request: &'a Request,
+    target: &'a Resource,
+) -> Result<AllowedUpdate<'a>, Refusal>
+    requires sound { IsSoundEntity entity.now }
+    requires stands { at target.now.number entity.now.nodes ≡ Some target.now }
+    ensures { Judges result (first_fault
+        (spec.content_places ops.Update entity.now request.now target.now
+        ++ spec.creation_places ops.Update entity.now o.now request.now target.now))
+        (IsUpdateOf entity.now request.now target.now.number) }
+{
+    let Some((content, named)) = content_for(request, target.ty()) else {
+        return Err(Refusal::Fault(Rsc::BadRequest));
+    };
+    match judge_edits(alloc, entity, target.ty(), content, named)? {
+        Some(fault) => Err(Refusal::Fault(fault)),
+        None => Ok(AllowedUpdate {
+            target,
+            content,
+            named,
+        }),
+    }
+}
+
+// By the attributes that it names.
+fn judge_edits<T: Tree>(
+    alloc: Global,
+    entity: &Entity<T>,
+    ty: Ty,
+    content: &Val,
+    named: &Members,
+) -> Result<Option<Rsc>, OutOfMemory>
+    requires { attributes_in ty content.now ≡ Some named.now }
+    ensures { IfOk result (λ f. f ≡ spec.fault_edit entity.now ty named.now) }
+{
+    if !admits_edit(ty, content, named) {
+        return Ok(Some(Rsc::BadRequest));
+    }
+    judge_named(alloc, entity, named)
 }

@@ -4,12 +4,20 @@
 //! The order is one list of places for all operations (`places` of `specs/Order`), each a test and
 //! a status: the right of the originator (`specs/Rights`); the types of the target and of the
 //! child; the content, its expiry and the policies that it names (`specs/Policies`); what stands in
-//! the tree already; and a limit (`specs/Creation`). `judge` gives the status of the first that
-//! doesn't hold; it changes nothing. `Creation` also says which resource a Create makes, as its
-//! name, its identifiers and its size are what places speak of.
+//! the tree already; and a limit (`specs/Creation`). `judge_create` and `judge_update` give the
+//! status of the first that doesn't hold, or hand on what they found: the resource, the type and
+//! the attributes that the content names. They change nothing. `Creation` also says which resource
+//! a Create makes, as its name, its identifiers and its size are what places speak of.
 //!
-//! An originator is passed in its short form. A content for a group isn't admitted yet, nor one
-//! that asks for copies.
+//! An originator is passed in its short form. A content that asks for copies isn't admitted yet.
+//! One for a group is admitted as the table says, but its members aren't judged: callers refuse
+//! groups.
+//!
+//! ```text
+//! let target = 1; // the CSEBase
+//! let granted = may_do(Op::Create, entity, b"CDev", request, target);
+//! judge_create(alloc, entity, b"CDev", request, target) // what was found, or the first refusal
+//! ```
 #![tactic(auto)]
 
 mod asking;
@@ -23,8 +31,10 @@ mod rights;
 mod uniqueness;
 
 pub use asking::{child_ty, find};
-pub use contents::{content_for, named_expiry};
-pub use judging::{judge, judge_target};
+pub use contents::named_expiry;
+pub use judging::{
+    AllowedCreate, AllowedUpdate, Refusal, judge_create, judge_target, judge_update,
+};
 pub use limiting::size_named;
 pub use naming::{new_ae_id, new_name, new_owner};
 pub use policies::{listed, policy_ids};

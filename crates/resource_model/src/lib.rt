@@ -4,6 +4,12 @@
 //! so that equal resources are equal records. `Home` has what an entity is called and who runs it,
 //! all of it admitted. Callers that make a resource hand in moments that have a timestamp and
 //! numbers below 2^63. Only what builds values takes memory.
+//!
+//! ```text
+//! let home = Home::with_defaults(alloc)?; // /id-in, cse-in, CAdmin
+//! let limit = resource.attrs().count(Attr::Mni);
+//! resource.id(alloc) // as cnt7
+//! ```
 #![tactic(auto)]
 
 mod attrs;

@@ -3,15 +3,5 @@ pub mod BelowLemmas
 pub mod PathLemmas
 pub mod TakeLemmas
 pub mod WalkLemmas
-pub mod MapLemmas
-pub mod ConditionLemmas
-pub mod ReachLemmas
 pub mod ForestLemmas
-pub mod ToldLemmas
-pub mod SightLemmas
-pub mod AnswerLemmas
-pub mod GuardLemmas
 pub mod MemberLemmas
-pub mod NamedLemmas
-pub mod RightLemmas
-pub mod OwnLemmas

@@ -1,11 +1,11 @@
 -- Lists of resources whose numbers ascend, each above that of its parent.
 use Rattle.std.specs.Prelude.{nat_lt}
-use Rattle.std.proofs.Common.{◌≡◌, ℕ, ◌<◌, List, [], ◌∷◌, ◌++◌, Bool, true, false, ◌&&◌, Some, inl, inr, refl, ◌∙◌, arith}
-use Rattle.std.specs.List.{AllByRecursion, filter, list_all}
-use Rattle.std.proofs.lemmas.Bool.{cases_Bool, and_parts, and_from, eq-eqb, ne_eqb, ltb-true, lt-ltb}
+use Rattle.std.proofs.Common.{◌≡◌, ℕ, ◌<◌, List, [], ◌∷◌, ◌++◌, Bool, true, ◌&&◌, refl, ◌∙◌}
+use Rattle.std.specs.List.{list_all}
+use Rattle.std.proofs.lemmas.Bool.{and_parts, and_from, ltb-true, lt-ltb}
 use Rattle.std.proofs.lemmas.List.Folds.{list_all-append}
-use Rattle.resource_model.specs.Resource.{ResourceData, has_number}
-use Rattle.tree_model.specs.Tree.{at, are_below, may_stand, is_tree}
+use Rattle.resource_model.specs.Resource.{ResourceData}
+use Rattle.tree_model.specs.Tree.{are_below, may_stand, is_tree}
 use Rattle.tree_model.proofs.GrowthLemmas.{growth, next_above_parent, next_fits}
 
 -- every number is above this one
@@ -41,35 +41,3 @@ pub in_order-tree : (nodes : List ResourceData) → is_tree nodes ≡ true → i
 in_order-tree = growth may_stand (λ nodes. in_order nodes ≡ true) refl (λ before r grew next holds.
     let fact = next_fits before r next in
     in_order-push before r holds fact.number (next_above_parent before r fact))
-
--- ---- each resource is found by its number
-
-abbrev pub Each : (ResourceData → Type 0) → List ResourceData → Type 0
-Each P nodes = AllByRecursion P nodes
-
-abbrev pub IsFound : List ResourceData → ResourceData → Type 0
-IsFound nodes r = at r.number nodes ≡ Some r
-
-found_later : (r : ResourceData) (later some : List ResourceData) → are_above r.number some ≡ true → Each (IsFound later) some → Each (IsFound (r ∷ later)) some
-found_later r later [] above each = tt
-found_later r later (s ∷ some) above each =
-    let parts = and_parts (nat_lt r.number s.number) _ above in
-    let less : r.number < s.number = ltb-true r.number s.number parts.0 in
-    let apart : has_number s.number r ≡ false = ne_eqb r.number s.number (λ e. omega (arith, less, e)) in
-    let here : at s.number (r ∷ later) ≡ Some s = rw apart each.0 in
-    (here, found_later r later some parts.1 each.1)
-
-pub each_found : (nodes : List ResourceData) → in_order nodes ≡ true → Each (IsFound nodes) nodes
-each_found [] order = tt
-each_found (r ∷ later) order =
-    let first = first_of r later order in
-    let here : at r.number (r ∷ later) ≡ Some r = rw (eq-eqb r.number r.number refl) refl in
-    (here, found_later r later later first.above (each_found later first.rest))
-
--- what holds of each holds of each that a filter leaves, and those pass it
-pub each-filter : (P : ResourceData → Type 0) (p : ResourceData → Bool) (nodes : List ResourceData) → Each P nodes → Each (λ r. P r × (p r ≡ true)) (filter p nodes)
-each-filter P p [] each = tt
-each-filter P p (r ∷ nodes) each = elim (cases_Bool (p r)) [
-  | inl t ↦ rw t ((each.0, t), each-filter P p nodes each.1)
-  | inr f ↦ rw f (each-filter P p nodes each.1)
-]

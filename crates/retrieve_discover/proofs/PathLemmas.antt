@@ -1,6 +1,6 @@
 -- Structured addresses, name by name.
-use Rattle.std.proofs.Common.{◌≡◌, ℕ, ◌<◌, List, [], ◌∷◌, ◌++◌, length, map, reverse, take, Some, None, refl, sym, ap, ◌∙◌, true, codes, arith}
-use Rattle.std.proofs.lemmas.List.{append_assoc, reverse-append, take_at}
+use Rattle.std.proofs.Common.{◌≡◌, ℕ, ◌<◌, List, [], ◌∷◌, ◌++◌, map, reverse, Some, None, sym, ap, ◌∙◌, true, codes, arith}
+use Rattle.std.proofs.lemmas.List.{reverse-append}
 use Rattle.resource_model.specs.Resource.{ResourceData}
 use Rattle.tree_model.specs.Tree.{at, has, is_tree, line_of}
 use Rattle.tree_model.proofs.GrowthLemmas.{stands}
@@ -9,16 +9,9 @@ use Rattle.std.proofs.lemmas.Str.{IsUtf8-append}
 use Rattle.std.specs.Str.{IsUtf8}
 use Rattle.tree_model.proofs.ShownLemmas.{slash_utf8}
 use Rattle.addressing.proofs.NameLemmas.{line_ends}
+use Rattle.addressing.proofs.PartLemmas.{joined_after}
 use Rattle.addressing.specs.Addresses.{joined}
 use Rattle.addressing.specs.Names.{names_to, structured_of}
-
-joined_last : (x : List ℕ) (xs : List (List ℕ)) (y : List ℕ) → joined ((x ∷ xs) ++ y ∷ []) ≡ joined (x ∷ xs) ++ 47 ∷ y
-joined_last x [] y = refl
-joined_last x (z ∷ xs) y = ap (λ rest. x ++ 47 ∷ rest) (joined_last z xs y) ∙ sym (append_assoc x (47 ∷ joined (z ∷ xs)) (47 ∷ y))
-
-joined_after : (front : List (List ℕ)) (x y : List ℕ) → joined ((front ++ x ∷ []) ++ y ∷ []) ≡ joined (front ++ x ∷ []) ++ 47 ∷ y
-joined_after [] x y = joined_last x [] y
-joined_after (z ∷ front) x y = joined_last z (front ++ x ∷ []) y
 
 names_grown : (nodes : List ResourceData) (n : ℕ) (r : ResourceData) → is_tree nodes ≡ true → at n nodes ≡ Some r → names_to n nodes ≡ names_to r.parent nodes ++ r.name ∷ []
 names_grown nodes n r tree found =

@@ -1,6 +1,6 @@
 -- A walk down a tree, child by child, that keeps what passes up to a limit.
 use Rattle.std.specs.Prelude.{slice_get}
-use Rattle.std.proofs.Common.{◌≡◌, ℕ, ◌+◌, ◌<◌, ◌≤◌, List, [], ◌∷◌, ◌++◌, length, take, drop, map, Bool, true, Some, None, inl, inr, sym, ap, ◌∙◌, arith}
+use Rattle.std.proofs.Common.{◌≡◌, ℕ, ◌+◌, ◌<◌, ◌≤◌, List, [], ◌∷◌, ◌++◌, length, take, drop, map, Bool, true, Some, None, inl, inr, refl, sym, ap, ◌∙◌, arith}
 use Rattle.std.specs.List.{filter, flat_map}
 use Rattle.std.proofs.lemmas.Bool.{cases_Bool}
 use Rattle.std.proofs.lemmas.List.{append-nil, append_assoc, drop_all, drop_more, length-append, map-append, take_all, take_at}
@@ -8,7 +8,7 @@ use Rattle.std.proofs.lemmas.List.Elements.{filter-append}
 use Rattle.std.proofs.lemmas.Option.{get_or_from_slice_get, slice_get_cases}
 use Rattle.m2m_value.specs.Data.{Data}
 use Rattle.resource_model.specs.Resource.{ResourceData}
-use Rattle.tree_model.specs.Tree.{children_of, is_tree, is_under}
+use Rattle.tree_model.specs.Tree.{children_of, is_tree, is_under, number_at}
 use Rattle.retrieve_discover.specs.Descendants.{below}
 use Rattle.retrieve_discover.proofs.BelowLemmas.{below_by_kids, with_below}
 use Rattle.retrieve_discover.proofs.TakeLemmas.{take-onto}
@@ -37,6 +37,10 @@ filter_short p (r ∷ rs) = let less = filter_short p rs in elim (cases_Bool (p 
 pub kids_past : (nodes : List ResourceData) (parent k : ℕ) → length nodes ≤ k → drop k (children_of parent nodes) ≡ []
 kids_past nodes parent k past = let short = filter_short (is_under parent) nodes in drop_all k (children_of parent nodes) (omega (arith, short, past))
 
+no_first : (rs : List ResourceData) → number_at 0 rs ≡ None → rs ≡ []
+no_first [] none = refl
+no_first (r ∷ rs) none = let some : Some r.number ≡ None = none in cc
+
 -- ---- what is kept
 
 module _ (show : ResourceData → Data) (p : ResourceData → Bool) where
@@ -53,6 +57,12 @@ module _ (show : ResourceData → Data) (p : ResourceData → Bool) where
       rest
       ∙ ap (λ ds. take limit (ds ++ kept (below r.number nodes))) first
       ∙ ap (take limit) (append_assoc front (kept (r ∷ [])) (kept (below r.number nodes)) ∙ ap (λ ds. front ++ ds) (sym (kept-append (r ∷ []) (below r.number nodes))))
+
+  -- what is kept of one resource, where nothing stands below it
+  pub kept_leaf : (limit : ℕ) (nodes : List ResourceData) (r : ResourceData) (front more : List Data) → is_tree nodes ≡ true → number_at 0 (children_of r.number nodes) ≡ None → length more ≤ limit → more ≡ front ++ kept (r ∷ []) → more ≡ take limit (front ++ kept (r ∷ below r.number nodes))
+  kept_leaf limit nodes r front more tree none room is =
+      let nothing : below r.number nodes ≡ [] = below_by_kids r.number nodes tree ∙ ap (flat_map (with_below nodes)) (no_first (children_of r.number nodes) none) in
+      sym (take_all limit more room) ∙ ap (take limit) (is ∙ ap (λ rs. front ++ kept (r ∷ rs)) (sym nothing))
 
   -- one child more
   pub kept_more : (limit : ℕ) (nodes kids : List ResourceData) (k : ℕ) (r : ResourceData) (front more all : List Data) → slice_get kids k ≡ Some r → more ≡ take limit (front ++ kept (r ∷ below r.number nodes)) → take limit (front ++ kept (flat_map (with_below nodes) (drop k kids))) ≡ all → take limit (more ++ kept (flat_map (with_below nodes) (drop (k + 1) kids))) ≡ all

@@ -13,9 +13,8 @@ use Rattle.primitive_json.specs.Kinds.{descendants_wanted, children_wanted}
 use Rattle.primitive_json.specs.Kinds.{children_alone_wanted}
 use Rattle.resource_model.specs.Home.{HomeData}
 use Rattle.resource_model.specs.Resource.{ResourceData}
-use Rattle.policy_eval.specs.Rights.{grants}
+use Rattle.policy_eval.specs.Rights.{grants, retrieve_bit}
 use Rattle.policy_eval.specs.Rules.{listed_in}
-use Rattle.policy_eval.specs.Seen.{retrieve_bit}
 use Rattle.tree_model.specs.Shown.{attributes_of, members_of, shown_rows, shown_ty, under_type}
 use Rattle.tree_model.specs.Tree.{children_of}
 use Rattle.entity_model.specs.Places.{wanted_content}
@@ -37,12 +36,12 @@ with_member key d es = insert_entry (slice_cmp nat_cmp) es key d
 
 -- the originator may retrieve it
 abbrev pub may_retrieve : HomeData → List ResourceData → List ℕ → ResourceData → Bool
-may_retrieve home nodes o r = grants home nodes o retrieve_bit r.number
+may_retrieve home nodes originator r = grants home nodes originator retrieve_bit r.number
 
 -- the first of those children that the originator may retrieve
 abbrev pub referred : HomeData → List ResourceData → List ℕ → ℕ → List ResourceData
-referred home nodes o n =
-    take most_listed (filter (may_retrieve home nodes o) (children_of n nodes))
+referred home nodes originator n =
+    take most_listed (filter (may_retrieve home nodes originator) (children_of n nodes))
 
 -- a reference: name, type and address of a child (the form is the profile's)
 abbrev pub reference : Bool → List ResourceData → ResourceData → Data
@@ -51,15 +50,16 @@ reference by_id nodes r = object (pairs_of (
     ∷ (val_name, address by_id nodes r) ∷ []))
 
 abbrev pub references : HomeData → List ResourceData → List ℕ → Bool → ℕ → Data
-references home nodes o by_id n =
-    list (elements_of (map (reference by_id nodes) (referred home nodes o n)))
+references home nodes originator by_id n =
+    list (elements_of (map (reference by_id nodes) (referred home nodes originator n)))
 
 -- ---- descendants
 
 -- a descendant of a resource is shown: the originator may retrieve it and all between it and that
 -- resource
 abbrev pub is_shown_below : HomeData → List ResourceData → List ℕ → ℕ → ResourceData → Bool
-is_shown_below home nodes o n r = list_all (may_retrieve home nodes o) (line_below n nodes r)
+is_shown_below home nodes originator n r =
+    list_all (may_retrieve home nodes originator) (line_below n nodes r)
 
 -- the most descendants that are shown (the number is the profile's)
 abbrev pub most_shown : ℕ
@@ -67,12 +67,13 @@ most_shown = 128
 
 -- the first of those that may be
 abbrev pub shown_below : HomeData → List ResourceData → List ℕ → ℕ → List ResourceData
-shown_below home nodes o n =
-    take most_shown (filter (is_shown_below home nodes o n) (below n nodes))
+shown_below home nodes originator n =
+    take most_shown (filter (is_shown_below home nodes originator n) (below n nodes))
 
 -- the same, each with what is shown below it
 abbrev pub shown_forest : HomeData → List ResourceData → List ℕ → ℕ → Forest
-shown_forest home nodes o n = cut_forest (forest_of (may_retrieve home nodes o) n nodes) most_shown
+shown_forest home nodes originator n =
+    cut_forest (forest_of (may_retrieve home nodes originator) n nodes) most_shown
 
 -- an object more at the end of the list that a member has
 abbrev pub with_last : List ℕ → Data → List Entry → List Entry
@@ -91,21 +92,22 @@ with_forest members (rooted r kids more) es =
 
 -- attributes and descendants; attributes and references to children; these alone
 abbrev pub whole : HomeData → List ResourceData → List ℕ → ResourceData → Data
-whole home nodes o r = under_type r.ty
-    (with_forest (members home nodes) (shown_forest home nodes o r.number) (members home nodes r))
+whole home nodes originator r = under_type r.ty
+    (with_forest (members home nodes) (shown_forest home nodes originator r.number)
+    (members home nodes r))
 
 abbrev pub with_references : HomeData → List ResourceData → List ℕ → Bool → ResourceData → Data
-with_references home nodes o by_id r = under_type r.ty
-    (with_member ch_name (references home nodes o by_id r.number) (members home nodes r))
+with_references home nodes originator by_id r = under_type r.ty
+    (with_member ch_name (references home nodes originator by_id r.number) (members home nodes r))
 
 abbrev pub references_alone : HomeData → List ResourceData → List ℕ → Bool → ResourceData → Data
-references_alone home nodes o by_id r =
-    under_type r.ty ((ch_name, references home nodes o by_id r.number) ∷ [])
+references_alone home nodes originator by_id r =
+    under_type r.ty ((ch_name, references home nodes originator by_id r.number) ∷ [])
 
 abbrev pub content : HomeData → List ResourceData → List ℕ → Bool → Option ℤ → ResourceData → Data
-content home nodes o by_id rcn r =
+content home nodes originator by_id rcn r =
     let wanted = wanted_content rcn in
-    if int_eq wanted descendants_wanted then whole home nodes o r else
-    if int_eq wanted children_wanted then with_references home nodes o by_id r else
-    if int_eq wanted children_alone_wanted then references_alone home nodes o by_id r else
+    if int_eq wanted descendants_wanted then whole home nodes originator r else
+    if int_eq wanted children_wanted then with_references home nodes originator by_id r else
+    if int_eq wanted children_alone_wanted then references_alone home nodes originator by_id r else
     attributes_of home nodes r

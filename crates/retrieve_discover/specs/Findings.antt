@@ -7,8 +7,7 @@ use Rattle.m2m_value.specs.Data.{Data, list, object, text, elements_of, pairs_of
 use Rattle.filter_criteria.specs.declared.filter.FilterParts.{FilterParts}
 use Rattle.resource_model.specs.Home.{HomeData}
 use Rattle.resource_model.specs.Resource.{ResourceData, id_of}
-use Rattle.policy_eval.specs.Rights.{grants}
-use Rattle.policy_eval.specs.Seen.{discovery_bit}
+use Rattle.policy_eval.specs.Rights.{grants, discovery_bit}
 use Rattle.addressing.specs.Names.{structured_of}
 use Rattle.retrieve_discover.specs.Conditions.{meets}
 use Rattle.retrieve_discover.specs.Descendants.{below}
@@ -23,16 +22,17 @@ most_of f = min (unwrap_or f.lim most_listed) most_listed
 
 -- the resource is found: the originator has DISCOVERY on it, and it meets all conditions
 abbrev pub is_found : HomeData → List ResourceData → List ℕ → FilterParts → ResourceData → Bool
-is_found home nodes o f r = grants home nodes o discovery_bit r.number && meets nodes f r
+is_found home nodes originator f r =
+    grants home nodes originator discovery_bit r.number && meets nodes f r
 
 -- those descendants of a resource that are found, in order
 abbrev pub all_found : HomeData → List ResourceData → List ℕ → FilterParts → ℕ →
     List ResourceData
-all_found home nodes o f n = filter (is_found home nodes o f) (below n nodes)
+all_found home nodes originator f n = filter (is_found home nodes originator f) (below n nodes)
 
 -- the first of them, as many as are given
 abbrev pub found : HomeData → List ResourceData → List ℕ → FilterParts → ℕ → List ResourceData
-found home nodes o f n = take (most_of f) (all_found home nodes o f n)
+found home nodes originator f n = take (most_of f) (all_found home nodes originator f n)
 
 -- ---- their addresses
 
@@ -50,5 +50,5 @@ address_list addresses = object (pairs_of ((uril_name, list (elements_of address
 -- what is found by a filter, by its addresses; without a filter nothing is
 abbrev pub found_addresses : HomeData → List ResourceData → List ℕ → Bool → Option FilterParts →
     ℕ → List Data
-found_addresses home nodes o by_id filter n =
-    option_map_or (λ f. map (address by_id nodes) (found home nodes o f n)) filter []
+found_addresses home nodes originator by_id filter n =
+    option_map_or (λ f. map (address by_id nodes) (found home nodes originator f n)) filter []

@@ -3,5 +3,3 @@ pub mod Descendants
 pub mod Findings
 pub mod Contents
 pub mod Replies
-pub mod Told
-pub mod Guard

@@ -28,22 +28,23 @@ is_by_id request = option_map_or (λ z. int_eq z unstructured_form) request.drt 
 
 -- a discovery below the resource of the number: refused without its right on it (TS-0001, 10.2.6)
 abbrev pub discovered : HomeData → List ResourceData → List ℕ → RequestParts → ℕ → ReplyParts
-discovered home nodes o request n =
-    if grants home nodes o (reading_bit true) n
+discovered home nodes originator request n =
+    if grants home nodes originator (reading_bit true) n
     then success request
-    (address_list (found_addresses home nodes o (is_by_id request) request.fc n))
+    (address_list (found_addresses home nodes originator (is_by_id request) request.fc n))
     else refusal request NoPrivilege
 
 -- a Retrieve of a resource: refused without its right on it, and then where it doesn't meet the
 -- conditions, so that these tell nothing to who may not retrieve it (TS-0001, 10.2.3)
 abbrev pub retrieved_of : HomeData → List ResourceData → List ℕ → RequestParts → ResourceData →
     ReplyParts
-retrieved_of home nodes o request r =
-    if not (grants home nodes o (reading_bit false) r.number) then refusal request NoPrivilege else
+retrieved_of home nodes originator request r =
+    if not (grants home nodes originator (reading_bit false) r.number)
+    then refusal request NoPrivilege else
     if not (meets_any nodes request.fc r) then refusal request NotFound else
-    success request (content home nodes o (is_by_id request) request.rcn r)
+    success request (content home nodes originator (is_by_id request) request.rcn r)
 
 -- of the resource of the number
 abbrev pub retrieved : HomeData → List ResourceData → List ℕ → RequestParts → ℕ → ReplyParts
-retrieved home nodes o request n =
-    option_map_or (retrieved_of home nodes o request) (at n nodes) (refusal request absent)
+retrieved home nodes originator request n =
+    option_map_or (retrieved_of home nodes originator request) (at n nodes) (refusal request absent)

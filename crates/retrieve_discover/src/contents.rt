@@ -20,20 +20,20 @@ pub(crate) fn content_of_reply<T: Tree>(
     alloc: Global,
     tree: &T,
     home: &Home,
-    o: &[u8],
+    originator: &[u8],
     request: &Request,
     target: &Resource,
 ) -> Result<Val, OutOfMemory>
     requires tree { IsTrue (is_tree (T.nodes tree.now)) }
-    requires originator { IsTrue (is_originator o.now) }
+    requires originator { IsTrue (is_originator originator.now) }
     requires target { at target.now.number (T.nodes tree.now) ≡ Some target.now }
-    ensures { IfOk result (λ v. v ≡ spec.content home.now (T.nodes tree.now) o.now
+    ensures { IfOk result (λ v. v ≡ spec.content home.now (T.nodes tree.now) originator.now
         (is_by_id request.now) request.now.rcn target.now) }
 {
     let look = Look {
         tree,
         home,
-        o,
+        originator,
         by_id: replies::is_by_id(request),
     };
     match wanted_content(request) {
@@ -49,9 +49,9 @@ const MOST_SHOWN: usize = 128;
 
 fn whole<T: Tree>(alloc: Global, look: &Look<T>, target: &Resource) -> Result<Val, OutOfMemory>
     requires tree { IsTrue (is_tree (T.nodes look.now.tree.now)) }
-    requires originator { IsTrue (is_originator look.now.o.now) }
+    requires originator { IsTrue (is_originator look.now.originator.now) }
     ensures { IfOk result (λ v. v ≡ spec.whole look.now.home.now (T.nodes look.now.tree.now)
-        look.now.o.now target.now) }
+        look.now.originator.now target.now) }
 {
     let mut shown = members_of(alloc, look, target)?;
     let mut left = MOST_SHOWN;
@@ -65,10 +65,10 @@ fn with_references<T: Tree>(
     target: &Resource,
 ) -> Result<Val, OutOfMemory>
     requires tree { IsTrue (is_tree (T.nodes look.now.tree.now)) }
-    requires originator { IsTrue (is_originator look.now.o.now) }
+    requires originator { IsTrue (is_originator look.now.originator.now) }
     requires target { at target.now.number (T.nodes look.now.tree.now) ≡ Some target.now }
     ensures { IfOk result (λ v. v ≡ spec.with_references look.now.home.now
-        (T.nodes look.now.tree.now) look.now.o.now look.now.by_id target.now) }
+        (T.nodes look.now.tree.now) look.now.originator.now look.now.by_id target.now) }
 {
     let mut shown = members_of(alloc, look, target)?;
     let children = references(alloc, look, target)?;
@@ -82,10 +82,10 @@ fn references_alone<T: Tree>(
     target: &Resource,
 ) -> Result<Val, OutOfMemory>
     requires tree { IsTrue (is_tree (T.nodes look.now.tree.now)) }
-    requires originator { IsTrue (is_originator look.now.o.now) }
+    requires originator { IsTrue (is_originator look.now.originator.now) }
     requires target { at target.now.number (T.nodes look.now.tree.now) ≡ Some target.now }
     ensures { IfOk result (λ v. v ≡ spec.references_alone look.now.home.now
-        (T.nodes look.now.tree.now) look.now.o.now look.now.by_id target.now) }
+        (T.nodes look.now.tree.now) look.now.originator.now look.now.by_id target.now) }
 {
     let children = references(alloc, look, target)?;
     under_type(alloc, target.ty(), only_member(alloc, b"ch", children)?)

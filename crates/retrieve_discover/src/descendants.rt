@@ -27,14 +27,15 @@ pub(crate) fn add_descendants<T: Tree>(
     members: &mut Members,
 ) -> Result<(), OutOfMemory>
     requires tree { IsTrue (is_tree (T.nodes look.now.tree.now)) }
-    requires originator { IsTrue (is_originator look.now.o.now) }
+    requires originator { IsTrue (is_originator look.now.originator.now) }
     ensures members { OnOk result (members.new
         ≡ spec.with_forest (spec.members look.now.home.now (T.nodes look.now.tree.now))
         (cut_forest (forest_of
-        (spec.may_retrieve look.now.home.now (T.nodes look.now.tree.now) look.now.o.now)
+        (spec.may_retrieve look.now.home.now (T.nodes look.now.tree.now) look.now.originator.now)
         parent (T.nodes look.now.tree.now)) left.old) members.old) }
     ensures left { OnOk result (left.new ≡ left.old - forest_size
-        (forest_of (spec.may_retrieve look.now.home.now (T.nodes look.now.tree.now) look.now.o.now)
+        (forest_of
+        (spec.may_retrieve look.now.home.now (T.nodes look.now.tree.now) look.now.originator.now)
         parent (T.nodes look.now.tree.now))) }
     ensures keys { OnOk result (HaveTextKeys members.old → HaveTextKeys members.new) }
 {
@@ -60,16 +61,16 @@ fn add_child<T: Tree>(
     members: &mut Members,
 ) -> Result<(), OutOfMemory>
     requires tree { IsTrue (is_tree (T.nodes look.now.tree.now)) }
-    requires originator { IsTrue (is_originator look.now.o.now) }
+    requires originator { IsTrue (is_originator look.now.originator.now) }
     requires child { at child.now.number (T.nodes look.now.tree.now) ≡ Some child.now }
     requires left { 0 < left.old }
     ensures members { OnOk result (members.new
         ≡ spec.with_forest (spec.members look.now.home.now (T.nodes look.now.tree.now))
         (cut_forest (reached_forest
-        (spec.may_retrieve look.now.home.now (T.nodes look.now.tree.now) look.now.o.now)
+        (spec.may_retrieve look.now.home.now (T.nodes look.now.tree.now) look.now.originator.now)
         (T.nodes look.now.tree.now) child.now) left.old) members.old) }
     ensures left { OnOk result (left.new ≡ left.old - forest_size (reached_forest
-        (spec.may_retrieve look.now.home.now (T.nodes look.now.tree.now) look.now.o.now)
+        (spec.may_retrieve look.now.home.now (T.nodes look.now.tree.now) look.now.originator.now)
         (T.nodes look.now.tree.now) child.now)) }
     ensures keys { OnOk result (HaveTextKeys members.old → HaveTextKeys members.new) }
 {

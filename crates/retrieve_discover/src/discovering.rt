@@ -27,20 +27,28 @@ pub fn discover<T: Tree>(
     alloc: Global,
     tree: &T,
     home: &Home,
-    o: &[u8],
+    originator: &[u8],
     request: &Request,
     target: u64,
 ) -> Result<Reply, OutOfMemory>
-    requires originator { IsTrue (is_originator o.now) }
+    requires originator { IsTrue (is_originator originator.now) }
     requires resource { IsTrue (has target (T.nodes tree.now)) }
     ensures { IfOk result (λ r. r
-        ≡ discovered home.now (T.nodes tree.now) o.now request.now target) }
+        ≡ discovered home.now (T.nodes tree.now) originator.now request.now target) }
 {
-    if !granted(tree, home, o, DISCOVERY_BIT, target) {
+    if !granted(tree, home, originator, DISCOVERY_BIT, target) {
         return refuse(alloc, request, Rsc::NoPrivilege);
     }
     let filter = request.parts().fc.as_ref();
-    let addresses = found_by(alloc, tree, home, o, is_by_id(request), filter, target)?;
+    let addresses = found_by(
+        alloc,
+        tree,
+        home,
+        originator,
+        is_by_id(request),
+        filter,
+        target,
+    )?;
     succeed(alloc, request, address_list(alloc, addresses)?)
 }
 
@@ -49,18 +57,19 @@ fn found_by<T: Tree>(
     alloc: Global,
     tree: &T,
     home: &Home,
-    o: &[u8],
+    originator: &[u8],
     by_id: bool,
     filter: Option<&Filter>,
     target: u64,
 ) -> Result<Vec<Val>, OutOfMemory>
-    requires originator { IsTrue (is_originator o.now) }
+    requires originator { IsTrue (is_originator originator.now) }
     requires resource { IsTrue (has target (T.nodes tree.now)) }
-    ensures { IfOk result (λ v. v.items ≡ spec.found_addresses home.now (T.nodes tree.now) o.now
-        by_id (option_copied filter.entry) target) }
+    ensures { IfOk result (λ v. v.items
+        ≡ spec.found_addresses home.now (T.nodes tree.now) originator.now by_id
+        (option_copied filter.entry) target) }
 {
     match filter {
-        Some(filter) => addresses(alloc, tree, home, o, by_id, filter.parts(), target),
+        Some(filter) => addresses(alloc, tree, home, originator, by_id, filter.parts(), target),
         None => Ok(Vec::new(alloc)),
     }
 }
@@ -69,20 +78,20 @@ fn addresses<T: Tree>(
     alloc: Global,
     tree: &T,
     home: &Home,
-    o: &[u8],
+    originator: &[u8],
     by_id: bool,
     filter: &FilterParts,
     target: u64,
 ) -> Result<Vec<Val>, OutOfMemory>
-    requires originator { IsTrue (is_originator o.now) }
+    requires originator { IsTrue (is_originator originator.now) }
     requires resource { IsTrue (has target (T.nodes tree.now)) }
     ensures { IfOk result (λ v. v.items ≡ map (spec.address by_id (T.nodes tree.now))
-        (spec.found home.now (T.nodes tree.now) o.now filter.now target)) }
+        (spec.found home.now (T.nodes tree.now) originator.now filter.now target)) }
 {
     let wanted = Wanted {
         tree,
         home,
-        o,
+        originator,
         filter,
         by_id,
         limit: limit(filter),
@@ -102,11 +111,11 @@ fn from_target<T: Tree>(
     wanted: &Wanted<T>,
     target: u64,
 ) -> Result<Vec<Val>, OutOfMemory>
-    requires originator { IsTrue (is_originator wanted.now.o.now) }
+    requires originator { IsTrue (is_originator wanted.now.originator.now) }
     requires resource { IsTrue (has target (T.nodes wanted.now.tree.now)) }
     ensures { IfOk result (λ v. v.items ≡ take wanted.now.limit
         (map (spec.address wanted.now.by_id (T.nodes wanted.now.tree.now))
-        (spec.all_found wanted.now.home.now (T.nodes wanted.now.tree.now) wanted.now.o.now
+        (spec.all_found wanted.now.home.now (T.nodes wanted.now.tree.now) wanted.now.originator.now
         wanted.now.filter.now target))) }
 {
     // That it is a tree is told by its length.
@@ -123,11 +132,11 @@ fn from_resource<T: Tree>(
     target: &Resource,
 ) -> Result<Vec<Val>, OutOfMemory>
     requires tree { IsTrue (is_tree (T.nodes wanted.now.tree.now)) }
-    requires originator { IsTrue (is_originator wanted.now.o.now) }
+    requires originator { IsTrue (is_originator wanted.now.originator.now) }
     requires target { at target.now.number (T.nodes wanted.now.tree.now) ≡ Some target.now }
     ensures { IfOk result (λ v. v.items ≡ take wanted.now.limit
         (map (spec.address wanted.now.by_id (T.nodes wanted.now.tree.now))
-        (spec.all_found wanted.now.home.now (T.nodes wanted.now.tree.now) wanted.now.o.now
+        (spec.all_found wanted.now.home.now (T.nodes wanted.now.tree.now) wanted.now.originator.now
         wanted.now.filter.now target.now.number))) }
 {
     let mut path = path_to(alloc, wanted.tree, target)?;

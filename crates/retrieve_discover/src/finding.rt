@@ -11,7 +11,7 @@ use crate::conditions::meets;
 use crate::paths::{address, go_down};
 use m2m_names::DISCOVERY_BIT;
 use m2m_value::Val;
-use policy_eval::granted;
+use policy_eval::granted_on;
 use primitive_json::FilterParts;
 use std::alloc::{AllocError as OutOfMemory, Global};
 use tree_model::{Home, Resource, Tree, child_at};
@@ -21,7 +21,7 @@ use tree_model::{Home, Resource, Tree, child_at};
 pub(crate) struct Wanted<'a, T: Tree> {
     pub tree: &'a T,
     pub home: &'a Home,
-    pub o: &'a [u8],
+    pub originator: &'a [u8],
     pub filter: &'a FilterParts,
     pub by_id: bool,
     pub limit: usize,
@@ -37,14 +37,14 @@ pub(crate) fn find_below<T: Tree>(
     found: &mut Vec<Val>,
 ) -> Result<(), OutOfMemory>
     requires tree { IsTrue (is_tree (T.nodes wanted.now.tree.now)) }
-    requires originator { IsTrue (is_originator wanted.now.o.now) }
+    requires originator { IsTrue (is_originator wanted.now.originator.now) }
     requires parent { IsTrue (has parent (T.nodes wanted.now.tree.now)) }
     requires path { path.old.items ≡ structured_of parent (T.nodes wanted.now.tree.now) }
     requires utf8 { IsUtf8 path.old.items }
     requires room { length found.old.items ≤ wanted.now.limit }
     ensures found { OnOk result (found.new.items ≡ take wanted.now.limit
         (found.old.items ++ map (spec.address wanted.now.by_id (T.nodes wanted.now.tree.now))
-        (spec.all_found wanted.now.home.now (T.nodes wanted.now.tree.now) wanted.now.o.now
+        (spec.all_found wanted.now.home.now (T.nodes wanted.now.tree.now) wanted.now.originator.now
         wanted.now.filter.now parent))) }
     ensures path { OnOk result (path.new.items ≡ path.old.items) }
 {
@@ -70,7 +70,7 @@ fn visit<T: Tree>(
     found: &mut Vec<Val>,
 ) -> Result<(), OutOfMemory>
     requires tree { IsTrue (is_tree (T.nodes wanted.now.tree.now)) }
-    requires originator { IsTrue (is_originator wanted.now.o.now) }
+    requires originator { IsTrue (is_originator wanted.now.originator.now) }
     requires child { at child.now.number (T.nodes wanted.now.tree.now) ≡ Some child.now }
     requires parent { IsTrue (has child.now.parent (T.nodes wanted.now.tree.now)) }
     requires path { path.old.items
@@ -79,50 +79,61 @@ fn visit<T: Tree>(
     requires room { length found.old.items < wanted.now.limit }
     ensures found { OnOk result (found.new.items ≡ take wanted.now.limit
         (found.old.items ++ map (spec.address wanted.now.by_id (T.nodes wanted.now.tree.now))
-        (filter (spec.is_found wanted.now.home.now (T.nodes wanted.now.tree.now) wanted.now.o.now
-        wanted.now.filter.now)
+        (filter (spec.is_found wanted.now.home.now (T.nodes wanted.now.tree.now)
+        wanted.now.originator.now wanted.now.filter.now)
         (child.now ∷ below child.now.number (T.nodes wanted.now.tree.now))))) }
     ensures path { OnOk result (path.new.items ≡ path.old.items) }
 {
+    add_found(alloc, wanted, child, path, found)?;
+    let Some(_) = wanted.tree.kid(child.number(), 0) else {
+        return Ok(());
+    };
     let above = path.len();
     go_down(path, child)?;
-    add_found(alloc, wanted, child, path, found)?;
     find_below(alloc, wanted, child.number(), path, found)?;
     path.truncate(above);
     Ok(())
 }
 
-// Adds the address of a resource, whose path this is, where it is found.
+// Adds the address of a child, behind whose parent's path this is, where it is found.
 fn add_found<T: Tree>(
     alloc: Global,
     wanted: &Wanted<T>,
-    resource: &Resource,
-    path: &[u8],
+    child: &Resource,
+    path: &mut Vec<u8>,
     found: &mut Vec<Val>,
 ) -> Result<(), OutOfMemory>
-    requires originator { IsTrue (is_originator wanted.now.o.now) }
-    requires resource { IsTrue (has resource.now.number (T.nodes wanted.now.tree.now)) }
-    requires path { path.now
-        ≡ structured_of resource.now.number (T.nodes wanted.now.tree.now) }
-    requires utf8 { IsUtf8 path.now }
-    ensures { OnOk result (found.new.items ≡ found.old.items
+    requires tree { IsTrue (is_tree (T.nodes wanted.now.tree.now)) }
+    requires originator { IsTrue (is_originator wanted.now.originator.now) }
+    requires child { at child.now.number (T.nodes wanted.now.tree.now) ≡ Some child.now }
+    requires parent { IsTrue (has child.now.parent (T.nodes wanted.now.tree.now)) }
+    requires path { path.old.items
+        ≡ structured_of child.now.parent (T.nodes wanted.now.tree.now) }
+    requires utf8 { IsUtf8 path.old.items }
+    ensures found { OnOk result (found.new.items ≡ found.old.items
         ++ map (spec.address wanted.now.by_id (T.nodes wanted.now.tree.now))
-        (filter (spec.is_found wanted.now.home.now (T.nodes wanted.now.tree.now) wanted.now.o.now
-        wanted.now.filter.now) (resource.now ∷ []))) }
+        (filter (spec.is_found wanted.now.home.now (T.nodes wanted.now.tree.now)
+        wanted.now.originator.now wanted.now.filter.now) (child.now ∷ []))) }
+    ensures path { OnOk result (path.new.items ≡ path.old.items) }
 {
-    if is_found(wanted, resource) {
-        found.push(address(alloc, wanted.tree, wanted.by_id, resource, path)?)?;
+    if !is_found(wanted, child) {
+        return Ok(());
     }
+    let above = path.len();
+    go_down(path, child)?;
+    found.push(address(alloc, wanted.tree, wanted.by_id, child, path)?)?;
+    path.truncate(above);
     Ok(())
 }
 
+// Its filter is tried before the right, which costs more.
 fn is_found<T: Tree>(wanted: &Wanted<T>, resource: &Resource) -> bool
-    requires originator { IsTrue (is_originator wanted.now.o.now) }
-    requires resource { IsTrue (has resource.now.number (T.nodes wanted.now.tree.now)) }
+    requires originator { IsTrue (is_originator wanted.now.originator.now) }
+    requires resource { at resource.now.number (T.nodes wanted.now.tree.now) ≡ Some resource.now }
     ensures { result ≡ spec.is_found wanted.now.home.now (T.nodes wanted.now.tree.now)
-        wanted.now.o.now wanted.now.filter.now resource.now }
+        wanted.now.originator.now wanted.now.filter.now resource.now }
 {
-    let number = resource.number();
-    granted(wanted.tree, wanted.home, wanted.o, DISCOVERY_BIT, number)
-        && meets(wanted.tree, wanted.filter, resource)
+    let bit = DISCOVERY_BIT;
+    meets(wanted.tree, wanted.filter, resource)
+        && granted_on(wanted.tree, wanted.home, wanted.originator, bit, resource)
 }

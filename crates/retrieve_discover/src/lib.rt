@@ -7,7 +7,14 @@
 //! the target, and what is found is what it may discover. The code walks down by the children of
 //! one resource after another, and stops at the limits.
 //!
-//! Callers owe that the originator is one and that the tree has the target.
+//! Callers owe that the originator is one and that the tree has the target. The laws on what is
+//! shown and found stand in retrieve_laws.
+//!
+//! ```text
+//! let base = 1; // the CSEBase
+//! let shown = retrieve(alloc, tree, home, b"CAdmin", request, base)?;
+//! discover(alloc, tree, home, b"CAdmin", request, base)
+//! ```
 #![tactic(auto)]
 
 mod conditions;
@@ -15,7 +22,6 @@ mod contents;
 mod descendants;
 mod discovering;
 mod finding;
-mod laws;
 mod look;
 mod paths;
 mod references;
@@ -24,9 +30,5 @@ mod retrieving;
 
 pub use conditions::{holds, meets};
 pub use discovering::discover;
-pub use laws::{
-    nothing_is_shown_or_found_without_a_grant, others_are_shown_and_found_by_right,
-    sight_keeps_what_is_found, sight_keeps_what_is_shown, what_is_shown_is_a_filter,
-};
 pub use retrieving::retrieve;
 pub use std::alloc::AllocError as OutOfMemory;

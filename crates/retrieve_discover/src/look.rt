@@ -1,13 +1,13 @@
 //! By whom resources are looked at, and where.
-ghost use Rattle.std.specs.Prelude.{◌≡◌, IfOk, IsTrue};
+ghost use Rattle.std.specs.Prelude.{◌≡◌, IfOk, IsTrue, Some};
 ghost use Rattle.m2m_names.specs.Name.{is_originator};
 ghost use Rattle.m2m_value.specs.Node.{HaveTextKeys};
-ghost use Rattle.tree_model.specs.Tree.{has};
+ghost use Rattle.tree_model.specs.Tree.{at};
 ghost use Rattle.retrieve_discover.specs.Contents as spec;
 
 use m2m_names::Op;
 use m2m_value::Members;
-use policy_eval::granted;
+use policy_eval::granted_on;
 use std::alloc::{AllocError as OutOfMemory, Global};
 use tree_model::{Home, Resource, Tree, shown};
 
@@ -16,19 +16,19 @@ use tree_model::{Home, Resource, Tree, shown};
 pub(crate) struct Look<'a, T: Tree> {
     pub tree: &'a T,
     pub home: &'a Home,
-    pub o: &'a [u8],
+    pub originator: &'a [u8],
     pub by_id: bool,
 }
 
 /// Whether the originator may retrieve the resource.
 pub(crate) fn may_retrieve<T: Tree>(look: &Look<T>, resource: &Resource) -> bool
-    requires originator { IsTrue (is_originator look.now.o.now) }
-    requires resource { IsTrue (has resource.now.number (T.nodes look.now.tree.now)) }
+    requires originator { IsTrue (is_originator look.now.originator.now) }
+    requires resource { at resource.now.number (T.nodes look.now.tree.now) ≡ Some resource.now }
     ensures { result ≡ spec.may_retrieve look.now.home.now (T.nodes look.now.tree.now)
-        look.now.o.now resource.now }
+        look.now.originator.now resource.now }
 {
     let bit = Op::Retrieve.bit();
-    granted(look.tree, look.home, look.o, bit, resource.number())
+    granted_on(look.tree, look.home, look.originator, bit, resource)
 }
 
 /// The members of a resource's object: its attributes.

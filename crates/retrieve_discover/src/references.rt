@@ -23,10 +23,10 @@ pub(crate) fn references<T: Tree>(
     target: &Resource,
 ) -> Result<Val, OutOfMemory>
     requires tree { IsTrue (is_tree (T.nodes look.now.tree.now)) }
-    requires originator { IsTrue (is_originator look.now.o.now) }
+    requires originator { IsTrue (is_originator look.now.originator.now) }
     requires target { at target.now.number (T.nodes look.now.tree.now) ≡ Some target.now }
     ensures { IfOk result (λ v. v ≡ spec.references look.now.home.now (T.nodes look.now.tree.now)
-        look.now.o.now look.now.by_id target.now.number) }
+        look.now.originator.now look.now.by_id target.now.number) }
 {
     Ok(Val::of_list(Items::of(all_references(alloc, look, target)?)))
 }
@@ -37,11 +37,11 @@ fn all_references<T: Tree>(
     target: &Resource,
 ) -> Result<Vec<Val>, OutOfMemory>
     requires tree { IsTrue (is_tree (T.nodes look.now.tree.now)) }
-    requires originator { IsTrue (is_originator look.now.o.now) }
+    requires originator { IsTrue (is_originator look.now.originator.now) }
     requires target { at target.now.number (T.nodes look.now.tree.now) ≡ Some target.now }
     ensures { IfOk result (λ v. v.items
         ≡ map (spec.reference look.now.by_id (T.nodes look.now.tree.now))
-        (spec.referred look.now.home.now (T.nodes look.now.tree.now) look.now.o.now
+        (spec.referred look.now.home.now (T.nodes look.now.tree.now) look.now.originator.now
         target.now.number)) }
 {
     let mut path = path_to(alloc, look.tree, target)?;
@@ -67,14 +67,15 @@ fn add_reference<T: Tree>(
     references: &mut Vec<Val>,
 ) -> Result<(), OutOfMemory>
     requires tree { IsTrue (is_tree (T.nodes look.now.tree.now)) }
-    requires originator { IsTrue (is_originator look.now.o.now) }
+    requires originator { IsTrue (is_originator look.now.originator.now) }
     requires child { at child.now.number (T.nodes look.now.tree.now) ≡ Some child.now }
     requires parent { IsTrue (has child.now.parent (T.nodes look.now.tree.now)) }
     requires path { path.old.items ≡ structured_of child.now.parent (T.nodes look.now.tree.now) }
     requires utf8 { IsUtf8 path.old.items }
     ensures value { OnOk result (references.new.items ≡ references.old.items
         ++ map (spec.reference look.now.by_id (T.nodes look.now.tree.now))
-        (filter (spec.may_retrieve look.now.home.now (T.nodes look.now.tree.now) look.now.o.now)
+        (filter
+        (spec.may_retrieve look.now.home.now (T.nodes look.now.tree.now) look.now.originator.now)
         (child.now ∷ []))) }
     ensures path { OnOk result (path.new.items ≡ path.old.items) }
 {

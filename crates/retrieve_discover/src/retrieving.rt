@@ -9,7 +9,7 @@ use crate::contents::content_of_reply;
 use crate::replies::succeed;
 use entity_model::refuse;
 use m2m_names::{Op, Rsc};
-use policy_eval::granted;
+use policy_eval::granted_on;
 use primitive_json::{Reply, Request};
 use std::alloc::{AllocError as OutOfMemory, Global};
 use tree_model::{Home, Resource, Tree};
@@ -24,19 +24,19 @@ pub fn retrieve<T: Tree>(
     alloc: Global,
     tree: &T,
     home: &Home,
-    o: &[u8],
+    originator: &[u8],
     request: &Request,
     target: u64,
 ) -> Result<Reply, OutOfMemory>
-    requires originator { IsTrue (is_originator o.now) }
+    requires originator { IsTrue (is_originator originator.now) }
     requires resource { IsTrue (has target (T.nodes tree.now)) }
     ensures { IfOk result (λ r. r
-        ≡ retrieved home.now (T.nodes tree.now) o.now request.now target) }
+        ≡ retrieved home.now (T.nodes tree.now) originator.now request.now target) }
 {
     // That it is a tree is told by its length.
     let _count = tree.len();
     match tree.get(target) {
-        Some(resource) => retrieve_of(alloc, tree, home, o, request, resource),
+        Some(resource) => retrieve_of(alloc, tree, home, originator, request, resource),
         None => refuse(alloc, request, Rsc::NotFound),
     }
 }
@@ -45,22 +45,22 @@ fn retrieve_of<T: Tree>(
     alloc: Global,
     tree: &T,
     home: &Home,
-    o: &[u8],
+    originator: &[u8],
     request: &Request,
     target: &Resource,
 ) -> Result<Reply, OutOfMemory>
     requires tree { IsTrue (is_tree (T.nodes tree.now)) }
-    requires originator { IsTrue (is_originator o.now) }
+    requires originator { IsTrue (is_originator originator.now) }
     requires target { at target.now.number (T.nodes tree.now) ≡ Some target.now }
     ensures { IfOk result (λ r. r
-        ≡ retrieved_of home.now (T.nodes tree.now) o.now request.now target.now) }
+        ≡ retrieved_of home.now (T.nodes tree.now) originator.now request.now target.now) }
 {
-    if !granted(tree, home, o, Op::Retrieve.bit(), target.number()) {
+    if !granted_on(tree, home, originator, Op::Retrieve.bit(), target) {
         return refuse(alloc, request, Rsc::NoPrivilege);
     }
     if !meets_any(tree, request.parts().fc.as_ref(), target) {
         return refuse(alloc, request, Rsc::NotFound);
     }
-    let shown = content_of_reply(alloc, tree, home, o, request, target)?;
+    let shown = content_of_reply(alloc, tree, home, originator, request, target)?;
     succeed(alloc, request, shown)
 }

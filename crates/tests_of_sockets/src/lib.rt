@@ -1,6 +1,6 @@
-//! The tests of the sockets of tcp_door, over the loopback. Without its tests this library is
+//! The tests of the sockets of devices, over the loopback. Without its tests this library is
 //! empty, and no crate stands on it.
 #![tactic(auto)]
 
 #[cfg(test)]
-mod of_tcp_door;
+mod of_sockets;

@@ -3,8 +3,8 @@ use crate::samples::{sample, shown};
 use plain_tree::ListTree;
 use std::alloc::{AllocError, Global};
 use tree_model::{
-    Resource, Tree, child_at, child_named, has_ae, has_channel, has_child, has_cse, instance_at,
-    may_replace, may_restamp, over, stands_in, subscription_at,
+    Resource, Tree, child_at, child_named, has_ae, has_channel, has_child, has_cse, may_replace,
+    may_restamp, over, over_instances, stands_in, subscription_at,
 };
 
 const CONTAINER: &str = "{\"m2m:cnt\":{\"cbs\":13,\"cni\":2,\"ct\":\"19700101T000140\",\
@@ -38,15 +38,24 @@ fn number(found: Option<&Resource>) -> Option<u64> {
     Some(found?.number())
 }
 
-// What stands at a place among the children, the subscriptions and the instances.
-fn at_places(tree: &ListTree, parent: u64, place: u64) -> [Option<u64>; 6] {
+// What stands at a place among the children and the subscriptions.
+fn at_places(tree: &ListTree, parent: u64, place: u64) -> [Option<u64>; 4] {
     [
         tree.kid(parent, place),
         number(child_at(tree, parent, place)),
         tree.sub(parent, place),
         number(subscription_at(tree, parent, place)),
-        tree.instance_at(parent, place),
-        number(instance_at(tree, parent, place)),
+    ]
+}
+
+// The first instance, the next after it, the first resource after a number, and the one after that.
+fn afterwards(tree: &ListTree, parent: u64, after: u64) -> [Option<u64>; 4] {
+    let mut oldest = over_instances(tree, parent);
+    [
+        number(oldest.next()),
+        number(oldest.next()),
+        number(tree.after(after)),
+        tree.instance_after(parent, after),
     ]
 }
 
@@ -63,12 +72,16 @@ fn below(tree: &ListTree, parent: u64, name: &[u8]) -> [Option<u64>; 4] {
 #[test]
 fn answers_what_procedures_ask(rt: HostRuntime) -> Result<(), AllocError> {
     let tree = sample(rt.alloc())?;
-    let places = [Some(6), Some(6), Some(14), Some(14), Some(6), Some(6)];
-    assert_eq!(rt; at_places(&tree, 4, 0), places);
     assert_eq!(rt;
-        at_places(&tree, 4, 1),
-        [Some(7), Some(7), None, None, Some(7), Some(7)]
+        at_places(&tree, 4, 0),
+        [Some(6), Some(6), Some(14), Some(14)]
     );
+    assert_eq!(rt; at_places(&tree, 4, 1), [Some(7), Some(7), None, None]);
+    assert_eq!(rt;
+        afterwards(&tree, 4, 6),
+        [Some(6), Some(7), Some(7), Some(7)]
+    );
+    assert_eq!(rt; afterwards(&tree, 3, 9), [None, None, Some(10), None]);
     assert_eq!(rt; below(&tree, 4, b"new"), [Some(7), Some(6), None, Some(7)]);
     assert_eq!(rt; below(&tree, 3, b"new"), [None, None, Some(9), None]);
     assert!(rt; tree.instance_count(4) == 2 && tree.instance_sizes(4) == 13);

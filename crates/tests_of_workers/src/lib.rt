@@ -4,7 +4,7 @@
 #![tactic(auto)]
 
 #[cfg(test)]
-mod of_tcp_door;
+mod of_sockets;
 #[cfg(test)]
 mod of_workers;
 #[cfg(test)]

@@ -44,7 +44,7 @@ impl Source for Client {
 
     ghost faults = { λ c. c.faults };
 
-    ghost kept_by_read = { λ _. side_of None 0 [] };
+    ghost kept_by_read = { λ _. side_of None 0 None [] };
 
     fn read(&mut self, buf: &mut [u8]) -> Result<usize, Failed> {
         if self.has_company()
@@ -62,7 +62,9 @@ impl Sink for Client {
 
     ghost faults = { λ _. 0 };
 
-    ghost kept_by_put = { λ c. side_of None c.faults [] };
+    ghost puts = { λ _. None };
+
+    ghost kept_by_put = { λ c. side_of None c.faults None [] };
 
     fn put(&mut self, bytes: &[u8]) -> Result<(), Failed> {
         if let Ok(reply) = str::from_utf8(bytes)
@@ -137,6 +139,28 @@ fn two_clients(alloc: Global, came: &Arc<AtomicU64>) -> Result<Vec<Client>, Allo
         &heard,
     )?;
     Ok(vec![in alloc; one, two]?)
+}
+
+/// Two clients that need each other's company, and behind them two more.
+fn two_pairs(alloc: Global, came: &Arc<AtomicU64>) -> Result<Vec<Client>, AllocError> {
+    let mut clients = two_clients(alloc, came)?;
+    for client in two_clients(alloc, came)? {
+        clients.push(client)?;
+    }
+    Ok(clients)
+}
+
+#[test]
+fn two_that_wait_are_served_beside_each_other_once_two_are_done(
+    rt: HostRuntime,
+) -> Result<(), Fail> {
+    let alloc = rt.alloc();
+    let came = Arc::new(alloc, AtomicU64::new(0))?;
+    let door = MemDoor::new(two_pairs(alloc, &came)?, Vec::new(alloc));
+    let status = serve_by(&rt, alloc, &["serve"], door)?;
+    assert_eq!(rt; status, Status::Done);
+    assert_eq!(rt; came.load(Ordering::SeqCst), 400);
+    Ok(())
 }
 
 #[test]

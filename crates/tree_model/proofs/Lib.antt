@@ -11,3 +11,8 @@ pub mod StampLemmas
 pub mod ChangeLemmas
 pub mod ApartLemmas
 pub mod IdLemmas
+pub mod ListingLemmas
+pub mod WalkLemmas
+pub mod ManyLemmas
+pub mod StepLemmas
+pub mod OverdueLemmas

@@ -21,7 +21,7 @@ abbrev pub ascend : List ResourceData → Bool
 ascend [] = true
 ascend (r ∷ nodes) = are_above r.number nodes && ascend nodes
 
-above_push : (n : ℕ) (nodes : List ResourceData) (r : ResourceData) → are_above n nodes ≡ true → n < r.number → are_above n (nodes ++ r ∷ []) ≡ true
+pub above_push : (n : ℕ) (nodes : List ResourceData) (r : ResourceData) → are_above n nodes ≡ true → n < r.number → are_above n (nodes ++ r ∷ []) ≡ true
 above_push n nodes r above less = list_all-append _ nodes (r ∷ []) ∙ and_from _ _ above (and_from _ _ (lt-ltb n r.number less) refl)
 
 ascend_push : (nodes : List ResourceData) (r : ResourceData) → ascend nodes ≡ true → are_below r.number nodes ≡ true → ascend (nodes ++ r ∷ []) ≡ true
@@ -100,7 +100,7 @@ at_filtered p (s ∷ nodes) k r order found =
         rw (eq-eqb s.number r.number (ap (λ (x : ResourceData). x.number) is)) found
     first s nodes (suc j) r above later found = behind s nodes r above (later j found)
 
-number_some : (o : Option ResourceData) (n : ℕ) → Some n ≡ resource_number o → (r : ResourceData) × (o ≡ Some r) × (r.number ≡ n)
+pub number_some : (o : Option ResourceData) (n : ℕ) → Some n ≡ resource_number o → (r : ResourceData) × (o ≡ Some r) × (r.number ≡ n)
 number_some None n is = cc
 number_some (Some r) n is = (r, refl, sym (same_Some n r.number is))
 

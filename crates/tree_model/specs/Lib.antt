@@ -1,2 +1,4 @@
+pub mod Changes
+pub mod Codes
 pub mod Shown
 pub mod Tree

@@ -1,6 +1,7 @@
 -- A tree of resources: the list of them in order of creation (TS-0001, 9.6).
 use Rattle.std.specs.Prelude.{◌≡◌, ◌<◌, map, pos, is_some, slice_index_or, slice_get, slice_set, ℕ}
-use Rattle.std.specs.Prelude.{◌+◌, ◌-◌, ◌==◌, nat_le, nat_lt, min, List, [], ◌∷◌, ◌++◌, length}
+use Rattle.std.specs.Prelude.{◌+◌, ◌-◌, ◌==◌, nat_eq, nat_le, nat_lt, min, List, [], ◌∷◌, ◌++◌}
+use Rattle.std.specs.Prelude.{length}
 use Rattle.std.specs.Prelude.{filter, find, reverse, sum_by, Bool, true, false, not, ◌&&◌, ◌||◌}
 use Rattle.std.specs.Prelude.{if◌then◌else◌, Option, Some, None, option_map, unwrap_or}
 use Rattle.std.specs.Prelude.{option_and_then}
@@ -88,6 +89,21 @@ resource_number found = option_map (λ r. r.number) found
 -- the number of the resource at a place, from 0
 abbrev pub number_at : ℕ → List ResourceData → Option ℕ
 number_at k rs = resource_number (slice_get rs k)
+
+-- the numbers of some resources
+abbrev pub numbers_of : List ResourceData → List ℕ
+numbers_of rs = map (λ (r : ResourceData). r.number) rs
+
+-- it comes after a number
+abbrev pub comes_after : ℕ → ResourceData → Bool
+comes_after n r = nat_lt n r.number
+
+-- those that come after a number, and the first of them
+abbrev pub all_after : ℕ → List ResourceData → List ResourceData
+all_after n rs = filter (comes_after n) rs
+
+abbrev pub next_after : ℕ → List ResourceData → Option ResourceData
+next_after n rs = find (comes_after n) rs
 
 -- the number of the last resource, and of the first
 abbrev pub last_number : List ResourceData → Option ℕ
@@ -198,6 +214,14 @@ staying picks stayed (r ∷ nodes) =
 abbrev pub without : (ResourceData → Bool) → List ResourceData → List ResourceData
 without picks nodes = staying picks [] nodes
 
+-- it has one of these numbers
+abbrev pub is_numbered_in : List ℕ → ResourceData → Bool
+is_numbered_in numbers r = list_any (nat_eq r.number) numbers
+
+-- what stays where the resources of these numbers are removed, with all that stands below them
+abbrev pub without_all : List ℕ → List ResourceData → List ResourceData
+without_all numbers nodes = without (is_numbered_in numbers) nodes
+
 -- the reader's own words for it: no resource of its line is picked
 abbrev pub is_spared : (ResourceData → Bool) → List ResourceData → ℕ → Bool
 is_spared picks nodes n = not (list_any picks (line_of n nodes))
@@ -255,6 +279,11 @@ is_due nodes moment r = is_due_under (at r.parent nodes) moment r
 -- the resources that are live at a moment: neither they nor what they stand under is due
 abbrev pub live : ℕ → List ResourceData → List ResourceData
 live moment nodes = without (is_due nodes moment) nodes
+
+-- the numbers of the resources that aren't live at a moment, in order of creation
+abbrev pub overdue_numbers : ℕ → List ResourceData → List ℕ
+overdue_numbers moment nodes =
+    numbers_of (filter (λ r. not (has r.number (live moment nodes))) nodes)
 
 -- it isn't due before this moment
 abbrev pub is_quiet : List ResourceData → ℕ → ResourceData → Bool
@@ -329,9 +358,13 @@ is_well_formed nodes = grows fits_in [] nodes
 abbrev pub standing : ResourceData → Ty × List ℕ × ℕ × Option (List ℕ) × Option (List ℕ)
 standing r = (r.ty, r.name, r.parent, ae_id r, cse_id r)
 
--- numbers ascend
+-- each of these numbers is above those before it
+abbrev pub DoAscend : List ℕ → Type 0
+DoAscend numbers = IsStrictlySortedBy nat_cmp numbers
+
+-- the numbers of these resources ascend
 abbrev pub AreAscending : List ResourceData → Type 0
-AreAscending nodes = IsStrictlySortedBy nat_cmp (map (λ (r : ResourceData). r.number) nodes)
+AreAscending nodes = DoAscend (numbers_of nodes)
 
 -- the resource of the number stands at this place
 pub record StandsAt (n : ℕ) (nodes : List ResourceData) (i : ℕ) : Type 0 where

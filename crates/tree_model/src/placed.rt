@@ -1,6 +1,6 @@
 //! The children of a resource, one by one.
 ghost use Rattle.std.specs.Prelude.{◌≡◌, Some, IfSome, option_map, slice_get};
-ghost use Rattle.tree_model.specs.Tree.{at, children_of, instances_of, subs_of};
+ghost use Rattle.tree_model.specs.Tree.{at, children_of, subs_of};
 
 use crate::tree::Tree;
 use resource_model::Resource;
@@ -26,16 +26,5 @@ pub fn subscription_at<T: Tree>(tree: &T, parent: u64, k: u64) -> Option<&Resour
 {
     let _count = tree.len();
     let number = tree.sub(parent, k)?;
-    tree.get(number)
-}
-
-/// The instance of a container at place k from the oldest, from 0.
-pub fn instance_at<T: Tree>(tree: &T, container: u64, k: u64) -> Option<&Resource>
-    ensures value { option_map (λ r. r.now) result
-        ≡ slice_get (instances_of container (T.nodes tree.now)) k }
-    ensures stands { IfSome result (λ r. at r.now.number (T.nodes tree.now) ≡ Some r.now) }
-{
-    let _count = tree.len();
-    let number = tree.instance_at(container, k)?;
     tree.get(number)
 }

@@ -1,6 +1,6 @@
 //! What a tree is, whatever keeps it.
-ghost use Rattle.std.specs.Prelude.{◌≡◌, ℕ, ◌+◌, ◌^◌, ◌<◌, ◌≤◌, List, [], ◌∷◌, ◌++◌, length};
-ghost use Rattle.std.specs.Prelude.{slice_get, IsTrue, OnOk, OnErr, IfErr, Some, option_map};
+ghost use Rattle.std.specs.Prelude.{◌≡◌, ◌≢◌, ℕ, ◌+◌, ◌^◌, ◌<◌, ◌≤◌, List, [], ◌∷◌, ◌++◌, length};
+ghost use Rattle.std.specs.Prelude.{slice_get, IsTrue, IfOk, OnOk, OnErr, IfErr, Some, option_map};
 ghost use Rattle.m2m_names.specs.Ids.{count_bound};
 ghost use Rattle.m2m_names.specs.Stamps.{last_moment};
 ghost use Rattle.resource_model.specs.Resource.{ResourceData, has_number};
@@ -8,11 +8,13 @@ ghost use Rattle.tree_model.specs.Tree.{at, has, child_of, children_of, subs_of,
 ghost use Rattle.tree_model.specs.Tree.{instance_of, instances_of, sizes_of, ae_of, cse_of};
 ghost use Rattle.tree_model.specs.Tree.{channel_of};
 ghost use Rattle.tree_model.specs.Tree.{are_quiet, live, replaced, restamped_at, has_state};
-ghost use Rattle.tree_model.specs.Tree.{without, may_stand, is_tree, standing};
+ghost use Rattle.tree_model.specs.Tree.{without, may_stand, is_tree, standing, DoAscend};
+ghost use Rattle.tree_model.specs.Tree.{next_after, overdue_numbers, resource_number, without_all};
 
 use crate::steps::Steps;
+use m2m_value::Numbers;
 use resource_model::Resource;
-use std::alloc::AllocError as OutOfMemory;
+use std::alloc::{AllocError as OutOfMemory, Global};
 use std::sync::ledger::Ledger;
 
 /// A tree of resources.
@@ -34,6 +36,10 @@ pub trait Tree: Drop {
     /// The resource at place k in order of creation, from 0.
     fn nth(&self, k: u64) -> Option<&Resource>
         ensures { option_map (λ r. r.now) result ≡ slice_get (nodes self.now) k };
+
+    /// The first resource, in order of creation, whose number is greater than this one.
+    fn after(&self, number: u64) -> Option<&Resource>
+        ensures { option_map (λ r. r.now) result ≡ next_after number (nodes self.now) };
 
     /// The resource of a number.
     fn get(&self, number: u64) -> Option<&Resource>
@@ -57,9 +63,10 @@ pub trait Tree: Drop {
     fn instance(&self, container: u64, newest: bool) -> Option<u64>
         ensures { result ≡ instance_of newest container (nodes self.now) };
 
-    /// The number of the instance of a container at place k from the oldest, from 0.
-    fn instance_at(&self, container: u64, k: u64) -> Option<u64>
-        ensures { result ≡ number_at k (instances_of container (nodes self.now)) };
+    /// The number of the oldest instance of a container whose number is greater than this one.
+    fn instance_after(&self, container: u64, number: u64) -> Option<u64>
+        ensures { result ≡ resource_number
+            (next_after number (instances_of container (nodes self.now))) };
 
     /// How many instances a container has.
     fn instance_count(&self, container: u64) -> u64
@@ -87,6 +94,12 @@ pub trait Tree: Drop {
     fn quiet_until(&self) -> u64
         ensures { IsTrue (are_quiet result (nodes self.now)) };
 
+    /// The numbers of what `expire` removes at a moment, in order of creation. No memory is taken
+    /// where nothing is due.
+    fn due_numbers(&self, alloc: Global, moment: u64) -> Result<Numbers, OutOfMemory>
+        ensures value { IfOk result (λ n. n ≡ overdue_numbers moment (nodes self.now)) }
+        ensures memory { OnErr result (overdue_numbers moment (nodes self.now) ≢ []) };
+
     /// Puts a resource last. Its number is greater than every other, its parent is there (or it is
     /// the CSEBase and the first), and its name, its AE-ID and its CSE-ID are free.
     fn insert(&mut self, resource: Resource) -> Result<(), (Resource, OutOfMemory)>
@@ -113,6 +126,12 @@ pub trait Tree: Drop {
     fn remove_subtree(&mut self, number: u64)
         requires { IsTrue (has number (nodes self.old)) }
         ensures { nodes self.new ≡ without (has_number number) (nodes self.old) };
+
+    /// Removes the resources of these numbers, which ascend, with all that stands below them, in
+    /// one pass. A number that no resource has takes nothing.
+    fn remove_all(&mut self, numbers: &[u64])
+        requires { DoAscend numbers.now }
+        ensures { nodes self.new ≡ without_all numbers.now (nodes self.old) };
 
     /// Removes what is due at a moment, with all that stands below it, and finds anew when what is
     /// left is due.

@@ -1,6 +1,7 @@
 //! Going over a tree.
 ghost use Rattle.std.specs.Prelude.{◌≡◌};
 ghost use Rattle.std.specs.Iterator.{YieldsFirstRef, item_count};
+ghost use Rattle.tree_model.specs.Tree.{instances_of};
 
 use crate::tree::Tree;
 use resource_model::Resource;
@@ -10,27 +11,31 @@ use std::marker::Model;
 #[derive(Drop)]
 pub struct Walk<'a, T: Tree> {
     tree: &'a T,
-    next: u64,
+    // The number of the last one that was given, or 0.
+    last: u64,
 }
 
 impl<'a, T: Tree> Model for Walk<'a, T> {
-    ghost use Rattle.std.specs.Prelude.{List, drop};
+    ghost use Rattle.std.specs.Prelude.{List};
     ghost use Rattle.std.specs.Coded.{coded_list};
     ghost use Rattle.resource_model.specs.Resource.{ResourceData};
     ghost use Rattle.resource_model.specs.Codes.{resource_code};
+    ghost use Rattle.tree_model.specs.Tree.{all_after};
 
     ghost Value = { List ResourceData };
 
     ghost coded = { coded_list resource_code };
 
-    ghost view = { λ o. drop o.next (T.nodes o.tree.now) };
+    ghost view = { λ o. all_after o.last (T.nodes o.tree.now) };
 }
 
 /// Goes over the resources of a tree in order of creation.
 pub fn over<T: Tree>(tree: &T) -> Walk<'_, T>
     ensures { result ≡ T.nodes tree.now }
 {
-    Walk { tree, next: 0 }
+    // That it is a tree is told by its length.
+    let _count = tree.len();
+    Walk { tree, last: 0 }
 }
 
 impl<'a, T: Tree> Iterator for Walk<'a, T> {
@@ -41,11 +46,59 @@ impl<'a, T: Tree> Iterator for Walk<'a, T> {
     ghost remaining = { item_count (λ rest. rest) };
 
     fn next(&mut self) -> Option<&'a Resource> {
-        if self.next >= self.tree.len() {
-            return None;
-        }
-        let place = self.next;
-        self.next = place + 1;
-        self.tree.nth(place)
+        let _count = self.tree.len();
+        let next = self.tree.after(self.last)?;
+        self.last = next.number();
+        Some(next)
+    }
+}
+
+/// The instances of a container, oldest first, seen as the list of those that are left.
+#[derive(Drop)]
+pub struct Instances<'a, T: Tree> {
+    tree: &'a T,
+    container: u64,
+    // The number of the last one that was given, or 0.
+    last: u64,
+}
+
+impl<'a, T: Tree> Model for Instances<'a, T> {
+    ghost use Rattle.std.specs.Prelude.{List};
+    ghost use Rattle.std.specs.Coded.{coded_list};
+    ghost use Rattle.resource_model.specs.Resource.{ResourceData};
+    ghost use Rattle.resource_model.specs.Codes.{resource_code};
+    ghost use Rattle.tree_model.specs.Tree.{all_after, instances_of};
+
+    ghost Value = { List ResourceData };
+
+    ghost coded = { coded_list resource_code };
+
+    ghost view = { λ o. all_after o.last (instances_of o.container (T.nodes o.tree.now)) };
+}
+
+/// Goes over the instances of a container, oldest first: one look-up for each.
+pub fn over_instances<T: Tree>(tree: &T, container: u64) -> Instances<'_, T>
+    ensures { result ≡ instances_of container (T.nodes tree.now) }
+{
+    let _count = tree.len();
+    Instances {
+        tree,
+        container,
+        last: 0,
+    }
+}
+
+impl<'a, T: Tree> Iterator for Instances<'a, T> {
+    type Item = &'a Resource;
+
+    ghost next_gives = { YieldsFirstRef (λ rest. rest) };
+
+    ghost remaining = { item_count (λ rest. rest) };
+
+    fn next(&mut self) -> Option<&'a Resource> {
+        let _count = self.tree.len();
+        let number = self.tree.instance_after(self.container, self.last)?;
+        self.last = number;
+        self.tree.get(number)
     }
 }

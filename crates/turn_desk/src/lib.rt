@@ -19,6 +19,12 @@
 //! seat's own. A seat is split into two and two are joined into one; who has the whole desk closes
 //! it and gets the object back, as the log leaves it. A question waits for its turn, so it owes no
 //! return.
+//!
+//! ```text
+//! let (desk, mut seat) = (OwnDesk::new(), OwnSeat::new(object));
+//! let outcome = desk.ask(&mut seat, reading, event); // one step of the object
+//! (seat.into_object(), outcome)
+//! ```
 #![tactic(auto)]
 
 mod desk;

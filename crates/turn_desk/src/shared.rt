@@ -135,7 +135,9 @@ impl<O: Object, R: Wait> TurnDesk<O, R> {
         }
         unreachable!()
     }
+}
 
+impl<O: Object, R> TurnDesk<O, R> {
     // Puts the object back, and passes the turn on with the entry.
     fn pass(
         &self,
@@ -208,7 +210,7 @@ fn object_in<X, E, R>(mut slots: Vec<Held<X, E, R>>) -> X
     object
 }
 
-impl<O: Object, R: Wait + Drop> TurnDesk<O, R> {
+impl<O: Object, R: Drop> TurnDesk<O, R> {
     /// A desk at which this object is asked, and a seat that has the whole of it. Where memory runs
     /// out, the object comes back.
     pub fn new(

@@ -1,4 +1,6 @@
 mod GateLemmas
 mod SharesLemmas
+mod JobsLemmas
 mod ServingLemmas
+mod ShiftsLemmas
 mod Sent

@@ -33,9 +33,10 @@ module _ (X E R : RattleType) (x : IsSend X) (e : IsSend E) (r : IsSend R) where
   seat_send = struct_send (shape (desk_seat.the_type X E R)) (seat.the_send _ _ held_send, tt)
 
   -- a job, where its bench may
-  pub job_send : (B : RattleType) → IsSend B → IsSend (job.the_row X B E R)
-  job_send B b = recorded_send (job.the_field X B E R).row _ _ (job.the_type X B E R).to_one
-      (struct_send (shape (job.the_type X B E R)) (seat_send, (b, tt)))
+  pub job_send : (B : RattleType) → IsSend B → (A : RattleType) → IsSend A → IsSend (job.the_row X B A E R)
+  job_send B b A a = recorded_send (job.the_field X B A E R).row _ _ (job.the_type X B A E R).to_one
+      (struct_send (shape (job.the_type X B A E R))
+      (seat_send, (b, (search (sendable, crosses) depth 20, (search (sendable, crosses) depth 20, tt)))))
 
   module _ (T : RattleType) (g : Ghosts X.Denot E.Denot R.Denot) where
     -- threads share a desk

@@ -1,8 +1,11 @@
 -- Parts of seats that are split and joined, and what seats have seen.
 use Rattle.std.proofs.Common.{◌≡◌, ℕ, suc, ◌+◌, ◌*◌, ◌/◌, ◌<◌, ◌≤◌, nat_lt, true, false, List, [], ◌∷◌, ◌++◌, length, map, slice_index_or, take, drop, if◌then◌else◌, refl, sym, ap, ◌∙◌, subst, ⊎_elim, append_assoc, append-nil, length-append, mul_assoc, mul_comm, mul_right_comm, add-mul, arith}
 use Rattle.std.proofs.Math.Nat.{mul-div_cancel}
-use Rattle.std.proofs.lemmas.Bool.{le-ltb}
+use Rattle.std.proofs.lemmas.Bool.{le-ltb, ltb-false}
 use Rattle.std.proofs.lemmas.List.{map-append}
+use Rattle.std.specs.List.{All}
+use Rattle.std.proofs.lemmas.List.Elements.{All-head, All-tail, All-nil, All-cons}
+use Rattle.turn_desk.specs.declared.entry.Entry.{Entry}
 use Rattle.turn_desk.specs.Entries.{Marked, all_entries}
 use Rattle.atomic_table.specs.Seated.{TableId}
 use Rattle.turn_desk.specs.declared.shared.DeskSeat.{DeskSeat}
@@ -11,11 +14,14 @@ use Rattle.turn_desk.specs.Seats.{IsSeated, known_to}
 use Rattle.turn_desk.specs.Shared.{Begins, AreInLine, longer, total, Weighed, halved, sibling, AreJoined, Grows, own_places}
 use Rattle.turn_desk.specs.Growing.{grows-nothing, grows-on}
 use Rattle.turn_desk.proofs.SharedLemmas.{total-snoc, total-double, weighed-double, weighed-snoc}
-use Rattle.workers.specs.declared.sharing.Job.{Job}
-use Rattle.workers.specs.Jobs.{known_to_all}
-use Rattle.workers.specs.Shares.{HasGoneOn, HasPartOf, AddUpTo, HasGrown, HaveGrown, Carries, IsJoinedOf, HasComeBack}
+use Rattle.workers.specs.Shares.{HasGoneOn, HasPartOf, AddUpTo, HasGrown, HaveGrown, HasNone, HasSeenAll, owned, Carries, IsJoinedOf, HasComeBack}
 
 -- ---- what was seen
+
+-- a list of no length has nothing
+pub nothing_left : {A : Type 0} (xs : List A) → length xs ≡ 0 → xs ≡ []
+nothing_left [] e = refl
+nothing_left (x ∷ xs) e = absurd (omega arith)
 
 module _ {A : Type 0} where
   begins-self : (xs : List A) → Begins xs xs
@@ -33,6 +39,25 @@ module _ {A : Type 0} where
       let l : length ys ≤ length xs = omega (arith, n) in
       subst (λ b. Begins (if b then ys else xs) xs) (sym (le-ltb (length xs) (length ys) l)) (begins-self xs))
       (λ p. elim (nat_lt (length xs) (length ys)) as (λ b. Begins (if b then ys else xs) xs) [ true ↦ p | false ↦ begins-self xs ])
+      line
+
+  -- and so it does with the second
+  begins-other : (xs ys : List A) → AreInLine xs ys → Begins (longer xs ys) ys
+  begins-other xs ys line =
+      ⊎_elim {B = Begins ys xs}
+      (λ p.
+      let n : length xs ≡ length ys + length p.0 = ap length p.1 ∙ length-append ys p.0 in
+      let l : length ys ≤ length xs = omega (arith, n) in
+      subst (λ b. Begins (if b then ys else xs) ys) (sym (le-ltb (length xs) (length ys) l)) p)
+      (λ p.
+      elim (nat_lt (length xs) (length ys)) as (λ b. nat_lt (length xs) (length ys) ≡ b → Begins (if b then ys else xs) ys) [
+        | true ↦ λ _. begins-self ys
+        | false ↦ λ e.
+            let n : length ys ≡ length xs + length p.0 = ap length p.1 ∙ length-append xs p.0 in
+            let l : length ys ≤ length xs = ltb-false (length xs) (length ys) e in
+            let none : p.0 ≡ [] = nothing_left p.0 (omega (arith, n, l)) in
+            ([], sym (append-nil ys ∙ p.1 ∙ ap (λ l. xs ++ l) none ∙ append-nil xs))
+      ] refl)
       line
 
 module _ {X E R : Type 0} where
@@ -75,6 +100,43 @@ module _ {X E R : Type 0} where
     seen = subst (λ l. Begins l v.seen) (sym j.seen) (begins-joined v.seen w.seen j.line);
     own = (w.own, j.own);
   }
+
+  -- what was seen at a seat that grew
+  pub grown_seen : {v w : View X E R} → HasGrown v w → Begins w.seen v.seen
+  grown_seen g = (all_entries g.0, g.1.seen)
+
+  -- who has seen what another has has seen what that one has seen of others
+  pub seen_on : (v w : View X E R) (views : List (View X E R)) → Begins w.seen v.seen → HasSeenAll v views
+      → HasSeenAll w views
+  seen_on v w [] on h = All-nil (λ u. Begins w.seen u.seen)
+  seen_on v w (u ∷ us) on h = All-cons (λ u. Begins w.seen u.seen) u us
+      (begins-on u.seen v.seen w.seen (All-head (λ u. Begins v.seen u.seen) u us h) on)
+      (seen_on v w us on (All-tail (λ u. Begins v.seen u.seen) u us h))
+
+  -- What a seat will have seen that is joined with all of these, of which some are joined.
+  abbrev pub Sees : View X E R → List (View X E R) → List (View X E R) → Type 0
+  Sees v left all = (seen : List (Entry E R)) → Begins seen v.seen → All (λ u. Begins seen u.seen) left
+      → All (λ u. Begins seen u.seen) all
+
+  -- one more is joined
+  pub sees_joined : {v w both : View X E R} (left all : List (View X E R)) → AreJoined v w both
+      → Sees v (w ∷ left) all → Sees both left all
+  sees_joined {v} {w} {both} left all j sees = λ seen on rest.
+      let first : Begins both.seen v.seen =
+      subst (λ l. Begins l v.seen) (sym j.seen) (begins-joined v.seen w.seen j.line) in
+      let second : Begins both.seen w.seen =
+      subst (λ l. Begins l w.seen) (sym j.seen) (begins-other v.seen w.seen j.line) in
+      sees seen (begins-on v.seen both.seen seen first on)
+      (All-cons (λ u. Begins seen u.seen) w left (begins-on w.seen both.seen seen second on) rest)
+
+  -- all are joined
+  pub sees_all : (v : View X E R) (all : List (View X E R)) → Sees v [] all → HasSeenAll v all
+  sees_all v all sees = sees v.seen (begins-self v.seen) (All-nil (λ u. Begins v.seen u.seen))
+
+  -- the entries of one seat more
+  pub own_joined : {v w both : View X E R} (left : List (View X E R)) {own : List ℕ} → AreJoined v w both
+      → v.own ++ owned (w ∷ left) ≡ own → both.own ++ owned left ≡ own
+  own_joined {v} {w} {both} left j e = ap (λ l. l ++ owned left) j.own ∙ append_assoc v.own w.own (owned left) ∙ e
 
 -- ---- parts
 
@@ -209,11 +271,6 @@ module _ {X E R : Type 0} where
   pub add_last : (v u : View X E R) → AddUpTo v (u ∷ []) → HasPartOf v u
   add_last v u a = last-part v u a.number a.weights a.positive a.weighed a.all
 
--- a list of no length has nothing
-pub nothing_left : {A : Type 0} (xs : List A) → length xs ≡ 0 → xs ≡ []
-nothing_left [] e = refl
-nothing_left (x ∷ xs) e = absurd (omega arith)
-
 -- ---- a seat that comes back
 
 module _ {X E R : Type 0} {step : ℕ → E → X → R → X → Type 0} {desk : TableId} where
@@ -259,33 +316,3 @@ pub written_whole : {A : Type 0} (n : ℕ) (xs ys : List A) → length xs ≡ n 
     → xs ≡ take n (xs ++ drop (length xs) ys)
 written_whole {A} n xs ys e f =
     subst (λ (k : ℕ). xs ≡ take k (xs ++ drop (length xs) ys)) e (written_over xs ys (omega (arith, e, f)))
-
--- ---- seats of jobs
-
-module _ {X B E R : Type 0} where
-  -- seats that are the same grew alike
-  pub grown_alike : {a b x y : Job X B E R} → a ≡ x → b ≡ y
-      → HasGrown (known_to a.seat) (known_to b.seat) → HasGrown (known_to x.seat) (known_to y.seat)
-  grown_alike {a = a} {y = y} p q h =
-      subst (λ (j : Job X B E R). HasGrown (known_to j.seat) (known_to y.seat)) p
-      (subst (λ (k : Job X B E R). HasGrown (known_to a.seat) (known_to k.seat)) q h)
-
-  -- each of them asked
-  pub grown_each : (js ks : List (Job X B E R)) → length ks ≡ length js
-      → ((i : ℕ) (d : Job X B E R) → i < length js
-      → HasGrown (known_to (slice_index_or js i d).seat) (known_to (slice_index_or ks i d).seat))
-      → HaveGrown (known_to_all js) (known_to_all ks)
-  grown_each [] [] len each = tt
-  grown_each [] (k ∷ ks) len each = absurd (omega (arith, len))
-  grown_each (j ∷ js) [] len each = absurd (omega (arith, len))
-  grown_each (j ∷ js) (k ∷ ks) len each = (
-    each 0 j (omega arith),
-    grown_each js ks (omega (arith, len)) (λ i d l. each (suc i) d (omega (arith, l))),
-  )
-
-  -- the same lists grew alike
-  pub grown_as : {js mid later ks : List (Job X B E R)} → mid ≡ js → later ≡ ks
-      → HaveGrown (known_to_all mid) (known_to_all later) → HaveGrown (known_to_all js) (known_to_all ks)
-  grown_as {js = js} {later = later} p q h =
-      subst (λ (l : List (Job X B E R)). HaveGrown (known_to_all js) (known_to_all l)) q
-      (subst (λ (l : List (Job X B E R)). HaveGrown (known_to_all l) (known_to_all later)) p h)

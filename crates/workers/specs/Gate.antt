@@ -1,21 +1,23 @@
 -- A door from which workers take connections: what it tells, and why it gives no more.
-use Rattle.std.specs.Prelude.{◌≡◌, ◌≤◌, ◌+◌, ◌⊎◌, ℕ, Bool, true, Option, Some, None, ⊤}
+use Rattle.std.specs.Prelude.{◌≡◌, ◌≤◌, ◌+◌, ◌⊎◌, ℕ, List, Bool, true, Option, Some, None, ⊤}
+use Rattle.std.specs.declared.result.Result.{Result}
+use Rattle.std.specs.declared.result.Result.TheVariants.{Ok, Err}
 use Rattle.m2m_io.specs.Counts.{Rose}
 use Rattle.m2m_io.specs.Told.{Tells, TellsStill}
 use Rattle.workers.specs.declared.gate.Ending.{Ending}
 use Rattle.workers.specs.declared.gate.Ending.TheVariants.{Over, Enough, Fault}
 
--- What a door tells at one moment: whether it was opened, how many connections it gave, whether it
--- gave None, and how often it has failed.
+-- What a door tells at one moment: at what address it was opened, if it was, how many connections
+-- it gave, whether it gave None, and how often it has failed.
 pub record DoorTold : Type 0 where
-  pub opened : Option Bool
+  pub opened : Option (Option (List ℕ))
   pub given : Option ℕ
   pub ended : Option Bool
   pub faults : ℕ
 
 -- what this door tells
-abbrev pub door_tells : {D : Type 0} → (D → Option Bool) → (D → Option ℕ) → (D → Option Bool)
-    → (D → ℕ) → D → DoorTold
+abbrev pub door_tells : {D : Type 0} → (D → Option (Option (List ℕ))) → (D → Option ℕ)
+    → (D → Option Bool) → (D → ℕ) → D → DoorTold
 door_tells opened given ended faults door = record {
   opened = opened door;
   given = given door;
@@ -83,6 +85,11 @@ pub record Guards (accept : Option ℕ) (start now : DoorTold) (left : Option �
     (ending : Option Ending) : Type 0 where
   pub takes : TakesConnections accept ending start now
   pub counted : CountsDown accept takes.count left
+
+-- how many connections a door gave, once this came of asking for one more
+abbrev pub with_taken : {A B : Type 0} → Result A B → ℕ → ℕ
+with_taken (Ok conn) given = given + 1
+with_taken (Err ended) given = given
 
 -- The door was served to its end: it gave None, or as many connections as were to be accepted, and
 -- it didn't fail.

@@ -1,11 +1,19 @@
 -- Seats that were split off one seat, and are joined into it again.
-use Rattle.std.specs.Prelude.{◌≡◌, ◌<◌, ◌*◌, ℕ, List, [], ◌∷◌, ⊤}
+use Rattle.std.specs.Prelude.{◌≡◌, ◌<◌, ◌*◌, ℕ, List, [], ◌∷◌, ◌++◌, ⊤}
+use Rattle.std.specs.List.{All}
 use Rattle.atomic_table.specs.Seated.{TableId}
 use Rattle.turn_desk.specs.declared.shared.DeskSeat.{DeskSeat}
 use Rattle.turn_desk.specs.declared.view.View.{View}
 use Rattle.turn_desk.specs.Seats.{IsSeated, known_to}
 use Rattle.turn_desk.specs.Entries.{Marked}
 use Rattle.turn_desk.specs.Shared.{Begins, Weighed, total, Grows}
+
+-- the one list has a member for each of the other, and these are so
+abbrev pub Pairwise : {A B : Type 0} → (A → B → Type 0) → List A → List B → Type 0
+Pairwise P [] [] = ⊤
+Pairwise P [] (y ∷ ys) = ⊥
+Pairwise P (x ∷ xs) [] = ⊥
+Pairwise P (x ∷ xs) (y ∷ ys) = P x y × Pairwise P xs ys
 
 module _ {X E R : Type 0} where
   -- A seat went on from another: what it has seen begins with what that one had seen, and its own
@@ -37,10 +45,20 @@ module _ {X E R : Type 0} where
 
   -- seat by seat, they asked, and others did
   abbrev pub HaveGrown : List (View X E R) → List (View X E R) → Type 0
-  HaveGrown [] [] = ⊤
-  HaveGrown [] (w ∷ ws) = ⊥
-  HaveGrown (v ∷ vs) [] = ⊥
-  HaveGrown (v ∷ vs) (w ∷ ws) = HasGrown v w × HaveGrown vs ws
+  HaveGrown before after = Pairwise HasGrown before after
+
+  -- it has no entries of its own
+  abbrev pub HasNone : View X E R → Type 0
+  HasNone v = v.own ≡ []
+
+  -- it has seen all that these have
+  abbrev pub HasSeenAll : View X E R → List (View X E R) → Type 0
+  HasSeenAll v views = All (λ w. Begins v.seen w.seen) views
+
+  -- their own entries, one seat after another
+  abbrev pub owned : List (View X E R) → List ℕ
+  owned [] = []
+  owned (v ∷ views) = v.own ++ owned views
 
   -- A seat has come of this one and of those that were split off it: it is of this desk and stands
   -- between two questions, went on from this one, and has the parts of all.

@@ -1,9 +1,11 @@
 //! A door that workers share.
-ghost use Rattle.std.specs.Prelude.{◌≡◌, ℕ, Option, None, Some, IfNone, IfOk, IfErr};
+ghost use Rattle.std.specs.Prelude.{◌≡◌, ℕ, Option, None, Some, IfOk, IfErr};
 ghost use Rattle.workers.specs.declared.gate.Ending.TheVariants.{Fault};
 ghost use Rattle.workers.specs.Gate.{DoorTold, door_tells, silent_door, HasEnded, IsOneLess};
-ghost use Rattle.workers.specs.Gate.{TakesConnections, ServesDoor};
+ghost use Rattle.workers.specs.Gate.{TakesConnections, ServesDoor, with_taken};
+ghost use Rattle.m2m_io.specs.Told.{Tells};
 
+use crate::arrival::Arrival;
 use m2m_io::Door;
 use std::marker::{Brand, Model, PhantomData};
 
@@ -29,6 +31,12 @@ pub enum Ending {
     Enough,
     /// It failed.
     Fault,
+}
+
+/// That a gate gives no more connections, and why. Only a gate makes one.
+#[derive(Debug, Drop)]
+pub(crate) struct Closed {
+    why: Ending,
 }
 
 /// A door, how many connections it may still give, where that is limited, and why it gives no more.
@@ -67,39 +75,43 @@ impl<D: Door, J: Entrance> Gate<D, J> {
     }
 
     // Takes a connection, so that so many may still be taken.
-    fn take(&mut self, left: Option<u64>) -> Option<D::Conn>
+    fn take(&mut self, left: Option<u64>) -> Result<Arrival<D::Conn>, Closed>
         requires going { self.old.ending ≡ None }
         requires less { IsOneLess self.old.left left }
-        ensures { IfNone result (HasEnded self.new.ending) }
+        ensures ended { IfErr result (λ closed. self.new.ending ≡ Some closed.why) }
+        ensures taken { Tells (with_taken result) (D.given self.old.door) (D.given self.new.door) }
     {
         match self.door.next() {
             Ok(Some(conn)) => {
                 self.left = left;
-                Some(conn)
+                Ok(Arrival::new(conn))
             }
             Ok(None) => {
                 self.ending = Some(Ending::Over);
-                None
+                Err(Closed { why: Ending::Over })
             }
             Err(_) => {
                 self.ending = Some(Ending::Fault);
-                None
+                Err(Closed { why: Ending::Fault })
             }
         }
     }
 
-    /// The next connection; None where the door gives no more, which isn't asked again then.
-    pub fn next(&mut self) -> Option<D::Conn>
-        ensures { IfNone result (HasEnded self.new.ending) }
+    /// The next connection. At `Err` the door gives no more, and isn't asked again then.
+    pub(crate) fn next(&mut self) -> Result<Arrival<D::Conn>, Closed>
+        ensures ended { IfErr result (λ closed. self.new.ending ≡ Some closed.why) }
+        ensures taken { Tells (with_taken result) (D.given self.old.door) (D.given self.new.door) }
     {
-        if self.ending.is_some() {
-            return None;
+        if let Some(why) = self.ending {
+            return Err(Closed { why });
         }
         match self.left {
             None => self.take(None),
             Some(0) => {
                 self.ending = Some(Ending::Enough);
-                None
+                Err(Closed {
+                    why: Ending::Enough,
+                })
             }
             Some(left) => self.take(Some(left - 1)),
         }

@@ -5,8 +5,15 @@
 //! back one seat, into which all others are joined, and the door. Callers see that this seat went
 //! on from the one that they gave and has its part again (`specs/Shares`), and why the door gave no
 //! more connections (`specs/Gate`).
+//!
+//! ```text
+//! let accept = Some(2); // so many connections, and then no more
+//! let served = serve_with(rt, alloc, desk, seat, door, accept, benches, service);
+//! served.is_ok() // and then the seat and the door are back
+//! ```
 #![tactic(auto)]
 
+mod arrival;
 mod gate;
 mod service;
 mod serving;

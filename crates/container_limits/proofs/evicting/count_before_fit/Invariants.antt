@@ -7,6 +7,7 @@ use Rattle.container_limits.proofs.evicting.count_before_fit.Given as goal
 -- the totals are those of what is left, and what stays is what stays of that
 abbrev pub invariant-loop-k : goal.invariant-loop-k
 invariant-loop-k g l = record {
+  rest : l.oldest ≡ drop l.k (instances_of l.container (g.T.Tree.nodes l.tree));
   count : l.left.count ≡ length (filter (lasts l.limits.mia l.moment) (drop l.k (instances_of l.container (g.T.Tree.nodes l.tree)))) + length (option_to_list l.fn.new_size);
   sizes : l.left.sizes ≡ sum_by instance_size (filter (lasts l.limits.mia l.moment) (drop l.k (instances_of l.container (g.T.Tree.nodes l.tree)))) + unwrap_or l.fn.new_size 0;
   stay : kept l.limits l.fn.new_size l.moment (instances_of l.container (g.T.Tree.nodes l.tree)) ≡ longest_fit l.limits l.fn.new_size (filter (lasts l.limits.mia l.moment) (drop l.k (instances_of l.container (g.T.Tree.nodes l.tree))));

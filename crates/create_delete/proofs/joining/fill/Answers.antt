@@ -1,9 +1,12 @@
-use Rattle.std.proofs.Common.{◌≡◌, List, true, sym, ap, ◌∙◌, subst}
+use Rattle.std.proofs.Common.{◌≡◌, List, true, Some, sym, ◌∙◌, subst}
 use Rattle.resource_model.specs.Resource.{ResourceData}
-use Rattle.tree_model.specs.Tree.{has_state, is_tree, restamped_at}
+use Rattle.tree_model.specs.Tree.{has_state, instance_size, DoAscend}
+use Rattle.tree_model.proofs.GrowthLemmas.{tree_from_well_formed}
+use Rattle.container_limits.specs.Limits.{limits_of}
 use Rattle.entity_model.specs.Entity.{EntityData}
 use Rattle.create_delete.specs.Joining.{MayFill}
-use Rattle.create_delete.proofs.JoiningLemmas.{filling_after, filling_state, filling_tree, newcomer_fits}
+use Rattle.create_delete.proofs.JoiningLemmas.{filling_after, filling_state, newcomer_fits}
+use Rattle.create_delete.proofs.PushingLemmas.{evicted_ascend}
 use Rattle.create_delete.proofs.joining.fill.Goals as goal
 
 pub put_last-requires : goal.put_last-requires
@@ -23,8 +26,8 @@ pub remove_all-requires : goal.remove_all-requires
 remove_all-requires g c =
     let before : EntityData = record { home = c.entity.inside.home; nodes = g.T.Tree.nodes c.entity.inside.tree; next = c.entity.inside.next; last = c.entity.inside.last } in
     let may : MayFill before c.args.resource c.args.filling.now = subst (λ (e : EntityData). MayFill e c.args.resource c.args.filling.now) (sym c.entity.view_is) c.requires in
-    subst (λ (nodes : List ResourceData). is_tree nodes ≡ true) (sym (c.restamp.ensures ∙ ap (restamped_at c.args.filling.now.container before.last c.args.filling.now.state) c.in_ok-put_last.ensures.ok))
-    (filling_tree before c.args.resource c.args.filling.now c.entity.invariant may)
+    subst DoAscend (sym (c.entries.ensures ∙ may.gone))
+    (evicted_ascend (limits_of may.parent) (Some (instance_size c.args.resource)) before.last may.parent.number before.nodes (tree_from_well_formed before.nodes c.entity.invariant.tree))
 
 pub invariant_of-entity-2 : goal.invariant_of-entity-2
 invariant_of-entity-2 g c =

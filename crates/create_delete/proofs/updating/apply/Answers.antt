@@ -1,20 +1,18 @@
-use Rattle.std.proofs.Common.{◌≡◌, List, true, sym, ◌∙◌, subst}
-use Rattle.resource_model.specs.Resource.{ResourceData}
-use Rattle.tree_model.specs.Tree.{is_tree}
+use Rattle.std.proofs.Common.{◌≡◌, sym, ◌∙◌, subst}
+use Rattle.tree_model.specs.Tree.{DoAscend}
 use Rattle.tree_model.proofs.GrowthLemmas.{tree_from_well_formed}
-use Rattle.tree_model.proofs.KeptLemmas.{is_tree-replaced}
 use Rattle.entity_model.specs.Entity.{EntityData}
 use Rattle.create_delete.specs.Changing.{pushed_by}
 use Rattle.create_delete.specs.Newcomer.{IsReplacement}
+use Rattle.create_delete.proofs.PushingLemmas.{pushed_ascend}
 use Rattle.create_delete.proofs.UpdatedLemmas.{updated_after}
 use Rattle.create_delete.proofs.updating.apply.Goals as goal
 
 pub remove_all-requires : goal.remove_all-requires
 remove_all-requires g c =
     let before : EntityData = record { home = c.entity.inside.home; nodes = g.T.Tree.nodes c.entity.inside.tree; next = c.entity.inside.next; last = c.entity.inside.last } in
-    let may : IsReplacement before c.args.prepared.resource = subst (λ (e : EntityData). IsReplacement e c.args.prepared.resource) (sym c.entity.view_is) c.requires.may in
-    subst (λ (nodes : List ResourceData). is_tree nodes ≡ true) (sym c.replace.ensures)
-    (is_tree-replaced c.args.prepared.resource before.nodes may.stood ∙ tree_from_well_formed before.nodes c.entity.invariant.tree)
+    let gone : c.args.prepared.gone ≡ pushed_by before c.args.prepared.resource = subst (λ (e : EntityData). c.args.prepared.gone ≡ pushed_by e c.args.prepared.resource) (sym c.entity.view_is) c.requires.gone in
+    subst DoAscend (sym (c.entries.ensures ∙ gone)) (pushed_ascend before c.args.prepared.resource (tree_from_well_formed before.nodes c.entity.invariant.tree))
 
 pub invariant_of-entity : goal.invariant_of-entity
 invariant_of-entity g c =

@@ -1,9 +1,20 @@
-use Rattle.std.proofs.Common.{refl, ap}
-use Rattle.cse_cli.proofs.RunningLemmas.{runs_serve}
+use Rattle.std.proofs.Common.{refl, inl, inr}
 use Rattle.cse_cli.proofs.command.run_task.Goals as goal
 
+-- the streams were served as one connection
+pub returns-in-Http : goal.returns-in-Http
+returns-in-Http g c =
+    let done = c.serve_streams.ensures in
+    rw c.in-Http.is (record { done = inl done.runs; no_usage = done.command; reads = done.reads; writes = done.writes; door = refl })
+
+-- the lines were replayed
+pub returns-in-Replay : goal.returns-in-Replay
+returns-in-Replay g c =
+    let done = c.replay_lines.ensures in
+    rw c.in-Replay.is (record { done = done.runs; no_usage = done.command; reads = done.reads; writes = done.writes; door = refl })
+
+-- the door was served
 pub returns-in-Serve : goal.returns-in-Serve
 returns-in-Serve g c =
-    let served = c.serve_door.ensures in
-    runs_serve c.in-Serve.is served.serves served.clock served.command refl refl served.link refl refl
-    (ap g.L.Link.faults served.link)
+    let done = c.serve_door.ensures in
+    rw c.in-Serve.is (record { opens = inr done.opens; no_usage = done.command; input = refl; out = refl })

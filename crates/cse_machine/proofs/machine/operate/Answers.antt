@@ -1,7 +1,7 @@
 use Rattle.std.proofs.Common.{◌≡◌, IfOk, OnOk, sym, ap, subst, ◌∙◌}
 use Rattle.primitive_json.specs.declared.request.RequestParts.{RequestParts}
 use Rattle.entity_model.specs.Places.{Effect}
-use Rattle.cse_machine.proofs.ChangingLemmas.{create_to, delete_to, update_to}
+use Rattle.cse_machine.proofs.OutcomeLemmas.{create_to, delete_to, update_to}
 use Rattle.cse_machine.proofs.machine.operate.Goals as goal
 
 -- a Create gives what it is to give
@@ -10,7 +10,7 @@ returns-in-Create-clause-reply g c =
     let e = c.args.entity.now in
     let request = c.args.request.now in
     let is =
-    create_to e request c.args.o.now c.args.number c.requires.claimed
+    create_to e request c.args.originator.now c.args.number c.requires.claimed
     (ap (λ (r : RequestParts). r.op) (sym c.parts.ensures.same) ∙ c.in-Create.is) in
     subst (λ (x : Effect). IfOk c.create.result (λ r. r ≡ x.reply)) (sym is) c.create.ensures.reply
 
@@ -19,7 +19,7 @@ returns-in-Create-clause-after g c =
     let e = c.args.entity.now in
     let request = c.args.request.now in
     let is =
-    create_to e request c.args.o.now c.args.number c.requires.claimed
+    create_to e request c.args.originator.now c.args.number c.requires.claimed
     (ap (λ (r : RequestParts). r.op) (sym c.parts.ensures.same) ∙ c.in-Create.is) in
     subst (λ (x : Effect). OnOk c.create.result (c.create.new.entity ≡ x.after)) (sym is) c.create.ensures.after
 
@@ -29,7 +29,7 @@ returns-in-Update-clause-reply g c =
     let e = c.args.entity.now in
     let request = c.args.request.now in
     let is =
-    update_to e request c.args.o.now c.args.number c.requires.claimed
+    update_to e request c.args.originator.now c.args.number c.requires.claimed
     (ap (λ (r : RequestParts). r.op) (sym c.parts.ensures.same) ∙ c.in-Update.is) in
     subst (λ (x : Effect). IfOk c.update.result (λ r. r ≡ x.reply)) (sym is) c.update.ensures.reply
 
@@ -38,7 +38,7 @@ returns-in-Update-clause-after g c =
     let e = c.args.entity.now in
     let request = c.args.request.now in
     let is =
-    update_to e request c.args.o.now c.args.number c.requires.claimed
+    update_to e request c.args.originator.now c.args.number c.requires.claimed
     (ap (λ (r : RequestParts). r.op) (sym c.parts.ensures.same) ∙ c.in-Update.is) in
     subst (λ (x : Effect). OnOk c.update.result (c.update.new.entity ≡ x.after)) (sym is) c.update.ensures.after
 
@@ -48,7 +48,7 @@ returns-in-Delete-clause-reply g c =
     let e = c.args.entity.now in
     let request = c.args.request.now in
     let is =
-    delete_to e request c.args.o.now c.args.number c.requires.claimed
+    delete_to e request c.args.originator.now c.args.number c.requires.claimed
     (ap (λ (r : RequestParts). r.op) (sym c.parts.ensures.same) ∙ c.in-Delete.is) in
     subst (λ (x : Effect). IfOk c.delete.result (λ r. r ≡ x.reply)) (sym is) c.delete.ensures.reply
 
@@ -57,6 +57,6 @@ returns-in-Delete-clause-after g c =
     let e = c.args.entity.now in
     let request = c.args.request.now in
     let is =
-    delete_to e request c.args.o.now c.args.number c.requires.claimed
+    delete_to e request c.args.originator.now c.args.number c.requires.claimed
     (ap (λ (r : RequestParts). r.op) (sym c.parts.ensures.same) ∙ c.in-Delete.is) in
     subst (λ (x : Effect). OnOk c.delete.result (c.delete.new.entity ≡ x.after)) (sym is) c.delete.ensures.after

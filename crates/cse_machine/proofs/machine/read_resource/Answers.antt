@@ -11,7 +11,7 @@ returns-then-is_discovery g c =
     let e = c.args.entity.now in
     let request = c.args.request.now in
     let n = c.args.number in
-    let o = c.args.o.now in
+    let o = c.args.originator.now in
     replied c.discover.result (discovered c.entity.inside.home (g.T.Tree.nodes c.entity.inside.tree) o request n) (reading_reply e request n)
     (reading_found e request n o c.requires.claimed (sym c.is_discovery.ensures ∙ c.if-is_discovery.true)
     ∙ ap (λ (x : EntityData). discovered x.home x.nodes o request n) (sym c.entity.view_is))
@@ -23,7 +23,7 @@ returns-else-is_discovery g c =
     let e = c.args.entity.now in
     let request = c.args.request.now in
     let n = c.args.number in
-    let o = c.args.o.now in
+    let o = c.args.originator.now in
     replied c.retrieve.result (retrieved c.entity.inside.home (g.T.Tree.nodes c.entity.inside.tree) o request n) (reading_reply e request n)
     (reading_shown e request n o c.requires.claimed (sym c.is_discovery.ensures ∙ c.if-is_discovery.false)
     ∙ ap (λ (x : EntityData). retrieved x.home x.nodes o request n) (sym c.entity.view_is))

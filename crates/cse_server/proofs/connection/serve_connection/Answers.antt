@@ -19,7 +19,6 @@ loop-place-init g c = record {
   read_steady = refl;
   write_steady = refl;
   holds = refl;
-  link = refl;
 }
 
 pub returns-in-Some-clause-serves : goal.returns-in-Some-clause-serves
@@ -36,10 +35,9 @@ loop-place-preserved g c =
       still_open = next.0;
       few = c.serve_next.ensures.few;
       goes = Goes-then g.D.Desk.grown g.met.D.Desk.grown_on 1 c.loop-place.place (c.loop-place.place + 1) c.args.seat.now c.loop-place.seat c.serve_next.new.seat _ _ _ c.loop-place.invariant.goes next.1;
-      read_steady = c.serve_next.ensures.read_steady (on ReadFault) ∙ c.loop-place.invariant.read_steady;
-      write_steady = c.serve_next.ensures.write_steady (on WriteFault) ∙ c.loop-place.invariant.write_steady;
+      read_steady = c.serve_next.ensures.reads.steady (on ReadFault) ∙ c.loop-place.invariant.read_steady;
+      write_steady = c.serve_next.ensures.writes.steady (on WriteFault) ∙ c.loop-place.invariant.write_steady;
       holds = c.serve_next.ensures.holds ∙ c.loop-place.invariant.holds;
-      link = c.serve_next.ensures.link ∙ c.loop-place.invariant.link;
     }
 
 pub returns-clause-serves : goal.returns-clause-serves

@@ -1,4 +1,4 @@
-use Rattle.std.proofs.Common.{true, OnOk, OnErr, subst}
+use Rattle.std.proofs.Common.{true, OnOk, subst}
 use Rattle.std.specs.Io.KnownBytes.{Appends}
 use Rattle.m2m_io.specs.Told.{AppendsPrefix}
 use Rattle.primitive_json.specs.declared.reply.ReplyParts.{ReplyParts}
@@ -10,7 +10,7 @@ returns-clause-ok g c =
     subst (λ (r : ReplyParts). OnOk c.put_reply-2.result (Appends (g.X.Sink.written c.args.conn.now) (g.X.Sink.written c.put_reply-2.new.conn) (reply_text r true)))
     c.bare_reply.ensures c.put_reply-2.ensures.ok
 
-pub returns-clause-err : goal.returns-clause-err
-returns-clause-err g c =
-    subst (λ (r : ReplyParts). OnErr c.put_reply-2.result (AppendsPrefix (g.X.Sink.written c.args.conn.now) (g.X.Sink.written c.put_reply-2.new.conn) (reply_text r true)))
-    c.bare_reply.ensures c.put_reply-2.ensures.err
+pub returns-clause-fault : goal.returns-clause-fault
+returns-clause-fault g c = λ e.
+    subst (λ (r : ReplyParts). AppendsPrefix (g.X.Sink.written c.args.conn.now) (g.X.Sink.written c.put_reply-2.new.conn) (reply_text r true))
+    c.bare_reply.ensures (c.put_reply-2.ensures.fault e)

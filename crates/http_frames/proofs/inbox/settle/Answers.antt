@@ -73,7 +73,7 @@ reads-preserved g c =
       reads = Reads_trans _ _ _ _ _ _ c.reads.invariant.reads c.fill.ensures.reads;
       needed = needed_on c.args.side c.args.held.now c.reads.held c.fill.new.self c.reads.invariant.reads.read c.args.src.now c.reads.src c.fill.new.src
           c.in-Short.need c.reads.invariant.reads.held_is c.reads.invariant.needed waits.stays waits.more_wanted c.fill.ensures.ends;
-      faults = c.in_ok-fill-in-Short.ensures.steady (λ e. true≢false (ap is_ok e)) ∙ c.reads.invariant.faults;
+      faults = c.in_ok-fill-in-Short.ensures.faults.steady (λ e. true≢false (ap is_ok e)) ∙ c.reads.invariant.faults;
       beside = c.fill.ensures.beside ∙ c.reads.invariant.beside;
       walked = walked_more c.args.side c.reads.held c.fill.ensures.reads.read c.fill.new.self body headers head c.look_for_frame.new.walked.at
           c.fill.ensures.reads.held_is walked;

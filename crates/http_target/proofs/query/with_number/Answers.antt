@@ -1,4 +1,4 @@
-use Rattle.std.proofs.Common.{◌≡◌, sym, rules}
+use Rattle.std.proofs.Common.{rules}
 use Rattle.filter_criteria.specs.declared.condition.Condition.TheVariants.{CreatedAfter, CreatedBefore, ExpireAfter, ExpireBefore, Limit, ModifiedSince, SizeAbove, SizeBelow, StateTagBigger, StateTagSmaller, UnmodifiedSince}
 use Rattle.http_target.proofs.QueryLemmas.{number_by}
 use Rattle.http_target.proofs.query.with_number.Goals as goal

@@ -1,4 +1,4 @@
-use Rattle.std.proofs.Common.{◌≡◌, ◌≤◌, ◌+◌, take, drop, length}
+use Rattle.std.proofs.Common.{◌≡◌, ◌≤◌, ◌+◌, drop, length}
 use Rattle.tree_model.specs.Tree.{instances_of}
 use Rattle.plain_tree.proofs.finding.count_of_instances.Given as goal
 

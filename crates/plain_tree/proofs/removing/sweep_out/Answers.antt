@@ -8,13 +8,13 @@ use Rattle.plain_tree.proofs.SweepLemmas.{ascending_front, swept_start, swept_ke
 use Rattle.plain_tree.proofs.removing.sweep_out.Goals as goal
 use Rattle.plain_tree.proofs.removing.sweep_out.Goals.{then-does_stay, else-does_stay}
 
-pub does_stay-requires : goal.does_stay-requires
-does_stay-requires c =
+pub does_stay-requires-clause-order : goal.does_stay-requires-clause-order
+does_stay-requires-clause-order c =
     subst (λ (nodes : List ResourceData). AreAscending (take c.loop-at.stayed nodes)) (sym c.deref.ensures.value)
     (ascending_front (take c.loop-at.stayed c.loop-at.resources.items) (drop c.loop-at.at c.loop-at.resources.items) c.loop-at.invariant.order)
 
 pub loop-at-init : goal.loop-at-init
-loop-at-init c = swept_start (picks_of c.args.removal c.args.resources.now.items) c.args.resources.now.items (ascending_from_tree c.args.resources.now.items c.requires)
+loop-at-init c = swept_start (picks_of c.args.removal c.args.resources.now.items) c.args.resources.now.items (ascending_from_tree c.args.resources.now.items c.requires.tree)
 
 pub loop-at-preserved : goal.loop-at-preserved
 loop-at-preserved c =
@@ -23,7 +23,7 @@ loop-at-preserved c =
     let seen : c.does_stay.result ≡ stays (picks_of c.args.removal (take c.loop-at.stayed c.loop-at.resources.items)) (take c.loop-at.stayed c.loop-at.resources.items) c.index.result.now =
     c.does_stay.ensures ∙ ap (λ (nodes : List ResourceData). stays (picks_of c.args.removal (take c.loop-at.stayed nodes)) (take c.loop-at.stayed nodes) c.index.result.now) c.deref.ensures.value in
     let test : c.does_stay.result ≡ stays (picks_of c.args.removal all) (take c.loop-at.stayed c.loop-at.resources.items) c.index.result.now =
-    seen ∙ picked_stays c.args.removal all c.loop-at.resources.items c.loop-at.stayed c.loop-at.at c.index.result.now c.requires c.loop-at.invariant in
+    seen ∙ picked_stays c.args.removal all c.loop-at.resources.items c.loop-at.stayed c.loop-at.at c.index.result.now c.requires.tree c.loop-at.invariant in
     elim c.if-does_stay.branch [
       | then-does_stay w ↦ rw (w.resources-is, w.stayed-is) (swept_keep (picks_of c.args.removal all) all c.loop-at.resources.items c.loop-at.stayed c.loop-at.at c.index.result.now w.swap.new.self.items c.loop-at.invariant inside c.index.ensures (sym test ∙ w.if-does_stay.true) (w.swap.ensures.by_index.3 c.index.result.now))
       | else-does_stay w ↦ rw (w.resources-is, w.stayed-is) (swept_skip (picks_of c.args.removal all) all c.loop-at.resources.items c.loop-at.stayed c.loop-at.at c.index.result.now c.loop-at.invariant inside c.index.ensures (sym test ∙ w.if-does_stay.false))

@@ -7,7 +7,7 @@ pub returns-in-Own-Own : goal.returns-in-Own-Own
 returns-in-Own-Own c =
     let o = c.in-Own-Own.ensures in
     let text = c.in-Own-Own.ensures' in
-    rw (o, text) (c.starts_with.ensures.value ∙ sym (front_behind (own_lead c.args.home.now) c.in-Own-Own.o.now c.in-Own-Own.text.now))
+    rw (o, text) (c.starts_with.ensures.value ∙ sym (front_behind (own_lead c.args.home.now) c.in-Own-Own.originator.now c.in-Own-Own.text.now))
 
 pub returns-in-Own-Other : goal.returns-in-Own-Other
 returns-in-Own-Other c =

@@ -5,4 +5,4 @@ use Rattle.policy_eval.proofs.rights.bits_by_policies.Given as goal
 
 abbrev pub invariant-loop-id : goal.invariant-loop-id
 invariant-loop-id g l =
-    with_rules l.home l.o l.bits (rules_by l.attr (g.T.Tree.nodes l.tree) (drop l.id-index l.ids)) ≡ bits_by l.home l.o (rules_by l.attr (g.T.Tree.nodes l.tree) l.ids)
+    with_rules l.home l.originator l.bits (rules_by l.attr (g.T.Tree.nodes l.tree) (drop l.id-index l.ids)) ≡ bits_by l.home l.originator (rules_by l.attr (g.T.Tree.nodes l.tree) l.ids)

@@ -6,4 +6,4 @@ use Rattle.policy_eval.proofs.rights.is_subject.Given as goal
 
 abbrev pub invariant-loop-entry : goal.invariant-loop-entry
 invariant-loop-entry l =
-    list_any (does_name l.home l.o) (texts_of (drop l.entry-index l.entries)) ≡ list_any (does_name l.home l.o) (texts_of l.entries)
+    list_any (does_name l.home l.originator) (texts_of (drop l.entry-index l.entries)) ≡ list_any (does_name l.home l.originator) (texts_of l.entries)

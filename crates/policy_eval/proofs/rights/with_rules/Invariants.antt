@@ -5,4 +5,4 @@ use Rattle.policy_eval.proofs.rights.with_rules.Given as goal
 
 abbrev pub invariant-loop-rule : goal.invariant-loop-rule
 invariant-loop-rule l =
-    with_rules l.home l.o l.bits (map stated_rule (drop l.rule-index l.rules)) ≡ with_rules l.home l.o l.fn.bits (map stated_rule l.rules)
+    with_rules l.home l.originator l.bits (map stated_rule (drop l.rule-index l.rules)) ≡ with_rules l.home l.originator l.fn.bits (map stated_rule l.rules)

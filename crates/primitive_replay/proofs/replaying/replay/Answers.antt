@@ -1,6 +1,6 @@
 use Rattle.std.proofs.Common.{◌+◌, ◌∙◌, None, refl, sym, subst, arith}
 use Rattle.std.specs.Io.KnownBytes.{prepend_known}
-use Rattle.m2m_io.specs.Outside.{outside}
+use Rattle.cse_server.specs.Outside.{link_told, outside, sink_told}
 use Rattle.m2m_io.specs.declared.status.Status.TheVariants.{ReadFault, WriteFault}
 use Rattle.entity_model.specs.Entity.{EntityData}
 use Rattle.entity_model.specs.Opening.{opening}
@@ -25,13 +25,12 @@ pub loop-place-init : goal.loop-place-init
 loop-place-init g c = record {
   place = omega arith;
   goes = subst (λ (e : EntityData). ReplaysUpTo 1 1 0 0 (opening c.args.home 0) e
-      (outside (g.S.Source.left c.args.input.now) (g.O.Sink.written c.args.out.now) None (g.L.Link.exchanges c.args.link.now))
-      (outside (prepend_known c.in-Ok.held (g.S.Source.left c.args.input.now)) (g.O.Sink.written c.args.out.now) None (g.L.Link.exchanges c.args.link.now)))
+      (outside (g.S.Source.left c.args.input.now) (sink_told (g.O.Sink.written c.args.out.now) (g.O.Sink.puts c.args.out.now)) None (link_told (g.L.Link.exchanges c.args.link.now) (g.L.Link.faults c.args.link.now)))
+      (outside (prepend_known c.in-Ok.held (g.S.Source.left c.args.input.now)) (sink_told (g.O.Sink.written c.args.out.now) (g.O.Sink.puts c.args.out.now)) None (link_told (g.L.Link.exchanges c.args.link.now) (g.L.Link.faults c.args.link.now))))
       (sym c.in-Ok-opened.ensures)
       (goes_none 1 0 (opening c.args.home 0) c.in-Ok.held _ _ _ c.in-Ok.ensures);
   read_steady = refl;
   write_steady = refl;
-  link = refl;
 }
 
 pub returns-in-Some-clause-replays : goal.returns-in-Some-clause-replays
@@ -49,7 +48,6 @@ loop-place-preserved g c =
     record {
       place = omega (arith, few);
       goes = ReplaysUpTo-then 1 c.loop-place.place (c.loop-place.place + 1) 0 c.loop-place.reading c.replay_next.new.reading (opening c.args.home 0) c.loop-place.entity c.replay_next.new.entity _ _ _ c.loop-place.invariant.goes next;
-      read_steady = c.replay_next.ensures.read_steady (on ReadFault) ∙ c.loop-place.invariant.read_steady;
-      write_steady = c.replay_next.ensures.write_steady (on WriteFault) ∙ c.loop-place.invariant.write_steady;
-      link = c.replay_next.ensures.link ∙ c.loop-place.invariant.link;
+      read_steady = c.replay_next.ensures.reads.steady (on ReadFault) ∙ c.loop-place.invariant.read_steady;
+      write_steady = c.replay_next.ensures.writes.steady (on WriteFault) ∙ c.loop-place.invariant.write_steady;
     }

@@ -1,18 +1,27 @@
-use Rattle.std.proofs.Common.{◌≡◌, Option, true, false, ap, sym, ◌∙◌}
-use Rattle.std.specs.Option.{option_map_or}
-use Rattle.m2m_names.specs.declared.types.Ty.{Ty}
-use Rattle.m2m_names.specs.declared.operations.Op.TheVariants.{Create}
-use Rattle.attribute_rules.specs.declared.table.Writing.TheVariants.{Create as Creating}
-use Rattle.request_rules.specs.Requests.{admits_content, is_content_for}
-use Rattle.request_rules.proofs.CreatingLemmas.{refused_by}
-use Rattle.request_rules.proofs.OrderLemmas.{told_as}
+use Rattle.std.proofs.Common.{◌≡◌, Some, sym, ◌∙◌}
+use Rattle.request_rules.specs.Requests.{content_for}
+use Rattle.request_rules.proofs.CreatingLemmas.{creation_refused}
+use Rattle.request_rules.proofs.EditingLemmas.{content_names}
 use Rattle.request_rules.proofs.judging.judge_child.Goals as goal
 
-pub returns : goal.returns
-returns g c =
-    let e = c.args.entity.now in
-    let request = c.args.request.now in
-    let parent = c.args.parent.now in
-    let admitted : admits_content Create request parent ≡ true = ap (λ (x : Option Ty). option_map_or (is_content_for Creating request) x false) c.requires.child ∙ c.requires.admitted in
-    told_as c.judge_members.result _ _
-    (sym (refused_by e c.args.o.now request parent c.args.ty c.in-Some.members.now c.requires.child (sym c.in-Some.ensures) admitted)) c.judge_members.ensures
+pub returns-in-Some-2 : goal.returns-in-Some-2
+returns-in-Some-2 g c =
+    let named = c.in-Some.named.now in
+    let names : content_for c.args.request.now c.args.ty ≡ Some named = content_names c.args.request.now c.args.ty c.in-Some.content.now named c.in-Some.ensures.found.0 c.in-Some.ensures.found.1 in
+    creation_refused c.args.entity.now c.args.o.now c.args.request.now c.args.parent.now c.args.ty named c.requires.child names
+    ∙ sym c.in_ok-fault.ensures ∙ c.in-Some-2.is
+
+pub returns-in-None : goal.returns-in-None
+returns-in-None g c =
+    let named = c.in-Some.named.now in
+    let names : content_for c.args.request.now c.args.ty ≡ Some named = content_names c.args.request.now c.args.ty c.in-Some.content.now named c.in-Some.ensures.found.0 c.in-Some.ensures.found.1 in (
+      creation_refused c.args.entity.now c.args.o.now c.args.request.now c.args.parent.now c.args.ty named c.requires.child names
+          ∙ sym c.in_ok-fault.ensures ∙ c.in-None.is,
+      record {
+        sound = c.requires.sound;
+        parent = c.requires.stands;
+        ty = c.requires.child;
+        content = c.in-Some.ensures.found.0;
+        named = c.in-Some.ensures.found.1;
+      },
+    )

@@ -1,21 +1,28 @@
-use Rattle.std.proofs.Common.{◌≡◌, ◌++◌, List, Option, None, ap, sym, ◌∙◌}
-use Rattle.m2m_names.specs.declared.codes.Rsc.{Rsc}
-use Rattle.entity_model.specs.Places.{Place, first_fault}
+use Rattle.std.proofs.Common.{◌++◌, List, sym}
+use Rattle.m2m_names.specs.declared.operations.Op.TheVariants.{Update}
+use Rattle.tree_model.proofs.TreeLemmas.{at_has}
+use Rattle.entity_model.specs.Places.{Place}
+use Rattle.request_rules.specs.Judged.{IsUpdateOf}
 use Rattle.request_rules.specs.Order.{content_places, creation_places, target_places}
-use Rattle.request_rules.proofs.OrderLemmas.{front_decides, rest_decides, told_as}
+use Rattle.request_rules.proofs.JudgedLemmas.{judges_rest}
+use Rattle.request_rules.proofs.OrderLemmas.{front_decides}
 use Rattle.request_rules.proofs.judging.judge_on.Goals as goal
 
 pub returns-in-Some : goal.returns-in-Some
 returns-in-Some g c =
     let e = c.args.entity.now in
-    let front : List Place = target_places c.args.op e c.args.o.now c.args.request.now c.args.target.now in
-    let back : List Place = content_places c.args.op e c.args.request.now c.args.target.now ++ creation_places c.args.op e c.args.o.now c.args.request.now c.args.target.now in
-    front_decides front back c.in-Some.fault c.in-Some.ensures
+    let target = c.args.target.now in
+    let front : List Place = target_places Update e c.args.o.now c.args.request.now target in
+    let back : List Place = content_places Update e c.args.request.now target ++ creation_places Update e c.args.o.now c.args.request.now target in
+    sym (front_decides front back c.in-Some.fault c.in-Some.ensures)
 
-pub returns : goal.returns
-returns g c =
+pub returns-in-None : goal.returns-in-None
+returns-in-None g c =
     let e = c.args.entity.now in
-    let front : List Place = target_places c.args.op e c.args.o.now c.args.request.now c.args.target.now in
-    let back : List Place = content_places c.args.op e c.args.request.now c.args.target.now ++ creation_places c.args.op e c.args.o.now c.args.request.now c.args.target.now in
-    let none : None ≡ first_fault front = sym c.in_default.is ∙ c.judge_target.ensures in
-    told_as c.judge_content.result (first_fault back) (first_fault (front ++ back)) (rest_decides front back none) c.judge_content.ensures
+    let target = c.args.target.now in
+    let front : List Place = target_places Update e c.args.o.now c.args.request.now target in
+    let back : List Place = content_places Update e c.args.request.now target ++ creation_places Update e c.args.o.now c.args.request.now target in
+    judges_rest c.judge_edit.result front back (IsUpdateOf e c.args.request.now target.number) (sym c.in-None.ensures) c.judge_edit.ensures
+
+pub judge_target-requires-clause-resource : goal.judge_target-requires-clause-resource
+judge_target-requires-clause-resource g c = at_has c.args.target.now.number c.args.entity.now.nodes c.args.target.now c.requires.stands

@@ -1,7 +1,6 @@
 use Rattle.std.proofs.Common.{◌≡◌, ◌<◌, ◌≤◌, ◌-◌, Some, length, drop, sym, ap, ◌∙◌, arith, rules}
 use Rattle.std.specs.Prelude.{slice_get}
 use Rattle.tree_model.specs.Tree.{at, children_of}
-use Rattle.tree_model.proofs.TreeLemmas.{at_has}
 use Rattle.retrieve_discover.specs.Contents.{may_retrieve, members, with_forest}
 use Rattle.retrieve_discover.specs.Descendants.{cut_forest, forest_size}
 use Rattle.retrieve_discover.proofs.ForestLemmas.{chain, ended, forest_of_by_kids, sizes, stopped, turned}
@@ -14,7 +13,7 @@ add_descendants-loop-k-init g t c =
     let look = c.args.look.now in
     let nodes = g.T.Tree.nodes look.tree.now in
     let show = members look.home.now nodes in
-    let all = sym (forest_of_by_kids (may_retrieve look.home.now nodes look.o.now) c.args.parent nodes c.requires.tree) in
+    let all = sym (forest_of_by_kids (may_retrieve look.home.now nodes look.originator.now) c.args.parent nodes c.requires.tree) in
     record {
       shown = ap (λ f. with_forest show (cut_forest f c.args.left.now) c.args.members.now) all;
       left = ap (λ f. c.args.left.now - forest_size f) all;
@@ -26,7 +25,7 @@ add_descendants-loop-k-preserved g t c =
     let look = c.args.look.now in
     let nodes = g.T.Tree.nodes look.tree.now in
     let show = members look.home.now nodes in
-    let goes = may_retrieve look.home.now nodes look.o.now in
+    let goes = may_retrieve look.home.now nodes look.originator.now in
     let kids = children_of c.args.parent nodes in
     let r = c.in-Some.child.now in
     let kid : slice_get kids c.loop-k.k ≡ Some r = sym c.in-Some.ensures.value in
@@ -41,7 +40,7 @@ pub add_descendants-returns-then-left-eq0-clause-members : goal.add_descendants-
 add_descendants-returns-then-left-eq0-clause-members g t c =
     let look = c.args.look.now in
     let nodes = g.T.Tree.nodes look.tree.now in
-    let goes = may_retrieve look.home.now nodes look.o.now in
+    let goes = may_retrieve look.home.now nodes look.originator.now in
     let left = chain goes nodes (drop c.loop-k.k (children_of c.args.parent nodes)) in
     (stopped goes (members look.home.now nodes) left c.loop-k.left _ c.loop-k.members _ c.if-left-eq0.true c.loop-k.invariant.shown c.loop-k.invariant.left).0
 
@@ -49,7 +48,7 @@ pub add_descendants-returns-in-None-clause-members : goal.add_descendants-return
 add_descendants-returns-in-None-clause-members g t c =
     let look = c.args.look.now in
     let nodes = g.T.Tree.nodes look.tree.now in
-    let goes = may_retrieve look.home.now nodes look.o.now in
+    let goes = may_retrieve look.home.now nodes look.originator.now in
     let kids = children_of c.args.parent nodes in
     (ended goes (members look.home.now nodes) nodes kids c.loop-k.k c.loop-k.left _ c.loop-k.members _ (drop_none kids c.loop-k.k (sym c.in-None.ensures.value)) c.loop-k.invariant.shown c.loop-k.invariant.left).0
 
@@ -57,7 +56,7 @@ pub add_descendants-returns-in-None-clause-left : goal.add_descendants-returns-i
 add_descendants-returns-in-None-clause-left g t c =
     let look = c.args.look.now in
     let nodes = g.T.Tree.nodes look.tree.now in
-    let goes = may_retrieve look.home.now nodes look.o.now in
+    let goes = may_retrieve look.home.now nodes look.originator.now in
     let kids = children_of c.args.parent nodes in
     (ended goes (members look.home.now nodes) nodes kids c.loop-k.k c.loop-k.left _ c.loop-k.members _ (drop_none kids c.loop-k.k (sym c.in-None.ensures.value)) c.loop-k.invariant.shown c.loop-k.invariant.left).1
 
@@ -65,7 +64,7 @@ pub add_descendants-returns-clause-members : goal.add_descendants-returns-clause
 add_descendants-returns-clause-members g t c =
     let look = c.args.look.now in
     let nodes = g.T.Tree.nodes look.tree.now in
-    let goes = may_retrieve look.home.now nodes look.o.now in
+    let goes = may_retrieve look.home.now nodes look.originator.now in
     let kids = children_of c.args.parent nodes in
     let past : length nodes ≤ c.loop-k.k = omega arith in
     (ended goes (members look.home.now nodes) nodes kids c.loop-k.k c.loop-k.left _ c.loop-k.members _ (kids_past nodes c.args.parent c.loop-k.k past) c.loop-k.invariant.shown c.loop-k.invariant.left).0
@@ -74,7 +73,7 @@ pub add_descendants-returns-clause-left : goal.add_descendants-returns-clause-le
 add_descendants-returns-clause-left g t c =
     let look = c.args.look.now in
     let nodes = g.T.Tree.nodes look.tree.now in
-    let goes = may_retrieve look.home.now nodes look.o.now in
+    let goes = may_retrieve look.home.now nodes look.originator.now in
     let kids = children_of c.args.parent nodes in
     let past : length nodes ≤ c.loop-k.k = omega arith in
     (ended goes (members look.home.now nodes) nodes kids c.loop-k.k c.loop-k.left _ c.loop-k.members _ (kids_past nodes c.args.parent c.loop-k.k past) c.loop-k.invariant.shown c.loop-k.invariant.left).1
@@ -87,9 +86,6 @@ add_descendants-add_child-requires g t c κs within =
     let under : r.parent ≡ c.args.parent = c.in-Some.ensures.under in
     let some : 0 < c.loop-k.left = omega arith in
     search rules
-
-pub add_child-may_retrieve-requires-clause-resource : goal.add_child-may_retrieve-requires-clause-resource
-add_child-may_retrieve-requires-clause-resource g t c = at_has c.args.child.now.number (g.T.Tree.nodes c.args.look.now.tree.now) c.args.child.now c.requires.child
 
 pub add_child-add_descendants-requires : goal.add_child-add_descendants-requires
 add_child-add_descendants-requires g t c κs within =

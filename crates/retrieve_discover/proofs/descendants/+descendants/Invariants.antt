@@ -11,7 +11,7 @@ use Rattle.retrieve_discover.proofs.descendants.+descendants.Given as goal
 abbrev pub invariant-add_descendants-loop-k : goal.invariant-add_descendants-loop-k
 invariant-add_descendants-loop-k g l =
     let nodes = g.T.Tree.nodes l.look.tree.now in
-    let goes = may_retrieve l.look.home.now nodes l.look.o.now in
+    let goes = may_retrieve l.look.home.now nodes l.look.originator.now in
     let show = members l.look.home.now nodes in
     let left = chain goes nodes (drop l.k (children_of l.parent nodes)) in
     record {

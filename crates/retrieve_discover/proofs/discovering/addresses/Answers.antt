@@ -8,6 +8,6 @@ pub returns : goal.returns
 returns g c =
     let nodes = g.T.Tree.nodes c.args.tree.now in
     let show = address c.args.by_id nodes in
-    let all = all_found c.args.home.now nodes c.args.o.now c.args.filter.now c.args.target in
+    let all = all_found c.args.home.now nodes c.args.originator.now c.args.filter.now c.args.target in
     let same = ap (λ (n : ℕ). take n (map show all)) c.limit.ensures ∙ take-map show _ all in
-    IfOk-weaker c.from_target.result (λ v. v.items ≡ take c.limit.result (map show all)) (λ v. v.items ≡ map show (found c.args.home.now nodes c.args.o.now c.args.filter.now c.args.target)) (λ v is. is ∙ same) c.from_target.ensures
+    IfOk-weaker c.from_target.result (λ v. v.items ≡ take c.limit.result (map show all)) (λ v. v.items ≡ map show (found c.args.home.now nodes c.args.originator.now c.args.filter.now c.args.target)) (λ v is. is ∙ same) c.from_target.ensures

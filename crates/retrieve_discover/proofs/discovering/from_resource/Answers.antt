@@ -19,7 +19,7 @@ pub returns : goal.returns
 returns g c =
     let w = c.args.wanted.now in
     let nodes = g.T.Tree.nodes w.tree.now in
-    let found = λ (n : ℕ). map (address w.by_id nodes) (all_found w.home.now nodes w.o.now w.filter.now n) in
+    let found = λ (n : ℕ). map (address w.by_id nodes) (all_found w.home.now nodes w.originator.now w.filter.now n) in
     c.in_ok-find_below.ensures.found
     ∙ ap (λ (ds : List Data). take w.limit (ds ++ found c.number.result)) c.new-found.ensures.items
     ∙ ap (λ n. take w.limit (found n)) c.number.ensures.value

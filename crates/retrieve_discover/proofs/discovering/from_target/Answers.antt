@@ -15,7 +15,7 @@ returns-in-Some g c =
     let nodes = g.T.Tree.nodes w.tree.now in
     let r = c.in-Some.resource.now in
     let same : r.number ≡ c.args.target = at_number c.args.target nodes r (sym c.in-Some.ensures) in
-    let found = λ (n : ℕ). take w.limit (map (address w.by_id nodes) (all_found w.home.now nodes w.o.now w.filter.now n)) in
+    let found = λ (n : ℕ). take w.limit (map (address w.by_id nodes) (all_found w.home.now nodes w.originator.now w.filter.now n)) in
     IfOk-weaker c.from_resource.result (λ v. v.items ≡ found r.number) (λ v. v.items ≡ found c.args.target) (λ v is. is ∙ ap found same) c.from_resource.ensures
 
 pub returns-in-None : goal.returns-in-None

@@ -12,7 +12,7 @@ use Rattle.retrieve_discover.proofs.finding.+finding.Given as goal
 abbrev pub invariant-find_below-loop-k : goal.invariant-find_below-loop-k
 invariant-find_below-loop-k g l =
     let nodes = g.T.Tree.nodes l.wanted.tree.now in
-    let keep = kept (address l.wanted.by_id nodes) (is_found l.wanted.home.now nodes l.wanted.o.now l.wanted.filter.now) in
+    let keep = kept (address l.wanted.by_id nodes) (is_found l.wanted.home.now nodes l.wanted.originator.now l.wanted.filter.now) in
     record {
       told : take l.wanted.limit (l.found.items ++ keep (flat_map (with_below nodes) (drop l.k (children_of l.parent nodes)))) ≡ take l.wanted.limit (l.fn.found.items ++ keep (below l.parent nodes));
       room : length l.found.items ≤ l.wanted.limit;

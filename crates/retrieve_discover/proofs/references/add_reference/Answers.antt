@@ -1,10 +1,6 @@
 use Rattle.std.proofs.Common.{◌∙◌}
-use Rattle.tree_model.proofs.TreeLemmas.{at_has}
 use Rattle.retrieve_discover.proofs.PathLemmas.{path_down}
 use Rattle.retrieve_discover.proofs.references.add_reference.Goals as goal
-
-pub may_retrieve-requires-clause-resource : goal.may_retrieve-requires-clause-resource
-may_retrieve-requires-clause-resource g c = at_has c.args.child.now.number (g.T.Tree.nodes c.args.look.now.tree.now) c.args.child.now c.requires.child
 
 pub reference-requires-clause-path : goal.reference-requires-clause-path
 reference-requires-clause-path g c = c.deref.ensures.value ∙ path_down (g.T.Tree.nodes c.args.look.now.tree.now) c.args.child.now c.args.path.now.items c.go_down.new.path.items c.requires.tree c.requires.child c.requires.parent c.requires.path c.in_ok-go_down.ensures.path

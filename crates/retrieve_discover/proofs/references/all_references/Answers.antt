@@ -27,7 +27,7 @@ loop-k-preserved g c =
     let look = c.args.look.now in
     let nodes = g.T.Tree.nodes look.tree.now in
     let show = reference look.by_id nodes in
-    let test = may_retrieve look.home.now nodes look.o.now in
+    let test = may_retrieve look.home.now nodes look.originator.now in
     let kids = children_of c.args.target.now.number nodes in
     let r = c.in-Some.child.now in
     let kid : slice_get kids c.loop-k.k ≡ Some r = ap (λ n. slice_get (children_of n nodes) c.loop-k.k) (sym c.number.ensures.value) ∙ sym c.in-Some.ensures.value in
@@ -45,7 +45,7 @@ returns-then-len-ge-MOST_LISTED g c =
     let look = c.args.look.now in
     let nodes = g.T.Tree.nodes look.tree.now in
     let show = reference look.by_id nodes in
-    let test = may_retrieve look.home.now nodes look.o.now in
+    let test = may_retrieve look.home.now nodes look.originator.now in
     let kids = children_of c.args.target.now.number nodes in
     let full : most_listed ≤ length c.loop-k.references.items = omega arith in
     kept_full show test most_listed (drop c.loop-k.k kids) c.loop-k.references.items _ full c.loop-k.invariant.room c.loop-k.invariant.told
@@ -57,7 +57,7 @@ returns-in-None g c =
     let look = c.args.look.now in
     let nodes = g.T.Tree.nodes look.tree.now in
     let show = reference look.by_id nodes in
-    let test = may_retrieve look.home.now nodes look.o.now in
+    let test = may_retrieve look.home.now nodes look.originator.now in
     let kids = children_of c.args.target.now.number nodes in
     let none : slice_get kids c.loop-k.k ≡ None = ap (λ n. slice_get (children_of n nodes) c.loop-k.k) (sym c.number.ensures.value) ∙ sym c.in-None.ensures.value in
     kept_done show test most_listed kids c.loop-k.k c.loop-k.references.items _ (drop_none kids c.loop-k.k none) c.loop-k.invariant.room c.loop-k.invariant.told
@@ -68,7 +68,7 @@ returns g c =
     let look = c.args.look.now in
     let nodes = g.T.Tree.nodes look.tree.now in
     let show = reference look.by_id nodes in
-    let test = may_retrieve look.home.now nodes look.o.now in
+    let test = may_retrieve look.home.now nodes look.originator.now in
     let kids = children_of c.args.target.now.number nodes in
     let past : length nodes ≤ c.loop-k.k = omega arith in
     kept_done show test most_listed kids c.loop-k.k c.loop-k.references.items _ (kids_past nodes c.args.target.now.number c.loop-k.k past) c.loop-k.invariant.room c.loop-k.invariant.told

@@ -11,7 +11,7 @@ use Rattle.retrieve_discover.proofs.references.all_references.Given as goal
 abbrev pub invariant-loop-k : goal.invariant-loop-k
 invariant-loop-k g l =
     let nodes = g.T.Tree.nodes l.look.tree.now in
-    let keep = kept (reference l.look.by_id nodes) (may_retrieve l.look.home.now nodes l.look.o.now) in
+    let keep = kept (reference l.look.by_id nodes) (may_retrieve l.look.home.now nodes l.look.originator.now) in
     let kids = children_of l.target.number nodes in
     record {
       told : take most_listed (l.references.items ++ keep (drop l.k kids)) ≡ take most_listed (keep kids);

@@ -1,7 +1,8 @@
-use Rattle.turn_desk.specs.Seats.{IsSeated, known_to}
-use Rattle.workers.specs.Shares.{HasGrown}
+use Rattle.turn_desk.specs.Seats.{IsSeated}
+use Rattle.workers.specs.Shifts.{WorksFrom}
 use Rattle.workers.proofs.serving.serve_rest.Given as goal
 
 abbrev pub invariant-loop : goal.invariant-loop
 invariant-loop g l =
-    IsSeated g.O.Object.step l.desk.table.shared.table_id l.seat × HasGrown (known_to l.initial.seat) (known_to l.seat)
+    IsSeated g.O.Object.step l.desk.table.shared.table_id l.seat
+    × WorksFrom g.V.Service.attends l.initial.seat l.initial.bench l.seat l.bench

@@ -1,8 +1,8 @@
-use Rattle.turn_desk.specs.Seats.{IsSeated, known_to}
-use Rattle.workers.specs.Shares.{HasGrown}
+use Rattle.turn_desk.specs.Seats.{IsSeated}
+use Rattle.workers.specs.Shifts.{HasWorked}
 use Rattle.workers.proofs.serving.work.Given as goal
 
 abbrev pub invariant-loop : goal.invariant-loop
 invariant-loop g l =
     IsSeated g.O.Object.step l.desk.table.shared.table_id l.job.seat
-    × HasGrown (known_to l.initial.job.seat) (known_to l.job.seat)
+    × HasWorked g.V.Service.attends l.initial.job l.job

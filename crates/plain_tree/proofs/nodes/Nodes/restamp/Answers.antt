@@ -1,4 +1,4 @@
-use Rattle.std.proofs.Common.{ap, sym, ◌∙◌, List}
+use Rattle.std.proofs.Common.{ap, ◌∙◌}
 use Rattle.tree_model.specs.Tree.{is_tree, has_state}
 use Rattle.tree_model.proofs.GrowthLemmas.{ascending_from_tree}
 use Rattle.tree_model.proofs.StampLemmas.{tree_restamped}

@@ -1,23 +1,24 @@
-use Rattle.std.proofs.Common.{◌≡◌, ℕ, zero, suc, ◌+◌, ◌<◌, List, [], ◌∷◌, length, drop, get_or, Option, Some, None, option_map, sym, ap, ◌∙◌, arith, Bor}
-use Rattle.std.proofs.lemmas.List.{drop_more}
-use Rattle.std.proofs.lemmas.Option.{slice_get-get_or, same_Some}
+use Rattle.std.proofs.Common.{◌≡◌, ◌∷◌, [], None, Some, Option, option_map, Bor, sym, ap, ◌∙◌, subst}
 use Rattle.std.specs.Iterator.{YieldsFirstRef}
-use Rattle.std.specs.List.{slice_get}
 use Rattle.resource_model.specs.Resource.{ResourceData}
+use Rattle.tree_model.specs.Tree.{all_after, next_after}
+use Rattle.tree_model.proofs.OrderLemmas.{tree_ascends}
+use Rattle.tree_model.proofs.WalkLemmas.{progress, step_none, step_some}
 use Rattle.tree_model.proofs.walk.WalkIterator.next.Goals as goal
 
--- one step of going over a list
-walk_step : (nodes : List ResourceData) (n : ℕ) (r : Option (Bor ResourceData)) (left : List ResourceData) → drop n nodes ≡ left → option_map (λ x. x.now) r ≡ slice_get nodes n → n < length nodes → YieldsFirstRef (λ rest. rest) left r (drop (n + 1) nodes)
-walk_step nodes n None left is got within = absurd (none_some nodes n got within)
-  where
-    none_some : (nodes : List ResourceData) (n : ℕ) → None ≡ slice_get nodes n → n < length nodes → ⊥
-    none_some [] n got within = omega arith
-    none_some (s ∷ nodes) zero got within = cc
-    none_some (s ∷ nodes) (suc n) got within = none_some nodes n got (omega arith)
-walk_step nodes n (Some x) left is got within =
-    let here : x.now ≡ get_or nodes n x.now = same_Some _ _ (got ∙ slice_get-get_or nodes n x.now within) in
-    sym is ∙ drop_more nodes n x.now within ∙ ap (λ (y : ResourceData). y ∷ drop (n + 1) nodes) (sym here)
+pub returns-in_err-next-clause-steps : goal.returns-in_err-next-clause-steps
+returns-in_err-next-clause-steps g c =
+    let nodes = g.T.Tree.nodes c.self.inside.tree.now in
+    let none : None ≡ next_after c.self.inside.last nodes = ap (option_map (λ (r : Bor ResourceData). r.now)) (sym c.in_err-next.was) ∙ c.after.ensures in
+    let end : c.args.self.now ≡ [] = step_none c.self.inside.last nodes c.args.self.now c.self.view_is none in
+    subst (λ r. YieldsFirstRef (λ rest. rest) c.args.self.now r c.args.self.now) (sym c.from_residual.ensures) (end, end)
 
 pub returns-clause-steps : goal.returns-clause-steps
 returns-clause-steps g c =
-    walk_step (g.T.Tree.nodes c.self.inside.tree.now) c.self.inside.next c.nth.result c.args.self.now c.self.view_is c.nth.ensures (omega (arith, c.if-self-len.false, c.len.ensures.value))
+    let nodes = g.T.Tree.nodes c.self.inside.tree.now in
+    let some : Some c.in_ok-next.next.now ≡ next_after c.self.inside.last nodes = ap (option_map (λ (r : Bor ResourceData). r.now)) (sym c.in_ok-next.was) ∙ c.after.ensures in
+    step_some c.self.inside.last nodes c.args.self.now c.in_ok-next.next.now (tree_ascends nodes c.len-count.ensures.tree) c.self.view_is some
+    ∙ ap (λ k. c.in_ok-next.next.now ∷ all_after k nodes) (sym c.number-self-inside.ensures.value)
+
+pub returns-clause-goes : goal.returns-clause-goes
+returns-clause-goes g c = progress _ (λ _. tt) _ _ (Some c.in_ok-next.next) (returns-clause-steps g c)

@@ -23,7 +23,7 @@ invariant_of-self g c =
     let ended : Tells (λ k. k) before.ended now.ended =
     subst (λ o. Tells (elim o as (λ _. Bool → Bool) [ None ↦ λ _. true | Some conn ↦ λ k. k ]) before.ended now.ended) some next.ended in
     subst (λ e. Guards accept start now c.args.left e) (sym going)
-    (guards-more accept c.self.inside.left c.args.left start before now kept less given next.opened ended next.steady)
+    (guards-more accept c.self.inside.left c.args.left start before now kept less given next.opened ended next.faults.steady)
 
 pub invariant_of-self-in-Ok-None : goal.invariant_of-self-in-Ok-None
 invariant_of-self-in-Ok-None g c =
@@ -41,7 +41,7 @@ invariant_of-self-in-Ok-None g c =
     subst (λ o. Tells (elim o as (λ _. ℕ → ℕ) [ None ↦ λ k. k | Some conn ↦ λ k. k + 1 ]) before.given now.given) none next.given in
     let ended : Tells (λ _. true) before.ended now.ended =
     subst (λ o. Tells (elim o as (λ _. Bool → Bool) [ None ↦ λ _. true | Some conn ↦ λ k. k ]) before.ended now.ended) none next.ended in
-    guards-over accept left start before now kept given next.opened ended next.steady
+    guards-over accept left start before now kept given next.opened ended next.faults.steady
 
 pub invariant_of-self-in-Err : goal.invariant_of-self-in-Err
 invariant_of-self-in-Err g c =
@@ -54,4 +54,4 @@ invariant_of-self-in-Err g c =
     let going : c.self.inside.ending ≡ None = search rules in
     let kept : Guards accept start before left None = subst (λ e. Guards accept start before left e) going c.self.invariant in
     let next = c.in-Err.ensures in
-    guards-fault accept left start before now kept next.given next.opened next.ended next.cause
+    guards-fault accept left start before now kept next.given next.opened next.ended next.faults.cause

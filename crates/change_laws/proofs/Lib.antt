@@ -1,0 +1,2 @@
+pub mod MayLemmas
+pub mod ServedLemmas

@@ -1,5 +1,0 @@
-use Rattle.std.proofs.Common.{length}
-use Rattle.create_delete.proofs.listing.+first_there.Given as goal
-
-abbrev pub decreases-first_there : goal.decreases-first_there
-decreases-first_there g l = length l.numbers.now

@@ -1,8 +1,0 @@
-use Rattle.cse_machine.proofs.HistoryLemmas.{step_guarded, guarded_in_history}
-use Rattle.cse_machine.proofs.laws.nothing_is_shown_or_changed_without_a_grant.Goals as goal
-
-pub returns-clause-steps : goal.returns-clause-steps
-returns-clause-steps c = step_guarded
-
-pub returns-clause-histories : goal.returns-clause-histories
-returns-clause-histories c = λ opening e earlier later. guarded_in_history earlier later opening e

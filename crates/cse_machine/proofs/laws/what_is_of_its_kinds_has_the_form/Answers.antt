@@ -1,4 +1,0 @@
-use Rattle.cse_machine.proofs.laws.what_is_of_its_kinds_has_the_form.Goals as goal
-
-pub returns : goal.returns
-returns c = λ request is. is.form

@@ -1,5 +1,0 @@
-use Rattle.cse_server.proofs.GuardedLemmas.{serves_guarded}
-use Rattle.cse_server.proofs.laws.a_connection_shows_and_changes_by_grant_alone.Goals as goal
-
-pub returns : goal.returns
-returns c = serves_guarded

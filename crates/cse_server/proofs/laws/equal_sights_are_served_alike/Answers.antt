@@ -1,5 +1,0 @@
-use Rattle.cse_server.proofs.OneWayLemmas.{served_alike}
-use Rattle.cse_server.proofs.laws.equal_sights_are_served_alike.Goals as goal
-
-pub returns : goal.returns
-returns c = served_alike

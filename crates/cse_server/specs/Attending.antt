@@ -1,0 +1,87 @@
+-- How a worker attends to a connection, and what is sent when no more connections come.
+use Rattle.std.specs.Prelude.{◌≡◌, ℕ, List, [], ◌∷◌, ◌++◌, Option}
+use Rattle.m2m_io.specs.Link.{Carrying, Exchange}
+use Rattle.cse_server.specs.Outside.{Carries, EndsByFault, LinkTold, SinkTold, link_told, outside}
+use Rattle.cse_server.specs.Outside.{sink_told}
+use Rattle.m2m_io.specs.Told.{Tells}
+use Rattle.turn_desk.specs.Entries.{Marked}
+use Rattle.turn_desk.specs.Seats.{known_to}
+use Rattle.turn_desk.specs.Shared.{Grows}
+use Rattle.turn_desk.specs.declared.shared.DeskSeat.{DeskSeat}
+use Rattle.cse_machine.specs.declared.event.Event.{Event}
+use Rattle.cse_machine.specs.declared.event.Outcome.{Outcome}
+use Rattle.cse_server.specs.declared.bench.Bench.{Bench}
+use Rattle.cse_server.specs.declared.connection.Ended.TheVariants.{ReadFault, WriteFault}
+use Rattle.cse_server.specs.declared.serving.Attended.{Attended}
+use Rattle.cse_server.specs.Connection.{Serves}
+
+-- ---- connections
+
+-- what a connection tells: the bytes that it has left, what was written to it, and how often it has
+-- failed as it was read and as it was written
+pub record ConnTold : Type 0 where
+  pub left : Option (List ℕ)
+  pub out : SinkTold
+  pub read_faults : ℕ
+  pub write_faults : ℕ
+
+-- this connection does, by these
+abbrev pub conn_tells : {X : Type 0} → (X → Option (List ℕ)) → (X → Option (List ℕ))
+    → (X → Option ℕ) → (X → ℕ) → (X → ℕ) → X → ConnTold
+conn_tells left written puts read_faults write_faults conn = record {
+  left = left conn;
+  out = sink_told (written conn) (puts conn);
+  read_faults = read_faults conn;
+  write_faults = write_faults conn;
+}
+
+-- and this link, by these
+abbrev pub link_tells : {L : Type 0} → (L → Option (List Exchange)) → (L → ℕ) → L → LinkTold
+link_tells exchanges faults link = link_told (exchanges link) (faults link)
+
+-- A connection came and was attended to at a seat, with what lies at a bench: it was served, and
+-- ended so. A fault that ended it is one of the connection, whose count rose then, and no other
+-- came.
+pub record Attends {S X C L : Type 0} (grown : S → List (Marked Event Outcome) → S → Type 0)
+    (conn : X → ConnTold) (clock : C → Option (List ℕ)) (link : L → LinkTold)
+    (before : S) (came : X) (bench : Bench C L) (after : S) (attended : Attended X)
+    (left : Bench C L) : Type 0 where
+  pub serves : Serves grown before after
+      (outside (conn came).left (conn came).out (clock bench.clock) (link bench.link))
+      (outside (conn attended.conn).left (conn attended.conn).out (clock left.clock)
+      (link left.link)) attended.ended
+  pub reads : EndsByFault ReadFault attended.ended
+      (conn came).read_faults (conn attended.conn).read_faults
+  pub writes : EndsByFault WriteFault attended.ended
+      (conn came).write_faults (conn attended.conn).write_faults
+
+-- a seat of a shared desk grew by these entries
+abbrev pub SeatGrows : {X : Type 0} → DeskSeat X Event Outcome → List (Marked Event Outcome)
+    → DeskSeat X Event Outcome → Type 0
+SeatGrows before more after = Grows (known_to before) more (known_to after)
+
+-- ---- items
+
+-- an item of the outbox that was sent: the reading at which it was taken, and what was carried
+pub record Sending : Type 0 where
+  pub reading : ℕ
+  pub carried : List Carrying
+
+module _ {C L : Type 0} (clock : C → Option (List ℕ)) (link : L → LinkTold) where
+  -- an item was sent with what lies at a bench
+  pub record Sends (sending : Sending) (bench left : Bench C L) : Type 0 where
+    pub given : Tells (λ given. given ++ sending.reading ∷ [])
+        (clock bench.clock) (clock left.clock)
+    pub carried : Carries sending.carried (link bench.link) (link left.link)
+
+  -- items were sent, one after another, and nothing else was done
+  abbrev pub SendsInTurn : List Sending → Bench C L → Bench C L → Type 0
+  SendsInTurn [] bench left = left ≡ bench
+  SendsInTurn (sending ∷ rest) bench left =
+      (between : Bench C L) × Sends sending bench between × SendsInTurn rest between left
+
+  -- The items that were left in the outbox were sent: there are none as yet.
+  pub record SendsWhatIsLeft (bench left : Bench C L) : Type 0 where
+    pub sent : List Sending
+    pub none_yet : sent ≡ []
+    pub sends : SendsInTurn sent bench left

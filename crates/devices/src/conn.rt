@@ -1,0 +1,330 @@
+//! A connection over TCP.
+ghost use Rattle.std.specs.Prelude.{◌≡◌};
+ghost use Rattle.std.specs.Io.{ReadsAtMost};
+
+use crate::heard::Heard;
+use crate::log::Log;
+use m2m_io::{Connection, Failed, Sink, Source};
+use std::io;
+use std::io::{Eprint, ErrorKind, Read, Write};
+use std::net::{Shutdown, SocketAddr, TcpStream};
+use std::time::{Clock, Duration};
+
+/// So many seconds a client may say nothing, and so long it may take for one message, counted from
+/// its first byte that is read alone, and for one reply. Then it is given up, which is a fault of
+/// its connection.
+pub const PATIENCE: u64 = 30;
+
+/// What a client still sends behind the last reply is read for so long at most, in milliseconds,
+const DRAINING: u64 = 1_000;
+
+/// and no more than so many bytes.
+const MOST_DRAINED: usize = 65_536;
+
+/// A connection over TCP. Small packets aren't held back. When it is dropped, its writing side ends
+/// first, and what the client still sends is read and passed over for a while: else the system
+/// would reset the connection, and the client might never read the last reply.
+pub struct TcpConn<R: Clock + Eprint + Copy> {
+    log: Log<R>,
+    stream: TcpStream,
+    peer: SocketAddr,
+    /// The moment at which the message that is being read began, in milliseconds.
+    begun: Option<u64>,
+    /// The moment from which on the server has been at work, in microseconds.
+    busy: u64,
+    /// The next read waits less than `PATIENCE`.
+    is_pressed: bool,
+    /// The client has ended its writing side.
+    is_ended: bool,
+    heard: Option<Heard>,
+    read_faults: u64,
+    write_faults: u64,
+}
+
+/// The time since some start.
+fn since_start<R: Clock>(rt: &R) -> Duration {
+    match rt.monotonic() {
+        Ok(time) => time,
+        Err(_) => Duration::ZERO,
+    }
+}
+
+fn millis_of(time: Duration) -> u64 {
+    time.as_secs()
+        .saturating_mul(1_000)
+        .saturating_add(time.subsec_millis() as u64)
+}
+
+fn micros_of(time: Duration) -> u64 {
+    time.as_secs()
+        .saturating_mul(1_000_000)
+        .saturating_add(time.subsec_micros() as u64)
+}
+
+/// What is left of so many milliseconds since this moment; None where nothing is.
+fn time_left<R: Clock>(rt: &R, begun: u64, millis: u64) -> Option<Duration> {
+    let gone = millis_of(since_start(rt)).saturating_sub(begun);
+    let left = millis.saturating_sub(gone);
+    if left > 0 {
+        Some(Duration::from_millis(left))
+    } else {
+        None
+    }
+}
+
+fn timed_out() -> io::Error {
+    io::Error::from(ErrorKind::TimedOut)
+}
+
+/// What is left of `PATIENCE` since this moment.
+fn patience_left<R: Clock>(rt: &R, begun: u64) -> io::Result<Duration> {
+    match time_left(rt, begun, PATIENCE * 1_000) {
+        Some(left) => Ok(left),
+        None => Err(timed_out()),
+    }
+}
+
+/// Reads and passes over what comes, for a while.
+fn drain<R: Clock>(rt: &R, stream: &mut TcpStream) {
+    let begun = millis_of(since_start(rt));
+    let mut buf = [0u8; 4_096];
+    let mut drained = 0usize;
+    for _ in 0..MOST_DRAINED {
+        if drained >= MOST_DRAINED {
+            return;
+        }
+        let Some(left) = time_left(rt, begun, DRAINING) else {
+            return;
+        };
+        if stream.set_read_timeout(Some(left)).is_err() {
+            return;
+        }
+        match stream.read(&mut buf) {
+            Ok(n) if n > 0 => drained = drained.saturating_add(n),
+            _ => return,
+        }
+    }
+}
+
+/// Reads, again where the system broke a read off.
+fn read_some(stream: &mut TcpStream, buf: &mut [u8]) -> io::Result<usize>
+    ensures { ReadsAtMost result buf.new }
+{
+    for _ in 0..u64::MAX {
+        match stream.read(buf) {
+            Ok(n) => return Ok(n),
+            Err(error) if error.kind() == ErrorKind::Interrupted => {}
+            Err(error) => return Err(error),
+        }
+    }
+    Err(timed_out())
+}
+
+/// Writes all of it within `PATIENCE`, and tells whether the next write waits less.
+fn write_all_in_time<R: Clock>(rt: &R, stream: &mut TcpStream, bytes: &[u8]) -> io::Result<bool> {
+    let begun = millis_of(since_start(rt));
+    let mut rest = bytes;
+    let mut is_pressed = false;
+    for _ in 0..bytes.len() {
+        let n = stream.write(rest)?;
+        if n == 0 {
+            return Err(io::Error::from(ErrorKind::WriteZero));
+        }
+        rest = rest.split_at(n.min(rest.len())).1;
+        if rest.is_empty() {
+            return Ok(is_pressed);
+        }
+        stream.set_write_timeout(Some(patience_left(rt, begun)?))?;
+        is_pressed = true;
+    }
+    Ok(is_pressed)
+}
+
+impl<R: Clock + Eprint + Copy> Drop for TcpConn<R> {
+    fn drop(self) {
+        let TcpConn {
+            log,
+            mut stream,
+            peer: _,
+            begun: _,
+            busy: _,
+            is_pressed: _,
+            is_ended,
+            heard: _,
+            read_faults,
+            write_faults,
+        } = self;
+        let is_whole = !is_ended && read_faults == 0 && write_faults == 0;
+        if is_whole && stream.shutdown(Shutdown::Write).is_ok() {
+            drain(&log.runtime(), &mut stream);
+        }
+    }
+}
+
+impl<R: Clock + Eprint + Copy> TcpConn<R> {
+    pub(crate) fn new(log: Log<R>, stream: TcpStream, peer: SocketAddr) -> io::Result<Self> {
+        let patience = Some(Duration::from_secs(PATIENCE));
+        stream.set_nodelay(true)?;
+        stream.set_read_timeout(patience)?;
+        stream.set_write_timeout(patience)?;
+        let heard = if log.has_requests() {
+            Some(Heard::new(log.allocator())?)
+        } else {
+            None
+        };
+        Ok(TcpConn {
+            log,
+            stream,
+            peer,
+            begun: None,
+            busy: 0,
+            is_pressed: false,
+            is_ended: false,
+            heard,
+            read_faults: 0,
+            write_faults: 0,
+        })
+    }
+
+    /// Has the next read wait as long as it may.
+    fn press(&mut self) -> io::Result<()>
+        ensures reads { self.new.read_faults ≡ self.old.read_faults }
+        ensures writes { self.new.write_faults ≡ self.old.write_faults }
+    {
+        let left = match self.begun {
+            Some(begun) => patience_left(&self.log.runtime(), begun)?,
+            None if self.is_pressed => Duration::from_secs(PATIENCE),
+            None => return Ok(()),
+        };
+        self.stream.set_read_timeout(Some(left))?;
+        self.is_pressed = self.begun.is_some();
+        Ok(())
+    }
+
+    /// What was read.
+    fn hear(&mut self, bytes: &[u8])
+        ensures reads { self.new.read_faults ≡ self.old.read_faults }
+        ensures writes { self.new.write_faults ≡ self.old.write_faults }
+    {
+        let now = since_start(&self.log.runtime());
+        if bytes.is_empty() {
+            self.is_ended = true;
+        } else if self.begun.is_none() {
+            self.begun = Some(millis_of(now));
+        }
+        if let Some(heard) = &mut self.heard {
+            heard.hear(bytes);
+            self.busy = micros_of(now);
+        }
+    }
+
+    /// Writes all of it, unless the client takes it too slowly.
+    fn write_in_time(&mut self, bytes: &[u8]) -> io::Result<()>
+        ensures reads { self.new.read_faults ≡ self.old.read_faults }
+        ensures writes { self.new.write_faults ≡ self.old.write_faults }
+    {
+        if write_all_in_time(&self.log.runtime(), &mut self.stream, bytes)? {
+            let patience = Some(Duration::from_secs(PATIENCE));
+            self.stream.set_write_timeout(patience)?;
+        }
+        Ok(())
+    }
+
+    /// A line for the request that these bytes answer.
+    fn log_reply(&mut self, bytes: &[u8])
+        ensures reads { self.new.read_faults ≡ self.old.read_faults }
+        ensures writes { self.new.write_faults ≡ self.old.write_faults }
+    {
+        let rt = self.log.runtime();
+        let now = micros_of(since_start(&rt));
+        let taken = now.saturating_sub(self.busy);
+        self.busy = now;
+        if let Some(heard) = &mut self.heard {
+            if let Ok(text) = heard.line(self.log.allocator(), &self.peer, bytes, taken) {
+                self.log.request(text.as_str());
+            }
+        }
+    }
+
+    fn log_fault(&self, what: &str, error: &io::Error) {
+        let kind = match error.kind() {
+            ErrorKind::WouldBlock if self.begun.is_none() => "idle",
+            ErrorKind::WouldBlock | ErrorKind::TimedOut => "too slow",
+            ErrorKind::ConnectionReset => "connection reset",
+            ErrorKind::BrokenPipe => "connection closed",
+            _ => "error",
+        };
+        let peer = self.peer;
+        if let Ok(text) = format!(in self.log.allocator(); "{peer} {what}: {kind}") {
+            self.log.fault(text.as_str());
+        }
+    }
+
+    fn read_in_time(&mut self, buf: &mut [u8]) -> io::Result<usize>
+        ensures bound { ReadsAtMost result buf.new }
+        ensures reads { self.new.read_faults ≡ self.old.read_faults }
+        ensures writes { self.new.write_faults ≡ self.old.write_faults }
+    {
+        self.press()?;
+        read_some(&mut self.stream, buf)
+    }
+}
+
+impl<R: Clock + Eprint + Copy> Source for TcpConn<R> {
+    ghost use Rattle.std.specs.Prelude.{None, []};
+    ghost use Rattle.m2m_io.specs.Sides.{side_of};
+
+    ghost left = { λ _. None };
+
+    ghost faults = { λ c. c.read_faults };
+
+    ghost kept_by_read = { λ c. side_of None c.write_faults None [] };
+
+    fn read(&mut self, buf: &mut [u8]) -> Result<usize, Failed> {
+        match self.read_in_time(buf) {
+            Ok(n) => {
+                self.hear(&buf[..n]);
+                Ok(n)
+            }
+            Err(error) => {
+                self.log_fault("read fault", &error);
+                self.read_faults = self.read_faults.saturating_add(1);
+                Err(Failed)
+            }
+        }
+    }
+}
+
+impl<R: Clock + Eprint + Copy> Sink for TcpConn<R> {
+    ghost use Rattle.std.specs.Prelude.{None, []};
+    ghost use Rattle.m2m_io.specs.Sides.{side_of};
+
+    ghost written = { λ _. None };
+
+    ghost faults = { λ c. c.write_faults };
+
+    ghost puts = { λ _. None };
+
+    ghost kept_by_put = { λ c. side_of None c.read_faults None [] };
+
+    fn put(&mut self, bytes: &[u8]) -> Result<(), Failed> {
+        match self.write_in_time(bytes) {
+            Ok(()) => {
+                self.begun = None;
+                self.log_reply(bytes);
+                Ok(())
+            }
+            Err(error) => {
+                self.log_fault("write fault", &error);
+                self.write_faults = self.write_faults.saturating_add(1);
+                Err(Failed)
+            }
+        }
+    }
+}
+
+impl<R: Clock + Eprint + Copy> Connection for TcpConn<R> {
+    ghost use Rattle.std.specs.Prelude.{refl};
+
+    ghost keeps_sides = { record { read = λ c. refl; put = λ c. refl } };
+}

@@ -1,0 +1,28 @@
+//! The devices of the system, as the server sees them: the standard streams, the system's clock, a
+//! listening socket as a door, its connections, and the log that a server writes.
+//!
+//! An adapter counts the errors of its device, and tells what the device tells: streams, sockets
+//! and clocks of the system tell nothing of what they give and take. A connection gives its client
+//! up who says nothing for `PATIENCE` seconds, or takes longer than that for one message or for one
+//! reply. A door passes over what befalls one client, and waits where descriptors or memory are
+//! wanting.
+//!
+//! ```text
+//! let log = Log::new(rt, alloc, LogLevel::Faults)?;
+//! let mut door = TcpDoor::new(log, whom); // for the CSE that is called so
+//! door.open(b"127.0.0.1:8080") // says on standard error that it listens
+//! ```
+#![tactic(auto)]
+
+mod clock;
+mod conn;
+mod door;
+mod heard;
+mod log;
+mod streams;
+
+pub use clock::SystemClock;
+pub use conn::{PATIENCE, TcpConn};
+pub use door::TcpDoor;
+pub use log::{Log, LogLevel};
+pub use streams::{StdIn, StdOut, words};

@@ -1,0 +1,194 @@
+//! What a server writes on standard error for its operator.
+use libc::net::{POLLOUT, poll};
+use libc::types::pollfd;
+use m2m_names::write_stamp;
+use std::alloc::{AllocError as OutOfMemory, Global};
+use std::io::{Eprint, ErrorKind};
+use std::sync::Arc;
+use std::sync::atomic::{AtomicU64, Ordering};
+use std::time::Clock;
+use std::{io, str};
+
+/// What is logged.
+#[derive(Clone, Copy, Debug, PartialEq, Eq)]
+pub enum LogLevel {
+    /// A line for each request, and one for each fault.
+    Requests,
+    /// A line for each fault.
+    Faults,
+    Nothing,
+}
+
+/// At most so many faults are written in one second.
+const MOST_A_SECOND: u64 = 10;
+
+/// The descriptor of standard error.
+const STANDARD_ERROR: i32 = 2;
+
+/// What all who write to a log share: the second in which faults were written last, how many were,
+/// how many lines were left out since, and whether somebody writes.
+#[derive(Drop)]
+struct Shared {
+    second: AtomicU64,
+    faults: AtomicU64,
+    left_out: AtomicU64,
+    writers: AtomicU64,
+}
+
+/// A log on standard error, one of several handles of it. A line is left out, and counted, where
+/// standard error takes none at once or gives an error, or where another thread is writing one, so
+/// that no connection waits for the log.
+#[derive(Drop)]
+pub struct Log<R> {
+    rt: R,
+    alloc: Global,
+    level: LogLevel,
+    shared: Arc<Shared>,
+}
+
+/// Whether standard error takes a line at once.
+fn is_ready() -> bool {
+    let mut fds = [pollfd {
+        fd: STANDARD_ERROR,
+        events: POLLOUT,
+        revents: 0,
+    }];
+    poll(&mut fds, 0) == 1
+}
+
+impl<R: Clock + Eprint + Copy + Drop> Log<R> {
+    /// A log of what this level says.
+    pub fn new(rt: R, alloc: Global, level: LogLevel) -> Result<Self, OutOfMemory> {
+        let shared = Shared {
+            second: AtomicU64::new(0),
+            faults: AtomicU64::new(0),
+            left_out: AtomicU64::new(0),
+            writers: AtomicU64::new(0),
+        };
+        let shared = Arc::new(alloc, shared)?;
+        Ok(Log {
+            rt,
+            alloc,
+            level,
+            shared,
+        })
+    }
+
+    /// Another handle of the log.
+    pub(crate) fn again(&self) -> Result<Self, OutOfMemory> {
+        Ok(Log {
+            rt: self.rt,
+            alloc: self.alloc,
+            level: self.level,
+            shared: Arc::try_clone(&self.shared)?,
+        })
+    }
+
+    pub(crate) fn runtime(&self) -> R {
+        self.rt
+    }
+
+    pub(crate) fn allocator(&self) -> Global {
+        self.alloc
+    }
+
+    /// Whether requests are logged.
+    pub(crate) fn has_requests(&self) -> bool {
+        self.level == LogLevel::Requests
+    }
+
+    /// Writes a line, whatever the level is, and waits for standard error.
+    pub(crate) fn say(&self, text: &str) {
+        if let Ok(line) = format!(in self.alloc; "{text}\n") {
+            let _ = self.rt.eprint(line.as_str());
+        }
+    }
+
+    /// Counts lines that were left out.
+    fn leave_out(&self, lines: u64) {
+        self.shared.left_out.fetch_add(lines, Ordering::SeqCst);
+    }
+
+    /// Writes a line with the moment in front, where standard error takes it at once.
+    fn write(&self, moment: u64, text: &str) -> io::Result<()> {
+        if !is_ready() {
+            return Err(io::Error::from(ErrorKind::WouldBlock));
+        }
+        let mut stamp = [b'0'; 15];
+        write_stamp(moment, &mut stamp);
+        let stamp = str::from_utf8(&stamp).unwrap_or("");
+        let line = format!(in self.alloc; "{stamp} {text}\n")?;
+        self.rt.eprint(line.as_str())
+    }
+
+    fn write_count(&self, moment: u64, left_out: u64) -> io::Result<()> {
+        let text = format!(in self.alloc; "left out {left_out} lines")?;
+        self.write(moment, text.as_str())
+    }
+
+    /// Says how many lines were left out, if any were. What isn't said is still counted.
+    fn say_left_out(&self, moment: u64) -> io::Result<()> {
+        let left_out = self.shared.left_out.swap(0, Ordering::SeqCst);
+        if left_out == 0 {
+            return Ok(());
+        }
+        let said = self.write_count(moment, left_out);
+        if said.is_err() {
+            self.leave_out(left_out);
+        }
+        said
+    }
+
+    /// Says how many lines were left out, if any were, and writes a line.
+    fn write_counted(&self, moment: u64, text: &str) -> io::Result<()> {
+        self.say_left_out(moment)?;
+        self.write(moment, text)
+    }
+
+    /// Writes a line, where nobody else is writing one, or counts it.
+    fn write_alone(&self, moment: u64, text: &str) {
+        let writers = &self.shared.writers;
+        if writers.swap(1, Ordering::SeqCst) != 0 {
+            self.leave_out(1);
+            return;
+        }
+        if self.write_counted(moment, text).is_err() {
+            self.leave_out(1);
+        }
+        writers.store(0, Ordering::SeqCst);
+    }
+
+    fn now(&self) -> u64 {
+        match self.rt.since_1970() {
+            Ok(time) => time.as_secs(),
+            Err(_) => 0,
+        }
+    }
+
+    /// Whether one more fault may be written in this second.
+    fn has_room(&self, second: u64) -> bool {
+        let shared = &self.shared;
+        if shared.second.swap(second, Ordering::SeqCst) != second {
+            shared.faults.store(0, Ordering::SeqCst);
+        }
+        shared.faults.fetch_add(1, Ordering::SeqCst) < MOST_A_SECOND
+    }
+
+    /// A line for a request.
+    pub(crate) fn request(&self, text: &str) {
+        self.write_alone(self.now(), text);
+    }
+
+    /// A line for a fault, where faults are logged and not too many came in this second.
+    pub(crate) fn fault(&self, text: &str) {
+        if self.level == LogLevel::Nothing {
+            return;
+        }
+        let now = self.now();
+        if self.has_room(now) {
+            self.write_alone(now, text);
+        } else {
+            self.leave_out(1);
+        }
+    }
+}

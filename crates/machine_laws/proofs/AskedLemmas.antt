@@ -1,0 +1,115 @@
+-- What a request that was served changes.
+use Rattle.std.specs.Prelude.{◌+◌}
+use Rattle.std.proofs.Common.{◌≡◌, ℕ, length, true, Some, refl, sym, ap, subst, ◌∙◌, arith}
+use Rattle.m2m_names.specs.Name.{is_originator}
+use Rattle.m2m_names.specs.declared.operations.Op.{Op}
+use Rattle.m2m_names.specs.declared.operations.Op.TheVariants.{Create, Retrieve, Update, Delete, Notify}
+use Rattle.primitive_json.specs.declared.reply.ReplyParts.{ReplyParts}
+use Rattle.primitive_json.specs.declared.request.RequestParts.{RequestParts}
+use Rattle.resource_model.specs.Resource.{ResourceData}
+use Rattle.entity_model.specs.Entity.{EntityData, swept}
+use Rattle.tree_model.specs.Tree.{at}
+use Rattle.entity_model.specs.Places.{Effect, refusal, reply_alone}
+use Rattle.entity_model.specs.Sound.{IsSoundEntity}
+use Rattle.entity_model.proofs.SoundLemmas.{sound_swept}
+use Rattle.create_delete.specs.Changes.{only_in}
+use Rattle.create_delete.specs.Changing.{performed_at}
+use Rattle.create_delete.specs.Guard.{NamesInOrder}
+use Rattle.change_laws.specs.Served.{AddsOne, ChangesOne}
+use Rattle.create_delete.proofs.ChangesLemmas.{nothing_apart}
+use Rattle.change_laws.proofs.ServedLemmas.{creation_adds_one, next_rises, update_alone}
+use Rattle.cse_machine.specs.Answer.{change_effect, operation_effect, reading_reply}
+use Rattle.cse_machine.proofs.OutcomeLemmas.{changing_at}
+use Rattle.machine_laws.specs.Asked.{CreatesAddOne, DeletesTakeTheirTarget, IsServedStep, NumbersRiseByWhatIsNew, UpdatesChangeTheirTarget}
+use Rattle.machine_laws.specs.Guard.{is_success}
+use Rattle.cse_machine.specs.Rights.{claimed_originator}
+use Rattle.machine_laws.proofs.ChangingLemmas.{delete_served}
+use Rattle.machine_laws.proofs.GuardLemmas.{Served, comes, performed_is, served_after, served_on, served_reply}
+use Rattle.machine_laws.proofs.HistoryLemmas.{done_holds}
+
+-- what was served on its target, and left so
+served_step : (reading : ℕ) (request : RequestParts) (before after : EntityData) (reply : ReplyParts) (target : ResourceData) → IsServedStep reading request before after reply target → Served (swept reading before) request target
+served_step reading request before after reply target step =
+    served_on (swept reading before) request target reply step.step.0 step.served step.named
+
+step_reply : (reading : ℕ) (request : RequestParts) (before after : EntityData) (reply : ReplyParts) (target : ResourceData) → IsServedStep reading request before after reply target → reply ≡ (operation_effect request.op (swept reading before) request target).reply
+step_reply reading request before after reply target step =
+    served_reply (swept reading before) request target reply step.step.0 (served_step reading request before after reply target step)
+
+step_after : (reading : ℕ) (request : RequestParts) (before after : EntityData) (reply : ReplyParts) (target : ResourceData) → IsServedStep reading request before after reply target → after ≡ (operation_effect request.op (swept reading before) request target).after
+step_after reading request before after reply target step =
+    step.step.1 ∙ served_after (swept reading before) request target (served_step reading request before after reply target step)
+
+-- ---- what it changes
+
+-- as it was performed on the resource of the number, with what it succeeded by
+record Performed (op : Op) (e : EntityData) (request : RequestParts) (after : EntityData) (target : ResourceData) : Type 0 where
+  success : is_success (performed_at op e (claimed_originator e.home request) request target.number).reply.rsc ≡ true
+  left : after ≡ (performed_at op e (claimed_originator e.home request) request target.number).after
+
+performed_step : (op : Op) (reading : ℕ) (request : RequestParts) (before after : EntityData) (reply : ReplyParts) (target : ResourceData) → request.op ≡ op → operation_effect op (swept reading before) request target ≡ change_effect op (swept reading before) request target → IsServedStep reading request before after reply target → Performed op (swept reading before) request after target
+performed_step op reading request before after reply target is changes step =
+    let e = swept reading before in
+    let on = served_step reading request before after reply target step in
+    let way = performed_is op e request target is on.there changes in
+    let said = step_reply reading request before after reply target step ∙ ap (λ (x : Effect). x.reply) way in
+    record {
+      success = ap (λ (r : ReplyParts). is_success r.rsc) (sym said) ∙ step.served;
+      left = step_after reading request before after reply target step ∙ ap (λ (x : Effect). x.after) way;
+    }
+
+pub create_adds : CreatesAddOne
+create_adds reading request before after reply target sound op step =
+    let e = swept reading before in
+    let o = claimed_originator e.home request in
+    let on = served_step reading request before after reply target step in
+    let performed = performed_step Create reading request before after reply target op refl step in
+    subst (AddsOne e target.number) (sym performed.left)
+    (creation_adds_one e o request target.number (sound_swept reading before sound) on.originator step.step.2 performed.success)
+
+pub update_changes : UpdatesChangeTheirTarget
+update_changes reading request before after reply target sound op step =
+    let e = swept reading before in
+    let o = claimed_originator e.home request in
+    let performed = performed_step Update reading request before after reply target op refl step in
+    subst (ChangesOne e target.number) (sym performed.left)
+    (update_alone e o request target.number (sound_swept reading before sound) step.step.2 performed.success)
+
+pub delete_takes : DeletesTakeTheirTarget
+delete_takes reading request before after reply target op step =
+    let e = swept reading before in
+    let on = served_step reading request before after reply target step in
+    let is = performed_is Delete e request target op on.there refl in
+    let said = step_reply reading request before after reply target step ∙ ap (λ (x : Effect). x.reply) is in
+    let done = delete_served e request target on.there (ap (λ (r : ReplyParts). is_success r.rsc) (sym said) ∙ step.served) in (
+      said ∙ ap (λ (x : Effect). x.reply) done,
+      step_after reading request before after reply target step ∙ ap (λ (x : Effect). x.after) (is ∙ done),
+    )
+
+-- ---- the next number
+
+abbrev Rises : EntityData → Effect → Type 0
+Rises e x = x.after.next ≡ e.next + length (only_in x.after.nodes e.nodes)
+
+still_rises : (e : EntityData) (reply : ReplyParts) → Rises e (reply_alone e reply)
+still_rises e reply = omega (arith, ap length (nothing_apart e.nodes))
+
+changed_rises : (op : Op) (e : EntityData) (request : RequestParts) (target : ResourceData) → IsSoundEntity e → is_originator (claimed_originator e.home request) ≡ true → NamesInOrder request → at target.number e.nodes ≡ Some target → Rises e (change_effect op e request target)
+changed_rises op e request target sound originator names there =
+    subst (Rises e) (sym (changing_at op e request target there)) (next_rises op e (claimed_originator e.home request) request target.number sound originator names)
+
+operation_rises : (op : Op) (e : EntityData) (request : RequestParts) (target : ResourceData) → IsSoundEntity e → is_originator (claimed_originator e.home request) ≡ true → NamesInOrder request → at target.number e.nodes ≡ Some target → Rises e (operation_effect op e request target)
+operation_rises Create e request target = changed_rises Create e request target
+operation_rises Retrieve e request target = λ sound originator names there. still_rises e (reading_reply e request target.number)
+operation_rises Update e request target = changed_rises Update e request target
+operation_rises Delete e request target = changed_rises Delete e request target
+operation_rises Notify e request target = changed_rises Notify e request target
+
+pub numbers_rise : NumbersRiseByWhatIsNew
+numbers_rise reading request before after reply sound step alone =
+    let e = swept reading before in
+    done_holds (Rises e) reading request before after reply
+    (comes e request (Rises e)
+    (λ fault other. still_rises e (refusal request fault))
+    (λ way. operation_rises request.op e request way.target (sound_swept reading before sound) way.originator step.2 way.there))
+    step

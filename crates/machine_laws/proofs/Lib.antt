@@ -1,0 +1,10 @@
+pub mod OwnLemmas
+pub mod WayLemmas
+pub mod ChangingLemmas
+pub mod GuardLemmas
+pub mod HistoryLemmas
+pub mod SightLemmas
+pub mod AlikeLemmas
+pub mod AskedLemmas
+pub mod CompleteLemmas
+pub mod OrderLemmas

@@ -1,0 +1,80 @@
+-- What a request that is served changes (TS-0001, 10.2).
+use Rattle.std.specs.Prelude.{◌≡◌, ℕ, ◌+◌, false, [], ◌∷◌, ◌++◌, length, Some, None, IsTrue}
+use Rattle.m2m_names.specs.declared.codes.Rsc.TheVariants.{Deleted}
+use Rattle.m2m_names.specs.declared.operations.Op.TheVariants.{Create, Update, Delete}
+use Rattle.primitive_json.specs.declared.reply.ReplyParts.{ReplyParts}
+use Rattle.primitive_json.specs.declared.request.RequestParts.{RequestParts}
+use Rattle.resource_model.specs.Resource.{ResourceData}
+use Rattle.turn_desk.specs.Entries.{entry_of}
+use Rattle.entity_model.specs.Entity.{EntityData, swept}
+use Rattle.entity_model.specs.Places.{reply_to}
+use Rattle.entity_model.specs.Sound.{IsSoundEntity}
+use Rattle.create_delete.specs.Changes.{only_in}
+use Rattle.create_delete.specs.Changing.{delete_effect}
+use Rattle.change_laws.specs.Served.{AddsOne, ChangesOne}
+use Rattle.cse_machine.specs.declared.event.Event.{Event}
+use Rattle.cse_machine.specs.declared.event.Event.TheVariants.{Ask}
+use Rattle.cse_machine.specs.declared.event.Outcome.{Outcome}
+use Rattle.cse_machine.specs.declared.event.Outcome.TheVariants.{Done}
+use Rattle.cse_machine.specs.Answer.{addressed}
+use Rattle.machine_laws.specs.Guard.{is_fan_point, is_success, spot_asked}
+use Rattle.cse_machine.specs.History.{History, HistoryLeaves}
+use Rattle.cse_machine.specs.Step.{Step}
+
+-- The request was served at a step: its reply is a success, and its address names this resource of
+-- what isn't due.
+pub record IsServedStep (reading : ℕ) (request : RequestParts) (before after : EntityData)
+    (reply : ReplyParts) (target : ResourceData) : Type 0 where
+  pub step : Step reading (Ask request) before (Done reply) after
+  pub served : IsTrue (is_success reply.rsc)
+  pub named : addressed (swept reading before) request.to ≡ Some target
+
+-- A Create that is served adds exactly one resource, with the next number, under the one that its
+-- address names; it changes besides at most that one, and removes at most instances of it (TS-0001,
+-- 10.2.1).
+abbrev pub CreatesAddOne : Type 0
+CreatesAddOne =
+    (reading : ℕ) (request : RequestParts) (before after : EntityData) (reply : ReplyParts)
+    (target : ResourceData) → IsSoundEntity before → request.op ≡ Create
+    → IsServedStep reading request before after reply target
+    → AddsOne (swept reading before) target.number after
+
+-- An Update that is served changes the resource that its address names alone, which stays, and
+-- removes at most instances of it (TS-0001, 10.2.4).
+abbrev pub UpdatesChangeTheirTarget : Type 0
+UpdatesChangeTheirTarget =
+    (reading : ℕ) (request : RequestParts) (before after : EntityData) (reply : ReplyParts)
+    (target : ResourceData) → IsSoundEntity before → request.op ≡ Update
+    → IsServedStep reading request before after reply target
+    → ChangesOne (swept reading before) target.number after
+
+-- A Delete that is served takes the resource that its address names and all that stands below it,
+-- and changes nothing else (TS-0001, 10.2.5).
+abbrev pub DeletesTakeTheirTarget : Type 0
+DeletesTakeTheirTarget =
+    (reading : ℕ) (request : RequestParts) (before after : EntityData) (reply : ReplyParts)
+    (target : ResourceData) → request.op ≡ Delete
+    → IsServedStep reading request before after reply target
+    → (reply ≡ reply_to request Deleted None)
+    × (after ≡ (delete_effect (swept reading before) request target).after)
+
+-- The next number rises by exactly as many as are new; a fan-out may take some of them again.
+abbrev pub NumbersRiseByWhatIsNew : Type 0
+NumbersRiseByWhatIsNew =
+    (reading : ℕ) (request : RequestParts) (before after : EntityData) (reply : ReplyParts)
+    → IsSoundEntity before → Step reading (Ask request) before (Done reply) after
+    → is_fan_point (spot_asked (swept reading before) request) ≡ false
+    → after.next ≡ before.next + length (only_in after.nodes (swept reading before).nodes)
+
+-- An entry of a legal history is a step of the sound entity that the entries before it left. So
+-- what holds of each step of a sound entity holds of each entry.
+abbrev pub EntriesAreSteps : Type 0
+EntriesAreSteps =
+    (opening e : EntityData) (earlier later : History)
+    (reading : ℕ) (event : Event) (outcome : Outcome)
+    → IsSoundEntity opening
+    → HistoryLeaves opening (earlier ++ entry_of reading event outcome ∷ later) e
+    → (before : EntityData) × (after : EntityData)
+    × HistoryLeaves opening earlier before × IsSoundEntity before
+    × Step reading event before outcome after
+    × HistoryLeaves opening (earlier ++ entry_of reading event outcome ∷ []) after

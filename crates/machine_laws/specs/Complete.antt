@@ -1,0 +1,133 @@
+-- That a request is served which nothing speaks against (TS-0001, 10.2; TS-0004, 7.2 and 7.3.3).
+use Rattle.std.specs.Prelude.{◌≡◌, ◌⊎◌, ℕ, false, Option, Some, None, IsTrue, if◌then◌else◌}
+use Rattle.std.specs.Option.{option_map_or}
+use Rattle.m2m_names.specs.declared.codes.Rsc.TheVariants.{Created, Deleted, Ok as Fine, Updated}
+use Rattle.m2m_names.specs.declared.operations.Op.{Op}
+use Rattle.m2m_names.specs.declared.operations.Op.TheVariants.{Create, Retrieve, Update, Delete}
+use Rattle.m2m_names.specs.declared.operations.Op.TheVariants.{Notify}
+use Rattle.m2m_names.specs.declared.types.Ty.{Ty}
+use Rattle.m2m_value.specs.Data.{Data}
+use Rattle.primitive_json.specs.Form.{has_form}
+use Rattle.primitive_json.specs.declared.request.RequestParts.{RequestParts}
+use Rattle.resource_model.specs.Resource.{ResourceData}
+use Rattle.entity_model.specs.Entity.{EntityData, swept}
+use Rattle.entity_model.specs.Places.{reply_to, wanted_content}
+use Rattle.request_rules.specs.Creation.{Creation, has_room, is_unique, new_resource}
+use Rattle.request_rules.specs.Order.{creation_by, expires_later}
+use Rattle.request_rules.specs.Policies.{links_live}
+use Rattle.request_rules.specs.Requests.{admits_content, child_ty, is_for, named_by, takes_child}
+use Rattle.request_rules.specs.Rights.{is_discovery, may_do}
+use Rattle.retrieve_discover.specs.Conditions.{meets_any}
+use Rattle.retrieve_discover.specs.Contents.{content}
+use Rattle.retrieve_discover.specs.Findings.{address_list, found_addresses}
+use Rattle.retrieve_discover.specs.Replies.{is_by_id}
+use Rattle.create_delete.specs.Changing.{created_content, updated_content, updated_resource}
+use Rattle.cse_machine.specs.declared.event.Event.TheVariants.{Ask}
+use Rattle.cse_machine.specs.declared.event.Outcome.{Outcome}
+use Rattle.cse_machine.specs.declared.event.Outcome.TheVariants.{Done, Starved}
+use Rattle.cse_machine.specs.Answer.{addressed, has_address, has_originator, is_blocking}
+use Rattle.cse_machine.specs.Answer.{is_in_time, is_served}
+use Rattle.cse_machine.specs.Rights.{claimed_originator}
+use Rattle.cse_machine.specs.Step.{Step}
+
+-- ---- what speaks against a request
+
+-- what is created is the only one of its name and of its ids, and there is room for it
+pub record MayBeMade (c : Creation) : Type 0 where
+  pub unique : IsTrue (is_unique c)
+  pub room : IsTrue (has_room c)
+
+-- an operation that creates something may make it
+abbrev pub MayCreate : Op → EntityData → RequestParts → ResourceData → Type 0
+MayCreate Create e request parent =
+    (ty : Ty) → child_ty request ≡ Some ty
+    → MayBeMade (creation_by e (claimed_originator e.home request) request parent ty)
+MayCreate Retrieve e request target = Unit {0}
+MayCreate Update e request target = Unit {0}
+MayCreate Delete e request target = Unit {0}
+MayCreate Notify e request target = Unit {0}
+
+-- what is shown meets the conditions of the request; a discovery asks them of what it finds
+abbrev pub MeetsConditions : Op → EntityData → RequestParts → ResourceData → Type 0
+MeetsConditions Create e request target = Unit {0}
+MeetsConditions Retrieve e request target =
+    is_discovery request ≡ false → IsTrue (meets_any e.nodes request.fc target)
+MeetsConditions Update e request target = Unit {0}
+MeetsConditions Delete e request target = Unit {0}
+MeetsConditions Notify e request target = Unit {0}
+
+-- nothing speaks against the request, whatever its address names: it is one that is served, has its
+-- form, says who asks, has an address, isn't too late, and waits for its answer
+pub record MayBeHeard (e : EntityData) (request : RequestParts) : Type 0 where
+  pub served : IsTrue (is_served request)
+  pub form : IsTrue (has_form request)
+  pub originator : IsTrue (has_originator e.home request)
+  pub address : IsTrue (has_address e.home request)
+  pub time : IsTrue (is_in_time e request)
+  pub blocking : IsTrue (is_blocking request)
+
+-- nothing speaks against the operation on the resource: its originator has the right; the operation
+-- is for that type, takes the child and the content, which expires later and names policies that
+-- are there; and it may make what it makes, or show what is asked for
+pub record MayBeDone (op : Op) (e : EntityData) (request : RequestParts) (target : ResourceData)
+    : Type 0 where
+  pub right : IsTrue (may_do op e (claimed_originator e.home request) request target.number)
+  pub type : IsTrue (is_for op target.ty)
+  pub child : IsTrue (takes_child op request target)
+  pub content : IsTrue (admits_content op request target)
+  pub expiry : IsTrue (expires_later e (named_by op request target))
+  pub links : IsTrue (links_live e (named_by op request target))
+  pub creation : MayCreate op e request target
+  pub conditions : MeetsConditions op e request target
+
+-- ---- what it is answered then
+
+-- the content of the reply to a Create under the target: of what is new, what is asked for
+abbrev pub content_created : EntityData → RequestParts → ResourceData → Option Data
+content_created e request parent =
+    option_map_or (λ ty. created_content (wanted_content request.rcn) e (new_resource
+    (creation_by e (claimed_originator e.home request) request parent ty)))
+    (child_ty request) None
+
+-- to a Retrieve: the addresses that a discovery finds, or of the target what is asked for
+abbrev pub content_read : EntityData → RequestParts → ResourceData → Data
+content_read e request target =
+    if is_discovery request
+    then address_list (found_addresses e.home e.nodes (claimed_originator e.home request)
+    (is_by_id request) request.fc target.number)
+    else content e.home e.nodes (claimed_originator e.home request) (is_by_id request)
+    request.rcn target
+
+-- to an Update: of the target as it leaves it, what is asked for
+abbrev pub content_updated : EntityData → RequestParts → ResourceData → Option Data
+content_updated e request target =
+    let named = named_by Update request target in
+    updated_content (wanted_content request.rcn) e named (updated_resource e named target)
+
+-- the reply of each operation that is done: its status, and its content (TS-0004, 6.6.3)
+abbrev pub IsSuccess : Op → EntityData → RequestParts → ResourceData → Outcome → Type 0
+IsSuccess Create e request target outcome =
+    outcome ≡ Done (reply_to request Created (content_created e request target))
+IsSuccess Retrieve e request target outcome =
+    outcome ≡ Done (reply_to request Fine (Some (content_read e request target)))
+IsSuccess Update e request target outcome =
+    outcome ≡ Done (reply_to request Updated (content_updated e request target))
+IsSuccess Delete e request target outcome = outcome ≡ Done (reply_to request Deleted None)
+IsSuccess Notify e request target outcome = ⊥
+
+-- memory ran out
+abbrev pub IsStarved : Outcome → Type 0
+IsStarved (Done reply) = ⊥
+IsStarved (Starved done) = Unit {0}
+
+-- A request is served which nothing speaks against, unless memory runs out: it is answered by the
+-- success of its operation on the resource that its address names, with the content that is asked
+-- for.
+abbrev pub WhatMayBeServedIsServed : Type 0
+WhatMayBeServedIsServed =
+    (reading : ℕ) (request : RequestParts) (before after : EntityData) (outcome : Outcome)
+    (target : ResourceData) → Step reading (Ask request) before outcome after
+    → MayBeHeard (swept reading before) request
+    → addressed (swept reading before) request.to ≡ Some target
+    → MayBeDone request.op (swept reading before) request target
+    → IsSuccess request.op (swept reading before) request target outcome ⊎ IsStarved outcome

@@ -1,0 +1,108 @@
+//! Laws of the machine, over its definitions.
+ghost use Rattle.machine_laws.specs.Asked.{CreatesAddOne, DeletesTakeTheirTarget};
+ghost use Rattle.machine_laws.specs.Asked.{EntriesAreSteps, NumbersRiseByWhatIsNew};
+ghost use Rattle.machine_laws.specs.Asked.{UpdatesChangeTheirTarget};
+ghost use Rattle.machine_laws.specs.Complete.{WhatMayBeServedIsServed};
+ghost use Rattle.machine_laws.specs.Order.{KindsHaveTheForm, RetrievesAreRefusedInOrder};
+ghost use Rattle.machine_laws.specs.Guard.{StepsAreGuarded, HistoriesAreGuarded};
+ghost use Rattle.machine_laws.specs.Guard.{RefusalsChangeNothing, RetrievesChangeNoResource};
+ghost use Rattle.machine_laws.specs.Guard.{FanOutsAloneAreCutShort, WantOfMemoryChangesNothing};
+ghost use Rattle.machine_laws.specs.Guard.{StepsKeepTheEntity};
+ghost use Rattle.machine_laws.specs.Legal.{BeginsLegal, StaysLegal, StaysSound, GoesOneWay};
+ghost use Rattle.machine_laws.specs.Sight.{IsAnsweredBySight, EqualSightsAnswerAlike};
+ghost use Rattle.machine_laws.specs.Sight.{EqualSightsHaveOneShape, EqualSightsStayAlike};
+ghost use Rattle.machine_laws.specs.Sight.{SightHasItsShape};
+
+/// The outcome of a request that is covered is a function of what its originator sees of the
+/// entity, of the reading and of the request.
+pub fn an_originator_is_answered_by_what_it_sees()
+    ensures { IsAnsweredBySight }
+{}
+
+/// Two sound entities of which an originator sees the same give it the same reply to the same
+/// covered request at the same reading: at a step, and so all along a history in which it alone
+/// asks.
+pub fn equal_sights_are_answered_alike()
+    ensures steps { EqualSightsAnswerAlike }
+    ensures histories { EqualSightsStayAlike }
+{}
+
+/// What an originator sees of a sound entity has the shape of that entity, by which it is judged;
+/// so two of which it sees the same have one shape.
+pub fn a_sight_has_the_shape_of_its_entity()
+    ensures kept { SightHasItsShape }
+    ensures same { EqualSightsHaveOneShape }
+{}
+
+/// Nothing of a sound entity is shown or changed but by a grant to the originator, judged on the
+/// entity before the request: at a step, and so anywhere in a legal history. A reply with content,
+/// or with the status that a request was served, comes only to an originator with the right that
+/// the request needs on the resource that it addressed; other resources are shown by RETRIEVE, and
+/// found by DISCOVERY. A resource is new only under a parent with CREATE. It differs only with
+/// UPDATE, and then not in its `acpi`; or in that alone with the right to change it; or in its
+/// state tag alone where a new instance stands in it, but for the moment of its last change. It is
+/// gone only at or below a target with DELETE, or as an instance of a container that the operation
+/// adds to or changes by right.
+pub fn nothing_is_shown_or_changed_without_a_grant()
+    ensures steps { StepsAreGuarded }
+    ensures histories { HistoriesAreGuarded }
+{}
+
+/// A refused request and want of memory leave the entity as it was, but that what is due is gone;
+/// and not even that where the expiry ran out of memory. A Retrieve changes no resource. No member
+/// is told as done but by a fan-out.
+pub fn what_is_refused_or_read_changes_nothing()
+    ensures refused { RefusalsChangeNothing }
+    ensures retrieved { RetrievesChangeNoResource }
+    ensures starved { WantOfMemoryChangesNothing }
+    ensures members { FanOutsAloneAreCutShort }
+{}
+
+/// A request is served which nothing speaks against, unless memory runs out: it is answered by the
+/// success of its operation, with the content that is asked for.
+pub fn what_may_be_served_is_served()
+    ensures { WhatMayBeServedIsServed }
+{}
+
+/// A step keeps the home and the moment of the event, and the next number rises by just as many as
+/// are new. A Create that is served adds exactly one resource under its target, an Update changes
+/// its target alone, and both remove at most instances of it; a Delete takes its target and what
+/// stands below that, and changes nothing else.
+pub fn a_step_changes_what_is_asked_alone()
+    ensures entity { StepsKeepTheEntity }
+    ensures created { CreatesAddOne }
+    ensures updated { UpdatesChangeTheirTarget }
+    ensures deleted { DeletesTakeTheirTarget }
+    ensures numbers { NumbersRiseByWhatIsNew }
+{}
+
+/// An entity that opens leaves the empty history, and each step of the entity that a history leaves
+/// makes a longer one, which leaves the entity after it. A sound entity stays sound on the way.
+pub fn steps_make_a_legal_history()
+    ensures begins { BeginsLegal }
+    ensures grows { StaysLegal }
+    ensures sound { StaysSound }
+{}
+
+/// An entry of a legal history is a step of the sound entity that the entries before it left, so
+/// that what holds of each step of a sound entity holds of each entry.
+pub fn the_entries_of_a_history_are_its_steps()
+    ensures { EntriesAreSteps }
+{}
+
+/// The same events at the same readings have the same outcomes, where there is memory for them.
+pub fn a_history_goes_one_way()
+    ensures { GoesOneWay }
+{}
+
+/// No request is refused for its form whose parameters are of their kinds, as are those of each
+/// that is read from a value or from a frame.
+pub fn what_is_of_its_kinds_has_the_form()
+    ensures { KindsHaveTheForm }
+{}
+
+/// The order of refusals holds of a Retrieve as of every other operation: the place that refuses it
+/// there is what it is answered.
+pub fn a_retrieve_is_refused_in_order()
+    ensures { RetrievesAreRefusedInOrder }
+{}

@@ -1,5 +1,0 @@
-use Rattle.policy_eval.proofs.ShapeLemmas.{sight_shape}
-use Rattle.policy_eval.proofs.laws.sight_has_the_shape_of_the_list.Goals as goal
-
-pub returns : goal.returns
-returns c = sight_shape

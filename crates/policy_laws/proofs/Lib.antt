@@ -1,0 +1,12 @@
+pub mod UnionLemmas
+pub mod RemovalLemmas
+pub mod AlikeLemmas
+pub mod SeenLemmas
+pub mod DueLemmas
+pub mod EqualLemmas
+pub mod RetrievedLemmas
+pub mod TwiceLemmas
+pub mod LookupLemmas
+pub mod AppendLemmas
+pub mod ReplaceLemmas
+pub mod ShapeLemmas

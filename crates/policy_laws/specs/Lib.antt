@@ -1,0 +1,5 @@
+pub mod Laws
+pub mod Alike
+pub mod Seen
+pub mod Changes
+pub mod Shape

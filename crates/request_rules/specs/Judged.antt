@@ -1,0 +1,43 @@
+-- What judging a request gives: why it is refused, or what it asks for.
+use Rattle.std.specs.Prelude.{◌≡◌, ℕ, List, Option, Some, None, Result, Ok, Err, ⊤}
+use Rattle.m2m_names.specs.declared.codes.Rsc.{Rsc}
+use Rattle.primitive_json.specs.declared.request.RequestParts.{RequestParts}
+use Rattle.tree_model.specs.Tree.{at}
+use Rattle.attribute_rules.specs.Admission.{attributes_in}
+use Rattle.entity_model.specs.Entity.{EntityData}
+use Rattle.entity_model.specs.Sound.{IsSoundEntity}
+use Rattle.request_rules.specs.Creation.{Creation, creation_of}
+use Rattle.request_rules.specs.Requests.{child_ty}
+use Rattle.request_rules.specs.declared.judging.AllowedCreate.{AllowedCreate}
+use Rattle.request_rules.specs.declared.judging.AllowedUpdate.{AllowedUpdate}
+use Rattle.request_rules.specs.declared.judging.Refusal.{Refusal}
+use Rattle.request_rules.specs.declared.judging.Refusal.TheVariants.{Fault, OutOfMemory}
+
+-- It is refused with this status, where there is one, and else it gives what is so; unless memory
+-- runs out.
+abbrev pub Judges : {X : Type 0} → Result X Refusal → Option Rsc → (X → Type 0) → Type 0
+Judges (Ok x) fault IsSo = (fault ≡ None) × IsSo x
+Judges (Err (Fault f)) fault IsSo = fault ≡ Some f
+Judges (Err OutOfMemory) fault IsSo = ⊤
+
+-- These are the parent, the type, the content and its attributes of the Create that a request asks
+-- for on the resource of a number of a sound entity.
+pub record IsCreateOf (e : EntityData) (request : RequestParts) (n : ℕ) (create : AllowedCreate)
+    : Type 0 where
+  pub sound : IsSoundEntity e
+  pub parent : at n e.nodes ≡ Some create.parent.now
+  pub ty : child_ty request ≡ Some create.ty
+  pub content : request.pc ≡ Some create.content.now
+  pub named : attributes_in create.ty create.content.now ≡ Some create.named.now
+
+-- These are the resource, the content and its attributes of the Update that it asks for.
+pub record IsUpdateOf (e : EntityData) (request : RequestParts) (n : ℕ) (update : AllowedUpdate)
+    : Type 0 where
+  pub sound : IsSoundEntity e
+  pub target : at n e.nodes ≡ Some update.target.now
+  pub content : request.pc ≡ Some update.content.now
+  pub named : attributes_in update.target.now.ty update.content.now ≡ Some update.named.now
+
+-- the creation that it asks of the entity
+abbrev pub creation_for : EntityData → List ℕ → AllowedCreate → Creation
+creation_for e o create = creation_of e o create.ty create.parent.now create.named.now

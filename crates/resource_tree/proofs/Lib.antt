@@ -1,0 +1,4 @@
+pub mod QueueLemmas
+pub mod IndexLemmas
+pub mod KinLemmas
+pub mod Sent

@@ -1,0 +1,116 @@
+-- Numbers that ascend.
+use Rattle.std.specs.Prelude.{nat_le, nat_lt}
+use Rattle.std.proofs.Common.{◌≡◌, ◌≢◌, ◌==◌, ℕ, zero, suc, ◌+◌, ◌<◌, ◌≤◌, List, [], ◌∷◌, ◌++◌, length, get_or, Bool, true, false, not, Err, Less, Equal, Greater, cond, inl, inr, refl, sym, ap, subst, arith}
+use Rattle.std.proofs.lemmas.Bool.{cases_lt, and_parts, eq-eqb, ne_eqb, leb-true, leb-false, lt-ltb, le-ltb}
+use Rattle.std.proofs.lemmas.Bool.Decides.{nat_tests}
+use Rattle.std.proofs.lemmas.Cmp.{nat_cmp_total}
+use Rattle.std.proofs.lemmas.List.Kept.{IsStrictlySortedBy-filter}
+use Rattle.std.proofs.lemmas.List.Sorted.{searchable_from_sorted}
+use Rattle.std.proofs.lemmas.Map.Keys.{below_from_sorted}
+use Rattle.std.specs.List.{AllByRecursion, list_all, remove, slice_get}
+use Rattle.std.specs.List.Sorted.{IsBinarySearchResult, IsNonDecreasingBy, IsPartitionPoint, IsStrictlySortedBy}
+use Rattle.std.specs.Ordering.{nat_cmp, ordering_index, is_lt}
+use Rattle.tree_model.specs.Tree.{DoAscend}
+use Rattle.resource_tree.specs.Queue.{first_after, without_number}
+
+pub none_ascend : (numbers : List ℕ) → numbers ≡ [] → DoAscend numbers
+unfolding IsStrictlySortedBy
+none_ascend [] none = tt
+none_ascend (n ∷ numbers) none = cc
+
+-- ---- one more
+
+all_less : (n : ℕ) (numbers : List ℕ) → list_all (λ m. nat_lt m n) numbers ≡ true → AllByRecursion (λ m. nat_cmp m n ≡ Less) numbers
+all_less n [] below = tt
+all_less n (m ∷ numbers) below =
+    let parts = and_parts (nat_lt m n) (list_all (λ k. nat_lt k n) numbers) below in
+    let less : nat_lt m n ≡ true = parts.0 in
+    (rw less refl, all_less n numbers parts.1)
+
+all_pushed : (m n : ℕ) (ks : List ℕ) → AllByRecursion (λ k. nat_cmp m k ≡ Less) ks → nat_cmp m n ≡ Less → AllByRecursion (λ k. nat_cmp m k ≡ Less) (ks ++ n ∷ [])
+all_pushed m n [] all last = (last, tt)
+all_pushed m n (k ∷ ks) all last = (all.0, all_pushed m n ks all.1 last)
+
+ascend_push : (ms : List ℕ) (n : ℕ) → DoAscend ms → AllByRecursion (λ m. nat_cmp m n ≡ Less) ms → DoAscend (ms ++ n ∷ [])
+unfolding IsStrictlySortedBy
+ascend_push [] n sorted below = (tt, tt)
+ascend_push (m ∷ ms) n sorted below = (all_pushed m n ms sorted.0 below.0, ascend_push ms n sorted.1 below.1)
+
+pub pushed : (numbers now : List ℕ) (n : ℕ) (b : Bool) → DoAscend numbers → list_all (λ m. nat_lt m n) numbers ≡ true → now ≡ cond b (numbers ++ n ∷ []) numbers → DoAscend now
+pushed numbers now n true sorted below is = subst DoAscend (sym is) (ascend_push numbers n sorted (all_less n numbers below))
+pushed numbers now n false sorted below is = subst DoAscend (sym is) sorted
+
+-- ---- the first after a number
+
+pub after_from : (n : ℕ) (numbers : List ℕ) (i : ℕ) → ((k d : ℕ) → k < i → nat_le (get_or numbers k d) n ≡ true) → ((k d : ℕ) → i ≤ k → k < length numbers → nat_le (get_or numbers k d) n ≡ false) → i ≤ length numbers → first_after n numbers ≡ slice_get numbers i
+after_from n [] zero until behind within = refl
+after_from n [] (suc i) until behind within = absurd (omega arith)
+after_from n (m ∷ numbers) zero until behind within =
+    let later : nat_lt n m ≡ true = lt-ltb n m (leb-false m n (behind 0 m (omega arith) (omega arith))) in
+    rw later refl
+after_from n (m ∷ numbers) (suc i) until behind within =
+    let low : m ≤ n = leb-true m n (until 0 m (omega arith)) in
+    let earlier : nat_lt n m ≡ false = le-ltb n m low in
+    rw earlier (after_from n numbers i (λ k d less. until (suc k) d (omega arith)) (λ k d least inside. behind (suc k) d (omega arith) (omega arith)) (omega arith))
+
+pub after_place : (n : ℕ) (numbers : List ℕ) (i : ℕ) → i ≤ length numbers → IsPartitionPoint (λ (m : ℕ). nat_le m n ≡ true) (λ m. nat_le m n ≡ false) numbers i → first_after n numbers ≡ slice_get numbers i
+after_place n numbers i within parted = after_from n numbers i (λ k d low. parted.0 k d (omega arith) low) (λ k d least inside. parted.1 k d least inside) within
+
+-- ---- one less
+
+all_others : (n : ℕ) (numbers : List ℕ) → ((k d : ℕ) → k < length numbers → get_or numbers k d ≢ n) → without_number n numbers ≡ numbers
+all_others n [] none = refl
+all_others n (m ∷ numbers) none =
+    let apart : (m == n) ≡ false = ne_eqb m n (λ e. none 0 m (omega arith) e) in
+    rw apart (ap (λ (ms : List ℕ). m ∷ ms) (all_others n numbers (λ k d within. none (suc k) d (omega arith))))
+
+taken_out : (n : ℕ) (numbers : List ℕ) (i : ℕ) → i < length numbers → ((k d : ℕ) → k < length numbers → k ≢ i → get_or numbers k d ≢ n) → ((d : ℕ) → get_or numbers i d ≡ n) → remove numbers i ≡ without_number n numbers
+taken_out n [] i within others is = absurd (omega arith)
+taken_out n (m ∷ numbers) zero within others is =
+    let here : (m == n) ≡ true = eq-eqb m n (is m) in
+    rw here (sym (all_others n numbers (λ k d inside. others (suc k) d (omega arith) (λ e. omega arith))))
+taken_out n (m ∷ numbers) (suc i) within others is =
+    let apart : (m == n) ≡ false = ne_eqb m n (λ e. others 0 m (omega arith) (λ z. omega arith) e) in
+    rw apart (ap (λ (ms : List ℕ). m ∷ ms) (taken_out n numbers i (omega arith) (λ k d inside other. others (suc k) d (omega arith) (λ e. other (omega arith))) is))
+
+less_is : (m n : ℕ) → nat_cmp m n ≡ Less → m < n
+less_is m n e = grind (arith, nat_tests)
+
+equal_is : (m n : ℕ) → nat_cmp m n ≡ Equal → m ≡ n
+equal_is m n e = grind (arith, nat_tests)
+
+greater_is : (m n : ℕ) → nat_cmp m n ≡ Greater → n < m
+greater_is m n e = grind (arith, nat_tests)
+
+below_not_above : (m n : ℕ) → m < n → is_lt (nat_cmp n m) ≡ false
+below_not_above m n less = grind (arith, nat_tests)
+
+apart_from : (numbers : List ℕ) (n i k d : ℕ) → DoAscend numbers → i < length numbers → get_or numbers i d ≡ n → k < length numbers → k ≢ i → get_or numbers k d ≢ n
+apart_from numbers n i k d sorted within is inside other e = elim (cases_lt k i) [
+  | inl before ↦ let less : get_or numbers k d < get_or numbers i d = below_from_sorted numbers k i d sorted before within in omega arith
+  | inr reached ↦ elim (cases_lt i k) [
+    | inl after ↦ let more : get_or numbers i d < get_or numbers k d = below_from_sorted numbers i k d sorted after inside in omega arith
+    | inr back ↦ other (omega arith)
+  ]
+]
+
+-- what a search by halving found is taken out
+pub found_out : (n : ℕ) (numbers : List ℕ) (i : ℕ) → DoAscend numbers → i < length numbers → ((d : ℕ) → nat_cmp (get_or numbers i d) n ≡ Equal) → remove numbers i ≡ without_number n numbers
+found_out n numbers i sorted within found =
+    let is : (d : ℕ) → get_or numbers i d ≡ n = λ d. equal_is _ _ (found d) in
+    taken_out n numbers i within (λ k d inside other. apart_from numbers n i k d sorted within (is d) inside other) is
+
+searchable : (ks : List ℕ) (n : ℕ) → DoAscend ks → IsNonDecreasingBy (λ k. ordering_index (nat_cmp k n)) ks
+searchable ks n sorted = searchable_from_sorted nat_cmp_total (λ (k : ℕ). k) ks n (λ k d low within. below_not_above _ _ (below_from_sorted ks k (k + 1) d sorted (omega arith) (omega arith)))
+
+-- where a search found none, nothing is taken out
+pub not_found : (n : ℕ) (ks : List ℕ) (i : ℕ) → DoAscend ks → IsBinarySearchResult (λ k. nat_cmp k n) ks (Err i) → ks ≡ without_number n ks
+not_found n ks i sorted found =
+    let parted = found (searchable ks n sorted) in
+    sym (all_others n ks (λ k d inside e. elim (cases_lt k i) [
+      | inl before ↦ let less : get_or ks k d < n = less_is _ _ (parted.0 k d (omega arith) before) in omega arith
+      | inr after ↦ let more : n < get_or ks k d = greater_is _ _ (parted.1 k d after inside) in omega arith
+    ]))
+
+pub left_ascend : (n : ℕ) (numbers : List ℕ) → DoAscend numbers → DoAscend (without_number n numbers)
+left_ascend n numbers sorted = IsStrictlySortedBy-filter nat_cmp (λ m. not (m == n)) numbers sorted

@@ -1,0 +1,26 @@
+-- A tree with an index goes from thread to thread where the plain tree does.
+use denote.Param.Send.{IsSend, sendable}
+use denote.Param.SendFields.{declared_send}
+use Rattle.std.proofs.Crossing.{crosses}
+use Rattle.std.proofs.MapsCrossing as maps
+use Rattle.plain_tree.specs.contracts.list_tree.ListTree as list_tree
+use Rattle.resource_tree.specs.contracts.index.Index as index
+use Rattle.resource_tree.specs.contracts.index_tree.IndexTree as index_tree
+use Rattle.resource_tree.specs.contracts.index_tree.IndexTree.TheInside as index_tree_inside
+use Rattle.resource_tree.specs.contracts.queue.Queue as queue
+use Rattle.resource_tree.specs.contracts.queue.Queue.TheInside as queue_inside
+
+queue_inside_send : IsSend queue_inside.the_row
+queue_inside_send = declared_send queue_inside.the_type (search (sendable, crosses) depth 20, tt)
+
+queue_send : IsSend queue.the_row
+queue_send = record { owned = λ d vs x. (queue_inside_send.owned x.0 vs, tt); leaving = λ k d w. tt }
+
+index_send : IsSend index.the_row
+index_send = search (sendable, crosses, maps.crosses, queue_send) depth 60 fits 5000
+
+inside_send : IsSend list_tree.the_row → IsSend index_tree_inside.the_row
+inside_send list = declared_send index_tree_inside.the_type (search (sendable, crosses) depth 20, (list, (index_send, tt)))
+
+pub index_tree_send : IsSend list_tree.the_row → IsSend index_tree.the_row
+index_tree_send list = record { owned = λ d vs x. ((inside_send list).owned x.0 vs, tt); leaving = λ k d w. tt }

@@ -1,0 +1,13 @@
+use Rattle.std.proofs.Common.{◌≡◌, ◌≤◌, List, length}
+use Rattle.resource_model.specs.Resource.{ResourceData}
+use Rattle.resource_tree.specs.Index.{IsIndex, IsLeft}
+use Rattle.resource_tree.proofs.IndexLemmas.{IsAt}
+use Rattle.resource_tree.proofs.index.Index.let_go.Given as goal
+
+-- of whatever list it was the index, it is that of what has stayed so far and what follows
+abbrev pub invariant-loop-at : goal.invariant-loop-at
+invariant-loop-at l = record {
+  behind : l.stayed ≤ l.at;
+  len : length l.self.rows.items ≡ length l.fn.self.rows.items;
+  held : (nodes : List ResourceData) → IsIndex nodes l.fn.self → IsLeft nodes l.list → IsAt nodes l.list l.self.rows.items l.self.children l.self.instances l.stayed l.at;
+}

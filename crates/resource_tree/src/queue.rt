@@ -1,0 +1,84 @@
+//! Numbers in ascending order.
+ghost use Rattle.std.specs.Prelude.{◌≡◌, ◌++◌, [], ◌∷◌, OnOk, OnErr, IsTrue, nat_lt, length};
+ghost use Rattle.std.specs.Prelude.{slice_get};
+ghost use Rattle.std.specs.List.{list_all};
+ghost use Rattle.resource_tree.specs.Queue.{first_after, without_number};
+
+use std::alloc::{AllocError as OutOfMemory, Global};
+use std::collections::VecDeque;
+use std::marker::Model;
+
+/// Numbers that ascend. They come at the end and mostly go at the front.
+#[derive(Drop)]
+pub struct Queue {
+    numbers: VecDeque<u64>,
+}
+
+impl Model for Queue {
+    ghost use Rattle.std.specs.Prelude.{List, ℕ};
+    ghost use Rattle.tree_model.specs.Tree.{DoAscend};
+
+    ghost Value = { List ℕ };
+
+    ghost view = { λ q. q.numbers.items };
+
+    ghost invariant = { λ q. DoAscend q.numbers.items };
+}
+
+impl Queue {
+    /// No number; it takes no memory.
+    pub fn new(alloc: Global) -> Queue
+        ensures { result ≡ [] }
+    {
+        Queue {
+            numbers: VecDeque::new(alloc),
+        }
+    }
+
+    /// How many there are.
+    pub fn len(&self) -> u64
+        ensures { result ≡ length self.now }
+    {
+        self.numbers.len() as u64
+    }
+
+    /// The number at a place, from 0.
+    pub fn get(&self, k: u64) -> Option<u64>
+        ensures { result ≡ slice_get self.now k }
+    {
+        self.numbers.get(k as usize).copied()
+    }
+
+    /// The first that is greater than a number.
+    pub fn after(&self, number: u64) -> Option<u64>
+        ensures { result ≡ first_after number self.now }
+    {
+        self.numbers.get(self.place_after(number)).copied()
+    }
+
+    // How many are at most a number.
+    fn place_after(&self, number: u64) -> usize
+        ensures { first_after number self.now ≡ slice_get self.now result }
+    {
+        self.numbers.partition_point(|own| *own <= number)
+    }
+
+    /// Puts a number last, which is greater than all.
+    pub fn push(&mut self, number: u64) -> Result<(), OutOfMemory>
+        requires { IsTrue (list_all (λ m. nat_lt m number) self.old) }
+        ensures ok { OnOk result (self.new ≡ self.old ++ number ∷ []) }
+        ensures err { OnErr result (self.new ≡ self.old) }
+    {
+        self.numbers.push_back(number)?;
+        Ok(())
+    }
+
+    /// Takes a number out, where it is there.
+    pub fn remove(&mut self, number: u64)
+        ensures { self.new ≡ without_number number self.old }
+    {
+        if let Ok(at) = self.numbers.binary_search(&number) {
+            let _gone = self.numbers.remove(at);
+        }
+    }
+}

@@ -1,0 +1,226 @@
+-- A stream is answered in one way.
+use Rattle.std.proofs.Common.{◌≡◌, ◌≢◌, ℕ, ◌+◌, Bool, true, false, List, [], ◌∷◌, ◌++◌, map, Option, Some, IsTrue, inl, inr, refl, sym, ap, subst, ◌∙◌, arith}
+use Rattle.std.specs.List.{All}
+use Rattle.std.proofs.lemmas.Bool.{cases_Bool, true≢false, false≢true}
+use Rattle.std.proofs.lemmas.List.{append_cancel_left}
+use Rattle.std.proofs.lemmas.List.Elements.{All-map}
+use Rattle.primitive_json.specs.declared.reply.ReplyParts.{ReplyParts}
+use Rattle.cse_server.specs.Outside.{sink_told}
+use Rattle.turn_desk.specs.Entries.{readings_of, events_of, outcomes_of}
+use Rattle.turn_desk.specs.Growth.{IsOwnRun}
+use Rattle.turn_desk.proofs.GrowthLemmas.{Grew-runs}
+use Rattle.http_frames.specs.declared.frame.Frame.{Frame}
+use Rattle.http_frames.specs.declared.frame.Side.TheVariants.{Request}
+use Rattle.http_frames.specs.Stream.{BeginsWithFrames, BeginsWithFrame, HasNoFrame}
+use Rattle.http_frames.proofs.FrameLemmas.{BeginsWith_unique}
+use Rattle.http_frames.proofs.InboxLemmas.{none_within}
+use Rattle.http_frames.proofs.LookLemmas.{some_bytes}
+use Rattle.entity_model.specs.Entity.{EntityData}
+use Rattle.cse_machine.specs.declared.event.Event.{Event}
+use Rattle.cse_machine.specs.declared.event.Event.TheVariants.{Ask}
+use Rattle.cse_machine.specs.declared.event.Outcome.{Outcome}
+use Rattle.cse_machine.specs.History.{History, IsDone}
+use Rattle.machine_laws.specs.Sight.{IsBy}
+use Rattle.cse_machine.specs.Step.{Step}
+use Rattle.machine_laws.proofs.AlikeLemmas.{stay_alike}
+use Rattle.machine_laws.proofs.HistoryLemmas.{one_way}
+use Rattle.cse_server.specs.declared.connection.Ended.{Ended}
+use Rattle.cse_server.specs.declared.connection.Ended.TheVariants.{Closed, NoFrame, ReadFault, WriteFault, Memory}
+use Rattle.cse_server.specs.Closing.{closes}
+use Rattle.cse_server.specs.Talk.{requests_in, talk, some_closes, ends_at_close}
+use Rattle.cse_server.specs.Connection.{RefusesRightly, EndsRightly, Says, AsksFrames}
+use Rattle.cse_server.specs.Replies.{GivesReplies}
+use Rattle.service_laws.specs.Laws.{IsFaultless, ServesBoth, AreServedAlike, IsAnsweredInOneWay, EqualSightsAreServedAlike}
+use Rattle.cse_server.proofs.RepliesLemmas.{gives_one_way}
+
+-- ---- where a stream ends
+
+nothing_begins : HasNoFrame Request []
+nothing_begins = none_within Request [] 1 (some_bytes Request []) (omega arith)
+
+-- What is known of the rest of a stream where a connection ended whole: these frames were heard from this place on, and it
+-- was refused, or not.
+pub record Settles (place : ℕ) (ended : Ended) (refused : Bool) (heard : List Frame) (rest : List ℕ) : Type 0 where
+  pub closed : refused ≡ false → (ended ≡ Closed) × (some_closes heard place ≡ false → rest ≡ [])
+  pub refusal : refused ≡ true → (ended ≡ NoFrame) × (some_closes heard place ≡ false) × (rest ≢ []) × HasNoFrame Request rest
+
+settles : (place : ℕ) (ended : Ended) (refused : Bool) (heard : List Frame) (rest : List ℕ) (now : Option (List ℕ))
+    → IsFaultless ended → RefusesRightly place refused heard rest → EndsRightly place ended refused heard rest now
+    → Settles place ended refused heard rest
+settles place Closed refused heard rest now whole right ends = record {
+  closed = λ f. (refl, ends.1);
+  refusal = λ t. absurd (true≢false (sym t ∙ ends.0));
+}
+settles place NoFrame refused heard rest now whole right ends = record {
+  closed = λ f. absurd (true≢false (sym ends.0 ∙ f));
+  refusal = λ t. (refl, (right t).0, (right t).1, (right t).2);
+}
+settles place ReadFault refused heard rest now whole right ends = absurd whole
+settles place WriteFault refused heard rest now whole right ends = absurd whole
+settles place Memory refused heard rest now whole right ends = absurd whole
+
+-- no frame stands at the front of the rest where none closed
+none_behind : (place : ℕ) (ended : Ended) (refused : Bool) (heard : List Frame) (rest : List ℕ) → some_closes heard place ≡ false
+    → Settles place ended refused heard rest → HasNoFrame Request rest
+none_behind place ended true heard rest stays s = (s.refusal refl).3
+none_behind place ended false heard rest stays s =
+    subst (λ (v : List ℕ). HasNoFrame Request v) (sym ((s.closed refl).1 stays)) nothing_begins
+
+-- one rest is refused or not, and the connection ends so
+same_end : (place : ℕ) (ended end : Ended) (refused denied : Bool) (heard : List Frame) (rest : List ℕ)
+    → Settles place ended refused heard rest → Settles place end denied heard rest → (refused ≡ denied) × (ended ≡ end)
+same_end place ended end true true heard rest s t = (refl, (s.refusal refl).0 ∙ sym (t.refusal refl).0)
+same_end place ended end false false heard rest s t = (refl, (s.closed refl).0 ∙ sym (t.closed refl).0)
+same_end place ended end true false heard rest s t =
+    let no = s.refusal refl in
+    absurd (no.2 ((t.closed refl).1 no.1))
+same_end place ended end false true heard rest s t =
+    let no = t.refusal refl in
+    absurd (no.2 ((s.closed refl).1 no.1))
+
+-- none closes behind a frame that doesn't
+Settles-behind : (place : ℕ) (ended : Ended) (refused : Bool) (x : Frame) (xs : List Frame) (rest : List ℕ) → closes place x ≡ false
+    → Settles place ended refused (x ∷ xs) rest → Settles (place + 1) ended refused xs rest
+Settles-behind place ended refused x xs rest f s = record {
+  closed = λ e. ((s.closed e).0, λ stays. (s.closed e).1 (rw f stays));
+  refusal = λ e. ((s.refusal e).0, rw f at (s.refusal e).1, (s.refusal e).2, (s.refusal e).3);
+}
+
+-- nothing is heard behind a frame that closes
+last_heard : (place : ℕ) (x : Frame) (xs : List Frame) → closes place x ≡ true → IsTrue (ends_at_close (x ∷ xs) place) → xs ≡ []
+last_heard place x [] t up = refl
+last_heard place x (y ∷ ys) t up = absurd (false≢true (rw t at up))
+
+up_behind : (place : ℕ) (x : Frame) (xs : List Frame) → closes place x ≡ false → IsTrue (ends_at_close (x ∷ xs) place) → IsTrue (ends_at_close xs (place + 1))
+up_behind place x [] f up = refl
+up_behind place x (y ∷ ys) f up = rw f at up
+
+-- a stream settles which frames are heard, and how the connection ends
+pub heard_one_way : (heard others : List Frame) (place : ℕ) (ended end : Ended) (refused denied : Bool) (stream rest other : List ℕ)
+    → BeginsWithFrames Request stream heard rest → BeginsWithFrames Request stream others other
+    → IsTrue (ends_at_close heard place) → IsTrue (ends_at_close others place)
+    → Settles place ended refused heard rest → Settles place end denied others other
+    → (heard ≡ others) × (refused ≡ denied) × (ended ≡ end)
+heard_one_way [] [] place ended end refused denied stream rest other a b up ups s t =
+    let ends = same_end place ended end refused denied [] rest s (subst (λ (v : List ℕ). Settles place end denied [] v) (sym b ∙ a) t) in
+    (refl, ends.0, ends.1)
+heard_one_way [] (y ∷ ys) place ended end refused denied stream rest other a b up ups s t =
+    absurd (none_behind place ended refused [] rest refl s y b.0 (subst (λ (v : List ℕ). BeginsWithFrame Request v y b.0) a b.1))
+heard_one_way (x ∷ xs) [] place ended end refused denied stream rest other a b up ups s t =
+    absurd (none_behind place end denied [] other refl t x a.0 (subst (λ (v : List ℕ). BeginsWithFrame Request v x a.0) b a.1))
+heard_one_way (x ∷ xs) (y ∷ ys) place ended end refused denied stream rest other a b up ups s t =
+    let first = BeginsWith_unique Request stream x y a.0 b.0 a.1 b.1 in
+    elim (cases_Bool (closes place y)) [
+      | inl c ↦
+          let here : closes place x ≡ true = ap (closes place) first.0 ∙ c in
+          let alone : xs ≡ [] = last_heard place x xs here up in
+          let single : ys ≡ [] = last_heard place y ys c ups in
+          let same : x ∷ xs ≡ y ∷ ys = cc (first.0, alone, single) in
+          let whole : rest ≡ other =
+          sym (subst (λ (fs : List Frame). BeginsWithFrames Request a.0 fs rest) alone a.2) ∙ first.1
+          ∙ subst (λ (fs : List Frame). BeginsWithFrames Request b.0 fs other) single b.2 in
+          let ends =
+          same_end place ended end refused denied (y ∷ ys) other
+          (subst (λ (v : List ℕ). Settles place ended refused (y ∷ ys) v) whole
+          (subst (λ (fs : List Frame). Settles place ended refused fs rest) same s)) t in
+          (same, ends.0, ends.1)
+      | inr o ↦
+          let here : closes place x ≡ false = ap (closes place) first.0 ∙ o in
+          let later =
+          heard_one_way xs ys (place + 1) ended end refused denied b.0 rest other
+          (subst (λ (v : List ℕ). BeginsWithFrames Request v xs rest) first.1 a.2) b.2
+          (up_behind place x xs here up) (up_behind place y ys o ups)
+          (Settles-behind place ended refused x xs rest here s) (Settles-behind place end denied y ys other o t) in
+          (cc (first.0, later.0), later.1, later.2)
+    ]
+
+-- ---- what is said
+
+-- where it ends whole, all of its talk is written
+said_whole : (ended : Ended) (old new before text : List ℕ) (count : ℕ) (puts now : Option ℕ) → IsFaultless ended
+    → Says ended before text count (sink_told (Some old) puts) (sink_told (Some new) now) → new ≡ old ++ text
+said_whole Closed old new before text count puts now whole said = said.written
+said_whole NoFrame old new before text count puts now whole said = said.written
+said_whole ReadFault old new before text count puts now whole said = absurd whole
+said_whole WriteFault old new before text count puts now whole said = absurd whole
+said_whole Memory old new before text count puts now whole said = absurd whole
+
+talk_same : (place : ℕ) (heard others : List Frame) (refused denied : Bool) (rs ps : List ReplyParts) → heard ≡ others → refused ≡ denied → rs ≡ ps
+    → talk place heard refused rs ≡ talk place others denied ps
+talk_same place heard others refused denied rs ps a b c = λ i. talk place (a i) (b i) (c i)
+
+all_done : (mine : History) (outcomes : List Outcome) → outcomes_of mine ≡ outcomes → All IsDone outcomes → All IsDone (outcomes_of mine)
+all_done mine outcomes same done = subst (λ (os : List Outcome). All IsDone os) (sym same) done
+
+-- Two connections with one stream, at the same readings, that ended whole.
+module _ (left right after other : EntityData) (both : ServesBoth left right after other) where
+  abbrev one : AsksFrames (IsOwnRun Step) left after (Some both.given) (Some both.told) both.link both.link_now both.first.heard
+  one = both.first.asks
+
+  abbrev two : AsksFrames (IsOwnRun Step) right other (Some both.given) (Some both.told) both.other_link both.other_link_now both.second.heard
+  two = both.second.asks
+
+  both_heard : (both.first.heard ≡ both.second.heard) × (both.first.refused ≡ both.second.refused) × (both.ended ≡ both.end)
+  both_heard =
+      let s = both.first.stream in
+      let t = both.second.stream in
+      heard_one_way both.first.heard both.second.heard 1 both.ended both.end both.first.refused both.second.refused both.stream s.0 t.0 s.1 t.1 both.first.up_to both.second.up_to
+      (settles 1 both.ended both.first.refused both.first.heard s.0 both.rest both.whole s.2 s.3)
+      (settles 1 both.end both.second.refused both.second.heard t.0 both.other_rest both.wholes t.2 t.3)
+
+  same_readings : readings_of one.asked.mine ≡ readings_of two.asked.mine
+  same_readings =
+      one.asked.readings_are ∙ append_cancel_left both.given one.readings two.readings (sym one.clock ∙ two.clock)
+      ∙ sym two.asked.readings_are
+
+  same_events : events_of one.asked.mine ≡ events_of two.asked.mine
+  same_events = one.asked.events_are ∙ ap (λ fs. map Ask (requests_in fs)) both_heard.0 ∙ sym two.asked.events_are
+
+  -- where the outcomes are the same, so are the replies and what was carried
+  same_replies : outcomes_of one.asked.mine ≡ outcomes_of two.asked.mine → (one.replies ≡ two.replies) × (one.carried ≡ two.carried)
+  same_replies outcomes =
+      let os : one.outcomes ≡ two.outcomes = sym one.asked.outcomes_are ∙ outcomes ∙ two.asked.outcomes_are in
+      gives_one_way (requests_in both.second.heard) two.outcomes one.replies two.replies one.carried two.carried
+      (subst (λ (v : List Outcome). GivesReplies (requests_in both.second.heard) v one.replies one.carried) os
+      (subst (λ (fs : List Frame). GivesReplies (requests_in fs) one.outcomes one.replies one.carried) both_heard.0 one.gives))
+      two.gives
+
+  -- and what is written
+  same_bytes : outcomes_of one.asked.mine ≡ outcomes_of two.asked.mine → both.new ≡ both.twin
+  same_bytes outcomes =
+      said_whole both.ended both.old both.new _ _ _ both.puts both.puts_now both.whole both.first.said
+      ∙ ap (λ v. both.old ++ v) (talk_same 1 both.first.heard both.second.heard both.first.refused both.second.refused one.replies two.replies both_heard.0 both_heard.1
+      (same_replies outcomes).0)
+      ∙ sym (said_whole both.end both.old both.twin _ _ _ both.other_puts both.other_puts_now both.wholes both.second.said)
+
+  served_same : outcomes_of one.asked.mine ≡ outcomes_of two.asked.mine → AreServedAlike both
+  served_same outcomes = (same_bytes outcomes, both_heard.2, (same_replies outcomes).1)
+
+  all_first : All IsDone (outcomes_of one.asked.mine)
+  all_first = all_done one.asked.mine one.outcomes one.asked.outcomes_are both.done
+
+  all_second : All IsDone (outcomes_of two.asked.mine)
+  all_second = all_done two.asked.mine two.outcomes two.asked.outcomes_are both.dones
+
+pub answered_in_one_way : IsAnsweredInOneWay
+answered_in_one_way opening after other both =
+    let one = both.first.asks.asked in
+    let two = both.second.asks.asked in
+    let way =
+    one_way one.mine two.mine opening after other (Grew-runs Step one.grew) (Grew-runs Step two.grew)
+    (same_readings opening opening after other both) (same_events opening opening after other both)
+    (all_first opening opening after other both) (all_second opening opening after other both) in
+    (served_same opening opening after other both way.0, way.1)
+
+-- ---- by one originator
+
+pub served_alike : EqualSightsAreServedAlike
+served_alike left right after other o both sound sounds same by =
+    let one = both.first.asks.asked in
+    let two = both.second.asks.asked in
+    let way =
+    stay_alike one.mine two.mine o left right after other sound sounds same (Grew-runs Step one.grew) (Grew-runs Step two.grew)
+    (same_readings left right after other both) (same_events left right after other both)
+    (subst (λ (es : List Event). All (IsBy left.home o) es) (sym one.events_are) (All-map (IsBy left.home o) Ask (requests_in both.first.heard) by))
+    (all_first left right after other both) (all_second left right after other both) in
+    (served_same left right after other both way.0, way.1)

@@ -1,0 +1,5 @@
+use Rattle.cse_server.proofs.RepliesLemmas.{not_carried}
+use Rattle.service_laws.proofs.laws.what_is_answered_here_is_not_carried.Goals as goal
+
+pub returns : goal.returns
+returns c = not_carried

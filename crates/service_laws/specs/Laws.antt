@@ -1,0 +1,137 @@
+-- Laws of the talk of a connection.
+use Rattle.std.specs.Prelude.{◌≡◌, ℕ, true, false, List, [], ◌∷◌, ◌++◌, length, map, Option, Some}
+use Rattle.std.specs.Prelude.{⊤}
+use Rattle.std.specs.List.{All}
+use Rattle.m2m_io.specs.Link.{Carrying, Exchange, made_in}
+use Rattle.cse_server.specs.Outside.{LinkTold, Outside, outside, sink_told}
+use Rattle.turn_desk.specs.Entries.{readings_of, events_of, outcomes_of}
+use Rattle.turn_desk.specs.Growth.{IsOwnRun}
+use Rattle.primitive_json.specs.declared.reply.ReplyParts.{ReplyParts}
+use Rattle.primitive_json.specs.declared.request.RequestParts.{RequestParts}
+use Rattle.http_frames.specs.declared.frame.Frame.{Frame}
+use Rattle.entity_model.specs.Entity.{EntityData, swept}
+use Rattle.entity_model.specs.Sound.{IsSoundEntity}
+use Rattle.cse_machine.specs.declared.event.Event.TheVariants.{Ask}
+use Rattle.cse_machine.specs.declared.event.Outcome.{Outcome}
+use Rattle.cse_machine.specs.declared.event.Outcome.TheVariants.{Done}
+use Rattle.machine_laws.specs.Guard.{IsGuarded}
+use Rattle.cse_machine.specs.History.{History, HistoryLeaves, IsDone}
+use Rattle.machine_laws.specs.Sight.{sight, IsRequestBy}
+use Rattle.cse_machine.specs.Step.{Step}
+use Rattle.cse_server.specs.declared.connection.Ended.{Ended}
+use Rattle.cse_server.specs.declared.connection.Ended.TheVariants.{Closed, NoFrame, ReadFault}
+use Rattle.cse_server.specs.declared.connection.Ended.TheVariants.{WriteFault, Memory}
+use Rattle.cse_server.specs.Talk.{requests_in, reply_texts, some_closes}
+use Rattle.cse_server.specs.Connection.{Serves}
+
+-- Where some frame closes, more frames behind these add nothing to what is said, whatever the
+-- replies (RFC 9112, section 9.6).
+abbrev pub NothingIsAnsweredBehindClose : Type 0
+NothingIsAnsweredBehindClose =
+    (frames more : List Frame) (place : ℕ) (replies : List ReplyParts)
+    → some_closes frames place ≡ true
+    → reply_texts (frames ++ more) place replies ≡ reply_texts frames place replies
+
+-- What a connection of a sound entity shows and changes is guarded: where the outcome of a request
+-- that was heard is a reply, this shows nothing and its step changed nothing but by a grant to the
+-- originator, judged on the entity that the history of the requests before it left, with the
+-- outcomes that these had and at the readings that the clock gave, and from which what was due is
+-- gone.
+abbrev pub ServesGuarded : Type 0
+ServesGuarded =
+    (opening after : EntityData) (old new : Outside) (ended : Ended)
+    (served : Serves (IsOwnRun Step) opening after old new ended)
+    (earlier later : List RequestParts) (request : RequestParts)
+    (before behind : List Outcome) (reply : ReplyParts)
+    → IsSoundEntity opening → requests_in served.heard ≡ earlier ++ request ∷ later
+    → served.asks.outcomes ≡ before ++ Done reply ∷ behind
+    → length earlier ≡ length before
+    → (history : History) × (found : EntityData) × (left : EntityData)
+    × (reading : ℕ) × (then : List ℕ)
+    × HistoryLeaves opening history found × (events_of history ≡ map Ask earlier)
+    × (outcomes_of history ≡ before)
+    × (served.asks.readings ≡ readings_of history ++ reading ∷ then)
+    × Step reading (Ask request) found (Done reply) left
+    × IsGuarded (swept reading found) request reply left
+
+-- nothing went wrong with the connection: it was closed, or nothing more can be heard
+abbrev pub IsFaultless : Ended → Type 0
+IsFaultless Closed = ⊤
+IsFaultless NoFrame = ⊤
+IsFaultless ReadFault = ⊥
+IsFaultless WriteFault = ⊥
+IsFaultless Memory = ⊥
+
+-- As long as two links are asked the same, they answer alike. So they do where nothing is asked.
+abbrev pub AnswerAlike : List Exchange → List Exchange → Type 0
+AnswerAlike [] others = ⊤
+AnswerAlike (x ∷ exchanges) [] = ⊤
+AnswerAlike (x ∷ exchanges) (y ∷ others) =
+    x.host ≡ y.host → x.request ≡ y.request → (x ≡ y) × AnswerAlike exchanges others
+
+-- memory sufficed for carrying a request
+abbrev pub HadMemory : Carrying → Type 0
+HadMemory carrying = carrying.starved ≡ false
+
+-- Two connections were served with one stream at the same readings, the first by the entity `left`,
+-- which it left as `after`, and the second by `right`, which it left as `other`. Nothing went wrong
+-- with either, there was memory for each request and for what was carried for it, and their links
+-- answered alike. What their links told before may differ.
+pub record ServesBoth (left right after other : EntityData) : Type 0 where
+  pub stream : List ℕ
+  pub given : List ℕ
+  pub told : List ℕ
+  -- what was written before, and what is written now
+  pub old : List ℕ
+  pub new : List ℕ
+  pub twin : List ℕ
+  -- what is left to read; and the puts and what the links tell, before and now
+  pub rest : Option (List ℕ)
+  pub other_rest : Option (List ℕ)
+  pub puts : Option ℕ
+  pub puts_now : Option ℕ
+  pub other_puts : Option ℕ
+  pub other_puts_now : Option ℕ
+  pub link : LinkTold
+  pub link_now : LinkTold
+  pub other_link : LinkTold
+  pub other_link_now : LinkTold
+  pub ended : Ended
+  pub end : Ended
+  pub first : Serves (IsOwnRun Step) left after
+      (outside (Some stream) (sink_told (Some old) puts) (Some given) link)
+      (outside rest (sink_told (Some new) puts_now) (Some told) link_now) ended
+  pub second : Serves (IsOwnRun Step) right other
+      (outside (Some stream) (sink_told (Some old) other_puts) (Some given) other_link)
+      (outside other_rest (sink_told (Some twin) other_puts_now) (Some told) other_link_now) end
+  pub whole : IsFaultless ended
+  pub wholes : IsFaultless end
+  pub done : All IsDone first.asks.outcomes
+  pub dones : All IsDone second.asks.outcomes
+  pub carried : All HadMemory first.asks.carried
+  pub carries : All HadMemory second.asks.carried
+  pub links : AnswerAlike (made_in first.asks.carried) (made_in second.asks.carried)
+
+-- Both got the same bytes, ended alike, and the same was carried for both.
+abbrev pub AreServedAlike :
+    {left right after other : EntityData} → ServesBoth left right after other → Type 0
+AreServedAlike both =
+    (both.new ≡ both.twin) × (both.ended ≡ both.end)
+    × (both.first.asks.carried ≡ both.second.asks.carried)
+
+-- A stream is answered in one way: two connections that are served with it at the same readings by
+-- the same entity are served alike, and leave the same entity.
+abbrev pub IsAnsweredInOneWay : Type 0
+IsAnsweredInOneWay =
+    (opening after other : EntityData) (both : ServesBoth opening opening after other)
+    → AreServedAlike both × (after ≡ other)
+
+-- Equal sights are served alike: so are two connections that are served by sound entities of which
+-- an originator sees the same, where each request that was heard is one that is covered and is by
+-- that originator, or isn't served, whoever asks; and it sees the same of what they leave.
+abbrev pub EqualSightsAreServedAlike : Type 0
+EqualSightsAreServedAlike =
+    (left right after other : EntityData) (o : List ℕ) (both : ServesBoth left right after other)
+    → IsSoundEntity left → IsSoundEntity right → sight o left ≡ sight o right
+    → All (IsRequestBy left.home o) (requests_in both.first.heard)
+    → AreServedAlike both × (sight o after ≡ sight o other)

@@ -1,0 +1,125 @@
+-- What comes after a number, where numbers ascend.
+use Rattle.std.specs.Prelude.{nat_lt}
+use Rattle.std.proofs.Common.{◌≡◌, ℕ, zero, suc, ◌<◌, ◌≤◌, List, [], ◌∷◌, length, find, Bool, true, false, ◌&&◌, Option, Some, None, Bor, option_map, inl, inr, refl, sym, ap, ◌∙◌, arith}
+use Rattle.std.proofs.lemmas.Bool.{cases_Bool, and_parts, and_from, ltb-true, ltb-false, lt-ltb, le-ltb}
+use Rattle.std.proofs.lemmas.Option.{same_Some}
+use Rattle.std.specs.Iterator.{YieldsFirstRef, MakesProgress, item_count}
+use Rattle.std.specs.List.{filter, slice_get}
+use Rattle.resource_model.specs.Resource.{ResourceData}
+use Rattle.tree_model.specs.Tree.{at, resource_number, comes_after, all_after, next_after, is_tree, may_stand}
+use Rattle.tree_model.proofs.GrowthLemmas.{growth, next_fits, next_above_parent}
+use Rattle.tree_model.proofs.OrderLemmas.{are_above, ascend, tree_ascends, ascend_filter, above_filter, above_push, number_some, placed_stands}
+
+above_lower : (m n : ℕ) (rs : List ResourceData) → m < n → are_above n rs ≡ true → are_above m rs ≡ true
+above_lower m n [] less above = refl
+above_lower m n (r ∷ rs) less above =
+    let parts = and_parts (nat_lt n r.number) (are_above n rs) above in
+    let here : n < r.number = ltb-true n r.number parts.0 in
+    and_from _ _ (lt-ltb m r.number (omega arith)) (above_lower m n rs less parts.1)
+
+-- what is above a number all comes after it
+pub above_all : (n : ℕ) (rs : List ResourceData) → are_above n rs ≡ true → all_after n rs ≡ rs
+above_all n [] above = refl
+above_all n (r ∷ rs) above =
+    let parts = and_parts (nat_lt n r.number) (are_above n rs) above in
+    rw parts.0 (ap (λ (ss : List ResourceData). r ∷ ss) (above_all n rs parts.1))
+
+-- the first that comes after a number does
+next_is_after : (n : ℕ) (rs : List ResourceData) (r : ResourceData) → next_after n rs ≡ Some r → nat_lt n r.number ≡ true
+next_is_after n [] r found = cc
+next_is_after n (s ∷ rs) r found = elim (cases_Bool (nat_lt n s.number)) [
+  | inl t ↦ (let is : s ≡ r = same_Some s r (rw t at found) in ap (λ (x : ResourceData). nat_lt n x.number) (sym is) ∙ t)
+  | inr f ↦ next_is_after n rs r (rw f at found)
+]
+
+-- where none comes first, none comes
+none_after : (n : ℕ) (rs : List ResourceData) → next_after n rs ≡ None → all_after n rs ≡ []
+none_after n [] found = refl
+none_after n (s ∷ rs) found = elim (cases_Bool (nat_lt n s.number)) [
+  | inl t ↦ absurd (let some : Some s ≡ None = rw t at found in cc)
+  | inr f ↦ rw f (none_after n rs (rw f at found))
+]
+
+-- the first that comes after a number, and then those that come after it
+after_split : (n : ℕ) (rs : List ResourceData) (r : ResourceData) → ascend rs ≡ true → next_after n rs ≡ Some r → all_after n rs ≡ r ∷ all_after r.number rs
+after_split n [] r order found = cc
+after_split n (s ∷ rs) r order found =
+    let parts = and_parts (are_above s.number rs) (ascend rs) order in
+    elim (cases_Bool (nat_lt n s.number)) [
+      | inl t ↦
+          let is : s ≡ r = same_Some s r (rw t at found) in
+          let less : n < s.number = ltb-true n s.number t in
+          let own : nat_lt s.number s.number ≡ false = le-ltb s.number s.number (omega arith) in
+          let rest : all_after s.number (s ∷ rs) ≡ rs = rw own (above_all s.number rs parts.0) in
+          rw t (ap (λ (ss : List ResourceData). s ∷ ss) (above_all n rs (above_lower n s.number rs less parts.0) ∙ sym rest))
+          ∙ ap (λ (x : ResourceData). x ∷ all_after x.number (s ∷ rs)) is
+      | inr f ↦
+          let later : next_after n rs ≡ Some r = rw f at found in
+          let less : n < r.number = ltb-true n r.number (next_is_after n rs r later) in
+          let low : s.number ≤ n = ltb-false n s.number f in
+          let out : nat_lt r.number s.number ≡ false = le-ltb r.number s.number (omega arith) in
+          let rest : all_after r.number (s ∷ rs) ≡ all_after r.number rs = rw out refl in
+          rw f (after_split n rs r parts.1 later) ∙ ap (λ (ss : List ResourceData). r ∷ ss) (sym rest)
+    ]
+
+-- a step of going over what comes after a number
+pub step_some : (n : ℕ) (rs left : List ResourceData) (r : ResourceData) → ascend rs ≡ true → all_after n rs ≡ left → Some r ≡ next_after n rs → left ≡ r ∷ all_after r.number rs
+step_some n rs left r order is found = sym is ∙ after_split n rs r order (sym found)
+
+pub step_none : (n : ℕ) (rs left : List ResourceData) → all_after n rs ≡ left → None ≡ next_after n rs → left ≡ []
+step_none n rs left is found = sym is ∙ none_after n rs (sym found)
+
+pub none_left : (n : ℕ) (rs : List ResourceData) → None ≡ next_after n rs → all_after n rs ≡ []
+none_left n rs found = none_after n rs (sym found)
+
+no_number : (o : Option ResourceData) → None ≡ resource_number o → None ≡ o
+no_number None none = refl
+no_number (Some r) none = cc
+
+pub step_no_number : (n : ℕ) (rs left : List ResourceData) → all_after n rs ≡ left → None ≡ resource_number (next_after n rs) → left ≡ []
+step_no_number n rs left is none = step_none n rs left is (no_number (next_after n rs) none)
+
+pub no_number_left : (n : ℕ) (rs : List ResourceData) → None ≡ resource_number (next_after n rs) → all_after n rs ≡ []
+no_number_left n rs none = none_left n rs (no_number (next_after n rs) none)
+
+-- what is found stands at a place
+found_place : (q : ResourceData → Bool) (rs : List ResourceData) (r : ResourceData) → find q rs ≡ Some r → (k : ℕ) × (slice_get rs k ≡ Some r)
+found_place q [] r found = cc
+found_place q (s ∷ rs) r found = elim (cases_Bool (q s)) [
+  | inl t ↦ (zero, rw t at found)
+  | inr f ↦ (let later = found_place q rs r (rw f at found) in (suc later.0, later.1))
+]
+
+-- the same by the number of the first of a filter, which is looked up
+pub step_number : (p : ResourceData → Bool) (nodes : List ResourceData) (n m : ℕ) (left : List ResourceData) (o : Option (Bor ResourceData)) → is_tree nodes ≡ true → all_after n (filter p nodes) ≡ left → Some m ≡ resource_number (next_after n (filter p nodes)) → option_map (λ r. r.now) o ≡ at m nodes → YieldsFirstRef (λ rest. rest) left o (all_after m (filter p nodes))
+step_number p nodes n m left o tree is found got =
+    let there = number_some (next_after n (filter p nodes)) m found in
+    let place = found_place (comes_after n) (filter p nodes) there.0 there.1 in
+    let stands : at m nodes ≡ Some there.0 = ap (λ (k : ℕ). at k nodes) (sym there.2) ∙ placed_stands p nodes place.0 there.0 tree place.1 in
+    let split : left ≡ there.0 ∷ all_after m (filter p nodes) =
+    step_some n (filter p nodes) left there.0 (ascend_filter p nodes (tree_ascends nodes tree)) is (sym there.1)
+    ∙ ap (λ (k : ℕ). there.0 ∷ all_after k (filter p nodes)) there.2 in
+    given o (got ∙ stands) split
+  where
+    given : {r : ResourceData} {left rest : List ResourceData} (o : Option (Bor ResourceData)) → option_map (λ r. r.now) o ≡ Some r → left ≡ r ∷ rest → YieldsFirstRef (λ (x : List ResourceData). x) left o rest
+    given None got split = cc
+    given {r = r} {rest = rest} (Some x) got split = split ∙ ap (λ (y : ResourceData). y ∷ rest) (sym (same_Some x.now r got))
+
+-- every number of a tree is above 0
+above_zero : (nodes : List ResourceData) → is_tree nodes ≡ true → are_above 0 nodes ≡ true
+above_zero = growth may_stand (λ nodes. are_above 0 nodes ≡ true) refl (λ before r grew next holds.
+    let above : r.parent < r.number = next_above_parent before r (next_fits before r next) in
+    above_push 0 before r holds (omega arith))
+
+pub all_after_zero : (nodes : List ResourceData) → is_tree nodes ≡ true → nodes ≡ all_after 0 nodes
+all_after_zero nodes tree = sym (above_all 0 nodes (above_zero nodes tree))
+
+pub filtered_after_zero : (p : ResourceData → Bool) (nodes : List ResourceData) → is_tree nodes ≡ true → filter p nodes ≡ all_after 0 (filter p nodes)
+filtered_after_zero p nodes tree = sym (above_all 0 (filter p nodes) (above_filter p 0 nodes (above_zero nodes tree)))
+
+-- what gives the first of what is left has less left
+pub progress : (can : List ResourceData → Type 0) → ((s : List ResourceData) → can s) → (s t : List ResourceData) (r : Option (Bor ResourceData)) → YieldsFirstRef (λ rest. rest) s r t → MakesProgress can (item_count (λ rest. rest)) s r t
+progress can always s t None h = record { on = λ f. tt; keeps = tt; rests = λ f. f }
+progress can always s t (Some x) h =
+    let shorter : length s ≡ suc (length t) = ap length h in
+    record { on = λ f. (always t, f, omega arith); keeps = always t; rests = λ f. tt }

@@ -1,0 +1,163 @@
+-- What workers did at their seats: visits one after another, and shifts that are put together.
+use Rattle.std.proofs.Common.{◌≡◌, ℕ, suc, ◌+◌, ◌<◌, List, [], ◌∷◌, ◌++◌, length, map, slice_index_or, refl, sym, ap, ◌∙◌, subst, append_assoc, arith}
+use Rattle.std.specs.List.{All}
+use Rattle.std.proofs.lemmas.List.Elements.{All-head, All-tail, All-nil, All-cons}
+use Rattle.atomic_table.specs.Seated.{TableId}
+use Rattle.turn_desk.specs.declared.shared.DeskSeat.{DeskSeat}
+use Rattle.turn_desk.specs.declared.view.View.{View}
+use Rattle.turn_desk.specs.Seats.{IsSeated, known_to}
+use Rattle.workers.specs.declared.sharing.Job.{Job}
+use Rattle.workers.specs.Jobs.{known_to_all, bench_of, IsClosedAt, IsSeatedAt}
+use Rattle.workers.specs.Shares.{HasGrown, HaveGrown, HasNone, HasSeenAll, Pairwise, owned}
+use Rattle.workers.specs.Shifts.{Visit, Shift, AttendsInTurn, HasAttended, WorksFrom, HasWorked, HaveWorked, IsServed}
+use Rattle.workers.proofs.SharesLemmas.{grown_self, grown_on, grown_seen, seen_on}
+
+-- ---- visits
+
+module _ {S C B A : Type 0} (attends : S → C → B → S → A → B → Type 0) where
+  -- one more visit
+  turn_more : (seat : S) (bench : B) (visits : List (Visit C A)) (between : S) (aside : B) (v : Visit C A) (later : S) (left : B)
+      → AttendsInTurn attends seat bench visits between aside
+      → attends between v.conn aside later v.attended left
+      → AttendsInTurn attends seat bench (visits ++ v ∷ []) later left
+  turn_more seat bench [] between aside v later left h at = (
+    later,
+    left,
+    subst (λ b. attends seat v.conn b later v.attended left) h.1
+        (subst (λ s. attends s v.conn aside later v.attended left) h.0 at),
+    (refl, refl),
+  )
+  turn_more seat bench (w ∷ visits) between aside v later left h at =
+      (h.0, h.1, h.2, turn_more h.0 h.1 visits between aside v later left h.3 at)
+
+module _ {X E R C B A : Type 0} {attends : DeskSeat X E R → C → B → DeskSeat X E R → A → B → Type 0} where
+  -- a worker that has done nothing yet
+  pub works_none : (seat : DeskSeat X E R) (bench : B) → WorksFrom attends seat bench seat bench
+  works_none seat bench = record {
+    visits = [];
+    attended = record { attends_all = (refl, refl); grew = grown_self (known_to seat) };
+  }
+
+  -- and one that attended to one connection more
+  pub works_more : {seat between later : DeskSeat X E R} {bench aside left : B} {conn : C} {attended : A}
+      → WorksFrom attends seat bench between aside
+      → attends between conn aside later attended left
+      → HasGrown (known_to between) (known_to later)
+      → WorksFrom attends seat bench later left
+  works_more {seat} {between} {later} {bench} {aside} {left} {conn} {attended} w at grew =
+      let visit : Visit C A = record { conn = conn; attended = attended } in record {
+        visits = w.visits ++ visit ∷ [];
+        attended = record {
+          attends_all = turn_more attends seat bench w.visits between aside visit later left w.attended.attends_all at;
+          grew = grown_on w.attended.grew grew;
+        };
+      }
+
+-- ---- lists of the same length
+
+module _ {A : Type 0} (P : A → A → Type 0) where
+  -- what holds at each place holds pair by pair
+  pub pairwise_at : (xs ys : List A) → length ys ≡ length xs
+      → ((i : ℕ) (d : A) → i < length xs → P (slice_index_or xs i d) (slice_index_or ys i d)) → Pairwise P xs ys
+  pairwise_at [] [] len each = tt
+  pairwise_at [] (y ∷ ys) len each = absurd (omega (arith, len))
+  pairwise_at (x ∷ xs) [] len each = absurd (omega (arith, len))
+  pairwise_at (x ∷ xs) (y ∷ ys) len each = (
+    each 0 x (omega arith),
+    pairwise_at xs ys (omega (arith, len)) (λ i d l. each (suc i) d (omega (arith, l))),
+  )
+
+module _ {X B A E R : Type 0} where
+  -- jobs that are the same are alike
+  pub closed_alike : {a x : Job X B A E R} → a ≡ x → IsClosedAt a → IsClosedAt x
+  closed_alike p h = subst IsClosedAt p h
+
+  -- each of them is closed
+  pub closed_each : (js ks : List (Job X B A E R)) → length ks ≡ length js
+      → ((i : ℕ) (d : Job X B A E R) → i < length js → IsClosedAt (slice_index_or ks i d)) → All IsClosedAt ks
+  closed_each [] [] len each = All-nil IsClosedAt
+  closed_each [] (k ∷ ks) len each = absurd (omega (arith, len))
+  closed_each (j ∷ js) [] len each = absurd (omega (arith, len))
+  closed_each (j ∷ js) (k ∷ ks) len each = All-cons IsClosedAt k ks (each 0 j (omega arith))
+      (closed_each js ks (omega (arith, len)) (λ i d l. each (suc i) d (omega (arith, l))))
+
+module _ {X E R C B A : Type 0} {attends : DeskSeat X E R → C → B → DeskSeat X E R → A → B → Type 0} where
+  pub worked_alike : {a b x y : Job X B A E R} → a ≡ x → b ≡ y → HasWorked attends a b → HasWorked attends x y
+  worked_alike {a = a} {y = y} p q h =
+      subst (λ (j : Job X B A E R). HasWorked attends j y) p
+      (subst (λ (k : Job X B A E R). HasWorked attends a k) q h)
+
+-- ---- shifts
+
+module _ {X E R C B A : Type 0} (attends : DeskSeat X E R → C → B → DeskSeat X E R → A → B → Type 0) where
+  -- the shifts of these jobs
+  record ShiftsOf (before after : List (Job X B A E R)) : Type 0 where
+    shifts : List (Shift (DeskSeat X E R) C B A)
+    worked : All (HasAttended attends) shifts
+    fresh : All (λ s. HasNone (known_to s.seat)) shifts
+    benches : map (λ s. s.bench) shifts ≡ map bench_of before
+    later : map (λ s. known_to s.later) shifts ≡ known_to_all after
+
+  shifts_of : (before after : List (Job X B A E R)) → HaveWorked attends before after
+      → All HasNone (known_to_all before) → ShiftsOf before after
+  shifts_of [] [] w none = record {
+    shifts = [];
+    worked = All-nil (HasAttended attends);
+    fresh = All-nil (λ s. HasNone (known_to s.seat));
+    benches = refl;
+    later = refl;
+  }
+  shifts_of [] (k ∷ ks) w none = absurd w
+  shifts_of (j ∷ js) [] w none = absurd w
+  shifts_of (j ∷ js) (k ∷ ks) w none =
+      let rest = shifts_of js ks w.1 (All-tail HasNone (known_to j.seat) (known_to_all js) none) in
+      let one : Shift (DeskSeat X E R) C B A = record {
+        seat = j.seat;
+        bench = j.bench;
+        visits = w.0.visits;
+        later = k.seat;
+        left = k.bench;
+      } in record {
+        shifts = one ∷ rest.shifts;
+        worked = All-cons (HasAttended attends) one rest.shifts w.0.attended rest.worked;
+        fresh = All-cons (λ s. HasNone (known_to s.seat)) one rest.shifts
+            (All-head HasNone (known_to j.seat) (known_to_all js) none) rest.fresh;
+        benches = ap (λ l. j.bench ∷ l) rest.benches;
+        later = ap (λ l. known_to k.seat ∷ l) rest.later;
+      }
+
+  -- the same lists
+  pub worked_as : {js mid later ks : List (Job X B A E R)} → mid ≡ js → later ≡ ks
+      → HaveWorked attends mid later → HaveWorked attends js ks
+  worked_as {js = js} {later = later} p q h =
+      subst (λ (l : List (Job X B A E R)). HaveWorked attends js l) q
+      (subst (λ (l : List (Job X B A E R)). HaveWorked attends l later) p h)
+
+  -- workers that attended have grown
+  pub have_grown : (before after : List (Job X B A E R)) → HaveWorked attends before after
+      → HaveGrown (known_to_all before) (known_to_all after)
+  have_grown [] [] w = tt
+  have_grown [] (k ∷ ks) w = absurd w
+  have_grown (j ∷ js) [] w = absurd w
+  have_grown (j ∷ js) (k ∷ ks) w = (w.0.attended.grew, have_grown js ks w.1)
+
+  -- workers attended at seats of their own, which were joined, and then the rest was attended to
+  pub served_of : (before after : List (Job X B A E R)) {seat joined back : DeskSeat X E R} {last left : B}
+      → HaveWorked attends before after → All HasNone (known_to_all before)
+      → HasSeenAll (known_to joined) (known_to_all after)
+      → (known_to joined).own ≡ (known_to seat).own ++ owned (known_to_all after)
+      → WorksFrom attends joined last back left
+      → IsServed attends (map bench_of before ++ last ∷ []) seat back
+  served_of before after {seat} {joined} {back} {last} {left} worked none seen own rest =
+      let s = shifts_of before after worked none in record {
+        shifts = s.shifts;
+        last = record { seat = joined; bench = last; visits = rest.visits; later = back; left = left };
+        worked = s.worked;
+        worked_last = rest.attended;
+        fresh = s.fresh;
+        each_bench = ap (λ l. l ++ last ∷ []) s.benches;
+        seen = subst (λ l. HasSeenAll (known_to back) l) (sym s.later)
+            (seen_on (known_to joined) (known_to back) (known_to_all after) (grown_seen rest.attended.grew) seen);
+        gained = own ∙ ap (λ l. (known_to seat).own ++ owned l) (sym s.later);
+        back_is = refl;
+      }
