@@ -1,22 +1,23 @@
 -- What an address that was read prints as is read as the same address.
 use Rattle.std.specs.Prelude.{bytes_eq, drop, nat_eq, nat_lt}
-use Rattle.std.proofs.Common.{is_some, true≢false, ◌≡◌, ℕ, zero, suc, ◌+◌, ◌<◌, ◌≤◌, ◌==◌, Bool, true, false, cond, not, ◌&&◌, ◌||◌, List, [], ◌∷◌, ◌++◌, codes, length, Option, Some, None, Result, Ok, Err, inl, inr, refl, sym, ap, subst, ◌∙◌, arith, leb, ltb}
+use Rattle.std.proofs.Common.{◌≡◌, ℕ, ◌+◌, ◌≤◌, Bool, true, false, cond, List, [], ◌∷◌, codes, length, Option, Some, None, Result, Ok, Err, inl, inr, refl, sym, ap, subst, ◌∙◌, arith}
 use Rattle.std.specs.List.{after_first, before_first, list_all, position_or_len, starts_with}
 use Rattle.std.specs.Option.{option_and_then}
-use Rattle.std.proofs.lemmas.Bool.{and_from, and_parts, both_ways, cases_Bool, cond-true, leb-true, ltb-false, ltb-true, le-leb, lt-ltb, eqb-false, false_from_ne_true, ne_eqb}
+use Rattle.std.proofs.lemmas.Bool.{and_from, and_parts, both_ways, cases_Bool, ltb-false, ltb-true, eqb-false, false_from_ne_true, ne_eqb}
 use Rattle.std.proofs.lemmas.List.{length-append, length-drop}
 use Rattle.std.proofs.lemmas.Option.{same_Some}
 use Rattle.std.proofs.lemmas.Slice.Eq.{bytes_eq-Decides}
-use Rattle.m2m_names.specs.Name.{is_filled, is_free_name, is_name, is_one_of, is_unreserved, address_marks, virtual_names}
-use Rattle.resource_model.specs.Home.{HomeData, IsHome, first_bad}
+use Rattle.m2m_names.specs.Name.{is_name, is_unreserved}
+use Rattle.resource_model.specs.Home.{HomeData, IsHome}
 use Rattle.addressing.specs.declared.addr.Addr.{Addr}
 use Rattle.addressing.specs.declared.addr.Addr.TheVariants.{Local, Foreign, OtherProvider}
 use Rattle.addressing.specs.declared.addr.AddrFault.{AddrFault}
 use Rattle.addressing.specs.declared.addr.AddrFault.TheVariants.{TooLong, Shape}
 use Rattle.m2m_names.specs.Urls.{point_limit}
 use Rattle.addressing.specs.Addresses.{KeepsText, address_of, are_names, by_cse, by_names, by_provider, cut_at, is_slash, joined, of_provider, between_slashes, printed, shaped, under, unless_shapeless}
-use Rattle.policy_eval.proofs.FormLemmas.{starts_rest}
-use Rattle.addressing.proofs.PartLemmas.{joined-between_slashes, no_slash, between_slashes-joined, parts_by_cut}
+use Rattle.addressing.proofs.PartLemmas.{joined-between_slashes, no_slash, between_slashes-joined, names_parts}
+use Rattle.m2m_names.proofs.NameLemmas.{free_name_parts, name_parts, starts_rest}
+use Rattle.resource_model.proofs.HomeLemmas.{home_parts}
 
 -- ---- a name is no empty text, and doesn't begin with a slash
 
@@ -27,7 +28,7 @@ BeginsPlain (b ∷ text) = is_slash b ≡ false
 name_begins : (name : List ℕ) → is_name name ≡ true → BeginsPlain name
 name_begins [] is = both_ways (is_name []) refl is
 name_begins (b ∷ name) is =
-    no_slash b (and_parts (is_unreserved b) (list_all is_unreserved name) (and_parts (is_filled 64 (b ∷ name)) (list_all is_unreserved (b ∷ name)) is).1).0
+    no_slash b (and_parts (is_unreserved b) (list_all is_unreserved name) (name_parts (b ∷ name) is).unreserved).0
 
 joined_begins : (name : List ℕ) (names : List (List ℕ)) → is_name name ≡ true → BeginsPlain (joined (name ∷ names))
 joined_begins [] names is = absurd (name_begins [] is)
@@ -57,14 +58,13 @@ pub joined_back : (home : HomeData) (name : List ℕ) (names : List (List ℕ)) 
 joined_back home name names are short =
     let parts : between_slashes (joined (name ∷ names)) ≡ name ∷ names = between_slashes-joined name names are in
     shown home (joined (name ∷ names)) (Local (name ∷ names)) short
-    (shaped-plain home (joined (name ∷ names)) (joined_begins name names (and_parts (is_name name) (are_names names) are).0)
+    (shaped-plain home (joined (name ∷ names)) (joined_begins name names (names_parts name names are).first)
     ∙ ap (λ ps. cond (are_names ps) (Some (Local ps)) None) parts ∙ ap (λ b. cond b (Some (Local (name ∷ names))) None) are)
 
 -- own CSE-ID alone is read as no segment
 alone_back : (home : HomeData) → is_name home.csi ≡ true → address_of home (47 ∷ home.csi) ≡ Ok (Local [])
 alone_back home name =
-    let filled = (and_parts (is_filled 64 home.csi) _ name).0 in
-    let size : length home.csi ≤ 64 = leb-true (length home.csi) 64 (and_parts (ltb 0 (length home.csi)) _ filled).1 in
+    let size : length home.csi ≤ 64 = (name_parts home.csi name).filled.most in
     let parts : between_slashes home.csi ≡ home.csi ∷ [] = between_slashes-joined home.csi [] (and_from _ _ name refl) in
     shown home (47 ∷ home.csi) (Local []) (omega (arith, size))
     (shaped-slash home home.csi (name_begins home.csi name)
@@ -100,7 +100,7 @@ under_made home rest (csi ∷ segments) a are is = elim (cases_Bool (are_names (
   where
     by_own : (b : Bool) → bytes_eq csi home.csi ≡ b → are_names (csi ∷ segments) ≡ true → Made home (1 + length rest) (cond b (Local segments) (Foreign (47 ∷ rest)))
     by_own true own names = (
-      (and_parts (is_name csi) (are_names segments) names).1,
+      (names_parts csi segments names).rest,
       omega (arith, length-joined csi segments, ap length (ap joined (sym are) ∙ joined-between_slashes rest)),
     )
     by_own false own names =
@@ -167,21 +167,8 @@ shaped_made home text a is = elim (cases_Bool (starts_with nat_eq text (codes "/
 
 -- ---- and back
 
-free_is_name : (text : List ℕ) → is_free_name text ≡ true → is_name text ≡ true
-free_is_name text free = (and_parts (is_name text) (not (is_one_of virtual_names text || is_one_of address_marks text)) free).0
-
 csi_name : (home : HomeData) → IsHome home → is_name home.csi ≡ true
-csi_name home is = elim (cases_Bool (is_free_name home.sp)) [
-  | inr f ↦
-      let first : first_bad home ≡ Some 0 = rw f refl in
-      absurd (true≢false (ap is_some (sym first ∙ is.admitted)))
-  | inl t ↦ elim (cases_Bool (is_free_name home.csi)) [
-    | inl u ↦ free_is_name home.csi u
-    | inr f ↦
-        let second : first_bad home ≡ Some 1 = rw (t, f) refl in
-        absurd (true≢false (ap is_some (sym second ∙ is.admitted)))
-  ]
-]
+csi_name home is = (free_name_parts home.csi (home_parts home is).csi).name
 
 by_cse_begins : (home : HomeData) (rest : List ℕ) (a : Addr) → by_cse home rest ≡ Some a → BeginsPlain rest
 by_cse_begins home [] a is = let none : None ≡ Some a = is in cc

@@ -1,10 +1,10 @@
 -- A resource is named by its structured address, and by its id.
 use Rattle.std.specs.Prelude.{bytes_eq, codes}
-use Rattle.std.proofs.Common.{◌≡◌, ℕ, zero, suc, ◌+◌, ◌<◌, ◌≤◌, ◌^◌, Bool, true, false, cond, ◌&&◌, List, [], ◌∷◌, ◌++◌, length, find, map, reverse, Option, Some, None, inl, inr, refl, sym, ap, ap₂, subst, ◌∙◌, arith, ◌⊎◌, leb, Bor}
+use Rattle.std.proofs.Common.{◌≡◌, ℕ, zero, suc, ◌+◌, ◌<◌, ◌≤◌, ◌^◌, true, false, ◌&&◌, List, [], ◌∷◌, ◌++◌, length, find, map, reverse, Option, Some, None, inl, inr, refl, sym, ap, ap₂, subst, ◌∙◌, arith, ◌⊎◌, leb, Bor}
 use Rattle.std.specs.Fmt.{decimal}
 use Rattle.std.specs.List.{list_all}
 use Rattle.std.specs.Option.{option_and_then, option_or}
-use Rattle.std.proofs.lemmas.Bool.{and_from, and_parts, cases_Bool, eq-eqb, false_from_ne_true, leb-true, le-leb, lt-ltb, not-true, or_cases, or_left, or_parts}
+use Rattle.std.proofs.lemmas.Bool.{and_from, and_parts, cases_Bool, eq-eqb, false_from_ne_true, leb-true, le-leb, lt-ltb, or_cases, or_left, or_parts}
 use Rattle.std.proofs.lemmas.Bool.Decides.{nat_tests}
 use Rattle.std.proofs.lemmas.Fmt.{decimal_nonempty, length-decimal-le}
 use Rattle.std.proofs.lemmas.List.{append-nil, append_assoc, length-append, map-append, reverse-append}
@@ -12,7 +12,7 @@ use Rattle.std.proofs.lemmas.List.Folds.{find-append, list_all-append}
 use Rattle.std.proofs.lemmas.Option.{same_Some}
 use Rattle.std.proofs.lemmas.Slice.Eq.{bytes_eq-Decides}
 use Rattle.m2m_names.specs.Ids.{id_parts, id_text}
-use Rattle.m2m_names.specs.Name.{address_marks, is_filled, is_free_name, is_name, is_one_of, is_unreserved, virtual_names}
+use Rattle.m2m_names.specs.Name.{is_free_name, is_name, is_unreserved}
 use Rattle.m2m_names.specs.Types.{ty_row}
 use Rattle.m2m_names.specs.declared.types.Ty.{Ty}
 use Rattle.m2m_names.specs.declared.types.Ty.TheVariants.{AccessControlPolicy, Ae, Container, ContentInstance, CseBase, Group, PollingChannel, RemoteCse, Subscription, AccessControlPolicyAnnc, AeAnnc, ContainerAnnc, ContentInstanceAnnc, GroupAnnc}
@@ -23,16 +23,17 @@ use Rattle.resource_model.specs.Home.{HomeData}
 use Rattle.resource_model.specs.Resource.{ResourceData, has_number, id_of}
 use Rattle.tree_model.specs.Tree.{ae_of, at, child_of, may_stand, has, is_child, is_tree, line_of, resource_number}
 use Rattle.tree_model.proofs.IdLemmas.{resource_of_id-id_of}
-use Rattle.tree_model.proofs.GrowthLemmas.{IsNext, growth, line-append, next_fits, root_parent, stands, zero_lacks}
+use Rattle.tree_model.proofs.GrowthLemmas.{IsNext, growth, line-append, next_fits, root_parts, stands, zero_lacks}
 use Rattle.tree_model.proofs.TreeLemmas.{at-append, has-append, has_at, has_from_at}
-use Rattle.tree_model.proofs.QuietLemmas.{found_passes}
+use Rattle.tree_model.proofs.QuietLemmas.{number_passes}
 use Rattle.m2m_names.specs.Urls.{point_limit}
 use Rattle.addressing.specs.Addresses.{are_names, joined}
 use Rattle.addressing.specs.Laws.{have_free_names, named_here, spot_named}
-use Rattle.addressing.specs.Names.{base_named, fan_point, first_named, id_named, is_at, is_fan, is_poll, names_to, next_named, poll_point, spot_from, spot_of, structured_of}
+use Rattle.addressing.specs.Names.{base_named, fan_point, first_named, id_named, is_fan, is_poll, names_to, next_named, poll_point, spot_from, spot_of, structured_of}
 use Rattle.addressing.specs.declared.spot.Spot.{Spot}
 use Rattle.addressing.specs.declared.spot.Spot.TheVariants.{Resource}
 use Rattle.addressing.proofs.BackLemmas.{joined_back}
+use Rattle.m2m_names.proofs.NameLemmas.{free_name_parts, name_parts}
 
 -- ---- a resource id is a name
 
@@ -72,8 +73,8 @@ id_is_name ty n small =
 
 id_length : (ty : Ty) (n : ℕ) → n < 2 ^ 63 → length (id_text ty n) ≤ point_limit
 id_length ty n small =
-    let filled = (and_parts (is_filled 64 (id_text ty n)) _ (id_is_name ty n small)).0 in
-    omega (arith, leb-true (length (id_text ty n)) 64 (and_parts _ (leb (length (id_text ty n)) 64) filled).1)
+    let filled = (name_parts (id_text ty n) (id_is_name ty n small)).filled in
+    omega (arith, filled.most)
 
 id_is_no_mark : (ty : Ty) (n : ℕ) → n < 2 ^ 63 → bytes_eq (id_text ty n) (codes "-") ≡ false
 id_is_no_mark ty n small = false_from_ne_true _ (λ is.
@@ -104,12 +105,12 @@ pub record Addresses_nothing_else (name : List ℕ) : Type 0 where
 
 free_name : (name : List ℕ) → is_free_name name ≡ true → Addresses_nothing_else name
 free_name name free =
-    let none = or_parts (is_one_of virtual_names name) (is_one_of address_marks name) (not-true _ (and_parts (is_name name) _ free).1) in
-    let la = or_parts (bytes_eq name (codes "la")) _ none.0 in
+    let parts = free_name_parts name free in
+    let la = or_parts (bytes_eq name (codes "la")) _ parts.no_virtual in
     let ol = or_parts (bytes_eq name (codes "ol")) _ la.1 in
     let fopt = or_parts (bytes_eq name (codes "fopt")) _ ol.1 in
     let pcu = or_parts (bytes_eq name (codes "pcu")) _ fopt.1 in
-    let dash = or_parts (bytes_eq name (codes "-")) _ none.1 in
+    let dash = or_parts (bytes_eq name (codes "-")) _ parts.no_mark in
     record { la = la.0; ol = ol.0; fopt = fopt.0; pcu = pcu.0; dash = dash.0 }
 
 -- ---- a resource is the child of its name, and of a parent that is there
@@ -138,7 +139,7 @@ child_new before s next =
 placed_new : (before : List ResourceData) (s : ResourceData) → IsNext before s → (s.parent ≡ 0) ⊎ (has s.parent (before ++ s ∷ []) ≡ true)
 placed_new before s next = elim (or_cases (has s.parent before) _ next.parent) [
   | inl there ↦ inr (has-append s.parent before (s ∷ []) ∙ or_left _ _ there)
-  | inr root ↦ inl (root_parent before s root).0
+  | inr root ↦ inl (root_parts before s root).parent
 ]
 
 placed_old : (before : List ResourceData) (s r : ResourceData) → (r.parent ≡ 0) ⊎ (has r.parent before ≡ true) → (r.parent ≡ 0) ⊎ (has r.parent (before ++ s ∷ []) ≡ true)
@@ -234,7 +235,7 @@ leads_at_base nodes tree r found free child root =
       first = r.name;
       rest = [];
       are = names_to-stands nodes tree r.number r found ∙ ap (λ line. reverse (map (λ (s : ResourceData). s.name) line) ++ r.name ∷ []) none;
-      names_all = and_from _ _ (and_parts (is_name r.name) _ free).0 refl;
+      names_all = and_from _ _ (free_name_parts r.name free).name refl;
       spot = ap (option_and_then (λ n. spot_from 1 n [] nodes)) first;
     }
 
@@ -243,14 +244,14 @@ leads_below nodes tree r found free child up = record {
   first = up.first;
   rest = up.rest ++ r.name ∷ [];
   are = names_to-stands nodes tree r.number r found ∙ ap (λ names. names ++ r.name ∷ []) up.are;
-  names_all = list_all-append is_name (up.first ∷ up.rest) (r.name ∷ []) ∙ and_from _ _ up.names_all (and_from _ _ (and_parts (is_name r.name) _ free).0 refl);
+  names_all = list_all-append is_name (up.first ∷ up.rest) (r.name ∷ []) ∙ and_from _ _ up.names_all (and_from _ _ (free_name_parts r.name free).name refl);
   spot = spot_of-append up.first up.rest (r.name ∷ []) r.parent nodes up.spot ∙ step_down (1 + length up.rest) r.parent r.number r.name nodes (free_name r.name free) child;
 }
 
 leads : (nodes : List ResourceData) → is_tree nodes ≡ true → have_free_names nodes ≡ true → (k : ℕ) (r : ResourceData) → r.number < k → at r.number nodes ≡ Some r → Leads nodes r.number (names_to r.number nodes)
 leads nodes tree free zero r below found = absurd (omega (arith, below))
 leads nodes tree free (suc k) r below found =
-    let own : is_free_name r.name ≡ true = found_passes (λ (s : ResourceData). is_free_name s.name) r.number nodes r free found in
+    let own : is_free_name r.name ≡ true = number_passes (λ (s : ResourceData). is_free_name s.name) r.number nodes r free found in
     let stood = child_of_its_name nodes tree r.number r found in
     elim stood.placed [
       | inl root ↦ leads_at_base nodes tree r found own stood.child root

@@ -1,14 +1,15 @@
 -- Texts between slashes.
-use Rattle.std.specs.Prelude.{bytes_eq, drop, nat_lt, take}
-use Rattle.std.proofs.Common.{◌≡◌, ℕ, zero, suc, ◌+◌, ◌<◌, ◌≤◌, ◌==◌, Bool, true, false, cond, not, List, [], ◌∷◌, ◌++◌, length, Option, Some, None, inl, inr, refl, sym, ap, ◌∙◌, arith, map, Bor}
-use Rattle.std.specs.List.{All, after_first, before_first, join_with_byte, list_all, position_or_len, slice_split, onto_first}
-use Rattle.std.proofs.lemmas.Bool.{and_parts, cases_Bool, ltb-true, ltb-false, ne_eqb, eqb-true, both_ways}
+use Rattle.std.specs.Prelude.{drop, nat_lt}
+use Rattle.std.proofs.Common.{◌≡◌, ℕ, zero, suc, ◌+◌, ◌<◌, ◌≤◌, true, false, List, [], ◌∷◌, ◌++◌, length, Option, Some, None, inl, inr, refl, sym, ap, ◌∙◌, arith, map, Bor}
+use Rattle.std.specs.List.{All, position_or_len, slice_split, onto_first}
+use Rattle.std.proofs.lemmas.Bool.{and_parts, cases_Bool, ltb-true, ltb-false, ne_eqb, both_ways}
 use Rattle.std.proofs.lemmas.List.{append-nil, append_assoc}
 use Rattle.std.proofs.lemmas.List.Elements.{All-weaker}
 use Rattle.std.proofs.lemmas.List.Splits.{join_with_byte-slice_split, slice_split-cons_no, slice_split_at, slice_split_first, slice_split_none}
 use Rattle.std.proofs.lemmas.List.Sums.{AllPass-from_list_all}
-use Rattle.m2m_names.specs.Name.{is_name, is_unreserved, is_filled}
-use Rattle.addressing.specs.Addresses.{are_names, cut_at, is_slash, joined, parts_left, between_slashes, slash_at}
+use Rattle.m2m_names.specs.Name.{is_name, is_unreserved}
+use Rattle.addressing.specs.Addresses.{are_names, cut_at, is_slash, joined, between_slashes, slash_at}
+use Rattle.m2m_names.proofs.NameLemmas.{name_parts}
 
 -- ---- taken apart
 
@@ -74,15 +75,25 @@ no_slash b is = ne_eqb b 47 (λ e. both_ways (is_unreserved 47) refl (ap is_unre
 pub name_has_no_slash : (name : List ℕ) → is_name name ≡ true → All (λ b. is_slash b ≡ false) name
 name_has_no_slash name is =
     All-weaker (λ b. is_unreserved b ≡ true) (λ b. is_slash b ≡ false) no_slash name
-    (AllPass-from_list_all is_unreserved name (and_parts (is_filled 64 name) (list_all is_unreserved name) is).1)
+    (AllPass-from_list_all is_unreserved name (name_parts name is).unreserved)
+
+-- a name and more of them
+pub record AreNames (name : List ℕ) (more : List (List ℕ)) : Type 0 where
+  pub first : is_name name ≡ true
+  pub rest : are_names more ≡ true
+
+pub names_parts : (name : List ℕ) (more : List (List ℕ)) → are_names (name ∷ more) ≡ true → AreNames name more
+names_parts name more are =
+    let parts = and_parts (is_name name) (are_names more) are in
+    record { first = parts.0; rest = parts.1 }
 
 -- names with slashes between them are read as themselves
 pub between_slashes-joined : (name : List ℕ) (names : List (List ℕ)) → are_names (name ∷ names) ≡ true → between_slashes (joined (name ∷ names)) ≡ name ∷ names
-between_slashes-joined name [] is = slice_split_none is_slash name (name_has_no_slash name (and_parts (is_name name) _ is).0)
+between_slashes-joined name [] is = slice_split_none is_slash name (name_has_no_slash name (names_parts name [] is).first)
 between_slashes-joined name (next ∷ names) is =
-    let parts = and_parts (is_name name) (are_names (next ∷ names)) is in
-    slice_split_at is_slash name 47 (joined (next ∷ names)) (name_has_no_slash name parts.0) refl
-    ∙ ap (λ rest. name ∷ rest) (between_slashes-joined next names parts.1)
+    let parts = names_parts name (next ∷ names) is in
+    slice_split_at is_slash name 47 (joined (next ∷ names)) (name_has_no_slash name parts.first) refl
+    ∙ ap (λ rest. name ∷ rest) (between_slashes-joined next names parts.rest)
 
 -- one name more stands behind a slash
 joined_last : (x : List ℕ) (xs : List (List ℕ)) (y : List ℕ) → joined ((x ∷ xs) ++ y ∷ []) ≡ joined (x ∷ xs) ++ 47 ∷ y

@@ -1,16 +1,16 @@
 -- The steps by which a text is read.
-use Rattle.std.proofs.Common.{◌≡◌, ℕ, Bool, true, false, ◌&&◌, List, [], ◌∷◌, ◌++◌, Option, Some, None, Result, Ok, Err, inl, inr, refl, sym, ap, subst, ◌∙◌, append_assoc, append-nil}
-use Rattle.std.specs.List.{list_all}
+use Rattle.std.proofs.Common.{◌≡◌, ℕ, true, false, List, [], ◌∷◌, ◌++◌, Option, Some, None, Result, Err, inl, inr, refl, sym, ap, subst, ◌∙◌, append_assoc, append-nil}
 use Rattle.std.specs.Option.{option_and_then}
-use Rattle.std.proofs.lemmas.Bool.{and_from, cases_Bool, false_from_ne_true, and_parts, both_ways}
+use Rattle.std.proofs.lemmas.Bool.{and_from, cases_Bool, false_from_ne_true, both_ways}
 use Rattle.std.proofs.lemmas.List.Folds.{list_all-append}
 use Rattle.m2m_names.specs.Name.{is_name}
 use Rattle.resource_model.specs.Home.{HomeData}
 use Rattle.addressing.specs.declared.addr.Addr.{Addr}
 use Rattle.addressing.specs.declared.addr.AddrFault.{AddrFault}
 use Rattle.addressing.specs.declared.addr.AddrFault.TheVariants.{Shape}
-use Rattle.addressing.specs.Addresses.{GivesAddress, MayTakeMemory, are_names, by_cse, by_names, by_provider, cut_at, of_provider, parts_left, between_slashes, under, unless_shapeless}
-use Rattle.addressing.proofs.PartLemmas.{parts_by, parts_by_cut}
+use Rattle.addressing.specs.Addresses.{GivesAddress, MayTakeMemory, are_names, by_cse, by_names, by_provider, cut_at, of_provider, between_slashes, under, unless_shapeless}
+use Rattle.addressing.proofs.PartLemmas.{parts_by, parts_by_cut, names_parts}
+use Rattle.m2m_names.proofs.ListLemmas.{append_parts}
 
 -- ---- the first part
 
@@ -57,9 +57,9 @@ parts_push names parts rest all name before is =
 
 pub names_fail : (names parts rest all : List (List ℕ)) (name : List ℕ) → names ++ parts ≡ all → parts ≡ name ∷ rest → is_name name ≡ false → are_names all ≡ false
 names_fail names parts rest all name before is none = false_from_ne_true _ (λ are.
-    let split : (are_names names && are_names (name ∷ rest)) ≡ true = sym (list_all-append is_name names (name ∷ rest)) ∙ ap (λ ps. are_names (names ++ ps)) (sym is) ∙ ap are_names before ∙ are in
-    let later = (and_parts (are_names names) (are_names (name ∷ rest)) split).1 in
-    both_ways (is_name name) none (and_parts (is_name name) (are_names rest) later).0)
+    let whole : are_names (names ++ name ∷ rest) ≡ true = ap (λ ps. are_names (names ++ ps)) (sym is) ∙ ap are_names before ∙ are in
+    let later = (append_parts is_name names (name ∷ rest) whole).back in
+    both_ways (is_name name) none (names_parts name rest later).first)
 
 pub all_read : (names all : List (List ℕ)) → names ++ [] ≡ all → names ≡ all
 all_read names all is = sym (append-nil names) ∙ is

@@ -1,16 +1,17 @@
 -- The short form of an originator is one.
 use Rattle.std.specs.Prelude.{codes, drop, nat_eq, nat_lt, take}
-use Rattle.std.proofs.Common.{◌≡◌, ℕ, ◌≤◌, Bool, true, false, cond, ◌&&◌, List, ◌++◌, length, Option, Some, None, IfSome, Bor, inl, inr, refl, sym, ap, subst, ◌∙◌, arith, leb, ltb}
+use Rattle.std.proofs.Common.{◌≡◌, ℕ, ◌≤◌, true, ◌&&◌, List, length, Option, Some, None, IfSome, Bor, inl, inr, refl, sym, ap, subst, ◌∙◌, arith}
 use Rattle.std.specs.Char.{is_ascii_graphic}
 use Rattle.std.specs.List.{list_all, starts_with}
 use Rattle.std.specs.Option.{option_and_then, option_map, unwrap_or}
-use Rattle.std.proofs.lemmas.Bool.{and_from, and_parts, cases_Bool, le-leb, leb-true}
+use Rattle.std.proofs.lemmas.Bool.{and_from, and_parts, cases_Bool, le-leb}
 use Rattle.std.proofs.lemmas.List.{length-drop, take-append-drop}
-use Rattle.std.proofs.lemmas.List.Folds.{list_all-append}
 use Rattle.std.proofs.lemmas.Option.{same_Some}
-use Rattle.m2m_names.specs.Name.{is_filled, is_originator}
+use Rattle.m2m_names.specs.Name.{is_originator, originator_limit}
 use Rattle.resource_model.specs.Home.{HomeData}
 use Rattle.addressing.specs.Short.{behind, behind_cse, behind_provider, chosen, ends_part, short_of, shortened, without_cse, without_provider}
+use Rattle.m2m_names.proofs.NameLemmas.{printable_parts}
+use Rattle.m2m_names.proofs.ListLemmas.{append_parts}
 
 -- the end of a text: as printable, and no longer
 pub record Ends (s t : List ℕ) : Type 0 where
@@ -25,8 +26,7 @@ further r s t a b = record { graphic = λ h. b.graphic (a.graphic h); size = ome
 
 dropped : (n : ℕ) (s : List ℕ) → Ends s (drop n s)
 dropped n s = record {
-  graphic = λ h. (and_parts (list_all is_ascii_graphic (take n s)) (list_all is_ascii_graphic (drop n s))
-      (sym (list_all-append is_ascii_graphic (take n s) (drop n s)) ∙ ap (list_all is_ascii_graphic) (take-append-drop n s) ∙ h)).1;
+  graphic = λ h. (append_parts is_ascii_graphic (take n s) (drop n s) (ap (list_all is_ascii_graphic) (take-append-drop n s) ∙ h)).back;
   size = omega (arith, length-drop n s);
 }
 
@@ -62,11 +62,11 @@ short_is_originator home text t e = elim (cases_Bool (is_originator text && nat_
   | inr f ↦ (let none : None ≡ Some t = rw f at e in cc)
   | inl h ↦
       let both = and_parts (is_originator text) (nat_lt 0 (length (shortened home text))) h in
-      let parts = and_parts (is_filled 256 text) (list_all is_ascii_graphic text) both.0 in
-      let most : length text ≤ 256 = leb-true (length text) 256 (and_parts (ltb 0 (length text)) (leb (length text) 256) parts.0).1 in
+      let parts = printable_parts originator_limit text both.0 in
+      let most : length text ≤ 256 = parts.filled.most in
       let ends : Ends text (shortened home text) = further text (without_provider home text) (shortened home text) (provider_ends home text) (cse_ends home (without_provider home text)) in
       subst (λ s. is_originator s ≡ true) (same_Some (shortened home text) t (rw h at e))
-      (and_from _ _ (and_from _ _ both.1 (le-leb (length (shortened home text)) 256 (omega (arith, most, ends.size)))) (ends.graphic parts.1))
+      (and_from _ _ (and_from _ _ both.1 (le-leb (length (shortened home text)) 256 (omega (arith, most, ends.size)))) (ends.graphic parts.graphic))
 ]
 
 pub some_is_originator : (home : HomeData) (text : List ℕ) (r : Option (Bor (List ℕ))) → option_map (λ t. t.now) r ≡ short_of home text → IfSome r (λ t. is_originator t.now ≡ true)

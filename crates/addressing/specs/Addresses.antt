@@ -16,6 +16,7 @@ use Rattle.addressing.specs.declared.addr.AddrFault.TheVariants.{TooLong, Shape,
 
 -- ---- texts and their slashes
 
+-- The byte is a slash, which parts the segments of an address (TS-0001, 7.2).
 abbrev pub is_slash : ℕ → Bool
 is_slash byte = byte == 47
 
@@ -29,7 +30,7 @@ cut_at text =
     if nat_lt (position_or_len is_slash text) (length text)
     then Some (before_first is_slash text, after_first is_slash text) else None
 
--- those of a text that is left, where one is
+-- The parts of the text that is left, where one is.
 abbrev pub parts_left : Option (List ℕ) → List (List ℕ)
 parts_left None = []
 parts_left (Some text) = between_slashes text
@@ -69,6 +70,8 @@ of_provider home sp behind =
     if bytes_eq sp home.sp then by_cse home behind else
     if are_names (between_slashes behind) then Some OtherProvider else None
 
+-- The address behind the two slashes of an absolute address: the provider up to the first slash,
+-- and what follows that slash (TS-0001, 7.2).
 abbrev pub by_provider : HomeData → List ℕ → Option Addr
 by_provider home rest =
     option_and_then (λ (cut : List ℕ × List ℕ). of_provider home cut.0 cut.1) (cut_at rest)
@@ -84,6 +87,7 @@ shaped home text =
     if starts_with nat_eq text (codes "//") then by_provider home (drop 2 text) else
     if starts_with nat_eq text (codes "/") then by_cse home (drop 1 text) else by_names text
 
+-- A text that has the form of no address gets the fault of its shape.
 abbrev pub unless_shapeless : Option Addr → Result Addr AddrFault
 unless_shapeless None = Err Shape
 unless_shapeless (Some addr) = Ok addr

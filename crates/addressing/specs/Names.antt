@@ -58,6 +58,8 @@ next_named n name nodes =
 abbrev pub is_fan : ℕ → List ℕ → List ResourceData → Bool
 is_fan n name nodes = bytes_eq name fan_name && is_at Group n nodes
 
+-- The name is `pcu`, and the resource a polling channel: together they name its poll point
+-- (TS-0001, 9.6.21).
 abbrev pub is_poll : ℕ → List ℕ → List ResourceData → Bool
 is_poll n name nodes = bytes_eq name poll_name && is_at PollingChannel n nodes
 
@@ -88,11 +90,14 @@ spot_of (segment ∷ names) nodes =
 
 -- ---- of an address
 
+-- The address names something on this CSE: it is CSE-relative, or begins with the own CSE-ID or
+-- with the own provider and CSE-ID (TS-0001, 7.2).
 abbrev pub IsLocal : Addr → Type 0
 IsLocal (Local segments) = Unit {0}
 IsLocal (Foreign text) = ⊥
 IsLocal OtherProvider = ⊥
 
+-- The segments of an address on this CSE; an address elsewhere has none here (TS-0001, 7.2).
 abbrev pub segments_of : Addr → List (List ℕ)
 segments_of (Local segments) = segments
 segments_of (Foreign text) = []
@@ -104,5 +109,6 @@ segments_of OtherProvider = []
 abbrev pub names_to : ℕ → List ResourceData → List (List ℕ)
 names_to n nodes = reverse (map (λ (r : ResourceData). r.name) (line_of n nodes))
 
+-- The structured address of a resource, as a text (TS-0001, 9.3.1).
 abbrev pub structured_of : ℕ → List ResourceData → List ℕ
 structured_of n nodes = joined (names_to n nodes)

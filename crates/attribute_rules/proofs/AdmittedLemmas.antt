@@ -2,7 +2,7 @@
 use Rattle.std.proofs.Common.{◌≡◌, List, [], ◌∷◌, Bool, true, false, ◌&&◌, ◌||◌, Option, Some, None, is_some, IfSome, Result, Ok, Err, IfOk, option_and_then, unwrap_or, if◌then◌else◌, bytes_eq, inl, inr, refl, sym, ap, ◌∙◌, subst}
 use Rattle.std.proofs.lemmas.Bool.{and_from, and_parts, both_ways, cases_Bool, false_from_ne_true, not-true, or_cases, or_from, or_parts}
 use Rattle.std.proofs.lemmas.Option.{same_Some}
-use Rattle.std.specs.List.{cons_option, filter_map, list_all, list_any}
+use Rattle.std.specs.List.{filter_map, list_all, list_any}
 use Rattle.std.specs.Option.{option_map_or}
 use Rattle.m2m_names.specs.Attributes.{attr_short, attr_of_short}
 use Rattle.m2m_names.specs.Name.{is_free_name}
@@ -16,8 +16,8 @@ use Rattle.resource_model.proofs.AttributeLemmas.{is_attr-same}
 use Rattle.resource_model.specs.Attributes.{Row, is_attr, value_of}
 use Rattle.attribute_kinds.specs.Kinds.{has_kind}
 use Rattle.attribute_kinds.specs.declared.kinds.Kind.TheVariants.{Name, Originator, Policies, Stamp}
-use Rattle.attribute_rules.specs.Admission.{is_null, is_given, is_clearable, is_fit, is_complete, are_admitted, is_admitted, attributes_in, is_named, named_members}
-use Rattle.attribute_rules.specs.Contents.{is_no_policy, does_clear, set_row, cleared_attr, named_text, wanted_in, wanted_of, edit_in, edit_of, set_all, edited}
+use Rattle.attribute_rules.specs.Admission.{is_null, is_given, is_clearable, is_fit, are_admitted, is_admitted, attributes_in, is_named, named_members}
+use Rattle.attribute_rules.specs.Contents.{is_no_policy, does_clear, set_row, cleared_attr, named_text, wanted_in, edit_in, edit_of, set_all, edited}
 use Rattle.attribute_rules.specs.Kinds.{kind_of}
 use Rattle.attribute_rules.specs.Laws.{may_clear, may_name, may_set}
 use Rattle.attribute_rules.specs.Table.{rule, rule_of, is_permitted}
@@ -28,8 +28,8 @@ use Rattle.attribute_rules.specs.declared.table.Rule.{Rule}
 use Rattle.attribute_rules.specs.declared.table.Source.TheVariants.{Apart}
 use Rattle.attribute_rules.specs.declared.table.Writing.{Writing}
 use Rattle.attribute_rules.specs.declared.table.Writing.TheVariants.{Create, Update}
-use Rattle.attribute_rules.proofs.ContentsLemmas.{seen, no_some, set_choice}
-use Rattle.attribute_rules.proofs.KindLemmas.{Fitting, fit_rule, given_something, rule_emptied}
+use Rattle.attribute_rules.proofs.ContentsLemmas.{seen, no_some, set_choice, all_filter_map}
+use Rattle.attribute_rules.proofs.KindLemmas.{Fitting, fit_rule, given_something, rule_emptied, admitted_parts}
 use Rattle.attribute_rules.proofs.ValueLemmas.{here, cleared_at, row_set, kept_beside, value_cleared}
 
 -- ---- what is set
@@ -44,16 +44,10 @@ set_may ty e row fit h =
     ∙ and_from _ _ at.permitted (given_something e.1 (rule_of ty row.0) at something)
 
 sets_may : (ty : Ty) (es : List Entry) → list_all (is_fit Update ty) es ≡ true → list_all (may_set ty) (filter_map set_row es) ≡ true
-sets_may ty [] fit = refl
-sets_may ty (e ∷ es) fit =
-    let parts = and_parts (is_fit Update ty e) (list_all (is_fit Update ty) es) fit in
-    elim (seen (set_row e)) [
-      | inl none ↦ ap (λ o. list_all (may_set ty) (cons_option o (filter_map set_row es))) none ∙ sets_may ty es parts.1
-      | inr found ↦ ap (λ o. list_all (may_set ty) (cons_option o (filter_map set_row es))) found.1 ∙ and_from _ _ (set_may ty e found.0 parts.0 found.1) (sets_may ty es parts.1)
-    ]
+sets_may ty es fit = all_filter_map (is_fit Update ty) (may_set ty) set_row (λ e row fits read. set_may ty e row fits read) es fit
 
 fit_in : (writing : Writing) (ty : Ty) (es : List Entry) → are_admitted writing ty es ≡ true → list_all (is_fit writing ty) es ≡ true
-fit_in writing ty es h = (and_parts (list_all (is_fit writing ty) es) (is_complete writing ty es) h).0
+fit_in writing ty es h = (admitted_parts writing ty es h).fit
 
 sets_in : (ty : Ty) (o : Option (List Entry)) → option_map_or (are_admitted Update ty) o false ≡ true → list_all (may_set ty) (filter_map set_row (unwrap_or o [])) ≡ true
 sets_in ty None h = refl
@@ -155,13 +149,7 @@ clear_may ty e a fit h =
     ∙ cleared_rule e.1 ty a at cleared.1
 
 clears_may : (ty : Ty) (es : List Entry) → list_all (is_fit Update ty) es ≡ true → list_all (may_clear ty) (filter_map cleared_attr es) ≡ true
-clears_may ty [] fit = refl
-clears_may ty (e ∷ es) fit =
-    let parts = and_parts (is_fit Update ty e) (list_all (is_fit Update ty) es) fit in
-    elim (seen (cleared_attr e)) [
-      | inl none ↦ ap (λ o. list_all (may_clear ty) (cons_option o (filter_map cleared_attr es))) none ∙ clears_may ty es parts.1
-      | inr found ↦ ap (λ o. list_all (may_clear ty) (cons_option o (filter_map cleared_attr es))) found.1 ∙ and_from _ _ (clear_may ty e found.0 parts.0 found.1) (clears_may ty es parts.1)
-    ]
+clears_may ty es fit = all_filter_map (is_fit Update ty) (may_clear ty) cleared_attr (λ e a fits read. clear_may ty e a fits read) es fit
 
 clears_in : (ty : Ty) (o : Option (List Entry)) → option_map_or (are_admitted Update ty) o false ≡ true → list_all (may_clear ty) (filter_map cleared_attr (unwrap_or o [])) ≡ true
 clears_in ty None h = refl

@@ -1,15 +1,15 @@
 -- The rows that members in order give, and what stands at a key of theirs.
 use Rattle.std.proofs.Common.{◌≡◌, ℕ, List, [], ◌∷◌, Bool, true, false, ◌||◌, bytes_eq, Option, Some, None, option_and_then, if◌then◌else◌, ◌++◌, append-nil, append_assoc, Less, Equal, nat_cmp, ◌⊎◌, inl, inr, refl, sym, ap, ◌∙◌, subst}
-use Rattle.std.proofs.lemmas.Bool.{both_ways, cases_Bool, false_from_ne_true}
+use Rattle.std.proofs.lemmas.Bool.{both_ways, cases_Bool, false_from_ne_true, and_parts, and_from}
 use Rattle.std.proofs.lemmas.Cmp.{nat_list_cmp_total, tied_itself}
 use Rattle.std.proofs.lemmas.Option.{same_Some}
 use Rattle.std.proofs.lemmas.Slice.Eq.{bytes_eq-Decides}
 use Rattle.std.specs.Cmp.Lexicographic.{slice_cmp}
-use Rattle.std.specs.List.{AllByRecursion, cons_option, filter_map}
+use Rattle.std.specs.List.{AllByRecursion, cons_option, filter_map, list_all}
 use Rattle.std.specs.List.Sorted.{IsStrictlySortedBy}
 use Rattle.std.specs.Map.{keys_of}
 use Rattle.std.specs.Option.{option_or, option_to_list}
-use Rattle.m2m_names.proofs.LookupLemmas.{found_at}
+use Rattle.m2m_names.proofs.LookupLemmas.{found_at, option_or-None}
 use Rattle.m2m_names.specs.Attributes.{attr_short, attr_of_short, all_attrs}
 use Rattle.m2m_names.specs.declared.attributes.Attr.{Attr}
 use Rattle.m2m_names.specs.declared.attributes.Attr.TheVariants.{Rn}
@@ -26,6 +26,16 @@ seen (Some x) = inr (x, refl)
 
 pub no_some : {X : Type 0} (x : X) → None ≡ Some x → ⊥
 no_some x e = cc
+
+-- what each passes, and what is read of it then, all pass that are read
+pub all_filter_map : {X Y : Type 0} (p : X → Bool) (q : Y → Bool) (read : X → Option Y) → ((x : X) (y : Y) → p x ≡ true → read x ≡ Some y → q y ≡ true) → (xs : List X) → list_all p xs ≡ true → list_all q (filter_map read xs) ≡ true
+all_filter_map p q read gives [] all = refl
+all_filter_map p q read gives (x ∷ xs) all =
+    let parts = and_parts (p x) (list_all p xs) all in
+    elim (seen (read x)) [
+      | inl none ↦ ap (λ o. list_all q (cons_option o (filter_map read xs))) none ∙ all_filter_map p q read gives xs parts.1
+      | inr found ↦ ap (λ o. list_all q (cons_option o (filter_map read xs))) found.1 ∙ and_from _ _ (gives x found.0 parts.0 found.1) (all_filter_map p q read gives xs parts.1)
+    ]
 
 -- ---- the attribute of a key
 
@@ -116,10 +126,6 @@ absent_after e es sorted = absent_above e.0 es sorted.0
 pub same_text : (x y : List ℕ) → bytes_eq x y ≡ true → x ≡ y
 same_text x y = (bytes_eq-Decides x y).0
 
-pub or_None : {X : Type 0} (o : Option X) → option_or o None ≡ o
-or_None None = refl
-or_None (Some x) = refl
-
 -- the name so far, one more member, and the rest
 pub name_step : (name : Option (List ℕ)) (e : Entry) (es : List Entry) → AreSorted (e ∷ es) → option_or (name_after name e) (named_text Rn es) ≡ option_or name (named_text Rn (e ∷ es))
 name_step name e es sorted = elim (cases_Bool (bytes_eq e.0 (attr_short Rn))) [
@@ -129,7 +135,7 @@ name_step name e es sorted = elim (cases_Bool (bytes_eq e.0 (attr_short Rn))) [
       let gone : named_text Rn es ≡ None = ap (option_and_then as_text) (ap (λ k. member_of k es) (sym same) ∙ absent_after e es sorted) in
       ap (λ b. option_or (if b then option_or name (as_text e.1) else name) (named_text Rn es)) t
       ∙ ap (option_or (option_or name (as_text e.1))) gone
-      ∙ or_None (option_or name (as_text e.1))
+      ∙ option_or-None (option_or name (as_text e.1))
       ∙ ap (λ b. option_or name (option_and_then as_text (if b then Some e.1 else member_of (attr_short Rn) es))) (sym here)
   | inr f ↦
       let not_here : bytes_eq (attr_short Rn) e.0 ≡ false = false_from_ne_true _ (λ t. both_ways _ f ((bytes_eq-Decides e.0 (attr_short Rn)).1 (sym (same_text (attr_short Rn) e.0 t)))) in

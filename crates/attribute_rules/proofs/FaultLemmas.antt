@@ -16,6 +16,7 @@ use Rattle.attribute_rules.specs.declared.table.Writing.TheVariants.{Create, Upd
 use Rattle.attribute_rules.specs.declared.faults.AttrFault.{AttrFault}
 use Rattle.attribute_rules.specs.declared.faults.AttrFault.TheVariants.{Shape, Unknown, NotAllowed, Kind as WrongKind, Missing, AcpiNotAlone, OutOfMemory}
 use Rattle.attribute_rules.proofs.ContentsLemmas.{seen}
+use Rattle.m2m_names.proofs.LookupLemmas.{option_or-None}
 
 -- ---- what a member may have for a fault
 
@@ -47,10 +48,6 @@ pub of_key : (writing : Writing) (ty : Ty) (e : Entry) → is_of_key (key_fault 
 of_key writing ty e = of_key_at writing e (rule_at ty e.0)
 
 -- ---- one more fault
-
-pub option_or-None : {X : Type 0} (o : Option X) → option_or o None ≡ o
-option_or-None None = refl
-option_or-None (Some x) = refl
 
 or_first : {X : Type 0} (o : Option X) (x : X) (rest : Option X) → option_or (option_or o (Some x)) rest ≡ option_or o (Some x)
 or_first None x rest = refl

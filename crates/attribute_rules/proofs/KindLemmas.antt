@@ -3,7 +3,7 @@ use Rattle.std.proofs.Common.{◌≡◌, List, [], ◌∷◌, Bool, true, false,
 use Rattle.std.proofs.lemmas.Bool.{cases_Bool, and_parts, and_from, or_cases, or_left, or_parts, or_right, not-true, not_from_false, both_ways}
 use Rattle.std.proofs.lemmas.List.Folds.{list_all-append}
 use Rattle.std.proofs.lemmas.Option.{same_Some}
-use Rattle.std.specs.List.{cons_option, filter, filter_map, find, list_all}
+use Rattle.std.specs.List.{cons_option, filter_map, find, list_all}
 use Rattle.std.specs.Option.{option_or, option_map_or}
 use Rattle.std.specs.Ordering.{is_lt}
 use Rattle.m2m_names.specs.Attributes.{attr_of_short}
@@ -24,7 +24,9 @@ use Rattle.attribute_rules.specs.declared.table.Source.{Source}
 use Rattle.attribute_rules.specs.declared.table.Source.TheVariants.{Given, Apart, Creator, Assigned, Derived}
 use Rattle.attribute_rules.specs.declared.table.Writing.{Writing}
 use Rattle.attribute_rules.specs.declared.table.Writing.TheVariants.{Create, Update}
-use Rattle.attribute_rules.proofs.ContentsLemmas.{seen, no_some, kept_choice, set_choice}
+use Rattle.attribute_rules.proofs.ContentsLemmas.{seen, no_some, kept_choice, set_choice, all_filter_map}
+use Rattle.m2m_names.proofs.ListLemmas.{all_filtered}
+use Rattle.m2m_names.proofs.LookupLemmas.{found_is, found_passes}
 
 -- ---- a fact of the table
 
@@ -52,15 +54,7 @@ rows_fair : list_all is_fair_row attr_rows ≡ true
 rows_fair = refl
 
 found_row : (p q : AttrRow → Bool) (rows : List AttrRow) (row : AttrRow) → list_all q rows ≡ true → find p rows ≡ Some row → (p row ≡ true) × (q row ≡ true)
-found_row p q [] row all found = absurd (no_some row found)
-found_row p q (r ∷ rows) row all found =
-    let parts = and_parts (q r) (list_all q rows) all in
-    elim (cases_Bool (p r)) [
-      | inl t ↦
-          let same : r ≡ row = same_Some r row (rw t at found) in
-          (ap p (sym same) ∙ t, ap q (sym same) ∙ parts.0)
-      | inr f ↦ found_row p q rows row parts.1 (rw f at found)
-    ]
+found_row p q rows row all found = (found_is p rows row found, found_passes p q rows row found all)
 
 abbrev IsFairRule : Attr → Rule → Type 0
 IsFairRule a r = (is_fair a r ≡ true) × (is_fair_original r ≡ true)
@@ -210,18 +204,22 @@ updated_kind ty e row fit h other =
 
 -- ---- the attributes of a resource
 
+-- members that are admitted: each is fit, and what has to be named is there
+pub record AreAdmitted (writing : Writing) (ty : Ty) (es : List Entry) : Type 0 where
+  pub fit : list_all (is_fit writing ty) es ≡ true
+  pub complete : is_complete writing ty es ≡ true
+
+pub admitted_parts : (writing : Writing) (ty : Ty) (es : List Entry) → are_admitted writing ty es ≡ true → AreAdmitted writing ty es
+admitted_parts writing ty es h =
+    let parts = and_parts (list_all (is_fit writing ty) es) (is_complete writing ty es) h in
+    record { fit = parts.0; complete = parts.1 }
+
 created_all : (ty : Ty) (es : List Entry) → list_all (is_fit Create ty) es ≡ true → have_kinds ty (filter_map kept_row es) ≡ true
-created_all ty [] fit = refl
-created_all ty (e ∷ es) fit =
-    let parts = and_parts (is_fit Create ty e) (list_all (is_fit Create ty) es) fit in
-    elim (seen (kept_row e)) [
-      | inl none ↦ ap (λ o. have_kinds ty (cons_option o (filter_map kept_row es))) none ∙ created_all ty es parts.1
-      | inr found ↦ ap (λ o. have_kinds ty (cons_option o (filter_map kept_row es))) found.1 ∙ and_from _ _ (created_kind ty e found.0 parts.0 found.1) (created_all ty es parts.1)
-    ]
+created_all ty es fit = all_filter_map (is_fit Create ty) (is_attr_kind ty) kept_row (λ e row fits read. created_kind ty e row fits read) es fit
 
 -- what the members of an admitted creation give a resource
 pub created_members : (ty : Ty) (es : List Entry) → are_admitted Create ty es ≡ true → have_kinds ty (wanted_in es).attrs ≡ true
-created_members ty es h = created_all ty es (and_parts (list_all (is_fit Create ty) es) (is_complete Create ty es) h).0
+created_members ty es h = created_all ty es (admitted_parts Create ty es h).fit
 
 created_in : (ty : Ty) (o : Option (List Entry)) → option_map_or (are_admitted Create ty) o false ≡ true → have_kinds ty (filter_map kept_row (unwrap_or o [])) ≡ true
 created_in ty None h = refl
@@ -230,15 +228,6 @@ created_in ty (Some es) h = created_members ty es h
 -- what an admitted creation gives a resource is of the kinds that its type keeps
 pub created_kinds : (ty : Ty) (content : Data) → is_admitted Create ty content ≡ true → have_kinds ty (wanted_of ty content).attrs ≡ true
 created_kinds ty content h = created_in ty (attributes_in ty content) h
-
-all_filtered : {X : Type 0} (p q : X → Bool) (xs : List X) → list_all p xs ≡ true → list_all p (filter q xs) ≡ true
-all_filtered p q [] all = refl
-all_filtered p q (x ∷ xs) all =
-    let parts = and_parts (p x) (list_all p xs) all in
-    elim (cases_Bool (q x)) [
-      | inl t ↦ rw t (and_from _ _ parts.0 (all_filtered p q xs parts.1))
-      | inr f ↦ rw f (all_filtered p q xs parts.1)
-    ]
 
 -- one attribute that gets a value of its kind, and one that is cleared
 pub kinds-with_value : (ty : Ty) (row : Row) (rows : List Row) → is_attr_kind ty row ≡ true → have_kinds ty rows ≡ true → have_kinds ty (with_value row.0 row.1 rows) ≡ true
@@ -278,7 +267,7 @@ updated_all ty (e ∷ es) rows fit all =
 pub updated_members : (ty : Ty) (es : List Entry) (rows : List Row) → are_admitted Update ty es ≡ true → have_kinds ty rows ≡ true → have_kinds ty (edited (edit_in es) rows) ≡ true
 updated_members ty es rows h all =
     cleared_all ty (filter_map cleared_attr es) (set_all (filter_map set_row es) rows)
-    (updated_all ty es rows (and_parts (list_all (is_fit Update ty) es) (is_complete Update ty es) h).0 all)
+    (updated_all ty es rows (admitted_parts Update ty es h).fit all)
 
 updated_in : (ty : Ty) (o : Option (List Entry)) (rows : List Row) → option_map_or (are_admitted Update ty) o false ≡ true → have_kinds ty rows ≡ true → have_kinds ty (clear_all (filter_map cleared_attr (unwrap_or o [])) (set_all (filter_map set_row (unwrap_or o [])) rows)) ≡ true
 updated_in ty None rows h all = all

@@ -41,7 +41,7 @@ abbrev pub attributes_in : Ty → Data → Option (List Entry)
 attributes_in ty content =
     option_and_then as_object (option_and_then (only_value (ty_member ty)) (as_object content))
 
--- the same, and none where it is no content for the type
+-- The attributes that a content names, with their values; none where it is no content for the type.
 abbrev pub named_members : Ty → Data → List Entry
 named_members ty content = unwrap_or (attributes_in ty content) []
 
@@ -51,6 +51,8 @@ is_named attr es = is_some (member_of (attr_short attr) es)
 
 -- ---- one attribute
 
+-- The value is null, by which an Update takes an attribute away and a Create asks for `cr`
+-- (TS-0004, 7.4).
 abbrev pub is_null : Data → Bool
 is_null d = not (is_content d)
 
@@ -101,6 +103,8 @@ abbrev pub is_complete : Writing → Ty → List Entry → Bool
 is_complete Create ty es = list_all (λ attr. is_named attr es) (mandatory_attrs ty)
 is_complete Update ty es = not (is_named Acpi es) || is_alone es
 
+-- A content with these members is admitted: each is fit for the request, and what the request has
+-- to name is there (TS-0004, 7.4).
 abbrev pub are_admitted : Writing → Ty → List Entry → Bool
 are_admitted writing ty es = list_all (is_fit writing ty) es && is_complete writing ty es
 
@@ -136,8 +140,8 @@ abbrev pub is_wrong_kind : AttrFault → Bool
 is_wrong_kind (WrongKind attr) = true
 is_wrong_kind _ = false
 
--- of several, the first whose key is unknown, else the first that may not stand there, else the
--- first with a wrong value
+-- Of several faults of keys the first whose key is unknown, else the first that may not stand
+-- there, else the first with a wrong value.
 abbrev pub leading_fault : List AttrFault → Option AttrFault
 leading_fault faults =
     option_or (find is_unknown faults)

@@ -61,6 +61,7 @@ wanted_in es = record {
   creator = is_named Cr es;
 }
 
+-- What a content wants of a creation (TS-0001, 10.2.2).
 abbrev pub wanted_of : Ty → Data → Wanted
 wanted_of ty content = wanted_in (named_members ty content)
 
@@ -68,11 +69,13 @@ wanted_of ty content = wanted_in (named_members ty content)
 abbrev pub does_clear : Attr → Data → Bool
 does_clear attr d = is_null d || is_no_policy attr d
 
+-- The attribute that an update sets by this member, with its new value.
 abbrev pub set_row : Entry → Option Row
 set_row e =
     option_and_then (λ attr. if does_clear attr e.1 then None else Some (attr, e.1))
     (attr_of_short e.0)
 
+-- The attribute that an update takes away by this member.
 abbrev pub cleared_attr : Entry → Option Attr
 cleared_attr e =
     option_and_then (λ attr. if does_clear attr e.1 then Some attr else None)
@@ -82,6 +85,7 @@ cleared_attr e =
 abbrev pub edit_in : List Entry → Edit
 edit_in es = record { sets = filter_map set_row es; clears = filter_map cleared_attr es }
 
+-- What a content changes by an update (TS-0001, 10.2.4).
 abbrev pub edit_of : Ty → Data → Edit
 edit_of ty content = edit_in (named_members ty content)
 
@@ -90,10 +94,12 @@ abbrev pub set_all : List Row → List Row → List Row
 set_all [] rows = rows
 set_all (s ∷ sets) rows = set_all sets (if is_attr s.0 Et then rows else with_value s.0 s.1 rows)
 
+-- The rows without these attributes.
 abbrev pub clear_all : List Attr → List Row → List Row
 clear_all [] rows = rows
 clear_all (attr ∷ attrs) rows = clear_all attrs (without_value attr rows)
 
+-- The rows after an update: what it sets is set, and what it takes away is gone (TS-0004, 7.4).
 abbrev pub edited : Edit → List Row → List Row
 edited edit rows = clear_all edit.clears (set_all edit.sets rows)
 

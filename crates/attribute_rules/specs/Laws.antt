@@ -75,17 +75,17 @@ has_original row =
 
 -- ---- what an update may do to a resource of a type
 
--- it may name the attribute
+-- The request may name the attribute.
 abbrev pub may_name : Ty → Attr → Bool
 may_name ty attr =
     option_map_or (λ (rule : Rule). is_permitted rule.update) (rule_of ty attr) false
 
--- it may give the attribute this value, which is of its kind, also where it is `et`
+-- The request may give the attribute this value, which is of its kind, also where it is `et`.
 abbrev pub may_set : Ty → Row → Bool
 may_set ty row =
     option_map_or (λ (rule : Rule). is_permitted rule.update && is_given rule.source row.1)
     (rule_of ty row.0) false
 
--- it may clear the attribute
+-- The request may clear the attribute.
 abbrev pub may_clear : Ty → Attr → Bool
 may_clear ty attr = option_map_or (is_clearable Update) (rule_of ty attr) false

@@ -80,6 +80,7 @@ pub record AttrRow : Type 0 where
   pub attr : Attr
   pub rule : Rule
 
+-- A rule of the table by its four columns.
 abbrev pub rule : Source → Optionality → Optionality → Bool → Rule
 rule source create update announced =
     record { source = source; create = create; update = update; announced = announced }
@@ -185,11 +186,13 @@ inherited_rule ty attr =
 abbrev pub rule_of : Ty → Attr → Option Rule
 rule_of ty attr = option_or (table_rule ty attr) (inherited_rule ty attr)
 
+-- The request has to name the attribute.
 abbrev pub is_mandatory : Optionality → Bool
 is_mandatory Mandatory = true
 is_mandatory Optional = false
 is_mandatory NotPermitted = false
 
+-- The request may name the attribute.
 abbrev pub is_permitted : Optionality → Bool
 is_permitted Mandatory = true
 is_permitted Optional = true

@@ -9,7 +9,8 @@ pub record TextsAgree (case : Case) (came : Came) : Type 0 where
   pub err : came.err.items ≡ case.err.items
   pub asked : came.asked.items ≡ case.asked.items
 
--- and just the numbers; of what is left unread, where the case says it
+-- Just the numbers came that the case says: the status, the count of connections, and how much was
+-- left unread where the case says it.
 pub record NumbersAgree (case : Case) (came : Came) : Type 0 where
   pub status : case.status ≡ Some came.status
   pub served : case.served ≡ Some came.served

@@ -14,26 +14,26 @@ use Rattle.resource_model.specs.Resource.{ResourceData}
 use Rattle.tree_model.specs.Tree.{at}
 use Rattle.attribute_rules.specs.declared.table.Writing.TheVariants.{Create as Creating, Update as Updating}
 use Rattle.entity_model.specs.Entity.{EntityData}
-use Rattle.entity_model.specs.Places.{Place, first_fault, refused}
+use Rattle.entity_model.specs.Places.{Check, first_fault, refused}
 use Rattle.request_rules.specs.Creation.{creation_of}
 use Rattle.request_rules.specs.Order.{creation_by, creation_places, expires_later, fault_at, fault_on, places}
 use Rattle.request_rules.specs.Policies.{links_live}
 use Rattle.request_rules.specs.Requests.{admits_content, is_content_for, named_by, takes_child}
 use Rattle.request_rules.proofs.CreatingLemmas.{named_is, new_is}
 use Rattle.request_rules.proofs.EditingLemmas.{content_admits}
-use Rattle.create_delete.specs.Changing.{create_effect, delete_effect, performed_at, update_effect}
-use Rattle.create_delete.proofs.PerformedLemmas.{done_at}
+use Rattle.create_delete.specs.Changing.{create_effect, delete_effect, effect_at, update_effect}
+use Rattle.create_delete.proofs.EffectLemmas.{done_at}
 use Rattle.change_laws.specs.Served.{MayCreate, MayDelete, MayUpdate}
 
 -- where each place holds, none refuses
-none_refuses : (checks : List Place) → list_all (λ (p : Place). p.holds) checks ≡ true → first_fault checks ≡ None
+none_refuses : (checks : List Check) → list_all (λ (p : Check). p.holds) checks ≡ true → first_fault checks ≡ None
 none_refuses [] all = refl
 none_refuses (place ∷ rest) all =
-    let both = and_parts place.holds (list_all (λ (p : Place). p.holds) rest) all in
+    let both = and_parts place.holds (list_all (λ (p : Check). p.holds) rest) all in
     rw both.0 (none_refuses rest both.1)
 
 -- of the resource that a number finds
-found_none : (op : Op) (e : EntityData) (o : List ℕ) (request : RequestParts) (n : ℕ) (t : ResourceData) → at n e.nodes ≡ Some t → list_all (λ (p : Place). p.holds) (places op e o request t) ≡ true → fault_at op e o request n ≡ None
+found_none : (op : Op) (e : EntityData) (o : List ℕ) (request : RequestParts) (n : ℕ) (t : ResourceData) → at n e.nodes ≡ Some t → list_all (λ (p : Check). p.holds) (places op e o request t) ≡ true → fault_at op e o request n ≡ None
 found_none op e o request n t there all =
     ap (λ (x : Option ResourceData). option_map_or (fault_on op e o request) x (Some NotFound)) there
     ∙ none_refuses (places op e o request t) all
@@ -44,9 +44,9 @@ module _ (e : EntityData) (o : List ℕ) (request : RequestParts) (parent : Reso
   names : named_by Create request parent ≡ es
   names = named_is request parent ty es may.child may.named
 
-  new : list_all (λ (p : Place). p.holds) (creation_places Create e o request parent) ≡ true
+  new : list_all (λ (p : Check). p.holds) (creation_places Create e o request parent) ≡ true
   new =
-      ap (list_all (λ (p : Place). p.holds)) (new_is e o request parent ty es may.child may.named)
+      ap (list_all (λ (p : Check). p.holds)) (new_is e o request parent ty es may.child may.named)
       ∙ and_from _ _ may.unique (and_from _ _ may.room refl)
 
   taken : takes_child Create request parent ≡ true
@@ -57,12 +57,12 @@ module _ (e : EntityData) (o : List ℕ) (request : RequestParts) (parent : Reso
       ap (λ (x : Option Ty). option_map_or (is_content_for Creating request) x false) may.child
       ∙ content_admits Creating request ty es may.named ∙ may.admitted
 
-  pub creation_holds : list_all (λ (p : Place). p.holds) (places Create e o request parent) ≡ true
+  pub creation_holds : list_all (λ (p : Check). p.holds) (places Create e o request parent) ≡ true
   creation_holds =
       and_from _ _ may.right (and_from _ _ refl (and_from _ _ taken (and_from _ _ admitted
       (and_from _ _ (ap (expires_later e) names ∙ may.later) (and_from _ _ (ap (links_live e) names ∙ may.live) new)))))
 
-pub creation_served : (e : EntityData) (o : List ℕ) (request : RequestParts) (n : ℕ) (parent : ResourceData) (ty : Ty) (es : List Entry) → at n e.nodes ≡ Some parent → MayCreate e o request parent ty es → performed_at Create e o request n ≡ create_effect request (creation_of e o ty parent es)
+pub creation_served : (e : EntityData) (o : List ℕ) (request : RequestParts) (n : ℕ) (parent : ResourceData) (ty : Ty) (es : List Entry) → at n e.nodes ≡ Some parent → MayCreate e o request parent ty es → effect_at Create e o request n ≡ create_effect request (creation_of e o ty parent es)
 creation_served e o request n parent ty es there may =
     done_at Create e o request n parent there (found_none Create e o request n parent there (creation_holds e o request parent ty es may))
     ∙ ap (λ (x : Option Ty). option_map_or (λ (kind : Ty). create_effect request (creation_by e o request parent kind)) x (refused e request BadChild)) may.child
@@ -74,22 +74,22 @@ module _ (e : EntityData) (o : List ℕ) (request : RequestParts) (r : ResourceD
   update_names : named_by Update request r ≡ es
   update_names = ap (λ (x : Option (List Entry)). unwrap_or x []) may.named
 
-  pub update_holds : list_all (λ (p : Place). p.holds) (places Update e o request r) ≡ true
+  pub update_holds : list_all (λ (p : Check). p.holds) (places Update e o request r) ≡ true
   update_holds =
       and_from _ _ may.right (and_from _ _ may.kind (and_from _ _ refl (and_from _ _ (content_admits Updating request r.ty es may.named ∙ may.admitted)
       (and_from _ _ (ap (expires_later e) update_names ∙ may.later) (and_from _ _ (ap (links_live e) update_names ∙ may.live) refl)))))
 
-pub update_served : (e : EntityData) (o : List ℕ) (request : RequestParts) (n : ℕ) (r : ResourceData) (es : List Entry) → at n e.nodes ≡ Some r → MayUpdate e o request r es → performed_at Update e o request n ≡ update_effect e request es r
+pub update_served : (e : EntityData) (o : List ℕ) (request : RequestParts) (n : ℕ) (r : ResourceData) (es : List Entry) → at n e.nodes ≡ Some r → MayUpdate e o request r es → effect_at Update e o request n ≡ update_effect e request es r
 update_served e o request n r es there may =
     done_at Update e o request n r there (found_none Update e o request n r there (update_holds e o request r es may))
     ∙ ap (λ (x : Option (List Entry)). update_effect e request (unwrap_or x []) r) may.named
 
 -- ---- a Delete
 
-pub deletion_served : (e : EntityData) (o : List ℕ) (request : RequestParts) (n : ℕ) (r : ResourceData) → at n e.nodes ≡ Some r → MayDelete e o request r → performed_at Delete e o request n ≡ delete_effect e request r
+pub deletion_served : (e : EntityData) (o : List ℕ) (request : RequestParts) (n : ℕ) (r : ResourceData) → at n e.nodes ≡ Some r → MayDelete e o request r → effect_at Delete e o request n ≡ delete_effect e request r
 deletion_served e o request n r there may =
     done_at Delete e o request n r there (found_none Delete e o request n r there
     (and_from _ _ may.right (and_from _ _ may.kind (and_from _ _ refl (and_from _ _ refl holds)))))
   where
-    holds : list_all (λ (p : Place). p.holds) [] ≡ true
+    holds : list_all (λ (p : Check). p.holds) [] ≡ true
     holds = refl

@@ -26,17 +26,17 @@ use Rattle.request_rules.specs.Requests.{child_ty}
 use Rattle.request_rules.proofs.OrderLemmas.{found_at, nothing_on}
 use Rattle.request_rules.proofs.RefusalLemmas.{refuses_at}
 use Rattle.create_delete.specs.Changes.{changes_at, creation_changes, named_attrs, only_in, update_changes}
-use Rattle.create_delete.specs.Changing.{after_joining, create_effect, filling_of, nodes_updated, performed_at, pushed_by, pushed_out, updated_by, updated_resource, with_newcomer}
+use Rattle.create_delete.specs.Changing.{after_joining, create_effect, container_update_of, nodes_updated, effect_at, pushed_by, pushed_out, updated_by, updated_resource, with_new_resource}
 use Rattle.create_delete.specs.Guard.{IsChanged, IsGone, NamesInOrder}
-use Rattle.create_delete.specs.Joining.{gone_by, IsAllowed, MayFill, MayJoin}
-use Rattle.create_delete.specs.Newcomer.{IsFilling, IsNewcomer, IsReplacement}
+use Rattle.create_delete.specs.Joining.{gone_by, IsAllowed, MayJoinContainer, MayJoin}
+use Rattle.create_delete.specs.NewResource.{IsNewInstance, IsNewResource, IsReplacement}
 use Rattle.change_laws.specs.Served.{AddsOne, ChangesOne, ServesCreate, ServesDelete, ServesUpdate}
 use Rattle.create_delete.proofs.ChangesLemmas.{c_left, created_are, fresh, gone_are, none_false, nothing_apart, only_last, updated_are}
 use Rattle.create_delete.proofs.CreatableLemmas.{names_type}
 use Rattle.create_delete.proofs.DeletionLemmas.{deletion_keeps, delete_done}
 use Rattle.create_delete.proofs.GrownLemmas.{nothing_picked}
 use Rattle.create_delete.proofs.JoiningLemmas.{filled_is}
-use Rattle.create_delete.proofs.PerformedLemmas.{done_at, refused_at}
+use Rattle.create_delete.proofs.EffectLemmas.{done_at, refused_at}
 use Rattle.create_delete.proofs.ReplacementLemmas.{replacement}
 use Rattle.create_delete.proofs.RightCreateLemmas.{after_is, changed_is, create, itself, joins, made_sound, named, nodes_filled, older_there, removed, IsCreate}
 use Rattle.create_delete.proofs.RightLemmas.{stays_sound}
@@ -45,7 +45,7 @@ use Rattle.create_delete.proofs.UpdatedLemmas.{sound_updated}
 
 -- ---- what is served isn't refused
 
-pub not_refused : (op : Op) (e : EntityData) (o : List ℕ) (request : RequestParts) (n : ℕ) → is_success (performed_at op e o request n).reply.rsc ≡ true → fault_at op e o request n ≡ None
+pub not_refused : (op : Op) (e : EntityData) (o : List ℕ) (request : RequestParts) (n : ℕ) → is_success (effect_at op e o request n).reply.rsc ≡ true → fault_at op e o request n ≡ None
 not_refused op e o request n served = by_fault (fault_at op e o request n) refl
   where
     by_fault : (x : Option Rsc) → fault_at op e o request n ≡ x → x ≡ None
@@ -57,7 +57,7 @@ not_refused op e o request n served = by_fault (fault_at op e o request n) refl
 -- ---- a Create
 
 -- what isn't an instance changes nothing else
-adds_plain : (e : EntityData) (r : ResourceData) → IsSoundEntity e → IsNewcomer e r → AddsOne e r.parent (with_newcomer e r)
+adds_plain : (e : EntityData) (r : ResourceData) → IsSoundEntity e → IsNewResource e r → AddsOne e r.parent (with_new_resource e r)
 adds_plain e r sound new = record {
   made = r;
   alone = only_last e r sound new;
@@ -73,7 +73,7 @@ adds_plain e r sound new = record {
 }
 
 -- an instance changes its container
-adds_instance : (e : EntityData) (sound : IsSoundEntity e) (r c : ResourceData) (st : ℕ) (filling : IsFilling e r c st) → st ≡ next_state c → AddsOne e r.parent (record { home = e.home; nodes = nodes_filled e sound r c st filling; next = e.next + 1; last = e.last })
+adds_instance : (e : EntityData) (sound : IsSoundEntity e) (r c : ResourceData) (st : ℕ) (filling : IsNewInstance e r c st) → st ≡ next_state c → AddsOne e r.parent (record { home = e.home; nodes = nodes_filled e sound r c st filling; next = e.next + 1; last = e.last })
 adds_instance e sound r c st filling counts = record {
   made = r;
   alone = fresh e sound r c st filling;
@@ -95,15 +95,15 @@ adds_instance e sound r c st filling counts = record {
 }
 
 -- the resource of a creation is added, and counts in its container where it is an instance
-creation_adds : (c : Creation) → IsSoundEntity c.e → IsAllowed c → MayJoin c.e (new_resource c) (filling_of c) → AddsOne c.e c.parent.number (after_joining c.e (new_resource c) (filling_of c))
+creation_adds : (c : Creation) → IsSoundEntity c.e → IsAllowed c → MayJoin c.e (new_resource c) (container_update_of c) → AddsOne c.e c.parent.number (after_joining c.e (new_resource c) (container_update_of c))
 creation_adds c sound allowed may = elim (cases_Bool (is_ty c.ty ContentInstance)) [
   | inl t ↦
-      let fills : MayFill c.e (new_resource c) (record { container = c.parent.number; state = next_state c.parent; gone = pushed_out c.e c.parent (Some (new_size c)) }) = rw t at may in
+      let fills : MayJoinContainer c.e (new_resource c) (record { container = c.parent.number; state = next_state c.parent; gone = pushed_out c.e c.parent (Some (new_size c)) }) = rw t at may in
       let same : c.parent ≡ fills.parent = same_Some c.parent fills.parent (sym allowed.parent ∙ fills.joins.container) in
       rw t (subst (AddsOne c.e c.parent.number) (filled_is c.e (new_resource c) _ fills)
       (adds_instance c.e sound (new_resource c) fills.parent (next_state c.parent) fills.joins (ap next_state same)))
   | inr none ↦
-      let joins : IsNewcomer c.e (new_resource c) × (is_ty c.ty ContentInstance ≡ false) = rw none at may in
+      let joins : IsNewResource c.e (new_resource c) × (is_ty c.ty ContentInstance ≡ false) = rw none at may in
       rw none (adds_plain c.e (new_resource c) sound joins.0)
 ]
 
@@ -114,31 +114,31 @@ module _ (e : EntityData) (o : List ℕ) (request : RequestParts) (n : ℕ) (sou
   abbrev made : Creation
   made = creates.made
 
-  may : MayJoin made.e (new_resource made) (filling_of made)
+  may : MayJoin made.e (new_resource made) (container_update_of made)
   may = joins e o request n sound originator content none
 
-  after : (performed_at Create e o request n).after ≡ after_joining made.e (new_resource made) (filling_of made)
+  after : (effect_at Create e o request n).after ≡ after_joining made.e (new_resource made) (container_update_of made)
   after = after_is e o request n sound originator content none
 
-  pub adds_one : AddsOne e n (performed_at Create e o request n).after
+  pub adds_one : AddsOne e n (effect_at Create e o request n).after
   adds_one =
       subst (AddsOne e n) (sym after)
-      (subst (λ (x : EntityData). AddsOne x n (after_joining made.e (new_resource made) (filling_of made))) creates.entity
-      (subst (λ (m : ℕ). AddsOne made.e m (after_joining made.e (new_resource made) (filling_of made))) creates.parent
+      (subst (λ (x : EntityData). AddsOne x n (after_joining made.e (new_resource made) (container_update_of made))) creates.entity
+      (subst (λ (m : ℕ). AddsOne made.e m (after_joining made.e (new_resource made) (container_update_of made))) creates.parent
       (creation_adds made (made_sound e o request n sound originator content none) creates.may may)))
 
   -- its changes are those that it prepares
-  pub creation_told : (parent : ResourceData) (ty : Ty) → at n e.nodes ≡ Some parent → child_ty request ≡ Some ty → changes_at Create e o request n ≡ creation_changes e.nodes (new_resource (creation_by e o request parent ty)) (gone_by (filling_of (creation_by e o request parent ty)))
+  pub creation_told : (parent : ResourceData) (ty : Ty) → at n e.nodes ≡ Some parent → child_ty request ≡ Some ty → changes_at Create e o request n ≡ creation_changes e.nodes (new_resource (creation_by e o request parent ty)) (gone_by (container_update_of (creation_by e o request parent ty)))
   creation_told parent ty found child =
       let by : made ≡ creation_by e o request parent ty = creates.by parent ty found child in
-      sym (created_are e o request n (new_resource (creation_by e o request parent ty)) (filling_of (creation_by e o request parent ty)) sound none
-      (subst (λ (c : Creation). MayJoin c.e (new_resource c) (filling_of c)) by may)
-      (sym (subst (λ (c : Creation). (performed_at Create e o request n).after ≡ after_joining c.e (new_resource c) (filling_of c)) by after)))
+      sym (created_are e o request n (new_resource (creation_by e o request parent ty)) (container_update_of (creation_by e o request parent ty)) sound none
+      (subst (λ (c : Creation). MayJoin c.e (new_resource c) (container_update_of c)) by may)
+      (sym (subst (λ (c : Creation). (effect_at Create e o request n).after ≡ after_joining c.e (new_resource c) (container_update_of c)) by after)))
 
-pub creation_adds_one : (e : EntityData) (o : List ℕ) (request : RequestParts) (n : ℕ) → IsSoundEntity e → is_originator o ≡ true → NamesInOrder request → is_success (performed_at Create e o request n).reply.rsc ≡ true → AddsOne e n (performed_at Create e o request n).after
+pub creation_adds_one : (e : EntityData) (o : List ℕ) (request : RequestParts) (n : ℕ) → IsSoundEntity e → is_originator o ≡ true → NamesInOrder request → is_success (effect_at Create e o request n).reply.rsc ≡ true → AddsOne e n (effect_at Create e o request n).after
 creation_adds_one e o request n sound originator content served = adds_one e o request n sound originator content (not_refused Create e o request n served)
 
-pub told_created : (e : EntityData) (o : List ℕ) (request : RequestParts) (n : ℕ) (parent : ResourceData) (ty : Ty) → IsSoundEntity e → is_originator o ≡ true → NamesInOrder request → fault_at Create e o request n ≡ None → at n e.nodes ≡ Some parent → child_ty request ≡ Some ty → changes_at Create e o request n ≡ creation_changes e.nodes (new_resource (creation_by e o request parent ty)) (gone_by (filling_of (creation_by e o request parent ty)))
+pub told_created : (e : EntityData) (o : List ℕ) (request : RequestParts) (n : ℕ) (parent : ResourceData) (ty : Ty) → IsSoundEntity e → is_originator o ≡ true → NamesInOrder request → fault_at Create e o request n ≡ None → at n e.nodes ≡ Some parent → child_ty request ≡ Some ty → changes_at Create e o request n ≡ creation_changes e.nodes (new_resource (creation_by e o request parent ty)) (gone_by (container_update_of (creation_by e o request parent ty)))
 told_created e o request n parent ty sound originator content none found child = creation_told e o request n sound originator content none parent ty found child
 
 -- ---- an Update
@@ -185,7 +185,7 @@ module _ (e : EntityData) (sound : IsSoundEntity e) (old now : ResourceData) (ne
     rest = refl;
   }
 
-update_changes_one : (e : EntityData) (o : List ℕ) (request : RequestParts) (n : ℕ) → IsSoundEntity e → NamesInOrder request → fault_at Update e o request n ≡ None → ChangesOne e n (performed_at Update e o request n).after
+update_changes_one : (e : EntityData) (o : List ℕ) (request : RequestParts) (n : ℕ) → IsSoundEntity e → NamesInOrder request → fault_at Update e o request n ≡ None → ChangesOne e n (effect_at Update e o request n).after
 update_changes_one e o request n sound content none =
     let u = is_update e o request n content none in
     let now = updated_resource e u.es u.target in
@@ -193,7 +193,7 @@ update_changes_one e o request n sound content none =
     (subst (λ (m : ℕ). ChangesOne e m (updated_in e now)) u.number
     (changes_one e sound u.target now (replacement e u.es u.target sound u.sorted u.may) u.may.stands refl))
 
-pub update_alone : (e : EntityData) (o : List ℕ) (request : RequestParts) (n : ℕ) → IsSoundEntity e → NamesInOrder request → is_success (performed_at Update e o request n).reply.rsc ≡ true → ChangesOne e n (performed_at Update e o request n).after
+pub update_alone : (e : EntityData) (o : List ℕ) (request : RequestParts) (n : ℕ) → IsSoundEntity e → NamesInOrder request → is_success (effect_at Update e o request n).reply.rsc ≡ true → ChangesOne e n (effect_at Update e o request n).after
 update_alone e o request n sound content served = update_changes_one e o request n sound content (not_refused Update e o request n served)
 
 -- its changes are those that it prepares
@@ -205,7 +205,7 @@ told_updated e o request n r sound content none found =
     sym (updated_are e o request n r (updated_by e request r) (pushed_by e (updated_by e request r)) sound none found (at_number n e.nodes r found)
     (subst (IsReplacement e) by (replacement e u.es u.target sound u.sorted u.may))
     refl
-    (sym (subst (λ (s : ResourceData). (performed_at Update e o request n).after ≡ updated_in e s) by u.after)))
+    (sym (subst (λ (s : ResourceData). (effect_at Update e o request n).after ≡ updated_in e s) by u.after)))
 
 -- ---- the next number
 
@@ -220,7 +220,7 @@ unchanged e now same = subst (Rises e) (sym same) (stays e e refl (nothing_apart
 
 module _ (e : EntityData) (o : List ℕ) (request : RequestParts) (n : ℕ) (sound : IsSoundEntity e) (originator : is_originator o ≡ true) (content : NamesInOrder request) where
   abbrev left_by : Op → EntityData
-  left_by op = (performed_at op e o request n).after
+  left_by op = (effect_at op e o request n).after
 
   -- a Retrieve and a Notify do nothing here
   rises : (op : Op) → fault_at op e o request n ≡ None → Rises e (left_by op)
@@ -248,17 +248,17 @@ module _ (e : EntityData) (o : List ℕ) (request : RequestParts) (n : ℕ) (sou
   by_fault op None none = rises op none
   by_fault op (Some f) is = unchanged e (left_by op) (ap (λ (x : Effect). x.after) (refused_at op e o request n f is))
 
-pub next_rises : (op : Op) (e : EntityData) (o : List ℕ) (request : RequestParts) (n : ℕ) → IsSoundEntity e → is_originator o ≡ true → NamesInOrder request → (performed_at op e o request n).after.next ≡ e.next + length (only_in (performed_at op e o request n).after.nodes e.nodes)
+pub next_rises : (op : Op) (e : EntityData) (o : List ℕ) (request : RequestParts) (n : ℕ) → IsSoundEntity e → is_originator o ≡ true → NamesInOrder request → (effect_at op e o request n).after.next ≡ e.next + length (only_in (effect_at op e o request n).after.nodes e.nodes)
 next_rises op e o request n sound originator content = by_fault e o request n sound originator content op (fault_at op e o request n) refl
 
 -- ---- what no place refuses
 
-pub serves_create : (e : EntityData) (o : List ℕ) (request : RequestParts) (n : ℕ) → fault_at Create e o request n ≡ None → ServesCreate e o request n (performed_at Create e o request n)
+pub serves_create : (e : EntityData) (o : List ℕ) (request : RequestParts) (n : ℕ) → fault_at Create e o request n ≡ None → ServesCreate e o request n (effect_at Create e o request n)
 serves_create e o request n none =
     let found = found_at Create e o request n none in
     by_type found.0 found.1 (nothing_on Create e o request n found.0 found.1 none) (child_ty request) refl
   where
-    by_type : (t : ResourceData) → at n e.nodes ≡ Some t → fault_on Create e o request t ≡ None → (x : Option Ty) → child_ty request ≡ x → ServesCreate e o request n (performed_at Create e o request n)
+    by_type : (t : ResourceData) → at n e.nodes ≡ Some t → fault_on Create e o request t ≡ None → (x : Option Ty) → child_ty request ≡ x → ServesCreate e o request n (effect_at Create e o request n)
     by_type t there fault None is = absurd (names_type e o request t fault is)
     by_type t there fault (Some ty) is = record {
       parent = t;
@@ -270,12 +270,12 @@ serves_create e o request n none =
           ∙ ap (λ (x : Option Ty). option_map_or (λ (y : Ty). create_effect request (creation_by e o request t y)) x (refused e request BadChild)) is;
     }
 
-pub serves_update : (e : EntityData) (o : List ℕ) (request : RequestParts) (n : ℕ) → fault_at Update e o request n ≡ None → ServesUpdate e request n (performed_at Update e o request n)
+pub serves_update : (e : EntityData) (o : List ℕ) (request : RequestParts) (n : ℕ) → fault_at Update e o request n ≡ None → ServesUpdate e request n (effect_at Update e o request n)
 serves_update e o request n none =
     let found = found_at Update e o request n none in
     record { target = found.0; found = found.1; does = done_at Update e o request n found.0 found.1 none }
 
-pub serves_delete : (e : EntityData) (o : List ℕ) (request : RequestParts) (n : ℕ) → fault_at Delete e o request n ≡ None → ServesDelete e request n (performed_at Delete e o request n)
+pub serves_delete : (e : EntityData) (o : List ℕ) (request : RequestParts) (n : ℕ) → fault_at Delete e o request n ≡ None → ServesDelete e request n (effect_at Delete e o request n)
 serves_delete e o request n none =
     let found = found_at Delete e o request n none in
     record { target = found.0; found = found.1; does = done_at Delete e o request n found.0 found.1 none }

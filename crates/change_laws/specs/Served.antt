@@ -57,13 +57,13 @@ pub record ChangesOne (before : EntityData) (n : ℕ) (after : EntityData) : Typ
 
 -- a Create is served: its target is there and it names a type, and its reply is the success with
 -- the content that is asked for of the resource that it makes
-pub record ServesCreate (e : EntityData) (o : List ℕ) (request : RequestParts) (n : ℕ)
+pub record ServesCreate (e : EntityData) (originator : List ℕ) (request : RequestParts) (n : ℕ)
     (served : Effect) : Type 0 where
   pub parent : ResourceData
   pub ty : Ty
   pub found : at n e.nodes ≡ Some parent
   pub child : child_ty request ≡ Some ty
-  pub does : served ≡ create_effect request (creation_by e o request parent ty)
+  pub does : served ≡ create_effect request (creation_by e originator request parent ty)
 
 -- an Update is served: its target is there, and its reply is the success with the content that is
 -- asked for of the resource as it leaves it
@@ -85,22 +85,22 @@ pub record ServesDelete (e : EntityData) (request : RequestParts) (n : ℕ) (ser
 -- The originator may create this under the parent: it has the right, the parent takes the type, the
 -- content names these attributes, which are admitted and expire later, its policies are live,
 -- nothing stands there already that it alone may be, and no limit is passed.
-pub record MayCreate (e : EntityData) (o : List ℕ) (request : RequestParts) (parent : ResourceData)
-    (ty : Ty) (es : List Entry) : Type 0 where
-  pub right : IsTrue (may_do Create e o request parent.number)
+pub record MayCreate (e : EntityData) (originator : List ℕ) (request : RequestParts)
+    (parent : ResourceData) (ty : Ty) (es : List Entry) : Type 0 where
+  pub right : IsTrue (may_do Create e originator request parent.number)
   pub child : child_ty request ≡ Some ty
   pub takes : IsTrue (does_take parent.ty ty)
   pub named : content_for request ty ≡ Some es
   pub admitted : IsTrue (admits Creating ty es)
   pub later : IsTrue (expires_later e es)
   pub live : IsTrue (links_live e es)
-  pub unique : IsTrue (is_unique (creation_of e o ty parent es))
-  pub room : IsTrue (has_room (creation_of e o ty parent es))
+  pub unique : IsTrue (is_unique (creation_of e originator ty parent es))
+  pub room : IsTrue (has_room (creation_of e originator ty parent es))
 
 -- The originator may update the resource by these attributes, which the content names.
-pub record MayUpdate (e : EntityData) (o : List ℕ) (request : RequestParts) (r : ResourceData)
-    (es : List Entry) : Type 0 where
-  pub right : IsTrue (may_do Update e o request r.number)
+pub record MayUpdate (e : EntityData) (originator : List ℕ) (request : RequestParts)
+    (r : ResourceData) (es : List Entry) : Type 0 where
+  pub right : IsTrue (may_do Update e originator request r.number)
   pub kind : IsTrue (is_for Update r.ty)
   pub named : content_for request r.ty ≡ Some es
   pub admitted : IsTrue (admits Updating r.ty es)
@@ -108,7 +108,7 @@ pub record MayUpdate (e : EntityData) (o : List ℕ) (request : RequestParts) (r
   pub live : IsTrue (links_live e es)
 
 -- The originator may delete the resource, which isn't the CSEBase.
-pub record MayDelete (e : EntityData) (o : List ℕ) (request : RequestParts) (r : ResourceData)
-    : Type 0 where
-  pub right : IsTrue (may_do Delete e o request r.number)
+pub record MayDelete (e : EntityData) (originator : List ℕ) (request : RequestParts)
+    (r : ResourceData) : Type 0 where
+  pub right : IsTrue (may_do Delete e originator request r.number)
   pub kind : IsTrue (is_for Delete r.ty)

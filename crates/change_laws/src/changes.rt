@@ -13,7 +13,7 @@ ghost use Rattle.request_rules.specs.Order.{creation_by, fault_at};
 ghost use Rattle.request_rules.specs.Requests.{child_ty};
 ghost use Rattle.create_delete.specs.Changes.{changes_at, creation_changes, deletion_changes};
 ghost use Rattle.create_delete.specs.Changes.{named_attrs, update_changes};
-ghost use Rattle.create_delete.specs.Changing.{filling_of, pushed_by, updated_by};
+ghost use Rattle.create_delete.specs.Changing.{container_update_of, pushed_by, updated_by};
 ghost use Rattle.create_delete.specs.Guard.{NamesInOrder};
 ghost use Rattle.create_delete.specs.Joining.{gone_by};
 
@@ -22,21 +22,21 @@ ghost use Rattle.create_delete.specs.Joining.{gone_by};
 /// was and is, with the attributes that the request named, and what is pushed out. A deletion: the
 /// target, and what stands below it.
 pub fn the_changes_are_those_that_are_prepared()
-    ensures creation { (e : EntityData) (o : List ℕ) (request : RequestParts) (n : ℕ)
+    ensures creation { (e : EntityData) (originator : List ℕ) (request : RequestParts) (n : ℕ)
         (parent : ResourceData) (ty : Ty)
-        → IsSoundEntity e → IsTrue (is_originator o) → NamesInOrder request
-        → fault_at Create e o request n ≡ None
+        → IsSoundEntity e → IsTrue (is_originator originator) → NamesInOrder request
+        → fault_at Create e originator request n ≡ None
         → at n e.nodes ≡ Some parent → child_ty request ≡ Some ty
-        → changes_at Create e o request n
-        ≡ creation_changes e.nodes (new_resource (creation_by e o request parent ty))
-        (gone_by (filling_of (creation_by e o request parent ty))) }
-    ensures update { (e : EntityData) (o : List ℕ) (request : RequestParts) (n : ℕ)
+        → changes_at Create e originator request n
+        ≡ creation_changes e.nodes (new_resource (creation_by e originator request parent ty))
+        (gone_by (container_update_of (creation_by e originator request parent ty))) }
+    ensures update { (e : EntityData) (originator : List ℕ) (request : RequestParts) (n : ℕ)
         (r : ResourceData) → IsSoundEntity e → NamesInOrder request
-        → fault_at Update e o request n ≡ None → at n e.nodes ≡ Some r
-        → changes_at Update e o request n
+        → fault_at Update e originator request n ≡ None → at n e.nodes ≡ Some r
+        → changes_at Update e originator request n
         ≡ update_changes e.nodes r (updated_by e request r) (named_attrs request r)
         (pushed_by e (updated_by e request r)) }
-    ensures deletion { (e : EntityData) (o : List ℕ) (request : RequestParts) (n : ℕ)
-        → IsSoundEntity e → fault_at Delete e o request n ≡ None
-        → changes_at Delete e o request n ≡ deletion_changes e.nodes n }
+    ensures deletion { (e : EntityData) (originator : List ℕ) (request : RequestParts) (n : ℕ)
+        → IsSoundEntity e → fault_at Delete e originator request n ≡ None
+        → changes_at Delete e originator request n ≡ deletion_changes e.nodes n }
 {}

@@ -13,7 +13,7 @@ ghost use Rattle.policy_eval.specs.Rights.{delete_bit, grants};
 ghost use Rattle.entity_model.specs.Entity.{EntityData};
 ghost use Rattle.entity_model.specs.Sound.{IsSoundEntity};
 ghost use Rattle.create_delete.specs.Changes.{only_in};
-ghost use Rattle.create_delete.specs.Changing.{create_effect, delete_effect, performed_at};
+ghost use Rattle.create_delete.specs.Changing.{create_effect, delete_effect, effect_at};
 ghost use Rattle.create_delete.specs.Changing.{update_effect};
 ghost use Rattle.create_delete.specs.Guard.{NamesInOrder};
 ghost use Rattle.change_laws.specs.Served.{AddsOne, ChangesOne, ServesCreate, ServesDelete};
@@ -24,69 +24,74 @@ ghost use Rattle.request_rules.specs.Order.{fault_at};
 /// An operation that no place refuses is served: it gives its success, with the content that is
 /// asked for, and does what is defined of it.
 pub fn what_no_place_refuses_is_served()
-    ensures creates { (e : EntityData) (o : List ℕ) (request : RequestParts) (n : ℕ)
-        → fault_at Create e o request n ≡ None
-        → ServesCreate e o request n (performed_at Create e o request n) }
-    ensures updates { (e : EntityData) (o : List ℕ) (request : RequestParts) (n : ℕ)
-        → fault_at Update e o request n ≡ None
-        → ServesUpdate e request n (performed_at Update e o request n) }
-    ensures deletes { (e : EntityData) (o : List ℕ) (request : RequestParts) (n : ℕ)
-        → fault_at Delete e o request n ≡ None
-        → ServesDelete e request n (performed_at Delete e o request n) }
+    ensures creates { (e : EntityData) (originator : List ℕ) (request : RequestParts) (n : ℕ)
+        → fault_at Create e originator request n ≡ None
+        → ServesCreate e originator request n (effect_at Create e originator request n) }
+    ensures updates { (e : EntityData) (originator : List ℕ) (request : RequestParts) (n : ℕ)
+        → fault_at Update e originator request n ≡ None
+        → ServesUpdate e request n (effect_at Update e originator request n) }
+    ensures deletes { (e : EntityData) (originator : List ℕ) (request : RequestParts) (n : ℕ)
+        → fault_at Delete e originator request n ≡ None
+        → ServesDelete e request n (effect_at Delete e originator request n) }
 {}
 
 /// What an originator may do is served: a Create, an Update or a Delete of a resource that is
 /// there, where the conditions of `MayCreate`, `MayUpdate` or `MayDelete` hold. No place asks for
 /// more.
 pub fn what_may_be_done_is_served()
-    ensures creates { (e : EntityData) (o : List ℕ) (request : RequestParts) (n : ℕ)
+    ensures creates { (e : EntityData) (originator : List ℕ) (request : RequestParts) (n : ℕ)
         (parent : ResourceData) (ty : Ty) (es : List Entry) → at n e.nodes ≡ Some parent
-        → MayCreate e o request parent ty es
-        → performed_at Create e o request n ≡ create_effect request (creation_of e o ty parent es) }
-    ensures updates { (e : EntityData) (o : List ℕ) (request : RequestParts) (n : ℕ)
-        (r : ResourceData) (es : List Entry) → at n e.nodes ≡ Some r → MayUpdate e o request r es
-        → performed_at Update e o request n ≡ update_effect e request es r }
-    ensures deletes { (e : EntityData) (o : List ℕ) (request : RequestParts) (n : ℕ)
-        (r : ResourceData) → at n e.nodes ≡ Some r → MayDelete e o request r
-        → performed_at Delete e o request n ≡ delete_effect e request r }
+        → MayCreate e originator request parent ty es
+        → effect_at Create e originator request n
+        ≡ create_effect request (creation_of e originator ty parent es) }
+    ensures updates { (e : EntityData) (originator : List ℕ) (request : RequestParts) (n : ℕ)
+        (r : ResourceData) (es : List Entry) → at n e.nodes ≡ Some r
+        → MayUpdate e originator request r es
+        → effect_at Update e originator request n ≡ update_effect e request es r }
+    ensures deletes { (e : EntityData) (originator : List ℕ) (request : RequestParts) (n : ℕ)
+        (r : ResourceData) → at n e.nodes ≡ Some r → MayDelete e originator request r
+        → effect_at Delete e originator request n ≡ delete_effect e request r }
 {}
 
 /// A Create that is served adds exactly one resource to a sound entity, with the next number, under
 /// its target. It changes besides at most that target, in its state tag and its last change, and
 /// removes at most instances of it.
 pub fn a_creation_adds_one_resource()
-    ensures { (e : EntityData) (o : List ℕ) (request : RequestParts) (n : ℕ)
-        → IsSoundEntity e → IsTrue (is_originator o) → NamesInOrder request
-        → IsTrue (is_success (performed_at Create e o request n).reply.rsc)
-        → AddsOne e n (performed_at Create e o request n).after }
+    ensures { (e : EntityData) (originator : List ℕ) (request : RequestParts) (n : ℕ)
+        → IsSoundEntity e → IsTrue (is_originator originator) → NamesInOrder request
+        → IsTrue (is_success (effect_at Create e originator request n).reply.rsc)
+        → AddsOne e n (effect_at Create e originator request n).after }
 {}
 
 /// An Update that is served changes of a sound entity its target alone, which stays, and removes at
 /// most instances of it.
 pub fn an_update_changes_its_target_alone()
-    ensures { (e : EntityData) (o : List ℕ) (request : RequestParts) (n : ℕ)
+    ensures { (e : EntityData) (originator : List ℕ) (request : RequestParts) (n : ℕ)
         → IsSoundEntity e → NamesInOrder request
-        → IsTrue (is_success (performed_at Update e o request n).reply.rsc)
-        → ChangesOne e n (performed_at Update e o request n).after }
+        → IsTrue (is_success (effect_at Update e originator request n).reply.rsc)
+        → ChangesOne e n (effect_at Update e originator request n).after }
 {}
 
 /// The next number of a sound entity rises by just as many as are new.
 pub fn the_next_number_rises_by_what_is_new()
-    ensures { (op : Op) (e : EntityData) (o : List ℕ) (request : RequestParts) (n : ℕ)
-        → IsSoundEntity e → IsTrue (is_originator o) → NamesInOrder request
-        → (performed_at op e o request n).after.next
-        ≡ e.next + length (only_in (performed_at op e o request n).after.nodes e.nodes) }
+    ensures { (op : Op) (e : EntityData) (originator : List ℕ) (request : RequestParts) (n : ℕ)
+        → IsSoundEntity e → IsTrue (is_originator originator) → NamesInOrder request
+        → (effect_at op e originator request n).after.next
+        ≡ e.next + length (only_in (effect_at op e originator request n).after.nodes e.nodes) }
 {}
 
 /// Of a sound entity, a deletion takes only what is its target or stands below it, and only where
 /// the originator may delete the target; what stays, stays as it was.
 pub fn a_deletion_takes_what_stands_at_or_below_its_target()
-    ensures gone { (e : EntityData) (o : List ℕ) (request : RequestParts) (n : ℕ) (r : ResourceData)
+    ensures gone { (e : EntityData) (originator : List ℕ) (request : RequestParts) (n : ℕ)
+        (r : ResourceData)
         → IsSoundEntity e → at r.number e.nodes ≡ Some r
-        → at r.number (performed_at Delete e o request n).after.nodes ≡ None
+        → at r.number (effect_at Delete e originator request n).after.nodes ≡ None
         → IsTrue (is_at_or_below n e.nodes r)
-        × IsTrue (grants e.home e.nodes o delete_bit n) }
-    ensures kept { (e : EntityData) (o : List ℕ) (request : RequestParts) (n : ℕ) (r : ResourceData)
-        → IsSoundEntity e → at r.number (performed_at Delete e o request n).after.nodes ≡ Some r
+        × IsTrue (grants e.home e.nodes originator delete_bit n) }
+    ensures kept { (e : EntityData) (originator : List ℕ) (request : RequestParts) (n : ℕ)
+        (r : ResourceData)
+        → IsSoundEntity e
+        → at r.number (effect_at Delete e originator request n).after.nodes ≡ Some r
         → at r.number e.nodes ≡ Some r }
 {}

@@ -4,6 +4,8 @@ use Rattle.std.specs.Str.{bytes_eq}
 use Rattle.std.specs.List.{list_all, list_any, before_first, after_first, position_or_len}
 use Rattle.std.proofs.lemmas.Slice.Eq.{bytes_eq-Decides}
 use Rattle.command_words.specs.Options.{Choice, choice, is_equals, has_dash, in_front, in_one_word, in_two_words, choices_by, choices, option_value, are_options}
+use Rattle.std.proofs.lemmas.Bool.{and_right}
+use Rattle.std.proofs.Math.Bool.{and-true}
 
 -- ---- tests
 
@@ -14,10 +16,6 @@ or_false false = refl
 pub or_assoc : (a b c : Bool) → (a || (b || c)) ≡ ((a || b) || c)
 or_assoc true b c = refl
 or_assoc false b c = refl
-
-pub and_true : (b : Bool) → (b && true) ≡ b
-and_true true = refl
-and_true false = refl
 
 -- texts are the same in either order
 pub same_sym : (a b : List ℕ) → bytes_eq a b ≡ bytes_eq b a
@@ -156,13 +154,9 @@ clear_push seen o (p ∷ os) =
 
 fits_test : (t n a c h : Bool) → ((t && n) && (a && (c && h))) ≡ ((t && (h && a)) && (n && c))
 fits_test false n a c h = refl
-fits_test true false a c true = sym (and_false a)
-  where
-    and_false : (b : Bool) → (b && false) ≡ false
-    and_false true = refl
-    and_false false = refl
+fits_test true false a c true = sym (and_right a false refl)
 fits_test true false a c false = refl
-fits_test true true true c true = and_true c
+fits_test true true true c true = and-true c
 fits_test true true true true false = refl
 fits_test true true true false false = refl
 fits_test true true false c true = refl
@@ -179,7 +173,7 @@ clear_nothing [] = refl
 clear_nothing (o ∷ os) = clear_nothing os
 
 pub fits_nothing : (takes : List ℕ → Bool) (os : List Choice) → fits takes [] os ≡ are_options takes os
-fits_nothing takes os = fits_is takes [] os ∙ ap (λ b. are_options takes os && b) (clear_nothing os) ∙ and_true (are_options takes os)
+fits_nothing takes os = fits_is takes [] os ∙ ap (λ b. are_options takes os && b) (clear_nothing os) ∙ and-true (are_options takes os)
 
 -- the options that were seen and those behind them, if the command takes them
 abbrev pub more : (List ℕ → Bool) → List Choice → Option (List Choice) → Option (List Choice)

@@ -10,6 +10,7 @@ use Rattle.command_words.specs.Command.{http_word, replay_word, serve_word, comm
 use Rattle.command_words.specs.Program.{has_stray, is_stray}
 use Rattle.command_words.proofs.OptionLemmas.{first_unknown, has_equals, has_name, in_one, more, more_front, not_in_one, one_word, same_sym, two_words}
 use Rattle.command_words.proofs.ProgramLemmas.{other_said, said_by}
+use Rattle.std.proofs.lemmas.Bool.{and_right}
 
 -- a stray word is none of these texts
 stray_differs : (word text : List ℕ) → is_stray word ≡ true → is_stray text ≡ false → bytes_eq word text ≡ false
@@ -32,11 +33,7 @@ stray_none (text ∷ texts) word e all = go (is_stray text) refl all (stray_none
 stray_untaken : (name word : List ℕ) → is_stray word ≡ true → spec.takes name word ≡ false
 stray_untaken name word e =
     ap₂ (λ a b. a || (bytes_eq name serve_word && b)) (stray_none home_options word e refl) (stray_none serving_options word e refl)
-    ∙ and_false (bytes_eq name serve_word)
-  where
-    and_false : (b : Bool) → (b && false) ≡ false
-    and_false true = refl
-    and_false false = refl
+    ∙ and_right (bytes_eq name serve_word) false refl
 
 -- nor what stands before its equals sign
 stray_before : (word : List ℕ) → is_stray word ≡ true → is_stray (before_first is_equals word) ≡ true

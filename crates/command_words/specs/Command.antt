@@ -69,11 +69,11 @@ nothing_word = codes "nothing"
 
 -- ---- the options that a command takes
 
--- those that say a home
+-- The options that say what the home of the entity is.
 abbrev pub home_options : List (List ℕ)
 home_options = id_option ∷ base_option ∷ sp_option ∷ admin_option ∷ type_option ∷ []
 
--- those that only a server takes
+-- The options that only a server takes.
 abbrev pub serving_options : List (List ℕ)
 serving_options = listen_option ∷ accept_option ∷ workers_option ∷ log_option ∷ []
 

@@ -9,6 +9,7 @@ pub record Choice : Type 0 where
   pub name : List ℕ
   pub value : List ℕ
 
+-- The option that has this name and this value.
 abbrev pub choice : List ℕ → List ℕ → Choice
 choice name value = record { name = name; value = value }
 
@@ -21,7 +22,7 @@ abbrev pub in_one_word : List ℕ → Option Choice
 in_one_word word = if nat_lt (position_or_len is_equals word) (length word)
     then Some (choice (before_first is_equals word) (after_first is_equals word)) else None
 
--- it begins with a dash
+-- The word begins with a dash.
 abbrev pub has_dash : List ℕ → Bool
 has_dash [] = false
 has_dash (c ∷ cs) = c == 45

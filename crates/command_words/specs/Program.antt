@@ -20,6 +20,7 @@ is_stray (a ∷ []) = a == 45
 is_stray (a ∷ b ∷ []) = a == 45
 is_stray (a ∷ b ∷ c ∷ word) = a == 45 && not (b == 45)
 
+-- One of the words begins with a dash and is no option.
 abbrev pub has_stray : List (List ℕ) → Bool
 has_stray words = list_any is_stray words
 
@@ -29,6 +30,7 @@ has_stray words = list_any is_stray words
 abbrev pub option_rule : List ℕ → Rule
 option_rule name = record (new_rule name) { long = Some (drop 2 name); action = Some Set }
 
+-- The program that knows one more option.
 abbrev pub with_option : App → List ℕ → App
 with_option app name = with_rule app (option_rule name)
 
@@ -48,6 +50,7 @@ bare_program = on_top (λ top. record top {
   disable_help_subcommand = true;
 }) (new_app (codes "cse"))
 
+-- The program with its commands `http`, `replay` and `serve`, and the options of each.
 abbrev pub program : App
 program = with_subcommand
     (with_subcommand

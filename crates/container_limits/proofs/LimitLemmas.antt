@@ -16,12 +16,9 @@ use Rattle.container_limits.specs.declared.limits.Limits.{Limits}
 use Rattle.tree_model.proofs.OrderLemmas.{ascend}
 use Rattle.tree_model.proofs.StepLemmas.{drop_step, not_not}
 use Rattle.container_limits.proofs.PlaceLemmas.{lacked_all}
+use Rattle.m2m_names.proofs.ListLemmas.{filter_same}
 
 -- ---- due or not
-
-filter_same : (p q : ResourceData → Bool) → ((r : ResourceData) → p r ≡ q r) → (rs : List ResourceData) → filter p rs ≡ filter q rs
-filter_same p q same [] = refl
-filter_same p q same (r ∷ rs) = rw (same r, filter_same p q same rs) refl
 
 module _ (mia : Option ℕ) (moment : ℕ) where
   abbrev last : ResourceData → Bool

@@ -1,5 +1,5 @@
 -- Where the tree knows that nothing is due, no instance is.
-use Rattle.std.specs.Prelude.{◌==◌, nat_le}
+use Rattle.std.specs.Prelude.{nat_le}
 use Rattle.std.proofs.Common.{◌≡◌, ℕ, ◌+◌, ◌<◌, ◌≤◌, List, [], ◌∷◌, true, false, Option, Some, None, option_map, inl, inr, refl, sym, ap, ◌∙◌, arith}
 use Rattle.std.proofs.lemmas.Bool.{cases_Bool, and_parts, eqb-true, ne_eqb, leb-true, lt-leb}
 use Rattle.std.specs.List.{filter, list_all, list_any}
@@ -11,6 +11,7 @@ use Rattle.resource_model.specs.Resource.{ResourceData, is_ty}
 use Rattle.tree_model.specs.Tree.{at, age_of, age_end, end_by, lesser, is_instance, is_quiet, are_quiet, instances_of}
 use Rattle.tree_model.proofs.QuietLemmas.{lesser_least}
 use Rattle.container_limits.specs.Limits.{is_due_by, is_age, is_mia_of}
+use Rattle.tree_model.proofs.TreeLemmas.{kin_parts}
 
 -- the end by the age that the container allows
 same_age : (mia : Option ℕ) (age : ℕ) → is_age mia age ≡ true → mia ≡ Some age
@@ -30,11 +31,11 @@ end_later container (Some age) r own =
 
 instance_quiet : (nodes : List ResourceData) (c until moment : ℕ) (mia : Option ℕ) (r : ResourceData) → moment < until → is_mia_of (at c nodes) mia ≡ true → is_instance c r ≡ true → is_quiet nodes until r ≡ true → is_due_by mia moment r ≡ false
 instance_quiet nodes c until moment mia r before own instance quiet =
-    let parts = and_parts (r.parent == c) (is_ty r.ty ContentInstance) instance in
-    let number : (ty_row r.ty).number ≡ 4 = eqb-true (ty_row r.ty).number 4 parts.1 in
+    let kin = kin_parts ContentInstance c r instance in
+    let number : (ty_row r.ty).number ≡ 4 = eqb-true (ty_row r.ty).number 4 kin.kind in
     let other : is_ty r.ty CseBase ≡ false = ne_eqb (ty_row r.ty).number 5 (λ e. omega arith) in
-    let held : nat_le until (lesser r.et (age_end (at r.parent nodes) r)) ≡ true = rw (other, parts.1) at quiet in
-    let moved : nat_le until (lesser r.et (age_end (at c nodes) r)) ≡ true = ap (λ (n : ℕ). nat_le until (lesser r.et (age_end (at n nodes) r))) (sym (eqb-true r.parent c parts.0)) ∙ held in
+    let held : nat_le until (lesser r.et (age_end (at r.parent nodes) r)) ≡ true = rw (other, kin.kind) at quiet in
+    let moved : nat_le until (lesser r.et (age_end (at c nodes) r)) ≡ true = ap (λ (n : ℕ). nat_le until (lesser r.et (age_end (at n nodes) r))) (sym kin.under) ∙ held in
     let least : until ≤ lesser r.et (age_end (at c nodes) r) = leb-true until (lesser r.et (age_end (at c nodes) r)) moved in
     let later : lesser r.et (age_end (at c nodes) r) ≤ end_by mia r = end_later (at c nodes) mia r own in
     lt-leb (end_by mia r) moment (omega (arith, before, least, later))

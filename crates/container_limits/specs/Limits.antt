@@ -48,11 +48,11 @@ suffixes (r ∷ rs) = (r ∷ rs) ∷ suffixes rs
 abbrev pub longest_fit : Limits → Option ℕ → List ResourceData → List ResourceData
 longest_fit limits new rs = unwrap_or (find (do_fit limits new) (suffixes rs)) []
 
--- it is due by then
+-- The instance is due by this moment.
 abbrev pub is_due_by : Option ℕ → ℕ → ResourceData → Bool
 is_due_by mia moment r = has_come moment (end_by mia r)
 
--- it isn't due yet
+-- The instance isn't due by this moment.
 abbrev pub lasts : Option ℕ → ℕ → ResourceData → Bool
 lasts mia moment r = not (is_due_by mia moment r)
 
@@ -61,7 +61,7 @@ abbrev pub is_in_state : Bool → Option ℕ → ℕ → ResourceData → Bool
 is_in_state due mia moment r =
     if due then is_due_by mia moment r else lasts mia moment r
 
--- it goes where it stands outside or is due
+-- The instance goes: it stands outside the run that stays, or is due.
 abbrev pub goes : Bool → Option ℕ → ℕ → ResourceData → Bool
 goes outside mia moment r = outside || is_due_by mia moment r
 

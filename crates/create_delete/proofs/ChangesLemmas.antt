@@ -1,7 +1,7 @@
 -- The changes that come of an operation are those that it prepares.
 use Rattle.std.specs.Prelude.{nat_eq}
 use Rattle.std.proofs.Common.{◌≡◌, ℕ, ◌+◌, List, [], ◌∷◌, ◌++◌, map, Bool, true, false, not, ◌&&◌, cond, Option, Some, None, inl, inr, refl, sym, ap, ◌∙◌, subst}
-use Rattle.std.proofs.lemmas.Bool.{cases_Bool, cases_eq, and_parts, both_ways}
+use Rattle.std.proofs.lemmas.Bool.{cases_Bool, cases_eq, both_ways}
 use Rattle.std.proofs.lemmas.List.Elements.{filter-append}
 use Rattle.std.specs.List.{filter, list_all, list_any}
 use Rattle.std.specs.Option.{option_map_or}
@@ -12,10 +12,10 @@ use Rattle.m2m_names.specs.declared.operations.Op.TheVariants.{Create, Update, D
 use Rattle.m2m_names.specs.declared.types.Ty.TheVariants.{Container, ContentInstance}
 use Rattle.primitive_json.specs.declared.request.RequestParts.{RequestParts}
 use Rattle.resource_model.specs.Resource.{ResourceData, has_number, is_ty}
-use Rattle.tree_model.specs.Tree.{at, has, instances_of, instance_size, is_spared, is_tree, is_under, line_of, replaced, restamped, restamped_at, without}
+use Rattle.tree_model.specs.Tree.{at, has, instances_of, instance_size, is_spared, is_tree, line_of, replaced, restamped, without}
 use Rattle.tree_model.proofs.ChangeLemmas.{unpicked-replaced}
 use Rattle.tree_model.proofs.GrowthLemmas.{has-without, tree_from_well_formed}
-use Rattle.tree_model.proofs.TreeLemmas.{at_has, at_number, at-replaced_other, has_from_at}
+use Rattle.tree_model.proofs.TreeLemmas.{at_has, at_number, at-replaced_other, has_from_at, filter_among, kin_parts}
 use Rattle.container_limits.specs.Limits.{evicted, limits_of}
 use Rattle.tree_model.proofs.StepLemmas.{not_not}
 use Rattle.entity_model.specs.Entity.{EntityData}
@@ -23,22 +23,22 @@ use Rattle.entity_model.specs.Places.{Effect}
 use Rattle.entity_model.specs.Sound.{IsSoundEntity}
 use Rattle.request_rules.specs.Order.{fault_at, fault_on}
 use Rattle.create_delete.specs.Changes.{changes_at, changes_by, created, creation_changes, deleted, deletion_changes, named_attrs, only_in, update_changes, update_made, updated}
-use Rattle.create_delete.specs.Changing.{after_joining, is_numbered_in, nodes_updated, performed_at, pushed_by, pushed_out, with_newcomer, without_all}
+use Rattle.create_delete.specs.Changing.{after_joining, is_numbered_in, nodes_updated, effect_at, pushed_by, pushed_out, with_new_resource, without_all}
 use Rattle.create_delete.specs.Joining.{gone_by, MayJoin}
-use Rattle.create_delete.specs.Newcomer.{IsFilling, IsNewcomer, IsReplacement}
-use Rattle.create_delete.specs.declared.joining.Filling.{Filling}
+use Rattle.create_delete.specs.NewResource.{IsNewInstance, IsNewResource, IsReplacement}
+use Rattle.create_delete.specs.declared.joining.ContainerUpdate.{ContainerUpdate}
 use Rattle.create_delete.proofs.GrownLemmas.{grown_by, nothing_picked}
 use Rattle.create_delete.proofs.InstanceLemmas.{limits_restamped, pruning as filling_pruning}
 use Rattle.create_delete.proofs.JoiningLemmas.{filled_is, pushes_named}
-use Rattle.create_delete.proofs.KeptLemmas.{filter_among}
-use Rattle.create_delete.proofs.LeftLemmas.{all_but_out, filter_found, filter_swap, has_left}
-use Rattle.create_delete.proofs.PerformedLemmas.{done_at}
+use Rattle.create_delete.proofs.LeftLemmas.{all_but_out, filter_found, has_left}
+use Rattle.create_delete.proofs.EffectLemmas.{done_at}
 use Rattle.create_delete.proofs.PushingLemmas.{nothing_removed}
 use Rattle.create_delete.proofs.ReplacedLemmas.{replaced_by}
 use Rattle.create_delete.proofs.RightCreateLemmas.{container_there, lacks, nodes_filled, not_out, older_there, same_filled, stamped_there}
 use Rattle.create_delete.proofs.RightUpdateLemmas.{now_there, turned_tree, updated_in, updated_left}
 use Rattle.create_delete.proofs.ThoseLemmas.{those_evicted, those_pushed}
 use Rattle.create_delete.proofs.UpdatedLemmas.{pruning}
+use Rattle.tree_model.proofs.RowLemmas.{filter_swap}
 
 -- ---- what is gone
 
@@ -96,7 +96,7 @@ module _ (e : EntityData) (sound : IsSoundEntity e) (c : ResourceData) (new : Is
   c_left = by_left (at c.number (nodes_updated e c)) refl
     where
       by_left : (x : Option ResourceData) → at c.number (nodes_updated e c) ≡ x → x ≡ Some c
-      by_left None is = absurd (both_ways _ new.plain (and_parts (is_under c.number c) (is_ty c.ty ContentInstance) ((updated_left e sound c new).gone c (now_there e sound c new) is)).1)
+      by_left None is = absurd (both_ways _ new.plain (kin_parts ContentInstance c.number c ((updated_left e sound c new).gone c (now_there e sound c new) is)).kind)
       by_left (Some s) is = sym ((updated_left e sound c new).stood c.number s is) ∙ now_there e sound c new
 
   pub updating_changes : (request : RequestParts) (old : ResourceData) → at c.number e.nodes ≡ Some old → changes_by Update request c.number e (updated_in e c) ≡ update_changes e.nodes old c (named_attrs request old) (pushed_by e c)
@@ -110,13 +110,13 @@ module _ (e : EntityData) (sound : IsSoundEntity e) (c : ResourceData) (new : Is
 -- ---- a Create
 
 -- what comes last is what is new
-pub only_last : (e : EntityData) (r : ResourceData) → IsSoundEntity e → IsNewcomer e r → only_in (e.nodes ++ r ∷ []) e.nodes ≡ r ∷ []
+pub only_last : (e : EntityData) (r : ResourceData) → IsSoundEntity e → IsNewResource e r → only_in (e.nodes ++ r ∷ []) e.nodes ≡ r ∷ []
 only_last e r sound new =
     filter-append (λ s. not (has s.number e.nodes)) e.nodes (r ∷ [])
     ∙ ap (λ (rs : List ResourceData). rs ++ filter (λ s. not (has s.number e.nodes)) (r ∷ [])) (nothing_apart e.nodes)
     ∙ ap (λ (b : Bool). cond (not b) (r ∷ []) []) (has_from_at r.number e.nodes (lacks e sound r new))
 
-join_changes : (e : EntityData) (r : ResourceData) (request : RequestParts) (n : ℕ) → IsSoundEntity e → IsNewcomer e r → changes_by Create request n e (with_newcomer e r) ≡ created r ∷ []
+join_changes : (e : EntityData) (r : ResourceData) (request : RequestParts) (n : ℕ) → IsSoundEntity e → IsNewResource e r → changes_by Create request n e (with_new_resource e r) ≡ created r ∷ []
 join_changes e r request n sound new =
     let tree = tree_from_well_formed e.nodes sound.tree in
     let gone : only_in e.nodes (e.nodes ++ r ∷ []) ≡ filter (λ s. false) e.nodes =
@@ -124,7 +124,7 @@ join_changes e r request n sound new =
     ap (λ (rs : List ResourceData). map created rs ++ map deleted (only_in e.nodes (e.nodes ++ r ∷ []))) (only_last e r sound new)
     ∙ ap (λ (rs : List ResourceData). created r ∷ map deleted rs) (gone ∙ nothing_picked (λ s. false) e.nodes (none_false e.nodes))
 
-module _ (e : EntityData) (sound : IsSoundEntity e) (r c : ResourceData) (st : ℕ) (filling : IsFilling e r c st) where
+module _ (e : EntityData) (sound : IsSoundEntity e) (r c : ResourceData) (st : ℕ) (filling : IsNewInstance e r c st) where
   abbrev all : List ResourceData
   all = e.nodes ++ r ∷ []
 
@@ -183,7 +183,7 @@ module _ (e : EntityData) (sound : IsSoundEntity e) (r c : ResourceData) (st : �
       (gone_are (is_numbered_in out) e.nodes left (tree_from_well_formed e.nodes sound.tree) each_has
       ∙ sym (those_evicted (limits_of c) (Some (instance_size r)) e.last r.parent e.nodes (tree_from_well_formed e.nodes sound.tree)))
 
-pub join_makes_changes : (e : EntityData) (r : ResourceData) (f : Option Filling) (request : RequestParts) (n : ℕ) → IsSoundEntity e → MayJoin e r f → changes_by Create request n e (after_joining e r f) ≡ creation_changes e.nodes r (gone_by f)
+pub join_makes_changes : (e : EntityData) (r : ResourceData) (f : Option ContainerUpdate) (request : RequestParts) (n : ℕ) → IsSoundEntity e → MayJoin e r f → changes_by Create request n e (after_joining e r f) ≡ creation_changes e.nodes r (gone_by f)
 join_makes_changes e r None request n sound may = join_changes e r request n sound may.0
 join_makes_changes e r (Some f) request n sound may =
     ap (changes_by Create request n e) (sym (filled_is e r f may))
@@ -193,15 +193,15 @@ join_makes_changes e r (Some f) request n sound may =
 -- ---- what an operation prepares
 
 -- those of an operation that no place refuses
-made : (op : Op) (e : EntityData) (o : List ℕ) (request : RequestParts) (n : ℕ) → fault_at op e o request n ≡ None → changes_at op e o request n ≡ changes_by op request n e (performed_at op e o request n).after
-made op e o request n allowed = ap (λ (x : Option Rsc). option_map_or (λ fault. []) x (changes_by op request n e (performed_at op e o request n).after)) allowed
+made : (op : Op) (e : EntityData) (o : List ℕ) (request : RequestParts) (n : ℕ) → fault_at op e o request n ≡ None → changes_at op e o request n ≡ changes_by op request n e (effect_at op e o request n).after
+made op e o request n allowed = ap (λ (x : Option Rsc). option_map_or (λ fault. []) x (changes_by op request n e (effect_at op e o request n).after)) allowed
 
-pub created_are : (e : EntityData) (o : List ℕ) (request : RequestParts) (n : ℕ) (r : ResourceData) (f : Option Filling) → IsSoundEntity e → fault_at Create e o request n ≡ None → MayJoin e r f → after_joining e r f ≡ (performed_at Create e o request n).after → creation_changes e.nodes r (gone_by f) ≡ changes_at Create e o request n
+pub created_are : (e : EntityData) (o : List ℕ) (request : RequestParts) (n : ℕ) (r : ResourceData) (f : Option ContainerUpdate) → IsSoundEntity e → fault_at Create e o request n ≡ None → MayJoin e r f → after_joining e r f ≡ (effect_at Create e o request n).after → creation_changes e.nodes r (gone_by f) ≡ changes_at Create e o request n
 created_are e o request n r f sound allowed may after =
     sym (join_makes_changes e r f request n sound may) ∙ ap (changes_by Create request n e) after
     ∙ sym (made Create e o request n allowed)
 
-pub updated_are : (e : EntityData) (o : List ℕ) (request : RequestParts) (n : ℕ) (r s : ResourceData) (gone : List ℕ) → IsSoundEntity e → fault_at Update e o request n ≡ None → at n e.nodes ≡ Some r → s.number ≡ n → IsReplacement e s → gone ≡ pushed_by e s → record e { nodes = nodes_updated e s } ≡ (performed_at Update e o request n).after → update_changes e.nodes r s (named_attrs request r) gone ≡ changes_at Update e o request n
+pub updated_are : (e : EntityData) (o : List ℕ) (request : RequestParts) (n : ℕ) (r s : ResourceData) (gone : List ℕ) → IsSoundEntity e → fault_at Update e o request n ≡ None → at n e.nodes ≡ Some r → s.number ≡ n → IsReplacement e s → gone ≡ pushed_by e s → record e { nodes = nodes_updated e s } ≡ (effect_at Update e o request n).after → update_changes e.nodes r s (named_attrs request r) gone ≡ changes_at Update e o request n
 updated_are e o request n r s gone sound allowed found same new out after =
     ap (update_changes e.nodes r s (named_attrs request r)) out
     ∙ sym (updating_changes e sound s new request r (ap (λ (m : ℕ). at m e.nodes) same ∙ found))

@@ -1,7 +1,7 @@
 -- What a creation that no place refuses makes may join a sound entity.
 use Rattle.std.specs.Prelude.{nat_le, nat_lt}
-use Rattle.std.proofs.Common.{◌≡◌, ℕ, ◌+◌, ◌-◌, ◌^◌, ◌<◌, ◌≤◌, List, [], ◌∷◌, ◌++◌, length, true, false, not, ◌&&◌, ◌||◌, Option, Some, None, is_some, option_map, option_and_then, unwrap_or, if◌then◌else◌, bytes_eq, pos, inl, inr, refl, sym, ap, ◌∙◌, arith}
-use Rattle.std.proofs.lemmas.Bool.{cases_Bool, and_parts, and_from, or_left, or_right, not-true, not_from_false, ltb-true, leb-true, lt-leb, le-leb, eqb-true}
+use Rattle.std.proofs.Common.{◌≡◌, ℕ, ◌+◌, ◌-◌, ◌^◌, ◌<◌, ◌≤◌, List, [], ◌∷◌, ◌++◌, true, false, not, ◌||◌, Option, Some, None, is_some, option_map, option_and_then, unwrap_or, if◌then◌else◌, bytes_eq, pos, inl, inr, refl, sym, ap, ◌∙◌, arith}
+use Rattle.std.proofs.lemmas.Bool.{cases_Bool, and_from, or_left, or_right, not-true, not_from_false, ltb-true, lt-leb, le-leb, eqb-true}
 use Rattle.std.proofs.lemmas.List.Folds.{list_all-append}
 use Rattle.std.specs.List.{list_all}
 use Rattle.std.specs.Option.{option_map_or}
@@ -10,9 +10,9 @@ use Rattle.m2m_names.specs.Name.{is_originator}
 use Rattle.m2m_names.specs.Stamps.{last_moment}
 use Rattle.m2m_names.specs.Types.{does_take}
 use Rattle.m2m_names.specs.declared.attributes.Attr.{Attr}
-use Rattle.m2m_names.specs.declared.attributes.Attr.TheVariants.{Acpi, Aei, Cr, Cs, Csi, Macp, Mbs, Mia, Mni, St}
+use Rattle.m2m_names.specs.declared.attributes.Attr.TheVariants.{Acpi, Aei, Cr, Cs, Csi, Macp, Mia, St}
 use Rattle.m2m_names.specs.declared.types.Ty.{Ty}
-use Rattle.m2m_names.specs.declared.types.Ty.TheVariants.{Ae, Container, ContentInstance, CseBase, PollingChannel, RemoteCse}
+use Rattle.m2m_names.specs.declared.types.Ty.TheVariants.{Ae, Container, ContentInstance, PollingChannel, RemoteCse}
 use Rattle.m2m_names.proofs.TypeLemmas.{same_type}
 use Rattle.m2m_value.specs.Data.{Data, Entry, number, text}
 use Rattle.m2m_value.specs.Node.{AreSorted}
@@ -22,75 +22,41 @@ use Rattle.resource_model.specs.Attributes.{Row, count_at, is_attr, value_of, wi
 use Rattle.resource_model.specs.Resource.{ResourceData, is_ty, ae_id, cse_id}
 use Rattle.resource_model.proofs.AttributeLemmas.{value-with_value_same}
 use Rattle.tree_model.specs.Shown.{with_rows, own_cse_id}
-use Rattle.tree_model.specs.Tree.{at, age_end, due_under, may_stand, has_ae_id, has_child, has_channel, has_cse_id, is_due, is_placed, lesser, same_text, instance_size}
+use Rattle.tree_model.specs.Tree.{at, age_end, due_under, may_stand, has_ae_id, has_channel, has_cse_id, is_due, is_placed, lesser, instance_size}
 use Rattle.tree_model.proofs.ShownLemmas.{with_rows-append}
+use Rattle.tree_model.proofs.FoundLemmas.{no_text_found}
+use Rattle.tree_model.proofs.GrowthLemmas.{fits_next}
 use Rattle.tree_model.proofs.TreeLemmas.{at_has}
 use Rattle.attribute_rules.specs.Admission.{attributes_in, is_admitted}
 use Rattle.attribute_rules.specs.Contents.{named_text, wanted_in, wanted_of}
 use Rattle.attribute_rules.specs.declared.table.Writing.TheVariants.{Create as Creating}
 use Rattle.attribute_rules.proofs.ValueLemmas.{value_wanted}
-use Rattle.container_limits.specs.Limits.{is_within}
 use Rattle.policy_eval.specs.Rules.{listed_in, ids_at}
 use Rattle.entity_model.specs.Entity.{EntityData, last_reading}
 use Rattle.entity_model.specs.Sound.{is_known_id, largest_size, IsSoundEntity}
-use Rattle.request_rules.specs.Creation.{Creation, creator_rows, given_rows, has_place, has_room, is_below, is_free_cse_id, is_single, is_small, new_ae_id, new_name, new_resource, new_rows, new_size, next_state, takes_instance}
+use Rattle.request_rules.specs.Creation.{Creation, creator_rows, given_rows, has_room, is_below, is_free_cse_id, is_single, is_small, new_ae_id, new_resource, new_rows, new_size, next_state, takes_instance}
 use Rattle.request_rules.specs.Policies.{link_row}
 use Rattle.request_rules.specs.Requests.{named_expiry}
 use Rattle.request_rules.proofs.EditingLemmas.{attributes_admitted}
-use Rattle.create_delete.specs.Changing.{filling_of, pushed_out}
+use Rattle.request_rules.proofs.RoomLemmas.{StandsAlone, HasRoom, free_cse_id_parts, place_parts, room_parts, takes_parts, unique_parts}
+use Rattle.create_delete.specs.Changing.{container_update_of, pushed_out}
 use Rattle.create_delete.specs.Joining.{IsAllowed, MayJoin}
-use Rattle.create_delete.specs.Newcomer.{IsFilling, IsNewcomer}
-use Rattle.create_delete.proofs.NewcomerLemmas.{lacks_creator, lacks_given, lacks_link, link_known, new_kinds, new_name_is_free, state_small, wanted_none}
-use Rattle.create_delete.proofs.RoomLemmas.{place_for}
+use Rattle.create_delete.specs.NewResource.{IsNewInstance, IsNewResource}
+use Rattle.create_delete.proofs.NewResourceLemmas.{lacks_creator, lacks_given, lacks_link, link_known, new_kinds, new_name_is_free, state_small, wanted_none}
 use Rattle.create_delete.proofs.RowLemmas.{value_unset}
+use Rattle.tree_model.proofs.QuietLemmas.{due_case, due_never, due_by_age, due_by_expiry}
 
 -- ---- what the limits say
 
-record HasRoom (c : Creation) : Type 0 where
-  place : has_place c.e c.parent.number ≡ true
-  few : c.e.next < 2 ^ 63 - 1
-  small : is_small c ≡ true
-
-room_for : (c : Creation) → has_room c ≡ true → HasRoom c
-room_for c room =
-    let parts = and_parts (has_place c.e c.parent.number) (is_small c) room in
-    record { place = parts.0; few = (place_for c.e c.parent.number parts.0).few; small = parts.1 }
+few_for : (c : Creation) → has_room c ≡ true → c.e.next < 2 ^ 63 - 1
+few_for c room = (place_parts c.e c.parent.number (room_parts c room).place).few
 
 takes_it : (c : Creation) → is_small c ≡ true → is_ty c.ty ContentInstance ≡ true → takes_instance c.parent (new_size c) ≡ true
 takes_it c small instance = rw instance at small
 
-record IsTaking (container : ResourceData) (bytes : ℕ) : Type 0 where
-  size : bytes ≤ largest_size
-  age : is_below 0 (count_at Mia container.attrs) ≡ true
-
-taking : (container : ResourceData) (size : ℕ) → takes_instance container size ≡ true → IsTaking container size
-taking container size takes =
-    let a = and_parts ((nat_le size largest_size && is_within size (count_at Mbs container.attrs)) && is_below 0 (count_at Mni container.attrs)) (is_below 0 (count_at Mia container.attrs)) takes in
-    let b = and_parts (nat_le size largest_size && is_within size (count_at Mbs container.attrs)) (is_below 0 (count_at Mni container.attrs)) a.0 in
-    let d = and_parts (nat_le size largest_size) (is_within size (count_at Mbs container.attrs)) b.0 in
-    record { size = leb-true size largest_size d.0; age = a.1 }
-
--- ---- what nothing has isn't anyone's
-
-no_ae_id : (nodes : List ResourceData) → has_ae_id None nodes ≡ false
-no_ae_id [] = refl
-no_ae_id (s ∷ nodes) = ap (λ b. b || has_ae_id None nodes) (first (ae_id s)) ∙ no_ae_id nodes
-  where
-    first : (o : Option (List ℕ)) → same_text o None ≡ false
-    first None = refl
-    first (Some a) = refl
-
-no_cse_id : (nodes : List ResourceData) → has_cse_id None nodes ≡ false
-no_cse_id [] = refl
-no_cse_id (s ∷ nodes) = ap (λ b. b || has_cse_id None nodes) (first (cse_id s)) ∙ no_cse_id nodes
-  where
-    first : (o : Option (List ℕ)) → same_text o None ≡ false
-    first None = refl
-    first (Some a) = refl
-
 -- ---- a new resource
 
-module _ (c : Creation) (sound : IsSoundEntity c.e) (originator : is_originator c.o ≡ true) (sorted : AreSorted c.named) (may : IsAllowed c) where
+module _ (c : Creation) (sound : IsSoundEntity c.e) (originator : is_originator c.originator ≡ true) (sorted : AreSorted c.named) (may : IsAllowed c) where
   abbrev r : ResourceData
   r = new_resource c
 
@@ -98,7 +64,7 @@ module _ (c : Creation) (sound : IsSoundEntity c.e) (originator : is_originator 
   given = given_rows c.ty c
 
   abbrev creator : List Row
-  creator = creator_rows c.o c.named
+  creator = creator_rows c.originator c.named
 
   abbrev wanted : List Row
   wanted = (wanted_in c.named).attrs
@@ -107,7 +73,7 @@ module _ (c : Creation) (sound : IsSoundEntity c.e) (originator : is_originator 
   base = with_rows creator (with_rows given wanted)
 
   room : HasRoom c
-  room = room_for c may.room
+  room = room_parts c may.room
 
   rows_are : new_rows c ≡ with_rows (link_row c.e c.named Macp) (with_rows (link_row c.e c.named Acpi) base)
   rows_are =
@@ -121,12 +87,12 @@ module _ (c : Creation) (sound : IsSoundEntity c.e) (originator : is_originator 
       ap (value_of a) rows_are
       ∙ value_unset a (link_row c.e c.named Macp) (with_rows (link_row c.e c.named Acpi) base) (lacks_link a Macp c.e c.named macp)
       ∙ value_unset a (link_row c.e c.named Acpi) base (lacks_link a Acpi c.e c.named acpi)
-      ∙ value_unset a creator (with_rows given wanted) (lacks_creator a c.o c.named cr)
+      ∙ value_unset a creator (with_rows given wanted) (lacks_creator a c.originator c.named cr)
 
   -- ---- identifiers
 
-  unique : (not (has_child c.parent.number (new_name c) c.e.nodes) ≡ true) × (is_single c.ty c ≡ true)
-  unique = and_parts (not (has_child c.parent.number (new_name c) c.e.nodes)) (is_single c.ty c) may.unique
+  unique : StandsAlone c
+  unique = unique_parts c may.unique
 
   ae_is : is_ty c.ty Ae ≡ true → ae_id r ≡ Some (new_ae_id c)
   ae_is is =
@@ -134,10 +100,10 @@ module _ (c : Creation) (sound : IsSoundEntity c.e) (originator : is_originator 
       let put : value_of Aei (with_rows given wanted) ≡ Some (text (new_ae_id c)) = ap (λ (t : Ty). value_of Aei (with_rows (given_rows t c) wanted)) ty ∙ value-with_value_same Aei (text (new_ae_id c)) wanted in
       rw is (ap (option_and_then as_text) (before_links Aei refl refl refl ∙ put))
 
-  free_ae : not (has_ae_id (ae_id r) c.e.nodes) ≡ true
+  free_ae : has_ae_id (ae_id r) c.e.nodes ≡ false
   free_ae = elim (cases_Bool (is_ty c.ty Ae)) [
-    | inl is ↦ ap (λ (o : Option (List ℕ)). not (has_ae_id o c.e.nodes)) (ae_is is) ∙ sym (ap (λ (t : Ty). is_single t c) (same_type c.ty Ae (eqb-true _ _ is))) ∙ unique.1
-    | inr other ↦ (let none : ae_id r ≡ None = rw other refl in not_from_false _ (ap (λ (o : Option (List ℕ)). has_ae_id o c.e.nodes) none ∙ no_ae_id c.e.nodes))
+    | inl is ↦ ap (λ (o : Option (List ℕ)). has_ae_id o c.e.nodes) (ae_is is) ∙ not-true _ (sym (ap (λ (t : Ty). is_single t c) (same_type c.ty Ae (eqb-true _ _ is))) ∙ unique.single)
+    | inr other ↦ (let none : ae_id r ≡ None = rw other refl in ap (λ (o : Option (List ℕ)). has_ae_id o c.e.nodes) none ∙ no_text_found ae_id c.e.nodes)
   ]
 
   whole : (o : Option Data) → option_and_then (λ d. if false then None else Some d) o ≡ o
@@ -152,23 +118,23 @@ module _ (c : Creation) (sound : IsSoundEntity c.e) (originator : is_originator 
       rw is (ap (option_and_then as_text) (before_links Csi refl refl refl ∙ kept ∙ named))
 
   -- what a remote CSE names is free, and not the own
-  free_csi : (o : Option (List ℕ)) → option_map_or (is_free_cse_id c.e) o true ≡ true → (not (has_cse_id o c.e.nodes) ≡ true) × (option_map_or (bytes_eq (own_cse_id c.e.home)) o false ≡ false)
-  free_csi None t = (not_from_false _ (no_cse_id c.e.nodes), refl)
-  free_csi (Some csi) t = (let parts = and_parts (not (has_cse_id (Some csi) c.e.nodes)) (not (bytes_eq (own_cse_id c.e.home) csi)) t in (parts.0, not-true _ parts.1))
+  free_csi : (o : Option (List ℕ)) → option_map_or (is_free_cse_id c.e) o true ≡ true → (has_cse_id o c.e.nodes ≡ false) × (option_map_or (bytes_eq (own_cse_id c.e.home)) o false ≡ false)
+  free_csi None t = (no_text_found cse_id c.e.nodes, refl)
+  free_csi (Some csi) t = (let parts = free_cse_id_parts c.e csi t in (parts.free, parts.foreign))
 
-  cse_free : (not (has_cse_id (cse_id r) c.e.nodes) ≡ true) × (option_map_or (bytes_eq (own_cse_id c.e.home)) (cse_id r) false ≡ false)
+  cse_free : (has_cse_id (cse_id r) c.e.nodes ≡ false) × (option_map_or (bytes_eq (own_cse_id c.e.home)) (cse_id r) false ≡ false)
   cse_free = elim (cases_Bool (is_ty c.ty RemoteCse)) [
     | inl is ↦
-        let single : option_map_or (is_free_cse_id c.e) (named_text Csi c.named) true ≡ true = sym (ap (λ (t : Ty). is_single t c) (same_type c.ty RemoteCse (eqb-true _ _ is))) ∙ unique.1 in
+        let single : option_map_or (is_free_cse_id c.e) (named_text Csi c.named) true ≡ true = sym (ap (λ (t : Ty). is_single t c) (same_type c.ty RemoteCse (eqb-true _ _ is))) ∙ unique.single in
         let free = free_csi (named_text Csi c.named) single in
-        (ap (λ (o : Option (List ℕ)). not (has_cse_id o c.e.nodes)) (cse_is is) ∙ free.0, ap (λ (o : Option (List ℕ)). option_map_or (bytes_eq (own_cse_id c.e.home)) o false) (cse_is is) ∙ free.1)
+        (ap (λ (o : Option (List ℕ)). has_cse_id o c.e.nodes) (cse_is is) ∙ free.0, ap (λ (o : Option (List ℕ)). option_map_or (bytes_eq (own_cse_id c.e.home)) o false) (cse_is is) ∙ free.1)
     | inr other ↦
         let none : cse_id r ≡ None = rw other refl in
-        (not_from_false _ (ap (λ (o : Option (List ℕ)). has_cse_id o c.e.nodes) none ∙ no_cse_id c.e.nodes), ap (λ (o : Option (List ℕ)). option_map_or (bytes_eq (own_cse_id c.e.home)) o false) none)
+        (ap (λ (o : Option (List ℕ)). has_cse_id o c.e.nodes) none ∙ no_text_found cse_id c.e.nodes, ap (λ (o : Option (List ℕ)). option_map_or (bytes_eq (own_cse_id c.e.home)) o false) none)
   ]
 
   one_channel : is_ty r.ty PollingChannel ≡ true → has_channel r.parent c.e.nodes ≡ false
-  one_channel is = not-true _ (sym (ap (λ (t : Ty). is_single t c) (same_type c.ty PollingChannel (eqb-true _ _ is))) ∙ unique.1)
+  one_channel is = not-true _ (sym (ap (λ (t : Ty). is_single t c) (same_type c.ty PollingChannel (eqb-true _ _ is))) ∙ unique.single)
 
   -- ---- its place
 
@@ -176,7 +142,13 @@ module _ (c : Creation) (sound : IsSoundEntity c.e) (originator : is_originator 
   placed = or_left _ _ (at_has c.parent.number c.e.nodes c.parent may.parent)
 
   fitting : may_stand c.e.nodes r ≡ true
-  fitting = and_from _ _ (and_from _ _ (and_from _ _ (and_from _ _ sound.numbers placed) unique.0) free_ae) cse_free.0
+  fitting = fits_next c.e.nodes r (record {
+    number = sound.numbers;
+    parent = placed;
+    name = unique.name;
+    ae = free_ae;
+    cse = cse_free.0;
+  })
 
   taken : option_map_or (λ (p : ResourceData). does_take p.ty r.ty) (at r.parent c.e.nodes) true ≡ true
   taken = ap (λ (o : Option ResourceData). option_map_or (λ (p : ResourceData). does_take p.ty r.ty) o true) may.parent ∙ may.takes
@@ -185,7 +157,7 @@ module _ (c : Creation) (sound : IsSoundEntity c.e) (originator : is_originator 
 
   -- a policy link before it is put in
   link_before : (a : Attr) → is_attr Cr a ≡ false → is_attr Aei a ≡ false → is_attr St a ≡ false → is_attr Cs a ≡ false → value_of a base ≡ value_of a wanted
-  link_before a cr aei st cs = value_unset a creator (with_rows given wanted) (lacks_creator a c.o c.named cr) ∙ value_unset a given wanted (lacks_given a c.ty c aei st cs)
+  link_before a cr aei st cs = value_unset a creator (with_rows given wanted) (lacks_creator a c.originator c.named cr) ∙ value_unset a given wanted (lacks_given a c.ty c aei st cs)
 
   acpi_known : list_all (is_known_id c.e.next) (ids_at Acpi r) ≡ true
   acpi_known =
@@ -199,7 +171,7 @@ module _ (c : Creation) (sound : IsSoundEntity c.e) (originator : is_originator 
       (λ t. ap (list_all (is_known_id c.e.next)) (ap listed_in (value_unset Macp (link_row c.e c.named Acpi) base (lacks_link Macp Acpi c.e c.named refl) ∙ link_before Macp refl refl refl refl) ∙ wanted_none Macp c.named sorted t))
 
   small_size : is_ty c.ty ContentInstance ≡ true → new_size c ≤ largest_size
-  small_size is = (taking c.parent (new_size c) (takes_it c room.small is)).size
+  small_size is = (takes_parts c.parent (new_size c) (takes_it c room.small is)).largest
 
   size_is : is_ty c.ty ContentInstance ≡ true → instance_size r ≡ new_size c
   size_is is =
@@ -220,7 +192,7 @@ module _ (c : Creation) (sound : IsSoundEntity c.e) (originator : is_originator 
       by_named (Some m) t = ltb-true c.e.last m t
 
   ages : is_ty c.ty ContentInstance ≡ true → nat_le (lesser r.et (age_end (Some c.parent) r)) c.e.last ≡ false
-  ages is = by_age (count_at Mia c.parent.attrs) (taking c.parent (new_size c) (takes_it c room.small is)).age
+  ages is = by_age (count_at Mia c.parent.attrs) (takes_parts c.parent (new_size c) (takes_it c room.small is)).age
     where
       by_age : (o : Option ℕ) → is_below 0 o ≡ true → nat_le (lesser r.et (option_map (λ age. c.e.last + age) o)) c.e.last ≡ false
       by_age None t = lt-leb r.et c.e.last expires
@@ -230,12 +202,10 @@ module _ (c : Creation) (sound : IsSoundEntity c.e) (originator : is_originator 
   not_due = ap (λ (o : Option ResourceData). option_map_or (λ at. nat_le at c.e.last) (due_under o r) false) may.parent ∙ by_type
     where
       by_type : option_map_or (λ at. nat_le at c.e.last) (due_under (Some c.parent) r) false ≡ false
-      by_type = elim (cases_Bool (is_ty c.ty CseBase)) [
-        | inl t ↦ rw t refl
-        | inr f ↦ elim (cases_Bool (is_ty c.ty ContentInstance)) [
-          | inl u ↦ rw (f, u) (ages u)
-          | inr v ↦ rw (f, v) (lt-leb r.et c.e.last expires)
-        ]
+      by_type = elim (due_case c.ty) [
+        | due_never t ↦ rw t refl
+        | due_by_age f u ↦ rw (f, u) (ages u)
+        | due_by_expiry f v ↦ rw (f, v) (lt-leb r.et c.e.last expires)
       ]
 
   -- ---- whole
@@ -255,9 +225,9 @@ module _ (c : Creation) (sound : IsSoundEntity c.e) (originator : is_originator 
     | inr other ↦ or_left _ _ (not_from_false _ other)
   ]
 
-  pub newcomer : IsNewcomer c.e r
+  pub newcomer : IsNewResource c.e r
   newcomer =
-      let few : c.e.next < 2 ^ 63 - 1 = room.few in
+      let few : c.e.next < 2 ^ 63 - 1 = few_for c may.room in
       record {
         number = refl;
         fits = and_from _ _ fitting taken;
@@ -272,7 +242,7 @@ module _ (c : Creation) (sound : IsSoundEntity c.e) (originator : is_originator 
         due = not_due;
       }
 
-  pub filling : is_ty c.ty ContentInstance ≡ true → IsFilling c.e r c.parent (next_state c.parent)
+  pub filling : is_ty c.ty ContentInstance ≡ true → IsNewInstance c.e r c.parent (next_state c.parent)
   filling is = record {
     new = newcomer;
     instance = is;
@@ -282,7 +252,7 @@ module _ (c : Creation) (sound : IsSoundEntity c.e) (originator : is_originator 
   }
 
   -- it may join, with what it does besides
-  pub may_join : MayJoin c.e r (filling_of c)
+  pub may_join : MayJoin c.e r (container_update_of c)
   may_join = elim (cases_Bool (is_ty c.ty ContentInstance)) [
     | inl is ↦ rw is (record {
       parent = c.parent;
@@ -296,10 +266,10 @@ module _ (c : Creation) (sound : IsSoundEntity c.e) (originator : is_originator 
 -- ---- what building it takes
 
 pub few_numbers : (c : Creation) → IsAllowed c → c.e.next < 2 ^ 63
-few_numbers c may = (let few : c.e.next < 2 ^ 63 - 1 = (room_for c may.room).few in omega arith)
+few_numbers c may = (let few : c.e.next < 2 ^ 63 - 1 = few_for c may.room in omega arith)
 
 pub small_contents : (c : Creation) → IsAllowed c → is_ty c.ty ContentInstance ≡ true → new_size c < 2 ^ 63
-small_contents c may is = (let small : new_size c ≤ 1048576 = (taking c.parent (new_size c) (takes_it c (room_for c may.room).small is)).size in omega arith)
+small_contents c may is = (let small : new_size c ≤ 1048576 = (takes_parts c.parent (new_size c) (takes_it c (room_parts c may.room).small is)).largest in omega arith)
 
 pub wanted_is : (ty : Ty) (content : Data) (es : List Entry) → attributes_in ty content ≡ Some es → wanted_of ty content ≡ wanted_in es
 wanted_is ty content es named = ap (λ (o : Option (List Entry)). wanted_in (unwrap_or o [])) named

@@ -1,6 +1,6 @@
 -- What a Delete leaves.
-use Rattle.std.proofs.Common.{◌≡◌, ℕ, List, [], ◌∷◌, Bool, true, false, cond, not, Option, Some, None, inl, inr, refl, sym, ap, ◌∙◌}
-use Rattle.std.proofs.lemmas.Bool.{cases_Bool, and_parts, both_ways, not-true, not_from_false}
+use Rattle.std.proofs.Common.{◌≡◌, ℕ, List, [], ◌∷◌, Bool, true, false, cond, Option, Some, None, inl, inr, refl, sym, ap, ◌∙◌}
+use Rattle.std.proofs.lemmas.Bool.{cases_Bool, both_ways, not-true, not_from_false, not-false}
 use Rattle.std.specs.List.{list_any}
 use Rattle.std.specs.Option.{option_map_or}
 use Rattle.m2m_names.specs.Operations.{op_row}
@@ -15,15 +15,17 @@ use Rattle.tree_model.specs.Tree.{at, has, line_of, without, is_spared}
 use Rattle.tree_model.proofs.GrowthLemmas.{at-without, tree_from_well_formed}
 use Rattle.tree_model.proofs.TreeLemmas.{at_has, at_number}
 use Rattle.policy_eval.specs.Rights.{grants}
-use Rattle.create_delete.specs.Changing.{performed_at}
+use Rattle.create_delete.specs.Changing.{effect_at}
 use Rattle.entity_model.specs.Entity.{EntityData}
-use Rattle.request_rules.specs.Order.{fault_at, places}
+use Rattle.request_rules.specs.Order.{fault_at}
 use Rattle.request_rules.specs.Requests.{is_for}
 use Rattle.request_rules.specs.Rights.{is_granted}
 use Rattle.entity_model.specs.Places.{Effect, reply_to}
 use Rattle.entity_model.specs.Sound.{begins_with_base, spares_first, IsSoundEntity}
-use Rattle.request_rules.proofs.OrderLemmas.{all_hold, nothing_on, found_at}
-use Rattle.create_delete.proofs.PerformedLemmas.{done_at, refused_at}
+use Rattle.request_rules.proofs.OrderLemmas.{nothing_on, found_at, places_parts}
+use Rattle.create_delete.proofs.EffectLemmas.{done_at, refused_at}
+use Rattle.entity_model.proofs.SoundLemmas.{base_parts}
+use Rattle.m2m_names.proofs.StepLemmas.{chosen}
 
 abbrev removed_from : EntityData → RequestParts → ℕ → Effect
 removed_from e request n = record {
@@ -32,7 +34,7 @@ removed_from e request n = record {
 }
 
 -- where nothing refuses it, the resource goes with all that stands below it
-pub delete_done : (e : EntityData) (o : List ℕ) (request : RequestParts) (n : ℕ) → fault_at Delete e o request n ≡ None → performed_at Delete e o request n ≡ removed_from e request n
+pub delete_done : (e : EntityData) (o : List ℕ) (request : RequestParts) (n : ℕ) → fault_at Delete e o request n ≡ None → effect_at Delete e o request n ≡ removed_from e request n
 delete_done e o request n none =
     let found = found_at Delete e o request n none in
     done_at Delete e o request n found.0 found.1 none
@@ -51,10 +53,8 @@ record Target (e : EntityData) (o : List ℕ) (n : ℕ) : Type 0 where
 target_of : (e : EntityData) (o : List ℕ) (request : RequestParts) (n : ℕ) → fault_at Delete e o request n ≡ None → Target e o n
 target_of e o request n none =
     let found = found_at Delete e o request n none in
-    let all = all_hold (places Delete e o request found.0) (nothing_on Delete e o request n found.0 found.1 none) in
-    let right = and_parts (is_granted e o (op_row Delete).bit found.0.number) _ all in
-    let kind = and_parts (is_for Delete found.0.ty) _ right.1 in
-    record { target = found.0; found = found.1; right = right.0; kind = kind.0 }
+    let parts = places_parts Delete e o request found.0 (nothing_on Delete e o request n found.0 found.1 none) in
+    record { target = found.0; found = found.1; right = parts.right; kind = parts.kind }
 
 pub deletable : (e : EntityData) (o : List ℕ) (request : RequestParts) (n : ℕ) → fault_at Delete e o request n ≡ None → is_deletable n e ≡ true
 deletable e o request n none =
@@ -75,7 +75,7 @@ spared home (r ∷ nodes) n t base there other = elim (cases_Bool (has_number n 
   | inl here ↦
       let same : Some r ≡ Some t = rw here at there in
       let is : is_ty r.ty CseBase ≡ is_ty t.ty CseBase = ap (λ (o : Option ResourceData). option_map_or (λ s. is_ty s.ty CseBase) o false) same in
-      absurd (both_ways _ (is ∙ other) (and_parts _ _ base).0)
+      absurd (both_ways _ (is ∙ other) (base_parts home r nodes base).kind)
   | inr apart ↦ not_from_false _ apart
 ]
 
@@ -89,7 +89,7 @@ deletable_spared n e sound may =
 
 -- what is done where nothing refuses it
 record IsDone (e : EntityData) (o : List ℕ) (request : RequestParts) (n : ℕ) : Type 0 where
-  after : (performed_at Delete e o request n).after.nodes ≡ without (has_number n) e.nodes
+  after : (effect_at Delete e o request n).after.nodes ≡ without (has_number n) e.nodes
   right : grants e.home e.nodes o (op_row Delete).bit n ≡ true
 
 done_on : (e : EntityData) (o : List ℕ) (request : RequestParts) (n : ℕ) → fault_at Delete e o request n ≡ None → IsDone e o request n
@@ -100,18 +100,14 @@ done_on e o request n none =
       right = ap (λ (m : ℕ). grants e.home e.nodes o (op_row Delete).bit m) (sym (at_number n e.nodes t.target t.found)) ∙ t.right;
     }
 
-refused_same : (e : EntityData) (o : List ℕ) (request : RequestParts) (n : ℕ) (f : Rsc) → fault_at Delete e o request n ≡ Some f → (performed_at Delete e o request n).after.nodes ≡ e.nodes
+refused_same : (e : EntityData) (o : List ℕ) (request : RequestParts) (n : ℕ) (f : Rsc) → fault_at Delete e o request n ≡ Some f → (effect_at Delete e o request n).after.nodes ≡ e.nodes
 refused_same e o request n f is = ap (λ (x : Effect). x.after.nodes) (refused_at Delete e o request n f is)
 
 not_spared : (spared : Bool) (r : ResourceData) → cond spared (Some r) None ≡ None → spared ≡ false
 not_spared true r gone = cc
 not_spared false r gone = refl
 
-not_not_picked : (b : Bool) → not b ≡ false → b ≡ true
-not_not_picked true none = refl
-not_not_picked false none = cc
-
-pub deletion_takes : (e : EntityData) (o : List ℕ) (request : RequestParts) (n : ℕ) (r : ResourceData) → IsSoundEntity e → at r.number e.nodes ≡ Some r → at r.number (performed_at Delete e o request n).after.nodes ≡ None → (list_any (has_number n) (line_of r.number e.nodes) ≡ true) × (grants e.home e.nodes o (op_row Delete).bit n ≡ true)
+pub deletion_takes : (e : EntityData) (o : List ℕ) (request : RequestParts) (n : ℕ) (r : ResourceData) → IsSoundEntity e → at r.number e.nodes ≡ Some r → at r.number (effect_at Delete e o request n).after.nodes ≡ None → (list_any (has_number n) (line_of r.number e.nodes) ≡ true) × (grants e.home e.nodes o (op_row Delete).bit n ≡ true)
 deletion_takes e o request n r sound there gone = by_fault (fault_at Delete e o request n) refl
   where
     by_fault : (fault : Option Rsc) → fault_at Delete e o request n ≡ fault → (list_any (has_number n) (line_of r.number e.nodes) ≡ true) × (grants e.home e.nodes o (op_row Delete).bit n ≡ true)
@@ -121,20 +117,16 @@ deletion_takes e o request n r sound there gone = by_fault (fault_at Delete e o 
         let left : at r.number (without (has_number n) e.nodes) ≡ None = ap (at r.number) (sym done.after) ∙ gone in
         let cut : cond (is_spared (has_number n) e.nodes r.number) (Some r) None ≡ None =
         ap (λ (x : Option ResourceData). cond (is_spared (has_number n) e.nodes r.number) x None) (sym there) ∙ sym (at-without (has_number n) r.number e.nodes (tree_from_well_formed e.nodes sound.tree)) ∙ left in
-        (not_not_picked _ (not_spared (is_spared (has_number n) e.nodes r.number) r cut), done.right)
+        (not-false _ (not_spared (is_spared (has_number n) e.nodes r.number) r cut), done.right)
 
-spared_found : (spared : Bool) (o : Option ResourceData) (r : ResourceData) → cond spared o None ≡ Some r → o ≡ Some r
-spared_found true o r found = found
-spared_found false o r found = cc
-
-pub deletion_keeps : (e : EntityData) (o : List ℕ) (request : RequestParts) (n : ℕ) (r : ResourceData) → IsSoundEntity e → at r.number (performed_at Delete e o request n).after.nodes ≡ Some r → at r.number e.nodes ≡ Some r
+pub deletion_keeps : (e : EntityData) (o : List ℕ) (request : RequestParts) (n : ℕ) (r : ResourceData) → IsSoundEntity e → at r.number (effect_at Delete e o request n).after.nodes ≡ Some r → at r.number e.nodes ≡ Some r
 deletion_keeps e o request n r sound left = by_fault (fault_at Delete e o request n) refl
   where
     by_fault : (fault : Option Rsc) → fault_at Delete e o request n ≡ fault → at r.number e.nodes ≡ Some r
     by_fault (Some f) is = ap (at r.number) (sym (refused_same e o request n f is)) ∙ left
     by_fault None is =
-        spared_found (is_spared (has_number n) e.nodes r.number) (at r.number e.nodes) r
-        (sym (at-without (has_number n) r.number e.nodes (tree_from_well_formed e.nodes sound.tree)) ∙ ap (at r.number) (sym (done_on e o request n is).after) ∙ left)
+        (chosen (is_spared (has_number n) e.nodes r.number) (at r.number e.nodes) r
+        (sym (at-without (has_number n) r.number e.nodes (tree_from_well_formed e.nodes sound.tree)) ∙ ap (at r.number) (sym (done_on e o request n is).after) ∙ left)).1
 
 -- a deletion that is done, and one that is refused
 pub ruleset deletion_cases = (delete_done, deletable, refused_at)

@@ -1,7 +1,7 @@
 -- Soundness where a resource comes last.
 use Rattle.std.specs.Prelude.{nat_le, nat_lt, sum_by}
 use Rattle.std.proofs.Common.{◌≡◌, ℕ, ◌+◌, ◌-◌, ◌^◌, ◌<◌, List, [], ◌∷◌, ◌++◌, length, length-append, Bool, true, false, not, ◌&&◌, ◌||◌, Option, Some, None, option_and_then, inl, inr, refl, sym, ap, ◌∙◌, arith, bytes_eq}
-use Rattle.std.proofs.lemmas.Bool.{cases_Bool, and_parts, and_from, and_left, and_right, or_from, or_left, or_right, or_parts, cases_eq, not-true, not_from_false, ltb-true, lt-ltb, le-leb, eqb-true, eq-eqb, ne_eqb, both_ways}
+use Rattle.std.proofs.lemmas.Bool.{cases_Bool, and_parts, and_from, and_left, and_right, or_from, or_left, or_right, or_parts, cases_eq, not-true, not_from_false, ltb-true, lt-ltb, le-leb, eq-eqb, ne_eqb, both_ways}
 use Rattle.std.proofs.lemmas.List.{append-nil}
 use Rattle.std.proofs.lemmas.List.Elements.{filter_map-append}
 use Rattle.std.proofs.lemmas.List.Folds.{list_all-append, list_any-append}
@@ -14,21 +14,22 @@ use Rattle.m2m_value.specs.View.{as_text}
 use Rattle.resource_model.specs.Attributes.{count_at}
 use Rattle.resource_model.specs.Home.{HomeData}
 use Rattle.resource_model.specs.Resource.{ResourceData, is_ty, has_number, cse_id}
-use Rattle.tree_model.specs.Tree.{at, is_under, is_kin, channels_of, instances_of, instance_size, level_of, is_due, are_below, same_text, has_cse_id, may_stand, is_tree}
-use Rattle.tree_model.proofs.TreeLemmas.{at_has}
-use Rattle.tree_model.proofs.GrowthLemmas.{IsNext, next_fits, tree_from_well_formed, below_has, next_above_parent, stands}
+use Rattle.tree_model.specs.Tree.{at, is_under, is_kin, channels_of, instances_of, instance_size, level_of, is_due, are_below, same_text, has_cse_id, is_tree}
+use Rattle.tree_model.proofs.TreeLemmas.{at_has, kin_parts}
+use Rattle.tree_model.proofs.GrowthLemmas.{IsNext, next_fits, tree_from_well_formed, below_has, next_above_parent, stands, fits_parts}
 use Rattle.tree_model.proofs.KeptLemmas.{is_well_formed-append}
 use Rattle.tree_model.proofs.ChangeLemmas.{picked-append, level_of-append}
-use Rattle.tree_model.proofs.QuietLemmas.{all_by_number, found_passes, due-append}
+use Rattle.tree_model.proofs.QuietLemmas.{all_by_number, number_passes, due-append}
 use Rattle.attribute_rules.specs.Kinds.{are_kinds}
 use Rattle.container_limits.specs.Limits.{is_within}
 use Rattle.policy_eval.specs.Rules.{policy_number, ids_at}
 use Rattle.entity_model.specs.Entity.{EntityData}
-use Rattle.create_delete.specs.Newcomer.{IsNewcomer}
+use Rattle.create_delete.specs.NewResource.{IsNewResource}
 use Rattle.entity_model.specs.Sound.{is_known_id, has_known_ids, has_free_name, has_size, has_state_tag, is_shallow, is_within_limits, begins_with_base, cse_ids, are_distinct, has_one_channel, IsSoundEntity}
-use Rattle.entity_model.proofs.SoundLemmas.{all_weaker, IsFramed, framed_from, sound_framed}
+use Rattle.entity_model.proofs.SoundLemmas.{IsFramed, framed_from, sound_framed, distinct_parts}
 use Rattle.tree_model.specs.Shown.{own_cse_id}
-use Rattle.create_delete.proofs.RoomLemmas.{place_for}
+use Rattle.request_rules.proofs.RoomLemmas.{place_parts}
+use Rattle.m2m_names.proofs.ListLemmas.{all_weaker}
 
 -- ---- tests over a list
 
@@ -49,7 +50,7 @@ older nodes r s tree below found =
 
 -- a test of all that were there gives another one
 pub all_turned : (p q : ResourceData → Bool) (nodes : List ResourceData) (r : ResourceData) → is_tree nodes ≡ true → are_below r.number nodes ≡ true → ((s : ResourceData) → IsOlder r s → p s ≡ true → q s ≡ true) → list_all p nodes ≡ true → list_all q nodes ≡ true
-all_turned p q nodes r tree below turn all = all_by_number q nodes tree (λ s found. turn s (older nodes r s tree below found) (found_passes p s.number nodes s all found))
+all_turned p q nodes r tree below turn all = all_by_number q nodes tree (λ s found. turn s (older nodes r s tree below found) (number_passes p s.number nodes s all found))
 
 -- ---- numbers and ids
 
@@ -63,10 +64,7 @@ known_more n None known = refl
 known_more n (Some m) known = let less : m < n = ltb-true m n known in lt-ltb m (n + 1) (omega arith)
 
 all_known : (n : ℕ) (ds : List Data) → list_all (is_known_id n) ds ≡ true → list_all (is_known_id (n + 1)) ds ≡ true
-all_known n [] known = refl
-all_known n (d ∷ ds) known =
-    let parts = and_parts (is_known_id n d) _ known in
-    and_from _ _ (known_more n (option_and_then policy_number (as_text d)) parts.0) (all_known n ds parts.1)
+all_known n ds known = all_weaker (is_known_id n) (is_known_id (n + 1)) (λ d known. known_more n (option_and_then policy_number (as_text d)) known) ds known
 
 ids_more : (n : ℕ) (r : ResourceData) → has_known_ids n r ≡ true → has_known_ids (n + 1) r ≡ true
 ids_more n r known = all_known n (ids_at Acpi r ++ ids_at Macp r) known
@@ -100,9 +98,9 @@ ids_among s (r ∷ nodes) = first (cse_id r) ∙ ap (λ b. same_text (cse_id r) 
 distinct_push : (texts : List (List ℕ)) (s : List ℕ) → are_distinct texts ≡ true → list_any (λ t. bytes_eq t s) texts ≡ false → are_distinct (texts ++ s ∷ []) ≡ true
 distinct_push [] s distinct none = refl
 distinct_push (t ∷ texts) s distinct none =
-    let parts = and_parts (not (list_any (bytes_eq t) texts)) _ distinct in
+    let parts = distinct_parts t texts distinct in
     let two = or_parts (bytes_eq t s) _ none in
-    and_from _ _ (not_from_false _ (list_any-append (bytes_eq t) texts (s ∷ []) ∙ or_from _ _ (not-true _ parts.0) (or_from _ _ two.0 refl))) (distinct_push texts s parts.1 two.1)
+    and_from _ _ (not_from_false _ (list_any-append (bytes_eq t) texts (s ∷ []) ∙ or_from _ _ parts.other (or_from _ _ two.0 refl))) (distinct_push texts s parts.rest two.1)
 
 distinct_grown : (own : List ℕ) (nodes : List ResourceData) (o : Option (List ℕ)) → has_cse_id o nodes ≡ false → option_map_or (bytes_eq own) o false ≡ false → are_distinct (own ∷ filter_map cse_id nodes) ≡ true → are_distinct (own ∷ (filter_map cse_id nodes ++ cons_option o [])) ≡ true
 distinct_grown own nodes None free apart distinct = ap (λ (texts : List (List ℕ)). are_distinct (own ∷ texts)) (append-nil (filter_map cse_id nodes)) ∙ distinct
@@ -136,9 +134,8 @@ unpicked_grown p nodes r other = picked-append p nodes r ∙ rw other (append-ni
 few_channels : (nodes : List ResourceData) (r s : ResourceData) → (is_ty r.ty PollingChannel ≡ true → length (channels_of r.parent nodes) ≡ 0) → has_one_channel nodes s ≡ true → has_one_channel (nodes ++ r ∷ []) s ≡ true
 few_channels nodes r s free one = elim (cases_Bool (is_kin PollingChannel s.number r)) [
   | inl t ↦
-      let parts = and_parts (is_under s.number r) _ t in
-      let under : r.parent ≡ s.number = eqb-true r.parent s.number parts.0 in
-      let none : length (channels_of s.number nodes) ≡ 0 = ap (λ (n : ℕ). length (channels_of n nodes)) (sym under) ∙ free parts.1 in
+      let kin = kin_parts PollingChannel s.number r t in
+      let none : length (channels_of s.number nodes) ≡ 0 = ap (λ (n : ℕ). length (channels_of n nodes)) (sym kin.under) ∙ free kin.kind in
       let all : channels_of s.number (nodes ++ r ∷ []) ≡ channels_of s.number nodes ++ r ∷ [] = picked-append (is_kin PollingChannel s.number) nodes r ∙ rw t refl in
       let many : length (channels_of s.number (nodes ++ r ∷ [])) ≡ length (channels_of s.number nodes) + 1 = ap length all ∙ length-append (channels_of s.number nodes) (r ∷ []) in
       le-leb _ 1 (omega arith)
@@ -218,12 +215,12 @@ due_grown nodes r moment tree next later none = all_none (is_due (nodes ++ r ∷
 abbrev pub grown_by : EntityData → ResourceData → EntityData
 grown_by e r = record { home = e.home; nodes = e.nodes ++ r ∷ []; next = e.next + 1; last = e.last }
 
-pub framed_grown : (e : EntityData) (r : ResourceData) → IsFramed e → IsNewcomer e r → IsFramed (grown_by e r)
+pub framed_grown : (e : EntityData) (r : ResourceData) → IsFramed e → IsNewResource e r → IsFramed (grown_by e r)
 framed_grown e r framed new =
     let tree = tree_from_well_formed e.nodes framed.tree in
-    let parts = and_parts (may_stand e.nodes r) _ new.fits in
-    let next : IsNext e.nodes r = next_fits e.nodes r parts.0 in
-    let place = place_for e r.parent new.room in
+    let parts = fits_parts e.nodes r new.fits in
+    let next : IsNext e.nodes r = next_fits e.nodes r parts.stands in
+    let place = place_parts e r.parent new.room in
     let small : e.next < 2 ^ 63 - 1 = place.few in
     let few : length e.nodes < 100000 = place.count in
     let longer : length (e.nodes ++ r ∷ []) ≡ length e.nodes + 1 = length-append e.nodes (r ∷ []) in
@@ -231,7 +228,7 @@ framed_grown e r framed new =
       numbers = below_grown e.next e.nodes r framed.numbers new.number;
       next = omega arith;
       ids = all_grown _ e.nodes r (all_weaker _ _ (λ s known. ids_more e.next s known) e.nodes framed.ids) (ids_more e.next r new.ids);
-      tree = is_well_formed-append e.nodes r framed.tree next parts.1;
+      tree = is_well_formed-append e.nodes r framed.tree next parts.taken;
       base = base_grown e.home e.nodes r framed.base;
       names = all_grown has_free_name e.nodes r framed.names new.name;
       home = framed.home;
@@ -246,16 +243,16 @@ framed_grown e r framed new =
     }
 
 -- what comes next in the tree
-next_of : (e : EntityData) (r : ResourceData) → IsNewcomer e r → IsNext e.nodes r
-next_of e r new = next_fits e.nodes r (and_parts (may_stand e.nodes r) _ new.fits).0
+next_of : (e : EntityData) (r : ResourceData) → IsNewResource e r → IsNext e.nodes r
+next_of e r new = next_fits e.nodes r (fits_parts e.nodes r new.fits).stands
 
-pub quiet_grown : (e : EntityData) (r : ResourceData) → IsSoundEntity e → IsNewcomer e r → list_any (is_due (e.nodes ++ r ∷ []) e.last) (e.nodes ++ r ∷ []) ≡ false
+pub quiet_grown : (e : EntityData) (r : ResourceData) → IsSoundEntity e → IsNewResource e r → list_any (is_due (e.nodes ++ r ∷ []) e.last) (e.nodes ++ r ∷ []) ≡ false
 quiet_grown e r sound new = due_grown e.nodes r e.last (tree_from_well_formed e.nodes sound.tree) (next_of e r new) new.due sound.due
 
-pub within_but_grown : (e : EntityData) (r : ResourceData) → IsSoundEntity e → IsNewcomer e r → list_all (is_within_but r.parent (e.nodes ++ r ∷ [])) (e.nodes ++ r ∷ []) ≡ true
+pub within_but_grown : (e : EntityData) (r : ResourceData) → IsSoundEntity e → IsNewResource e r → list_all (is_within_but r.parent (e.nodes ++ r ∷ [])) (e.nodes ++ r ∷ []) ≡ true
 within_but_grown e r sound new = others_grown e.nodes r (tree_from_well_formed e.nodes sound.tree) (next_of e r new) sound.limits
 
-pub sound_grown : (e : EntityData) (r : ResourceData) → IsSoundEntity e → IsNewcomer e r → is_ty r.ty ContentInstance ≡ false → IsSoundEntity (grown_by e r)
+pub sound_grown : (e : EntityData) (r : ResourceData) → IsSoundEntity e → IsNewResource e r → is_ty r.ty ContentInstance ≡ false → IsSoundEntity (grown_by e r)
 sound_grown e r sound new plain =
     sound_framed (grown_by e r) (framed_grown e r (framed_from e sound) new)
     (limits_grown e.nodes r (tree_from_well_formed e.nodes sound.tree) (next_of e r new) plain sound.limits)

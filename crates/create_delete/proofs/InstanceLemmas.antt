@@ -1,7 +1,7 @@
 -- Soundness where an instance joins a container, which is stamped anew and pushes out what doesn't fit.
 use Rattle.std.specs.Prelude.{nat_le, sum_by}
 use Rattle.std.proofs.Common.{◌≡◌, ℕ, ◌+◌, ◌^◌, ◌<◌, ◌≤◌, List, [], ◌∷◌, ◌++◌, Bool, true, false, not, ◌&&◌, Option, Some, None, is_some, option_map, pos, refl, sym, ap, ◌∙◌, subst, arith}
-use Rattle.std.proofs.lemmas.Bool.{and_parts, and_from, or_right, both_ways, lt-ltb, leb-false, ltb-true, le-leb, eq-eqb, eqb-true, not_from_false}
+use Rattle.std.proofs.lemmas.Bool.{and_from, or_right, both_ways, lt-ltb, leb-false, ltb-true, le-leb, eq-eqb, eqb-true, not_from_false}
 use Rattle.std.specs.List.{list_all}
 use Rattle.std.specs.Option.{option_map_or}
 use Rattle.m2m_names.specs.Types.{does_take}
@@ -14,10 +14,10 @@ use Rattle.m2m_value.specs.Data.{Data, number}
 use Rattle.resource_model.specs.Attributes.{is_attr, value_of, count_at}
 use Rattle.resource_model.specs.Resource.{ResourceData, is_ty}
 use Rattle.resource_model.proofs.AttributeLemmas.{value-with_value_same, value-with_value_other}
-use Rattle.tree_model.specs.Tree.{at, restamped, restamped_at, is_instance, instances_of, instance_size, due_under, is_due, is_taken, may_stand, is_tree, standing}
+use Rattle.tree_model.specs.Tree.{at, restamped, restamped_at, is_instance, instances_of, instance_size, due_under, is_due, is_taken, is_tree, standing}
 use Rattle.tree_model.proofs.ChangeLemmas.{picked-append}
-use Rattle.tree_model.proofs.GrowthLemmas.{tree_from_well_formed}
-use Rattle.tree_model.proofs.QuietLemmas.{found_passes}
+use Rattle.tree_model.proofs.GrowthLemmas.{tree_from_well_formed, fits_parts}
+use Rattle.tree_model.proofs.QuietLemmas.{number_passes}
 use Rattle.tree_model.proofs.StampLemmas.{standing-restamped, restamped_is}
 use Rattle.tree_model.proofs.TreeLemmas.{at-append, at-replaced, at_number}
 use Rattle.attribute_rules.specs.Kinds.{is_attr_kind, are_kinds}
@@ -31,10 +31,11 @@ use Rattle.entity_model.specs.Sound.{is_known_id, has_known_ids, has_state_tag, 
 use Rattle.entity_model.proofs.SoundLemmas.{IsFramed, framed_from}
 use Rattle.create_delete.specs.Changing.{without_all}
 use Rattle.request_rules.specs.Creation.{is_below}
-use Rattle.create_delete.specs.Newcomer.{IsFilling, IsReplacement}
+use Rattle.create_delete.specs.NewResource.{IsNewInstance, IsReplacement}
 use Rattle.create_delete.proofs.GrownLemmas.{grown_by, framed_grown, is_within_but, quiet_grown, within_but_grown, none_all}
 use Rattle.create_delete.proofs.PrunedLemmas.{IsPruning, IsSoundBut, instance_due, sound_pruned}
 use Rattle.create_delete.proofs.ReplacedLemmas.{framed_replaced, instances_replaced, quiet_but_replaced, replaced_by, still_there, within_but_replaced}
+use Rattle.request_rules.proofs.RoomLemmas.{takes_parts}
 
 -- ---- types
 
@@ -95,7 +96,7 @@ expires_later o c moment container quiet =
 
 -- ---- what joins
 
-module _ (e : EntityData) (r c : ResourceData) (st : ℕ) (sound : IsSoundEntity e) (filling : IsFilling e r c st) where
+module _ (e : EntityData) (r c : ResourceData) (st : ℕ) (sound : IsSoundEntity e) (filling : IsNewInstance e r c st) where
   abbrev n : ℕ
   n = r.parent
 
@@ -119,7 +120,7 @@ module _ (e : EntityData) (r c : ResourceData) (st : ℕ) (sound : IsSoundEntity
 
   pub is_container : is_ty c.ty Container ≡ true
   is_container =
-      let taken : is_taken e.nodes r ≡ true = (and_parts (may_stand e.nodes r) _ filling.new.fits).1 in
+      let taken : is_taken e.nodes r ≡ true = (fits_parts e.nodes r filling.new.fits).taken in
       let takes : does_take c.ty r.ty ≡ true = sym (ap (λ (o : Option ResourceData). option_map_or (λ p. does_take p.ty r.ty) o true) filling.container) ∙ taken in
       takes_is_container c.ty (ap (does_take c.ty) (sym (instance_type r.ty filling.instance)) ∙ takes)
 
@@ -133,20 +134,20 @@ module _ (e : EntityData) (r c : ResourceData) (st : ℕ) (sound : IsSoundEntity
   stood = ap (λ (m : ℕ). option_map standing (at m grown)) named ∙ ap (option_map standing) there ∙ ap Some (sym (standing-restamped e.last st c))
 
   known : has_known_ids (e.next + 1) c ≡ true
-  known = found_passes (has_known_ids (e.next + 1)) n grown c frame.ids there
+  known = number_passes (has_known_ids (e.next + 1)) n grown c frame.ids there
 
   quiet : is_due grown e.last c ≡ false
   quiet = found_quiet (is_due grown e.last c) refl
     where
       found_quiet : (b : Bool) → is_due grown e.last c ≡ b → b ≡ false
       found_quiet false is = refl
-      found_quiet true is = absurd (both_ways _ (ap not is) (found_passes (λ s. not (is_due grown e.last s)) n grown c (none_all (is_due grown e.last) grown (quiet_grown e r sound filling.new)) there))
+      found_quiet true is = absurd (both_ways _ (ap not is) (number_passes (λ s. not (is_due grown e.last s)) n grown c (none_all (is_due grown e.last) grown (quiet_grown e r sound filling.new)) there))
 
   replacement : IsReplacement (grown_by e r) stamped
   replacement = record {
     stood = stood;
     ids = ids_restamped (e.next + 1) e.last st c ∙ known;
-    kinds = kinds_restamped e.last st c is_container filling.small (found_passes are_kinds n grown c frame.kinds there);
+    kinds = kinds_restamped e.last st c is_container filling.small (number_passes are_kinds n grown c frame.kinds there);
     tag = tag_restamped e.last st c;
     plain = plain;
     later = expires_later (at c.parent grown) c e.last is_container quiet;
@@ -175,12 +176,10 @@ module _ (e : EntityData) (r c : ResourceData) (st : ℕ) (sound : IsSoundEntity
 
   fit : do_fit (limits_of stamped) (Some (instance_size r)) [] ≡ true
   fit =
-      let a = and_parts (nat_le (instance_size r) 1048576 && is_within (instance_size r) (count_at Mbs c.attrs) && is_below 0 (count_at Mni c.attrs)) (is_below 0 (count_at Mia c.attrs)) filling.takes in
-      let b = and_parts (nat_le (instance_size r) 1048576 && is_within (instance_size r) (count_at Mbs c.attrs)) (is_below 0 (count_at Mni c.attrs)) a.0 in
-      let d = and_parts (nat_le (instance_size r) 1048576) (is_within (instance_size r) (count_at Mbs c.attrs)) b.0 in
+      let takes = takes_parts c (instance_size r) filling.takes in
       sym (fits_totals (limits_of stamped) (Some (instance_size r)) [] 1 (instance_size r) (omega arith) (omega arith))
       ∙ ap (λ l. is_within 1 l.mni && is_within (instance_size r) l.mbs) (limits_restamped e.last st c)
-      ∙ and_from _ _ (one_fits (count_at Mni c.attrs) b.1) d.1
+      ∙ and_from _ _ (one_fits (count_at Mni c.attrs) takes.count) takes.bytes
 
   -- it lasts
   not_past : is_due e.nodes e.last r ≡ false → lasts (count_at Mia stamped.attrs) e.last r ≡ true

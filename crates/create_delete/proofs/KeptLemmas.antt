@@ -1,8 +1,7 @@
 -- What is left of a list where what isn't kept of it is removed.
 use Rattle.std.specs.Prelude.{◌==◌, nat_eq, nat_lt, sum_by}
-use Rattle.std.proofs.Common.{◌≡◌, ℕ, ◌+◌, ◌<◌, ◌≤◌, List, [], ◌∷◌, ◌++◌, length, Bool, true, not, ◌&&◌, ◌||◌, inl, inr, refl, sym, ap, ◌∙◌, subst, arith}
-use Rattle.std.proofs.lemmas.Bool.{cases_Bool, cases_eq, and_parts, and_from, or_right, ltb-true, eq-eqb, ne_eqb}
-use Rattle.std.proofs.lemmas.List.Folds.{list_all-append}
+use Rattle.std.proofs.Common.{◌≡◌, ℕ, ◌+◌, ◌<◌, ◌≤◌, List, [], ◌∷◌, ◌++◌, length, Bool, true, not, ◌&&◌, ◌||◌, inl, inr, refl, sym, ap, ◌∙◌, subst, arith, false}
+use Rattle.std.proofs.lemmas.Bool.{cases_Bool, cases_eq, and_parts, and_from, or_right, ltb-true, eq-eqb, ne_eqb, not_from_false, not-true}
 use Rattle.std.proofs.lemmas.List.Sums.{sum_by-cons}
 use Rattle.std.specs.List.{filter, list_any, list_all}
 use Rattle.resource_model.specs.Resource.{ResourceData}
@@ -10,18 +9,11 @@ use Rattle.tree_model.specs.Tree.{has, stays, staying}
 use Rattle.tree_model.proofs.GrowthLemmas.{has-filter}
 use Rattle.container_limits.specs.Limits.{numbers_of}
 use Rattle.tree_model.proofs.StepLemmas.{not_not}
-use Rattle.tree_model.proofs.OrderLemmas.{are_above, ascend, above_lacks}
+use Rattle.tree_model.proofs.OrderLemmas.{are_above, ascend, above_lacks, ascend_parts}
+use Rattle.m2m_names.proofs.ListLemmas.{all_filtered, filter_agree, append_parts}
+use Rattle.tree_model.proofs.TreeLemmas.{filter_among, stays_parts}
 
 -- ---- filters
-
-pub all_filtered : (a p : ResourceData → Bool) (rs : List ResourceData) → list_all a rs ≡ true → list_all a (filter p rs) ≡ true
-all_filtered a p [] all = refl
-all_filtered a p (r ∷ rs) all =
-    let parts = and_parts (a r) (list_all a rs) all in
-    elim (cases_Bool (p r)) [
-      | inl t ↦ rw t (and_from _ _ parts.0 (all_filtered a p rs parts.1))
-      | inr f ↦ rw f (all_filtered a p rs parts.1)
-    ]
 
 -- what holds of those that a filter picks holds of each that it picks
 pub all_unfiltered : (q p : ResourceData → Bool) (rs : List ResourceData) → list_all q (filter p rs) ≡ true → list_all (λ s. not (p s) || q s) rs ≡ true
@@ -39,21 +31,6 @@ all_by_two p q t by (r ∷ rs) one two =
     let b = and_parts (q r) (list_all q rs) two in
     and_from _ _ (by r a.0 b.0) (all_by_two p q t by rs a.1 b.1)
 
--- two filters that are the same where a test holds of all
-pub filter_where : (a p q : ResourceData → Bool) → ((s : ResourceData) → a s ≡ true → p s ≡ q s) → (rs : List ResourceData) → list_all a rs ≡ true → filter p rs ≡ filter q rs
-filter_where a p q same [] all = refl
-filter_where a p q same (r ∷ rs) all =
-    let parts = and_parts (a r) (list_all a rs) all in
-    rw (same r parts.0, filter_where a p q same rs parts.1) refl
-
--- two filters that are the same on what the list has
-pub filter_among : (p q : ResourceData → Bool) (rs : List ResourceData) → ((s : ResourceData) → has s.number rs ≡ true → p s ≡ q s) → filter p rs ≡ filter q rs
-filter_among p q [] same = refl
-filter_among p q (r ∷ rs) same =
-    let first : p r ≡ q r = same r (rw (eq-eqb r.number r.number refl) refl) in
-    let rest : filter p rs ≡ filter q rs = filter_among p q rs (λ s there. same s (or_right _ _ there)) in
-    rw (first, rest) refl
-
 -- ---- the list that is kept
 
 abbrev rest_of : List ResourceData → List ResourceData
@@ -66,7 +43,7 @@ first_or d (r ∷ rs) = r
 
 kept_above : (p : ResourceData → Bool) (n : ℕ) (front kept rs : List ResourceData) → are_above n rs ≡ true → front ++ kept ≡ filter p rs → are_above n kept ≡ true
 kept_above p n front kept rs above is =
-    (and_parts (are_above n front) (are_above n kept) (sym (list_all-append _ front kept) ∙ ap (are_above n) is ∙ all_filtered (λ s. nat_lt n s.number) p rs above)).1
+    (append_parts (λ s. nat_lt n s.number) front kept (ap (are_above n) is ∙ all_filtered (λ s. nat_lt n s.number) p rs above)).back
 
 -- what is kept of the rest has just its own
 abbrev KeepsOwn : (ResourceData → Bool) → List ResourceData → Type 0
@@ -82,7 +59,7 @@ kept_first p [] (k ∷ kept) r rs above own is =
     let first : k ≡ r = ap (first_or r) is in
     let rest : kept ≡ filter p rs = ap rest_of is in
     let later : filter (λ s. has s.number kept) rs ≡ kept = own [] kept rest in
-    let other : filter (λ s. has s.number (r ∷ kept)) rs ≡ filter (λ s. has s.number kept) rs = filter_where (λ s. nat_lt r.number s.number) (λ s. has s.number (r ∷ kept)) (λ s. has s.number kept) (λ s less. ap (λ b. b || has s.number kept) (ne_eqb r.number s.number (λ e. let lower : r.number < s.number = ltb-true r.number s.number less in omega arith))) rs above in
+    let other : filter (λ s. has s.number (r ∷ kept)) rs ≡ filter (λ s. has s.number kept) rs = filter_agree (λ s. nat_lt r.number s.number) (λ s. has s.number (r ∷ kept)) (λ s. has s.number kept) (λ s less. ap (λ b. b || has s.number kept) (ne_eqb r.number s.number (λ e. let lower : r.number < s.number = ltb-true r.number s.number less in omega arith))) rs above in
     let whole : filter (λ s. has s.number (r ∷ kept)) (r ∷ rs) ≡ r ∷ kept = rw (eq-eqb r.number r.number refl) (ap (λ (ss : List ResourceData). r ∷ ss) (other ∙ later)) in
     subst (λ (x : ResourceData). filter (λ s. has s.number (x ∷ kept)) (r ∷ rs) ≡ x ∷ kept) (sym first) whole
 
@@ -92,10 +69,10 @@ in_kept p [] order [] [] is = refl
 in_kept p [] order [] (k ∷ kept) is = cc
 in_kept p [] order (f ∷ front) kept is = cc
 in_kept p (r ∷ rs) order front kept is =
-    let parts = and_parts (are_above r.number rs) (ascend rs) order in
+    let parts = ascend_parts r rs order in
     elim (cases_Bool (p r)) [
-      | inl t ↦ kept_first p front kept r rs parts.0 (in_kept p rs parts.1) (is ∙ rw t refl)
-      | inr f ↦ kept_later p front kept r rs parts.0 (in_kept p rs parts.1) (is ∙ rw f refl)
+      | inl t ↦ kept_first p front kept r rs parts.above (in_kept p rs parts.rest) (is ∙ rw t refl)
+      | inr f ↦ kept_later p front kept r rs parts.above (in_kept p rs parts.rest) (is ∙ rw f refl)
     ]
 
 -- ---- numbers
@@ -118,6 +95,16 @@ not_kept kept rs = numbers_of (filter (λ s. not (has s.number kept)) rs)
 pub is_not_kept : (kept rs : List ResourceData) (n : ℕ) → list_any (nat_eq n) (not_kept kept rs) ≡ (has n rs && not (has n kept))
 is_not_kept kept rs n = among_numbers n (filter (λ s. not (has s.number kept)) rs) ∙ has-filter (λ m. not (has m kept)) n rs
 
+-- a number of what isn't kept
+pub record IsNotKept (kept rs : List ResourceData) (n : ℕ) : Type 0 where
+  pub there : has n rs ≡ true
+  pub gone : has n kept ≡ false
+
+pub not_kept_parts : (kept rs : List ResourceData) (n : ℕ) → list_any (nat_eq n) (not_kept kept rs) ≡ true → IsNotKept kept rs n
+not_kept_parts kept rs n picked =
+    let parts = and_parts (has n rs) (not (has n kept)) (sym (is_not_kept kept rs n) ∙ picked) in
+    record { there = parts.0; gone = not-true _ parts.1 }
+
 -- where those that aren't kept go, those that are kept are left
 pub left_are_kept : (p : ResourceData → Bool) (front kept rs : List ResourceData) → ascend rs ≡ true → front ++ kept ≡ filter p rs → filter (λ s. not (list_any (nat_eq s.number) (not_kept kept rs))) rs ≡ kept
 left_are_kept p front kept rs order is =
@@ -130,7 +117,7 @@ pub left_count : (p q : ResourceData → Bool) (stayed nodes : List ResourceData
 left_count p q stayed [] = omega arith
 left_count p q stayed (r ∷ nodes) = elim (cases_Bool (stays p stayed r)) [
   | inl t ↦
-      let free : not (p r) ≡ true = (and_parts (not (p r)) _ t).0 in
+      let free : not (p r) ≡ true = not_from_false _ (stays_parts p stayed r t).unpicked in
       elim (cases_Bool (q r)) [
         | inl u ↦ rw (t, u, free) (omega (arith, left_count p q (stayed ++ r ∷ []) nodes))
         | inr v ↦ rw (t, v) (left_count p q (stayed ++ r ∷ []) nodes)
@@ -148,7 +135,7 @@ pub left_sum : (p q : ResourceData → Bool) (size : ResourceData → ℕ) (stay
 left_sum p q size stayed [] = omega arith
 left_sum p q size stayed (r ∷ nodes) = elim (cases_Bool (stays p stayed r)) [
   | inl t ↦
-      let free : not (p r) ≡ true = (and_parts (not (p r)) _ t).0 in
+      let free : not (p r) ≡ true = not_from_false _ (stays_parts p stayed r t).unpicked in
       let rest : sum_by size (filter q (staying p (stayed ++ r ∷ []) nodes)) ≤ sum_by size (filter (λ s. not (p s)) (filter q nodes)) = left_sum p q size (stayed ++ r ∷ []) nodes in
       elim (cases_Bool (q r)) [
         | inl u ↦

@@ -1,7 +1,7 @@
 -- What is left where a container has pushed out what doesn't fit, and nothing else.
 use Rattle.std.specs.Prelude.{sum_by}
 use Rattle.std.proofs.Common.{◌≡◌, ℕ, zero, suc, ◌<◌, List, [], ◌∷◌, ◌++◌, length, Bool, true, false, cond, not, ◌&&◌, ◌||◌, Option, Some, None, inl, inr, refl, sym, ap, ◌∙◌, subst, arith}
-use Rattle.std.proofs.lemmas.Bool.{cases_Bool, and_parts, or_left, both_ways, eqb-true, false_from_ne_true}
+use Rattle.std.proofs.lemmas.Bool.{cases_Bool, or_left, both_ways, eqb-true, false_from_ne_true}
 use Rattle.std.proofs.lemmas.Option.{same_Some}
 use Rattle.std.specs.List.{filter, list_any, list_all}
 use Rattle.std.specs.Option.{option_map_or}
@@ -11,11 +11,11 @@ use Rattle.m2m_names.specs.declared.types.Ty.{Ty}
 use Rattle.m2m_names.specs.declared.types.Ty.TheVariants.{Container, ContentInstance}
 use Rattle.resource_model.specs.Attributes.{count_at}
 use Rattle.resource_model.specs.Resource.{ResourceData, is_ty, has_number}
-use Rattle.tree_model.specs.Tree.{at, has, line_of, without, is_spared, is_under, is_instance, instances_of, instance_size, is_due, is_taken, is_tree}
+use Rattle.tree_model.specs.Tree.{at, has, line_of, without, is_spared, is_instance, instances_of, instance_size, is_due, is_taken, is_tree}
 use Rattle.tree_model.proofs.GrowthLemmas.{StandsIn, stands, at-without, has-without, without-spared, tree_from_well_formed}
-use Rattle.tree_model.proofs.OrderLemmas.{are_above, ascend, above_filter, above_lacks, tree_ascends}
-use Rattle.tree_model.proofs.QuietLemmas.{all_by_number, found_passes}
-use Rattle.tree_model.proofs.TreeLemmas.{at_has, at_number, has_from_at, has-append}
+use Rattle.tree_model.proofs.OrderLemmas.{ascend, above_filter, above_lacks, tree_ascends, ascend_parts}
+use Rattle.tree_model.proofs.QuietLemmas.{all_by_number, number_passes}
+use Rattle.tree_model.proofs.TreeLemmas.{at_has, at_number, has_from_at, has-append, filter_among, kin_parts}
 use Rattle.addressing.proofs.NameLemmas.{line_of_none}
 use Rattle.container_limits.specs.Limits.{are_within, do_fit, evicted, kept, lasts, limits_of, longest_fit, numbers_of}
 use Rattle.container_limits.proofs.LimitLemmas.{fit_here, fits_totals}
@@ -24,19 +24,19 @@ use Rattle.entity_model.specs.Sound.{is_within_limits, IsSoundEntity}
 use Rattle.create_delete.specs.Changing.{is_numbered_in, pushed_out, without_all}
 use Rattle.create_delete.proofs.GrownLemmas.{none_all, nothing_picked}
 use Rattle.create_delete.proofs.InstanceLemmas.{instance_type}
-use Rattle.create_delete.proofs.KeptLemmas.{all_by_two, all_filtered, filter_among, filter_where, is_not_kept}
+use Rattle.create_delete.proofs.KeptLemmas.{all_by_two, not_kept_parts}
 use Rattle.create_delete.proofs.PrunedLemmas.{IsPruning, instance_due, split}
-use Rattle.create_delete.proofs.UpdatedLemmas.{all_taken}
+use Rattle.std.proofs.Math.Bool.{or-false}
+use Rattle.m2m_names.proofs.ListLemmas.{all_filtered, filter_agree, filter_whole}
+use Rattle.tree_model.proofs.RowLemmas.{filter_swap}
+use Rattle.tree_model.proofs.TakenLemmas.{all_taken}
+use Rattle.m2m_names.proofs.StepLemmas.{chosen}
 
 -- ---- a removal of what nothing stands below
 
 -- no resource stands under one that is picked
 abbrev pub AreLeaves : (ResourceData → Bool) → List ResourceData → Type 0
 AreLeaves p nodes = (s up : ResourceData) → at s.number nodes ≡ Some s → at s.parent nodes ≡ Some up → p up ≡ false
-
-or_nothing : (b : Bool) → (b || false) ≡ b
-or_nothing true = refl
-or_nothing false = refl
 
 -- of a line only the lowest is picked, if any
 picked_alone : (p : ResourceData → Bool) (nodes : List ResourceData) → is_tree nodes ≡ true → AreLeaves p nodes → (n : ℕ) (r : ResourceData) → at n nodes ≡ Some r → StandsIn nodes n r → ((up : ResourceData) → at r.parent nodes ≡ Some up → list_any p (line_of r.parent nodes) ≡ p up) → list_any p (line_of n nodes) ≡ p r
@@ -46,7 +46,7 @@ picked_alone p nodes tree leaves n r found placed above = by_parent (at r.parent
     own = ap (λ (m : ℕ). at m nodes) (at_number n nodes r found) ∙ found
 
     alone : list_any p (line_of r.parent nodes) ≡ false → list_any p (line_of n nodes) ≡ p r
-    alone none = ap (list_any p) placed.line ∙ ap (λ (b : Bool). p r || b) none ∙ or_nothing (p r)
+    alone none = ap (list_any p) placed.line ∙ ap (λ (b : Bool). p r || b) none ∙ or-false (p r)
 
     by_parent : (o : Option ResourceData) → at r.parent nodes ≡ o → list_any p (line_of n nodes) ≡ p r
     by_parent None is = alone (ap (list_any p) (line_of_none nodes tree r.parent (has_from_at r.parent nodes is)))
@@ -69,13 +69,9 @@ at_left p nodes tree leaves r found =
     ∙ ap (λ (b : Bool). cond b (at r.number nodes) None) (spared_is p nodes tree leaves r found)
     ∙ ap (λ (o : Option ResourceData). cond (not (p r)) o None) found
 
-spared_found : (spared : Bool) (o : Option ResourceData) (s : ResourceData) → cond spared o None ≡ Some s → o ≡ Some s
-spared_found true o s found = found
-spared_found false o s found = cc
-
 -- what is left stood there
 pub left_stood : (p : ResourceData → Bool) (n : ℕ) (nodes : List ResourceData) (s : ResourceData) → is_tree nodes ≡ true → at n (without p nodes) ≡ Some s → at n nodes ≡ Some s
-left_stood p n nodes s tree left = spared_found (is_spared p nodes n) (at n nodes) s (sym (at-without p n nodes tree) ∙ left)
+left_stood p n nodes s tree left = (chosen (is_spared p nodes n) (at n nodes) s (sym (at-without p n nodes tree) ∙ left)).1
 
 -- ---- filters
 
@@ -98,7 +94,7 @@ agree_itself false b same = ap not (sym same)
 -- two filters that are the same on what stands in a tree
 pub filter_found : (p q : ResourceData → Bool) (nodes : List ResourceData) → is_tree nodes ≡ true → ((r : ResourceData) → at r.number nodes ≡ Some r → p r ≡ q r) → filter p nodes ≡ filter q nodes
 filter_found p q nodes tree same =
-    filter_where (λ s. agree (p s) (q s)) p q (λ s alike. agree_same (p s) (q s) alike) nodes
+    filter_agree (λ s. agree (p s) (q s)) p q (λ s alike. agree_same (p s) (q s) alike) nodes
     (all_by_number (λ s. agree (p s) (q s)) nodes tree (λ s found. agree_itself (p s) (q s) (same s found)))
 
 left_filter : (p : ResourceData → Bool) (nodes : List ResourceData) → is_tree nodes ≡ true → AreLeaves p nodes → without p nodes ≡ filter (λ s. not (p s)) nodes
@@ -106,33 +102,6 @@ left_filter p nodes tree leaves =
     without-spared p nodes tree
     ∙ filter_found (λ s. is_spared p nodes s.number) (λ s. not (p s)) nodes tree (λ s found. spared_is p nodes tree leaves s found)
 
-filter_hit : (p : ResourceData → Bool) (r : ResourceData) (rs : List ResourceData) → p r ≡ true → filter p (r ∷ rs) ≡ r ∷ filter p rs
-filter_hit p r rs t = rw t refl
-
-filter_miss : (p : ResourceData → Bool) (r : ResourceData) (rs : List ResourceData) → p r ≡ false → filter p (r ∷ rs) ≡ filter p rs
-filter_miss p r rs f = rw f refl
-
-pub filter_swap : (p q : ResourceData → Bool) (rs : List ResourceData) → filter p (filter q rs) ≡ filter q (filter p rs)
-filter_swap p q [] = refl
-filter_swap p q (r ∷ rs) = elim (cases_Bool (p r)) [
-  | inl t ↦ elim (cases_Bool (q r)) [
-    | inl u ↦
-        ap (filter p) (filter_hit q r rs u) ∙ filter_hit p r (filter q rs) t
-        ∙ ap (λ (ss : List ResourceData). r ∷ ss) (filter_swap p q rs)
-        ∙ sym (filter_hit q r (filter p rs) u) ∙ sym (ap (filter q) (filter_hit p r rs t))
-    | inr v ↦
-        ap (filter p) (filter_miss q r rs v) ∙ filter_swap p q rs
-        ∙ sym (filter_miss q r (filter p rs) v) ∙ sym (ap (filter q) (filter_hit p r rs t))
-  ]
-  | inr f ↦ elim (cases_Bool (q r)) [
-    | inl u ↦
-        ap (filter p) (filter_hit q r rs u) ∙ filter_miss p r (filter q rs) f
-        ∙ filter_swap p q rs ∙ sym (ap (filter q) (filter_miss p r rs f))
-    | inr v ↦ ap (filter p) (filter_miss q r rs v) ∙ filter_swap p q rs ∙ sym (ap (filter q) (filter_miss p r rs f))
-  ]
-]
-
--- a filter takes what passes it
 filter_passes : (p : ResourceData → Bool) (rs : List ResourceData) → list_all p (filter p rs) ≡ true
 filter_passes p [] = refl
 filter_passes p (r ∷ rs) = elim (cases_Bool (p r)) [
@@ -140,26 +109,20 @@ filter_passes p (r ∷ rs) = elim (cases_Bool (p r)) [
   | inr f ↦ rw f (filter_passes p rs)
 ]
 
-filter_whole : (p : ResourceData → Bool) (rs : List ResourceData) → list_all p rs ≡ true → filter p rs ≡ rs
-filter_whole p [] all = refl
-filter_whole p (r ∷ rs) all =
-    let parts = and_parts (p r) (list_all p rs) all in
-    rw parts.0 (ap (λ (ss : List ResourceData). r ∷ ss) (filter_whole p rs parts.1))
-
 -- of a list in order, a number among those that are picked is that of one that is picked
 has_picked : (p : ResourceData → Bool) (m : ℕ) (nodes : List ResourceData) (s : ResourceData) → ascend nodes ≡ true → has m (filter p nodes) ≡ true → at m nodes ≡ Some s → p s ≡ true
 has_picked p m [] s order there found = cc
 has_picked p m (r ∷ nodes) s order there found =
-    let parts = and_parts (are_above r.number nodes) (ascend nodes) order in
+    let parts = ascend_parts r nodes order in
     elim (cases_Bool (has_number m r)) [
       | inl here ↦
           let same : Some r ≡ Some s = rw here at found in
           let is : r.number ≡ m = eqb-true r.number m here in
-          let lacks : has m (filter p nodes) ≡ false = ap (λ (n : ℕ). has n (filter p nodes)) (sym is) ∙ above_lacks r.number (filter p nodes) (above_filter p r.number nodes parts.0) in
+          let lacks : has m (filter p nodes) ≡ false = ap (λ (n : ℕ). has n (filter p nodes)) (sym is) ∙ above_lacks r.number (filter p nodes) (above_filter p r.number nodes parts.above) in
           subst (λ (x : ResourceData). p x ≡ true) (same_Some r s same) (picks_first r lacks)
       | inr apart ↦
           let rest : at m nodes ≡ Some s = rw apart at found in
-          has_picked p m nodes s parts.1 (later r apart) rest
+          has_picked p m nodes s parts.rest (later r apart) rest
     ]
   where
     picks_first : (x : ResourceData) → has m (filter p nodes) ≡ false → p r ≡ true
@@ -205,15 +168,14 @@ module _ (n : ℕ) (e : EntityData) (c : ResourceData) (size : Option ℕ) (rs n
   -- what goes is an instance of the container
   out_instance : (s : ResourceData) → at s.number e.nodes ≡ Some s → is_numbered_in out s ≡ true → is_instance n s ≡ true
   out_instance s found picked =
-      let both = and_parts (has s.number rs) (not (has s.number stay)) (sym (is_not_kept stay rs s.number) ∙ picked) in
-      has_picked (is_instance n) s.number e.nodes s (tree_ascends e.nodes tree) (ap (has s.number) pruning.instances ∙ has-append s.number rs news ∙ or_left _ _ both.0) found
+      has_picked (is_instance n) s.number e.nodes s (tree_ascends e.nodes tree) (ap (has s.number) pruning.instances ∙ has-append s.number rs news ∙ or_left _ _ (not_kept_parts stay rs s.number picked).there) found
 
   -- under which nothing stands
   leaves : AreLeaves (is_numbered_in out) e.nodes
   leaves s up found above = false_from_ne_true _ (λ picked.
       let there : at up.number e.nodes ≡ Some up = ap (λ (m : ℕ). at m e.nodes) (at_number s.parent e.nodes up above) ∙ above in
-      let instance : is_ty up.ty ContentInstance ≡ true = (and_parts (is_under n up) (is_ty up.ty ContentInstance) (out_instance up there picked)).1 in
-      let taken : is_taken e.nodes s ≡ true = found_passes (is_taken e.nodes) s.number e.nodes s (all_taken e.nodes pruning.sound.frame.tree) found in
+      let instance : is_ty up.ty ContentInstance ≡ true = (kin_parts ContentInstance n up (out_instance up there picked)).kind in
+      let taken : is_taken e.nodes s ≡ true = number_passes (is_taken e.nodes) s.number e.nodes s (all_taken e.nodes pruning.sound.frame.tree) found in
       let takes : does_take up.ty s.ty ≡ true = sym (ap (λ (o : Option ResourceData). option_map_or (λ (p : ResourceData). does_take p.ty s.ty) o true) above) ∙ taken in
       takes_nothing s.ty (ap (λ (t : Ty). does_take t s.ty) (sym (instance_type up.ty instance)) ∙ takes))
 
@@ -255,7 +217,7 @@ module _ (e : EntityData) (c : ResourceData) (sound : IsSoundEntity e) (found : 
 
   within : do_fit (limits_of c) None own ≡ true
   within =
-      let held : is_within_limits e.nodes c ≡ true = found_passes (is_within_limits e.nodes) c.number e.nodes c sound.limits found in
+      let held : is_within_limits e.nodes c ≡ true = number_passes (is_within_limits e.nodes) c.number e.nodes c sound.limits found in
       let both : are_within (limits_of c) (length own) (sum_by instance_size own) ≡ true = rw container at held in
       sym (fits_totals (limits_of c) None own (length own) (sum_by instance_size own) (omega arith) (omega arith)) ∙ both
 

@@ -2,14 +2,14 @@ pub mod ChangesLemmas
 pub mod CreatableLemmas
 pub mod CreatedLemmas
 pub mod DeletionLemmas
+pub mod EffectLemmas
 pub mod GrownLemmas
 pub mod InstanceLemmas
 pub mod JoinedLemmas
 pub mod JoiningLemmas
 pub mod KeptLemmas
 pub mod LeftLemmas
-pub mod NewcomerLemmas
-pub mod PerformedLemmas
+pub mod NewResourceLemmas
 pub mod PlannedLemmas
 pub mod PrunedLemmas
 pub mod PushingLemmas
@@ -20,7 +20,6 @@ pub mod ResultLemmas
 pub mod RightCreateLemmas
 pub mod RightLemmas
 pub mod RightUpdateLemmas
-pub mod RoomLemmas
 pub mod RowLemmas
 pub mod TellingLemmas
 pub mod ThoseLemmas

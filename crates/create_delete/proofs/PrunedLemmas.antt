@@ -1,6 +1,6 @@
 -- Soundness where a container has pushed out what doesn't fit.
-use Rattle.std.specs.Prelude.{◌==◌, nat_le, sum_by}
-use Rattle.std.proofs.Common.{◌≡◌, ℕ, ◌+◌, ◌≤◌, List, [], ◌∷◌, ◌++◌, length, Bool, true, false, cond, not, ◌||◌, Option, Some, None, option_to_list, unwrap_or, inl, inr, refl, sym, ap, ◌∙◌, subst, arith, length-append}
+use Rattle.std.specs.Prelude.{nat_le, sum_by}
+use Rattle.std.proofs.Common.{◌≡◌, ℕ, ◌+◌, ◌≤◌, List, [], ◌∷◌, ◌++◌, length, Bool, true, false, not, ◌||◌, Option, Some, option_to_list, unwrap_or, inl, inr, refl, sym, ap, ◌∙◌, subst, arith, length-append}
 use Rattle.std.proofs.lemmas.Bool.{cases_Bool, and_parts, and_from, or_cases, or_left, or_right, not-true, not_from_false, eqb-true, ne_eqb, both_ways, false_from_ne_true}
 use Rattle.std.proofs.lemmas.List.Elements.{filter-append}
 use Rattle.std.proofs.lemmas.List.Filters.{length-filter_both, sum_by-filter_both}
@@ -17,18 +17,20 @@ use Rattle.resource_model.specs.Home.{HomeData}
 use Rattle.resource_model.specs.Resource.{ResourceData, is_ty, has_number}
 use Rattle.tree_model.specs.Tree.{at, has, without, is_spared, is_instance, instances_of, instance_size, due_under, is_due, is_tree}
 use Rattle.tree_model.proofs.GrowthLemmas.{at-without, tree_from_well_formed}
-use Rattle.tree_model.proofs.QuietLemmas.{all_by_number, found_passes}
-use Rattle.tree_model.proofs.TreeLemmas.{at_number, has-append, staying_all, staying_unpicked}
+use Rattle.tree_model.proofs.QuietLemmas.{all_by_number, number_passes}
+use Rattle.tree_model.proofs.TreeLemmas.{at_number, has-append, staying_all, staying_unpicked, kin_parts}
 use Rattle.container_limits.specs.Limits.{do_fit, evicted, is_due_by, is_within, kept, lasts, limits_of}
 use Rattle.container_limits.proofs.LimitLemmas.{longest_fits, longest_is_suffix}
-use Rattle.tree_model.proofs.OrderLemmas.{are_above, ascend, above_lacks, tree_ascends}
+use Rattle.tree_model.proofs.OrderLemmas.{are_above, ascend, above_lacks, tree_ascends, ascend_parts}
 use Rattle.entity_model.specs.Entity.{EntityData}
 use Rattle.entity_model.specs.Sound.{is_within_limits, begins_with_base, spares_first, IsSoundEntity}
-use Rattle.entity_model.proofs.SoundLemmas.{all_left, all_weaker, due_left, limits_left, within_too, IsFramed, framed_left, sound_framed}
+use Rattle.entity_model.proofs.SoundLemmas.{all_left, due_left, limits_left, within_too, IsFramed, framed_left, sound_framed, base_parts}
 use Rattle.create_delete.specs.Changing.{is_numbered_in}
 use Rattle.create_delete.proofs.GrownLemmas.{is_within_but, within_by, all_none, none_all}
-use Rattle.create_delete.proofs.KeptLemmas.{all_filtered, all_unfiltered, all_by_two, is_not_kept, left_are_kept, left_count, left_sum}
+use Rattle.create_delete.proofs.KeptLemmas.{all_unfiltered, all_by_two, left_are_kept, left_count, left_sum, not_kept_parts}
 use Rattle.create_delete.proofs.ReplacedLemmas.{is_quiet_but}
+use Rattle.m2m_names.proofs.ListLemmas.{all_filtered, all_weaker, append_parts}
+use Rattle.m2m_names.proofs.StepLemmas.{chosen}
 
 -- ---- sound but for the instances of one resource
 
@@ -59,7 +61,7 @@ but_left p n e sound spared =
 pub restored : (n : ℕ) (e : EntityData) → IsSoundBut n e → ((s : ResourceData) → at s.number e.nodes ≡ Some s → has_number n s ≡ true → is_within_limits e.nodes s ≡ true) → list_all (λ s. not (is_instance n s) || not (is_due e.nodes e.last s)) e.nodes ≡ true → IsSoundEntity e
 restored n e sound within still =
     sound_framed e sound.frame
-    (all_by_number (is_within_limits e.nodes) e.nodes (tree_from_well_formed e.nodes sound.frame.tree) (λ s found. elim (or_cases (has_number n s) (is_within_limits e.nodes s) (found_passes (is_within_but n e.nodes) s.number e.nodes s sound.limits found)) [
+    (all_by_number (is_within_limits e.nodes) e.nodes (tree_from_well_formed e.nodes sound.frame.tree) (λ s found. elim (or_cases (has_number n s) (is_within_limits e.nodes s) (number_passes (is_within_but n e.nodes) s.number e.nodes s sound.limits found)) [
       | inl here ↦ within s found here
       | inr held ↦ held
     ]))
@@ -76,32 +78,26 @@ restored n e sound within still =
 -- the CSEBase is no instance
 other_type : (n : ℕ) (s : ResourceData) → is_instance n s ≡ true → is_ty s.ty CseBase ≡ false
 other_type n s instance =
-    let parts = and_parts (s.parent == n) (is_ty s.ty ContentInstance) instance in
-    let number : (ty_row s.ty).number ≡ 4 = eqb-true (ty_row s.ty).number 4 parts.1 in
+    let number : (ty_row s.ty).number ≡ 4 = eqb-true (ty_row s.ty).number 4 (kin_parts ContentInstance n s instance).kind in
     ne_eqb (ty_row s.ty).number 5 (λ e. omega arith)
 
 -- when an instance is due
 pub instance_due : (n moment : ℕ) (nodes : List ResourceData) (c s : ResourceData) → at n nodes ≡ Some c → is_instance n s ≡ true → is_due nodes moment s ≡ is_due_by (count_at Mia c.attrs) moment s
 instance_due n moment nodes c s found instance =
-    let parts = and_parts (s.parent == n) (is_ty s.ty ContentInstance) instance in
-    let up : at s.parent nodes ≡ Some c = ap (λ (m : ℕ). at m nodes) (eqb-true s.parent n parts.0) ∙ found in
+    let kin = kin_parts ContentInstance n s instance in
+    let up : at s.parent nodes ≡ Some c = ap (λ (m : ℕ). at m nodes) kin.under ∙ found in
     let moved : is_due nodes moment s ≡ option_map_or (λ at. nat_le at moment) (due_under (Some c) s) false = ap (λ (o : Option ResourceData). option_map_or (λ at. nat_le at moment) (due_under o s) false) up in
-    moved ∙ rw (other_type n s instance, parts.1) refl
+    moved ∙ rw (other_type n s instance, kin.kind) refl
 
 -- the first resource, the CSEBase, is none of them
 no_first : (n : ℕ) (home : HomeData) (nodes : List ResourceData) (picks : ResourceData → Bool) → begins_with_base home nodes ≡ true → ascend nodes ≡ true → ((s : ResourceData) → picks s ≡ true → has s.number (instances_of n nodes) ≡ true) → spares_first picks nodes ≡ true
 no_first n home [] picks base order only = refl
 no_first n home (r ∷ nodes) picks base order only =
-    let is_base : is_ty r.ty CseBase ≡ true = (and_parts (is_ty r.ty CseBase) _ base).0 in
+    let is_base : is_ty r.ty CseBase ≡ true = (base_parts home r nodes base).kind in
     let plain : is_instance n r ≡ false = false_from_ne_true _ (λ t. both_ways _ (other_type n r t) is_base) in
-    let above : are_above r.number nodes ≡ true = (and_parts (are_above r.number nodes) (ascend nodes) order).0 in
+    let above : are_above r.number nodes ≡ true = (ascend_parts r nodes order).above in
     let none : has r.number (instances_of n (r ∷ nodes)) ≡ false = rw plain (above_lacks r.number (instances_of n nodes) (all_filtered _ (is_instance n) nodes above)) in
     not_from_false _ (false_from_ne_true _ (λ t. both_ways _ none (only r t)))
-
--- a resource that a removal leaves stood there
-spared_found : (spared : Bool) (o : Option ResourceData) (s : ResourceData) → cond spared o None ≡ Some s → o ≡ Some s
-spared_found true o s found = found
-spared_found false o s found = cc
 
 few_of : (p : ResourceData → Bool) (rs : List ResourceData) → length (filter p rs) ≤ length rs
 few_of p rs = (let both = length-filter_both p (λ s. not (p s)) (λ s. refl) rs in omega arith)
@@ -144,8 +140,7 @@ module _ (n : ℕ) (e : EntityData) (c : ResourceData) (size : Option ℕ) (rs n
 
   spared : spares_first goes e.nodes ≡ true
   spared = no_first n e.home e.nodes goes pruning.sound.frame.base (tree_ascends e.nodes tree) (λ s picked.
-      let both = and_parts (has s.number rs) (not (has s.number stay)) (sym (is_not_kept stay rs s.number) ∙ picked) in
-      ap (has s.number) pruning.instances ∙ has-append s.number rs news ∙ or_left _ _ both.0)
+      ap (has s.number) pruning.instances ∙ has-append s.number rs news ∙ or_left _ _ (not_kept_parts stay rs s.number picked).there)
 
   after : IsSoundBut n (left_by goes e)
   after = but_left goes n e pruning.sound spared
@@ -179,14 +174,14 @@ module _ (n : ℕ) (e : EntityData) (c : ResourceData) (size : Option ℕ) (rs n
   own_within : (s : ResourceData) → at s.number left ≡ Some s → has_number n s ≡ true → is_within_limits left s ≡ true
   own_within s there here =
       let by_number : at n left ≡ Some s = ap (λ (m : ℕ). at m left) (sym (eqb-true s.number n here)) ∙ there in
-      let before : at n e.nodes ≡ Some s = spared_found (is_spared goes e.nodes n) (at n e.nodes) s (sym (at-without goes n e.nodes tree) ∙ by_number) in
+      let before : at n e.nodes ≡ Some s = (chosen (is_spared goes e.nodes n) (at n e.nodes) s (sym (at-without goes n e.nodes tree) ∙ by_number)).1 in
       let is : c ≡ s = same_Some c s (sym pruning.found ∙ before) in
       subst (λ (x : ResourceData). within_by x (instances_of x.number left) ≡ true) is
       (ap (λ (m : ℕ). within_by c (instances_of m left)) (at_number n e.nodes c pruning.found) ∙ within)
 
   -- each instance goes or lasts
   stay_last : list_all (lasts (count_at Mia c.attrs) e.last) stay ≡ true
-  stay_last = (and_parts (list_all (lasts (count_at Mia c.attrs) e.last) suffix.0) (list_all (lasts (count_at Mia c.attrs) e.last) stay) (sym (list_all-append (lasts (count_at Mia c.attrs) e.last) suffix.0 stay) ∙ ap (list_all (lasts (count_at Mia c.attrs) e.last)) suffix.1 ∙ all_picked rs)).1
+  stay_last = (append_parts (lasts (count_at Mia c.attrs) e.last) suffix.0 stay (ap (list_all (lasts (count_at Mia c.attrs) e.last)) suffix.1 ∙ all_picked rs)).back
     where
       all_picked : (xs : List ResourceData) → list_all (lasts (count_at Mia c.attrs) e.last) (filter (lasts (count_at Mia c.attrs) e.last) xs) ≡ true
       all_picked [] = refl

@@ -1,5 +1,5 @@
 -- What limits push out goes in order of creation.
-use Rattle.std.proofs.Common.{◌≡◌, ℕ, List, [], Bool, true, not, Option, None, inl, inr, subst, sym}
+use Rattle.std.proofs.Common.{◌≡◌, ℕ, List, [], true, not, Option, None, inl, inr}
 use Rattle.std.proofs.lemmas.Bool.{cases_Bool}
 use Rattle.std.specs.List.Sorted.{IsStrictlySortedBy}
 use Rattle.m2m_names.specs.declared.types.Ty.TheVariants.{Container}
@@ -10,7 +10,7 @@ use Rattle.tree_model.proofs.ManyLemmas.{picked_ascend}
 use Rattle.container_limits.specs.Limits.{evicted, kept, limits_of}
 use Rattle.container_limits.specs.declared.limits.Limits.{Limits}
 use Rattle.entity_model.specs.Entity.{EntityData}
-use Rattle.create_delete.specs.Changing.{pushed_by, pushed_out}
+use Rattle.create_delete.specs.Changing.{pushed_by}
 
 -- the numbers of what the limits of a container push out ascend
 pub evicted_ascend : (limits : Limits) (size : Option ℕ) (moment n : ℕ) (nodes : List ResourceData) → is_tree nodes ≡ true → DoAscend (evicted limits size moment (instances_of n nodes))

@@ -1,6 +1,6 @@
 -- What an Update leaves of the attributes, by whether it is of `acpi` alone.
 use Rattle.std.proofs.Common.{◌≡◌, ◌≢◌, ℕ, List, [], ◌∷◌, Bool, true, false, not, ◌||◌, Option, Some, None, is_some, option_and_then, if◌then◌else◌, bytes_eq, inl, inr, refl, sym, ap, ◌∙◌, subst}
-use Rattle.std.proofs.lemmas.Bool.{cases_Bool, and_parts, or_parts, both_ways, false_from_ne_true}
+use Rattle.std.proofs.lemmas.Bool.{cases_Bool, or_parts, both_ways, false_from_ne_true}
 use Rattle.std.proofs.lemmas.Option.{same_Some}
 use Rattle.std.specs.Option.{option_map_or}
 use Rattle.m2m_names.specs.Attributes.{attr_short}
@@ -29,9 +29,10 @@ use Rattle.request_rules.specs.Requests.{content_for}
 use Rattle.request_rules.specs.Rights.{is_link, is_relink, sole}
 use Rattle.create_delete.specs.Changing.{updated_resource}
 use Rattle.create_delete.specs.Guard.{DiffersIn, IsUpdated, link_attrs}
-use Rattle.create_delete.proofs.NewcomerLemmas.{lacks_link}
+use Rattle.create_delete.proofs.NewResourceLemmas.{lacks_link}
 use Rattle.create_delete.proofs.RowLemmas.{lacks_attr}
 use Rattle.create_delete.proofs.UpdatedRowLemmas.{as_edited, lacks_state}
+use Rattle.attribute_rules.proofs.KindLemmas.{admitted_parts}
 
 -- ---- `acpi` alone
 
@@ -96,7 +97,7 @@ relinks_alone request ty es whole alone named = by_content request.pc whole
 -- an admitted Update that isn't of `acpi` alone doesn't name it
 pub names_no_link : (request : RequestParts) (ty : Ty) (es : List Entry) → are_admitted Updating ty es ≡ true → content_for request ty ≡ Some es → is_relink request ≡ false → is_named Acpi es ≡ false
 names_no_link request ty es admitted whole other = false_from_ne_true _ (λ named.
-    let complete : (not (is_named Acpi es) || is_alone es) ≡ true = (and_parts _ (not (is_named Acpi es) || is_alone es) admitted).1 in
+    let complete : (not (is_named Acpi es) || is_alone es) ≡ true = (admitted_parts Updating ty es admitted).complete in
     let alone : is_alone es ≡ true = rw named at complete in
     both_ways _ other (relinks_alone request ty es whole alone named))
 

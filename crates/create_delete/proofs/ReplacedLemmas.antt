@@ -14,15 +14,16 @@ use Rattle.tree_model.specs.Tree.{at, has, replaced, is_under, is_kin, is_instan
 use Rattle.tree_model.proofs.ChangeLemmas.{picked-replaced, unpicked-replaced, level_of-replaced}
 use Rattle.tree_model.proofs.GrowthLemmas.{below_has}
 use Rattle.tree_model.proofs.KeptLemmas.{map-replaced_same, is_tree-replaced, is_well_formed-replaced}
-use Rattle.tree_model.proofs.QuietLemmas.{all_by_number, found_passes, due-replaced_other}
+use Rattle.tree_model.proofs.QuietLemmas.{all_by_number, number_passes, due-replaced_other, due_plain}
 use Rattle.tree_model.proofs.TreeLemmas.{at_has, at_number, at-replaced, at-replaced_other}
 use Rattle.attribute_rules.specs.Kinds.{are_kinds}
 use Rattle.entity_model.specs.Entity.{EntityData}
 use Rattle.entity_model.specs.Sound.{has_known_ids, has_free_name, has_size, has_state_tag, is_shallow, begins_with_base, are_distinct, has_one_channel}
-use Rattle.entity_model.proofs.SoundLemmas.{all_weaker, IsFramed}
-use Rattle.create_delete.specs.Newcomer.{IsReplacement}
+use Rattle.entity_model.proofs.SoundLemmas.{IsFramed}
+use Rattle.create_delete.specs.NewResource.{IsReplacement}
 use Rattle.create_delete.proofs.GrownLemmas.{is_within_but, within_by, none_all}
 use Rattle.tree_model.specs.Shown.{own_cse_id}
+use Rattle.m2m_names.proofs.ListLemmas.{all_weaker}
 
 -- ---- over a list
 
@@ -135,7 +136,7 @@ framed_replaced e c framed new =
       ids = all_replaced (has_known_ids e.next) c e.nodes framed.ids new.ids;
       tree = is_well_formed-replaced c e.nodes new.stood ∙ framed.tree;
       base = base_replaced e.nodes c new.stood e.home ∙ framed.base;
-      names = all_replaced has_free_name c e.nodes framed.names (ap is_free_name (sym (same_name e.nodes c new.stood)) ∙ found_passes has_free_name c.number e.nodes (old e.nodes c new.stood).before framed.names (old e.nodes c new.stood).found);
+      names = all_replaced has_free_name c e.nodes framed.names (ap is_free_name (sym (same_name e.nodes c new.stood)) ∙ number_passes has_free_name c.number e.nodes (old e.nodes c new.stood).before framed.names (old e.nodes c new.stood).found);
       home = framed.home;
       depth = all_deep;
       count = omega arith;
@@ -153,12 +154,12 @@ framed_replaced e c framed new =
     all_deep : list_all (is_shallow (replaced c e.nodes)) (replaced c e.nodes) ≡ true
     all_deep = all_replaced _ c e.nodes
         (all_weaker _ _ (λ s held. ap (λ (d : ℕ). nat_le d 32) (depth_replaced e.nodes c new.stood s.number) ∙ held) e.nodes framed.depth)
-        (ap (λ (d : ℕ). nat_le d 32) (depth_replaced e.nodes c new.stood c.number) ∙ ap (λ (n : ℕ). nat_le (level_of n e.nodes) 32) (sym (at_number c.number e.nodes was.before was.found)) ∙ found_passes (is_shallow e.nodes) c.number e.nodes was.before framed.depth was.found)
+        (ap (λ (d : ℕ). nat_le d 32) (depth_replaced e.nodes c new.stood c.number) ∙ ap (λ (n : ℕ). nat_le (level_of n e.nodes) 32) (sym (at_number c.number e.nodes was.before was.found)) ∙ number_passes (is_shallow e.nodes) c.number e.nodes was.before framed.depth was.found)
 
     all_channels : list_all (has_one_channel (replaced c e.nodes)) (replaced c e.nodes) ≡ true
     all_channels = all_replaced _ c e.nodes
         (all_weaker _ _ (λ s held. ap (λ (d : ℕ). nat_le d 1) (channels_replaced e.nodes c new.stood s.number) ∙ held) e.nodes framed.channels)
-        (ap (λ (d : ℕ). nat_le d 1) (channels_replaced e.nodes c new.stood c.number) ∙ ap (λ (n : ℕ). nat_le (length (channels_of n e.nodes)) 1) (sym (at_number c.number e.nodes was.before was.found)) ∙ found_passes (has_one_channel e.nodes) c.number e.nodes was.before framed.channels was.found)
+        (ap (λ (d : ℕ). nat_le d 1) (channels_replaced e.nodes c new.stood c.number) ∙ ap (λ (n : ℕ). nat_le (length (channels_of n e.nodes)) 1) (sym (at_number c.number e.nodes was.before was.found)) ∙ number_passes (has_one_channel e.nodes) c.number e.nodes was.before framed.channels was.found)
 
 -- ---- limits, but those of the resource itself
 
@@ -176,10 +177,6 @@ is_quiet_but n moment nodes s = is_instance n s || not (is_due nodes moment s)
 abbrev is_past : ℕ → Option ℕ → Bool
 is_past moment end = option_map_or (λ at. nat_le at moment) end false
 
--- what isn't an instance is due whatever it stands under
-plain_due : (o p : Option ResourceData) (s : ResourceData) → is_ty s.ty ContentInstance ≡ false → due_under o s ≡ due_under p s
-plain_due o p s plain = rw plain refl
-
 not_yet : (o : Option ResourceData) (r : ResourceData) (moment : ℕ) → moment < r.et → is_ty r.ty ContentInstance ≡ false → is_past moment (due_under o r) ≡ false
 not_yet o r moment later plain = elim (cases_Bool (is_ty r.ty CseBase)) [
   | inl t ↦ rw t refl
@@ -193,11 +190,11 @@ quiet_each nodes c s moment stood plain later none found = elim (cases_eq s.numb
       or_right _ _ (subst (λ (x : ResourceData). not (is_due (replaced c nodes) moment x) ≡ true) is (not_from_false _ (not_yet (at c.parent (replaced c nodes)) c moment later plain)))
   | inr apart ↦
       let before : at s.number nodes ≡ Some s = sym (at-replaced_other s.number c nodes apart) ∙ found in
-      let held : not (is_due nodes moment s) ≡ true = found_passes (λ r. not (is_due nodes moment r)) s.number nodes s (none_all (is_due nodes moment) nodes none) before in
+      let held : not (is_due nodes moment s) ≡ true = number_passes (λ r. not (is_due nodes moment r)) s.number nodes s (none_all (is_due nodes moment) nodes none) before in
       elim (cases_eq s.parent c.number) [
         | inl under ↦ elim (cases_Bool (is_ty s.ty ContentInstance)) [
           | inl u ↦ or_left _ _ (and_from _ _ (eq-eqb s.parent c.number under) u)
-          | inr v ↦ or_right _ _ (ap (λ (o : Option ℕ). not (is_past moment o)) (plain_due (at s.parent (replaced c nodes)) (at s.parent nodes) s v) ∙ held)
+          | inr v ↦ or_right _ _ (ap (λ (o : Option ℕ). not (is_past moment o)) (due_plain (at s.parent (replaced c nodes)) (at s.parent nodes) s v) ∙ held)
         ]
         | inr other ↦ or_right _ _ (ap (λ (o : Option ℕ). not (is_past moment o)) (due-replaced_other nodes c s other) ∙ held)
       ]

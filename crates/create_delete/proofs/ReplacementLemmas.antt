@@ -1,7 +1,7 @@
 -- What an update that no place refuses leaves may take the place of what it updates.
 use Rattle.std.specs.Prelude.{◌==◌, nat_lt}
 use Rattle.std.proofs.Common.{◌≡◌, ℕ, ◌^◌, ◌<◌, ◌≤◌, List, ◌++◌, length, Bool, true, false, not, ◌||◌, Option, Some, None, is_some, option_map, option_and_then, unwrap_or, if◌then◌else◌, pos, inl, inr, refl, sym, ap, ◌∙◌, arith}
-use Rattle.std.proofs.lemmas.Bool.{cases_Bool, and_parts, and_from, or_left, or_right, or_parts, not-true, not_from_false, ltb-true, lt-ltb, leb-false, eqb-true}
+use Rattle.std.proofs.lemmas.Bool.{cases_Bool, and_from, or_left, or_right, or_parts, not-true, not_from_false, ltb-true, lt-ltb, leb-false, eqb-true}
 use Rattle.std.proofs.lemmas.List.{nil_from_length}
 use Rattle.std.proofs.lemmas.List.Folds.{list_all-append}
 use Rattle.std.specs.List.{list_all}
@@ -23,7 +23,7 @@ use Rattle.resource_model.specs.Resource.{ResourceData, is_ty, ae_id, cse_id}
 use Rattle.resource_model.proofs.AttributeLemmas.{value-with_value_same}
 use Rattle.tree_model.specs.Shown.{with_rows}
 use Rattle.tree_model.specs.Tree.{at, is_due, standing}
-use Rattle.tree_model.proofs.QuietLemmas.{found_passes}
+use Rattle.tree_model.proofs.QuietLemmas.{number_passes}
 use Rattle.attribute_rules.specs.Contents.{does_clear, edit_in, edited}
 use Rattle.attribute_rules.specs.Kinds.{is_attr_kind, are_kinds}
 use Rattle.attribute_rules.specs.Laws.{may_name}
@@ -37,12 +37,13 @@ use Rattle.entity_model.specs.Sound.{is_known_id, has_known_ids, IsSoundEntity}
 use Rattle.request_rules.specs.Creation.{next_state}
 use Rattle.request_rules.specs.Policies.{link_row, listed}
 use Rattle.create_delete.specs.Changing.{expiry_after, state_row, updated_resource}
-use Rattle.create_delete.specs.Newcomer.{IsReplacement}
+use Rattle.create_delete.specs.NewResource.{IsReplacement}
 use Rattle.create_delete.specs.Updating.{IsUpdatable}
 use Rattle.create_delete.proofs.GrownLemmas.{none_all}
-use Rattle.create_delete.proofs.NewcomerLemmas.{kinds-with_rows, lacks_link, link_kind, link_known, state_small}
+use Rattle.create_delete.proofs.NewResourceLemmas.{kinds-with_rows, lacks_link, link_kind, link_known, state_small}
 use Rattle.create_delete.proofs.RowLemmas.{value_unset}
 use Rattle.create_delete.proofs.UpdatedRowLemmas.{as_edited, lacks_state, rows_are}
+use Rattle.m2m_names.proofs.ListLemmas.{AllOfBoth, append_parts}
 
 -- what is known stays so where nothing else is named
 still_known : (next : ℕ) (o : Option Data) (clears : Data → Bool) (old : Option Data) → (length (listed_in o) == 0) ≡ true → list_all (is_known_id next) (listed_in old) ≡ true → list_all (is_known_id next) (listed_in (option_map_or (λ d. if clears d then None else Some d) o old)) ≡ true
@@ -98,10 +99,10 @@ module _ (e : EntityData) (es : List Entry) (r : ResourceData) (sound : IsSoundE
   -- ---- policies
 
   known : list_all (is_known_id e.next) (ids_at Acpi r ++ ids_at Macp r) ≡ true
-  known = found_passes (has_known_ids e.next) r.number e.nodes r sound.ids may.stands
+  known = number_passes (has_known_ids e.next) r.number e.nodes r sound.ids may.stands
 
-  each_known : (list_all (is_known_id e.next) (ids_at Acpi r) ≡ true) × (list_all (is_known_id e.next) (ids_at Macp r) ≡ true)
-  each_known = and_parts (list_all (is_known_id e.next) (ids_at Acpi r)) (list_all (is_known_id e.next) (ids_at Macp r)) (sym (list_all-append (is_known_id e.next) (ids_at Acpi r) (ids_at Macp r)) ∙ known)
+  each_known : AllOfBoth (is_known_id e.next) (ids_at Acpi r) (ids_at Macp r)
+  each_known = append_parts (is_known_id e.next) (ids_at Acpi r) (ids_at Macp r) known
 
   edit_known : (a : Attr) → is_attr a Et ≡ false → list_all (is_known_id e.next) (ids_at a r) ≡ true → (length (listed a es) == 0) ≡ true → list_all (is_known_id e.next) (listed_in (value_of a kept)) ≡ true
   edit_known a apart old t =
@@ -112,13 +113,13 @@ module _ (e : EntityData) (es : List Entry) (r : ResourceData) (sound : IsSoundE
   acpi_known =
       ap (λ (o : Option Data). list_all (is_known_id e.next) (listed_in o)) (ap (value_of Acpi) (rows_are e es r) ∙ value_unset Acpi (link_row e es Macp) (with_rows (link_row e es Acpi) (with_rows state kept)) (lacks_link Acpi Macp e es refl))
       ∙ link_known e es Acpi (with_rows state kept) sound
-      (λ t. ap (λ (o : Option Data). list_all (is_known_id e.next) (listed_in o)) (value_unset Acpi state kept (lacks_state r Acpi (λ is. refl))) ∙ edit_known Acpi refl each_known.0 t)
+      (λ t. ap (λ (o : Option Data). list_all (is_known_id e.next) (listed_in o)) (value_unset Acpi state kept (lacks_state r Acpi (λ is. refl))) ∙ edit_known Acpi refl each_known.front t)
 
   macp_known : list_all (is_known_id e.next) (ids_at Macp now) ≡ true
   macp_known =
       ap (λ (o : Option Data). list_all (is_known_id e.next) (listed_in o)) (ap (value_of Macp) (rows_are e es r))
       ∙ link_known e es Macp (with_rows (link_row e es Acpi) (with_rows state kept)) sound
-      (λ t. ap (λ (o : Option Data). list_all (is_known_id e.next) (listed_in o)) (value_unset Macp (link_row e es Acpi) (with_rows state kept) (lacks_link Macp Acpi e es refl) ∙ value_unset Macp state kept (lacks_state r Macp (λ is. refl))) ∙ edit_known Macp refl each_known.1 t)
+      (λ t. ap (λ (o : Option Data). list_all (is_known_id e.next) (listed_in o)) (value_unset Macp (link_row e es Acpi) (with_rows state kept) (lacks_link Macp Acpi e es refl) ∙ value_unset Macp state kept (lacks_state r Macp (λ is. refl))) ∙ edit_known Macp refl each_known.back t)
 
   -- ---- kinds
 
@@ -138,7 +139,7 @@ module _ (e : EntityData) (es : List Entry) (r : ResourceData) (sound : IsSoundE
       ∙ and_from _ _
       (list_all-append (is_attr_kind r.ty) state (link_row e es Acpi) ∙ and_from _ _ state_kinds (link_kind e es Acpi r.ty (members_keep_policies Updating r.ty es may.admitted)))
       (link_kind e es Macp r.ty (members_keep_fan_policies Updating r.ty es may.admitted)))
-      (updated_members r.ty es r.attrs may.admitted (found_passes are_kinds r.number e.nodes r sound.kinds may.stands))
+      (updated_members r.ty es r.attrs may.admitted (number_passes are_kinds r.number e.nodes r sound.kinds may.stands))
 
   tagged : (not (is_ty r.ty Container) || is_some (value_of St now.attrs)) ≡ true
   tagged = elim (cases_Bool (is_ty r.ty Container)) [
@@ -155,7 +156,7 @@ module _ (e : EntityData) (es : List Entry) (r : ResourceData) (sound : IsSoundE
   -- ---- when it is due
 
   not_due : not (is_due e.nodes e.last r) ≡ true
-  not_due = found_passes (λ s. not (is_due e.nodes e.last s)) r.number e.nodes r (none_all (is_due e.nodes e.last) e.nodes sound.due) may.stands
+  not_due = number_passes (λ s. not (is_due e.nodes e.last s)) r.number e.nodes r (none_all (is_due e.nodes e.last) e.nodes sound.due) may.stands
 
   lasted : e.last < r.et
   lasted = (let quiet : is_due e.nodes e.last r ≡ false = not-true _ not_due in leb-false r.et e.last (rw (types.0, types.1) at quiet))

@@ -1,7 +1,7 @@
 -- What a Create changes, it changes by right.
 use Rattle.std.specs.Prelude.{nat_lt, bit_and}
 use Rattle.std.proofs.Common.{◌≡◌, ◌≢◌, ℕ, ◌+◌, List, [], ◌∷◌, ◌++◌, Bool, true, false, cond, not, Option, Some, None, unwrap_or, pos, inl, inr, refl, sym, ap, ◌∙◌, subst}
-use Rattle.std.proofs.lemmas.Bool.{cases_Bool, cases_eq, and_parts, and_from, and_left, both_ways, eqb-true, eq-eqb}
+use Rattle.std.proofs.lemmas.Bool.{cases_Bool, cases_eq, and_from, and_left, both_ways, eqb-true, eq-eqb}
 use Rattle.std.proofs.lemmas.Nat.{and_assoc}
 use Rattle.std.proofs.lemmas.Option.{same_Some}
 use Rattle.std.specs.Option.{option_map_or, option_or}
@@ -18,10 +18,10 @@ use Rattle.m2m_value.specs.Node.{AreSorted}
 use Rattle.primitive_json.specs.declared.request.RequestParts.{RequestParts}
 use Rattle.resource_model.specs.Resource.{ResourceData, is_ty, has_number}
 use Rattle.resource_model.proofs.AttributeLemmas.{value-with_value_other}
-use Rattle.tree_model.specs.Tree.{at, has, instances_of, instance_size, is_instance, is_under, replaced, restamped, restamped_at}
+use Rattle.tree_model.specs.Tree.{at, has, instances_of, instance_size, is_instance, replaced, restamped, restamped_at}
 use Rattle.tree_model.proofs.GrowthLemmas.{below_lacks}
 use Rattle.tree_model.proofs.StampLemmas.{restamped_is}
-use Rattle.tree_model.proofs.TreeLemmas.{at_has, at_none, at_number, at-append, at-replaced, at-replaced_other}
+use Rattle.tree_model.proofs.TreeLemmas.{at_has, at_none, at_number, at-append, at-replaced, at-replaced_other, kin_parts}
 use Rattle.container_limits.specs.Limits.{evicted, kept, limits_of}
 use Rattle.policy_eval.specs.Rights.{bits_by, has_bits}
 use Rattle.policy_eval.specs.Rules.{is_attr_in, rules_of}
@@ -29,24 +29,25 @@ use Rattle.entity_model.specs.Entity.{EntityData}
 use Rattle.entity_model.specs.Places.{Effect, refused}
 use Rattle.entity_model.specs.Sound.{IsSoundEntity}
 use Rattle.request_rules.specs.Creation.{Creation, creation_of, new_resource}
-use Rattle.request_rules.specs.Order.{creation_by, fault_at, fault_on, places}
+use Rattle.request_rules.specs.Order.{creation_by, fault_at, fault_on}
 use Rattle.request_rules.specs.Requests.{child_ty, content_for}
-use Rattle.request_rules.specs.Rights.{create_bits, is_granted, is_subscribing, may_do}
-use Rattle.request_rules.proofs.OrderLemmas.{all_hold, found_at, nothing_on}
-use Rattle.create_delete.specs.Changing.{after_joining, create_effect, filled, filling_of, is_numbered_in, performed_at, with_newcomer, without_all}
-use Rattle.create_delete.specs.Guard.{ChangesByRight, DiffersIn, filling_attrs, NamesInOrder, IsChanged, IsChangedByRight, IsGone, IsNew}
-use Rattle.create_delete.specs.Joining.{IsAllowed, MayFill, MayJoin}
-use Rattle.create_delete.specs.Newcomer.{IsFilling, IsNewcomer}
-use Rattle.create_delete.specs.declared.joining.Filling.{Filling}
+use Rattle.request_rules.specs.Rights.{create_bits, is_granted, is_subscribing}
+use Rattle.request_rules.proofs.OrderLemmas.{found_at, nothing_on, places_parts}
+use Rattle.create_delete.specs.Changing.{after_joining, create_effect, with_new_instance, container_update_of, is_numbered_in, effect_at, with_new_resource, without_all}
+use Rattle.create_delete.specs.Guard.{ChangesByRight, DiffersIn, container_update_attrs, NamesInOrder, IsChanged, IsChangedByRight, IsGone, IsNew}
+use Rattle.create_delete.specs.Joining.{IsAllowed, MayJoinContainer, MayJoin}
+use Rattle.create_delete.specs.NewResource.{IsNewInstance, IsNewResource}
+use Rattle.create_delete.specs.declared.joining.ContainerUpdate.{ContainerUpdate}
 use Rattle.create_delete.proofs.CreatableLemmas.{allowed, names_attributes, names_type}
 use Rattle.create_delete.proofs.CreatedLemmas.{may_join}
 use Rattle.create_delete.proofs.GrownLemmas.{grown_by, sound_grown}
 use Rattle.create_delete.proofs.InstanceLemmas.{grown_tree, instance_type, is_container, limits_restamped, pruning, there}
 use Rattle.create_delete.proofs.JoiningLemmas.{filled_is, filling_sound}
-use Rattle.create_delete.proofs.KeptLemmas.{all_filtered, is_not_kept}
+use Rattle.create_delete.proofs.KeptLemmas.{is_not_kept}
 use Rattle.create_delete.proofs.LeftLemmas.{instances_left, is_left, left_at, IsLeft}
-use Rattle.create_delete.proofs.PerformedLemmas.{done_at}
+use Rattle.create_delete.proofs.EffectLemmas.{done_at}
 use Rattle.create_delete.proofs.ReplacedLemmas.{replaced_by}
+use Rattle.m2m_names.proofs.ListLemmas.{all_filtered}
 
 -- ---- the right
 
@@ -68,7 +69,7 @@ creates_by e o request n right = elim (cases_Bool (is_subscribing request)) [
 
 -- ---- what comes last
 
-module _ (e : EntityData) (sound : IsSoundEntity e) (r : ResourceData) (new : IsNewcomer e r) where
+module _ (e : EntityData) (sound : IsSoundEntity e) (r : ResourceData) (new : IsNewResource e r) where
   abbrev grown : List ResourceData
   grown = e.nodes ++ r ∷ []
 
@@ -95,7 +96,7 @@ module _ (e : EntityData) (sound : IsSoundEntity e) (r : ResourceData) (new : Is
       alone s.number s (sym split ∙ found)
 
   -- what isn't an instance changes nothing else
-  pub joined_by_right : (o : List ℕ) → is_granted e o (op_row Create).bit r.parent ≡ true → ChangesByRight Create e o r.parent (with_newcomer e r)
+  pub joined_by_right : (o : List ℕ) → is_granted e o (op_row Create).bit r.parent ≡ true → ChangesByRight Create e o r.parent (with_new_resource e r)
   joined_by_right o right = record {
     created = λ s fresh. (ap (λ (x : ResourceData). x.parent) (sym (only_new s fresh.0 fresh.1)), right);
     changed = λ a b change.
@@ -108,7 +109,7 @@ module _ (e : EntityData) (sound : IsSoundEntity e) (r : ResourceData) (new : Is
 
 -- ---- a content instance
 
-module _ (e : EntityData) (sound : IsSoundEntity e) (r c : ResourceData) (st : ℕ) (filling : IsFilling e r c st) where
+module _ (e : EntityData) (sound : IsSoundEntity e) (r c : ResourceData) (st : ℕ) (filling : IsNewInstance e r c st) where
   abbrev all : List ResourceData
   all = e.nodes ++ r ∷ []
 
@@ -190,11 +191,11 @@ module _ (e : EntityData) (sound : IsSoundEntity e) (r c : ResourceData) (st : �
   ]
 
   -- the container differs in its state tag alone
-  tag_alone : DiffersIn filling_attrs c stamped
+  tag_alone : DiffersIn container_update_attrs c stamped
   tag_alone = record {
     rest = refl;
     others = λ a none. value-with_value_other St a (number (pos st)) c.attrs (λ is.
-        both_ways (is_attr_in filling_attrs a) none (subst (λ (x : Attr). is_attr_in filling_attrs x ≡ true) (sym is) refl));
+        both_ways (is_attr_in container_update_attrs a) none (subst (λ (x : Attr). is_attr_in container_update_attrs x ≡ true) (sym is) refl));
   }
 
   pub itself : is_instance r.parent r ≡ true
@@ -225,7 +226,7 @@ module _ (e : EntityData) (sound : IsSoundEntity e) (r c : ResourceData) (st : �
     | inl is ↦
         let none : at stamped.number nodes_filled ≡ None = ap (λ (m : ℕ). at m nodes_filled) (sym is) ∙ gone.1 in
         let instance = filled_left.gone stamped stamped_there none in
-        let ty : is_ty c.ty ContentInstance ≡ true = (and_parts (is_under r.parent stamped) (is_ty c.ty ContentInstance) instance).1 in
+        let ty : is_ty c.ty ContentInstance ≡ true = (kin_parts ContentInstance r.parent stamped instance).kind in
         absurd (both_ways _ (ap (λ (t : Ty). is_ty t Container) (instance_type c.ty ty)) (is_container e r c st sound filling))
     | inr other ↦ filled_left.gone s (at-replaced_other s.number stamped all other ∙ older_there e sound r filling.new s.number s gone.0) gone.1
   ]
@@ -239,18 +240,18 @@ module _ (e : EntityData) (sound : IsSoundEntity e) (r c : ResourceData) (st : �
 
 -- ---- what joins
 
-pub joins_by_right : (e : EntityData) (o : List ℕ) (r : ResourceData) (f : Option Filling) → IsSoundEntity e → MayJoin e r f → is_granted e o (op_row Create).bit r.parent ≡ true → ChangesByRight Create e o r.parent (after_joining e r f)
+pub joins_by_right : (e : EntityData) (o : List ℕ) (r : ResourceData) (f : Option ContainerUpdate) → IsSoundEntity e → MayJoin e r f → is_granted e o (op_row Create).bit r.parent ≡ true → ChangesByRight Create e o r.parent (after_joining e r f)
 joins_by_right e o r None sound may right = joined_by_right e sound r may.0 o right
 joins_by_right e o r (Some f) sound may right =
     subst (ChangesByRight Create e o r.parent) (filled_is e r f may) (filled_by_right e sound r may.parent f.state may.joins o right)
 
 -- an instance joins those that it leaves
-pub newest_filled : (e : EntityData) (r : ResourceData) (f : Filling) → IsSoundEntity e → (may : MayFill e r f) → instances_of r.parent (filled e r f).nodes ≡ kept (limits_of may.parent) (Some (instance_size r)) e.last (instances_of r.parent e.nodes) ++ r ∷ []
+pub newest_filled : (e : EntityData) (r : ResourceData) (f : ContainerUpdate) → IsSoundEntity e → (may : MayJoinContainer e r f) → instances_of r.parent (with_new_instance e r f).nodes ≡ kept (limits_of may.parent) (Some (instance_size r)) e.last (instances_of r.parent e.nodes) ++ r ∷ []
 newest_filled e r f sound may =
     ap (λ (x : EntityData). instances_of r.parent x.nodes) (sym (filled_is e r f may))
     ∙ instances_filled e sound r may.parent f.state may.joins
 
-pub joins_sound : (e : EntityData) (r : ResourceData) (f : Option Filling) → IsSoundEntity e → MayJoin e r f → IsSoundEntity (after_joining e r f)
+pub joins_sound : (e : EntityData) (r : ResourceData) (f : Option ContainerUpdate) → IsSoundEntity e → MayJoin e r f → IsSoundEntity (after_joining e r f)
 joins_sound e r None sound may = sound_grown e r sound may.0 may.1
 joins_sound e r (Some f) sound may = filling_sound e r f sound may
 
@@ -260,13 +261,13 @@ joins_sound e r (Some f) sound may = filling_sound e r f sound may
 pub record IsCreate (e : EntityData) (o : List ℕ) (request : RequestParts) (n : ℕ) : Type 0 where
   pub made : Creation
   pub entity : made.e ≡ e
-  pub originator : made.o ≡ o
+  pub originator : made.originator ≡ o
   pub parent : made.parent.number ≡ n
   pub by : (t : ResourceData) (ty : Ty) → at n e.nodes ≡ Some t → child_ty request ≡ Some ty → made ≡ creation_by e o request t ty
   pub sorted : AreSorted made.named
   pub may : IsAllowed made
-  pub right : is_granted made.e made.o (op_row Create).bit made.parent.number ≡ true
-  pub after : (performed_at Create e o request n).after ≡ (create_effect request made).after
+  pub right : is_granted made.e made.originator (op_row Create).bit made.parent.number ≡ true
+  pub after : (effect_at Create e o request n).after ≡ (create_effect request made).after
 
 module _ (e : EntityData) (o : List ℕ) (request : RequestParts) (n : ℕ) (content : NamesInOrder request) (none : fault_at Create e o request n ≡ None) where
   create_of : (t : ResourceData) → at n e.nodes ≡ Some t → fault_on Create e o request t ≡ None → (ty : Ty) → child_ty request ≡ Some ty → (es : List Entry) → content_for request ty ≡ Some es → IsCreate e o request n
@@ -283,7 +284,7 @@ module _ (e : EntityData) (o : List ℕ) (request : RequestParts) (n : ℕ) (con
             ∙ ap (λ (x : ResourceData). creation_by e o request x kind) (same_Some t u (sym stands ∙ found));
         sorted = content ty es whole;
         may = allowed e o request t ty es fault (ap (λ (m : ℕ). at m e.nodes) number ∙ stands) child whole;
-        right = creates_by e o request t.number (and_parts (may_do Create e o request t.number) _ (all_hold (places Create e o request t) fault)).0;
+        right = creates_by e o request t.number (places_parts Create e o request t fault).right;
         after =
             ap (λ (x : Effect). x.after) (done_at Create e o request n t stands none)
             ∙ ap (λ (x : Option Ty). (option_map_or (λ (y : Ty). create_effect request (creation_by e o request t y)) x (refused e request BadChild)).after) child
@@ -311,19 +312,19 @@ module _ (e : EntityData) (o : List ℕ) (request : RequestParts) (n : ℕ) (sou
   pub made_sound : IsSoundEntity create.made.e
   made_sound = subst IsSoundEntity (sym create.entity) sound
 
-  pub joins : MayJoin create.made.e (new_resource create.made) (filling_of create.made)
+  pub joins : MayJoin create.made.e (new_resource create.made) (container_update_of create.made)
   joins = may_join create.made made_sound (ap is_originator create.originator ∙ originator) create.sorted create.may
 
-  pub after_is : (performed_at Create e o request n).after ≡ after_joining create.made.e (new_resource create.made) (filling_of create.made)
+  pub after_is : (effect_at Create e o request n).after ≡ after_joining create.made.e (new_resource create.made) (container_update_of create.made)
   after_is = create.after
 
-  pub create_by_right : ChangesByRight Create e o n (performed_at Create e o request n).after
+  pub create_by_right : ChangesByRight Create e o n (effect_at Create e o request n).after
   create_by_right =
       subst (ChangesByRight Create e o n) (sym after_is)
-      (subst (λ (x : EntityData). ChangesByRight Create x o n (after_joining create.made.e (new_resource create.made) (filling_of create.made))) create.entity
-      (subst (λ (x : List ℕ). ChangesByRight Create create.made.e x n (after_joining create.made.e (new_resource create.made) (filling_of create.made))) create.originator
-      (subst (λ (m : ℕ). ChangesByRight Create create.made.e create.made.o m (after_joining create.made.e (new_resource create.made) (filling_of create.made))) create.parent
-      (joins_by_right create.made.e create.made.o (new_resource create.made) (filling_of create.made) made_sound joins create.right))))
+      (subst (λ (x : EntityData). ChangesByRight Create x o n (after_joining create.made.e (new_resource create.made) (container_update_of create.made))) create.entity
+      (subst (λ (x : List ℕ). ChangesByRight Create create.made.e x n (after_joining create.made.e (new_resource create.made) (container_update_of create.made))) create.originator
+      (subst (λ (m : ℕ). ChangesByRight Create create.made.e create.made.originator m (after_joining create.made.e (new_resource create.made) (container_update_of create.made))) create.parent
+      (joins_by_right create.made.e create.made.originator (new_resource create.made) (container_update_of create.made) made_sound joins create.right))))
 
-  pub create_sound : IsSoundEntity (performed_at Create e o request n).after
-  create_sound = subst IsSoundEntity (sym after_is) (joins_sound create.made.e (new_resource create.made) (filling_of create.made) made_sound joins)
+  pub create_sound : IsSoundEntity (effect_at Create e o request n).after
+  create_sound = subst IsSoundEntity (sym after_is) (joins_sound create.made.e (new_resource create.made) (container_update_of create.made) made_sound joins)

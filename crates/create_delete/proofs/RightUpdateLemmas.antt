@@ -1,6 +1,6 @@
 -- What an Update changes, it changes by right.
 use Rattle.std.proofs.Common.{◌≡◌, ◌≢◌, ℕ, List, [], true, Option, Some, None, unwrap_or, inl, inr, refl, sym, ap, ◌∙◌, subst}
-use Rattle.std.proofs.lemmas.Bool.{cases_Bool, cases_eq, and_parts, both_ways}
+use Rattle.std.proofs.lemmas.Bool.{cases_Bool, cases_eq, both_ways}
 use Rattle.std.proofs.lemmas.Option.{same_Some}
 use Rattle.m2m_names.specs.Operations.{op_row}
 use Rattle.m2m_names.specs.declared.operations.Op.TheVariants.{Update}
@@ -9,25 +9,25 @@ use Rattle.m2m_value.specs.Data.{Entry}
 use Rattle.m2m_value.specs.Node.{AreSorted}
 use Rattle.primitive_json.specs.declared.request.RequestParts.{RequestParts}
 use Rattle.resource_model.specs.Resource.{ResourceData, is_ty}
-use Rattle.tree_model.specs.Tree.{at, instances_of, is_instance, is_tree, is_under, replaced}
+use Rattle.tree_model.specs.Tree.{at, instances_of, is_instance, is_tree, replaced}
 use Rattle.tree_model.proofs.GrowthLemmas.{tree_from_well_formed}
 use Rattle.tree_model.proofs.KeptLemmas.{is_tree-replaced}
-use Rattle.tree_model.proofs.TreeLemmas.{at_number, at-replaced, at-replaced_other}
+use Rattle.tree_model.proofs.TreeLemmas.{at_number, at-replaced, at-replaced_other, kin_parts}
 use Rattle.container_limits.specs.Limits.{evicted}
 use Rattle.policy_eval.specs.Rights.{relinks}
 use Rattle.entity_model.specs.Entity.{EntityData}
 use Rattle.entity_model.specs.Places.{Effect}
 use Rattle.entity_model.specs.Sound.{IsSoundEntity}
-use Rattle.request_rules.specs.Order.{fault_at, fault_on, places}
+use Rattle.request_rules.specs.Order.{fault_at, fault_on}
 use Rattle.request_rules.specs.Requests.{content_for, named_by}
-use Rattle.request_rules.specs.Rights.{is_granted, is_relink, may_do, may_update}
-use Rattle.request_rules.proofs.OrderLemmas.{all_hold, found_at, nothing_on}
-use Rattle.create_delete.specs.Changing.{nodes_updated, performed_at, pushed_by, pushed_out, update_effect, updated_resource, without_all}
+use Rattle.request_rules.specs.Rights.{is_granted, is_relink, may_update}
+use Rattle.request_rules.proofs.OrderLemmas.{found_at, nothing_on, places_parts}
+use Rattle.create_delete.specs.Changing.{nodes_updated, effect_at, pushed_by, pushed_out, update_effect, updated_resource, without_all}
 use Rattle.create_delete.specs.Guard.{ChangesByRight, DiffersIn, NamesInOrder, IsChanged, IsChangedByRight, IsGone, IsNew, IsRemovedByRight, link_attrs}
-use Rattle.create_delete.specs.Newcomer.{IsReplacement}
+use Rattle.create_delete.specs.NewResource.{IsReplacement}
 use Rattle.create_delete.specs.Updating.{IsUpdatable}
 use Rattle.create_delete.proofs.LeftLemmas.{all_left, is_left, pushes_nothing, IsLeft}
-use Rattle.create_delete.proofs.PerformedLemmas.{done_at}
+use Rattle.create_delete.proofs.EffectLemmas.{done_at}
 use Rattle.create_delete.proofs.PushingLemmas.{nothing_removed}
 use Rattle.create_delete.proofs.RelinkLemmas.{limits_kept, links_stay, names_link, names_no_link, relinked}
 use Rattle.create_delete.proofs.ReplacedLemmas.{replaced_by, still_there}
@@ -136,7 +136,7 @@ module _ (e : EntityData) (sound : IsSoundEntity e) (o : List ℕ) (request : Re
     | inl same ↦
         let none : at now.number after.nodes ≡ None = ap (λ (m : ℕ). at m after.nodes) (sym same) ∙ gone.1 in
         let instance : is_instance now.number now ≡ true = (updated_left e sound now new).gone now (now_there e sound now new) none in
-        absurd (both_ways _ new.plain (and_parts (is_under now.number now) (is_ty now.ty ContentInstance) instance).1)
+        absurd (both_ways _ new.plain (kin_parts ContentInstance now.number now instance).kind)
     | inr apart ↦
         let stands : at r.number (replaced now e.nodes) ≡ Some r = at-replaced_other r.number now e.nodes apart ∙ gone.0 in
         elim (cases_Bool (is_relink request)) [
@@ -172,7 +172,7 @@ pub record IsUpdate (e : EntityData) (o : List ℕ) (request : RequestParts) (n 
   pub may : IsUpdatable e es target
   pub whole : content_for request target.ty ≡ Some es
   pub right : may_update e o request target.number ≡ true
-  pub after : (performed_at Update e o request n).after ≡ updated_in e (updated_resource e es target)
+  pub after : (effect_at Update e o request n).after ≡ updated_in e (updated_resource e es target)
 
 module _ (e : EntityData) (o : List ℕ) (request : RequestParts) (n : ℕ) (content : NamesInOrder request) (none : fault_at Update e o request n ≡ None) where
   update_of : (t : ResourceData) → at n e.nodes ≡ Some t → fault_on Update e o request t ≡ None → (es : List Entry) → content_for request t.ty ≡ Some es → IsUpdate e o request n
@@ -187,7 +187,7 @@ module _ (e : EntityData) (o : List ℕ) (request : RequestParts) (n : ℕ) (con
         sorted = content t.ty es whole;
         may = updatable e o request t es fault (ap (λ (m : ℕ). at m e.nodes) number ∙ there) whole;
         whole = whole;
-        right = (and_parts (may_do Update e o request t.number) _ (all_hold (places Update e o request t) fault)).0;
+        right = (places_parts Update e o request t fault).right;
         after =
             ap (λ (x : Effect). x.after) (done_at Update e o request n t there none)
             ∙ ap (λ (xs : List Entry). (update_effect e request xs t).after) names;
@@ -202,14 +202,14 @@ module _ (e : EntityData) (o : List ℕ) (request : RequestParts) (n : ℕ) (con
       let found = found_at Update e o request n none in
       by_names found.0 found.1 (nothing_on Update e o request n found.0 found.1 none) (content_for request found.0.ty) refl
 
-pub update_by_right : (e : EntityData) (o : List ℕ) (request : RequestParts) (n : ℕ) → IsSoundEntity e → NamesInOrder request → fault_at Update e o request n ≡ None → ChangesByRight Update e o n (performed_at Update e o request n).after
+pub update_by_right : (e : EntityData) (o : List ℕ) (request : RequestParts) (n : ℕ) → IsSoundEntity e → NamesInOrder request → fault_at Update e o request n ≡ None → ChangesByRight Update e o n (effect_at Update e o request n).after
 update_by_right e o request n sound content none =
     let u = is_update e o request n content none in
     subst (ChangesByRight Update e o n) (sym u.after)
     (subst (λ (m : ℕ). ChangesByRight Update e o m (updated_in e (updated_resource e u.es u.target))) u.number
     (updated_by_right e sound o request u.target u.es u.sorted u.may u.whole u.right))
 
-pub update_sound : (e : EntityData) (o : List ℕ) (request : RequestParts) (n : ℕ) → IsSoundEntity e → NamesInOrder request → fault_at Update e o request n ≡ None → IsSoundEntity (performed_at Update e o request n).after
+pub update_sound : (e : EntityData) (o : List ℕ) (request : RequestParts) (n : ℕ) → IsSoundEntity e → NamesInOrder request → fault_at Update e o request n ≡ None → IsSoundEntity (effect_at Update e o request n).after
 update_sound e o request n sound content none =
     let u = is_update e o request n content none in
     subst IsSoundEntity (sym u.after) (updated_sound e sound o request u.target u.es u.sorted u.may u.whole u.right)

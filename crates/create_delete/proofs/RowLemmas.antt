@@ -1,14 +1,14 @@
 -- The values of attributes that are put in one after another.
-use Rattle.std.proofs.Common.{◌≡◌, List, [], ◌∷◌, ◌++◌, Bool, true, not, Some, filter, inl, inr, refl, sym, ap, ◌∙◌, subst}
+use Rattle.std.proofs.Common.{◌≡◌, List, [], ◌∷◌, ◌++◌, Bool, true, not, filter, inl, inr, refl, sym, ap, ◌∙◌, subst}
 use Rattle.std.proofs.lemmas.Bool.{cases_Bool, and_parts, both_ways, not-true}
 use Rattle.std.proofs.lemmas.List.Kept.{IsStrictlySortedBy-filter}
 use Rattle.std.specs.List.Sorted.{IsStrictlySortedBy}
 use Rattle.std.specs.Map.{keys_of}
 use Rattle.std.specs.List.{list_all}
 use Rattle.m2m_names.specs.declared.attributes.Attr.{Attr}
-use Rattle.m2m_value.specs.Data.{Data, Entry}
+use Rattle.m2m_value.specs.Data.{Entry}
 use Rattle.resource_model.specs.Attributes.{Row, AreInOrder, attr_cmp, is_attr, value_of, with_value}
-use Rattle.resource_model.proofs.AttributeLemmas.{is_attr-itself, value-with_value_same, value-with_value_other}
+use Rattle.resource_model.proofs.AttributeLemmas.{is_attr-itself, value-with_value_other}
 use Rattle.tree_model.specs.Shown.{with_rows}
 use Rattle.tree_model.proofs.ShownLemmas.{with_rows-append}
 use Rattle.create_delete.specs.Changing.{is_told, is_told_at}

@@ -1,27 +1,28 @@
 -- The contents of replies, as they are written.
-use Rattle.std.proofs.Common.{◌≡◌, ℕ, List, [], ◌∷◌, ◌++◌, map, reverse, codes, Bool, true, IsUtf8, inl, inr, refl, sym, ap, ◌∙◌, subst}
+use Rattle.std.proofs.Common.{◌≡◌, ℕ, List, [], ◌∷◌, ◌++◌, map, reverse, codes, true, IsUtf8, refl, sym, ap, ◌∙◌, subst}
 use Rattle.std.specs.List.{list_all}
 use Rattle.std.specs.List.Sorted.{IsStrictlySortedBy}
-use Rattle.std.proofs.lemmas.Bool.{cases_Bool, and_parts, and_from, eq-eqb}
-use Rattle.std.proofs.lemmas.List.Folds.{list_all-append, list_all-map}
+use Rattle.std.proofs.lemmas.Bool.{and_parts, eq-eqb}
+use Rattle.std.proofs.lemmas.List.Folds.{list_all-map}
 use Rattle.std.proofs.lemmas.List.{append_assoc, reverse-append}
 use Rattle.std.proofs.lemmas.Str.{IsUtf8-append, IsUtf8-nil}
-use Rattle.m2m_names.specs.Name.{is_filled, is_free_name, is_name, is_unreserved}
+use Rattle.m2m_names.specs.Name.{is_free_name}
 use Rattle.m2m_names.specs.Types.{ty_member}
 use Rattle.m2m_names.specs.declared.types.Ty.{Ty}
 use Rattle.m2m_names.specs.declared.types.Ty.TheVariants.{AccessControlPolicy, Ae, Container, ContentInstance, CseBase, Group, PollingChannel, RemoteCse, Subscription, AccessControlPolicyAnnc, AeAnnc, ContainerAnnc, ContentInstanceAnnc, GroupAnnc}
-use Rattle.m2m_names.proofs.NameLemmas.{unreserved_is_utf8}
+use Rattle.m2m_names.proofs.NameLemmas.{free_name_parts, name_is_utf8}
 use Rattle.m2m_value.specs.Data.{Data, Entry}
 use Rattle.m2m_value.specs.Node.{AreSorted}
-use Rattle.resource_model.specs.Resource.{ResourceData, has_number}
-use Rattle.tree_model.specs.Tree.{has, line_from, line_of}
+use Rattle.resource_model.specs.Resource.{ResourceData}
+use Rattle.tree_model.specs.Tree.{has, line_of}
 use Rattle.tree_model.proofs.GrowthLemmas.{line-append, stands, tree_from_well_formed}
 use Rattle.tree_model.proofs.ShownLemmas.{one_sorted, slash_utf8}
-use Rattle.tree_model.proofs.TreeLemmas.{has_at}
+use Rattle.tree_model.proofs.TreeLemmas.{has_at, line_all}
 use Rattle.addressing.specs.Addresses.{joined}
 use Rattle.addressing.specs.Names.{names_to, structured_of}
 use Rattle.entity_model.specs.Entity.{EntityData}
 use Rattle.entity_model.specs.Sound.{has_free_name, IsSoundEntity}
+use Rattle.m2m_names.proofs.ListLemmas.{all_reversed}
 
 -- ---- members in order
 
@@ -76,31 +77,15 @@ path_of_last e r parent path sound there above is =
 
 -- ---- and it is a text
 
-all_reversed : {X : Type 0} (p : X → Bool) (xs : List X) → list_all p xs ≡ true → list_all p (reverse xs) ≡ true
-all_reversed p [] all = refl
-all_reversed p (x ∷ xs) all =
-    let parts = and_parts (p x) (list_all p xs) all in
-    ap (list_all p) (reverse-append (x ∷ []) xs) ∙ list_all-append p (reverse xs) (x ∷ []) ∙ and_from _ _ (all_reversed p xs parts.1) (and_from _ _ parts.0 refl)
-
--- what holds of all holds of those up to the CSEBase
-all_up : (p : ResourceData → Bool) (n : ℕ) (older : List ResourceData) → list_all p older ≡ true → list_all p (line_from n older) ≡ true
-all_up p n [] all = refl
-all_up p n (r ∷ older) all =
-    let parts = and_parts (p r) (list_all p older) all in
-    elim (cases_Bool (has_number n r)) [
-      | inl t ↦ rw t (and_from _ _ parts.0 (all_up p r.parent older parts.1))
-      | inr f ↦ rw f (all_up p n older parts.1)
-    ]
-
 free_up : (e : EntityData) (n : ℕ) → IsSoundEntity e → list_all is_free_name (names_to n e.nodes) ≡ true
 free_up e n sound =
     all_reversed is_free_name (map (λ (r : ResourceData). r.name) (line_of n e.nodes))
     (list_all-map is_free_name (λ (r : ResourceData). r.name) (line_of n e.nodes)
-    ∙ all_up has_free_name n (reverse e.nodes) (all_reversed has_free_name e.nodes sound.names))
+    ∙ line_all has_free_name n (reverse e.nodes) (all_reversed has_free_name e.nodes sound.names))
 
 free_is_text : (name : List ℕ) → is_free_name name ≡ true → IsUtf8 name
 free_is_text name free =
-    unreserved_is_utf8 name (and_parts (is_filled 64 name) (list_all is_unreserved name) (and_parts (is_name name) _ free).0).1
+    name_is_utf8 name (free_name_parts name free).name
 
 joined_is_text : (names : List (List ℕ)) → list_all is_free_name names ≡ true → IsUtf8 (joined names)
 joined_is_text [] all = IsUtf8-nil

@@ -1,10 +1,10 @@
 -- The resources of the numbers that a limit pushes out, in the order of the numbers, are those of a tree that have one of them.
-use Rattle.std.proofs.Common.{◌≡◌, ℕ, List, [], ◌∷◌, Bool, true, false, not, ◌&&◌, Option, Some, None, inl, inr, refl, sym, ap, ◌∙◌, subst}
+use Rattle.std.proofs.Common.{◌≡◌, ℕ, List, [], ◌∷◌, Bool, true, false, not, ◌&&◌, Option, None, inl, inr, refl, sym, ap, ◌∙◌, subst}
 use Rattle.std.proofs.lemmas.Bool.{cases_Bool}
 use Rattle.std.specs.List.{filter, list_all}
 use Rattle.m2m_names.specs.declared.types.Ty.TheVariants.{Container}
 use Rattle.resource_model.specs.Resource.{ResourceData, is_ty}
-use Rattle.tree_model.specs.Tree.{at, has, instances_of, is_instance, is_tree}
+use Rattle.tree_model.specs.Tree.{has, instances_of, is_instance, is_tree}
 use Rattle.tree_model.proofs.OrderLemmas.{placed_stands, tree_ascends}
 use Rattle.container_limits.specs.Limits.{evicted, kept, limits_of, numbers_of}
 use Rattle.container_limits.specs.declared.limits.Limits.{Limits}
@@ -13,7 +13,8 @@ use Rattle.entity_model.proofs.ExpiryLemmas.{those_all}
 use Rattle.create_delete.specs.Changes.{those_of}
 use Rattle.create_delete.specs.Changing.{is_numbered_in, pushed_by}
 use Rattle.create_delete.proofs.GrownLemmas.{nothing_picked}
-use Rattle.create_delete.proofs.KeptLemmas.{among_numbers, filter_among, in_kept}
+use Rattle.create_delete.proofs.KeptLemmas.{among_numbers, in_kept}
+use Rattle.tree_model.proofs.TreeLemmas.{filter_among}
 
 filter_both : (p q : ResourceData → Bool) (rs : List ResourceData) → filter q (filter p rs) ≡ filter (λ s. p s && q s) rs
 filter_both p q [] = refl

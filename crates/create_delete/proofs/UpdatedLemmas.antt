@@ -1,51 +1,33 @@
 -- Soundness where a resource is updated.
-use Rattle.std.proofs.Common.{◌≡◌, ℕ, ◌<◌, List, [], ◌∷◌, ◌++◌, true, false, not, ◌||◌, Option, Some, None, inl, inr, refl, sym, ap, ◌∙◌, subst, arith}
-use Rattle.std.proofs.lemmas.Bool.{cases_Bool, and_parts, and_from, or_left, or_right, both_ways, not_from_false, eqb-true, ne_eqb, false_from_ne_true}
+use Rattle.std.proofs.Common.{◌≡◌, ℕ, List, [], true, false, not, ◌||◌, Option, Some, None, inl, inr, refl, sym, ap, ◌∙◌, subst, arith}
+use Rattle.std.proofs.lemmas.Bool.{cases_Bool, and_from, or_left, or_right, both_ways, not_from_false, eqb-true, false_from_ne_true}
 use Rattle.std.proofs.lemmas.List.{append-nil}
 use Rattle.std.proofs.lemmas.Option.{same_Some}
-use Rattle.std.specs.List.{list_all}
-use Rattle.std.specs.Option.{option_map_or, option_or}
+use Rattle.std.specs.Option.{option_map_or}
 use Rattle.m2m_names.specs.Types.{does_take}
 use Rattle.m2m_names.specs.declared.attributes.Attr.TheVariants.{Mbs, Mni}
 use Rattle.m2m_names.specs.declared.types.Ty.TheVariants.{Container, ContentInstance}
 use Rattle.resource_model.specs.Attributes.{count_at}
 use Rattle.resource_model.specs.Resource.{ResourceData, is_ty}
-use Rattle.tree_model.specs.Tree.{at, replaced, is_instance, is_under, instances_of, is_due, is_taken, may_stand, fits_in, is_tree, is_well_formed}
-use Rattle.tree_model.proofs.GrowthLemmas.{growth, next_fits, next_above_parent, tree_from_well_formed}
-use Rattle.tree_model.proofs.QuietLemmas.{all_by_number, found_passes}
-use Rattle.tree_model.proofs.TreeLemmas.{at-append, at-replaced}
+use Rattle.tree_model.specs.Tree.{at, replaced, is_instance, instances_of, is_due, is_taken, is_tree}
+use Rattle.tree_model.proofs.GrowthLemmas.{tree_from_well_formed}
+use Rattle.tree_model.proofs.QuietLemmas.{all_by_number, number_passes}
+use Rattle.tree_model.proofs.TreeLemmas.{at-replaced, kin_parts}
 use Rattle.container_limits.specs.Limits.{limits_of}
 use Rattle.container_limits.proofs.LimitLemmas.{fits_totals}
 use Rattle.tree_model.proofs.OrderLemmas.{ascend_filter, tree_ascends}
 use Rattle.entity_model.specs.Entity.{EntityData}
 use Rattle.entity_model.specs.Sound.{IsSoundEntity}
-use Rattle.entity_model.proofs.SoundLemmas.{all_weaker, framed_from}
+use Rattle.entity_model.proofs.SoundLemmas.{framed_from}
 use Rattle.create_delete.specs.Changing.{pushed_by, pushed_out, without_all}
-use Rattle.create_delete.specs.Newcomer.{IsReplacement}
-use Rattle.create_delete.proofs.GrownLemmas.{all_grown, all_turned, is_within_but, nothing_within, within_by}
+use Rattle.create_delete.specs.NewResource.{IsReplacement}
+use Rattle.create_delete.proofs.GrownLemmas.{is_within_but, nothing_within, within_by}
 use Rattle.create_delete.proofs.InstanceLemmas.{instance_type, takes_is_container}
 use Rattle.create_delete.proofs.PrunedLemmas.{IsPruning, IsSoundBut, restored, sound_pruned}
 use Rattle.create_delete.proofs.PushingLemmas.{nothing_removed}
 use Rattle.create_delete.proofs.ReplacedLemmas.{framed_replaced, instances_replaced, quiet_but_replaced, replaced_by, still_there, within_but_replaced}
-
--- ---- each resource stands under a type that takes it
-
-or_nothing : (o : Option ResourceData) → option_or o None ≡ o
-or_nothing None = refl
-or_nothing (Some r) = refl
-
--- a parent that isn't the new one is read as before
-at_older : (n : ℕ) (nodes : List ResourceData) (r : ResourceData) → n < r.number → at n (nodes ++ r ∷ []) ≡ at n nodes
-at_older n nodes r before = at-append n nodes (r ∷ []) ∙ rw (ne_eqb r.number n (λ e. omega arith)) (or_nothing (at n nodes))
-
-pub all_taken : (nodes : List ResourceData) → is_well_formed nodes ≡ true → list_all (is_taken nodes) nodes ≡ true
-all_taken = growth fits_in (λ nodes. list_all (is_taken nodes) nodes ≡ true) refl (λ before r grew next holds.
-    let tree : is_tree before ≡ true = tree_from_well_formed before grew in
-    let parts = and_parts (may_stand before r) (is_taken before r) next in
-    let fact = next_fits before r parts.0 in
-    all_grown (is_taken (before ++ r ∷ [])) before r
-    (all_turned (is_taken before) (is_taken (before ++ r ∷ [])) before r tree fact.number (λ s old held. ap (λ (o : Option ResourceData). option_map_or (λ p. does_take p.ty s.ty) o true) (at_older s.parent before r old.parent) ∙ held) holds)
-    (ap (λ (o : Option ResourceData). option_map_or (λ p. does_take p.ty r.ty) o true) (at_older r.parent before r (next_above_parent before r fact)) ∙ parts.1))
+use Rattle.m2m_names.proofs.ListLemmas.{all_weaker}
+use Rattle.tree_model.proofs.TakenLemmas.{all_taken}
 
 -- ---- an update
 
@@ -85,11 +67,11 @@ module _ (e : EntityData) (c : ResourceData) (sound : IsSoundEntity e) (new : Is
   -- nothing else has instances
   none_under : is_ty c.ty Container ≡ false → (s : ResourceData) → at s.number now ≡ Some s → is_instance n s ≡ false
   none_under other s found = false_from_ne_true _ (λ t.
-      let parts = and_parts (is_under n s) (is_ty s.ty ContentInstance) t in
-      let taken : is_taken now s ≡ true = found_passes (is_taken now) s.number now s (all_taken now but.frame.tree) found in
-      let up : at s.parent now ≡ Some c = ap (λ (m : ℕ). at m now) (eqb-true s.parent n parts.0) ∙ there in
+      let kin = kin_parts ContentInstance n s t in
+      let taken : is_taken now s ≡ true = number_passes (is_taken now) s.number now s (all_taken now but.frame.tree) found in
+      let up : at s.parent now ≡ Some c = ap (λ (m : ℕ). at m now) kin.under ∙ there in
       let takes : does_take c.ty s.ty ≡ true = sym (ap (λ (o : Option ResourceData). option_map_or (λ p. does_take p.ty s.ty) o true) up) ∙ taken in
-      both_ways _ other (takes_is_container c.ty (ap (does_take c.ty) (sym (instance_type s.ty parts.1)) ∙ takes)))
+      both_ways _ other (takes_is_container c.ty (ap (does_take c.ty) (sym (instance_type s.ty kin.kind)) ∙ takes)))
 
   plain_sound : is_ty c.ty Container ≡ false → IsSoundEntity (replaced_by e c)
   plain_sound other = restored n (replaced_by e c) but

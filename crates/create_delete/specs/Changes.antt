@@ -19,7 +19,7 @@ pub use Rattle.tree_model.specs.Tree.{is_at_or_below}
 use Rattle.entity_model.specs.Entity.{EntityData}
 use Rattle.request_rules.specs.Order.{fault_at}
 use Rattle.request_rules.specs.Requests.{named_by}
-use Rattle.create_delete.specs.Changing.{performed_at}
+use Rattle.create_delete.specs.Changing.{effect_at}
 
 -- what stands in the first list alone, in order of creation
 abbrev pub only_in : List ResourceData → List ResourceData → List ResourceData
@@ -57,6 +57,6 @@ changes_by Notify request n before after = []
 
 -- the changes of an operation; one that is refused makes none
 abbrev pub changes_at : Op → EntityData → List ℕ → RequestParts → ℕ → List ChangeData
-changes_at op e o request n =
-    option_map_or (λ fault. []) (fault_at op e o request n)
-    (changes_by op request n e (performed_at op e o request n).after)
+changes_at op e originator request n =
+    option_map_or (λ fault. []) (fault_at op e originator request n)
+    (changes_by op request n e (effect_at op e originator request n).after)

@@ -33,7 +33,7 @@ use Rattle.entity_model.specs.Places.{Effect, on_found, refused, reply_to, unles
 use Rattle.entity_model.specs.Places.{wanted_content}
 use Rattle.request_rules.specs.Policies.{link_row}
 use Rattle.request_rules.specs.Requests.{child_ty, expiry_for, named_by}
-use Rattle.create_delete.specs.declared.joining.Filling.{Filling}
+use Rattle.create_delete.specs.declared.joining.ContainerUpdate.{ContainerUpdate}
 
 -- ---- what limits push out
 
@@ -47,23 +47,24 @@ pushed_out e container size =
 
 -- the entity with a new instance, which is the last in order of creation: its container was changed
 -- at the moment, and has pushed out what doesn't fit beside it
-abbrev pub filled : EntityData → ResourceData → Filling → EntityData
-filled e r f = record e {
+abbrev pub with_new_instance : EntityData → ResourceData → ContainerUpdate → EntityData
+with_new_instance e r f = record e {
   nodes = without_all f.gone (restamped_at f.container e.last f.state (e.nodes ++ r ∷ []));
   next = e.next + 1;
 }
 
 -- the entity with any other resource
-abbrev pub with_newcomer : EntityData → ResourceData → EntityData
-with_newcomer e r = record e { nodes = e.nodes ++ r ∷ []; next = e.next + 1 }
+abbrev pub with_new_resource : EntityData → ResourceData → EntityData
+with_new_resource e r = record e { nodes = e.nodes ++ r ∷ []; next = e.next + 1 }
 
-abbrev pub after_joining : EntityData → ResourceData → Option Filling → EntityData
-after_joining e r None = with_newcomer e r
-after_joining e r (Some f) = filled e r f
+-- The entity with a new resource: an instance changes its container too.
+abbrev pub after_joining : EntityData → ResourceData → Option ContainerUpdate → EntityData
+after_joining e r None = with_new_resource e r
+after_joining e r (Some f) = with_new_instance e r f
 
 -- what the resource of a creation does besides
-abbrev pub filling_of : Creation → Option Filling
-filling_of c =
+abbrev pub container_update_of : Creation → Option ContainerUpdate
+container_update_of c =
     if is_ty c.ty ContentInstance
     then Some (record {
       container = c.parent.number;
@@ -76,7 +77,8 @@ filling_of c =
 abbrev pub address_last : EntityData → ResourceData → Data
 address_last e r = text (structured_of r.number (e.nodes ++ r ∷ []))
 
--- its attributes and its address (TS-0004, 7.5.2; TS-0001, 8.1.2)
+-- The content that shows the attributes of a new resource and its address (TS-0004, 7.5.2; TS-0001,
+-- 8.1.2).
 abbrev pub attributes_and_address : EntityData → ResourceData → Data
 attributes_and_address e r =
     object (pairs_of ((
@@ -96,11 +98,13 @@ created_content rcn e r =
     then Some (object (pairs_of ((codes "m2m:uri", address_last e r) ∷ [])))
     else Some (attributes_and_address e r)
 
+-- What comes of a creation: the reply says that the resource was created, and the resource joins
+-- the entity (TS-0001, 10.2.2).
 abbrev pub create_effect : RequestParts → Creation → Effect
 create_effect request c = record {
   reply = reply_to request Created
       (created_content (wanted_content request.rcn) c.e (new_resource c));
-  after = after_joining c.e (new_resource c) (filling_of c);
+  after = after_joining c.e (new_resource c) (container_update_of c);
 }
 
 -- ---- Update
@@ -140,9 +144,11 @@ nodes_updated e r = without_all (pushed_by e r) (replaced r e.nodes)
 abbrev pub is_told_at : List Entry → Attr → Bool
 is_told_at es attr = is_named attr es || is_attr attr Lt
 
+-- The reply to an update tells this row.
 abbrev pub is_told : List Entry → Row → Bool
 is_told es row = is_told_at es row.0
 
+-- The rows that the reply to an update tells, as they are shown.
 abbrev pub told_rows : EntityData → List Entry → ResourceData → List Row
 told_rows e es r = filter (is_told es) (shown_rows e.home e.nodes r)
 
@@ -173,21 +179,22 @@ delete_effect e request r = record {
 -- ---- an operation that may change something
 
 -- what it does where it isn't refused; the others change nothing, and are done elsewhere
-abbrev pub done_by : Op → EntityData → List ℕ → RequestParts → ResourceData → Effect
-done_by Create e o request parent =
-    option_map_or (λ ty. create_effect request (creation_by e o request parent ty))
+abbrev pub effect_by : Op → EntityData → List ℕ → RequestParts → ResourceData → Effect
+effect_by Create e originator request parent =
+    option_map_or (λ ty. create_effect request (creation_by e originator request parent ty))
     (child_ty request) (refused e request BadChild)
-done_by Update e o request r = update_effect e request (named_by Update request r) r
-done_by Delete e o request r = delete_effect e request r
-done_by Retrieve e o request r = refused e request NotAllowed
-done_by Notify e o request r = refused e request NotAllowed
+effect_by Update e originator request r = update_effect e request (named_by Update request r) r
+effect_by Delete e originator request r = delete_effect e request r
+effect_by Retrieve e originator request r = refused e request NotAllowed
+effect_by Notify e originator request r = refused e request NotAllowed
 
 -- what comes of it on a resource that is there
-abbrev pub performed : Op → EntityData → List ℕ → RequestParts → ResourceData → Effect
-performed op e o request target =
-    unless_refused (places op e o request target) e request (done_by op e o request target)
+abbrev pub effect_on : Op → EntityData → List ℕ → RequestParts → ResourceData → Effect
+effect_on op e originator request target =
+    unless_refused (places op e originator request target) e request
+    (effect_by op e originator request target)
 
 -- what comes of it on the resource of a number, which is looked up once
-abbrev pub performed_at : Op → EntityData → List ℕ → RequestParts → ℕ → Effect
-performed_at op e o request n =
-    on_found e request (performed op e o request) (at n e.nodes)
+abbrev pub effect_at : Op → EntityData → List ℕ → RequestParts → ℕ → Effect
+effect_at op e originator request n =
+    on_found e request (effect_on op e originator request) (at n e.nodes)

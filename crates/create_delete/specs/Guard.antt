@@ -52,8 +52,8 @@ abbrev pub link_attrs : Ty → List Attr
 link_attrs ty = if is_ty ty Container then Acpi ∷ St ∷ [] else Acpi ∷ []
 
 -- what a new instance changes of its container: the state tag (TS-0001, 9.6.6)
-abbrev pub filling_attrs : List Attr
-filling_attrs = St ∷ []
+abbrev pub container_update_attrs : List Attr
+container_update_attrs = St ∷ []
 
 -- ---- by what right
 
@@ -61,39 +61,40 @@ filling_attrs = St ∷ []
 -- may change its `acpi`, and that changed; or a new instance stands in it.
 abbrev pub IsChangedByRight :
     EntityData → List ℕ → EntityData → ResourceData → ResourceData → Type 0
-IsChangedByRight before o after r s =
-    (IsTrue (is_granted before o update_bit r.number) × IsUpdated r s)
-    ⊎ ((IsTrue (relinks before.home before.nodes o r.number) × DiffersIn (link_attrs r.ty) r s)
+IsChangedByRight before originator after r s =
+    (IsTrue (is_granted before originator update_bit r.number) × IsUpdated r s)
+    ⊎ ((IsTrue (relinks before.home before.nodes originator r.number)
+    × DiffersIn (link_attrs r.ty) r s)
     ⊎ ((i : ResourceData) × IsNew before.nodes after.nodes i × IsTrue (is_instance r.number i)
-    × DiffersIn filling_attrs r s))
+    × DiffersIn container_update_attrs r s))
 
 -- the operation may push out instances of the container of the number: by CREATE it adds one, or by
 -- UPDATE it changes the container (TS-0001, 9.6.6)
 abbrev pub may_push_out : Op → EntityData → List ℕ → ℕ → Bool
-may_push_out Create e o n = is_granted e o create_bit n
-may_push_out Retrieve e o n = false
-may_push_out Update e o n = is_granted e o update_bit n
-may_push_out Delete e o n = false
-may_push_out Notify e o n = false
+may_push_out Create e originator n = is_granted e originator create_bit n
+may_push_out Retrieve e originator n = false
+may_push_out Update e originator n = is_granted e originator update_bit n
+may_push_out Delete e originator n = false
+may_push_out Notify e originator n = false
 
 -- The resource is at or below the target, which the originator may delete, or it is an instance of
 -- the target that the operation may push out.
 abbrev pub IsRemovedByRight : Op → EntityData → List ℕ → ℕ → ResourceData → Type 0
-IsRemovedByRight op before o n r =
+IsRemovedByRight op before originator n r =
     (IsTrue (is_at_or_below n before.nodes r)
-    × IsTrue (is_granted before o delete_bit n))
-    ⊎ (IsTrue (is_instance n r) × IsTrue (may_push_out op before o n))
+    × IsTrue (is_granted before originator delete_bit n))
+    ⊎ (IsTrue (is_instance n r) × IsTrue (may_push_out op before originator n))
 
 -- An operation on the resource of a number changes nothing but by a grant to the originator, in the
 -- entity before it: it creates under a target with CREATE, and changes and removes by right.
-pub record ChangesByRight (op : Op) (before : EntityData) (o : List ℕ) (n : ℕ)
+pub record ChangesByRight (op : Op) (before : EntityData) (originator : List ℕ) (n : ℕ)
     (after : EntityData) : Type 0 where
   pub created : (r : ResourceData) → IsNew before.nodes after.nodes r
-      → (r.parent ≡ n) × IsTrue (is_granted before o create_bit n)
+      → (r.parent ≡ n) × IsTrue (is_granted before originator create_bit n)
   pub changed : (r s : ResourceData) → IsChanged before.nodes after.nodes r s
-      → IsChangedByRight before o after r s
+      → IsChangedByRight before originator after r s
   pub removed : (r : ResourceData) → IsGone before.nodes after.nodes r
-      → IsRemovedByRight op before o n r
+      → IsRemovedByRight op before originator n r
 
 -- ---- requests
 

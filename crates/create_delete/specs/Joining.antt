@@ -11,8 +11,8 @@ use Rattle.request_rules.specs.Creation.{Creation, has_room, is_unique}
 use Rattle.request_rules.specs.Order.{expires_later}
 use Rattle.request_rules.specs.Policies.{links_live}
 use Rattle.create_delete.specs.Changing.{pushed_out}
-use Rattle.create_delete.specs.Newcomer.{IsFilling, IsNewcomer}
-use Rattle.create_delete.specs.declared.joining.Filling.{Filling}
+use Rattle.create_delete.specs.NewResource.{IsNewInstance, IsNewResource}
+use Rattle.create_delete.specs.declared.joining.ContainerUpdate.{ContainerUpdate}
 
 -- What holds of a creation that no place refuses: its parent is there and takes it, what it names
 -- is admitted, nothing that it alone may be stands there, and no limit is passed.
@@ -27,18 +27,18 @@ pub record IsAllowed (c : Creation) : Type 0 where
 
 -- The instance may join, and these are its container, the state tag that this has then, and what it
 -- pushes out.
-pub record MayFill (e : EntityData) (r : ResourceData) (f : Filling) : Type 0 where
+pub record MayJoinContainer (e : EntityData) (r : ResourceData) (f : ContainerUpdate) : Type 0 where
   pub parent : ResourceData
-  pub joins : IsFilling e r parent f.state
+  pub joins : IsNewInstance e r parent f.state
   pub container : f.container ≡ r.parent
   pub gone : f.gone ≡ pushed_out e parent (Some (instance_size r))
 
 -- what an instance does besides, and that any other resource does nothing
-abbrev pub MayJoin : EntityData → ResourceData → Option Filling → Type 0
-MayJoin e r None = IsNewcomer e r × (is_ty r.ty ContentInstance ≡ false)
-MayJoin e r (Some f) = MayFill e r f
+abbrev pub MayJoin : EntityData → ResourceData → Option ContainerUpdate → Type 0
+MayJoin e r None = IsNewResource e r × (is_ty r.ty ContentInstance ≡ false)
+MayJoin e r (Some f) = MayJoinContainer e r f
 
 -- the numbers of what is pushed out
-abbrev pub gone_by : Option Filling → List ℕ
+abbrev pub gone_by : Option ContainerUpdate → List ℕ
 gone_by None = []
 gone_by (Some f) = f.gone

@@ -2,6 +2,6 @@ pub mod Changes
 pub mod Changing
 pub mod Guard
 pub mod Joining
-pub mod Newcomer
+pub mod NewResource
 pub mod Prepared
 pub mod Updating

@@ -50,17 +50,17 @@ fn set_text(attrs: &mut Attrs, attr: Attr, text: Text) -> Result<(), OutOfMemory
 fn give<T: Tree>(
     alloc: Global,
     entity: &Entity<T>,
-    o: &[u8],
+    originator: &[u8],
     create: &AllowedCreate,
     attrs: &mut Attrs,
 ) -> Result<(), OutOfMemory>
-    requires originator { IsTrue (is_originator o.now) }
-    requires allowed { IsAllowed (creation_for entity.now o.now create.now) }
+    requires originator { IsTrue (is_originator originator.now) }
+    requires allowed { IsAllowed (creation_for entity.now originator.now create.now) }
     ensures { OnOk result (attrs.new ≡ with_rows (spec.given_rows create.now.ty
-        (creation_for entity.now o.now create.now)) attrs.old) }
+        (creation_for entity.now originator.now create.now)) attrs.old) }
 {
     match create.ty {
-        Ty::Ae => set_text(attrs, Attr::Aei, new_ae_id(alloc, o, entity.next)?),
+        Ty::Ae => set_text(attrs, Attr::Aei, new_ae_id(alloc, originator, entity.next)?),
         Ty::Container => set_count(attrs, Attr::St, 0),
         Ty::ContentInstance => {
             set_count(attrs, Attr::Cs, size_named(create.named))?;
@@ -70,24 +70,29 @@ fn give<T: Tree>(
     }
 }
 
-fn originator_text(alloc: Global, o: &[u8]) -> Result<Text, OutOfMemory>
-    requires { IsTrue (is_originator o.now) }
-    ensures value { IfOk result (λ t. t ≡ o.now) }
+fn originator_text(alloc: Global, originator: &[u8]) -> Result<Text, OutOfMemory>
+    requires { IsTrue (is_originator originator.now) }
+    ensures value { IfOk result (λ t. t ≡ originator.now) }
     ensures utf8 { IfOk result (λ t. IsUtf8 t) }
 {
-    Text::from_slice(alloc, o)
+    Text::from_slice(alloc, originator)
 }
 
 // The originator, where `cr` asks for it.
-fn sign(alloc: Global, o: &[u8], members: &Members, attrs: &mut Attrs) -> Result<(), OutOfMemory>
-    requires { IsTrue (is_originator o.now) }
+fn sign(
+    alloc: Global,
+    originator: &[u8],
+    members: &Members,
+    attrs: &mut Attrs,
+) -> Result<(), OutOfMemory>
+    requires { IsTrue (is_originator originator.now) }
     ensures { OnOk result (attrs.new ≡ with_rows
-        (spec.creator_rows o.now members.now) attrs.old) }
+        (spec.creator_rows originator.now members.now) attrs.old) }
 {
     if members.get(Attr::Cr.short().as_bytes()).is_none() {
         return Ok(());
     }
-    set_text(attrs, Attr::Cr, originator_text(alloc, o)?)
+    set_text(attrs, Attr::Cr, originator_text(alloc, originator)?)
 }
 
 // The policies that an attribute names, by their resource ids.
@@ -113,17 +118,17 @@ pub(crate) fn link<T: Tree>(
 fn add_besides<T: Tree>(
     alloc: Global,
     entity: &Entity<T>,
-    o: &[u8],
+    originator: &[u8],
     create: &AllowedCreate,
     attrs: &mut Attrs,
 ) -> Result<(), OutOfMemory>
-    requires originator { IsTrue (is_originator o.now) }
-    requires allowed { IsAllowed (creation_for entity.now o.now create.now) }
+    requires originator { IsTrue (is_originator originator.now) }
+    requires allowed { IsAllowed (creation_for entity.now originator.now create.now) }
     ensures { OnOk result (attrs.new ≡ with_rows (spec.rows_besides
-        (creation_for entity.now o.now create.now)) attrs.old) }
+        (creation_for entity.now originator.now create.now)) attrs.old) }
 {
-    give(alloc, entity, o, create, attrs)?;
-    sign(alloc, o, create.named, attrs)?;
+    give(alloc, entity, originator, create, attrs)?;
+    sign(alloc, originator, create.named, attrs)?;
     link(alloc, entity, create.named, Attr::Acpi, attrs)?;
     link(alloc, entity, create.named, Attr::Macp, attrs)?;
     Ok(())
@@ -144,22 +149,22 @@ fn moments_at(moment: u64, et: Option<u64>) -> Moments
 pub(crate) fn new_resource<T: Tree>(
     alloc: Global,
     entity: &Entity<T>,
-    o: &[u8],
+    originator: &[u8],
     create: &AllowedCreate,
 ) -> Result<Resource, OutOfMemory>
-    requires originator { IsTrue (is_originator o.now) }
-    requires allowed { IsAllowed (creation_for entity.now o.now create.now) }
+    requires originator { IsTrue (is_originator originator.now) }
+    requires allowed { IsAllowed (creation_for entity.now originator.now create.now) }
     requires named { attributes_in create.now.ty create.now.content.now
         ≡ Some create.now.named.now }
     ensures { IfOk result (λ r.
-        r ≡ spec.new_resource (creation_for entity.now o.now create.now)) }
+        r ≡ spec.new_resource (creation_for entity.now originator.now create.now)) }
 {
     let wanted = take_wanted(alloc, create.ty, create.content.copy(alloc)?)?;
     let moments = moments_at(entity.last, wanted.et);
     let name = new_name(alloc, create.ty, entity.next, wanted.name)?;
-    let owner = new_owner(alloc, o, create.ty, entity.next)?;
+    let owner = new_owner(alloc, originator, create.ty, entity.next)?;
     let mut attrs = wanted.attrs;
-    add_besides(alloc, entity, o, create, &mut attrs)?;
+    add_besides(alloc, entity, originator, create, &mut attrs)?;
     Ok(Resource::of(
         entity.next,
         create.ty,

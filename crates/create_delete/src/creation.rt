@@ -6,13 +6,13 @@ ghost use Rattle.attribute_rules.specs.Admission.{attributes_in};
 ghost use Rattle.entity_model.specs.Sound.{IsSoundEntity};
 ghost use Rattle.request_rules.specs.Judged.{Judges, creation_for};
 ghost use Rattle.request_rules.specs.Order.{fault_at};
-ghost use Rattle.create_delete.specs.Changing.{after_joining, create_effect, filling_of};
-ghost use Rattle.create_delete.specs.Changing.{performed_at};
+ghost use Rattle.create_delete.specs.Changing.{after_joining, create_effect, container_update_of};
+ghost use Rattle.create_delete.specs.Changing.{effect_at};
 ghost use Rattle.create_delete.specs.Joining.{IsAllowed, MayJoin};
 ghost use Rattle.create_delete.specs.Prepared.{IsPreparedCreate};
 
 use crate::building::{new_resource, next_state};
-use crate::joining::{Filling, put_newcomer};
+use crate::joining::{ContainerUpdate, put_new_resource};
 use crate::pushing::pushed_out;
 use crate::telling::created_content;
 use entity_model::{Entity, refuse, reply_to};
@@ -26,28 +26,28 @@ use tree_model::{Resource, Tree};
 #[derive(Drop)]
 pub(crate) struct PreparedCreate {
     pub(crate) resource: Resource,
-    pub(crate) filling: Option<Filling>,
+    pub(crate) update: Option<ContainerUpdate>,
     pub(crate) reply: Reply,
 }
 
 /// Creates a resource under the one of a number, for an originator in its short form, or refuses
 /// to; 4004 where there is none. Where memory runs out, nothing has changed.
-#[tactic(auto, using(crate::proofs::PerformedLemmas::refused_at))]
+#[tactic(auto, using(crate::proofs::EffectLemmas::refused_at))]
 pub fn create<T: Tree>(
     alloc: Global,
     entity: &mut Entity<T>,
-    o: &[u8],
+    originator: &[u8],
     request: &Request,
     parent: u64,
 ) -> Result<Reply, OutOfMemory>
-    requires { IsTrue (is_originator o.now) }
+    requires { IsTrue (is_originator originator.now) }
     ensures reply { IfOk result (λ r.
-        r ≡ (performed_at Create entity.old o.now request.now parent).reply) }
+        r ≡ (effect_at Create entity.old originator.now request.now parent).reply) }
     ensures after { OnOk result
-        (entity.new ≡ (performed_at Create entity.old o.now request.now parent).after) }
+        (entity.new ≡ (effect_at Create entity.old originator.now request.now parent).after) }
     ensures err { OnErr result (entity.new ≡ entity.old) }
 {
-    match plan(alloc, entity, o, request, parent) {
+    match plan(alloc, entity, originator, request, parent) {
         Ok(prepared) => apply(entity, prepared),
         Err(Refusal::Fault(fault)) => refuse(alloc, request, fault),
         Err(Refusal::OutOfMemory) => Err(OutOfMemory),
@@ -58,63 +58,63 @@ pub fn create<T: Tree>(
 fn plan<T: Tree>(
     alloc: Global,
     entity: &Entity<T>,
-    o: &[u8],
+    originator: &[u8],
     request: &Request,
     parent: u64,
 ) -> Result<PreparedCreate, Refusal>
-    requires { IsTrue (is_originator o.now) }
-    ensures { Judges result (fault_at Create entity.now o.now request.now parent)
-        (IsPreparedCreate entity.now o.now request.now parent) }
+    requires { IsTrue (is_originator originator.now) }
+    ensures { Judges result (fault_at Create entity.now originator.now request.now parent)
+        (IsPreparedCreate entity.now originator.now request.now parent) }
 {
-    let create = judge_create(alloc, entity, o, request, parent)?;
-    Ok(prepare(alloc, entity, o, request, &create)?)
+    let create = judge_create(alloc, entity, originator, request, parent)?;
+    Ok(prepare(alloc, entity, originator, request, &create)?)
 }
 
 // The resource, what it does besides, and the reply.
 fn prepare<T: Tree>(
     alloc: Global,
     entity: &Entity<T>,
-    o: &[u8],
+    originator: &[u8],
     request: &Request,
     create: &AllowedCreate,
 ) -> Result<PreparedCreate, OutOfMemory>
-    requires originator { IsTrue (is_originator o.now) }
+    requires originator { IsTrue (is_originator originator.now) }
     requires sound { IsSoundEntity entity.now }
-    requires allowed { IsAllowed (creation_for entity.now o.now create.now) }
+    requires allowed { IsAllowed (creation_for entity.now originator.now create.now) }
     requires named { attributes_in create.now.ty create.now.content.now
         ≡ Some create.now.named.now }
-    ensures may { IfOk result (λ p. MayJoin entity.now p.resource p.filling) }
+    ensures may { IfOk result (λ p. MayJoin entity.now p.resource p.update) }
     ensures reply { IfOk result (λ p. p.reply
-        ≡ (create_effect request.now (creation_for entity.now o.now create.now)).reply) }
-    ensures after { IfOk result (λ p. after_joining entity.now p.resource p.filling
-        ≡ (create_effect request.now (creation_for entity.now o.now create.now)).after) }
+        ≡ (create_effect request.now (creation_for entity.now originator.now create.now)).reply) }
+    ensures after { IfOk result (λ p. after_joining entity.now p.resource p.update
+        ≡ (create_effect request.now (creation_for entity.now originator.now create.now)).after) }
 {
     // That members stand in order is told by their list.
     let _entries = create.named.entries();
-    let resource = new_resource(alloc, entity, o, create)?;
-    let filling = prepare_filling(alloc, entity, create)?;
+    let resource = new_resource(alloc, entity, originator, create)?;
+    let update = container_update(alloc, entity, create)?;
     let told = created_content(alloc, entity, request, &resource)?;
     let reply = reply_to(alloc, request, Rsc::Created, told)?;
     Ok(PreparedCreate {
         resource,
-        filling,
+        update,
         reply,
     })
 }
 
-fn prepare_filling<T: Tree>(
+fn container_update<T: Tree>(
     alloc: Global,
     entity: &Entity<T>,
     create: &AllowedCreate,
-) -> Result<Option<Filling>, OutOfMemory>
-    ensures { IfOk result (λ f. (o : List ℕ) →
-        f ≡ filling_of (creation_for entity.now o create.now)) }
+) -> Result<Option<ContainerUpdate>, OutOfMemory>
+    ensures { IfOk result (λ f. (originator : List ℕ) →
+        f ≡ container_update_of (creation_for entity.now originator create.now)) }
 {
     if create.ty.number() != Ty::ContentInstance.number() {
         return Ok(None);
     }
     let container = create.parent;
-    Ok(Some(Filling {
+    Ok(Some(ContainerUpdate {
         container: container.number(),
         state: next_state(container),
         gone: pushed_out(alloc, entity, container, Some(size_named(create.named)))?,
@@ -123,12 +123,12 @@ fn prepare_filling<T: Tree>(
 
 // The insert alone takes memory, and comes first.
 fn apply<T: Tree>(entity: &mut Entity<T>, prepared: PreparedCreate) -> Result<Reply, OutOfMemory>
-    requires { MayJoin entity.old prepared.resource prepared.filling }
+    requires { MayJoin entity.old prepared.resource prepared.update }
     ensures reply { IfOk result (λ r. r ≡ prepared.reply) }
     ensures after { OnOk result
-        (entity.new ≡ after_joining entity.old prepared.resource prepared.filling) }
+        (entity.new ≡ after_joining entity.old prepared.resource prepared.update) }
     ensures err { OnErr result (entity.new ≡ entity.old) }
 {
-    put_newcomer(entity, prepared.resource, prepared.filling)?;
+    put_new_resource(entity, prepared.resource, prepared.update)?;
     Ok(prepared.reply)
 }

@@ -6,7 +6,7 @@ ghost use Rattle.m2m_names.specs.declared.codes.Rsc.TheVariants.{Deleted};
 ghost use Rattle.m2m_names.specs.declared.operations.Op.TheVariants.{Delete};
 ghost use Rattle.resource_model.specs.Resource.{ResourceData, has_number};
 ghost use Rattle.tree_model.specs.Tree.{at, without};
-ghost use Rattle.create_delete.specs.Changing.{performed_at};
+ghost use Rattle.create_delete.specs.Changing.{effect_at};
 ghost use Rattle.request_rules.specs.Order.{fault_at};
 ghost use Rattle.entity_model.specs.Places as places;
 ghost use Rattle.request_rules.specs.Requests.{is_for};
@@ -24,18 +24,18 @@ use tree_model::Tree;
 pub fn delete<T: Tree>(
     alloc: Global,
     entity: &mut Entity<T>,
-    o: &[u8],
+    originator: &[u8],
     request: &Request,
     target: u64,
 ) -> Result<Reply, OutOfMemory>
-    requires { IsTrue (is_originator o.now) }
+    requires { IsTrue (is_originator originator.now) }
     ensures reply { IfOk result (λ r.
-        r ≡ (performed_at Delete entity.old o.now request.now target).reply) }
+        r ≡ (effect_at Delete entity.old originator.now request.now target).reply) }
     ensures after { OnOk result
-        (entity.new ≡ (performed_at Delete entity.old o.now request.now target).after) }
+        (entity.new ≡ (effect_at Delete entity.old originator.now request.now target).after) }
     ensures err { OnErr result (entity.new ≡ entity.old) }
 {
-    if let Some(fault) = judge(entity, o, request, target) {
+    if let Some(fault) = judge(entity, originator, request, target) {
         return refuse(alloc, request, fault);
     }
     let reply = prepare(alloc, request)?;
@@ -44,12 +44,17 @@ pub fn delete<T: Tree>(
 }
 
 // The status of the first place that refuses it.
-fn judge<T: Tree>(entity: &Entity<T>, o: &[u8], request: &Request, target: u64) -> Option<Rsc>
-    requires { IsTrue (is_originator o.now) }
-    ensures { result ≡ fault_at Delete entity.now o.now request.now target }
+fn judge<T: Tree>(
+    entity: &Entity<T>,
+    originator: &[u8],
+    request: &Request,
+    target: u64,
+) -> Option<Rsc>
+    requires { IsTrue (is_originator originator.now) }
+    ensures { result ≡ fault_at Delete entity.now originator.now request.now target }
 {
     match find(entity, target) {
-        Some(resource) => judge_target(Op::Delete, entity, o, request, resource),
+        Some(resource) => judge_target(Op::Delete, entity, originator, request, resource),
         None => Some(Rsc::NotFound),
     }
 }

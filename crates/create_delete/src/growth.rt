@@ -5,10 +5,10 @@ ghost use Rattle.resource_model.specs.Resource.{ResourceData, is_ty};
 ghost use Rattle.tree_model.specs.Tree.{may_stand};
 ghost use Rattle.entity_model.specs.Entity.{EntityData};
 ghost use Rattle.entity_model.specs.Sound.{IsSoundEntity};
-ghost use Rattle.create_delete.specs.Changing.{filled, nodes_updated, with_newcomer};
-ghost use Rattle.create_delete.specs.Joining.{MayFill};
-ghost use Rattle.create_delete.specs.Newcomer.{IsNewcomer, IsReplacement};
-ghost use Rattle.create_delete.specs.declared.joining.Filling.{Filling};
+ghost use Rattle.create_delete.specs.Changing.{with_new_instance, nodes_updated, with_new_resource};
+ghost use Rattle.create_delete.specs.Joining.{MayJoinContainer};
+ghost use Rattle.create_delete.specs.NewResource.{IsNewResource, IsReplacement};
+ghost use Rattle.create_delete.specs.declared.joining.ContainerUpdate.{ContainerUpdate};
 
 use std::alloc::AllocError as OutOfMemory;
 use tree_model::{Resource, Tree};
@@ -16,16 +16,17 @@ use tree_model::{Resource, Tree};
 /// An entity stays sound where a resource comes last that may, but for a content instance, which
 /// moves others besides.
 pub fn an_entity_stays_sound_where_a_resource_joins()
-    ensures { (e : EntityData) (r : ResourceData) → IsSoundEntity e → IsNewcomer e r
+    ensures { (e : EntityData) (r : ResourceData) → IsSoundEntity e → IsNewResource e r
         → is_ty r.ty ContentInstance ≡ false
-        → IsSoundEntity (with_newcomer e r) }
+        → IsSoundEntity (with_new_resource e r) }
 {}
 
 /// An entity stays sound where a content instance comes last that may, its container is stamped
 /// anew, and what the limits of that push out goes.
 pub fn an_entity_stays_sound_where_an_instance_joins()
-    ensures { (e : EntityData) (r : ResourceData) (f : Filling) → IsSoundEntity e → MayFill e r f
-        → IsSoundEntity (filled e r f) }
+    ensures { (e : EntityData) (r : ResourceData) (f : ContainerUpdate) → IsSoundEntity e
+        → MayJoinContainer e r f
+        → IsSoundEntity (with_new_instance e r f) }
 {}
 
 /// An entity stays sound where a resource takes the place of the one of its number, and what the

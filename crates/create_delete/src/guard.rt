@@ -9,11 +9,11 @@ ghost use Rattle.tree_model.specs.Tree.{at, instances_of, instance_size};
 ghost use Rattle.container_limits.specs.Limits.{kept, limits_of};
 ghost use Rattle.entity_model.specs.Entity.{EntityData};
 ghost use Rattle.entity_model.specs.Sound.{IsSoundEntity};
-ghost use Rattle.create_delete.specs.Changing.{filled, nodes_updated, performed_at};
+ghost use Rattle.create_delete.specs.Changing.{with_new_instance, nodes_updated, effect_at};
 ghost use Rattle.create_delete.specs.Guard.{ChangesByRight, NamesInOrder};
-ghost use Rattle.create_delete.specs.Joining.{MayFill};
-ghost use Rattle.create_delete.specs.Newcomer.{IsReplacement};
-ghost use Rattle.create_delete.specs.declared.joining.Filling.{Filling};
+ghost use Rattle.create_delete.specs.Joining.{MayJoinContainer};
+ghost use Rattle.create_delete.specs.NewResource.{IsReplacement};
+ghost use Rattle.create_delete.specs.declared.joining.ContainerUpdate.{ContainerUpdate};
 
 /// Of a sound entity an operation on a resource changes nothing but by a grant to the originator,
 /// judged on the entity before. A resource is new only under the target, with CREATE. It differs
@@ -22,16 +22,16 @@ ghost use Rattle.create_delete.specs.declared.joining.Filling.{Filling};
 /// It is gone only at or below a target with DELETE, or as an instance of a target to which the
 /// operation adds with CREATE, or which it changes with UPDATE.
 pub fn nothing_is_changed_without_a_grant()
-    ensures { (op : Op) (e : EntityData) (o : List ℕ) (request : RequestParts) (n : ℕ)
-        → IsSoundEntity e → IsTrue (is_originator o) → NamesInOrder request
-        → ChangesByRight op e o n (performed_at op e o request n).after }
+    ensures { (op : Op) (e : EntityData) (originator : List ℕ) (request : RequestParts) (n : ℕ)
+        → IsSoundEntity e → IsTrue (is_originator originator) → NamesInOrder request
+        → ChangesByRight op e originator n (effect_at op e originator request n).after }
 {}
 
 /// A sound entity stays sound under each operation.
 pub fn an_entity_stays_sound()
-    ensures { (op : Op) (e : EntityData) (o : List ℕ) (request : RequestParts) (n : ℕ)
-        → IsSoundEntity e → IsTrue (is_originator o) → NamesInOrder request
-        → IsSoundEntity (performed_at op e o request n).after }
+    ensures { (op : Op) (e : EntityData) (originator : List ℕ) (request : RequestParts) (n : ℕ)
+        → IsSoundEntity e → IsTrue (is_originator originator) → NamesInOrder request
+        → IsSoundEntity (effect_at op e originator request n).after }
 {}
 
 /// In a sound entity each container has just the longest run of its newest instances that its
@@ -45,8 +45,8 @@ pub fn a_container_keeps_the_newest_that_fit()
     ensures updated { (e : EntityData) (c : ResourceData) → IsSoundEntity e → IsReplacement e c
         → IsTrue (is_ty c.ty Container) → instances_of c.number (nodes_updated e c)
         ≡ kept (limits_of c) None e.last (instances_of c.number e.nodes) }
-    ensures filled { (e : EntityData) (r : ResourceData) (f : Filling) → IsSoundEntity e
-        → (may : MayFill e r f) → instances_of r.parent (filled e r f).nodes
+    ensures filled { (e : EntityData) (r : ResourceData) (f : ContainerUpdate) → IsSoundEntity e
+        → (may : MayJoinContainer e r f) → instances_of r.parent (with_new_instance e r f).nodes
         ≡ kept (limits_of may.parent) (Some (instance_size r)) e.last
         (instances_of r.parent e.nodes) ++ r ∷ [] }
 {}

@@ -2,9 +2,9 @@
 ghost use Rattle.std.specs.Prelude.{◌≡◌, false, OnOk, OnErr};
 ghost use Rattle.m2m_names.specs.declared.types.Ty.TheVariants.{ContentInstance};
 ghost use Rattle.resource_model.specs.Resource.{is_ty};
-ghost use Rattle.create_delete.specs.Changing.{after_joining, filled, with_newcomer};
-ghost use Rattle.create_delete.specs.Joining.{MayFill, MayJoin};
-ghost use Rattle.create_delete.specs.Newcomer.{IsNewcomer};
+ghost use Rattle.create_delete.specs.Changing.{after_joining, with_new_instance, with_new_resource};
+ghost use Rattle.create_delete.specs.Joining.{MayJoinContainer, MayJoin};
+ghost use Rattle.create_delete.specs.NewResource.{IsNewResource};
 
 use crate::growth::put_last;
 use entity_model::Entity;
@@ -15,33 +15,33 @@ use tree_model::{Resource, Tree};
 /// What a new instance changes of its container: the state tag, and the instances that are pushed
 /// out, oldest first.
 #[derive(Drop)]
-pub(crate) struct Filling {
+pub(crate) struct ContainerUpdate {
     pub(crate) container: u64,
     pub(crate) state: u64,
     pub(crate) gone: Numbers,
 }
 
 /// Puts a resource last, with what it does besides. Where memory runs out, nothing has changed.
-pub(crate) fn put_newcomer<T: Tree>(
+pub(crate) fn put_new_resource<T: Tree>(
     entity: &mut Entity<T>,
     resource: Resource,
-    filling: Option<Filling>,
+    update: Option<ContainerUpdate>,
 ) -> Result<(), OutOfMemory>
-    requires { MayJoin entity.old resource filling }
-    ensures ok { OnOk result (entity.new ≡ after_joining entity.old resource filling) }
+    requires { MayJoin entity.old resource update }
+    ensures ok { OnOk result (entity.new ≡ after_joining entity.old resource update) }
     ensures err { OnErr result (entity.new ≡ entity.old) }
 {
-    match filling {
-        Some(filling) => fill(entity, resource, &filling),
+    match update {
+        Some(update) => join_container(entity, resource, &update),
         None => join(entity, resource),
     }
 }
 
 // Puts a resource last that isn't a content instance.
 fn join<T: Tree>(entity: &mut Entity<T>, resource: Resource) -> Result<(), OutOfMemory>
-    requires new { IsNewcomer entity.old resource }
+    requires new { IsNewResource entity.old resource }
     requires plain { is_ty resource.ty ContentInstance ≡ false }
-    ensures ok { OnOk result (entity.new ≡ with_newcomer entity.old resource) }
+    ensures ok { OnOk result (entity.new ≡ with_new_resource entity.old resource) }
     ensures err { OnErr result (entity.new ≡ entity.old) }
 {
     put_last(&mut entity.tree, resource)?;
@@ -50,20 +50,20 @@ fn join<T: Tree>(entity: &mut Entity<T>, resource: Resource) -> Result<(), OutOf
 }
 
 // Puts a content instance last; its container is stamped anew, and what doesn't fit beside it goes.
-fn fill<T: Tree>(
+fn join_container<T: Tree>(
     entity: &mut Entity<T>,
     resource: Resource,
-    filling: &Filling,
+    update: &ContainerUpdate,
 ) -> Result<(), OutOfMemory>
-    requires { MayFill entity.old resource filling.now }
-    ensures ok { OnOk result (entity.new ≡ filled entity.old resource filling.now) }
+    requires { MayJoinContainer entity.old resource update.now }
+    ensures ok { OnOk result (entity.new ≡ with_new_instance entity.old resource update.now) }
     ensures err { OnErr result (entity.new ≡ entity.old) }
 {
     put_last(&mut entity.tree, resource)?;
     entity.next += 1;
     entity
         .tree
-        .restamp(filling.container, entity.last, filling.state);
-    entity.tree.remove_all(filling.gone.entries());
+        .restamp(update.container, entity.last, update.state);
+    entity.tree.remove_all(update.gone.entries());
     Ok(())
 }

@@ -1,6 +1,6 @@
 //! The requests that change an entity: Create, Update and Delete (TS-0001, 10.2).
 //!
-//! What comes of one is a function of the entity, the originator and the request (`performed_at` of
+//! What comes of one is a function of the entity, the originator and the request (`effect_at` of
 //! `specs/Changing`): a refusal by the first place that doesn't hold, in the one order of the crate
 //! request_rules, and else a reply and the entity after it. A call judges, which changes nothing;
 //! it prepares, which takes all memory; and it applies, which can't fail but where a resource is

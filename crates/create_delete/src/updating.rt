@@ -7,8 +7,8 @@ ghost use Rattle.entity_model.specs.Sound.{IsSoundEntity};
 ghost use Rattle.request_rules.specs.Judged.{Judges};
 ghost use Rattle.request_rules.specs.Order.{fault_at};
 ghost use Rattle.create_delete.specs.Changing as spec;
-ghost use Rattle.create_delete.specs.Changing.{performed_at};
-ghost use Rattle.create_delete.specs.Newcomer.{IsReplacement};
+ghost use Rattle.create_delete.specs.Changing.{effect_at};
+ghost use Rattle.create_delete.specs.NewResource.{IsReplacement};
 ghost use Rattle.create_delete.specs.Prepared.{IsPreparedUpdate};
 ghost use Rattle.create_delete.specs.Updating.{IsUpdatable};
 
@@ -33,22 +33,22 @@ pub(crate) struct PreparedUpdate {
 
 /// Updates the resource of a number, for an originator in its short form, or refuses to; 4004 where
 /// there is none. Where memory runs out, nothing has changed.
-#[tactic(auto, using(crate::proofs::PerformedLemmas::refused_at))]
+#[tactic(auto, using(crate::proofs::EffectLemmas::refused_at))]
 pub fn update<T: Tree>(
     alloc: Global,
     entity: &mut Entity<T>,
-    o: &[u8],
+    originator: &[u8],
     request: &Request,
     target: u64,
 ) -> Result<Reply, OutOfMemory>
-    requires { IsTrue (is_originator o.now) }
+    requires { IsTrue (is_originator originator.now) }
     ensures reply { IfOk result (λ r.
-        r ≡ (performed_at Update entity.old o.now request.now target).reply) }
+        r ≡ (effect_at Update entity.old originator.now request.now target).reply) }
     ensures after { OnOk result
-        (entity.new ≡ (performed_at Update entity.old o.now request.now target).after) }
+        (entity.new ≡ (effect_at Update entity.old originator.now request.now target).after) }
     ensures err { OnErr result (entity.new ≡ entity.old) }
 {
-    match plan(alloc, entity, o, request, target) {
+    match plan(alloc, entity, originator, request, target) {
         Ok(prepared) => Ok(apply(entity, prepared)),
         Err(Refusal::Fault(fault)) => refuse(alloc, request, fault),
         Err(Refusal::OutOfMemory) => Err(OutOfMemory),
@@ -59,15 +59,15 @@ pub fn update<T: Tree>(
 fn plan<T: Tree>(
     alloc: Global,
     entity: &Entity<T>,
-    o: &[u8],
+    originator: &[u8],
     request: &Request,
     target: u64,
 ) -> Result<PreparedUpdate, Refusal>
-    requires { IsTrue (is_originator o.now) }
-    ensures { Judges result (fault_at Update entity.now o.now request.now target)
-        (IsPreparedUpdate entity.now o.now request.now target) }
+    requires { IsTrue (is_originator originator.now) }
+    ensures { Judges result (fault_at Update entity.now originator.now request.now target)
+        (IsPreparedUpdate entity.now originator.now request.now target) }
 {
-    let update = judge_update(alloc, entity, o, request, target)?;
+    let update = judge_update(alloc, entity, originator, request, target)?;
     Ok(prepare(alloc, entity, request, &update)?)
 }
 

@@ -9,8 +9,9 @@ use Rattle.entity_model.specs.contracts.entity.Entity as entity
 use Rattle.entity_model.specs.contracts.entity.Entity.TheInside as entity_inside
 use Rattle.cse_server.specs.contracts.served.Served as served
 use Rattle.cse_server.specs.contracts.served.Served.TheInside as served_inside
-use Rattle.plain_tree.specs.contracts.list_tree.ListTree as list_tree
-use Rattle.plain_tree.specs.contracts.list_tree.ListTreeTree.TheImpl as list_tree_impl
+use Rattle.resource_tree.proofs.Sent.{index_tree_send}
+use Rattle.resource_tree.specs.contracts.index_tree.IndexTree as index_tree
+use Rattle.resource_tree.specs.contracts.index_tree.IndexTreeTree.TheImpl as index_tree_impl
 
 module _ (T : RattleType) (g : Ghosts T.Denot) (t : IsSend T) where
   entity_inside_send : IsSend (entity_inside.the_row T g)
@@ -27,5 +28,5 @@ module _ (T : RattleType) (g : Ghosts T.Denot) (t : IsSend T) where
   pub served_send : IsSend (served.the_row T g)
   served_send = record { owned = λ d vs x. (served_inside_send.owned x.0 vs, tt); leaving = λ k d w. tt }
 
-pub served_list_send : IsSend (served.the_row list_tree.the_row list_tree_impl.ghosts)
-served_list_send = served_send list_tree.the_row list_tree_impl.ghosts list_tree_send
+pub served_tree_send : IsSend (served.the_row index_tree.the_row index_tree_impl.ghosts)
+served_tree_send = served_send index_tree.the_row index_tree_impl.ghosts (index_tree_send list_tree_send)

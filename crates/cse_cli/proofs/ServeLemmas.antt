@@ -1,7 +1,8 @@
 -- A server, from its words to its door.
-use Rattle.std.proofs.Common.{◌≡◌, ◌⊎◌, ℕ, List, ◌∷◌, [], ◌++◌, ◌*◌, Option, Some, refl, ap, subst, ◌∙◌, inl, inr, arith}
+use Rattle.std.proofs.Common.{◌≡◌, ℕ, List, ◌∷◌, [], ◌++◌, ◌*◌, Option, Some, refl, ap, subst, ◌∙◌, inl, inr, arith}
 use Rattle.m2m_io.specs.Told.{Tells, TellsStill}
 use Rattle.m2m_io.specs.declared.status.Status.{Status}
+use Rattle.m2m_io.specs.declared.status.Status.TheVariants.{ReadFault, Memory}
 use Rattle.command_words.specs.Command.{Serving}
 use Rattle.atomic_table.specs.Seated.{TableId}
 use Rattle.turn_desk.specs.declared.shared.DeskSeat.{DeskSeat}
@@ -10,14 +11,14 @@ use Rattle.turn_desk.specs.Seats.{known_to}
 use Rattle.turn_desk.specs.Shared.{Leaves, newcomer, IsWhole, OwnsAll}
 use Rattle.workers.specs.Gate.{DoorTold}
 use Rattle.workers.specs.Shares.{HasPartOf, HasComeBack}
-use Rattle.workers.specs.Shifts.{IsServed}
+use Rattle.workers.specs.Shifts.{GainsByAttending}
 use Rattle.resource_model.specs.Home.{HomeData}
 use Rattle.entity_model.specs.Entity.{EntityData}
 use Rattle.entity_model.specs.Opening.{opening}
 use Rattle.cse_server.specs.Attending.{SendsWhatIsLeft}
 use Rattle.cse_server.specs.Outside.{LinkTold}
 use Rattle.cse_server.specs.declared.bench.Bench.{Bench}
-use Rattle.cse_cli.specs.Serve.{OpensServer, RunsServe, ServesObject, ServesOpen}
+use Rattle.cse_cli.specs.Serve.{FailsToOpen, OpensServer, ServesObject, ServesOpen}
 
 whole-part : {X E R : Type 0} (object : X) (lent back : View X E R) → lent ≡ newcomer object → HasPartOf lent back
     → IsWhole back
@@ -32,7 +33,7 @@ whole_again {object = object} {lent = lent} {back = back} came first = whole-par
 -- at a desk of this object, of which the first seat was lent and has come back
 pub serves_object : {X E R C B A : Type 0} {step : ℕ → E → X → R → X → Type 0} {desk : TableId}
     {attends : DeskSeat X E R → C → B → DeskSeat X E R → A → B → Type 0} {benches : List B} {object : X} {lent back : DeskSeat X E R}
-    (left : X) → HasComeBack step desk (known_to lent) back → known_to lent ≡ newcomer object → IsServed attends benches lent back
+    (left : X) → HasComeBack step desk (known_to lent) back → known_to lent ≡ newcomer object → GainsByAttending attends benches lent back
     → ((opening : X) → (known_to back).opening ≡ Some opening → Leaves step opening (known_to back).seen left) → OwnsAll (known_to back)
     → ServesObject step attends benches object
 serves_object {X = X} {E = E} {R = R} {object = object} {lent = lent} {back = back} left came first served leaves all = record {
@@ -51,18 +52,29 @@ pub ruleset comes_back = (whole_again, serves_object)
 -- ---- the door and the first bench
 
 module _ {C L : Type 0} {served : EntityData → Type 0} {home : HomeData} {clock : C → Option (List ℕ)} {link : L → LinkTold} where
-  -- the clock gave a reading, and memory ran out or the door failed to open
-  pub opens_none : {serving : Serving} {before after : C} {carrier : L} {start now : DoorTold} {status : Status} (reading : ℕ)
+  -- the clock gave a reading, and memory ran out
+  pub opens_starved : {serving : Serving} {before after : C} {carrier : L} {start : DoorTold} (reading : ℕ)
       → Tells (λ given. given ++ reading ∷ []) (clock before) (clock after)
-      → RunsServe (served (opening home reading)) serving start now status
-      → OpensServer served serving home clock link (record { clock = before; link = carrier }) (record { clock = after; link = carrier }) start now status
-  opens_none {after = after} {carrier = carrier} reading given serves = record {
+      → OpensServer served serving home clock link (record { clock = before; link = carrier }) (record { clock = after; link = carrier }) start start Memory
+  opens_starved {after = after} {carrier = carrier} reading given = record {
     reading = reading;
     between = record { clock = after; link = carrier };
     given = given;
     link_is = refl;
-    serves = serves;
-    sends = inl refl;
+    serves = inl (refl, refl, refl);
+  }
+
+  -- it gave one, and the door failed to open
+  pub opens_none : {serving : Serving} {before after : C} {carrier : L} {start now : DoorTold} (reading : ℕ)
+      → Tells (λ given. given ++ reading ∷ []) (clock before) (clock after)
+      → FailsToOpen start now
+      → OpensServer served serving home clock link (record { clock = before; link = carrier }) (record { clock = after; link = carrier }) start now ReadFault
+  opens_none {after = after} {carrier = carrier} reading given fails = record {
+    reading = reading;
+    between = record { clock = after; link = carrier };
+    given = given;
+    link_is = refl;
+    serves = inr (inl (refl, fails, refl));
   }
 
   -- it gave one, the door was opened and served, and what was left was sent
@@ -70,10 +82,10 @@ module _ {C L : Type 0} {served : EntityData → Type 0} {home : HomeData} {cloc
       → Tells (λ given. given ++ reading ∷ []) (clock before) (clock after)
       → Tells (λ _. Some serving.listen) start.opened between.opened → TellsStill start.given between.given
       → TellsStill start.ended between.ended → between.faults ≡ start.faults
-      → ServesOpen (served (opening home reading)) serving.accept between now status
-      → (left ≡ record { clock = after; link = carrier }) ⊎ SendsWhatIsLeft clock link (record { clock = after; link = carrier }) left
+      → ServesOpen (served (opening home reading) × SendsWhatIsLeft clock link (record { clock = after; link = carrier }) left)
+      (left ≡ record { clock = after; link = carrier }) serving.accept between now status
       → OpensServer served serving home clock link (record { clock = before; link = carrier }) left start now status
-  opens_open {after = after} {carrier = carrier} {between = between} reading given opened gave ended steady serves sends = record {
+  opens_open {after = after} {carrier = carrier} {between = between} reading given opened gave ended steady serves = record {
     reading = reading;
     between = record { clock = after; link = carrier };
     given = given;
@@ -83,5 +95,4 @@ module _ {C L : Type 0} {served : EntityData → Type 0} {home : HomeData} {cloc
       opens = record { opened = opened; given = gave; ended = ended; steady = steady };
       serves = serves;
     }));
-    sends = sends;
   }

@@ -19,7 +19,7 @@ pub record Devices (S O C L D : Type 0) : Type 0 where
   pub door_told : DoorTold
 
 module _ {S O C L D : Type 0} where
-  -- these devices, with what each of them tells by these
+  -- The devices of the program, with what each of them tells by these functions.
   abbrev pub devices_by : (S → Option (List ℕ)) → (S → ℕ) → (O → Option (List ℕ))
       → (O → Option ℕ) → (O → ℕ) → (C → Option (List ℕ)) → (L → LinkTold) → (D → DoorTold)
       → S → O → Bench C L → D → Devices S O C L D

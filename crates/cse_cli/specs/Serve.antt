@@ -19,7 +19,7 @@ use Rattle.cse_server.specs.Outside.{LinkTold}
 use Rattle.cse_server.specs.declared.bench.Bench.{Bench}
 use Rattle.workers.specs.declared.gate.Ending.TheVariants.{Fault}
 use Rattle.workers.specs.Gate.{DoorTold, TakesConnections, ServesDoor}
-use Rattle.workers.specs.Shifts.{IsServed}
+use Rattle.workers.specs.Shifts.{GainsByAttending}
 
 -- ---- the door
 
@@ -40,25 +40,28 @@ pub record FailsToOpen (start now : DoorTold) : Type 0 where
 -- An open door was served, and this is the status: all is well where it was served to its end, as
 -- it gave None, or as many connections as are to be accepted; a read fault is one of the door,
 -- which gave no more connections than that before; in both cases its connections were `served`. And
--- where memory ran out, nothing was taken.
-abbrev pub ServesOpen : Type 0 → Option ℕ → DoorTold → DoorTold → Status → Type 0
-ServesOpen served accept start now status = ((status ≡ Done) × ServesDoor accept start now × served)
+-- where memory ran out, nothing was taken, and all is as where nobody is served: `idle`.
+abbrev pub ServesOpen : Type 0 → Type 0 → Option ℕ → DoorTold → DoorTold → Status → Type 0
+ServesOpen served idle accept start now status =
+    ((status ≡ Done) × ServesDoor accept start now × served)
     ⊎ ((status ≡ ReadFault) × TakesConnections accept (Some Fault) start now × served)
-    ⊎ ((status ≡ Memory) × (now ≡ start))
+    ⊎ ((status ≡ Memory) × (now ≡ start) × idle)
 
 -- The door was opened where the words say, and then served.
-pub record OpensAndServes (served : Type 0) (serving : Serving) (start now : DoorTold)
+pub record OpensAndServes (served idle : Type 0) (serving : Serving) (start now : DoorTold)
     (status : Status) : Type 0 where
   pub between : DoorTold
   pub opens : Opens serving.listen start between
-  pub serves : ServesOpen served serving.accept between now status
+  pub serves : ServesOpen served idle serving.accept between now status
 
 -- The command `serve` did this with its door: it was opened and served, unless memory ran out
--- before, which left it as it was, or it failed to open, which is a read fault.
-abbrev pub RunsServe : Type 0 → Serving → DoorTold → DoorTold → Status → Type 0
-RunsServe served serving start now status = ((status ≡ Memory) × (now ≡ start))
-    ⊎ ((status ≡ ReadFault) × FailsToOpen start now)
-    ⊎ OpensAndServes served serving start now status
+-- before, which left it as it was, or it failed to open, which is a read fault. In these two cases
+-- nobody was served: `idle`.
+abbrev pub RunsServe : Type 0 → Type 0 → Serving → DoorTold → DoorTold → Status → Type 0
+RunsServe served idle serving start now status =
+    ((status ≡ Memory) × (now ≡ start) × idle)
+    ⊎ ((status ≡ ReadFault) × FailsToOpen start now × idle)
+    ⊎ OpensAndServes served idle serving start now status
 
 -- ---- the entity
 
@@ -72,7 +75,7 @@ pub record ServesObject {X E R C B A : Type 0} (step : ℕ → E → X → R →
   pub back : DeskSeat X E R
   pub first : known_to lent ≡ newcomer object
   -- what it has gained is what attending gave
-  pub served : IsServed attends benches lent back
+  pub served : GainsByAttending attends benches lent back
   -- nobody else asked, and by what was asked the object has become this one
   pub all : OwnsAll (known_to back)
   pub left : X
@@ -87,8 +90,9 @@ ServesEntity attends benches serving opened =
     ServesObject Step attends (take (max 1 serving.workers + 1) benches) opened
 
 -- A server with this first bench, whose clock gives one reading: at it the entity with this home
--- opens, by which the connections of the door are then `served`. At the end what is left in the
--- outbox is sent with the bench.
+-- opens, by which the connections of the door are then `served`. Where they were, what is left in
+-- the outbox at the end is sent with the bench; where nobody was served, the bench stays as it is
+-- behind the reading.
 pub record OpensServer {C L : Type 0} (served : EntityData → Type 0) (serving : Serving)
     (home : HomeData) (clock : C → Option (List ℕ)) (link : L → LinkTold)
     (bench left : Bench C L) (start now : DoorTold) (status : Status) : Type 0 where
@@ -96,5 +100,5 @@ pub record OpensServer {C L : Type 0} (served : EntityData → Type 0) (serving 
   pub between : Bench C L
   pub given : Tells (λ given. given ++ reading ∷ []) (clock bench.clock) (clock between.clock)
   pub link_is : between.link ≡ bench.link
-  pub serves : RunsServe (served (opening home reading)) serving start now status
-  pub sends : (left ≡ between) ⊎ SendsWhatIsLeft clock link between left
+  pub serves : RunsServe (served (opening home reading) × SendsWhatIsLeft clock link between left)
+      (left ≡ between) serving start now status

@@ -7,7 +7,7 @@ ghost use Rattle.cse_cli.specs.Run.{ServesStreams, status_of};
 use cse_server::{Bench, Ended, Served, Wire, serve_connection};
 use entity_model::Entity;
 use m2m_io::{Clock, Link, Sink, Source, Status};
-use plain_tree::ListTree;
+use resource_tree::IndexTree;
 use std::alloc::{AllocError as OutOfMemory, Global};
 use tree_model::Home;
 use turn_desk::{OwnDesk, OwnSeat};
@@ -29,10 +29,10 @@ pub(crate) fn opened(
     alloc: Global,
     home: Home,
     reading: u64,
-) -> Result<Served<ListTree>, OutOfMemory>
+) -> Result<Served<IndexTree>, OutOfMemory>
     ensures { IfOk result (λ served. served ≡ opening home reading) }
 {
-    let entity = Entity::open(alloc, home, ListTree::new(alloc), reading)?;
+    let entity = Entity::open(alloc, home, IndexTree::new(alloc), reading)?;
     Ok(Served::new(alloc, entity))
 }
 

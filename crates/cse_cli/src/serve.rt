@@ -1,5 +1,5 @@
 //! The command `serve`.
-ghost use Rattle.std.specs.Prelude.{◌≡◌, ◌≢◌, ◌≤◌, ◌+◌, ◌⊎◌, max, take, vec_len};
+ghost use Rattle.std.specs.Prelude.{◌≡◌, ◌≢◌, ◌≤◌, ◌+◌, max, take, vec_len};
 ghost use Rattle.command_words.specs.Command.{serving_by};
 ghost use Rattle.cse_server.specs.Attending.{Attends, SeatGrows, SendsWhatIsLeft, conn_tells};
 ghost use Rattle.cse_server.specs.Attending.{link_tells};
@@ -18,7 +18,7 @@ use tree_model::Home;
 use turn_desk::{Object, TurnDesk};
 
 /// Serves the connections of an open door, of which so many are accepted at most, at a desk of this
-/// object.
+/// object. Unless memory runs out, what is left in the outbox then is sent with the first bench.
 #[tactic(auto, using(crate::proofs::ServeLemmas::comes_back))]
 fn serve_at_desk<R, O, D, C, L>(
     rt: &R,
@@ -40,11 +40,11 @@ where
     ensures serves { let attends = Attends SeatGrows
         (conn_tells D.Conn.left D.Conn.written D.Conn.puts D.Conn.Source.faults
         D.Conn.Sink.faults) C.readings (link_tells L.exchanges L.faults) in
-        ServesOpen (ServesObject O.step attends benches.items object) accept
+        ServesOpen (ServesObject O.step attends benches.items object
+        × SendsWhatIsLeft C.readings (link_tells L.exchanges L.faults) first.old first.new)
+        (first.new ≡ first.old) accept
         (door_tells D.opened D.given D.ended D.faults door)
         (door_tells D.opened D.given D.ended D.faults result.1) result.0 }
-    ensures first { (first.new ≡ first.old)
-        ⊎ SendsWhatIsLeft C.readings (link_tells L.exchanges L.faults) first.old first.new }
     ensures command { result.0 ≢ Status.Usage }
 {
     let Ok((desk, seat)) = TurnDesk::new(own_rt, alloc, object) else {

@@ -20,7 +20,7 @@ use Rattle.addressing.specs.declared.spot.Spot.{Spot}
 use Rattle.addressing.specs.declared.spot.Spot.TheVariants.{Resource, Fan, Poll}
 use Rattle.entity_model.specs.Entity.{EntityData, swept}
 use Rattle.entity_model.specs.Places.{Effect, first_fault, refused}
-use Rattle.create_delete.specs.Changing.{performed, performed_at}
+use Rattle.create_delete.specs.Changing.{effect_on, effect_at}
 use Rattle.create_delete.specs.Guard.{NamesInOrder}
 use Rattle.cse_machine.specs.declared.event.Event.TheVariants.{Ask}
 use Rattle.cse_machine.specs.declared.event.Outcome.{Outcome}
@@ -38,14 +38,14 @@ same_reply reply other same = cc
 -- ---- as it is performed
 
 -- on the resource of a number
-pub changing_at : (op : Op) (e : EntityData) (request : RequestParts) (t : ResourceData) → at t.number e.nodes ≡ Some t → change_effect op e request t ≡ performed_at op e (claimed_originator e.home request) request t.number
+pub changing_at : (op : Op) (e : EntityData) (request : RequestParts) (t : ResourceData) → at t.number e.nodes ≡ Some t → change_effect op e request t ≡ effect_at op e (claimed_originator e.home request) request t.number
 unfolding change_effect
 changing_at op e request t there =
-    sym (ap (λ (x : Option ResourceData). option_map_or (performed op e (claimed_originator e.home request) request) x (refused e request NotFound)) there)
+    sym (ap (λ (x : Option ResourceData). option_map_or (effect_on op e (claimed_originator e.home request) request) x (refused e request NotFound)) there)
 
 -- of what was found, if it was
 abbrev performed_of : Op → EntityData → RequestParts → List ℕ → Option ResourceData → Effect
-performed_of op e request o found = option_map_or (performed op e o request) found (refused e request NotFound)
+performed_of op e request o found = option_map_or (effect_on op e o request) found (refused e request NotFound)
 
 create_found : (e : EntityData) (request : RequestParts) (found : Option ResourceData) → found_effect Create e request found ≡ performed_of Create e request (claimed_originator e.home request) found
 unfolding change_effect
@@ -63,19 +63,19 @@ delete_found e request None = refl
 delete_found e request (Some t) = refl
 
 -- of what is at a number, for its originator
-changes_to : (op : Op) (e : EntityData) (request : RequestParts) (o : List ℕ) (n : ℕ) → ((found : Option ResourceData) → found_effect op e request found ≡ performed_of op e request (claimed_originator e.home request) found) → claimed_originator e.home request ≡ o → request.op ≡ op → resource_effect e request (at n e.nodes) ≡ performed_at op e o request n
+changes_to : (op : Op) (e : EntityData) (request : RequestParts) (o : List ℕ) (n : ℕ) → ((found : Option ResourceData) → found_effect op e request found ≡ performed_of op e request (claimed_originator e.home request) found) → claimed_originator e.home request ≡ o → request.op ≡ op → resource_effect e request (at n e.nodes) ≡ effect_at op e o request n
 changes_to op e request o n found by is =
     ap (λ (p : Op). found_effect p e request (at n e.nodes)) is
     ∙ found (at n e.nodes)
     ∙ ap (λ (t : List ℕ). performed_of op e request t (at n e.nodes)) by
 
-pub create_to : (e : EntityData) (request : RequestParts) (o : List ℕ) (n : ℕ) → claimed_originator e.home request ≡ o → request.op ≡ Create → resource_effect e request (at n e.nodes) ≡ performed_at Create e o request n
+pub create_to : (e : EntityData) (request : RequestParts) (o : List ℕ) (n : ℕ) → claimed_originator e.home request ≡ o → request.op ≡ Create → resource_effect e request (at n e.nodes) ≡ effect_at Create e o request n
 create_to e request o n = changes_to Create e request o n (create_found e request)
 
-pub update_to : (e : EntityData) (request : RequestParts) (o : List ℕ) (n : ℕ) → claimed_originator e.home request ≡ o → request.op ≡ Update → resource_effect e request (at n e.nodes) ≡ performed_at Update e o request n
+pub update_to : (e : EntityData) (request : RequestParts) (o : List ℕ) (n : ℕ) → claimed_originator e.home request ≡ o → request.op ≡ Update → resource_effect e request (at n e.nodes) ≡ effect_at Update e o request n
 update_to e request o n = changes_to Update e request o n (update_found e request)
 
-pub delete_to : (e : EntityData) (request : RequestParts) (o : List ℕ) (n : ℕ) → claimed_originator e.home request ≡ o → request.op ≡ Delete → resource_effect e request (at n e.nodes) ≡ performed_at Delete e o request n
+pub delete_to : (e : EntityData) (request : RequestParts) (o : List ℕ) (n : ℕ) → claimed_originator e.home request ≡ o → request.op ≡ Delete → resource_effect e request (at n e.nodes) ≡ effect_at Delete e o request n
 delete_to e request o n = changes_to Delete e request o n (delete_found e request)
 
 -- ---- as it is answered

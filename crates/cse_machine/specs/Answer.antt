@@ -36,9 +36,9 @@ use Rattle.addressing.specs.declared.addr.AddrFault.{AddrFault}
 use Rattle.addressing.specs.declared.spot.Spot.{Spot}
 use Rattle.entity_model.specs.Entity.{EntityData}
 use Rattle.entity_model.specs.Places.{absent, refusal, refused, Effect, reply_alone, on_found}
-use Rattle.entity_model.specs.Places.{Place, first_fault, unless}
+use Rattle.entity_model.specs.Places.{Check, first_fault, unless}
 use Rattle.retrieve_discover.specs.Replies.{discovered, retrieved}
-use Rattle.create_delete.specs.Changing.{performed}
+use Rattle.create_delete.specs.Changing.{effect_on}
 use Rattle.create_delete.specs.Guard.{NamesInOrder}
 use Rattle.cse_machine.specs.declared.event.Outcome.{Outcome}
 use Rattle.cse_machine.specs.declared.event.Outcome.TheVariants.{Done}
@@ -82,12 +82,13 @@ does_serve Update request = true
 does_serve Delete request = true
 does_serve Notify request = false
 
+-- The request is served so far.
 abbrev pub is_served : RequestParts → Bool
 is_served request = does_serve request.op request
 
 -- ---- where a request is refused whatever its address names
 
--- it registers an application entity (TS-0001, 10.2.2.2)
+-- The request registers an application entity (TS-0001, 10.2.2.2).
 abbrev pub is_registration : RequestParts → Bool
 is_registration request =
     creates request.op && option_map_or (λ ty. is_ty ty Ae) (child_ty request) false
@@ -97,11 +98,11 @@ abbrev pub said_originator : RequestParts → Option (List ℕ)
 said_originator request =
     if is_registration request then Some (asking request) else request.fr
 
--- it says who asks, by a text that has a short form (TS-0001, 7.2 and 8.1.2)
+-- The request says who asks, by a text that has a short form (TS-0001, 7.2 and 8.1.2).
 abbrev pub has_originator : HomeData → RequestParts → Bool
 has_originator home request = is_some (option_and_then (short_of home) (said_originator request))
 
--- it is sent to an address (TS-0001, 9.3.1)
+-- The request is sent to an address (TS-0001, 9.3.1).
 abbrev pub has_address : HomeData → RequestParts → Bool
 has_address home request = is_ok (address_of home request.to)
 
@@ -110,32 +111,38 @@ abbrev pub is_past : ℕ → When → Bool
 is_past moment (At at) = nat_lt at moment
 is_past moment (Millis n) = false
 
+-- The request has not expired at the entity's moment (TS-0001, 8.1.2).
 abbrev pub is_in_time : EntityData → RequestParts → Bool
 is_in_time e request = not (option_map_or (is_past e.last) request.rqet false)
 
--- its response type, where one is given, is blockingRequest (TS-0001, 8.2.1; TS-0004, 6.3.4.2.6)
+-- The request's response type, where one is given, is blockingRequest (TS-0001, 8.2.1; TS-0004,
+-- 6.3.4.2.6).
 abbrev pub is_blocking : RequestParts → Bool
 is_blocking request = option_map_or (λ z. int_eq z blocking_request) request.rt true
 
 -- these places, from the last back to the first: by when and how it is answered; by its address; by
 -- its originator; by its other parameters; and as one that isn't served yet, which counts as
 -- malformed (TS-0004, 7.3.2.1)
-abbrev pub time_places : EntityData → RequestParts → List Place
+abbrev pub time_places : EntityData → RequestParts → List Check
 time_places e request =
     unless (is_in_time e request) RequestTimeout ∷ unless (is_blocking request) NonBlocking ∷ []
 
-abbrev pub address_places : EntityData → RequestParts → List Place
+-- These places, and before them that the request is sent to an address.
+abbrev pub address_places : EntityData → RequestParts → List Check
 address_places e request =
     unless (has_address e.home request) BadRequest ∷ time_places e request
 
-abbrev pub originator_places : EntityData → RequestParts → List Place
+-- These places, and before them that the request says who asks.
+abbrev pub originator_places : EntityData → RequestParts → List Check
 originator_places e request =
     unless (has_originator e.home request) BadRequest ∷ address_places e request
 
-abbrev pub form_places : EntityData → RequestParts → List Place
+-- These places, and before them that the request's parameters are of their kinds.
+abbrev pub form_places : EntityData → RequestParts → List Check
 form_places e request = unless (has_form request) BadRequest ∷ originator_places e request
 
-abbrev pub first_places : EntityData → RequestParts → List Place
+-- All places before the address is resolved, in order (TS-0004, 7.3.3).
+abbrev pub first_places : EntityData → RequestParts → List Check
 first_places e request = unless (is_served request) BadRequest ∷ form_places e request
 
 -- ---- one operation
@@ -151,7 +158,7 @@ reading_reply e request n =
 -- place that doesn't hold, or what is done
 unfoldable pub change_effect : Op → EntityData → RequestParts → ResourceData → Effect
 change_effect op e request target =
-    performed op e (claimed_originator e.home request) request target
+    effect_on op e (claimed_originator e.home request) request target
 
 -- what an operation on a resource gives: a Retrieve reads it, and every other may change something
 -- (TS-0001, 10.2)
@@ -194,7 +201,7 @@ pub record EventEffect : Type 0 where
   pub outcome : Outcome
   pub after : EntityData
 
--- it is done: its outcome is a reply
+-- The effect of an operation as that of an event: its outcome is a reply.
 abbrev pub as_done : Effect → EventEffect
 as_done effect = record { outcome = Done effect.reply; after = effect.after }
 
@@ -209,7 +216,7 @@ address_effect e request (Ok OtherProvider) = as_done (refused e request absent)
 address_effect e request (Err fault) = as_done (refused e request BadRequest)
 
 -- what comes of a request by its address, unless one of these places refuses it
-abbrev pub judged_effect : List Place → EntityData → RequestParts → Result Addr AddrFault
+abbrev pub judged_effect : List Check → EntityData → RequestParts → Result Addr AddrFault
     → EventEffect
 judged_effect places e request address =
     option_map_or (λ fault. as_done (refused e request fault)) (first_fault places)
@@ -220,8 +227,8 @@ abbrev pub effect_of : EntityData → RequestParts → EventEffect
 effect_of e request =
     judged_effect (first_places e request) e request (address_of e.home request.to)
 
--- these are what it gives, and what its content names stands in order, as in each request that is
--- heard
+-- The outcome and the entity after are those that the request gives, and what its content names
+-- stands in order, as in each request that is heard.
 abbrev pub ComesOf : EntityData → RequestParts → Outcome → EntityData → Type 0
 ComesOf e request outcome after =
     (outcome ≡ (effect_of e request).outcome) × (after ≡ (effect_of e request).after)

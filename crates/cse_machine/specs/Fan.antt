@@ -32,8 +32,8 @@ use Rattle.cse_machine.specs.Answer.{resource_effect}
 -- ---- the requests to the members
 
 -- the members of the group of a number: the addresses that its `mid` lists, in this order
-abbrev pub members_of : List ResourceData → ℕ → List (List ℕ)
-members_of nodes group =
+abbrev pub listed_members : List ResourceData → ℕ → List (List ℕ)
+listed_members nodes group =
     filter_map as_text (option_map_or (λ g. ids_at Mid g) (at group nodes) [])
 
 -- the segments of a local address
@@ -41,7 +41,7 @@ abbrev pub segments_in : Result Addr AddrFault → List (List ℕ)
 segments_in (Ok addr) = segments_of addr
 segments_in (Err fault) = []
 
--- those from this place on, where that is behind a fan-out point
+-- The segments of a local address from this place on, where that is behind a fan-out point.
 abbrev pub rest_of : HomeData → List ℕ → ℕ → List (List ℕ)
 rest_of home to rest = drop rest (segments_in (address_of home to))
 
@@ -52,7 +52,7 @@ member_request request rest member = record request { to = joined (member ∷ re
 -- the requests to the members that the group has as the request finds it, whatever these change
 abbrev pub member_requests : EntityData → RequestParts → ℕ → ℕ → List RequestParts
 member_requests e request group rest =
-    map (member_request request (rest_of e.home request.to rest)) (members_of e.nodes group)
+    map (member_request request (rest_of e.home request.to rest)) (listed_members e.nodes group)
 
 -- ---- what they give
 
@@ -64,6 +64,7 @@ member_effect_at e request (Some (Resource n)) = resource_effect e request (at n
 member_effect_at e request (Some (Fan group rest)) = refused e request NotAllowed
 member_effect_at e request (Some (Poll channel)) = refused e request NotAllowed
 
+-- What a request to a member gives, by what its address names.
 abbrev pub member_effect : EntityData → RequestParts → Effect
 member_effect e request =
     member_effect_at e request (spot_named e.home request.to e.nodes)
@@ -74,6 +75,7 @@ pub record Single : Type 0 where
   pub reply : ReplyParts
   pub after : EntityData
 
+-- A request to one member with its reply and the entity after it.
 abbrev pub single_of : RequestParts → Effect → Single
 single_of request effect = record {
   request = request;
@@ -81,7 +83,7 @@ single_of request effect = record {
   after = effect.after;
 }
 
--- these requests one after another, each to the entity that the one before it left
+-- The requests of a fan-out one after another, each to the entity that the one before it left.
 abbrev pub singles_of : EntityData → List RequestParts → List Single
 singles_of e [] = []
 singles_of e (request ∷ requests) =

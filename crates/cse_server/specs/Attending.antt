@@ -35,7 +35,7 @@ conn_tells left written puts read_faults write_faults conn = record {
   write_faults = write_faults conn;
 }
 
--- and this link, by these
+-- What a link tells, by these two functions.
 abbrev pub link_tells : {L : Type 0} → (L → Option (List Exchange)) → (L → ℕ) → L → LinkTold
 link_tells exchanges faults link = link_told (exchanges link) (faults link)
 

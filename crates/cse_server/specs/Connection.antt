@@ -38,7 +38,8 @@ pub record ReadsLittle (rest left : List ℕ) : Type 0 where
   pub rest_is : rest ≡ held ++ left
   pub few : length held < most_held Request
 
--- the same, and no frame stands at the front of what was read
+-- Of the rest some bytes were read, fewer than the longest request and 4,096 more, and no frame
+-- stands at the front of what was read.
 pub record HoldsBack (rest left : List ℕ) : Type 0 where
   pub reads : ReadsLittle rest left
   pub none : HasNoFrame Request reads.held

@@ -1,5 +1,5 @@
 //! A server: many connections, answered out of one object that all share (TS-0009, 6).
-ghost use Rattle.std.specs.Prelude.{◌≤◌, vec_len};
+ghost use Rattle.std.specs.Prelude.{◌≡◌, ◌≤◌, vec_len, IfOk, IfErr};
 ghost use Rattle.cse_server.specs.Attending.{Attends, SeatGrows, SendsWhatIsLeft, conn_tells};
 ghost use Rattle.cse_server.specs.Attending.{link_tells};
 ghost use Rattle.turn_desk.specs.Seats.{IsSeated};
@@ -92,9 +92,14 @@ where
         (door_tells D.opened D.given D.ended D.faults) attends accept benches.items seat door
         result }
 
-    // What is left in the outbox then is sent with the first bench.
-    ensures first { SendsWhatIsLeft C.readings (link_tells L.exchanges L.faults)
-        first.old first.new }
+    // What is left in the outbox then is sent with the first bench, which stays as it was where
+    // memory ran out.
+    ensures first { IfOk result (λ _. SendsWhatIsLeft C.readings (link_tells L.exchanges L.faults)
+        first.old first.new) }
+    ensures first_at_fault { IfErr result (λ e. e.2 ≡ ServeFault.DoorFault
+        → SendsWhatIsLeft C.readings (link_tells L.exchanges L.faults) first.old first.new) }
+    ensures first_at_memory { IfErr result (λ e. e.2 ≡ ServeFault.OutOfMemory
+        → first.new ≡ first.old) }
 {
     let _ = first;
     let service = HttpService { alloc };

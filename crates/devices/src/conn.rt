@@ -120,24 +120,30 @@ fn read_some(stream: &mut TcpStream, buf: &mut [u8]) -> io::Result<usize>
     Err(timed_out())
 }
 
-/// Writes all of it within `PATIENCE`, and tells whether the next write waits less.
+/// Writes all of it within `PATIENCE`, and tells whether the next write waits less. Where the
+/// system breaks a write off, as it does where somebody stopped the program, the time begins anew.
 fn write_all_in_time<R: Clock>(rt: &R, stream: &mut TcpStream, bytes: &[u8]) -> io::Result<bool> {
-    let begun = millis_of(since_start(rt));
+    let mut begun = millis_of(since_start(rt));
     let mut rest = bytes;
     let mut is_pressed = false;
-    for _ in 0..bytes.len() {
-        let n = stream.write(rest)?;
-        if n == 0 {
-            return Err(io::Error::from(ErrorKind::WriteZero));
-        }
-        rest = rest.split_at(n.min(rest.len())).1;
+    for _ in 0..u64::MAX {
         if rest.is_empty() {
             return Ok(is_pressed);
         }
-        stream.set_write_timeout(Some(patience_left(rt, begun)?))?;
-        is_pressed = true;
+        match stream.write(rest) {
+            Ok(0) => return Err(io::Error::from(ErrorKind::WriteZero)),
+            Ok(n) => rest = rest.split_at(n.min(rest.len())).1,
+            Err(error) if error.kind() == ErrorKind::Interrupted => {
+                begun = millis_of(since_start(rt));
+            }
+            Err(error) => return Err(error),
+        }
+        if !rest.is_empty() {
+            stream.set_write_timeout(Some(patience_left(rt, begun)?))?;
+            is_pressed = true;
+        }
     }
-    Ok(is_pressed)
+    Err(timed_out())
 }
 
 impl<R: Clock + Eprint + Copy> Drop for TcpConn<R> {
@@ -246,9 +252,10 @@ impl<R: Clock + Eprint + Copy> TcpConn<R> {
         }
     }
 
-    fn log_fault(&self, what: &str, error: &io::Error) {
+    /// A line for a fault. A client is idle that says nothing between two messages.
+    fn log_fault(&self, what: &str, is_between: bool, error: &io::Error) {
         let kind = match error.kind() {
-            ErrorKind::WouldBlock if self.begun.is_none() => "idle",
+            ErrorKind::WouldBlock if is_between => "idle",
             ErrorKind::WouldBlock | ErrorKind::TimedOut => "too slow",
             ErrorKind::ConnectionReset => "connection reset",
             ErrorKind::BrokenPipe => "connection closed",
@@ -287,7 +294,7 @@ impl<R: Clock + Eprint + Copy> Source for TcpConn<R> {
                 Ok(n)
             }
             Err(error) => {
-                self.log_fault("read fault", &error);
+                self.log_fault("read fault", self.begun.is_none(), &error);
                 self.read_faults = self.read_faults.saturating_add(1);
                 Err(Failed)
             }
@@ -315,7 +322,7 @@ impl<R: Clock + Eprint + Copy> Sink for TcpConn<R> {
                 Ok(())
             }
             Err(error) => {
-                self.log_fault("write fault", &error);
+                self.log_fault("write fault", false, &error);
                 self.write_faults = self.write_faults.saturating_add(1);
                 Err(Failed)
             }

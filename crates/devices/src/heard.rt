@@ -9,16 +9,19 @@ use std::net::SocketAddr;
 /// line of a request that is served is kept whole.
 const LONGEST_LINE: usize = 16_384;
 
-/// No more than so many bytes of a first line are logged, and of an originator.
-const MOST_LOGGED: usize = 512;
+/// No more than so many bytes of a first line are logged, and of an originator. A line has less
+/// than 4,096 bytes then, though each of these is escaped by four: a pipe that takes any takes it
+/// at once.
+const MOST_LOGGED: usize = 480;
 
 /// So many bytes of a line are at hand from the start.
 const USUAL_LINE: usize = 512;
 
 /// No more requests than so many are kept that wait for their replies. No more can wait: nothing is
-/// read while a whole request is there, one read is of 4,096 bytes at most, and 227 requests of 18
-/// bytes fit into it, as `GET / HTTP/1.1` and an empty line have them.
-const MOST_WAITING: usize = 256;
+/// read while a whole request is there, and one read is of 4,096 bytes at most. A request has 14 of
+/// them or more, as `A / HTTP/1.1` with two line feeds, so that 292 fit into one read. The read may
+/// end one more that began before it.
+const MOST_WAITING: usize = 293;
 
 /// Which part of a message comes next.
 #[derive(Clone, Copy, Debug, PartialEq, Eq)]

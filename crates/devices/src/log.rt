@@ -1,12 +1,12 @@
 //! What a server writes on standard error for its operator.
-use libc::net::{POLLOUT, poll};
+use libc::net::{POLLNVAL, POLLOUT, poll};
 use libc::types::pollfd;
 use m2m_names::write_stamp;
 use std::alloc::{AllocError as OutOfMemory, Global};
 use std::io::{Eprint, ErrorKind};
 use std::sync::Arc;
 use std::sync::atomic::{AtomicU64, Ordering};
-use std::time::Clock;
+use std::time::{Clock, Duration};
 use std::{io, str};
 
 /// What is logged.
@@ -22,6 +22,13 @@ pub enum LogLevel {
 /// At most so many faults are written in one second.
 const MOST_A_SECOND: u64 = 10;
 
+/// Where another line is being written, a line waits so long before it tries again, in
+/// microseconds.
+const PAUSE: u64 = 50;
+
+/// It tries no more often than this.
+const MOST_TRIES: u64 = 100;
+
 /// The descriptor of standard error.
 const STANDARD_ERROR: i32 = 2;
 
@@ -36,8 +43,8 @@ struct Shared {
 }
 
 /// A log on standard error, one of several handles of it. A line is left out, and counted, where
-/// standard error takes none at once or gives an error, or where another thread is writing one, so
-/// that no connection waits for the log.
+/// standard error takes none at once or gives an error, or where others go on writing theirs, so
+/// that no connection waits for the log for more than some milliseconds.
 #[derive(Drop)]
 pub struct Log<R> {
     rt: R,
@@ -46,19 +53,39 @@ pub struct Log<R> {
     shared: Arc<Shared>,
 }
 
-/// Whether standard error takes a line at once.
-fn is_ready() -> bool {
+/// What can be done with standard error at once.
+fn readiness() -> i16 {
     let mut fds = [pollfd {
         fd: STANDARD_ERROR,
         events: POLLOUT,
         revents: 0,
     }];
-    poll(&mut fds, 0) == 1
+    if poll(&mut fds, 0) == 1 {
+        fds[0].revents
+    } else {
+        0
+    }
+}
+
+/// Whether standard error takes a line at once.
+fn is_ready() -> bool {
+    readiness() != 0
+}
+
+/// Whether standard error isn't open. A connection may take its place then, and its client would
+/// get what is logged.
+fn is_closed() -> bool {
+    readiness() & POLLNVAL != 0
 }
 
 impl<R: Clock + Eprint + Copy + Drop> Log<R> {
-    /// A log of what this level says.
+    /// A log of what this level says, and of nothing where standard error isn't open.
     pub fn new(rt: R, alloc: Global, level: LogLevel) -> Result<Self, OutOfMemory> {
+        let level = if is_closed() {
+            LogLevel::Nothing
+        } else {
+            level
+        };
         let shared = Shared {
             second: AtomicU64::new(0),
             faults: AtomicU64::new(0),
@@ -145,17 +172,27 @@ impl<R: Clock + Eprint + Copy + Drop> Log<R> {
         self.write(moment, text)
     }
 
-    /// Writes a line, where nobody else is writing one, or counts it.
-    fn write_alone(&self, moment: u64, text: &str) {
-        let writers = &self.shared.writers;
-        if writers.swap(1, Ordering::SeqCst) != 0 {
-            self.leave_out(1);
-            return;
+    /// Waits until nobody else is writing a line, and tells whether that came soon. Then this
+    /// handle is writing one, until it says `end_line`.
+    fn begin_line(&self) -> bool {
+        for _ in 0..MOST_TRIES {
+            if self.shared.writers.swap(1, Ordering::SeqCst) == 0 {
+                return true;
+            }
+            self.rt.sleep(Duration::from_micros(PAUSE));
         }
+        false
+    }
+
+    fn end_line(&self) {
+        self.shared.writers.store(0, Ordering::SeqCst);
+    }
+
+    /// Writes a line that was begun, or counts it.
+    fn write_or_count(&self, moment: u64, text: &str) {
         if self.write_counted(moment, text).is_err() {
             self.leave_out(1);
         }
-        writers.store(0, Ordering::SeqCst);
     }
 
     fn now(&self) -> u64 {
@@ -165,7 +202,7 @@ impl<R: Clock + Eprint + Copy + Drop> Log<R> {
         }
     }
 
-    /// Whether one more fault may be written in this second.
+    /// Whether one more fault may be written in this second. Only who has begun a line asks it.
     fn has_room(&self, second: u64) -> bool {
         let shared = &self.shared;
         if shared.second.swap(second, Ordering::SeqCst) != second {
@@ -176,7 +213,12 @@ impl<R: Clock + Eprint + Copy + Drop> Log<R> {
 
     /// A line for a request.
     pub(crate) fn request(&self, text: &str) {
-        self.write_alone(self.now(), text);
+        if self.begin_line() {
+            self.write_or_count(self.now(), text);
+            self.end_line();
+        } else {
+            self.leave_out(1);
+        }
     }
 
     /// A line for a fault, where faults are logged and not too many came in this second.
@@ -184,11 +226,16 @@ impl<R: Clock + Eprint + Copy + Drop> Log<R> {
         if self.level == LogLevel::Nothing {
             return;
         }
+        if !self.begin_line() {
+            self.leave_out(1);
+            return;
+        }
         let now = self.now();
         if self.has_room(now) {
-            self.write_alone(now, text);
+            self.write_or_count(now, text);
         } else {
             self.leave_out(1);
         }
+        self.end_line();
     }
 }

@@ -1,11 +1,11 @@
 -- Removals: two in a row, and what a removal makes no longer.
 use Rattle.std.specs.Prelude.{◌==◌}
-use Rattle.std.proofs.Common.{◌≡◌, ℕ, ◌≤◌, List, [], ◌∷◌, ◌++◌, length, Bool, true, false, not, ◌||◌, inl, inr, refl, sym, ap, ◌∙◌, arith}
-use Rattle.std.proofs.lemmas.Bool.{cases_Bool, and_parts, and_from, or_cases, or_parts, or_from, or_left, or_right, not-true, not_from_false, both_ways, false_from_ne_true}
+use Rattle.std.proofs.Common.{◌≡◌, ℕ, ◌≤◌, List, [], ◌∷◌, ◌++◌, length, Bool, true, false, ◌||◌, inl, inr, refl, ap, arith}
+use Rattle.std.proofs.lemmas.Bool.{cases_Bool, or_cases, or_parts, or_from, or_left, or_right, both_ways, false_from_ne_true}
 use Rattle.resource_model.specs.Resource.{ResourceData}
 use Rattle.tree_model.specs.Tree.{has, stays, staying, without, level_of, is_tree}
 use Rattle.tree_model.proofs.ChangeLemmas.{line_none}
-use Rattle.tree_model.proofs.TreeLemmas.{Covers, covers_grown, covers_both}
+use Rattle.tree_model.proofs.TreeLemmas.{Covers, covers_grown, covers_both, stays_parts, stays_from}
 
 -- ---- two removals in a row
 
@@ -16,20 +16,20 @@ either p q r = p r || q r
 -- what stays of both stays of each
 stays_each : (p q : ResourceData → Bool) (more less : List ResourceData) (r : ResourceData) → Covers more less → stays (either p q) less r ≡ true → (stays p more r ≡ true) × (stays q less r ≡ true)
 stays_each p q more less r covers stayed =
-    let parts = and_parts (not (p r || q r)) _ stayed in
-    let free = or_parts (p r) (q r) (not-true _ parts.0) in
-    let wide : ((r.parent == 0) || has r.parent more) ≡ true = elim (or_cases (r.parent == 0) _ parts.1) [
+    let parts = stays_parts (either p q) less r stayed in
+    let free = or_parts (p r) (q r) parts.unpicked in
+    let wide : ((r.parent == 0) || has r.parent more) ≡ true = elim (or_cases (r.parent == 0) _ parts.parent) [
       | inl root ↦ or_left _ _ root
       | inr kept ↦ or_right _ _ (covers r.parent kept)
     ] in
-    (and_from _ _ (not_from_false _ free.0) wide, and_from _ _ (not_from_false _ free.1) parts.1)
+    (stays_from p more r (record { unpicked = free.0; parent = wide }), stays_from q less r (record { unpicked = free.1; parent = parts.parent }))
 
 -- what stays of each stays of both
 stays_both : (p q : ResourceData → Bool) (more less : List ResourceData) (r : ResourceData) → stays p more r ≡ true → stays q less r ≡ true → stays (either p q) less r ≡ true
 stays_both p q more less r first second =
-    let one = and_parts (not (p r)) _ first in
-    let two = and_parts (not (q r)) _ second in
-    and_from _ _ (not_from_false _ (or_from _ _ (not-true _ one.0) (not-true _ two.0))) two.1
+    let one = stays_parts p more r first in
+    let two = stays_parts q less r second in
+    stays_from (either p q) less r (record { unpicked = or_from _ _ one.unpicked two.unpicked; parent = two.parent })
 
 staying_twice : (p q : ResourceData → Bool) (more less nodes : List ResourceData) → Covers more less → staying q less (staying p more nodes) ≡ staying (either p q) less nodes
 staying_twice p q more less [] covers = refl

@@ -1,6 +1,6 @@
 -- Soundness: of the entity as it opens, and of what a removal leaves.
-use Rattle.std.specs.Prelude.{◌==◌, nat_le, nat_lt}
-use Rattle.std.proofs.Common.{◌≡◌, ℕ, ◌-◌, ◌^◌, ◌<◌, ◌≤◌, List, [], ◌∷◌, ◌++◌, length, take, Bool, true, false, cond, not, ◌&&◌, ◌||◌, Option, Some, None, if◌then◌else◌, inl, inr, refl, sym, ap, ◌∙◌, subst, arith, bytes_eq}
+use Rattle.std.specs.Prelude.{nat_le, nat_lt}
+use Rattle.std.proofs.Common.{◌≡◌, ℕ, ◌-◌, ◌^◌, ◌<◌, ◌≤◌, List, [], ◌∷◌, ◌++◌, length, take, Bool, true, false, cond, not, ◌||◌, Option, Some, None, inl, inr, refl, sym, ap, ◌∙◌, subst, arith, bytes_eq}
 use Rattle.std.proofs.lemmas.Bool.{cases_Bool, and_parts, and_from, or_cases, or_parts, or_from, or_left, or_right, not-true, not_from_false, leb-true, le-leb, both_ways, false_from_ne_true, eq-eqb}
 use Rattle.std.proofs.lemmas.List.{append-nil}
 use Rattle.std.proofs.lemmas.List.Elements.{filter-append}
@@ -12,15 +12,15 @@ use Rattle.m2m_names.specs.Types.{does_take}
 use Rattle.m2m_names.specs.declared.types.Ty.{Ty}
 use Rattle.m2m_names.specs.declared.types.Ty.TheVariants.{AccessControlPolicy, Ae, Container, ContentInstance, CseBase, Group, PollingChannel, RemoteCse, Subscription, AccessControlPolicyAnnc, AeAnnc, ContainerAnnc, ContentInstanceAnnc, GroupAnnc}
 use Rattle.resource_model.specs.Attributes.{count_at}
-use Rattle.resource_model.specs.Home.{HomeData, IsHome, is_base_name, is_cse_type}
+use Rattle.resource_model.specs.Home.{HomeData, IsHome, is_base_name}
 use Rattle.resource_model.specs.Resource.{ResourceData, id_of, is_ty, cse_id}
 use Rattle.m2m_value.specs.Data.{text}
 use Rattle.tree_model.specs.Shown.{own_cse_id}
 use Rattle.tree_model.specs.Tree.{at, has, are_below, stays, staying, without, is_spared, is_kin, is_instance, instance_size, is_due_under, is_due, age_end, live, is_root, is_taken, fits_in, is_well_formed, is_tree}
 use Rattle.tree_model.proofs.ChangeLemmas.{count-without, sum-without, no_deeper}
-use Rattle.tree_model.proofs.QuietLemmas.{lesser_least}
+use Rattle.tree_model.proofs.QuietLemmas.{lesser_least, due_case, due_never, due_by_age, due_by_expiry}
 use Rattle.tree_model.proofs.TreeLemmas.{has_at, staying_all, staying_any, staying_unpicked}
-use Rattle.tree_model.proofs.GrowthLemmas.{growth, tree_from_well_formed, next_fits, root_parent, at-without}
+use Rattle.tree_model.proofs.GrowthLemmas.{growth, tree_from_well_formed, next_fits, at-without, fits_parts, root_parts}
 use Rattle.tree_model.proofs.KeptLemmas.{is_well_formed-without}
 use Rattle.tree_model.proofs.LiveLemmas.{without_none}
 use Rattle.m2m_names.specs.Name.{is_free_name, is_originator}
@@ -32,14 +32,10 @@ use Rattle.policy_eval.proofs.NameLemmas.{policy_number-id_of}
 use Rattle.entity_model.proofs.NumberLemmas.{swept_is}
 use Rattle.entity_model.specs.Sound.{is_known_id, has_known_ids, has_free_name, has_size, has_state_tag, is_shallow, is_within_limits, begins_with_base, cse_ids, are_distinct, has_one_channel, spares_first, greatest_count, IsSoundEntity}
 use Rattle.entity_model.proofs.RemovalLemmas.{staying_length}
+use Rattle.m2m_names.proofs.ListLemmas.{all_weaker}
+use Rattle.resource_model.proofs.HomeLemmas.{base_name_parts, home_parts}
 
 -- ---- tests over a list
-
-pub all_weaker : (p q : ResourceData → Bool) → ((r : ResourceData) → p r ≡ true → q r ≡ true) → (nodes : List ResourceData) → list_all p nodes ≡ true → list_all q nodes ≡ true
-all_weaker p q weaker [] all = refl
-all_weaker p q weaker (r ∷ nodes) all =
-    let parts = and_parts (p r) (list_all p nodes) all in
-    and_from _ _ (weaker r parts.0) (all_weaker p q weaker nodes parts.1)
 
 pub none_weaker : (p q : ResourceData → Bool) → ((r : ResourceData) → q r ≡ true → p r ≡ true) → (nodes : List ResourceData) → list_any p nodes ≡ false → list_any q nodes ≡ false
 none_weaker p q weaker [] none = refl
@@ -94,15 +90,25 @@ absent_left : (p : ResourceData → Bool) (q : List ℕ → Bool) (stayed nodes 
 absent_left p q stayed nodes none = false_from_ne_true _ (λ t.
     both_ways _ (sym (any_named q nodes) ∙ none) (staying_any p (named q) stayed nodes (sym (any_named q (staying p stayed nodes)) ∙ t)))
 
+-- no other text is the first, and the others differ
+pub record AreDistinct (s : List ℕ) (texts : List (List ℕ)) : Type 0 where
+  pub other : list_any (bytes_eq s) texts ≡ false
+  pub rest : are_distinct texts ≡ true
+
+pub distinct_parts : (s : List ℕ) (texts : List (List ℕ)) → are_distinct (s ∷ texts) ≡ true → AreDistinct s texts
+distinct_parts s texts distinct =
+    let parts = and_parts (not (list_any (bytes_eq s) texts)) (are_distinct texts) distinct in
+    record { other = not-true _ parts.0; rest = parts.1 }
+
 distinct_rest : (o : Option (List ℕ)) (texts : List (List ℕ)) → are_distinct (cons_option o texts) ≡ true → are_distinct texts ≡ true
 distinct_rest None texts distinct = distinct
-distinct_rest (Some s) texts distinct = (and_parts (not (list_any (bytes_eq s) texts)) _ distinct).1
+distinct_rest (Some s) texts distinct = (distinct_parts s texts distinct).rest
 
 distinct_with : (o : Option (List ℕ)) (more less : List (List ℕ)) → ((q : List ℕ → Bool) → list_any q more ≡ false → list_any q less ≡ false) → are_distinct (cons_option o more) ≡ true → are_distinct less ≡ true → are_distinct (cons_option o less) ≡ true
 distinct_with None more less absent distinct rest = rest
 distinct_with (Some s) more less absent distinct rest =
-    let parts = and_parts (not (list_any (bytes_eq s) more)) _ distinct in
-    and_from _ _ (not_from_false _ (absent (bytes_eq s) (not-true _ parts.0))) rest
+    let parts = distinct_parts s more distinct in
+    and_from _ _ (not_from_false _ (absent (bytes_eq s) parts.other)) rest
 
 distinct_left : (p : ResourceData → Bool) (stayed nodes : List ResourceData) → are_distinct (filter_map cse_id nodes) ≡ true → are_distinct (filter_map cse_id (staying p stayed nodes)) ≡ true
 distinct_left p stayed [] distinct = refl
@@ -115,17 +121,27 @@ distinct_left p stayed (r ∷ nodes) distinct =
 
 cses_left : (p : ResourceData → Bool) (home : HomeData) (nodes : List ResourceData) → are_distinct (cse_ids home nodes) ≡ true → are_distinct (cse_ids home (without p nodes)) ≡ true
 cses_left p home nodes distinct =
-    let parts = and_parts (not (list_any (bytes_eq (own_cse_id home)) (filter_map cse_id nodes))) _ distinct in
-    and_from _ _ (not_from_false _ (absent_left p (bytes_eq (own_cse_id home)) [] nodes (not-true _ parts.0))) (distinct_left p [] nodes parts.1)
+    let parts = distinct_parts (own_cse_id home) (filter_map cse_id nodes) distinct in
+    and_from _ _ (not_from_false _ (absent_left p (bytes_eq (own_cse_id home)) [] nodes parts.other)) (distinct_left p [] nodes parts.rest)
+
+-- the first resource is the CSEBase, named as the home says
+pub record BeginsWithBase (home : HomeData) (r : ResourceData) : Type 0 where
+  pub kind : is_ty r.ty CseBase ≡ true
+  pub name : r.name ≡ home.base
+
+pub base_parts : (home : HomeData) (r : ResourceData) (nodes : List ResourceData) → begins_with_base home (r ∷ nodes) ≡ true → BeginsWithBase home r
+base_parts home r nodes base =
+    let parts = and_parts (is_ty r.ty CseBase) (bytes_eq r.name home.base) base in
+    record { kind = parts.0; name = (bytes_eq-Decides r.name home.base).0 parts.1 }
 
 -- the first resource has no parent
 first_stays : (p : ResourceData → Bool) (r : ResourceData) (nodes : List ResourceData) → is_well_formed (r ∷ nodes) ≡ true → not (p r) ≡ true → stays p [] r ≡ true
 first_stays p r nodes well spared =
     let fit = and_parts (fits_in [] r) _ well in
-    let next = next_fits [] r (and_parts _ _ fit.0).0 in
+    let next = next_fits [] r (fits_parts [] r fit.0).stands in
     elim (or_cases (has r.parent []) _ next.parent) [
       | inl there ↦ absurd (both_ways _ refl there)
-      | inr root ↦ and_from _ _ spared (or_left _ _ (eq-eqb r.parent 0 (root_parent [] r root).0))
+      | inr root ↦ and_from _ _ spared (or_left _ _ (eq-eqb r.parent 0 (root_parts [] r root).parent))
     ]
 
 base_left : (p : ResourceData → Bool) (home : HomeData) (nodes : List ResourceData) → is_well_formed nodes ≡ true → spares_first p nodes ≡ true → begins_with_base home nodes ≡ true → begins_with_base home (without p nodes) ≡ true
@@ -134,12 +150,10 @@ base_left p home (r ∷ nodes) well spared base = rw (first_stays p r nodes well
 
 -- where its parent is gone, a resource isn't due earlier
 due_alone : (moment : ℕ) (o : Option ResourceData) (r : ResourceData) → is_due_under None moment r ≡ true → is_due_under o moment r ≡ true
-due_alone moment o r due = elim (cases_Bool (is_ty r.ty CseBase)) [
-  | inl t ↦ rw t (rw t at due)
-  | inr f ↦ elim (cases_Bool (is_ty r.ty ContentInstance)) [
-    | inl u ↦ rw (f, u) (small_too _ _ moment (lesser_least r.et (age_end o r)) (rw (f, u) at due))
-    | inr v ↦ rw (f, v) (rw (f, v) at due)
-  ]
+due_alone moment o r due = elim (due_case r.ty) [
+  | due_never t ↦ rw t (rw t at due)
+  | due_by_age f u ↦ rw (f, u) (small_too _ _ moment (lesser_least r.et (age_end o r)) (rw (f, u) at due))
+  | due_by_expiry f v ↦ rw (f, v) (rw (f, v) at due)
 ]
 
 due_left_under : (spared : Bool) (moment : ℕ) (o : Option ResourceData) (r : ResourceData) → is_due_under (cond spared o None) moment r ≡ true → is_due_under o moment r ≡ true
@@ -248,7 +262,7 @@ sound_left p e last sound spared small none =
 -- the CSEBase is never due
 base_spared : (home : HomeData) (nodes : List ResourceData) (among : List ResourceData) (moment : ℕ) → begins_with_base home nodes ≡ true → spares_first (is_due among moment) nodes ≡ true
 base_spared home [] among moment base = refl
-base_spared home (r ∷ nodes) among moment base = rw (and_parts (is_ty r.ty CseBase) _ base).0 refl
+base_spared home (r ∷ nodes) among moment base = rw (base_parts home r nodes base).kind refl
 
 -- after the expiry nothing is due
 none_live : (nodes : List ResourceData) (moment : ℕ) → is_tree nodes ≡ true → list_any (is_due (without (is_due nodes moment) nodes) moment) (without (is_due nodes moment) nodes) ≡ false
@@ -287,32 +301,8 @@ swept_still reading e sound early =
 cut_small : (reading : ℕ) → nat_le 253402300799 (cut reading) ≡ false
 cut_small reading = false_from_ne_true _ (λ t. let le : 253402300799 ≤ cut reading = leb-true 253402300799 (cut reading) t in omega arith)
 
--- the place of the first that doesn't hold
-abbrev first_false : Bool → Bool → Bool → Bool → Bool → Option ℕ
-first_false a b c d e = if not a then Some 0 else if not b then Some 1 else if not c then Some 2 else if not d then Some 3 else if not e then Some 4 else None
-
-last_holds : (a b c d e : Bool) → first_false a b c d e ≡ None → e ≡ true
-last_holds false b c d e none = cc
-last_holds true false c d e none = cc
-last_holds true true false d e none = cc
-last_holds true true true false e none = cc
-last_holds true true true true false none = cc
-last_holds true true true true true none = refl
-
-third_holds : (a b c d e : Bool) → first_false a b c d e ≡ None → c ≡ true
-third_holds false b c d e none = cc
-third_holds true false c d e none = cc
-third_holds true true false d e none = cc
-third_holds true true true d e none = refl
-
-base_admitted : (home : HomeData) → IsHome home → is_base_name home.base ≡ true
-base_admitted home is = third_holds (is_free_name home.sp) (is_free_name home.csi) (is_base_name home.base) (is_cse_type home.cst) (is_originator home.admin) is.admitted
-
 opening_names : (home : HomeData) (moment : ℕ) → is_base_name home.base ≡ true → list_all has_free_name (opening_nodes home moment) ≡ true
-opening_names home moment admitted = and_from (is_free_name home.base) _ (and_parts (is_free_name home.base) _ admitted).0 refl
-
-admin_admitted : (home : HomeData) → IsHome home → is_originator home.admin ≡ true
-admin_admitted home is = last_holds (is_free_name home.sp) (is_free_name home.csi) (is_base_name home.base) (is_cse_type home.cst) (is_originator home.admin) is.admitted
+opening_names home moment admitted = and_from (is_free_name home.base) _ (base_name_parts home.base admitted).free refl
 
 policy_kinds : (home : HomeData) (moment : ℕ) → is_originator home.admin ≡ true → are_kinds (opening_policy home moment) ≡ true
 policy_kinds home moment admitted = rw admitted refl
@@ -338,11 +328,11 @@ sound_opening home reading is = record {
   ids = opening_ids home (cut reading);
   tree = refl;
   base = (bytes_eq-Decides home.base home.base).1 refl;
-  names = opening_names home (cut reading) (base_admitted home is);
+  names = opening_names home (cut reading) (home_parts home is).base;
   home = is;
   depth = refl;
   count = omega arith;
-  kinds = opening_kinds home (cut reading) (admin_admitted home is);
+  kinds = opening_kinds home (cut reading) (home_parts home is).admin;
   tags = refl;
   cses = refl;
   channels = refl;
@@ -392,20 +382,19 @@ under_no_base nodes r there taken =
 
 base_last : (before : List ResourceData) (r : ResourceData) → fits_in before r ≡ true → filter is_base before ≡ take 1 before → filter is_base (before ++ r ∷ []) ≡ take 1 (before ++ r ∷ [])
 base_last [] r fit holds =
-    let next = next_fits [] r (and_parts _ _ fit).0 in
+    let next = next_fits [] r (fits_parts [] r fit).stands in
     elim (or_cases (has r.parent []) (is_root [] r) next.parent) [
       | inl there ↦ absurd (both_ways _ refl there)
       | inr root ↦
-          let two = and_parts (is_base r && (r.parent == 0)) _ root in
-          let base : is_base r ≡ true = (and_parts (is_base r) _ two.0).0 in
+          let base : is_base r ≡ true = (root_parts [] r root).kind in
           rw base refl
     ]
 base_last (s ∷ before) r fit holds =
-    let parts = and_parts _ _ fit in
-    let next = next_fits (s ∷ before) r parts.0 in
+    let parts = fits_parts (s ∷ before) r fit in
+    let next = next_fits (s ∷ before) r parts.stands in
     elim (or_cases (has r.parent (s ∷ before)) (is_root (s ∷ before) r) next.parent) [
       | inl there ↦
-          let other : is_base r ≡ false = under_no_base (s ∷ before) r there parts.1 in
+          let other : is_base r ≡ false = under_no_base (s ∷ before) r there parts.taken in
           let none : filter is_base (r ∷ []) ≡ [] = rw other refl in
           filter-append is_base (s ∷ before) (r ∷ [])
           ∙ ap (λ (rest : List ResourceData). filter is_base (s ∷ before) ++ rest) none

@@ -9,6 +9,7 @@ use Rattle.entity_model.specs.Entity.{EntityData, blank}
 abbrev HomeParts : Type 0
 HomeParts = List ℕ × (List ℕ × (List ℕ × (ℤ × List ℕ)))
 
+-- The home of a CSE is stored as nested pairs of its five parts, which give it back unchanged.
 abbrev pub home_code : Coded HomeData
 home_code =
     code_by HomeParts
@@ -21,6 +22,8 @@ home_code =
 abbrev EntityParts : Type 0
 EntityParts = HomeData × (List ResourceData × (ℕ × ℕ))
 
+-- An entity is stored as its home, its resources, its next number and the moment of its last event.
+-- These give it back unchanged.
 abbrev pub entity_code : Coded EntityData
 entity_code =
     code_by EntityParts

@@ -34,9 +34,12 @@ entry_rule = written_rule everyone create_bit
 abbrev pub opening_pv : HomeData → Data
 opening_pv home = written_rules (admin_rule home ∷ entry_rule ∷ [])
 
+-- Who may change the administrator's policy: the administrator alone, as written in `pvs` (TS-0001,
+-- 9.6.2).
 abbrev pub opening_pvs : HomeData → Data
 opening_pvs home = written_rules (admin_rule home ∷ [])
 
+-- The attributes of the administrator's policy (TS-0001, 9.6.2).
 abbrev pub policy_rows : HomeData → List Row
 policy_rows home = (Pv, opening_pv home) ∷ (Pvs, opening_pvs home) ∷ []
 
@@ -73,6 +76,7 @@ opening_policy home moment = record {
   attrs = policy_rows home;
 }
 
+-- The resources that a CSE opens with: the CSEBase and the administrator's policy.
 abbrev pub opening_nodes : HomeData → ℕ → List ResourceData
 opening_nodes home moment = opening_base home moment ∷ opening_policy home moment ∷ []
 

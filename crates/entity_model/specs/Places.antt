@@ -52,19 +52,20 @@ abbrev pub on_found : EntityData → RequestParts → (ResourceData → Effect) 
 on_found e request effect found = option_map_or effect found (refused e request absent)
 
 -- a place in the order of refusals: what has to hold there, and the status where it doesn't
-pub record Place : Type 0 where
+pub record Check : Type 0 where
   pub holds : Bool
   pub fault : Rsc
 
-abbrev pub unless : Bool → Rsc → Place
+-- The place where this has to hold, with the status where it doesn't.
+abbrev pub unless : Bool → Rsc → Check
 unless holds fault = record { holds = holds; fault = fault }
 
 -- the status of the first place that doesn't hold
-abbrev pub first_fault : List Place → Option Rsc
+abbrev pub first_fault : List Check → Option Rsc
 first_fault [] = None
 first_fault (place ∷ places) = if place.holds then first_fault places else Some place.fault
 
 -- the request is refused by the first of these places that doesn't hold, and else this comes of it
-abbrev pub unless_refused : List Place → EntityData → RequestParts → Effect → Effect
+abbrev pub unless_refused : List Check → EntityData → RequestParts → Effect → Effect
 unless_refused places e request effect =
     option_map_or (refused e request) (first_fault places) effect

@@ -40,7 +40,7 @@ has_known_ids next r = list_all (is_known_id next) (linked_ids r)
 abbrev pub largest_size : ℕ
 largest_size = 1048576
 
--- it is no larger, where it is a content instance
+-- The resource is no larger than the greatest size, where it is a content instance.
 abbrev pub has_size : ResourceData → Bool
 has_size r = not (is_ty r.ty ContentInstance) || nat_le (instance_size r) largest_size
 
@@ -51,6 +51,7 @@ greatest_depth = 32
 abbrev pub greatest_count : ℕ
 greatest_count = 100000
 
+-- The resource stands no deeper than the limit allows.
 abbrev pub is_shallow : List ResourceData → ResourceData → Bool
 is_shallow nodes r = nat_le (level_of r.number nodes) greatest_depth
 
@@ -81,7 +82,8 @@ abbrev pub are_distinct : List (List ℕ) → Bool
 are_distinct [] = true
 are_distinct (s ∷ texts) = not (list_any (bytes_eq s) texts) && are_distinct texts
 
--- it has at most one polling channel (TS-0001, 9.6.21); only an AE and a remote CSE take one
+-- The resource has at most one polling channel (TS-0001, 9.6.21); only an AE and a remote CSE take
+-- one.
 abbrev pub has_one_channel : List ResourceData → ResourceData → Bool
 has_one_channel nodes r = nat_le (length (channels_of r.number nodes)) 1
 

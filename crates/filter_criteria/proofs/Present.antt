@@ -1,6 +1,6 @@
 -- The entries that are there, of rows in byte order of their names.
-use Rattle.std.proofs.Common.{◌≡◌, ℕ, ◌+◌, ◌<◌, List, [], ◌∷◌, ◌++◌, length, take, get_or, map, Bool, true, false, not, ◌&&◌, cond, bytes_eq, Option, Some, None, IfSome, find, Less, Ordering, refl, sym, ap, ◌∙◌}
-use Rattle.std.proofs.lemmas.Bool.{and_parts}
+use Rattle.std.proofs.Common.{◌≡◌, ℕ, ◌+◌, ◌<◌, List, [], ◌∷◌, ◌++◌, length, take, get_or, map, Bool, true, false, not, ◌&&◌, cond, bytes_eq, Option, Some, None, IfSome, find, Less, refl, sym, ap, ◌∙◌}
+use Rattle.std.proofs.lemmas.Bool.{and_parts, not-true}
 use Rattle.std.proofs.lemmas.List.{map_more}
 use Rattle.std.proofs.lemmas.List.Elements.{filter_map-append}
 use Rattle.std.proofs.lemmas.Slice.Eq.{bytes_eq-Decides}
@@ -16,6 +16,7 @@ use Rattle.m2m_value.specs.View.{member_of}
 use Rattle.m2m_value.proofs.Levels.{entries-pairs_of}
 use Rattle.m2m_value.proofs.Lookup.{compared}
 use Rattle.filter_criteria.specs.Values.{members_in, NamedValue, entry_there, present, object_of}
+use Rattle.m2m_names.proofs.PlaceLemmas.{less}
 
 abbrev pub names : List NamedValue → List (List ℕ)
 names [] = []
@@ -30,14 +31,6 @@ are_ordered (k ∷ ks) = list_all (λ y. is_lt (compared k y)) ks && are_ordered
 abbrev pub are_distinct : List (List ℕ) → Bool
 are_distinct [] = true
 are_distinct (k ∷ ks) = list_all (λ y. not (bytes_eq k y)) ks && are_distinct ks
-
-less : (o : Ordering) → is_lt o ≡ true → o ≡ Less
-less Less e = refl
-less o e = cc
-
-not_true : (b : Bool) → not b ≡ true → b ≡ false
-not_true false e = refl
-not_true true e = cc
 
 -- ---- one row more
 
@@ -81,7 +74,7 @@ value_at key (row ∷ rows) = cond (bytes_eq key row.0) row.1 (value_at key rows
 absent : (key : List ℕ) (rows : List NamedValue) → list_all (λ y. not (bytes_eq key y)) (names rows) ≡ true → value_at key rows ≡ None
 absent key [] h = refl
 absent key (row ∷ rows) h =
-    let other = not_true (bytes_eq key row.0) (and_parts _ _ h).0 in
+    let other = not-true (bytes_eq key row.0) (and_parts _ _ h).0 in
     ap (λ b. cond b row.1 (value_at key rows)) other ∙ absent key rows (and_parts _ _ h).1
 
 gone : (b : Bool) (key : List ℕ) (name : List ℕ) (rows : List NamedValue) → bytes_eq key name ≡ b → list_all (λ y. not (bytes_eq name y)) (names rows) ≡ true → value_at key rows ≡ cond b None (value_at key rows)

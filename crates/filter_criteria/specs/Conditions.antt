@@ -43,6 +43,7 @@ abbrev pub usage_number : FilterUsage → ℤ
 usage_number Discovery = pos 1
 usage_number Conditional = pos 2
 
+-- Both uses of a filter, in the order of their numbers.
 abbrev pub all_usages : List FilterUsage
 all_usages = Discovery ∷ Conditional ∷ []
 
@@ -50,6 +51,7 @@ all_usages = Discovery ∷ Conditional ∷ []
 abbrev pub usage_numbered : ℤ → Option FilterUsage
 usage_numbered z = find (λ usage. int_eq (usage_number usage) z) all_usages
 
+-- The use that a value stands for as a number.
 abbrev pub read_usage : Data → Option FilterUsage
 read_usage d = option_and_then usage_numbered (as_number d)
 
@@ -76,6 +78,7 @@ pub record ConditionRow : Type 0 where
 abbrev pub condition_row : List ℕ → Sort → ConditionRow
 condition_row name sort = record { name = name; sort = sort }
 
+-- The short name and the sort of each condition (TS-0004, 8.2.5).
 abbrev pub row_of_condition : Condition → ConditionRow
 row_of_condition CreatedAfter = condition_row (codes "cra") Moment
 row_of_condition CreatedBefore = condition_row (codes "crb") Moment
@@ -99,9 +102,11 @@ all_conditions =
     ModifiedSince ∷ StateTagBigger ∷ StateTagSmaller ∷ SizeAbove ∷ SizeBelow ∷ OneType ∷
     UnmodifiedSince ∷ []
 
+-- The short name of a condition (TS-0004, 8.2.5).
 abbrev pub name_of_condition : Condition → List ℕ
 name_of_condition condition = (row_of_condition condition).name
 
+-- The sort of value that a condition takes.
 abbrev pub sort_of_condition : Condition → Sort
 sort_of_condition condition = (row_of_condition condition).sort
 
@@ -169,7 +174,7 @@ filter_field UnmodifiedSince = field_by (λ f. f.us) (λ at f. record f { us = a
 abbrev pub asked_of : (condition : Condition) → FilterParts → ValueOf (sort_of_condition condition)
 asked_of condition f = (filter_field condition).value f
 
--- it holds of what the filter has of each condition
+-- The relation holds of what the filter has of each condition.
 abbrev pub OfEachCondition : ((sort : Sort) → ValueOf sort → Type 0) → FilterParts → Type 0
 OfEachCondition Holds f =
     AllByRecursion (λ condition. Holds (sort_of_condition condition) (asked_of condition f))

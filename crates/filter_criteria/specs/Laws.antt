@@ -20,6 +20,7 @@ are_labels labels = list_all is_label_text labels
 abbrev pub are_type_numbers : List ℕ → Bool
 are_type_numbers types = list_all is_type_number types
 
+-- The labels and the types of a filter are of their kinds.
 abbrev pub are_fit_conditions : FilterParts → Bool
 are_fit_conditions f = are_labels f.lbl && are_type_numbers f.ty
 
@@ -44,7 +45,7 @@ abbrev pub WrittenFiltersAreFilters : Type 0
 WrittenFiltersAreFilters =
     (f : FilterParts) → IsFilterOfKinds f → IsTrue (is_filter (written_filter f))
 
--- and is read as that filter
+-- What is written of a filter is read as that filter.
 abbrev pub FiltersAreReadBack : Type 0
 FiltersAreReadBack =
     (f : FilterParts) → IsFilterOfKinds f → filter_in (members_in (written_filter f)) ≡ f

@@ -28,6 +28,7 @@ read_type_number d = where_it is_type_number (as_count d)
 abbrev pub NamedValue : Type 0
 NamedValue = List ℕ × Option Data
 
+-- The entry of a name, where a value is to stand there.
 abbrev pub entry_there : NamedValue → Option Entry
 entry_there row = option_map (λ d. (row.0, d)) row.1
 
@@ -35,13 +36,16 @@ entry_there row = option_map (λ d. (row.0, d)) row.1
 abbrev pub present : List NamedValue → List Entry
 present rows = filter_map entry_there rows
 
+-- The object of those members that are there.
 abbrev pub object_of : List NamedValue → Data
 object_of rows = object (pairs_of (present rows))
 
 -- ---- what is written of a part
 
+-- A count is written as a JSON number.
 abbrev pub count_data : ℕ → Data
 count_data n = number (pos n)
 
+-- A moment is written as a JSON text that holds its timestamp (TS-0004, 6.3.3).
 abbrev pub moment_data : ℕ → Data
 moment_data at = text (timestamp at)

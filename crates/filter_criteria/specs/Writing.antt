@@ -28,8 +28,11 @@ written_of_sort Use usage = option_map (λ u. number (usage_number u)) usage
 abbrev pub condition_value : FilterParts → Condition → Option Data
 condition_value f condition = written_of_sort (sort_of_condition condition) (asked_of condition f)
 
+-- A condition's short name with what is written of it.
 abbrev pub written_condition : FilterParts → Condition → NamedValue
 written_condition f condition = (name_of_condition condition, condition_value f condition)
 
+-- The JSON object that a filter is written as: the conditions that are given, in byte order of
+-- their names (TS-0004, 8.2.5).
 abbrev pub written_filter : FilterParts → Data
 written_filter f = object_of (map (written_condition f) all_conditions)

@@ -1,11 +1,10 @@
 -- The frame of a reply is sound, so that it is read back from its text.
-use Rattle.std.proofs.Common.{◌≡◌, ℕ, zero, suc, ◌*◌, ◌<◌, ◌≤◌, ◌^◌, Bool, true, false, ◌&&◌, leb, ltb, List, [], ◌∷◌, ◌++◌, length, codes, Option, Some, None, IsTrue, IfSome, refl, sym, ap, subst, ◌∙◌, arith}
+use Rattle.std.proofs.Common.{◌≡◌, ℕ, zero, suc, ◌*◌, ◌<◌, ◌≤◌, ◌^◌, Bool, true, false, ◌&&◌, leb, List, [], ◌∷◌, ◌++◌, length, codes, Option, Some, None, IsTrue, IfSome, refl, sym, ap, subst, ◌∙◌, arith}
 use Rattle.std.specs.Prelude.{All}
 use Rattle.std.specs.Fmt.{decimal}
 use Rattle.std.specs.Char.{is_ascii_graphic}
-use Rattle.m2m_names.specs.Name.{is_filled}
-use Rattle.std.specs.List.{list_all, flat_map}
-use Rattle.std.proofs.lemmas.Bool.{and_parts, leb-true, cond-true}
+use Rattle.std.specs.List.{flat_map}
+use Rattle.std.proofs.lemmas.Bool.{leb-true, cond-true}
 use Rattle.std.proofs.lemmas.Bool.Decides.{Decides-below_and}
 use Rattle.std.proofs.lemmas.Fmt.{decimal_is_IsNumeral, length-decimal-le}
 use Rattle.std.proofs.lemmas.List.{length-append}
@@ -33,6 +32,7 @@ use Rattle.http_binding.specs.Replying.{body_of, content_lines, id_lines, close_
 use Rattle.http_binding.specs.MediaTypes.{json_type}
 use Rattle.http_binding.specs.Laws.{IsWithinLimits}
 use Rattle.http_binding.proofs.GraphicLemmas.{line_is, decimal_graphic, length_is}
+use Rattle.m2m_names.proofs.NameLemmas.{printable_parts}
 
 -- a line of the grammar, and not long
 abbrev IsShortLine : Line → Type 0
@@ -64,9 +64,8 @@ short_id : (id : Option (List ℕ)) → IfSome id (λ t. IsTrue (is_request_id t
 unfolding is_token_byte
 short_id None h = All-nil IsShortLine
 short_id (Some id) h =
-    let parts = and_parts (is_filled request_id_limit id) (list_all is_ascii_graphic id) h in
-    let short = leb-true (length id) 128 (and_parts (ltb 0 (length id)) _ parts.0).1 in
-    All-cons IsShortLine (field_name Id, id) [] (short_line (field_name Id) id refl (omega arith) (AllPass-from_list_all is_ascii_graphic id parts.1) short) (All-nil IsShortLine)
+    let parts = printable_parts request_id_limit id h in
+    All-cons IsShortLine (field_name Id, id) [] (short_line (field_name Id) id refl (omega arith) (AllPass-from_list_all is_ascii_graphic id parts.graphic) parts.filled.most) (All-nil IsShortLine)
 
 short_type : (content : Option Data) → All IsShortLine (content_lines None content)
 unfolding is_token_byte

@@ -10,8 +10,7 @@ use Rattle.std.proofs.lemmas.Bool.{and_parts, false≢true}
 use Rattle.m2m_names.specs.Name.{is_filled, is_originator, originator_limit}
 use Rattle.m2m_names.specs.StampReading.{moment_at}
 use Rattle.m2m_names.specs.Types.{is_type_number}
-use Rattle.m2m_names.proofs.NameLemmas.{graphic_is_utf8}
-use Rattle.m2m_names.proofs.NameLemmas.{graphic_is_utf8 as id_is_utf8}
+use Rattle.m2m_names.proofs.NameLemmas.{printable_is_utf8}
 use Rattle.m2m_names.proofs.StampReadingLemmas.{read_last}
 use Rattle.m2m_names.specs.declared.operations.Op.{Op}
 use Rattle.m2m_names.specs.declared.operations.Op.TheVariants.{Create, Retrieve, Update, Notify, Delete as Removal}
@@ -40,7 +39,7 @@ use Rattle.http_binding.specs.declared.headers.Field.{Field}
 use Rattle.http_binding.specs.declared.headers.Field.TheVariants.{Origin, Id, Expiry, ContentType, ContentEncoding}
 use Rattle.http_binding.specs.declared.method.Method.{Method}
 use Rattle.http_binding.specs.declared.method.Method.TheVariants.{Get, Post, Put, Delete}
-use Rattle.http_binding.specs.Headers.{field_name, admits, is_some_text}
+use Rattle.http_binding.specs.Headers.{field_name, admits_value, is_some_text}
 use Rattle.http_binding.specs.MediaTypes.{TypeNumber, type_said, type_number, is_short_number}
 use Rattle.http_target.specs.Targets.{PathAndQuery, TargetValues, target_parts, target_values, is_target}
 use Rattle.http_target.proofs.QueryLemmas.{reads, IsSaid, said_on, nothing_is_said, filter_sound, filter_kinds, IsSaidFilter}
@@ -80,11 +79,11 @@ targets (Answer status minor) target h = absurd (false≢true (ap is_ok h))
 -- ---- the fields
 
 -- the only value of a field is one that it admits
-admitted : (field : Field) (values : List (List ℕ)) (value : List ℕ) → lone_value field values ≡ Ok (Some value) → admits field value ≡ true
+admitted : (field : Field) (values : List (List ℕ)) (value : List ℕ) → lone_value field values ≡ Ok (Some value) → admits_value field value ≡ true
 admitted field [] value h = absurd (false≢true (ap (λ r. is_some (result_unwrap_or r None)) h))
 admitted field (v ∷ []) value h =
-    let p = passed (admits field v) (Some v) (Some value) _ h in
-    subst (λ t. admits field t ≡ true) (ap (λ (o : Option (List ℕ)). elim o [ None ↦ v | Some t ↦ t ]) p.1) p.0
+    let p = passed (admits_value field v) (Some v) (Some value) _ h in
+    subst (λ t. admits_value field t ≡ true) (ap (λ (o : Option (List ℕ)). elim o [ None ↦ v | Some t ↦ t ]) p.1) p.0
 admitted field (v ∷ next ∷ values) value h = absurd (false≢true (ap is_ok h))
 
 -- a value that has to be there is there
@@ -104,13 +103,13 @@ named_by_test : (o : List ℕ) (some : Bool) → (some ≡ true → is_originato
 named_by_test o true one = one refl
 named_by_test o false one = tt
 
-named_by : (value : Option (List ℕ)) → IfSome value (λ o. admits Origin o ≡ true) → IsNamed (unless_empty value)
+named_by : (value : Option (List ℕ)) → IfSome value (λ o. admits_value Origin o ≡ true) → IsNamed (unless_empty value)
 named_by None one = tt
 named_by (Some o) one = named_by_test o (is_some_text o) (implied (is_some_text o) (is_originator o) one)
 
 -- what the lines say of a field is what it admits
 admitted_any : (field : Field) (lines : List Line) (value : Option (List ℕ)) → header_value field lines ≡ Ok value
-    → IfSome value (λ v. admits field v ≡ true)
+    → IfSome value (λ v. admits_value field v ≡ true)
 admitted_any field lines None h = tt
 admitted_any field lines (Some v) h = admitted field (values_named (field_name field) lines) v h
 
@@ -139,7 +138,7 @@ short_said None h = tt
 short_said (Some None) h = tt
 short_said (Some (Some n)) h = h
 
-short_value : (value : Option (List ℕ)) → IfSome value (λ v. admits (ContentType Post) v ≡ true) → IsShort (option_and_then type_number value)
+short_value : (value : Option (List ℕ)) → IfSome value (λ v. admits_value (ContentType Post) v ≡ true) → IsShort (option_and_then type_number value)
 short_value None h = tt
 short_value (Some v) h = short_said (type_said v) h
 
@@ -357,14 +356,14 @@ echo_is_id frame request h =
 -- what a caller has is what a request keeps
 text_utf8 : (text : Option (List ℕ)) → IfSome text (λ o. is_originator o ≡ true) → IfSome text IsUtf8
 text_utf8 None one = tt
-text_utf8 (Some o) one = graphic_is_utf8 o (and_parts (is_filled originator_limit o) _ one).1
+text_utf8 (Some o) one = printable_is_utf8 originator_limit o one
 
 pub originator_utf8 : (method : Method) (lines : List Line) (caller : Caller) → caller_of method lines ≡ Ok caller → IfSome caller.originator IsUtf8
 originator_utf8 method lines caller h = text_utf8 caller.originator (is_caller method lines caller h).originator
 
 pub id_utf8 : (method : Method) (lines : List Line) (caller : Caller) → caller_of method lines ≡ Ok caller → IsUtf8 caller.id
 id_utf8 method lines caller h =
-    id_is_utf8 caller.id (and_parts (is_filled request_id_limit caller.id) _ (is_caller method lines caller h).id).1
+    printable_is_utf8 request_id_limit caller.id (is_caller method lines caller h).id
 
 sound_when : (when : When) → IsTimely when → IsSoundWhen when
 sound_when (At at) h = h.0

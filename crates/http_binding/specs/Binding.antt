@@ -28,12 +28,14 @@ use Rattle.http_binding.specs.declared.headers.Field.TheVariants.{Origin, Id, Ex
 use Rattle.http_binding.specs.declared.headers.Field.TheVariants.{ContentEncoding}
 use Rattle.http_binding.specs.declared.method.Method.{Method}
 use Rattle.http_target.specs.declared.query.Query.{Query}
-use Rattle.http_binding.specs.Headers.{field_name, admits, is_some_text}
+use Rattle.http_binding.specs.Headers.{field_name, admits_value, is_some_text}
 use Rattle.http_binding.specs.MediaTypes.{type_number}
 use Rattle.http_binding.specs.Methods.{method_named, operation_of}
 
 -- ---- the start line
 
+-- The method of a start line: one of those that are served, else the fault of the method. The start
+-- line of a response has none (TS-0009, 6.2.1).
 abbrev pub method_of : Start → Result Method BindFault
 method_of (Ask name target minor) =
     option_map_or (λ method. Ok method) (method_named name) (Err bind.Method)
@@ -41,11 +43,12 @@ method_of (Answer status minor) = Err bind.Method
 
 -- ---- the header lines
 
--- of the values of a field: none, or the only one, which the field admits
+-- The only value of a field, which the field has to admit; none where the field has no value. With
+-- more than one the field is at fault.
 abbrev pub lone_value : Field → List (List ℕ) → Result (Option (List ℕ)) BindFault
 lone_value field [] = Ok None
 lone_value field (value ∷ []) =
-    if admits field value then Ok (Some value) else Err (bind.Header (field_name field))
+    if admits_value field value then Ok (Some value) else Err (bind.Header (field_name field))
 lone_value field (value ∷ next ∷ values) = Err (bind.Header (field_name field))
 
 -- what the lines say of a field (TS-0009, 6.4; RFC 9110, section 5.3)
@@ -110,6 +113,8 @@ value_in (Err why) = Err (bind.Body why)
 abbrev pub object_only : Data → Result (Option Data) BindFault
 object_only value = if is_some (as_object value) then Ok (Some value) else Err (bind.Body NotJson)
 
+-- The content that a body is: its JSON value, which has to be an object. An empty body is refused,
+-- since the content is missing (TS-0009, 6.5).
 abbrev pub content_in : List ℕ → Result (Option Data) BindFault
 content_in body =
     if is_some_text body then and_then (value_in (reading body)) object_only

@@ -49,9 +49,9 @@ is_some_text text = nat_lt 0 (length text)
 
 -- the values that a field may have: an originator or nothing, a request identifier, a timestamp or
 -- digits, a type of content as the method has it, and the coding `identity`
-abbrev pub admits : Field → List ℕ → Bool
-admits Origin value = not (is_some_text value) || is_originator value
-admits Id value = is_request_id value
-admits Expiry value = is_some (expiry_spelled value)
-admits (ContentType method) value = admits_type method value
-admits ContentEncoding value = bytes_eq value (codes "identity")
+abbrev pub admits_value : Field → List ℕ → Bool
+admits_value Origin value = not (is_some_text value) || is_originator value
+admits_value Id value = is_request_id value
+admits_value Expiry value = is_some (expiry_spelled value)
+admits_value (ContentType method) value = admits_type method value
+admits_value ContentEncoding value = bytes_eq value (codes "identity")

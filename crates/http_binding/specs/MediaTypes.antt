@@ -13,6 +13,7 @@ use Rattle.http_frames.specs.Lines.{is_same_name}
 use Rattle.http_binding.specs.declared.method.Method.{Method}
 use Rattle.http_binding.specs.declared.method.Method.TheVariants.{Get, Post, Put, Delete}
 
+-- The byte is a space.
 abbrev pub is_space : ℕ → Bool
 is_space b = b == 32
 
@@ -20,9 +21,11 @@ is_space b = b == 32
 abbrev pub behind_spaces : List ℕ → List ℕ
 behind_spaces text = drop (prefix_len is_space text) text
 
+-- The text without the spaces at its end.
 abbrev pub before_spaces : List ℕ → List ℕ
 before_spaces text = take (length text - suffix_len is_space text) text
 
+-- The text without the spaces at both of its ends.
 abbrev pub between_spaces : List ℕ → List ℕ
 between_spaces text = before_spaces (behind_spaces text)
 
@@ -49,6 +52,7 @@ media_types =
     json_type ∷ codes "application/vnd.onem2m-res+json" ∷ codes "application/vnd.onem2m-ntfy+json"
     ∷ []
 
+-- The text is one of the media types that a content may have.
 abbrev pub is_media_type : List ℕ → Bool
 is_media_type text = list_any (is_same_name text) media_types
 

@@ -16,6 +16,7 @@ pub record MethodRow : Type 0 where
   pub typed : Op
   pub plain : Op
 
+-- The row of a method by its name and its two operations.
 abbrev pub method_row : List ℕ → Op → Op → MethodRow
 method_row name typed plain = record { name = name; typed = typed; plain = plain }
 
@@ -30,6 +31,7 @@ row_of_method Delete = method_row (codes "DELETE") ops.Delete ops.Delete
 abbrev pub all_methods : List Method
 all_methods = Get ∷ Post ∷ Put ∷ Delete ∷ []
 
+-- The name of a method, as a start line writes it (RFC 9110, section 9).
 abbrev pub name_of_method : Method → List ℕ
 name_of_method method = (row_of_method method).name
 
@@ -42,6 +44,7 @@ abbrev pub operation_of : Method → Option ℕ → Op
 operation_of method type =
     if is_some type then (row_of_method method).typed else (row_of_method method).plain
 
+-- The two operations are one, by their numbers.
 abbrev pub is_operation : Op → Op → Bool
 is_operation op other = int_eq (op_row op).number (op_row other).number
 

@@ -44,8 +44,8 @@ impl Field {
         }
     }
 
-    fn admits(self, value: &[u8]) -> bool
-        ensures { result ≡ spec.admits self value.now }
+    fn admits_value(self, value: &[u8]) -> bool
+        ensures { result ≡ spec.admits_value self value.now }
     {
         match self {
             Field::Origin => value.is_empty() || is_originator(value),
@@ -95,7 +95,7 @@ impl Field {
     {
         match found {
             Found::Absent => Ok(None),
-            Found::One(value) if self.admits(value) => Ok(Some(value)),
+            Found::One(value) if self.admits_value(value) => Ok(Some(value)),
             Found::One(_) | Found::Repeated => Err(self.malformed(alloc)),
         }
     }

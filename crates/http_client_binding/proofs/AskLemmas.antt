@@ -3,13 +3,13 @@ use Rattle.std.proofs.Common.{◌≡◌, ℕ, ◌+◌, ◌<◌, ◌≤◌, ◌^�
 use Rattle.std.specs.Prelude.{All}
 use Rattle.std.specs.Fmt.{decimal}
 use Rattle.std.specs.Char.{is_ascii_graphic}
-use Rattle.std.specs.List.{AllByRecursion, list_all}
-use Rattle.std.proofs.lemmas.Bool.{and_parts, cond-true}
+use Rattle.std.specs.List.{AllByRecursion}
+use Rattle.std.proofs.lemmas.Bool.{cond-true}
 use Rattle.std.proofs.lemmas.Fmt.{decimal_is_IsNumeral}
 use Rattle.std.proofs.lemmas.List.Elements.{All-nil, All-cons, All-append}
 use Rattle.std.proofs.lemmas.List.Sums.{AllPass-from_list_all}
 use Rattle.httparse.specs.Grammar.{AllPass, IsToken, is_token_byte}
-use Rattle.m2m_names.specs.Name.{is_filled, is_originator, originator_limit}
+use Rattle.m2m_names.specs.Name.{is_originator, originator_limit}
 use Rattle.m2m_names.specs.Stamps.{timestamp, IsTimestamp}
 use Rattle.m2m_names.specs.declared.operations.Op.{Op}
 use Rattle.m2m_names.specs.declared.operations.Op.TheVariants.{Create, Retrieve, Update, Notify, Delete as Removal}
@@ -43,6 +43,7 @@ use Rattle.http_client_binding.specs.Asking.{target_text, host_field, origin_lin
 use Rattle.http_client_binding.specs.TargetWriting.{host_of}
 use Rattle.http_client_binding.specs.Laws.{IsSendable}
 use Rattle.http_client_binding.proofs.UrlLemmas.{host_passes}
+use Rattle.m2m_names.proofs.NameLemmas.{printable_parts}
 
 -- ---- timestamps
 
@@ -59,13 +60,13 @@ origin_is : (fr : Option (List ℕ)) → IfSome fr (λ s. IsTrue (is_originator 
 unfolding is_token_byte
 origin_is None h = All-nil IsLine
 origin_is (Some s) h =
-    let all = (and_parts (is_filled originator_limit s) (list_all is_ascii_graphic s) h).1 in
+    let all = (printable_parts originator_limit s h).graphic in
     All-cons IsLine (origin_field, s) [] (line_is origin_field s refl (AllPass-from_list_all is_ascii_graphic s all)) (All-nil IsLine)
 
 id_is : (rqi : List ℕ) → IsTrue (is_request_id rqi) → All IsLine (id_lines (Some rqi))
 unfolding is_token_byte
 id_is rqi h =
-    let all = (and_parts (is_filled request_id_limit rqi) (list_all is_ascii_graphic rqi) h).1 in
+    let all = (printable_parts request_id_limit rqi h).graphic in
     All-cons IsLine (id_field, rqi) [] (line_is (id_field) rqi refl (AllPass-from_list_all is_ascii_graphic rqi all)) (All-nil IsLine)
 
 expiry_graphic : (when : When) → IsWhenOfKind when → AllPass is_ascii_graphic (expiry_text when)

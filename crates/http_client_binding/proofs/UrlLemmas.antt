@@ -1,6 +1,5 @@
 -- The bytes of a URL.
-use Rattle.std.proofs.Common.{◌≡◌, ℕ, ◌+◌, ◌≤◌, Bool, true, ◌&&◌, ◌==◌, nat_le, not, List, [], ◌∷◌, ◌++◌, length, codes, IsTrue, refl, sym, ap, subst, arith}
-use Rattle.std.specs.Prelude.{All}
+use Rattle.std.proofs.Common.{◌≡◌, ℕ, ◌+◌, Bool, true, ◌==◌, not, List, [], ◌∷◌, ◌++◌, codes, IsTrue, refl, sym, subst, arith}
 use Rattle.std.specs.Int.{is_in_range}
 use Rattle.std.specs.List.{list_all}
 use Rattle.std.specs.Str.Parse.{digits_value}
@@ -10,11 +9,12 @@ use Rattle.std.proofs.lemmas.List.Elements.{All-nil, All-cons, All-append, All-d
 use Rattle.std.proofs.lemmas.List.Sums.{AllPass-from_list_all}
 use Rattle.httparse.specs.Grammar.{AllPass}
 use Rattle.http_uri.specs.ByteClasses.{slash, index_of}
-use Rattle.m2m_names.specs.Name.{is_filled}
-use Rattle.m2m_names.specs.Urls.{is_host_byte, is_rest_byte, is_host, is_port_number, is_port, is_path, IsUrl}
+use Rattle.m2m_names.specs.Name.{is_filled, is_decimal}
+use Rattle.m2m_names.specs.Urls.{is_host_byte, is_rest_byte, is_port_number, is_port, is_path, port_digits_limit}
 use Rattle.std.specs.Char.{is_ascii_digit, is_ascii_graphic}
 use Rattle.primitive_json.specs.Notes.{IsSomeUrl}
 use Rattle.http_client_binding.specs.TargetWriting.{behind_scheme, host_of}
+use Rattle.m2m_names.proofs.NameLemmas.{decimal_parts}
 
 -- each byte is printable
 host_graphic : (b : ℕ) → is_host_byte b ≡ true → IsTrue (is_ascii_graphic b)
@@ -37,8 +37,8 @@ port_passes : (port : List ℕ) → IsTrue (is_port port) → AllPass is_ascii_g
 port_passes [] h = All-nil (λ b. IsTrue (is_ascii_graphic b))
 port_passes (b ∷ digits) h =
     let parts = and_parts (b == 58) (is_port_number digits) h in
-    let inner = and_parts (is_filled 5 digits && list_all is_ascii_digit digits) (is_in_range 1 65_535 (digits_value 10 digits)) parts.1 in
-    let all = (and_parts (is_filled 5 digits) (list_all is_ascii_digit digits) inner.0).1 in
+    let inner = and_parts (is_decimal port_digits_limit digits) (is_in_range 1 65_535 (digits_value 10 digits)) parts.1 in
+    let all = (decimal_parts port_digits_limit digits inner.0).digits in
     All-cons (λ c. IsTrue (is_ascii_graphic c)) b digits (one_graphic 58 b refl parts.0) (all_graphic is_ascii_digit digit_graphic digits all)
 
 path_passes : (path : List ℕ) → IsTrue (is_path path) → AllPass is_ascii_graphic path

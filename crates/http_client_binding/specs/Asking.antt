@@ -34,6 +34,7 @@ abbrev pub origin_lines : Option (List ℕ) → List Line
 origin_lines None = []
 origin_lines (Some originator) = (origin_field, originator) ∷ []
 
+-- The line that says when the request expires, where that is said (TS-0009, 6.4).
 abbrev pub expiry_lines : Option When → List Line
 expiry_lines None = []
 expiry_lines (Some when) = (expiry_field, expiry_text when) ∷ []
@@ -44,7 +45,7 @@ caller_lines r url =
     (host_field, host_of url)
     ∷ (origin_lines r.fr ++ (id_lines (Some r.rqi) ++ expiry_lines r.rqet))
 
--- those that speak of the body, and of the connection, which closes behind the reply
+-- The header lines that speak of the body, and of the connection, which closes behind the reply.
 abbrev pub ending_lines : RequestParts → List Line
 ending_lines r = body_lines (created_type r.op r.ty) r.pc true
 

@@ -31,14 +31,18 @@ use Rattle.http_target.specs.Queries.{Pair}
 
 -- ---- the texts of values
 
+-- A condition on a moment has its timestamp as its one text, where the condition is given.
 abbrev pub moment_texts : Option ℕ → List (List ℕ)
 moment_texts None = []
 moment_texts (Some at) = timestamp at ∷ []
 
+-- A condition on a count has its decimal digits as its one text, where the condition is given.
 abbrev pub count_texts : Option ℕ → List (List ℕ)
 count_texts None = []
 count_texts (Some n) = decimal n ∷ []
 
+-- A parameter that is a whole number has its digits, with its sign, as its one text, where the
+-- parameter is given.
 abbrev pub whole_texts : Option ℤ → List (List ℕ)
 whole_texts None = []
 whole_texts (Some z) = signed_decimal z ∷ []
@@ -51,6 +55,7 @@ texts_of_sort Labels labels = labels
 texts_of_sort Types types = map decimal types
 texts_of_sort Use usage = whole_texts (option_map usage_number usage)
 
+-- The texts of one condition of a filter.
 abbrev pub condition_texts : FilterParts → Condition → List (List ℕ)
 condition_texts f condition =
     texts_of_sort (sort_of_condition condition) (asked_of condition f)
@@ -61,6 +66,7 @@ condition_texts f condition =
 abbrev pub pairs_at : List ℕ → List (List ℕ) → List Pair
 pairs_at key texts = map (λ text. (key, text)) texts
 
+-- The pairs of one condition: its short name with each of its texts.
 abbrev pub condition_pairs : FilterParts → Condition → List Pair
 condition_pairs f condition = pairs_at (name_of_condition condition) (condition_texts f condition)
 
@@ -71,6 +77,7 @@ written_order =
     StateTagBigger ∷ ExpireBefore ∷ ExpireAfter ∷ OneLabel ∷ OneType ∷ SizeAbove ∷ SizeBelow ∷
     Usage ∷ Limit ∷ []
 
+-- The pairs of all conditions of a filter, in the order in which they are written.
 abbrev pub filter_pairs : Option FilterParts → List Pair
 filter_pairs None = []
 filter_pairs (Some f) = flat_map (condition_pairs f) written_order

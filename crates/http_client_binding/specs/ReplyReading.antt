@@ -27,7 +27,7 @@ is_code_text text = (length text == 4) && list_all is_ascii_digit text
 abbrev pub code_spelled : List ℕ → Option Rsc
 code_spelled text = if is_code_text text then rsc_of_number (digits_value 10 text) else None
 
--- of the values of the field: the status code of the only one
+-- The status code of the only value of the field; none where there is no value, or more than one.
 abbrev pub lone_code : List (List ℕ) → Option Rsc
 lone_code [] = None
 lone_code (value ∷ []) = code_spelled value
@@ -43,7 +43,7 @@ code_in lines =
 abbrev pub some_content : List ℕ → Result (Option Data) BindFault
 some_content body = and_then (value_in (reading body)) (λ value. Ok (Some value))
 
--- and an empty body is none
+-- The content that a body is: any JSON value, and none where the body is empty.
 abbrev pub content_said : List ℕ → Result (Option Data) BindFault
 content_said body = if is_some_text body then some_content body else Ok None
 

@@ -21,6 +21,7 @@ host_of url = split_once_front slash (behind_scheme url)
 abbrev pub path_and_query_of : List ℕ → List ℕ
 path_and_query_of url = drop (index_of slash (behind_scheme url)) (behind_scheme url)
 
+-- The path without a slash at its end.
 abbrev pub without_last_slash : List ℕ → List ℕ
 without_last_slash path =
     if slice_index path (length path - 1) == slash then take (length path - 1) path else path

@@ -23,6 +23,12 @@ unwrap_now : (r : Option (Bor (List ℕ))) (d : Bor (List ℕ)) → (unwrap_or r
 unwrap_now None d = refl
 unwrap_now (Some s) d = refl
 
+-- a number of three digits is a status
+status_parts : (n : ℕ) → (leb 100 n && ltb n 1000) ≡ true → IsStatusCode n
+status_parts n inside =
+    let parts = and_parts (leb 100 n) (ltb n 1000) inside in
+    (leb-true 100 n parts.0, ltb-true n 1000 parts.1)
+
 -- the phrase of a status
 pub phrase_there : (n : ℕ) (r : Option (Bor (List ℕ))) (d shown : Bor (List ℕ)) → IsStatusCode n
     → option_map (λ s. s.now) r ≡ reason_phrase n → d.now ≡ [] → shown ≡ unwrap_or r d → shown.now ≡ phrase_of n
@@ -36,9 +42,7 @@ pub phrase_not_there : (n : ℕ) → ¬ (IsStatusCode n) → [] ≡ phrase_of n
 unfolding phrase_of
 phrase_not_there n none =
     elim (cases_Bool (leb 100 n && ltb n 1000)) [
-      | inl inside ↦
-          let parts = and_parts (leb 100 n) (ltb n 1000) inside in
-          absurd (none (leb-true 100 n parts.0, ltb-true n 1000 parts.1))
+      | inl inside ↦ absurd (none (status_parts n inside))
       | inr outside ↦ sym (cond-false _ _ _ outside)
     ]
 
@@ -167,10 +171,9 @@ unfolding phrase_of
 phrase_valid status =
     elim (cases_Bool (leb 100 status && ltb status 1000)) [
       | inl inside ↦
-          let parts = and_parts (leb 100 status) (ltb status 1000) inside in
           let test = λ (k : ℕ). list_all is_value_byte (unwrap_or (reason_phrase k) []) in
           let below = (Decides-below_and test (λ k. test k ≡ true) phrases_below (λ k. (λ x. x, λ x. x)) refl (λ _. refl) 1000).0 refl
-          status (ltb-true status 1000 parts.1) in
+          status (status_parts status inside).1 in
           subst (λ (t : List ℕ). AllPass is_value_byte t) (sym (cond-true _ _ _ inside)) (AllPass-from_list_all is_value_byte _ below)
       | inr outside ↦ subst (λ (t : List ℕ). AllPass is_value_byte t) (sym (cond-false _ _ _ outside)) (All-nil (λ b. IsTrue (is_value_byte b)))
     ]

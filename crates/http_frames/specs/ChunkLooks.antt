@@ -61,7 +61,7 @@ pub record GoesOnBy (text : List ℕ) (start size : ℕ) : Type 0 where
   pub at : IsLineAt text start size
   pub ends : HasEnd (drop start text) size
 
--- It doesn't before so many bytes are there, and until then it may.
+-- No whole chunk goes on there before so many bytes are there, and until then one may.
 pub record WaitsForChunk (most : ℕ) (text : List ℕ) (need : ℕ) : Type 0 where
   pub more_wanted : length text < need
   pub most_wanted : need ≤ chunk_line_limit + most + 2

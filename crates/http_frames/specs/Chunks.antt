@@ -46,7 +46,7 @@ pub record IsChunked (carried body : List ℕ) : Type 0 where
   pub carried_is : carried ≡ chunks_text chunks ++ (print_chunk_line last ++ crlf_bytes)
   pub body_is : body ≡ chunks_body chunks
 
--- They are fewer bytes than a chunk line may have, and none is whole, but they may become one.
+-- The bytes are fewer than a chunk line may have, and none is whole, but they may become one.
 pub record LacksLine (text : List ℕ) : Type 0 where
   pub few : length text < chunk_line_limit
   pub none : HasNoChunkLine text
@@ -59,8 +59,8 @@ LacksEnd n part =
     (length part ≤ n)
     ⊎ ((data_of : List ℕ) × (length data_of ≡ n) × (part ≡ data_of ++ carriage_return ∷ []))
 
--- They are a chunk line that says that no more than so many bytes follow, and a front of what has
--- to follow.
+-- The bytes are a chunk line that says that no more than so many bytes follow, and a front of what
+-- has to follow.
 pub record LacksPart (most : ℕ) (text : List ℕ) : Type 0 where
   pub line : ChunkLine
   pub announced : ℕ

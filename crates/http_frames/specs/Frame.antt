@@ -15,7 +15,7 @@ use Rattle.http_frames.specs.Body.{framing_of, CarriesBody, carried_limit}
 abbrev pub head_limit : ℕ
 head_limit = 16384
 
--- and at most so many lines
+-- A head has at most so many lines.
 abbrev pub lines_limit : ℕ
 lines_limit = 64
 
@@ -24,7 +24,7 @@ abbrev pub body_limit : Side → ℕ
 body_limit Request = 65536
 body_limit Reply = 1048576
 
--- and on either side at most so many
+-- No body, of a request or of a reply, has more bytes than this.
 abbrev pub largest_body : ℕ
 largest_body = body_limit Reply
 

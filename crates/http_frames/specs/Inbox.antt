@@ -59,7 +59,7 @@ pub record GivesFrame
   pub few : length held < most_held side → length all < most_held side
   pub begins : BeginsWithFrame side all frame now
 
--- The same, and each read of the source was needed.
+-- A read gave the frame so, and each read of the source was needed.
 pub record GivesAsNeeded {S : Type 0}
     (side : Side) (left rest : Option (List ℕ)) (held now : List ℕ) (src after : S)
     (frame : Frame) : Type 0 where

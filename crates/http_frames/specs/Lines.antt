@@ -31,7 +31,7 @@ found_with Absent value = One value
 found_with (One first) value = Repeated
 found_with Repeated value = Repeated
 
--- the same with what its value stands for
+-- What is found, with what its value stands for in place of the value.
 abbrev pub found_as : {T : Type 0} → (T → List ℕ) → Found T → Found (List ℕ)
 found_as view Absent = Absent
 found_as view (One value) = One (view value)

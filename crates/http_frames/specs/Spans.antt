@@ -32,7 +32,7 @@ start_at bytes (Ask method target minor) =
     start.Ask (span_bytes bytes method) (span_bytes bytes target) minor
 start_at bytes (Answer status minor) = start.Answer status minor
 
--- they lie in the first n bytes
+-- The spans of a start line lie in the first n bytes.
 abbrev pub IsStartWithin : ℕ → StartSpans → Type 0
 IsStartWithin n (Ask method target minor) = IsWithin n method × IsWithin n target
 IsStartWithin n (Answer status minor) = ⊤
@@ -49,7 +49,7 @@ pub record IsHeadAt
   pub start_fits : IsStartWithin head.len head.start
   pub lines_fit : IsSectionWithin bytes headers head.len head.lines
 
--- It is a head within the limits.
+-- The spans are those of a head within the limits.
 pub record IsGoodHead
     (side : Side) (bytes : List ℕ) (headers : List HeaderSpan) (head : HeadSpans) : Type 0 where
   pub at : IsHeadAt side bytes headers head

@@ -23,7 +23,8 @@ BeginsWithFrames side stream (frame ∷ frames) rest =
     (after : List ℕ) × BeginsWithFrame side stream frame after
     × BeginsWithFrames side after frames rest
 
--- The same, and the rest begins with none.
+-- The stream is these frames one after another, and then a rest that begins with none (RFC 9112,
+-- section 9.3).
 abbrev pub Frames : Side → List ℕ → List Frame → List ℕ → Type 0
 Frames side stream frames rest =
     BeginsWithFrames side stream frames rest × HasNoFrame side rest

@@ -23,13 +23,13 @@ abbrev pub MayBecomeHead : Side → List ℕ → Type 0
 MayBecomeHead Request bytes = MayBecomeRequest bytes
 MayBecomeHead Reply bytes = MayBecomeResponse bytes
 
--- They are fewer than a head may have, and no head is whole, but they may become one.
+-- The bytes are fewer than a head may have, and no head is whole, but they may become one.
 pub record LackHead (side : Side) (bytes : List ℕ) : Type 0 where
   pub few : length bytes < head_limit
   pub none : HasNoHead side bytes
   pub may : MayBecomeHead side bytes
 
--- They are a head within the limits and a part of the body that its lines announce.
+-- The bytes are a head within the limits and a part of the body that its lines announce.
 pub record LackBody (side : Side) (bytes : List ℕ) : Type 0 where
   pub head : List ℕ
   pub part : List ℕ
@@ -42,8 +42,8 @@ pub record LackBody (side : Side) (bytes : List ℕ) : Type 0 where
   pub body_fits : announced ≤ body_limit side
   pub lacks : length part < announced
 
--- They are a head within the limits that announces chunks, whole chunks, and a front of the next or
--- of the end of the body, which stays within its limit.
+-- The bytes are a head within the limits that announces chunks, whole chunks, and a front of the
+-- next or of the end of the body, which stays within its limit.
 pub record LackChunk (side : Side) (bytes : List ℕ) : Type 0 where
   pub head : List ℕ
   pub part : List ℕ
@@ -99,8 +99,8 @@ WholeHeadsAreJudged =
     → IsLimitedHead side head start lines
     × AnnouncesBody (body_limit side) (framing_of start lines)
 
--- And where a chunk is wanted, bytes that begin with a whole chunk line only where that is within
--- the limit, and says that no more bytes follow than the body may still have.
+-- Where a chunk is wanted, bytes that begin with a whole chunk line are waited for only where that
+-- line is within the limit, and says that no more bytes follow than the body may still have.
 abbrev pub WholeLinesAreJudged : Type 0
 WholeLinesAreJudged =
     (most : ℕ) (line : ChunkLine) (rest : List ℕ) → IsChunkLine line

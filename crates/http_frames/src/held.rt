@@ -24,13 +24,13 @@ const ROOM: usize = HEAD_LIMIT + PIECE;
 /// the bytes that are given some stay in front of them, and some in the room until it is written to
 /// anew. In front there is no more than the longest head and a piece, and no more behind.
 #[derive(Debug, Drop)]
-pub(crate) struct Held {
+pub(crate) struct ReadBuffer {
     bytes: Vec<u8>,
     start: usize,
     end: usize,
 }
 
-impl Model for Held {
+impl Model for ReadBuffer {
     ghost use Rattle.std.specs.Prelude.{◌+◌, ◌≤◌, List, ℕ, length, take, drop};
     ghost use Rattle.http_frames.specs.Rooms.{room_limit};
 
@@ -136,11 +136,11 @@ fn read_behind<S: Source>(
     Ok(n)
 }
 
-impl Held {
-    pub(crate) fn new(alloc: Global) -> Result<Held, AllocError>
+impl ReadBuffer {
+    pub(crate) fn new(alloc: Global) -> Result<ReadBuffer, AllocError>
         ensures { IfOk result (λ held. held ≡ []) }
     {
-        Ok(Held {
+        Ok(ReadBuffer {
             bytes: Vec::with_capacity(alloc, ROOM)?,
             start: 0,
             end: 0,

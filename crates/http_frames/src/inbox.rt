@@ -12,8 +12,8 @@ ghost use Rattle.http_frames.specs.Waiting.{ReadsAsNeeded};
 ghost use Rattle.http_frames.specs.Settled.{IfSettled, OnSettledEnd, OnSettledNever, IsNoFrame};
 
 use crate::chunks::Walked;
-use crate::held::Held;
-use crate::look::{FrameSpans, LINES_LIMIT, Look, look_for_frame};
+use crate::held::ReadBuffer;
+use crate::look::{FrameSpans, FrameStatus, LINES_LIMIT, look_for_frame};
 use crate::parts::frame_of;
 use crate::rooms::Rooms;
 use crate::{Frame, FrameFault, Next, Side};
@@ -32,7 +32,7 @@ enum Settled {
 }
 
 /// What is settled once nothing comes any more, and the bytes held are no whole frame.
-fn settled_at_end(held: &Held) -> Settled
+fn settled_at_end(held: &ReadBuffer) -> Settled
     ensures end { result ≡ Settled.End → held.now ≡ [] }
     ensures never { result ≡ Settled.Never → held.now ≢ [] }
     ensures either { IsNoFrame result }
@@ -49,7 +49,7 @@ fn settled_at_end(held: &Held) -> Settled
 /// `walked`.
 #[tactic(auto, using(crate::proofs::LookLemmas::walked_none_yet))]
 fn settle<S: Source>(
-    held: &mut Held,
+    held: &mut ReadBuffer,
     src: &mut S,
     side: Side,
     headers: &mut [HeaderSpan],
@@ -74,9 +74,9 @@ fn settle<S: Source>(
     'reads: loop {
         let look = look_for_frame(side, held.bytes(), headers, walked)?;
         match look {
-            Look::Whole(spans) => return Ok(Settled::Whole(spans)),
-            Look::Never => return Ok(Settled::Never),
-            Look::Short(need) => {
+            FrameStatus::Whole(spans) => return Ok(Settled::Whole(spans)),
+            FrameStatus::Never => return Ok(Settled::Never),
+            FrameStatus::Short(need) => {
                 if !held.fill(src, need)? {
                     return Ok(settled_at_end(held));
                 }
@@ -87,7 +87,7 @@ fn settle<S: Source>(
 
 /// Takes the frame that the spans cover off the front.
 fn take_frame(
-    held: &mut Held,
+    held: &mut ReadBuffer,
     rooms: &mut Rooms,
     alloc: Global,
     headers: &[HeaderSpan],
@@ -107,7 +107,7 @@ fn take_frame(
 
 /// Reads what stands next. Where its lines are is written to `headers`.
 fn read_next<S: Source>(
-    held: &mut Held,
+    held: &mut ReadBuffer,
     rooms: &mut Rooms,
     headers: &mut [HeaderSpan],
     alloc: Global,
@@ -148,7 +148,7 @@ fn is_refusal(next: &Result<Next, FrameFault>) -> bool
 /// texts of frames and the places of their lines.
 #[derive(Debug, Drop)]
 pub struct Inbox {
-    held: Held,
+    held: ReadBuffer,
     refused: bool,
     rooms: Rooms,
     headers: [HeaderSpan; LINES_LIMIT],
@@ -170,7 +170,7 @@ impl Inbox {
         ensures refused { IfOk result (λ inbox. inbox.refused ≡ false) }
     {
         Ok(Inbox {
-            held: Held::new(alloc)?,
+            held: ReadBuffer::new(alloc)?,
             refused: false,
             rooms: Rooms::new(alloc),
             headers: [EMPTY_HEADER_SPAN; LINES_LIMIT],

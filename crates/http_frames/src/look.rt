@@ -41,7 +41,7 @@ pub(crate) struct FrameSpans {
 
 /// What stands at the front of the bytes.
 #[derive(Clone, Copy)]
-pub(crate) enum Look {
+pub(crate) enum FrameStatus {
     Whole(FrameSpans),
     /// No whole frame so far: until so many bytes are there, nothing is settled.
     Short(usize),
@@ -61,19 +61,25 @@ fn body_limit(side: Side) -> usize
 
 /// What frame has this head and a body of so many bytes.
 #[tactic(auto, using(crate::proofs::WaitLemmas::body_cases))]
-fn look_for_body(side: Side, bytes: &[u8], headers: &[HeaderSpan], head: HeadSpans, n: u64) -> Look
+fn look_for_body(
+    side: Side,
+    bytes: &[u8],
+    headers: &[HeaderSpan],
+    head: HeadSpans,
+    n: u64,
+) -> FrameStatus
     requires good { IsGoodHead side bytes.now headers.now head }
     requires framing { framing_at bytes.now headers.now head ≡ counted n }
     ensures { (body : List ℕ) → IsLook side bytes.now headers.now body result }
 {
     if n > body_limit(side) as u64 {
-        return Look::Never;
+        return FrameStatus::Never;
     }
     let end = head.len + n as usize;
     if bytes.len() < end {
-        return Look::Short(end);
+        return FrameStatus::Short(end);
     }
-    Look::Whole(FrameSpans {
+    FrameStatus::Whole(FrameSpans {
         start: head.start,
         lines: head.lines,
         body: head.len,
@@ -91,7 +97,7 @@ fn look_behind_chunks(
     head: HeadSpans,
     walked: &Walked,
     stop: Stop,
-) -> Look
+) -> FrameStatus
     requires behind { AreBehind side bytes.now headers.now head walked.now.at
         walked.now.body.items }
     requires stop { IsStop (body_limit side - length walked.now.body.items)
@@ -100,15 +106,15 @@ fn look_behind_chunks(
 {
     let at = head.len + walked.at;
     match stop {
-        Stop::End(start) => Look::Whole(FrameSpans {
+        Stop::End(start) => FrameStatus::Whole(FrameSpans {
             start: head.start,
             lines: head.lines,
             body: head.len,
             chunked: true,
             end: at + start + 2,
         }),
-        Stop::Short(need) => Look::Short(at + need),
-        Stop::Never => Look::Never,
+        Stop::Short(need) => FrameStatus::Short(at + need),
+        Stop::Never => FrameStatus::Never,
     }
 }
 
@@ -120,7 +126,7 @@ fn look_for_chunks(
     headers: &[HeaderSpan],
     head: HeadSpans,
     walked: &mut Walked,
-) -> Result<Look, AllocError>
+) -> Result<FrameStatus, AllocError>
     requires { AreBehind side bytes.now headers.now head walked.old.at walked.old.body.items }
     ensures walked { AreBehind side bytes.now headers.now head walked.new.at
         walked.new.body.items }
@@ -140,7 +146,7 @@ fn look_behind(
     headers: &[HeaderSpan],
     head: HeadSpans,
     walked: &mut Walked,
-) -> Result<Look, AllocError>
+) -> Result<FrameStatus, AllocError>
     requires good { IsGoodHead side bytes.now headers.now head }
     requires head { walked.old.head ≡ None }
     requires at { walked.old.at ≡ 0 }
@@ -150,7 +156,7 @@ fn look_behind(
     ensures look { IfOk result (IsLook side bytes.now headers.now walked.new.body.items) }
 {
     match coding_of(bytes, head.start, &headers[..head.lines]) {
-        None => Ok(Look::Never),
+        None => Ok(FrameStatus::Never),
         Some(Coding::Counted(n)) => Ok(look_for_body(side, bytes, headers, head, n)),
         Some(Coding::Chunked) => {
             walked.head = Some(head);
@@ -167,7 +173,7 @@ fn look_at_head(
     headers: &[HeaderSpan],
     head: HeadSpans,
     walked: &mut Walked,
-) -> Result<Look, AllocError>
+) -> Result<FrameStatus, AllocError>
     requires at_front { IsHeadAt side bytes.now headers.now head }
     requires room { length headers.now ≡ lines_limit }
     requires head { walked.old.head ≡ None }
@@ -178,7 +184,7 @@ fn look_at_head(
     ensures look { IfOk result (IsLook side bytes.now headers.now walked.new.body.items) }
 {
     if head.len > HEAD_LIMIT {
-        return Ok(Look::Never);
+        return Ok(FrameStatus::Never);
     }
     look_behind(side, bytes, headers, head, walked)
 }
@@ -192,7 +198,7 @@ fn look_from_start(
     bytes: &[u8],
     headers: &mut [HeaderSpan],
     walked: &mut Walked,
-) -> Result<Look, AllocError>
+) -> Result<FrameStatus, AllocError>
     requires room { length headers.old ≡ lines_limit }
     requires head { walked.old.head ≡ None }
     requires at { walked.old.at ≡ 0 }
@@ -202,12 +208,12 @@ fn look_from_start(
     ensures look { IfOk result (IsLook side bytes.now headers.new walked.new.body.items) }
 {
     if bytes.is_empty() {
-        return Ok(Look::Short(1));
+        return Ok(FrameStatus::Short(1));
     }
     match look_for_head(side, bytes, headers) {
         HeadLook::Whole(head) => look_at_head(side, bytes, headers, head, walked),
-        HeadLook::NotYet if bytes.len() < HEAD_LIMIT => Ok(Look::Short(bytes.len() + 1)),
-        HeadLook::NotYet | HeadLook::Never => Ok(Look::Never),
+        HeadLook::NotYet if bytes.len() < HEAD_LIMIT => Ok(FrameStatus::Short(bytes.len() + 1)),
+        HeadLook::NotYet | HeadLook::Never => Ok(FrameStatus::Never),
     }
 }
 
@@ -218,7 +224,7 @@ pub(crate) fn look_for_frame(
     bytes: &[u8],
     headers: &mut [HeaderSpan],
     walked: &mut Walked,
-) -> Result<Look, AllocError>
+) -> Result<FrameStatus, AllocError>
     requires room { length headers.old ≡ lines_limit }
     requires walked { IsWalked side bytes.now headers.old walked.old.head walked.old.at
         walked.old.body.items }

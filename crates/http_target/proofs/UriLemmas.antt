@@ -17,6 +17,7 @@ use Rattle.http_uri.proofs.UriLemmas.{cut_len, cut_rest, cut_authority, cut_tail
 use Rattle.http_target.specs.Laws.{IsUriWithPath, TargetsAreOfUris}
 use Rattle.http_target.specs.Targets.{PathAndQuery, split_target, target_parts, is_path_and_query, is_origin_form, is_absolute_form, is_tail, is_authority, has_scheme, hierarchy_of, authority_of, tail_of}
 use Rattle.http_target.proofs.AuthorityLemmas.{authorities_are_of_uris}
+use Rattle.m2m_names.proofs.NameLemmas.{starts_rest}
 
 -- ---- a path with its query
 
@@ -82,11 +83,8 @@ path_input text delimits short h =
 
 -- ---- the front of a text
 
-begins_with : (text front : List ℕ) → starts_with nat_eq text front ≡ true → text ≡ front ++ drop (length front) text
-begins_with text front h = (starts_is Decides-eqb text front (starts_with nat_eq text front) refl).0 h
-
 first_slash : (text : List ℕ) → starts_with nat_eq text (codes "/") ≡ true → get_or text 0 0 ≡ 47
-first_slash text h = ap (λ t. get_or t 0 0) (begins_with text (codes "/") h)
+first_slash text h = ap (λ t. get_or t 0 0) (starts_rest text (codes "/") h)
 
 slash_first : (text : List ℕ) → get_or text 0 0 ≡ 47 → starts_with nat_eq text (codes "/") ≡ true
 slash_first [] h = absurd (omega (arith, h))
@@ -124,17 +122,27 @@ tail_cut text kept (inr h) = sym (ap split_target h.2)
 
 -- ---- a target is such a URI
 
-origin_from : (target : List ℕ) (parts : PathAndQuery) → is_origin_form target ≡ true → split_target (without_fragment target) ≡ parts → IsUriWithPath target parts
-origin_from target parts h cut =
+-- a target of a path alone
+record IsPathAlone (target : List ℕ) : Type 0 where
+  slash : starts_with nat_eq target (codes "/") ≡ true
+  short : length target ≤ 65534
+  path : is_path_and_query (without_fragment target) ≡ true
+
+origin_parts : (target : List ℕ) → is_origin_form target ≡ true → IsPathAlone target
+origin_parts target h =
     let two = and_parts (starts_with nat_eq target (codes "/") && nat_le (length target) 65534) (is_path_and_query (without_fragment target)) h in
     let one = and_parts (starts_with nat_eq target (codes "/")) (nat_le (length target) 65534) two.0 in
-    let first = first_slash target one.0 in
-    let short = leb-true (length target) 65534 one.1 in
+    record { slash = one.0; short = leb-true (length target) 65534 one.1; path = two.1 }
+
+origin_from : (target : List ℕ) (parts : PathAndQuery) → is_origin_form target ≡ true → split_target (without_fragment target) ≡ parts → IsUriWithPath target parts
+origin_from target parts h cut =
+    let origin = origin_parts target h in
+    let first = first_slash target origin.slash in
     record {
       scheme = None;
       authority = None;
       kept = without_fragment target;
-      spells = (short, ((inr first, path_input target (ap is_delimiter first) short two.1), refl));
+      spells = (origin.short, ((inr first, path_input target (ap is_delimiter first) origin.short origin.path), refl));
       no_asterisk = λ star. omega (arith, sym first ∙ ap (λ t. get_or t 0 0) star);
       not_alone = λ e. refl;
       cut = sym cut;
@@ -152,7 +160,7 @@ absolute_from target parts h cut =
     let named = and_parts (nat_le n 64) (starts_with nat_eq (drop n target) (codes "://")) one.1 in
     let short = leb-true (length target) 65534 one.0 in
     let valid = (authorities_are_of_uris (authority_of target)).0 three.1 in
-    let marks : take 3 (drop n target) ≡ codes "://" = ap (take 3) (begins_with (drop n target) (codes "://") named.1) in
+    let marks : take 3 (drop n target) ≡ codes "://" = ap (take 3) (starts_rest (drop n target) (codes "://") named.1) in
     let few = leb-true n 64 named.0 in
     let room : 3 < length target = omega (arith, valid.nonempty, length-take end rest, length-drop (n + 3) target) in
     let name_short : length (take n target) ≤ 64 = omega (arith, length-take n target, few) in
@@ -218,10 +226,9 @@ absolute_to target parts scheme authority kept short h cut =
     and_from (nat_le (length target) 65534 && has_scheme target && is_tail (tail_of target)) (is_authority (authority_of target))
     (and_from (nat_le (length target) 65534 && has_scheme target) (is_tail (tail_of target))
     (and_from (nat_le (length target) 65534) (has_scheme target) (le-leb (length target) 65534 short) schemed) tailed) valid in
-    let front = starts_with nat_eq target (codes "/") in
     let no_origin = λ (o : is_origin_form target ≡ true).
     cut_first target scheme authority kept h
-    (first_slash target (and_parts front (nat_le (length target) 65534) (and_parts (front && nat_le (length target) 65534) (is_path_and_query (without_fragment target)) o).0).0) in
+    (first_slash target (origin_parts target o).slash) in
     at_absolute (is_origin_form target) (is_absolute_form target) (split_target (without_fragment target)) (split_target (without_fragment (tail_of target))) no_origin is
     ∙ ap Some (ap (λ t. split_target (without_fragment t)) tail_is ∙ tail_cut h.tail kept h.is_tail ∙ sym cut)
 

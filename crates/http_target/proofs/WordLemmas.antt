@@ -2,7 +2,7 @@
 use Rattle.std.proofs.Common.{◌≡◌, ℕ, ◌+◌, ◌==◌, suc, Bool, true, false, not, nat_lt, List, [], ◌∷◌, ◌++◌, length, drop, Some, None, is_some, unwrap_or, refl, sym, ap, ◌∙◌, arith, append_assoc}
 use Rattle.std.specs.Bool.{if◌then◌else◌}
 use Rattle.std.specs.List.{onto_first}
-use Rattle.std.proofs.lemmas.Bool.{false≢true, ltb-true, lt-ltb}
+use Rattle.std.proofs.lemmas.Bool.{false≢true, ltb-true, lt-ltb, not-true}
 use Rattle.std.proofs.lemmas.Bool.Decides.{nat_tests}
 use Rattle.std.proofs.lemmas.List.Splits.{slice_split_first, slice_split-cons_no}
 use Rattle.http_uri.specs.ByteClasses.{index_of, split_once_front, split_once_back}
@@ -40,15 +40,11 @@ not_first : (b : Bool) (n len : ℕ) → nat_lt (if b then 1 + n else 0) (suc le
 not_first true n len h = (refl, no_less n len h)
 not_first false n len h = absurd (false≢true (sym h ∙ lt-ltb 0 (suc len) (omega arith)))
 
-blank_is : (b : Bool) → not b ≡ true → b ≡ false
-blank_is true h = absurd (false≢true h)
-blank_is false h = refl
-
 one_word : (rest : List ℕ) → nat_lt (index_of 32 rest) (length rest) ≡ false → words_of rest ≡ rest ∷ []
 one_word [] h = refl
 one_word (b ∷ rest) h =
     let p = not_first (not (is_blank b)) (index_of 32 rest) (length rest) h in
-    slice_split-cons_no is_blank b rest (blank_is (is_blank b) p.0) ∙ ap (onto_first b) (one_word rest p.1)
+    slice_split-cons_no is_blank b rest (not-true (is_blank b) p.0) ∙ ap (onto_first b) (one_word rest p.1)
 
 pub word_last : (rest : List ℕ) (words all : List (List ℕ)) (text : List ℕ) → words ++ words_of rest ≡ words_of text
     → None ≡ split_once_back 32 rest → all ≡ words ++ rest ∷ [] → all ≡ words_of text

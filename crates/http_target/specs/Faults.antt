@@ -4,6 +4,8 @@ use Rattle.http_target.specs.declared.fault.BindFault.{BindFault}
 use Rattle.http_target.specs.declared.fault.BindFault.TheVariants.{Method, Target, Header, Missing}
 use Rattle.http_target.specs.declared.fault.BindFault.TheVariants.{Query, Body, OutOfMemory}
 
+-- The words that tell why an HTTP request binds to no oneM2M request (TS-0009, 6.2 to 6.5). They
+-- leave out the name of the header or key.
 abbrev pub bind_fault_text : BindFault → List ℕ
 bind_fault_text Method = codes "the method is not served"
 bind_fault_text Target = codes "the target is not served"

@@ -42,6 +42,7 @@ Pair = List ℕ × List ℕ
 abbrev pub decoded : List ℕ → List ℕ
 decoded bytes = utf8_lossy (form.decode bytes)
 
+-- The key and the value of a pair, both decoded.
 abbrev pub decoded_pair : Pair → Pair
 decoded_pair pair = (decoded pair.0, decoded pair.1)
 
@@ -55,6 +56,7 @@ decoded_pairs query = map decoded_pair (form.raw_pairs query)
 abbrev pub unread_keys : List (List ℕ)
 unread_keys = codes "da" ∷ codes "rp" ∷ []
 
+-- The key is accepted and never read.
 abbrev pub is_unread : List ℕ → Bool
 is_unread name = is_one_of unread_keys name
 
@@ -104,6 +106,7 @@ labels_spelled s = if list_all spells_label (words_of s) then Some (words_of s) 
 abbrev pub type_spelled : List ℕ → Option ℕ
 type_spelled s = where_it is_type_number (number_spelled s)
 
+-- The text spells the number of a type.
 abbrev pub is_type_text : List ℕ → Bool
 is_type_text s = is_some (type_spelled s)
 
@@ -161,15 +164,21 @@ with_condition condition s f = with_text (sort_of_condition condition) (filter_f
 abbrev pub nothing_said : Query
 nothing_said = record { rcn = None; rt = None; fc = None; drt = None }
 
+-- The query with this result content (`rcn`); none where it has one, or where there is no number.
 abbrev pub with_result : Option ℤ → Query → Option Query
 with_result number q = option_map (λ o. record q { rcn = o }) (placed q.rcn number)
 
+-- The query with this response type (`rt`); none where it has one, or where there is no number.
 abbrev pub with_response : Option ℤ → Query → Option Query
 with_response number q = option_map (λ o. record q { rt = o }) (placed q.rt number)
 
+-- The query with this form of addresses (`drt`); none where it has one, or where there is no
+-- number.
 abbrev pub with_form : Option ℤ → Query → Option Query
 with_form number q = option_map (λ o. record q { drt = o }) (placed q.drt number)
 
+-- The query with one more condition of its filter, by the text of its value; none where that can't
+-- be.
 abbrev pub with_filter : Condition → List ℕ → Query → Option Query
 with_filter condition s q =
     option_map (λ f. record q { fc = Some f })
@@ -187,7 +196,7 @@ with_key op (OfFilter condition) s q = if retrieves op then with_filter conditio
 abbrev pub said_more : Op → Pair → Query → Option Query
 said_more op pair q = option_and_then (λ key. with_key op key pair.1 q) (key_named pair.0)
 
--- the same, or the key of a pair that is bad
+-- The query with what one more pair says, or the fault that names the key of a bad pair.
 abbrev pub pair_said : Op → Pair → Query → Result Query BindFault
 pair_said op pair q =
     option_map_or (λ said. Ok said) (said_more op pair q) (Err (bind.Query pair.0))

@@ -17,6 +17,7 @@ abbrev pub said_by_target : PathAndQuery → Result TargetValues BindFault
 said_by_target parts =
     if is_target (target_values parts) then Ok (target_values parts) else Err bind.Target
 
+-- What the target of a start line says: its address and query, else the fault of the target.
 abbrev pub target_of : Start → Result TargetValues BindFault
 target_of (Ask name target minor) =
     option_map_or said_by_target (target_parts target) (Err bind.Target)

@@ -23,6 +23,7 @@ pub record PathAndQuery : Type 0 where
   pub path : List ℕ
   pub query : Option (List ℕ)
 
+-- A target as its path and its query (RFC 9112, section 3.2).
 abbrev pub split_target : List ℕ → PathAndQuery
 split_target text = record { path = path_of text; query = query_of text }
 
@@ -53,7 +54,7 @@ hierarchy_of text = drop (scheme_len text + 3) text
 abbrev pub authority_of : List ℕ → List ℕ
 authority_of text = take (authority_len (hierarchy_of text)) (hierarchy_of text)
 
--- and what stands behind it
+-- What stands behind the authority of a URL: its path and its query.
 abbrev pub tail_of : List ℕ → List ℕ
 tail_of text = drop (authority_len (hierarchy_of text)) (hierarchy_of text)
 
@@ -82,7 +83,7 @@ may_follow front b =
     && (not (b == right_bracket)
     || (nat_lt 0 (count_of left_bracket front) && (count_of right_bracket front == 0)))
 
--- and so may each of these, one after another
+-- Each of these bytes may follow those before it in an authority.
 abbrev pub may_all_follow : List ℕ → List ℕ → Bool
 may_all_follow front [] = true
 may_all_follow front (b ∷ bytes) = may_follow front b && may_all_follow (front ++ b ∷ []) bytes
@@ -126,7 +127,7 @@ target_parts target =
 abbrev pub is_coded_tilde : ℕ → ℕ → ℕ → Bool
 is_coded_tilde a b c = (a == percent_sign) && (b == 55) && ((c == 69) || (c == 101))
 
--- and so are the first bytes
+-- The first three bytes are `%7E` or `%7e`.
 abbrev pub begins_coded : List ℕ → Bool
 begins_coded [] = false
 begins_coded (a ∷ []) = false
@@ -174,6 +175,7 @@ pub record TargetValues : Type 0 where
   pub to : List ℕ
   pub query : List ℕ
 
+-- What a path and a query say: the address that the path is, and the query, or the empty one.
 abbrev pub target_values : PathAndQuery → TargetValues
 target_values parts = record {
   to = address_of_path (with_tildes parts.path);

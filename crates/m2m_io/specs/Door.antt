@@ -16,8 +16,9 @@ ended_after (Ok (Some conn)) ended = ended
 ended_after (Ok None) ended = true
 ended_after (Err e) ended = ended
 
--- A door in memory: the connections that it has still to give, the address at which it was opened, if
--- any, where it tells it, how many connections it gave, whether it gave None, and the calls so far.
+-- A door in memory: the connections that it has still to give, the address at which it was opened,
+-- if any, where it tells it, how many connections it gave, whether it gave None, and the calls so
+-- far.
 pub record DoorData (X : Type 0) : Type 0 where
   pub conns : List X
   pub opened : Option (Option (List ℕ))

@@ -16,8 +16,9 @@ pub record Exchange : Type 0 where
   pub request : List ℕ
   pub answer : Option (List ℕ)
 
--- What came of carrying one request to a neighbour: the exchange that a link made for it, if it came
--- to that, and the mark of one in which memory ran out, before the exchange, in it or behind it.
+-- What came of carrying one request to a neighbour: the exchange that a link made for it, if it
+-- came to that, and the mark of one in which memory ran out, before the exchange, in it or behind
+-- it.
 pub record Carrying : Type 0 where
   pub made : Option Exchange
   pub starved : Bool
@@ -27,7 +28,7 @@ abbrev pub made_in : List Carrying → List Exchange
 made_in [] = []
 made_in (carrying ∷ rest) = option_to_list carrying.made ++ made_in rest
 
--- these were carried, and their exchanges are told behind the others
+-- These requests were carried, and their exchanges are told behind the others.
 abbrev pub TellsCarried : List Carrying → Option (List Exchange) → Option (List Exchange) → Type 0
 TellsCarried carried old new = Tells (λ told. told ++ made_in carried) old new
 

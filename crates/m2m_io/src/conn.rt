@@ -4,7 +4,8 @@ ghost use Rattle.std.specs.Prelude.{is_err, is_ok, IfOk, OnOk, OnErr, if◌then�
 ghost use Rattle.std.specs.Io.{ReadsAtMost};
 ghost use Rattle.std.specs.Io.KnownBytes.{ReadConsumes, Appends};
 ghost use Rattle.std.specs.Str.{bytes_eq};
-ghost use Rattle.m2m_io.specs.Counts.{CountsFaults, fails_next, after_call, after_fault, told_calls};
+ghost use Rattle.m2m_io.specs.Counts.{CountsFaults, fails_next, after_call, after_fault};
+ghost use Rattle.m2m_io.specs.Counts.{told_calls};
 ghost use Rattle.m2m_io.specs.Source.{next_count};
 ghost use Rattle.m2m_io.specs.Sides.{KeepsSides, side_of};
 ghost use Rattle.m2m_io.specs.Told.{AppendsPrefix, Tells};
@@ -78,7 +79,8 @@ impl Source for MemConn {
         ensures bound { ReadsAtMost result buf.new }
         ensures bytes { ReadConsumes (Some self.old.input.left)
             (Some self.new.input.left) result buf.new }
-        ensures faults { CountsFaults result self.old.input.calls.faults self.new.input.calls.faults }
+        ensures faults { CountsFaults result self.old.input.calls.faults
+            self.new.input.calls.faults }
 
         // It is read as its input is, and nothing else of it changes.
         ensures variant { is_err result ≡ fails_next self.old.input.calls }
@@ -114,8 +116,8 @@ impl Sink for MemConn {
         ensures puts { Tells (λ n. n + 1) (told_calls self.old.out.calls)
             (told_calls self.new.out.calls) }
 
-        // It is written as its sink is, and is right where the last put that was done left just what
-        // was expected.
+        // It is written as its sink is, and is right where the last put that was done left just
+        // what was expected.
         ensures fails { OnOk result (fails_next self.old.out.calls ≡ false) }
         ensures whole { self.new.out.written
             ≡ (if is_ok result then self.old.out.written ++ bytes.now else self.old.out.written) }

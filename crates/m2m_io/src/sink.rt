@@ -2,7 +2,8 @@
 ghost use Rattle.std.specs.Prelude.{◌≡◌, ◌≤◌, ◌+◌, ◌++◌, ℕ, List, Option, Some, false, is_ok, OnOk};
 ghost use Rattle.std.specs.Prelude.{OnErr, if◌then◌else◌};
 ghost use Rattle.std.specs.Io.KnownBytes.{Appends};
-ghost use Rattle.m2m_io.specs.Counts.{CountsFaults, no_calls, fails_next, after_call, after_fault, told_calls};
+ghost use Rattle.m2m_io.specs.Counts.{CountsFaults, no_calls, fails_next, after_call, after_fault};
+ghost use Rattle.m2m_io.specs.Counts.{told_calls};
 ghost use Rattle.m2m_io.specs.Sides.{SideTold, no_side};
 ghost use Rattle.m2m_io.specs.Told.{AppendsPrefix, Tells};
 

@@ -85,16 +85,17 @@ searchable : (text : List ℕ) → IsNonDecreasingBy (λ a. ordering_index (slic
 searchable text = searchable_from_sorted nat_list_cmp_total attr_short all_attrs text (λ k d low within.
     ap (λ j. is_lt (attr_cmp (get_or all_attrs j d) (get_or all_attrs k d))) (add-one k) ∙ risen all_attrs refl k d (omega arith))
 
-same_text : (x y : List ℕ) → slice_cmp nat_cmp x y ≡ Equal → x ≡ y
-same_text x y e = (bytes_eq-Decides x y).0 (sym (is_eq-slice_cmp x y) ∙ ap is_eq e)
+-- texts that compare equal are one
+pub equal_texts : (x y : List ℕ) → slice_cmp nat_cmp x y ≡ Equal → x ≡ y
+equal_texts x y e = (bytes_eq-Decides x y).0 (sym (is_eq-slice_cmp x y) ∙ ap is_eq e)
 
 apart : (x y : List ℕ) → slice_cmp nat_cmp x y ≢ Equal → bytes_eq x y ≡ false
 apart x y ne = false_from_ne_true _ (λ t. ne (ap (slice_cmp nat_cmp x) (sym ((bytes_eq-Decides x y).0 t)) ∙ tied_itself nat_list_cmp_total x))
 
-less_not_equal : (o : Ordering) → o ≡ Less → o ≢ Equal
+pub less_not_equal : (o : Ordering) → o ≡ Less → o ≢ Equal
 less_not_equal o less equal = cc
 
-greater_not_equal : (o : Ordering) → o ≡ Greater → o ≢ Equal
+pub greater_not_equal : (o : Ordering) → o ≡ Greater → o ≢ Equal
 greater_not_equal o greater equal = cc
 
 absent : (text : List ℕ) (bs : List Attr) → ((k : ℕ) (d : Attr) → k < length bs → slice_cmp nat_cmp (attr_short (get_or bs k d)) text ≢ Equal) → find (λ a. bytes_eq (attr_short a) text) bs ≡ None
@@ -104,7 +105,7 @@ absent text (b ∷ bs) none = rw (apart (attr_short b) text (none 0 b (omega ari
 -- what it found
 pub found_by_halving : (text : List ℕ) (r : Result ℕ ℕ) → IsBinarySearchResult (λ a. slice_cmp nat_cmp (attr_short a) text) all_attrs r → MatchResult r (λ i. (d : Attr) → attr_of_short text ≡ Some (get_or all_attrs i d)) (λ i. attr_of_short text ≡ None)
 found_by_halving text (Ok i) equal = λ d.
-    ap attr_of_short (sym (same_text (attr_short (get_or all_attrs i d)) text (equal d))) ∙ attr_again (get_or all_attrs i d)
+    ap attr_of_short (sym (equal_texts (attr_short (get_or all_attrs i d)) text (equal d))) ∙ attr_again (get_or all_attrs i d)
 found_by_halving text (Err i) parted =
     let sides = parted (searchable text) in
     absent text all_attrs (λ k d within. elim (cases_lt k i) [

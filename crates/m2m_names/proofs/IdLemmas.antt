@@ -1,8 +1,8 @@
 -- The number that digits spell, and the type and number of a resource id, as no others do.
 use Rattle.std.specs.Prelude.{nat_lt, take, drop, ◌==◌, ◌&&◌, not}
-use Rattle.std.proofs.Common.{Bool, cond, false, leb, length, ◌≤◌, inl, inr, sym, append_assoc, ◌≡◌, ℕ, zero, suc, ◌+◌, ◌*◌, ◌-◌, ◌/◌, ◌%◌, ◌^◌, ◌<◌, List, [], ◌∷◌, ◌++◌, get_or, true, Option, Some, None, refl, ap, ◌∙◌, arith}
+use Rattle.std.proofs.Common.{Bool, cond, false, length, ◌≤◌, inl, inr, sym, append_assoc, ◌≡◌, ℕ, zero, suc, ◌+◌, ◌*◌, ◌-◌, ◌/◌, ◌%◌, ◌^◌, ◌<◌, List, [], ◌∷◌, ◌++◌, get_or, true, Option, Some, None, refl, ap, ◌∙◌, arith}
 use Rattle.std.specs.Fmt.{decimal}
-use Rattle.std.proofs.lemmas.Bool.{cases_Bool, and_parts, leb-true, ltb-true, eqb-false, eqb-true, and_from, both_ways, cond-true, le-leb, lt-ltb, ne_eqb}
+use Rattle.std.proofs.lemmas.Bool.{cases_Bool, and_parts, ltb-true, eqb-false, eqb-true, and_from, both_ways, cond-true, le-leb, lt-ltb, ne_eqb}
 use Rattle.std.proofs.lemmas.List.{append-nil, take-append-drop}
 use Rattle.std.proofs.lemmas.Option.{same_Some}
 use Rattle.std.proofs.lemmas.Fmt.{decimal_by_steps, decimal_step, decimal_digit, first_decimal}
@@ -14,6 +14,7 @@ use Rattle.std.specs.Str.{bytes_eq}
 use Rattle.std.proofs.Math.Seq.{drop-append_seam, take-append_seam}
 use Rattle.m2m_names.specs.Types.{all_types, ty_row, ty_of_word}
 use Rattle.m2m_names.proofs.LookupLemmas.{found_at}
+use Rattle.m2m_names.proofs.NameLemmas.{digit_range}
 use Rattle.m2m_names.proofs.TypeLemmas.{ty_of_word-word}
 use Rattle.m2m_names.specs.declared.types.Ty.{Ty}
 use Rattle.m2m_names.specs.declared.types.Ty.TheVariants.{AccessControlPolicy, Ae, Container, ContentInstance, CseBase, Group, PollingChannel, RemoteCse, Subscription, AccessControlPolicyAnnc, AeAnnc, ContainerAnnc, ContentInstanceAnnc, GroupAnnc}
@@ -69,8 +70,8 @@ after_digit false k n ds read = cc
 digit_bounds : (m d : ℕ) → (is_ascii_digit d && nat_lt (10 * m + (d - 48)) (2 ^ 63)) ≡ true → (48 ≤ d) × (d ≤ 57) × (10 * m + (d - 48) < 2 ^ 63)
 digit_bounds m d passes =
     let parts = and_parts (is_ascii_digit d) _ passes in
-    let range = and_parts (leb 48 d) (leb d 57) parts.0 in
-    (leb-true 48 d range.0, leb-true d 57 range.1, ltb-true (10 * m + (d - 48)) (2 ^ 63) parts.1)
+    let range = digit_range d parts.0 in
+    (range.0, range.1, ltb-true (10 * m + (d - 48)) (2 ^ 63) parts.1)
 
 one_more_digit : (m d : ℕ) → 0 < m → 48 ≤ d → d ≤ 57 → 10 * m + (d - 48) < 2 ^ 63 → decimal (10 * m + (d - 48)) ≡ decimal m ++ d ∷ []
 one_more_digit m d some low high small =

@@ -2,6 +2,7 @@ pub mod AttributeLemmas
 pub mod CalendarLemmas
 pub mod DayLemmas
 pub mod IdLemmas
+pub mod ListLemmas
 pub mod LookupLemmas
 pub mod NameLemmas
 pub mod NumeralLemmas

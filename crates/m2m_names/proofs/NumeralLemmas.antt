@@ -10,7 +10,8 @@ use Rattle.std.specs.Char.{is_ascii_digit, digit_value}
 use Rattle.std.specs.Fmt.{decimal}
 use Rattle.std.specs.List.{list_all}
 use Rattle.std.specs.Str.Parse.{digits_value}
-use Rattle.m2m_names.specs.Name.{is_filled, is_numeral}
+use Rattle.m2m_names.proofs.NameLemmas.{digit_range, decimal_parts}
+use Rattle.m2m_names.specs.Name.{numeral_limit, is_numeral}
 
 -- what holds of each digit holds of each byte of a number in decimal
 pub decimal_passes : (p : ℕ → Bool) → ((d : ℕ) → d < 10 → p (48 + d) ≡ true) → (n : ℕ) → n < 2 ^ 63 → list_all p (decimal n) ≡ true
@@ -31,17 +32,11 @@ digit_at [] i h within = absurd (omega arith)
 digit_at (d ∷ ds) zero h within = (and_parts _ _ h).0
 digit_at (d ∷ ds) (suc i) h within = digit_at ds i (and_parts _ _ h).1 (omega arith)
 
-digit_bounds : (c : ℕ) → is_ascii_digit c ≡ true → (48 ≤ c) × (c ≤ 57)
-digit_bounds c h = (grind (arith, nat_tests), grind (arith, nat_tests))
-
 digit_is : (c : ℕ) → is_ascii_digit c ≡ true → digit_value c ≡ c - 48
 digit_is c h = grind (arith, nat_tests)
 
-short : (ds : List ℕ) → is_filled 18 ds ≡ true → length ds ≤ 18
-short ds h = grind (arith, nat_tests)
-
 pub numeral_bound : (ds : List ℕ) → is_numeral ds ≡ true → digits_value 10 ds < 10 ^ 18
-numeral_bound ds h = let parts = and_parts _ _ h in digits_value_short own ds 18 parts.1 (short ds parts.0)
+numeral_bound ds h = let parts = decimal_parts numeral_limit ds h in digits_value_short own ds 18 parts.digits parts.filled.most
 
 -- one digit more
 pub record AddsDigit (ds : List ℕ) (i : ℕ) : Type 0 where
@@ -52,9 +47,8 @@ pub record AddsDigit (ds : List ℕ) (i : ℕ) : Type 0 where
 
 pub adds_digit : (ds : List ℕ) (i : ℕ) → is_numeral ds ≡ true → i < length ds → AddsDigit ds i
 adds_digit ds i h within =
-    let parts = and_parts (is_filled 18 ds) (list_all is_ascii_digit ds) h in
-    let digit : is_ascii_digit (get_or ds i 0) ≡ true = digit_at ds i parts.1 within in
-    let bounds : (48 ≤ get_or ds i 0) × (get_or ds i 0 ≤ 57) = digit_bounds (get_or ds i 0) digit in
+    let digit : is_ascii_digit (get_or ds i 0) ≡ true = digit_at ds i (decimal_parts numeral_limit ds h).digits within in
+    let bounds = digit_range (get_or ds i 0) digit in
     let most = digits_value-take-le 10 ds (i + 1) (omega arith) in
     record {
       low = bounds.0;

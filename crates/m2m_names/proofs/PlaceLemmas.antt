@@ -85,7 +85,7 @@ ascended (a ∷ bs) up i zero d first inside = absurd (omega arith)
 ascended (a ∷ bs) up zero (suc j) d first inside = below a bs (and_parts (is_below a bs) (ascend bs) up).0 j d (omega arith)
 ascended (a ∷ bs) up (suc i) (suc j) d first inside = ascended bs (and_parts (is_below a bs) (ascend bs) up).1 i j d (omega arith) (omega arith)
 
-less : (o : Ordering) → is_lt o ≡ true → o ≡ Less
+pub less : (o : Ordering) → is_lt o ≡ true → o ≡ Less
 less Less e = refl
 less Equal e = absurd (cc)
 less Greater e = absurd (cc)

@@ -1,18 +1,16 @@
 -- What each byte of a timestamp is: a digit, `T` or a comma; so timestamps are ASCII and UTF-8.
-use Rattle.std.specs.Prelude.{nat_lt, nat_le}
 use Rattle.std.proofs.Common.{◌≡◌, ℕ, zero, suc, ◌+◌, ◌/◌, ◌%◌, ◌<◌, ◌≤◌, ◌&&◌, ◌==◌, List, [], ◌∷◌, ◌++◌, length, true, sym, subst, arith}
-use Rattle.std.proofs.lemmas.Bool.{and_parts, ltb-true, leb-true, eqb-true}
+use Rattle.std.proofs.lemmas.Bool.{and_parts, eqb-true}
 use Rattle.std.proofs.lemmas.Str.{IsUtf8-from_ascii}
 use Rattle.std.specs.Char.{is_ascii_digit}
 use Rattle.std.specs.Int.{is_in_range}
 use Rattle.std.specs.List.{list_all, AllByRecursion}
 use Rattle.std.specs.Str.{IsUtf8, IsAscii}
-use Rattle.m2m_names.proofs.CalendarLemmas.{days_of_month_bounds}
-use Rattle.m2m_names.specs.Calendar.{is_date, days_of_month}
+use Rattle.m2m_names.proofs.CalendarLemmas.{date_ranges, days_of_month_bounds}
+use Rattle.m2m_names.proofs.NameLemmas.{digit_range}
+use Rattle.m2m_names.proofs.StampLemmas.{stamp_parts}
+use Rattle.m2m_names.specs.Calendar.{days_of_month}
 use Rattle.m2m_names.specs.Stamps.{Stamp, is_stamp, is_fraction, stamp_bytes, two, four, IsTimestamp}
-
-most_of : (low high n : ℕ) → is_in_range low high n ≡ true → n ≤ high
-most_of low high n h = leb-true n high (and_parts (nat_le low n) (nat_le n high) h).1
 
 -- what holds of each digit, of `T` and of a comma holds of each byte
 module _ (P : ℕ → Type 0) (digit : (b : ℕ) → 48 ≤ b → b ≤ 57 → P b) (letter : P 84) (comma : P 44) where
@@ -30,8 +28,8 @@ module _ (P : ℕ → Type 0) (digit : (b : ℕ) → 48 ≤ b → b ≤ 57 → P
   each_digit [] all = tt
   each_digit (b ∷ digits) all =
       let parts = and_parts (is_ascii_digit b) (list_all is_ascii_digit digits) all in
-      let range = and_parts (nat_le 48 b) (nat_le b 57) parts.0 in
-      (digit b (leb-true 48 b range.0) (leb-true b 57 range.1), each_digit digits parts.1)
+      let range = digit_range b parts.0 in
+      (digit b range.0 range.1, each_digit digits parts.1)
 
   each_of_fraction : (bytes : List ℕ) → is_fraction bytes ≡ true → AllByRecursion P bytes
   each_of_fraction [] is = tt
@@ -42,17 +40,14 @@ module _ (P : ℕ → Type 0) (digit : (b : ℕ) → 48 ≤ b → b ≤ 57 → P
 
   each_of_stamp : (s : Stamp) → is_stamp s ≡ true → AllByRecursion P (stamp_bytes s)
   each_of_stamp s h =
-      let d3 = and_parts (is_date s.year s.month s.day && nat_lt s.hour 24 && nat_lt s.minute 60) (nat_lt s.second 60) h in
-      let d2 = and_parts (is_date s.year s.month s.day && nat_lt s.hour 24) (nat_lt s.minute 60) d3.0 in
-      let d1 = and_parts (is_date s.year s.month s.day) (nat_lt s.hour 24) d2.0 in
-      let e2 = and_parts (is_in_range 1970 9999 s.year && is_in_range 1 12 s.month) (is_in_range 1 (days_of_month s.year s.month) s.day) d1.0 in
-      let e1 = and_parts (is_in_range 1970 9999 s.year) (is_in_range 1 12 s.month) e2.0 in
-      let second : s.second < 60 = ltb-true s.second 60 d3.1 in
-      let minute : s.minute < 60 = ltb-true s.minute 60 d2.1 in
-      let hour : s.hour < 24 = ltb-true s.hour 24 d1.1 in
-      let year : s.year ≤ 9999 = most_of 1970 9999 s.year e1.0 in
-      let month : s.month ≤ 12 = most_of 1 12 s.month e1.1 in
-      let day : s.day ≤ days_of_month s.year s.month = most_of 1 (days_of_month s.year s.month) s.day e2.1 in
+      let parts = stamp_parts s h in
+      let in_date = date_ranges s.year s.month s.day parts.date in
+      let second : s.second < 60 = parts.second in
+      let minute : s.minute < 60 = parts.minute in
+      let hour : s.hour < 24 = parts.hour in
+      let year : s.year ≤ 9999 = in_date.0.1 in
+      let month : s.month ≤ 12 = in_date.1.1 in
+      let day : s.day ≤ days_of_month s.year s.month = in_date.2.1 in
       let days : days_of_month s.year s.month ≤ 31 = (days_of_month_bounds s.year s.month).0 in
       let date : AllByRecursion P (four s.year ++ two s.month ++ two s.day) =
       joined (four s.year ++ two s.month) (two s.day) (joined (four s.year) (two s.month) (each_of_four s.year (omega arith)) (each_of_two s.month (omega arith))) (each_of_two s.day (omega (arith, day, days))) in

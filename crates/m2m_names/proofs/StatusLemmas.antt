@@ -1,14 +1,16 @@
 -- The table of status codes, and the numbers outside it.
-use Rattle.std.proofs.Common.{◌≡◌, ℕ, ◌∙◌, sym, ap, subst, Bool, true, false, ◌&&◌, ◌||◌, not, cond, List, [], ◌∷◌, Option, Some, None, refl, IsTrue, IfSome, ◌<◌, eqb, leb, inl, inr, lit≤, arith}
+use Rattle.std.proofs.Common.{◌≡◌, ℕ, ◌∙◌, sym, ap, subst, Bool, true, false, ◌||◌, cond, List, [], ◌∷◌, Option, Some, None, refl, IsTrue, IfSome, ◌<◌, eqb, inl, inr, lit≤, arith}
+use Rattle.std.specs.Prelude.{◌==◌}
 use Rattle.std.specs.List.{list_any, find}
 use Rattle.std.specs.Int.{IsInRange, is_in_range}
-use Rattle.std.proofs.lemmas.Bool.{and_parts, cases_Bool, eqb-true, leb-true}
+use Rattle.std.proofs.lemmas.Bool.{and_parts, cases_Bool, eqb-true, not-true}
 use Rattle.std.proofs.lemmas.Option.{same_Some}
 use Rattle.std.specs.Option.{option_or}
 use Rattle.std.proofs.Props.{props}
 use mathlib.Core.HLevel.{is_prop→PathP}
-use Rattle.m2m_names.proofs.LookupLemmas.{find_passes, same_key}
-use Rattle.m2m_names.specs.StatusNumbers.{greatest_code, is_other}
+use Rattle.m2m_names.proofs.LookupLemmas.{find_passes}
+use Rattle.m2m_names.proofs.NameLemmas.{range_parts}
+use Rattle.m2m_names.specs.StatusNumbers.{least_code, greatest_code, named_numbers, is_other}
 use Rattle.m2m_names.specs.declared.codes.OtherNumber.{OtherNumber}
 use Rattle.m2m_names.specs.declared.codes.Rsc.{Rsc}
 use Rattle.m2m_names.specs.declared.codes.Rsc.TheVariants.{Ok as Fine, Created, Deleted, Updated, BadRequest, NotFound, NotAllowed, RequestTimeout, NoPrivilege, Conflict, BadChild, Internal, NotImplemented, NotReachable, NotSubscribable, NonBlocking, NotAcceptable, TooManyMembers, WrongMember, Other}
@@ -32,14 +34,19 @@ any_none : {X : Type 0} (p : X → Bool) (xs : List X) → find p xs ≡ None �
 any_none p [] e = refl
 any_none p (x ∷ xs) e = any_step x (p x) (list_any p xs) (find p xs) (any_none p xs) e
 
-unnamed_of : (a b : Bool) → (a && not b) ≡ true → b ≡ false
-unnamed_of true true e = sym e
-unnamed_of true false e = refl
-unnamed_of false b e = let h : false ≡ true = e in cc
+-- what is said of a number that no named code has
+pub record IsOther (n : ℕ) : Type 0 where
+  pub range : IsInRange least_code greatest_code n
+  pub unnamed : list_any (λ m. m == n) named_numbers ≡ false
+
+pub other_parts : (n : ℕ) → is_other n ≡ true → IsOther n
+other_parts n other =
+    let parts = and_parts (is_in_range least_code greatest_code n) _ other in
+    record { range = range_parts least_code greatest_code n parts.0; unnamed = not-true _ parts.1 }
 
 -- and such a number has no code with a name
 pub unnamed_where : (n : ℕ) → IsTrue (is_other n) → named_code n ≡ None
-unnamed_where n other = find_none (λ r. eqb (rsc_row r).number n) named_codes (unnamed_of (is_in_range 1000 9999 n) _ other)
+unnamed_where n other = find_none (λ r. eqb (rsc_row r).number n) named_codes (other_parts n other).unnamed
 
 -- there is one value for each other number
 pub same_other : (a b : OtherNumber) → a.number ≡ b.number → a ≡ b
@@ -84,11 +91,6 @@ rsc_again (Other o) = other_again o o.number refl (unnamed_where o.number o.outs
 
 -- ---- how many digits the numbers have
 
-other_four : (n : ℕ) → IsTrue (is_other n) → IsInRange 1000 9999 n
-other_four n h =
-    let range = and_parts (leb 1000 n) (leb n 9999) (and_parts (is_in_range 1000 9999 n) _ h).0 in
-    (leb-true 1000 n range.0, leb-true n 9999 range.1)
-
 other_three : (n : ℕ) → IsInRange 100 999 (http_status_of_other n)
 other_three n = elim (cases_Bool (is_in_range 2000 2999 n)) [
   | inl fine ↦ rw fine (lit≤ tt, lit≤ tt)
@@ -119,7 +121,7 @@ number_in_range NonBlocking = (lit≤ tt, lit≤ tt)
 number_in_range NotAcceptable = (lit≤ tt, lit≤ tt)
 number_in_range TooManyMembers = (lit≤ tt, lit≤ tt)
 number_in_range WrongMember = (lit≤ tt, lit≤ tt)
-number_in_range (Other o) = other_four o.number o.outside
+number_in_range (Other o) = (other_parts o.number o.outside).range
 
 -- a status code that is found at a number has it
 other_at : (n : ℕ) (b : Bool) (known : IsTrue b → IsTrue (is_other n)) (r : Rsc) → other_code n b known ≡ Some r → (rsc_row r).number ≡ n

@@ -61,6 +61,7 @@ fan_name = codes "fopt"
 abbrev pub poll_name : List ℕ
 poll_name = codes "pcu"
 
+-- The names of all virtual resources (TS-0001, 9.6).
 abbrev pub virtual_names : List (List ℕ)
 virtual_names = newest_name ∷ oldest_name ∷ fan_name ∷ poll_name ∷ []
 

@@ -10,6 +10,7 @@ pub record OpRow : Type 0 where
   pub number : ℤ
   pub bit : ℕ
 
+-- The row of an operation by its number and its bit.
 abbrev pub op_entry : ℕ → ℕ → OpRow
 op_entry number bit = record { number = pos number; bit = bit }
 

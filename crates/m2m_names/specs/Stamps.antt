@@ -21,7 +21,7 @@ is_stamp s =
     is_date s.year s.month s.day
     && nat_lt s.hour 24 && nat_lt s.minute 60 && nat_lt s.second 60
 
--- its moment, in seconds since 1970
+-- The moment of a date and time, in seconds since 1970.
 abbrev pub moment : Stamp → ℕ
 moment s =
     ((day_number s.year s.month s.day * 24 + s.hour) * 60 + s.minute) * 60 + s.second
@@ -37,7 +37,7 @@ two n = (48 + n / 10) ∷ (48 + n % 10) ∷ []
 abbrev pub four : ℕ → List ℕ
 four n = two (n / 100) ++ two (n % 100)
 
--- its fifteen bytes, with `T` between date and time
+-- The fifteen bytes of a timestamp, with `T` between date and time.
 abbrev pub stamp_bytes : Stamp → List ℕ
 stamp_bytes s =
     four s.year ++ two s.month ++ two s.day ++ 84 ∷ two s.hour ++ two s.minute ++ two s.second

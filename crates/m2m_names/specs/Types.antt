@@ -17,6 +17,7 @@ pub record TyRow : Type 0 where
   pub word : List ℕ
   pub takes : List Ty
 
+-- The row of a type by its number, its short word and the types of child that it takes.
 abbrev pub ty_entry : ℕ → List ℕ → List Ty → TyRow
 ty_entry number word takes = record { number = number; word = word; takes = takes }
 

@@ -36,6 +36,7 @@ is_host bytes = is_filled host_limit bytes && list_all is_host_byte bytes
 abbrev pub largest_port : ℕ
 largest_port = 65_535
 
+-- The number is that of a port.
 abbrev pub is_port_value : ℕ → Bool
 is_port_value n = is_in_range 1 largest_port n
 

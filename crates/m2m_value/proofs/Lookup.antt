@@ -1,10 +1,9 @@
 -- A key among keys in order, found by halving.
-use Rattle.std.proofs.Common.{◌≡◌, ℕ, zero, suc, ◌+◌, ◌<◌, ◌≢◌, List, [], ◌∷◌, length, get_or, set, true, false, cond, bytes_eq, Some, None, Result, Ok, Err, IfOk, IfErr, IsUtf8, Ordering, Less, Equal, Greater, is_eq, nat_cmp, inl, inr, refl, sym, ap, ◌∙◌, arith}
+use Rattle.std.proofs.Common.{◌≡◌, ℕ, zero, suc, ◌+◌, ◌<◌, ◌≢◌, List, [], ◌∷◌, length, get_or, set, true, false, cond, bytes_eq, Some, None, Result, Ok, Err, IfOk, IfErr, IsUtf8, Ordering, Less, Equal, Greater, nat_cmp, inl, inr, refl, sym, ap, ◌∙◌, arith}
 use Rattle.std.proofs.lemmas.Bool.{cases_lt, false_from_ne_true}
 use Rattle.std.proofs.lemmas.Cmp.{nat_list_cmp_total, tied_itself}
 use Rattle.std.proofs.lemmas.List.Sorted.{searchable_from_sorted}
 use Rattle.std.proofs.lemmas.Map.Keys.{Less-from_sorted}
-use Rattle.std.proofs.lemmas.Map.Text.{is_eq-slice_cmp}
 use Rattle.std.proofs.lemmas.Slice.Eq.{bytes_eq-Decides}
 use Rattle.std.specs.Cmp.Lexicographic.{slice_cmp}
 use Rattle.std.specs.BTreeMap.{insert_entry}
@@ -15,6 +14,7 @@ use Rattle.std.specs.Ordering.{ordering_index, ordering_reverse, match_ordering,
 use Rattle.m2m_value.specs.Data.{Data, Entry}
 use Rattle.m2m_value.specs.Node.{AreSorted, HaveTextKeys}
 use Rattle.m2m_value.specs.View.{member_of, IsPlaceOf, IsGapFor}
+use Rattle.m2m_names.proofs.AttributeLemmas.{equal_texts, less_not_equal, greater_not_equal}
 
 abbrev pub compared : List ℕ → List ℕ → Ordering
 compared = slice_cmp nat_cmp
@@ -22,9 +22,6 @@ compared = slice_cmp nat_cmp
 -- keys that don't compare equal differ
 apart : (x key : List ℕ) → compared x key ≢ Equal → bytes_eq key x ≡ false
 apart x key ne = false_from_ne_true _ (λ e. ne (ap (compared x) ((bytes_eq-Decides key x).0 e) ∙ tied_itself nat_list_cmp_total x))
-
-same_key : (x key : List ℕ) → compared x key ≡ Equal → x ≡ key
-same_key x key e = (bytes_eq-Decides x key).0 (sym (is_eq-slice_cmp x key) ∙ ap is_eq e)
 
 pub member_of-absent : (key : List ℕ) (es : List Entry) → ((i : ℕ) (d : Entry) → i < length es → compared (get_or es i d).0 key ≢ Equal) → member_of key es ≡ None
 member_of-absent key [] none = refl
@@ -35,19 +32,16 @@ below_at x [] i d h within = absurd (omega arith)
 below_at x (e ∷ es) zero d h within = h.0
 below_at x (e ∷ es) (suc i) d h within = below_at x es i d h.1 (omega arith)
 
-bytes_eq_itself : (key : List ℕ) → bytes_eq key key ≡ true
+pub bytes_eq_itself : (key : List ℕ) → bytes_eq key key ≡ true
 bytes_eq_itself key = (bytes_eq-Decides key key).1 refl
-
-less_not_equal : (o : Ordering) → o ≡ Less → o ≢ Equal
-less_not_equal o less equal = cc
 
 pub member_of-present : (key : List ℕ) (es : List Entry) (i : ℕ) (d : Entry) → AreSorted es → i < length es → compared (get_or es i d).0 key ≡ Equal → member_of key es ≡ Some (get_or es i d).1
 unfolding IsStrictlySortedBy
 member_of-present key [] i d sorted within e = absurd (omega arith)
-member_of-present key (x ∷ es) zero d sorted within e = rw ((bytes_eq-Decides key x.0).1 (sym (same_key x.0 key e))) refl
+member_of-present key (x ∷ es) zero d sorted within e = rw ((bytes_eq-Decides key x.0).1 (sym (equal_texts x.0 key e))) refl
 member_of-present key (x ∷ es) (suc i) d sorted within e =
     let here : i < length es = omega arith in
-    let less : compared x.0 key ≡ Less = ap (compared x.0) (sym (same_key (get_or es i d).0 key e)) ∙ below_at x.0 es i d sorted.0 here in
+    let less : compared x.0 key ≡ Less = ap (compared x.0) (sym (equal_texts (get_or es i d).0 key e)) ∙ below_at x.0 es i d sorted.0 here in
     rw (apart x.0 key (less_not_equal _ less)) (member_of-present key es i d sorted.1 here e)
 
 key_at : (es : List Entry) (i : ℕ) (d : Entry) → get_or (keys_of es) i d.0 ≡ (get_or es i d).0
@@ -67,9 +61,6 @@ pub searchable : (es : List Entry) (key : List ℕ) → AreSorted es → IsNonDe
 searchable es key sorted = searchable_from_sorted nat_list_cmp_total (λ e. e.0) es key (λ k d low within.
     let less = Less-from_sorted compared (keys_of es) k (k + 1) d.0 sorted (omega arith) (omega (arith, keys_len es)) in
     falls_back (get_or es k d).0 (get_or es (k + 1) d).0 (rw (key_at es k d, key_at es (k + 1) d) at less))
-
-greater_not_equal : (o : Ordering) → o ≡ Greater → o ≢ Equal
-greater_not_equal o greater equal = cc
 
 -- between the keys below and the keys above there is none
 pub member_of-gap : (key : List ℕ) (es : List Entry) (place : ℕ) → IsGapFor key es place → member_of key es ≡ None
@@ -102,7 +93,7 @@ put-place [] key v place d sorted at = absurd (omega (arith, at.0))
 put-place (e ∷ es) key v zero d sorted at = rw (turned key e.0 Equal (at.1 e)) refl
 put-place (e ∷ es) key v (suc place) d sorted at =
     let here : place < length es = omega (arith, at.0) in
-    let less : compared e.0 key ≡ Less = ap (compared e.0) (sym (same_key (get_or es place d).0 key (at.1 d))) ∙ below_at e.0 es place d sorted.0 here in
+    let less : compared e.0 key ≡ Less = ap (compared e.0) (sym (equal_texts (get_or es place d).0 key (at.1 d))) ∙ below_at e.0 es place d sorted.0 here in
     rw (turned key e.0 Less less) (ap (λ l. e ∷ l) (put-place es key v place d sorted.1 (here, at.1)))
 
 all_put_at : (o : Ordering) (x key : List ℕ) (e : Entry) (es rest : List Entry) (v : Data) → compared x key ≡ Less → AllByRecursion (λ y. compared x y ≡ Less) (keys_of (e ∷ es))
@@ -146,7 +137,7 @@ put_texts (e ∷ es) key v texts utf8 = put_texts_at _ key e es _ v texts utf8 (
 found_at : (o : Ordering) (key : List ℕ) (e : Entry) (es rest : List Entry) (v : Data) → compared key e.0 ≡ o → member_of key rest ≡ Some v
     → member_of key (match_ordering o ((key, v) ∷ e ∷ es) ((e.0, v) ∷ es) (e ∷ rest)) ≡ Some v
 found_at Less key e es rest v is more = rw (bytes_eq_itself key) refl
-found_at Equal key e es rest v is more = rw ((bytes_eq-Decides key e.0).1 (same_key key e.0 is)) refl
+found_at Equal key e es rest v is more = rw ((bytes_eq-Decides key e.0).1 (equal_texts key e.0 is)) refl
 found_at Greater key e es rest v is more = rw (apart e.0 key (less_not_equal _ (turned e.0 key Greater is))) more
 
 -- what was put at a key is found there
@@ -158,7 +149,7 @@ other_at : (o : Ordering) (key other : List ℕ) (e : Entry) (es rest : List Ent
     → member_of other (match_ordering o ((key, v) ∷ e ∷ es) ((e.0, v) ∷ es) (e ∷ rest)) ≡ member_of other (e ∷ es)
 other_at Less key other e es rest v is apart more = rw apart refl
 other_at Equal key other e es rest v is apart more =
-    let off : bytes_eq other e.0 ≡ false = ap (bytes_eq other) (sym (same_key key e.0 is)) ∙ apart in
+    let off : bytes_eq other e.0 ≡ false = ap (bytes_eq other) (sym (equal_texts key e.0 is)) ∙ apart in
     rw off refl
 other_at Greater key other e es rest v is apart more = ap (cond (bytes_eq other e.0) (Some e.1)) more
 

@@ -98,10 +98,12 @@ mutual
   pair_marks_back (pair k d ps) rest = ap (joined_pair k) (marks_back d (pair_marks_onto ps rest))
       ∙ ap (onto_pairs k d) (pair_marks_back ps rest)
 
+-- A value is stored as its marks, which give it back unchanged.
 abbrev pub data_code : Coded Data
 data_code =
     code_by (List Mark) (coded_list (coded× coded_ℕ (coded× coded_ℤ (coded_list coded_ℕ))))
     (λ d. marks_onto d []) (λ ms. first (values_marked ms)) (λ d. ap first (marks_back d []))
 
+-- A member of an object is stored as its key and its value, which give it back unchanged.
 abbrev pub entry_code : Coded Entry
 entry_code = coded× (coded_list coded_ℕ) data_code

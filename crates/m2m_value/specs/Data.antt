@@ -2,6 +2,8 @@
 use Rattle.std.specs.Prelude.{ℕ, suc, max, ℤ, List, [], ◌∷◌, Bool}
 
 mutual
+  -- A JSON value: null, a boolean, a whole number, a text by its bytes, a list, or an object (RFC
+  -- 8259, section 3).
   pub data Data : Type 0 where
     null : Data
     boolean : Bool → Data
@@ -10,10 +12,12 @@ mutual
     list : Elements → Data
     object : Pairs → Data
 
+  -- The elements of a list, in order (RFC 8259, section 5).
   pub data Elements : Type 0 where
     no_elements : Elements
     element : Data → Elements → Elements
 
+  -- The members of an object, each a key and its value, in order (RFC 8259, section 4).
   pub data Pairs : Type 0 where
     no_pairs : Pairs
     pair : List ℕ → Data → Pairs → Pairs

@@ -12,6 +12,8 @@ use Rattle.m2m_value.specs.declared.value.Items.TheDeep.{deep-Node, deep-Members
 use Rattle.m2m_value.specs.declared.value.Items.TheShapes.{weighed-Members-entries-at-2}
 use Rattle.m2m_value.specs.declared.value.Members.TheInside.{Inside}
 
+-- No element of a list nests deeper than the list's elements do at most. A walk down a value ends
+-- by this.
 pub elements_fall : (ds : List Data) →
     most (λ d. 2 * depth d + 1) ds ≤ 2 * elements_depth (elements_of ds) + 1
 elements_fall [] = omega arith
@@ -24,9 +26,11 @@ members_fall_in : (es : List Entry) →
 members_fall_in [] = omega arith
 members_fall_in (e ∷ es) = omega (arith, members_fall_in es)
 
+-- No member of an object nests deeper than the object's members do at most.
 pub members_fall : (a : Inside) → deep-Members a ≤ 2 * pairs_depth (pairs_of a.entries.items) + 1
 members_fall a = members_fall_in a.entries.items
 
+-- The depth that the type of a node gives it is at most twice the depth of its value.
 pub node_falls : (n : Node) → max (deep-Node n) 0 ≤ 2 * depth (data_of n)
 node_falls Null = omega arith
 node_falls (Bool b) = omega arith

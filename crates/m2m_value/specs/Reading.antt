@@ -44,7 +44,7 @@ abbrev mutual
   pairs_in (json.member k d ms) =
       followed (value_kept d) (λ e. followed (pairs_in ms) (λ ps. Ok (pair k e ps)))
 
--- of what was read, if anything was
+-- The value of what was read, if anything was, or its fault.
 abbrev pub value_if : Option json.Data → Result Data ValFault
 value_if None = Err NotJson
 value_if (Some d) = value_kept d

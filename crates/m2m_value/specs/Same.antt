@@ -12,6 +12,7 @@ use Rattle.m2m_value.specs.Data.{no_elements, element, elements_of, Entry, Pairs
 use Rattle.m2m_value.specs.Data.{pairs_of}
 
 abbrev mutual
+  -- Two values are equal: of one kind, and with equal parts at every level.
   pub same : Data → Data → Bool
   same null null = true
   same (boolean a) (boolean b) = beq a b
@@ -21,11 +22,13 @@ abbrev mutual
   same (object a) (object b) = same_pairs a b
   same _ _ = false
 
+  -- Two lists have equal elements in one order, and have as many.
   pub same_elements : Elements → Elements → Bool
   same_elements no_elements no_elements = true
   same_elements (element a xs) (element b ys) = same a b && same_elements xs ys
   same_elements _ _ = false
 
+  -- Two objects have equal keys and values in one order, and have as many.
   pub same_pairs : Pairs → Pairs → Bool
   same_pairs no_pairs no_pairs = true
   same_pairs (pair j a xs) (pair k b ys) = bytes_eq j k && same a b && same_pairs xs ys
@@ -86,6 +89,7 @@ mutual
   pairs-refl (pair k a xs) =
       and_from _ _ (and_from _ _ ((bytes_eq-Decides k k).1 refl) (same-refl a)) (pairs-refl xs)
 
+-- `same` is true exactly of equal values.
 pub same-Decides : (a b : Data) → Decides (same a b) (a ≡ b)
 same-Decides a b = (same-means a b, λ e. subst (λ x. same a x ≡ true) e (same-refl a))
 
@@ -96,6 +100,7 @@ items-means (x ∷ xs) (y ∷ ys) h =
     ap (λ d. d ∷ xs) (same-means x y parts.0) ∙ ap (λ ds. y ∷ ds) (items-means xs ys parts.1)
 items-means _ _ h = absurd (true≢false (sym h))
 
+-- `same_items` is true exactly of equal lists of values.
 pub same_items-Decides : (xs ys : List Data) → Decides (same_items xs ys) (xs ≡ ys)
 same_items-Decides xs ys = (
   items-means xs ys,
@@ -113,6 +118,7 @@ members-means (x ∷ xs) (y ∷ ys) h =
     ∙ ap (λ es. y ∷ es) (members-means xs ys parts.1)
 members-means _ _ h = absurd (true≢false (sym h))
 
+-- `same_members` is true exactly of equal lists of members.
 pub same_members-Decides : (xs ys : List Entry) → Decides (same_members xs ys) (xs ≡ ys)
 same_members-Decides xs ys =
     (members-means xs ys, λ e. subst (λ es. same_members xs es ≡ true) e (pairs-refl (pairs_of xs)))
@@ -121,5 +127,6 @@ same_members-Decides xs ys =
 pub longer_items : (xs ys : List Data) → length xs ≢ length ys → same_items xs ys ≡ false
 longer_items xs ys other = false_from_ne_true _ (λ h. other (ap length (items-means xs ys h)))
 
+-- Lists of members of different lengths are not equal.
 pub longer_members : (xs ys : List Entry) → length xs ≢ length ys → same_members xs ys ≡ false
 longer_members xs ys other = false_from_ne_true _ (λ h. other (ap length (members-means xs ys h)))

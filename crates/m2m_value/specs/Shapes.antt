@@ -43,15 +43,15 @@ is_count_of fits d = option_map_or fits (as_count d) false
 abbrev pub is_object_of : (List Entry → Bool) → Data → Bool
 is_object_of fits d = option_map_or fits (as_object d) false
 
--- its keys are among these
+-- The keys of the object are among these.
 abbrev pub are_keys_among : List (List ℕ) → List Entry → Bool
 are_keys_among keys es = list_all (λ e. is_one_of keys e.0) es
 
--- it has a member of this key, and its value is such a one
+-- The object has a member of this key, and its value passes the test.
 abbrev pub has_member : List ℕ → (Data → Bool) → List Entry → Bool
 has_member key fits es = option_map_or fits (member_of key es) false
 
--- it has no member of this key, or its value is such a one
+-- The object has no member of this key, or its value passes the test.
 abbrev pub may_have_member : List ℕ → (Data → Bool) → List Entry → Bool
 may_have_member key fits es = option_map_or fits (member_of key es) true
 
@@ -63,5 +63,6 @@ label_limit = 256
 abbrev pub is_label_text : List ℕ → Bool
 is_label_text s = is_filled label_limit s
 
+-- The value is the text of a label.
 abbrev pub is_label : Data → Bool
 is_label d = is_text_of is_label_text d

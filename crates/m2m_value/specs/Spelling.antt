@@ -58,12 +58,12 @@ abbrev mutual
   text_of (list es) = 91 ∷ (elements_from es 0 ++ 93 ∷ [])
   text_of (object ps) = 123 ∷ (pairs_from ps 0 ++ 125 ∷ [])
 
-  -- of elements, the first of which stands at a place
+  -- The text of the elements of a list, the first of which stands at this place.
   pub elements_from : Elements → ℕ → List ℕ
   elements_from no_elements place = []
   elements_from (element d es) place = comma_at place ++ (text_of d ++ elements_from es (place + 1))
 
-  -- of members, the first of which stands at a place
+  -- The text of the members of an object, the first of which stands at this place.
   pub pairs_from : Pairs → ℕ → List ℕ
   pairs_from no_pairs place = []
   pairs_from (pair k d ps) place = comma_at place

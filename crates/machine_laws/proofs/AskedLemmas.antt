@@ -13,7 +13,7 @@ use Rattle.entity_model.specs.Places.{Effect, refusal, reply_alone}
 use Rattle.entity_model.specs.Sound.{IsSoundEntity}
 use Rattle.entity_model.proofs.SoundLemmas.{sound_swept}
 use Rattle.create_delete.specs.Changes.{only_in}
-use Rattle.create_delete.specs.Changing.{performed_at}
+use Rattle.create_delete.specs.Changing.{effect_at}
 use Rattle.create_delete.specs.Guard.{NamesInOrder}
 use Rattle.change_laws.specs.Served.{AddsOne, ChangesOne}
 use Rattle.create_delete.proofs.ChangesLemmas.{nothing_apart}
@@ -44,8 +44,8 @@ step_after reading request before after reply target step =
 
 -- as it was performed on the resource of the number, with what it succeeded by
 record Performed (op : Op) (e : EntityData) (request : RequestParts) (after : EntityData) (target : ResourceData) : Type 0 where
-  success : is_success (performed_at op e (claimed_originator e.home request) request target.number).reply.rsc ≡ true
-  left : after ≡ (performed_at op e (claimed_originator e.home request) request target.number).after
+  success : is_success (effect_at op e (claimed_originator e.home request) request target.number).reply.rsc ≡ true
+  left : after ≡ (effect_at op e (claimed_originator e.home request) request target.number).after
 
 performed_step : (op : Op) (reading : ℕ) (request : RequestParts) (before after : EntityData) (reply : ReplyParts) (target : ResourceData) → request.op ≡ op → operation_effect op (swept reading before) request target ≡ change_effect op (swept reading before) request target → IsServedStep reading request before after reply target → Performed op (swept reading before) request after target
 performed_step op reading request before after reply target is changes step =
@@ -63,17 +63,17 @@ create_adds reading request before after reply target sound op step =
     let e = swept reading before in
     let o = claimed_originator e.home request in
     let on = served_step reading request before after reply target step in
-    let performed = performed_step Create reading request before after reply target op refl step in
-    subst (AddsOne e target.number) (sym performed.left)
-    (creation_adds_one e o request target.number (sound_swept reading before sound) on.originator step.step.2 performed.success)
+    let effect_on = performed_step Create reading request before after reply target op refl step in
+    subst (AddsOne e target.number) (sym effect_on.left)
+    (creation_adds_one e o request target.number (sound_swept reading before sound) on.originator step.step.2 effect_on.success)
 
 pub update_changes : UpdatesChangeTheirTarget
 update_changes reading request before after reply target sound op step =
     let e = swept reading before in
     let o = claimed_originator e.home request in
-    let performed = performed_step Update reading request before after reply target op refl step in
-    subst (ChangesOne e target.number) (sym performed.left)
-    (update_alone e o request target.number (sound_swept reading before sound) step.step.2 performed.success)
+    let effect_on = performed_step Update reading request before after reply target op refl step in
+    subst (ChangesOne e target.number) (sym effect_on.left)
+    (update_alone e o request target.number (sound_swept reading before sound) step.step.2 effect_on.success)
 
 pub delete_takes : DeletesTakeTheirTarget
 delete_takes reading request before after reply target op step =

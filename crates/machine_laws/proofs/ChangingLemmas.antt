@@ -35,12 +35,12 @@ use Rattle.retrieve_laws.specs.Guard.{OthersAreShownByRight}
 use Rattle.retrieve_laws.specs.Told.{addresses_in, ids_below, listed_parts, references_in, shown_id, shown_reference, values_under}
 use Rattle.retrieve_laws.proofs.RightLemmas.{addresses_under, ids_under, references_under}
 use Rattle.retrieve_laws.proofs.ToldLemmas.{none_referred, none_under}
-use Rattle.create_delete.specs.Changing.{create_effect, created_content, delete_effect, done_by, filling_of, performed_at, told_rows, update_effect, updated_content, updated_resource}
+use Rattle.create_delete.specs.Changing.{create_effect, created_content, delete_effect, effect_by, container_update_of, effect_at, told_rows, update_effect, updated_content, updated_resource}
 use Rattle.create_delete.specs.Guard.{ChangesByRight, NamesInOrder}
 use Rattle.create_delete.proofs.RightLemmas.{changes_by_right}
 use Rattle.create_delete.proofs.DeletionLemmas.{is_deletable, deletable, delete_done}
 use Rattle.create_delete.proofs.JoinedLemmas.{joined_home, joined_last, joined_next}
-use Rattle.create_delete.proofs.PerformedLemmas.{done_at, no_right, refused_at}
+use Rattle.create_delete.proofs.EffectLemmas.{done_at, no_right, refused_at}
 use Rattle.cse_machine.specs.Answer.{addressed}
 use Rattle.machine_laws.specs.Guard.{is_success, DoesShow, HasRight, IsGuardedAlone}
 use Rattle.cse_machine.specs.Rights.{claimed_originator}
@@ -90,7 +90,7 @@ pub still_kept : (e : EntityData) (reply : ReplyParts) → IsKept e (reply_alone
 still_kept e reply = record { home = refl; last = refl; next = omega arith; unserved = λ none. refl }
 
 -- what shows something, is done by right
-pub shows_by_right : (op : Op) (e : EntityData) (request : RequestParts) (t : ResourceData) → at t.number e.nodes ≡ Some t → addressed e request.to ≡ Some t → request.op ≡ op → DoesShow (performed_at op e (claimed_originator e.home request) request t.number).reply → HasRight e request
+pub shows_by_right : (op : Op) (e : EntityData) (request : RequestParts) (t : ResourceData) → at t.number e.nodes ≡ Some t → addressed e request.to ≡ Some t → request.op ≡ op → DoesShow (effect_at op e (claimed_originator e.home request) request t.number).reply → HasRight e request
 shows_by_right op e request t there named is shows =
     let o = claimed_originator e.home request in
     elim (cases_Bool (may_do op e o request t.number)) [
@@ -145,10 +145,10 @@ module _ (e : EntityData) (request : RequestParts) (t : ResourceData) (there : a
   who = claimed_originator e.home request
 
   -- what holds of a refusal, and of what is done, holds of what comes of an operation
-  comes : (op : Op) (P : Effect → Type 0) → ((f : Rsc) → is_success f ≡ false → P (refused e request f)) → P (done_by op e who request t) → P (performed_at op e who request t.number)
+  comes : (op : Op) (P : Effect → Type 0) → ((f : Rsc) → is_success f ≡ false → P (refused e request f)) → P (effect_by op e who request t) → P (effect_at op e who request t.number)
   comes op P refuses does = by_place (fault_at op e who request t.number) refl
     where
-      by_place : (fault : Option Rsc) → fault_at op e who request t.number ≡ fault → P (performed_at op e who request t.number)
+      by_place : (fault : Option Rsc) → fault_at op e who request t.number ≡ fault → P (effect_at op e who request t.number)
       by_place (Some f) is = subst P (sym (refused_at op e who request t.number f is)) (refuses f (refuses_at op e who request t.number f is))
       by_place None is = subst P (sym (done_at op e who request t.number t there is)) does
 
@@ -157,7 +157,7 @@ module _ (e : EntityData) (request : RequestParts) (t : ResourceData) (there : a
   created_kept (Some ty) =
       let made = creation_by e who request t ty in
       let r = new_resource made in
-      let f = filling_of made in
+      let f = container_update_of made in
       record { home = joined_home e r f; last = joined_last e r f; next = joined_next e r f; unserved = λ none. absurd (true≢false none) }
 
   created_told : (ty : Option Ty) → IsToldByRight e request (option_map_or (λ (y : Ty). create_effect request (creation_by e who request t y)) ty (refused e request BadChild)).reply
@@ -166,10 +166,10 @@ module _ (e : EntityData) (request : RequestParts) (t : ResourceData) (there : a
       let made = creation_by e who request t ty in
       tells_none e request Created (created_content (unwrap_or request.rcn (pos 1)) e (new_resource made)) (created_tells (unwrap_or request.rcn (pos 1)) e (new_resource made))
 
-  pub create_kept : IsKept e (performed_at Create e who request t.number)
+  pub create_kept : IsKept e (effect_at Create e who request t.number)
   create_kept = comes Create (IsKept e) (λ f other. still_kept e (refusal request f)) (created_kept (child_ty request))
 
-  pub create_told : IsToldByRight e request (performed_at Create e who request t.number).reply
+  pub create_told : IsToldByRight e request (effect_at Create e who request t.number).reply
   create_told = comes Create (λ x. IsToldByRight e request x.reply) (λ f other. tells_nothing e request f) (created_told (child_ty request))
 
   updated_kept : (es : List Entry) → IsKept e (update_effect e request es t)
@@ -180,14 +180,14 @@ module _ (e : EntityData) (request : RequestParts) (t : ResourceData) (there : a
       let now = updated_resource e es t in
       tells_none e request Updated (updated_content (unwrap_or request.rcn (pos 1)) e es now) (updated_tells (unwrap_or request.rcn (pos 1)) e es now)
 
-  pub update_kept : IsKept e (performed_at Update e who request t.number)
+  pub update_kept : IsKept e (effect_at Update e who request t.number)
   update_kept = comes Update (IsKept e) (λ f other. still_kept e (refusal request f)) (updated_kept (named_by Update request t))
 
-  pub update_told : IsToldByRight e request (performed_at Update e who request t.number).reply
+  pub update_told : IsToldByRight e request (effect_at Update e who request t.number).reply
   update_told = comes Update (λ x. IsToldByRight e request x.reply) (λ f other. tells_nothing e request f) (updated_told (named_by Update request t))
 
   -- what an operation changes, it changes by right
-  pub change_guarded : (op : Op) → IsSoundEntity e → is_originator who ≡ true → NamesInOrder request → addressed e request.to ≡ Some t → request.op ≡ op → IsToldByRight e request (performed_at op e who request t.number).reply → IsGuardedAlone e request (performed_at op e who request t.number).reply (performed_at op e who request t.number).after
+  pub change_guarded : (op : Op) → IsSoundEntity e → is_originator who ≡ true → NamesInOrder request → addressed e request.to ≡ Some t → request.op ≡ op → IsToldByRight e request (effect_at op e who request t.number).reply → IsGuardedAlone e request (effect_at op e who request t.number).reply (effect_at op e who request t.number).after
   change_guarded op sound originator names named is told =
       let by = changes_by_right op e who request t.number sound originator names in
       record {
@@ -196,7 +196,7 @@ module _ (e : EntityData) (request : RequestParts) (t : ResourceData) (there : a
         changes = inr (record {
           target = t;
           named = named;
-          right = subst (λ (p : Op). ChangesByRight p e who t.number (performed_at op e who request t.number).after) (sym is) by;
+          right = subst (λ (p : Op). ChangesByRight p e who t.number (effect_at op e who request t.number).after) (sym is) by;
         });
       }
 
@@ -212,7 +212,7 @@ module _ (e : EntityData) (request : RequestParts) (t : ResourceData) (there : a
   o = claimed_originator e.home request
 
   abbrev deleted : Effect
-  deleted = performed_at Delete e o request t.number
+  deleted = effect_at Delete e o request t.number
 
   deleting : Deleting e request t deleted
   deleting = by_fault (fault_at Delete e o request t.number) refl

@@ -27,7 +27,7 @@ use Rattle.request_rules.specs.Order.{creation_by, creation_places, fault_on, fa
 use Rattle.request_rules.specs.Requests.{child_ty}
 use Rattle.request_rules.specs.Rights.{is_discovery}
 use Rattle.retrieve_discover.specs.Replies.{retrieved_of}
-use Rattle.create_delete.specs.Changing.{done_by}
+use Rattle.create_delete.specs.Changing.{effect_by}
 use Rattle.cse_machine.specs.declared.event.Outcome.TheVariants.{Done, Starved}
 use Rattle.cse_machine.specs.Answer.{EventEffect, address_effect, addressed, as_done, change_effect, does_serve, operation_effect, reading_reply, resource_at, resource_effect}
 use Rattle.machine_laws.specs.Complete.{IsSuccess, MayBeDone, WhatMayBeServedIsServed}
@@ -53,9 +53,9 @@ module _ (e : EntityData) (request : RequestParts) (r : ResourceData) where
   o = claimed_originator e.home request
 
   -- where no place refuses it, a change is done
-  done_unrefused : (op : Op) → fault_on op e o request r ≡ None → change_effect op e request r ≡ done_by op e o request r
+  done_unrefused : (op : Op) → fault_on op e o request r ≡ None → change_effect op e request r ≡ effect_by op e o request r
   unfolding change_effect
-  done_unrefused op none = ap (λ (f : Option Rsc). option_map_or (refused e request) f (done_by op e o request r)) none
+  done_unrefused op none = ap (λ (f : Option Rsc). option_map_or (refused e request) f (effect_by op e o request r)) none
 
   -- the places of a creation
   create_unrefused : (ty : Ty) → child_ty request ≡ Some ty → MayBeDone Create e request r → fault_on Create e o request r ≡ None

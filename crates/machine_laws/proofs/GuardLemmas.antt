@@ -19,7 +19,7 @@ use Rattle.retrieve_discover.specs.Replies.{discovered, retrieved}
 use Rattle.retrieve_laws.proofs.RightLemmas.{discovered_by_right, retrieved_by_right}
 use Rattle.addressing.specs.declared.spot.Spot.{Spot}
 use Rattle.addressing.specs.declared.spot.Spot.TheVariants.{Resource, Fan, Poll}
-use Rattle.create_delete.specs.Changing.{performed_at}
+use Rattle.create_delete.specs.Changing.{effect_at}
 use Rattle.create_delete.specs.Guard.{NamesInOrder}
 use Rattle.create_delete.proofs.RightLemmas.{stays_sound}
 use Rattle.cse_machine.specs.declared.event.Outcome.TheVariants.{Done}
@@ -84,7 +84,7 @@ module _ (e : EntityData) (sound : IsSoundEntity e) (request : RequestParts) (r 
 -- what a served operation on what its address names gives
 module _ (e : EntityData) (request : RequestParts) (r : ResourceData) (there : at r.number e.nodes ≡ Some r) where
   -- what comes of a change, as what is done on the resource of the number
-  as_changed : (op : Op) (P : Effect → Type 0) → P (performed_at op e (claimed_originator e.home request) request r.number) → P (change_effect op e request r)
+  as_changed : (op : Op) (P : Effect → Type 0) → P (effect_at op e (claimed_originator e.home request) request r.number) → P (change_effect op e request r)
   as_changed op P holds = subst P (sym (changing_at op e request r there)) holds
 
   operated_guarded : (op : Op) → IsSoundEntity e → is_originator (claimed_originator e.home request) ≡ true → NamesInOrder request → does_serve op request ≡ true → request.op ≡ op → addressed e request.to ≡ Some r → IsGuardedIn e request (operation_effect op e request r)
@@ -199,6 +199,6 @@ pub served_after : (e : EntityData) (request : RequestParts) (target : ResourceD
 served_after e request target served = ap (λ (x : EventEffect). x.after) served.is
 
 -- as it was performed on the resource of the number
-pub performed_is : (op : Op) (e : EntityData) (request : RequestParts) (target : ResourceData) → request.op ≡ op → at target.number e.nodes ≡ Some target → operation_effect op e request target ≡ change_effect op e request target → operation_effect request.op e request target ≡ performed_at op e (claimed_originator e.home request) request target.number
+pub performed_is : (op : Op) (e : EntityData) (request : RequestParts) (target : ResourceData) → request.op ≡ op → at target.number e.nodes ≡ Some target → operation_effect op e request target ≡ change_effect op e request target → operation_effect request.op e request target ≡ effect_at op e (claimed_originator e.home request) request target.number
 performed_is op e request target is there changes =
     ap (λ (p : Op). operation_effect p e request target) is ∙ changes ∙ changing_at op e request target there

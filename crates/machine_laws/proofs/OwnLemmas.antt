@@ -2,7 +2,7 @@
 use Rattle.std.specs.Prelude.{bytes_eq, find, nat_lt}
 use Rattle.std.proofs.Common.{◌≡◌, ℕ, ◌<◌, ◌^◌, Bool, true, false, List, [], ◌∷◌, ◌++◌, Some, None, inl, inr, refl, sym, ap, ap₂, ◌∙◌, arith}
 use Rattle.std.specs.Option.{option_map, option_or}
-use Rattle.std.proofs.lemmas.Bool.{and_from, and_parts, both_ways, cases_Bool, eqb-true, false_from_ne_true, lt-ltb, ltb-true, or_cases}
+use Rattle.std.proofs.lemmas.Bool.{both_ways, cases_Bool, eqb-true, false_from_ne_true, lt-ltb, ltb-true, or_cases}
 use Rattle.std.proofs.lemmas.List.Folds.{find-append}
 use Rattle.std.proofs.lemmas.Slice.Eq.{bytes_eq-Decides}
 use Rattle.resource_model.specs.Resource.{ResourceData}
@@ -13,6 +13,8 @@ use Rattle.entity_model.specs.Entity.{EntityData}
 use Rattle.entity_model.specs.Sound.{IsSoundEntity, begins_with_base}
 use Rattle.retrieve_laws.specs.Guard.{HasOwnAddresses}
 use Rattle.retrieve_laws.proofs.OwnLemmas.{own_addresses}
+use Rattle.entity_model.proofs.SoundLemmas.{base_parts}
+use Rattle.m2m_names.proofs.ListLemmas.{all_weaker}
 
 -- ---- under nothing stands the first resource alone
 
@@ -54,7 +56,7 @@ module _ (e : EntityData) (sound : IsSoundEntity e) where
   first_other : (text : List ℕ) (nodes : List ResourceData) → bytes_eq text e.home.base ≡ false → begins_with_base e.home nodes ≡ true → is_first_named text nodes ≡ false
   first_other text [] apart base = refl
   first_other text (b ∷ nodes) apart base = false_from_ne_true _ (λ t.
-      let own : b.name ≡ e.home.base = (bytes_eq-Decides b.name e.home.base).0 (and_parts _ (bytes_eq b.name e.home.base) base).1 in
+      let own : b.name ≡ e.home.base = (base_parts e.home b nodes base).name in
       let same : b.name ≡ text = (bytes_eq-Decides b.name text).0 t in
       both_ways _ apart ((bytes_eq-Decides text e.home.base).1 (sym same ∙ own)))
 
@@ -72,11 +74,7 @@ module _ (e : EntityData) (sound : IsSoundEntity e) where
   ]
 
   small_numbers : (nodes : List ResourceData) → are_below e.next nodes ≡ true → are_below (2 ^ 63) nodes ≡ true
-  small_numbers [] below = refl
-  small_numbers (r ∷ nodes) below =
-      let parts = and_parts (nat_lt r.number e.next) (are_below e.next nodes) below in
-      let less : r.number < e.next = ltb-true r.number e.next parts.0 in
-      and_from _ _ (lt-ltb r.number (2 ^ 63) (omega (arith, less, sound.next))) (small_numbers nodes parts.1)
+  small_numbers nodes below = all_weaker (λ (r : ResourceData). nat_lt r.number e.next) (λ (r : ResourceData). nat_lt r.number (2 ^ 63)) (λ r low. let less : r.number < e.next = ltb-true r.number e.next low in lt-ltb r.number (2 ^ 63) (omega (arith, less, sound.next))) nodes below
 
   -- no two of its resources have one address
   pub apart_addresses : HasOwnAddresses e.nodes

@@ -37,7 +37,7 @@ use Rattle.request_rules.specs.Requests.{is_for}
 use Rattle.retrieve_discover.specs.Replies.{discovered, retrieved}
 use Rattle.retrieve_laws.proofs.AnswerLemmas.{retrieved-seen}
 use Rattle.retrieve_laws.proofs.SightLemmas.{discovered-seen}
-use Rattle.create_delete.specs.Changing.{delete_effect, performed}
+use Rattle.create_delete.specs.Changing.{delete_effect, effect_on}
 use Rattle.cse_machine.specs.declared.event.Outcome.TheVariants.{Done}
 use Rattle.cse_machine.specs.Answer.{EventEffect, address_effect, as_done, is_served, first_places, change_effect, operation_effect, found_effect, reading_reply, resource_effect, spot_effect, effect_of}
 use Rattle.request_rules.specs.Rights.{is_discovery}
@@ -138,15 +138,15 @@ module _ (e : EntityData) (o : List ℕ) (well : is_well_formed e.nodes ≡ true
     after = ap (λ (ns : List ResourceData). record seeing { nodes = ns }) (seen_list-twice e.home e.nodes o well (has_number r.number) (has_number r.number) (λ s found. refl));
   }
 
-  performed_seen : (request : RequestParts) (r : ResourceData) → AreSeenAlike o (performed Delete seeing o request (see r)) (performed Delete e o request r)
+  performed_seen : (request : RequestParts) (r : ResourceData) → AreSeenAlike o (effect_on Delete seeing o request (see r)) (effect_on Delete e o request r)
   performed_seen request r =
-      subst (λ (f : Option Rsc). AreSeenAlike o (option_map_or (refused seeing request) f (delete_effect seeing request (see r))) (performed Delete e o request r)) (sym (delete_refused request r))
+      subst (λ (f : Option Rsc). AreSeenAlike o (option_map_or (refused seeing request) f (delete_effect seeing request (see r))) (effect_on Delete e o request r)) (sym (delete_refused request r))
       (by_fault seeing e o request (fault_on Delete e o request r) (delete_effect seeing request (see r)) (delete_effect e request r) sight_twice (delete_left request r))
 
   delete_seen : (request : RequestParts) (r : ResourceData) → claimed_originator e.home request ≡ o → AreSeenAlike o (change_effect Delete seeing request (see r)) (change_effect Delete e request r)
   unfolding change_effect
   delete_seen request r by =
-      subst (λ (t : List ℕ). AreSeenAlike o (performed Delete seeing t request (see r)) (performed Delete e t request r)) (sym by) (performed_seen request r)
+      subst (λ (t : List ℕ). AreSeenAlike o (effect_on Delete seeing t request (see r)) (effect_on Delete e t request r)) (sym by) (performed_seen request r)
 
   -- an operation that is covered gives what is seen alike
   operated_seen : (op : Op) (request : RequestParts) (r : ResourceData) → does_cover op ≡ true → claimed_originator e.home request ≡ o → AreSeenAlike o (operation_effect op seeing request (see r)) (operation_effect op e request r)

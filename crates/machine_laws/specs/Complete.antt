@@ -38,14 +38,14 @@ pub record MayBeMade (c : Creation) : Type 0 where
   pub room : IsTrue (has_room c)
 
 -- an operation that creates something may make it
-abbrev pub MayCreate : Op → EntityData → RequestParts → ResourceData → Type 0
-MayCreate Create e request parent =
+abbrev pub MayMakeChild : Op → EntityData → RequestParts → ResourceData → Type 0
+MayMakeChild Create e request parent =
     (ty : Ty) → child_ty request ≡ Some ty
     → MayBeMade (creation_by e (claimed_originator e.home request) request parent ty)
-MayCreate Retrieve e request target = Unit {0}
-MayCreate Update e request target = Unit {0}
-MayCreate Delete e request target = Unit {0}
-MayCreate Notify e request target = Unit {0}
+MayMakeChild Retrieve e request target = Unit {0}
+MayMakeChild Update e request target = Unit {0}
+MayMakeChild Delete e request target = Unit {0}
+MayMakeChild Notify e request target = Unit {0}
 
 -- what is shown meets the conditions of the request; a discovery asks them of what it finds
 abbrev pub MeetsConditions : Op → EntityData → RequestParts → ResourceData → Type 0
@@ -77,7 +77,7 @@ pub record MayBeDone (op : Op) (e : EntityData) (request : RequestParts) (target
   pub content : IsTrue (admits_content op request target)
   pub expiry : IsTrue (expires_later e (named_by op request target))
   pub links : IsTrue (links_live e (named_by op request target))
-  pub creation : MayCreate op e request target
+  pub creation : MayMakeChild op e request target
   pub conditions : MeetsConditions op e request target
 
 -- ---- what it is answered then

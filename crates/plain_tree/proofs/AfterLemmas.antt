@@ -14,6 +14,7 @@ use Rattle.std.specs.Result.{is_ok}
 use Rattle.resource_model.specs.Resource.{ResourceData}
 use Rattle.tree_model.specs.Tree.{all_after, comes_after, next_after, resource_number, AreAscending, DoAscend}
 use Rattle.plain_tree.proofs.PlaceLemmas.{below_not_above, equal_is, greater_is, less_is, number_order}
+use Rattle.tree_model.proofs.RowLemmas.{filter_swap}
 
 -- ---- after a number
 
@@ -56,19 +57,6 @@ pub next_at : (n : ℕ) (nodes : List ResourceData) (i : ℕ) → all_after n no
 next_at n nodes i after =
     sym (first_passes (comes_after n) nodes ∙ ap (λ (ss : List ResourceData). slice_get ss 0) after ∙ dropped_first nodes i)
 
-filter_either : (p q : ResourceData → Bool) (nodes : List ResourceData) → filter p (filter q nodes) ≡ filter q (filter p nodes)
-filter_either p q [] = refl
-filter_either p q (s ∷ nodes) = elim (cases_Bool (p s)) [
-  | inl t ↦ elim (cases_Bool (q s)) [
-    | inl u ↦ rw (t, u, t) (ap (λ (ss : List ResourceData). s ∷ ss) (filter_either p q nodes))
-    | inr v ↦ rw (t, v) (filter_either p q nodes)
-  ]
-  | inr f ↦ elim (cases_Bool (q s)) [
-    | inl u ↦ rw (f, u, f) (filter_either p q nodes)
-    | inr v ↦ rw (f, v) (filter_either p q nodes)
-  ]
-]
-
 -- the first of a filter that comes after a number is the first behind that place
 pub next_of : (p : ResourceData → Bool) (n : ℕ) (nodes : List ResourceData) (i : ℕ) → all_after n nodes ≡ drop i nodes → resource_number (find p (take (length nodes - i) (drop i nodes))) ≡ resource_number (next_after n (filter p nodes))
 next_of p n nodes i after =
@@ -76,7 +64,7 @@ next_of p n nodes i after =
     (ap (find p) (take_all (length nodes - i) (drop i nodes) (omega (arith, length-drop i nodes)))
     ∙ first_passes p (drop i nodes)
     ∙ ap (λ (ss : List ResourceData). slice_get (filter p ss) 0) (sym after)
-    ∙ ap (λ (ss : List ResourceData). slice_get ss 0) (filter_either p (comes_after n) nodes)
+    ∙ ap (λ (ss : List ResourceData). slice_get ss 0) (filter_swap p (comes_after n) nodes)
     ∙ sym (first_passes (comes_after n) (filter p nodes)))
 
 -- ---- one of several numbers

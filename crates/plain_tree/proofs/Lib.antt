@@ -2,3 +2,4 @@ pub mod PlaceLemmas
 pub mod SweepLemmas
 pub mod RemovalLemmas
 pub mod AfterLemmas
+pub mod LeafLemmas

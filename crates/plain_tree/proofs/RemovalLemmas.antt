@@ -1,7 +1,7 @@
 -- What a removal in place tests, and what it would test of the whole.
 use Rattle.std.specs.Prelude.{◌==◌}
-use Rattle.std.proofs.Common.{◌≡◌, ℕ, List, ◌++◌, take, drop, Bool, true, false, cond, not, ◌&&◌, ◌||◌, Option, Some, None, inl, inr, refl, sym, ap, ◌∙◌}
-use Rattle.std.proofs.lemmas.Bool.{cases_Bool, or_cases, eqb-true, both_ways}
+use Rattle.std.proofs.Common.{◌≡◌, ℕ, List, ◌++◌, take, drop, Bool, true, false, not, ◌&&◌, ◌||◌, Option, Some, inl, inr, refl, sym, ap, ◌∙◌}
+use Rattle.std.proofs.lemmas.Bool.{cases_Bool, or_cases, eqb-true, both_ways, and_right}
 use Rattle.std.specs.Option.{option_or}
 use Rattle.resource_model.specs.Resource.{ResourceData}
 use Rattle.plain_tree.specs.Removal.{picks_of}
@@ -11,21 +11,13 @@ use Rattle.plain_tree.specs.declared.removing.Removal.TheVariants.{Of, Those, Du
 use Rattle.tree_model.proofs.GrowthLemmas.{zero_lacks, at-without}
 use Rattle.plain_tree.proofs.SweepLemmas.{IsSwept}
 use Rattle.tree_model.proofs.TreeLemmas.{at_none, at-append, has_at}
-
-and_no : (a : Bool) → (a && false) ≡ false
-and_no true = refl
-and_no false = refl
-
--- what is kept of a look-up that was found is what was looked up
-kept_found : (spared : Bool) (o : Option ResourceData) (s : ResourceData) → cond spared o None ≡ Some s → o ≡ Some s
-kept_found true o s found = found
-kept_found false o s found = cc
+use Rattle.m2m_names.proofs.StepLemmas.{chosen}
 
 -- what stands among the first of what stays stands so in the whole
 found_in_front : (p : ResourceData → Bool) (all front rest : List ResourceData) (n : ℕ) (s : ResourceData) → is_tree all ≡ true → front ++ rest ≡ without p all → at n front ≡ Some s → at n all ≡ Some s
 found_in_front p all front rest n s tree is found =
     let here : at n (front ++ rest) ≡ Some s = at-append n front rest ∙ ap (λ (o : Option ResourceData). option_or o (at n rest)) found in
-    kept_found (is_spared p all n) (at n all) s (sym (at-without p n all tree) ∙ ap (at n) (sym is) ∙ here)
+    (chosen (is_spared p all n) (at n all) s (sym (at-without p n all tree) ∙ ap (at n) (sym is) ∙ here)).1
 
 -- the parent of what may stay is read among what stayed
 parent_same : (p : ResourceData → Bool) (all front rest : List ResourceData) (r : ResourceData) → is_tree all ≡ true → front ++ rest ≡ without p all → ((r.parent == 0) || has r.parent front) ≡ true → at r.parent front ≡ at r.parent all
@@ -50,6 +42,6 @@ picked_stays (Due moment) all now stayed place r tree h = elim (cases_Bool ((r.p
       let same : at r.parent (take stayed now) ≡ at r.parent all = parent_same (is_due all moment) all (take stayed now) (staying (is_due all moment) (take stayed now) (drop place now)) r tree h.pass may in
       ap (λ (o : Option ResourceData). not (is_due_under o moment r) && ((r.parent == 0) || has r.parent (take stayed now))) same
   | inr gone ↦
-      ap (λ b. not (is_due (take stayed now) moment r) && b) gone ∙ and_no (not (is_due (take stayed now) moment r))
-      ∙ sym (ap (λ b. not (is_due all moment r) && b) gone ∙ and_no (not (is_due all moment r)))
+      ap (λ b. not (is_due (take stayed now) moment r) && b) gone ∙ and_right (not (is_due (take stayed now) moment r)) false refl
+      ∙ sym (ap (λ b. not (is_due all moment r) && b) gone ∙ and_right (not (is_due all moment r)) false refl)
 ]

@@ -11,6 +11,7 @@ picks_under (Of n) parent r = has_number n r
 picks_under (Those numbers) parent r = is_numbered_in numbers.now r
 picks_under (Due moment) parent r = is_due_under parent moment r
 
+-- The removal picks the resource, which stands under its parent in the list.
 abbrev pub picks_of : Removal → List ResourceData → ResourceData → Bool
 picks_of removal nodes r = picks_under removal (at r.parent nodes) r
 

@@ -10,7 +10,8 @@ use crate::placing::place_after;
 use m2m_names::{Attr, Ty};
 use resource_model::Resource;
 
-pub(crate) fn is_child(resource: &Resource, parent: u64, name: &[u8]) -> bool
+/// Whether a resource is the child of a name.
+pub fn is_child(resource: &Resource, parent: u64, name: &[u8]) -> bool
     ensures { result ≡ is_child parent name.now resource.now }
 {
     resource.parent() == parent && resource.name().entries() == name
@@ -22,7 +23,8 @@ fn is_kin(resource: &Resource, ty: Ty, parent: u64) -> bool
     resource.parent() == parent && resource.is(ty)
 }
 
-fn is_ae(resource: &Resource, aei: &[u8]) -> bool
+/// Whether a resource has this AE-ID.
+pub fn is_ae(resource: &Resource, aei: &[u8]) -> bool
     ensures { result ≡ is_ae aei.now resource.now }
 {
     match resource.ae_id() {
@@ -31,7 +33,8 @@ fn is_ae(resource: &Resource, aei: &[u8]) -> bool
     }
 }
 
-fn is_cse(resource: &Resource, csi: &[u8]) -> bool
+/// Whether a resource has this CSE-ID.
+pub fn is_cse(resource: &Resource, csi: &[u8]) -> bool
     ensures { result ≡ is_cse csi.now resource.now }
 {
     match resource.cse_id() {

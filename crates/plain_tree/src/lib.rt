@@ -22,5 +22,6 @@ mod places;
 mod placing;
 mod removing;
 
+pub use finding::{is_ae, is_child, is_cse};
 pub use list_tree::ListTree;
 pub use nodes::Nodes;

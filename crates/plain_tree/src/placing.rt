@@ -27,13 +27,48 @@ pub(crate) fn place(resources: &[Resource], number: u64) -> Result<usize, usize>
     resources.binary_search_by(|resource| number_order(resource, number))
 }
 
-pub(crate) fn found(resources: &[Resource], number: u64) -> Option<&Resource>
+fn halved(resources: &[Resource], number: u64) -> Option<&Resource>
     requires { AreAscending resources.now }
     ensures { option_map (λ r. r.now) result ≡ at number resources.now }
 {
     match place(resources, number) {
         Ok(at) => Some(&resources[at]),
         Err(_) => None,
+    }
+}
+
+/// The resource of a number. It is looked for first where it stands if no other has gone before it,
+/// or none behind it.
+pub(crate) fn found(resources: &[Resource], number: u64) -> Option<&Resource>
+    requires { AreAscending resources.now }
+    ensures { option_map (λ r. r.now) result ≡ at number resources.now }
+{
+    found_near(resources, number, likely_place(resources, number))
+}
+
+fn likely_place(resources: &[Resource], number: u64) -> usize {
+    let from_first = place_from_first(resources, number);
+    if is_number_at(resources, number, from_first) {
+        from_first
+    } else {
+        place_from_last(resources, number)
+    }
+}
+
+// As far behind the first one as their numbers lie apart.
+fn place_from_first(resources: &[Resource], number: u64) -> usize {
+    match resources.first() {
+        Some(first) => number.saturating_sub(first.number()) as usize,
+        None => 0,
+    }
+}
+
+// As far before the last one.
+fn place_from_last(resources: &[Resource], number: u64) -> usize {
+    let last = resources.len().saturating_sub(1);
+    match resources.get(last) {
+        Some(resource) => last.saturating_sub(resource.number().saturating_sub(number) as usize),
+        None => 0,
     }
 }
 
@@ -48,7 +83,7 @@ pub(crate) fn found_near(resources: &[Resource], number: u64, near: usize) -> Op
     } else if is_gap(resources, number, near) {
         None
     } else {
-        found(resources, number)
+        halved(resources, number)
     }
 }
 

@@ -1,6 +1,6 @@
 -- Texts that share a front, and texts that don't.
 use Rattle.std.specs.Prelude.{nat_eq}
-use Rattle.std.proofs.Common.{◌≡◌, ◌≢◌, ℕ, List, [], ◌∷◌, ◌++◌, take, drop, length, true, false, inl, inr, refl, sym, ap, ◌∙◌, append_assoc, Option, Some, None, MatchOption, Bor}
+use Rattle.std.proofs.Common.{◌≡◌, ◌≢◌, ℕ, List, [], ◌∷◌, ◌++◌, take, length, true, false, inl, inr, refl, sym, ap, ◌∙◌, append_assoc, Option, Some, None, MatchOption, Bor}
 use Rattle.std.proofs.lemmas.Bool.{both_ways, false_from_ne_true, eq-eqb, ne_eqb, cases_eq}
 use Rattle.std.proofs.lemmas.Bool.Decides.{Decides-eqb}
 use Rattle.std.proofs.lemmas.Slice.Eq.{bytes_eq-Decides, starts_is, strip_prefix_is}
@@ -8,11 +8,9 @@ use Rattle.std.specs.List.{starts_with}
 use Rattle.std.specs.Str.{bytes_eq}
 use Rattle.std.specs.Cmp.Lexicographic.{pointwise}
 use Rattle.std.proofs.lemmas.List.Prefix.{front_rest}
+use Rattle.m2m_names.proofs.NameLemmas.{starts_rest}
 
 -- a text begins with another exactly where it is that one and a rest
-pub starts_rest : (t w : List ℕ) → starts_with nat_eq t w ≡ true → t ≡ w ++ drop (length w) t
-starts_rest t w is = (starts_is Decides-eqb t w (starts_with nat_eq t w) refl).0 is
-
 pub rest_starts : (t w rest : List ℕ) → t ≡ w ++ rest → starts_with nat_eq t w ≡ true
 rest_starts t w rest e = (starts_is Decides-eqb t w (starts_with nat_eq t w) refl).1 rest e
 

@@ -14,19 +14,23 @@ use Rattle.policy_eval.specs.Rules.{Subjects, named, only, Rule, rules_of, fan_r
 
 -- ---- the bits of `acop`
 
--- those of operations (TS-0001, 9.6.2.1.2)
+-- The bits of `acop` that operations have (TS-0001, 9.6.2.1.2).
 abbrev pub create_bit : ℕ
 create_bit = (op_row Create).bit
 
+-- The bit of RETRIEVE in `acop`.
 abbrev pub retrieve_bit : ℕ
 retrieve_bit = (op_row Retrieve).bit
 
+-- The bit of UPDATE in `acop`.
 abbrev pub update_bit : ℕ
 update_bit = (op_row Update).bit
 
+-- The bit of DELETE in `acop`.
 abbrev pub delete_bit : ℕ
 delete_bit = (op_row Delete).bit
 
+-- The bit of NOTIFY in `acop`.
 abbrev pub notify_bit : ℕ
 notify_bit = (op_row Notify).bit
 

@@ -30,6 +30,7 @@ pub record Rule : Type 0 where
   pub subjects : Subjects
   pub bits : ℕ
 
+-- The rule that gives these originators the operations of these bits (TS-0001, 9.6.2.1).
 abbrev pub rule_for : Subjects → ℕ → Rule
 rule_for subjects bits = record { subjects = subjects; bits = bits }
 
@@ -52,6 +53,7 @@ written_rules rules = object (pairs_of ((acr_name, list (elements_of rules)) ∷
 abbrev pub member_at : List ℕ → Data → Option Data
 member_at key d = option_and_then (member_of key) (as_object d)
 
+-- The member of an object as a whole number.
 abbrev pub member_number : List ℕ → Data → Option ℤ
 member_number key d = option_and_then as_number (member_at key d)
 
@@ -90,14 +92,15 @@ abbrev pub policy_named : List ResourceData → List ℕ → Option ResourceData
 policy_named nodes id =
     option_and_then (of_type AccessControlPolicy) (resource_of_id id nodes)
 
+-- The policy whose id the value is, as a text.
 abbrev pub policy_of : List ResourceData → Data → Option ResourceData
 policy_of nodes id = option_and_then (policy_named nodes) (as_text id)
 
--- those policies of the list that ids name, in the order of the ids
+-- The policies of the list that these ids name, in the order of the ids.
 abbrev pub policies_of : List ResourceData → List Data → List ResourceData
 policies_of nodes ids = filter_map (policy_of nodes) ids
 
--- their rules by one of their two lists, `pv` or `pvs`, joined
+-- The rules of policies by one of their two lists, `pv` or `pvs`, joined.
 abbrev pub rules_by : Attr → List ResourceData → List Data → List Rule
 rules_by attr nodes ids =
     flat_map (λ (p : ResourceData). rules_in (value_of attr p.attrs)) (policies_of nodes ids)

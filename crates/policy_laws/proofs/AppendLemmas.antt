@@ -9,14 +9,14 @@ use Rattle.std.specs.Option.{option_and_then, option_map_or, option_or}
 use Rattle.m2m_names.specs.declared.attributes.Attr.TheVariants.{Acpi, Macp}
 use Rattle.m2m_names.specs.Ids.{id_parts}
 use Rattle.m2m_names.specs.declared.types.Ty.{Ty}
-use Rattle.m2m_names.specs.declared.types.Ty.TheVariants.{AccessControlPolicy, Container, ContentInstance, CseBase, Group}
+use Rattle.m2m_names.specs.declared.types.Ty.TheVariants.{AccessControlPolicy, Container, ContentInstance, Group}
 use Rattle.m2m_value.specs.Data.{Data}
 use Rattle.m2m_value.specs.View.{as_text}
 use Rattle.resource_model.specs.Attributes.{value_of}
 use Rattle.resource_model.specs.Home.{HomeData}
 use Rattle.resource_model.specs.Resource.{ResourceData, is_ty, has_number}
-use Rattle.tree_model.specs.Tree.{at, due, due_under, may_stand, fits_in, is_taken, is_well_formed, of_type, typed_at}
-use Rattle.tree_model.proofs.GrowthLemmas.{IsNext, below_has, grows-append, next_fits, stands, tree_from_well_formed}
+use Rattle.tree_model.specs.Tree.{at, due, due_under, fits_in, is_well_formed, of_type, typed_at}
+use Rattle.tree_model.proofs.GrowthLemmas.{IsNext, below_has, grows-append, next_fits, stands, tree_from_well_formed, FitsIn, fits_parts}
 use Rattle.tree_model.proofs.TreeLemmas.{at-append, at_has, at_number}
 use Rattle.policy_laws.specs.Alike.{Alike, AreAlike, FindAlike}
 use Rattle.policy_laws.specs.Changes.{is_id_of, does_link, is_linked, learns_limits}
@@ -24,10 +24,12 @@ use Rattle.policy_eval.specs.Rules.{listed_in, fan_rules, policy_named, policy_o
 use Rattle.policy_eval.specs.Rights.{bits_by, has_bits, update_bit}
 use Rattle.policy_laws.specs.Seen.{create_bit, retrieve_bit, has_bit, fills, is_filled_in, seen, seen_list}
 use Rattle.policy_laws.proofs.AlikeLemmas.{alike_itself, append-alike, at-alike, fan_rules-alike, map_from_zip, rules-alike, ty-alike}
-use Rattle.policy_laws.proofs.DueLemmas.{due_base, due_other, in_container, or_none, same_fill, same_may}
+use Rattle.policy_laws.proofs.DueLemmas.{in_container, same_fill, same_may}
 use Rattle.policy_laws.proofs.EqualLemmas.{same_alike}
 use Rattle.policy_laws.proofs.LookupLemmas.{FindSame, FindsSame, MaySame, find_itself, judge_itself, may_the_same, seen_found, seen_same}
 use Rattle.policy_laws.proofs.TwiceLemmas.{zip-found}
+use Rattle.m2m_names.proofs.LookupLemmas.{option_or-None}
+use Rattle.tree_model.proofs.QuietLemmas.{due_plain}
 
 -- what has the type and is a policy; that of an id's type and number
 abbrev policy_of_type : Ty → Option ResourceData → Option ResourceData
@@ -111,16 +113,16 @@ module _ (xs : List ResourceData) (r : ResourceData) (well : is_well_formed (xs 
   halves : (is_well_formed xs ≡ true) × (fits_in xs r ≡ true)
   halves = and_parts (is_well_formed xs) (fits_in xs r) (sym (grows-append fits_in [] xs r) ∙ well)
 
-  next_parts : (may_stand xs r ≡ true) × (is_taken xs r ≡ true)
-  next_parts = and_parts (may_stand xs r) (is_taken xs r) halves.1
+  next_parts : FitsIn xs r
+  next_parts = fits_parts xs r halves.1
 
   next : IsNext xs r
-  next = next_fits xs r next_parts.0
+  next = next_fits xs r next_parts.stands
 
   at_earlier : (n : ℕ) → n < r.number → at n (xs ++ r ∷ []) ≡ at n xs
   at_earlier n below =
       let apart : has_number n r ≡ false = ne_eqb r.number n (λ e. omega arith) in
-      at-append n xs (r ∷ []) ∙ rw apart (or_none (at n xs))
+      at-append n xs (r ∷ []) ∙ rw apart (option_or-None (at n xs))
 
   -- the parent of what stood there is found as before
   at_parent : (n : ℕ) (s : ResourceData) → at n xs ≡ Some s → at s.parent (xs ++ r ∷ []) ≡ at s.parent xs
@@ -175,7 +177,7 @@ module _ (xs : List ResourceData) (r : ResourceData) (well : is_well_formed (xs 
       learned instance None found learns = absurd (let none : false ≡ true = rw found at learns in both_ways _ refl none)
       learned instance (Some p) found learns =
           let zs = xs ++ r ∷ [] in
-          let container : is_ty p.ty Container ≡ true = in_container xs r p next_parts.1 instance found in
+          let container : is_ty p.ty Container ≡ true = in_container xs r p next_parts.taken instance found in
           let number : p.number ≡ r.parent = at_number r.parent xs p found in
           let before : r.parent < r.number = below_has r.number r.parent xs next.number (at_has r.parent xs p found) in
           let there : at r.parent zs ≡ Some p = at_earlier r.parent before ∙ found in
@@ -201,10 +203,7 @@ append-same home xs ys o r wellx welly unlinked learns same =
           let alike_test : (has_bit home zs o retrieve_bit r || is_filled_in home zs o r) ≡ (has_bit home ws o retrieve_bit r || is_filled_in home ws o r) =
           ap (λ b. b || is_filled_in home zs o r) (both.may retrieve_bit) ∙ ap (λ b. has_bit home ws o retrieve_bit r || b) both.inside in
           absurd (both_ways _ (alike_test ∙ hides) tells)
-      | inr other ↦ elim (cases_Bool (is_ty r.ty CseBase)) [
-        | inl base ↦ due_base (at r.parent zs) r base ∙ sym (due_base (at r.parent ws) r base)
-        | inr f ↦ due_other (at r.parent zs) r f other ∙ sym (due_other (at r.parent ws) r f other)
-      ]
+      | inr other ↦ due_plain (at r.parent zs) (at r.parent ws) r other
     ] in
     seen_list_before xs r wellx unlinked home o
     ∙ ap (λ (rs : List ResourceData). rs ++ seen home zs o r ∷ []) same

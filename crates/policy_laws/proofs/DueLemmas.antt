@@ -1,10 +1,9 @@
 -- What is due and what is live is the same on what an originator sees.
-use Rattle.std.specs.Prelude.{nat_le, nat_lt, unwrap_or}
-use Rattle.std.proofs.Common.{◌≡◌, ℕ, ◌+◌, ◌<◌, ◌==◌, List, [], ◌∷◌, ◌++◌, map, Bool, true, false, cond, ◌&&◌, ◌||◌, Option, Some, None, option_map, inl, inr, refl, sym, ap, ◌∙◌, subst, arith}
-use Rattle.std.proofs.lemmas.Bool.{cases_Bool, both_ways, and_from, and_left, and_parts, and_right, or_cases, or_from, or_left, or_parts, or_right, cond-true, cond-false, eqb-true, ltb-true, lt-ltb, ne_eqb}
-use Rattle.std.proofs.lemmas.List.Folds.{list_all-append}
-use Rattle.std.specs.List.{list_all, list_any}
-use Rattle.std.specs.Option.{option_and_then, option_map_or, option_or}
+use Rattle.std.specs.Prelude.{nat_le, unwrap_or}
+use Rattle.std.proofs.Common.{◌≡◌, ℕ, ◌+◌, ◌==◌, List, map, Bool, true, false, cond, ◌||◌, Option, Some, None, option_map, inl, inr, refl, sym, ap, ◌∙◌, subst}
+use Rattle.std.proofs.lemmas.Bool.{cases_Bool, both_ways, and_left, and_right, or_cases, or_from, or_left, or_parts, or_right, cond-true, cond-false, eqb-true}
+use Rattle.std.specs.List.{list_any}
+use Rattle.std.specs.Option.{option_and_then, option_map_or}
 use Rattle.m2m_names.specs.Types.{does_take, ty_row}
 use Rattle.m2m_names.specs.declared.attributes.Attr.TheVariants.{Mia, Pv}
 use Rattle.m2m_names.specs.declared.types.Ty.{Ty}
@@ -13,11 +12,11 @@ use Rattle.m2m_value.specs.Data.{Data}
 use Rattle.m2m_value.specs.Shapes.{as_count}
 use Rattle.resource_model.specs.Attributes.{value_of}
 use Rattle.resource_model.specs.Home.{HomeData}
-use Rattle.resource_model.specs.Resource.{ResourceData, is_ty, has_number}
-use Rattle.tree_model.specs.Tree.{at, due, due_under, lesser, is_due, live, are_below, may_stand, fits_in, is_taken, is_well_formed}
-use Rattle.tree_model.proofs.GrowthLemmas.{growth, next_above_parent, next_fits, tree_from_well_formed}
-use Rattle.tree_model.proofs.TreeLemmas.{at-append, at-map}
-use Rattle.tree_model.proofs.QuietLemmas.{found_passes}
+use Rattle.resource_model.specs.Resource.{ResourceData, is_ty}
+use Rattle.tree_model.specs.Tree.{at, due, due_under, lesser, is_due, live, is_taken, is_well_formed}
+use Rattle.tree_model.proofs.GrowthLemmas.{tree_from_well_formed}
+use Rattle.tree_model.proofs.TreeLemmas.{at-map}
+use Rattle.tree_model.proofs.QuietLemmas.{number_passes}
 use Rattle.policy_laws.specs.Alike.{AreAlike, shape_attrs}
 use Rattle.policy_eval.specs.Rules.{is_attr_in, Rule, linked_rules, rules_of}
 use Rattle.policy_eval.specs.Rights.{bits_by, has_bits, do_give, grants, relinks, fan_grants}
@@ -25,50 +24,7 @@ use Rattle.policy_laws.specs.Seen.{retrieve_bit, has_bit, fills, is_filled_in, i
 use Rattle.policy_laws.proofs.AlikeLemmas.{without-zip, zip-map, map_from_zip, grants-alike, relinks-alike, fan_grants-alike}
 use Rattle.policy_laws.proofs.RemovalLemmas.{keeps_without, grants_before}
 use Rattle.policy_laws.proofs.SeenLemmas.{at-seen, seen_map_alike, seen_shows}
-
--- ---- every resource of a well-formed list stands under a type that takes it
-
--- it is taken, and its parent has a lower number
-abbrev stands_under : List ResourceData → ResourceData → Bool
-stands_under nodes s = is_taken nodes s && nat_lt s.parent s.number
-
-pub or_none : (x : Option ResourceData) → option_or x None ≡ x
-or_none None = refl
-or_none (Some r) = refl
-
--- a resource of a higher number than the parent changes nothing
-taken_later : (nodes : List ResourceData) (r s : ResourceData) → s.parent < r.number → is_taken (nodes ++ r ∷ []) s ≡ is_taken nodes s
-taken_later nodes r s below =
-    let apart : has_number s.parent r ≡ false = ne_eqb r.number s.parent (λ e. omega arith) in
-    ap (λ (o : Option ResourceData). option_map_or (λ p. does_take p.ty s.ty) o true) (at-append s.parent nodes (r ∷ []) ∙ rw apart (or_none (at s.parent nodes)))
-
-all_stand_later : (nodes : List ResourceData) (r : ResourceData) (xs : List ResourceData) → list_all (stands_under nodes) xs ≡ true → are_below r.number xs ≡ true → list_all (stands_under (nodes ++ r ∷ [])) xs ≡ true
-all_stand_later nodes r [] stood below = refl
-all_stand_later nodes r (s ∷ xs) stood below =
-    let here = and_parts (stands_under nodes s) _ stood in
-    let parts = and_parts (is_taken nodes s) _ here.0 in
-    let lower = and_parts (nat_lt s.number r.number) _ below in
-    let up : s.parent < s.number = ltb-true s.parent s.number parts.1 in
-    let next : s.number < r.number = ltb-true s.number r.number lower.0 in
-    and_from _ _ (and_from _ _ (taken_later nodes r s (omega arith) ∙ parts.0) parts.1) (all_stand_later nodes r xs here.1 lower.1)
-
-all_stand : (nodes : List ResourceData) → is_well_formed nodes ≡ true → list_all (stands_under nodes) nodes ≡ true
-all_stand = growth fits_in (λ nodes. list_all (stands_under nodes) nodes ≡ true) refl (λ before r grew fit stood.
-    let parts = and_parts (may_stand before r) _ fit in
-    let next = next_fits before r parts.0 in
-    let up : r.parent < r.number = next_above_parent before r next in
-    list_all-append (stands_under (before ++ r ∷ [])) before (r ∷ [])
-    ∙ and_from _ _ (all_stand_later before r before stood next.number)
-    (and_from _ _ (and_from _ _ (taken_later before r r up ∙ parts.1) (lt-ltb r.parent r.number up)) refl))
-
-all_weaker : (p q : ResourceData → Bool) → ((r : ResourceData) → p r ≡ true → q r ≡ true) → (xs : List ResourceData) → list_all p xs ≡ true → list_all q xs ≡ true
-all_weaker p q weaker [] all = refl
-all_weaker p q weaker (r ∷ xs) all =
-    let parts = and_parts (p r) _ all in
-    and_from _ _ (weaker r parts.0) (all_weaker p q weaker xs parts.1)
-
-pub all_taken : (nodes : List ResourceData) → is_well_formed nodes ≡ true → list_all (is_taken nodes) nodes ≡ true
-all_taken nodes well = all_weaker (stands_under nodes) (is_taken nodes) (λ r stood. (and_parts (is_taken nodes r) _ stood).0) nodes (all_stand nodes well)
+use Rattle.tree_model.proofs.TakenLemmas.{all_taken}
 
 -- ---- the types of an instance and of what it stands in
 
@@ -213,10 +169,10 @@ module _ (home : HomeData) (nodes : List ResourceData) (o : List ℕ) where
 
   module _ (well : is_well_formed nodes ≡ true) where
     pub due-seen : (r : ResourceData) → at r.number nodes ≡ Some r → due (seen_list home nodes o) (seen home nodes o r) ≡ due nodes r
-    due-seen r found = due-taken r (found_passes (is_taken nodes) r.number nodes r (all_taken nodes well) found)
+    due-seen r found = due-taken r (number_passes (is_taken nodes) r.number nodes r (all_taken nodes well) found)
 
     pub is_due-seen : (m : ℕ) (r : ResourceData) → at r.number nodes ≡ Some r → is_due (seen_list home nodes o) m (seen home nodes o r) ≡ is_due nodes m r
-    is_due-seen m r found = is_due-taken m r (found_passes (is_taken nodes) r.number nodes r (all_taken nodes well) found)
+    is_due-seen m r found = is_due-taken m r (number_passes (is_taken nodes) r.number nodes r (all_taken nodes well) found)
 
     -- ---- what is live
 

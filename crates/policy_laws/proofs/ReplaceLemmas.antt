@@ -22,17 +22,18 @@ use Rattle.resource_model.proofs.AttributeLemmas.{is_attr-itself, is_attr-same, 
 use Rattle.tree_model.specs.Tree.{at, due, due_under, is_taken, is_well_formed, of_type, replaced, resource_of_id, typed_at}
 use Rattle.tree_model.proofs.GrowthLemmas.{tree_from_well_formed}
 use Rattle.tree_model.proofs.TreeLemmas.{at-replaced, at-replaced_other, at_has, at_number, map-replaced}
-use Rattle.tree_model.proofs.QuietLemmas.{found_passes}
+use Rattle.tree_model.proofs.QuietLemmas.{number_passes, due_plain}
 use Rattle.policy_laws.specs.Changes.{NewValue, ShowNoMore, changed, do_judge, do_reach, does_judge, seen_changes, with_change, with_changes}
 use Rattle.policy_eval.specs.Rules.{is_attr_in, ids_at, policy_named}
 use Rattle.policy_eval.specs.Rights.{update_bit}
 use Rattle.policy_laws.specs.Seen.{retrieve_bit, discovery_bit, has_bit, fills, is_filled_in, may_use, seen_value, seen_row, seen_owner, seen, seen_list}
 use Rattle.policy_laws.proofs.AlikeLemmas.{cse_named, map_from_zip, same_ids}
-use Rattle.policy_laws.proofs.DueLemmas.{all_taken, due_base, due_instance, due_other, end_of, in_container, same_fill}
+use Rattle.policy_laws.proofs.DueLemmas.{due_base, due_instance, due_other, end_of, in_container, same_fill}
 use Rattle.policy_laws.proofs.EqualLemmas.{same_by, may-seen, fills-seen, is_filled_in-seen, may_use-seen}
 use Rattle.policy_laws.proofs.LookupLemmas.{FindSame, FindsSame, JudgeSame, MaySame, filter_map_same, find_itself, may_same, may_same_but, row_same, seen_found, use_same, value_same}
 use Rattle.policy_laws.proofs.SeenLemmas.{at-seen}
 use Rattle.policy_laws.proofs.TwiceLemmas.{made, zip-found}
+use Rattle.tree_model.proofs.TakenLemmas.{all_taken}
 
 -- ---- changes of rows
 
@@ -233,10 +234,7 @@ module _ (home : HomeData) (o : List ℕ) (xs : List ResourceData) (well : is_we
   -- an instance of a container whose greatest age is changed is seen with its end
   end_same : (s : ResourceData) → at s.number xs ≡ Some s → (has_bit home xs o retrieve_bit s || is_filled_in home xs o s) ≡ false → due (replaced (changed changes lt et r) xs) s ≡ due xs s
   end_same s at_s hides = elim (cases_Bool (is_ty s.ty ContentInstance)) [
-    | inr f ↦ elim (cases_Bool (is_ty s.ty CseBase)) [
-      | inl base ↦ due_base (at s.parent zs) s base ∙ sym (due_base (at s.parent xs) s base)
-      | inr g ↦ due_other (at s.parent zs) s g f ∙ sym (due_other (at s.parent xs) s g f)
-    ]
+    | inr f ↦ due_plain (at s.parent zs) (at s.parent xs) s f
     | inl instance ↦ elim (cases_Bool (s.parent == r.number)) [
       | inr f ↦ ap (λ (p : Option ResourceData). due_under p s) (at-replaced_other s.parent new xs (λ e. both_ways _ f (eq-eqb s.parent r.number e)))
       | inl t ↦
@@ -249,7 +247,7 @@ module _ (home : HomeData) (o : List ℕ) (xs : List ResourceData) (well : is_we
                 ∙ ap (λ (age : Option Data). Some (end_of s.et s.ct age)) (kept Mia (reach_kept Mia changes refl none))
                 ∙ sym (ap (λ (p : Option ResourceData). due_under p s) before ∙ due_instance r s instance)
             | inl some ↦
-                let taken : is_taken xs s ≡ true = found_passes (is_taken xs) s.number xs s (all_taken xs well) at_s in
+                let taken : is_taken xs s ≡ true = number_passes (is_taken xs) s.number xs s (all_taken xs well) at_s in
                 let container : is_ty r.ty Container ≡ true = in_container xs s r taken instance before in
                 let inside : is_filled_in home xs o s ≡ true = same_fill home xs o s r instance before container ∙ and_from _ _ container (or_right _ _ (limits some)) in
                 absurd (both_ways _ (or_parts (has_bit home xs o retrieve_bit s) (is_filled_in home xs o s) hides).1 inside)

@@ -1,16 +1,16 @@
 -- What an originator may retrieve has the same attributes on what it sees.
-use Rattle.std.specs.Prelude.{◌==◌, unwrap_or}
+use Rattle.std.specs.Prelude.{unwrap_or}
 use Rattle.std.proofs.Common.{◌≡◌, ℕ, ◌+◌, List, [], ◌∷◌, map, length, filter, fold, Bool, true, cond, Option, Some, None, option_map, inl, inr, refl, ap, ◌∙◌}
-use Rattle.std.proofs.lemmas.Bool.{cases_Bool, and_parts, eqb-true}
+use Rattle.std.proofs.lemmas.Bool.{cases_Bool}
 use Rattle.std.specs.Option.{option_map_or}
 use Rattle.m2m_names.specs.declared.attributes.Attr.TheVariants.{Cs}
-use Rattle.m2m_names.specs.declared.types.Ty.TheVariants.{Container, CseBase}
+use Rattle.m2m_names.specs.declared.types.Ty.TheVariants.{Container, ContentInstance, CseBase}
 use Rattle.resource_model.specs.Attributes.{Row, count_at}
 use Rattle.resource_model.specs.Home.{HomeData}
 use Rattle.resource_model.specs.Resource.{ResourceData, is_ty, id_of}
 use Rattle.tree_model.specs.Shown.{parent_id, container_rows, added_rows, attributes_of, with_rows, wrapped}
 use Rattle.tree_model.specs.Tree.{at, is_due, is_instance, is_well_formed, live, instance_size}
-use Rattle.tree_model.proofs.TreeLemmas.{at-map, at_number}
+use Rattle.tree_model.proofs.TreeLemmas.{at-map, at_number, kin_parts}
 use Rattle.tree_model.proofs.GrowthLemmas.{tree_from_well_formed}
 use Rattle.policy_eval.specs.Rights.{grants}
 use Rattle.policy_laws.specs.Seen.{retrieve_bit, has_bit, with_seen_owner, seen, seen_list}
@@ -37,9 +37,9 @@ module _ (home : HomeData) (nodes : List ResourceData) (o : List ℕ) (r : Resou
   -- the sizes of the instances of a container are seen by who may retrieve it
   size_seen : is_ty r.ty Container ≡ true → (s : ResourceData) → is_instance r.number s ≡ true → instance_size (seen home nodes o s) ≡ instance_size s
   size_seen container s inside =
-      let parts = and_parts (s.parent == r.number) _ inside in
-      let above : at s.parent nodes ≡ Some r = ap (λ (n : ℕ). at n nodes) (eqb-true s.parent r.number parts.0) ∙ found in
-      let also : has_bit home nodes o retrieve_bit s ≡ true = same_may home nodes o s r parts.1 above container retrieve_bit ∙ right in
+      let kin = kin_parts ContentInstance r.number s inside in
+      let above : at s.parent nodes ≡ Some r = ap (λ (n : ℕ). at n nodes) kin.under ∙ found in
+      let also : has_bit home nodes o retrieve_bit s ≡ true = same_may home nodes o s r kin.kind above container retrieve_bit ∙ right in
       ap (λ (rows : List Row). unwrap_or (count_at Cs rows) 0) ((seen_shows home nodes o s).retrieved also).0
 
   parent_seen : (rs : List ResourceData) → parent_id (map (seen home nodes o) rs) r ≡ parent_id rs r

@@ -4,9 +4,8 @@ use Rattle.std.proofs.Common.{◌≡◌, ℕ, ◌<◌, List, [], ◌∷◌, ◌+
 use Rattle.std.proofs.lemmas.Bool.{cases_Bool, le-leb, leb-true, false_from_ne_true, or_cases, or_left, or_right, or_from, and_from, and_parts, and_right, cond-true, cond-false}
 use Rattle.std.proofs.lemmas.Nat.{or_lt}
 use Rattle.std.proofs.lemmas.Nat.Bits.{bit_at_or, bit_at-zero, same_from_bits}
-use Rattle.std.proofs.lemmas.Option.{same_Some}
 use Rattle.std.proofs.lemmas.Slice.Eq.{bytes_eq-Decides}
-use Rattle.std.specs.List.{AllByRecursion, cons_option, filter_map, find, starts_with}
+use Rattle.std.specs.List.{AllByRecursion, cons_option, filter_map, starts_with}
 use Rattle.std.specs.Option.{option_and_then, option_map_or, option_or}
 use Rattle.std.specs.List.Sorted.{IsStrictlySortedBy}
 use Rattle.std.specs.Map.{keys_of}
@@ -30,6 +29,7 @@ use Rattle.policy_eval.specs.Rights.{is_subject, with_rule, with_rules, bits_by,
 use Rattle.policy_laws.specs.Alike.{shape_attrs, Alike, AreAlike}
 use Rattle.policy_laws.specs.Seen.{is_url, first_url, only_point, seen_points, way_in, retrieve_bit, discovery_bit, has_bit, fills, is_filled_in, may_use, found_attrs, limit_attrs, size_attrs, member_attrs, Shows, is_shown, plain_rules, seen_rules, is_policy_rules, is_way, seen_value, another, seen_owner, seen_ct, seen_lt, seen_et, seen, seen_list}
 use Rattle.policy_laws.proofs.AlikeLemmas.{GiveSame, same_itself, same_from_by, alike-map, child-alike, ae_id-alike, cse_id-alike, grants-alike, relinks-alike, fan_grants-alike}
+use Rattle.m2m_names.proofs.LookupLemmas.{found_is}
 
 -- ---- values
 
@@ -206,19 +206,12 @@ hidden_row h a none (row ∷ rows) = elim (cases_Bool (is_attr a row.0)) [
   | inr f ↦ skipped a row.0 (h row.0 row.1) _ f ∙ hidden_row h a none rows
 ]
 
-pub find_passes : (p : List ℕ → Bool) (xs : List (List ℕ)) (x : List ℕ) → find p xs ≡ Some x → p x ≡ true
-find_passes p [] x found = cc
-find_passes p (y ∷ ys) x found = elim (cases_Bool (p y)) [
-  | inl t ↦ (let here : Some y ≡ Some x = rw t at found in subst (λ z. p z ≡ true) (same_Some y x here) t)
-  | inr f ↦ find_passes p ys x (rw f at found)
-]
-
 -- the first URL of a URL alone is that URL
 pub one_point : (u : List ℕ) → is_url u ≡ true → first_url (Some (only_point u)) ≡ Some u
 one_point u is = rw is refl
 
 pub first_passes : (d : Data) (u : List ℕ) → first_url (Some d) ≡ Some u → is_url u ≡ true
-first_passes d u first = find_passes is_url (texts_of (listed_in (Some d))) u first
+first_passes d u first = found_is is_url (texts_of (listed_in (Some d))) u first
 
 -- a row of points of access that is shown, or of which the first URL is shown
 one_way : (b : Attr) (d : Data) (s : Bool) → is_attr Poa b ≡ true → (more less : List Row) → way_in more ≡ way_in less → way_in (cons_option (option_map (λ (x : Data). (b, x)) (cond s (Some d) (seen_points d))) more) ≡ option_or (first_url (Some d)) (way_in less)

@@ -12,7 +12,7 @@ use Rattle.policy_eval.specs.Originators.{is_same}
 use Rattle.policy_eval.specs.Rules.{is_attr_in, rules_in}
 use Rattle.policy_eval.specs.Rights.{bits_by}
 
--- these attributes have the same values
+-- Two resources have the same values of these attributes.
 abbrev pub Agree : List Attr → ResourceData → ResourceData → Type 0
 Agree attrs s r = (a : Attr) → is_attr_in attrs a ≡ true → value_of a s.attrs ≡ value_of a r.attrs
 

@@ -27,11 +27,11 @@ use Rattle.policy_laws.specs.Alike.{Agree, shape_attrs, Alike}
 
 -- ---- rights of the originator, by what they show
 
--- it has this bit on the resource
+-- The originator has this bit on the resource.
 abbrev pub has_bit : HomeData → List ResourceData → List ℕ → ℕ → ResourceData → Bool
 has_bit home nodes originator bit r = do_give home originator bit (rules_of nodes r)
 
--- it may add to the resource or change it, so that it can learn the resource's limits
+-- The originator may add to the resource or change it, so that it can learn the resource's limits.
 abbrev pub may_fill : HomeData → List ResourceData → List ℕ → ResourceData → Bool
 may_fill home nodes originator r =
     has_bit home nodes originator create_bit r || has_bit home nodes originator update_bit r
@@ -133,6 +133,7 @@ abbrev pub seen_value : HomeData → List ResourceData → List ℕ → Resource
 seen_value home nodes originator r a d =
     if is_shown home nodes originator r a then Some d else hidden_value home originator r a d
 
+-- An attribute with what the originator sees of its value.
 abbrev pub seen_row : HomeData → List ResourceData → List ℕ → ResourceData → Row → Option Row
 seen_row home nodes originator r row =
     option_map (λ d. (row.0, d)) (seen_value home nodes originator r row.0 row.1)
@@ -151,13 +152,15 @@ seen_owner home originator r =
 abbrev pub with_seen_owner : HomeData → List ℕ → ResourceData → ResourceData
 with_seen_owner home originator r = record r { owner = seen_owner home originator r }
 
--- its moments
+-- When the resource was created, for an originator that may retrieve or discover it, or may fill
+-- its container; else 0.
 abbrev pub seen_ct : HomeData → List ResourceData → List ℕ → ResourceData → ℕ
 seen_ct home nodes originator r =
     if has_bit home nodes originator retrieve_bit r || has_bit home nodes originator discovery_bit r
     || is_filled_in home nodes originator r
     then r.ct else 0
 
+-- When the resource was last changed, for an originator that may retrieve or discover it; else 0.
 abbrev pub seen_lt : HomeData → List ResourceData → List ℕ → ResourceData → ℕ
 seen_lt home nodes originator r =
     if has_bit home nodes originator retrieve_bit r || has_bit home nodes originator discovery_bit r

@@ -15,16 +15,18 @@ use Rattle.policy_eval.specs.Rules.{is_attr_in}
 use Rattle.policy_laws.specs.Alike.{shape_attrs}
 use Rattle.policy_laws.specs.Seen.{hidden_value, seen_owner, seen_list}
 
--- of a value
+-- What the shape keeps of a value: all of it for an attribute by which the resource is judged or
+-- named, and else what an originator sees of a value that isn't shown.
 abbrev pub shape_value : HomeData → List ℕ → ResourceData → Attr → Data → Option Data
 shape_value home originator r a d =
     if is_attr_in (shape_attrs r.ty) a then Some d else hidden_value home originator r a d
 
+-- An attribute with what the shape keeps of its value.
 abbrev pub shape_row : HomeData → List ℕ → ResourceData → Row → Option Row
 shape_row home originator r row =
     option_map (λ d. (row.0, d)) (shape_value home originator r row.0 row.1)
 
--- of a resource; its expiry is when it is due, and its other moments are hidden
+-- The shape of a resource; its expiry is when it is due, and its other moments are hidden.
 abbrev pub shape_of : HomeData → List ResourceData → List ℕ → ResourceData → ResourceData
 shape_of home nodes originator r = record r {
   owner = seen_owner home originator r;
@@ -34,7 +36,7 @@ shape_of home nodes originator r = record r {
   attrs = filter_map (shape_row home originator r) r.attrs;
 }
 
--- of the list
+-- The shape of a list: that of each resource.
 abbrev pub shape_list : HomeData → List ResourceData → List ℕ → List ResourceData
 shape_list home nodes originator = map (shape_of home nodes originator) nodes
 

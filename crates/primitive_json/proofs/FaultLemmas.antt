@@ -1,18 +1,18 @@
 -- What members are that have no fault.
-use Rattle.std.proofs.Common.{◌≡◌, ◌⊎◌, ℕ, List, [], ◌∷◌, Bool, true, false, not, ◌&&◌, ◌||◌, cond, bytes_eq, is_some, is_none, Option, Some, None, option_map, option_and_then, find, unwrap_or, Ok, Err, Result, refl, sym, ap, ◌∙◌, subst}
+use Rattle.std.proofs.Common.{◌≡◌, ℕ, List, [], ◌∷◌, Bool, true, false, not, ◌&&◌, ◌||◌, cond, bytes_eq, is_some, is_none, Option, Some, None, option_map, option_and_then, Ok, refl, sym, ap, ◌∙◌}
 use Rattle.std.proofs.lemmas.Slice.Eq.{bytes_eq-Decides}
 use Rattle.std.specs.Option.{option_or, option_map_or}
 use Rattle.m2m_names.specs.declared.operations.Op.{Op}
-use Rattle.m2m_names.specs.declared.operations.Op.TheVariants.{Create}
 use Rattle.m2m_value.specs.Data.{Data, Entry}
 use Rattle.m2m_value.specs.View.{member_of}
 use Rattle.primitive_json.specs.Kinds.{read_operation}
-use Rattle.primitive_json.specs.Members.{row_of_member, all_members, name_of_member, member_named, is_one_unread, is_read, is_needed}
+use Rattle.primitive_json.specs.Members.{row_of_member, name_of_member, member_named, is_one_unread, is_read, is_needed}
 use Rattle.primitive_json.specs.Reading.{read_as, is_of_kind, is_good_member, is_good, is_missing, missing_member, bad_entry, request_fault, operation_in}
 use Rattle.primitive_json.specs.declared.fault.PrimFault.{PrimFault}
 use Rattle.primitive_json.specs.declared.fault.PrimFault.TheVariants.{Missing, Bad}
 use Rattle.primitive_json.specs.declared.member.Member.{Member}
 use Rattle.primitive_json.specs.declared.member.Member.TheVariants.{DesiredForm, FilterCriteria, Originator, Operation, Content, ResultContent, Expiry, RequestId, ResponseType, Target, ResourceType}
+use Rattle.std.proofs.lemmas.Bool.{not-false}
 
 -- each member is found at its name
 pub named_again : (member : Member) → member_named (name_of_member member) ≡ Some member
@@ -93,10 +93,6 @@ needed_is_there op es member h needed =
 
 -- ---- nothing is bad
 
-not_false : (b : Bool) → not b ≡ false → b ≡ true
-not_false true h = refl
-not_false false h = cc
-
 at_head : (op : Option Op) (key k : List ℕ) (v d : Data) (rest : List Entry) (same : Bool) → bytes_eq key k ≡ same → is_good op (k, v) ≡ true → (member_of key rest ≡ Some d → is_good op (key, d) ≡ true)
     → cond same (Some v) (member_of key rest) ≡ Some d → is_good op (key, d) ≡ true
 at_head op key k v d rest true e good more found =
@@ -108,7 +104,7 @@ good_at : (op : Option Op) (key : List ℕ) (d : Data) (es : List Entry) → bad
 good_at op key d [] none found = cc
 good_at op key d ((k, v) ∷ es) none found =
     let here = first_fails (not (is_good op (k, v))) (k, v) (bad_entry op es) none in
-    at_head op key k v d es _ refl (not_false _ here.0) (good_at op key d es here.1) found
+    at_head op key k v d es _ refl (not-false _ here.0) (good_at op key d es here.1) found
 
 read_fits : (is : Bool) (fit : Bool) → is ≡ true → not is || fit ≡ true → fit ≡ true
 read_fits true fit e h = h

@@ -10,7 +10,7 @@ use Rattle.m2m_value.specs.View.{as_text, member_of}
 use Rattle.primitive_json.specs.Bounds.{is_request_id}
 use Rattle.primitive_json.specs.Kinds.{is_id_text, read_status}
 use Rattle.primitive_json.specs.Laws.{IsReplyOfKinds}
-use Rattle.primitive_json.specs.Reading.{read_as, rsc_name, rqi_name, pc_name, reply_fault, reply_made, reply_of_members, read_reply}
+use Rattle.primitive_json.specs.Reading.{rsc_name, rqi_name, pc_name, reply_fault, reply_made, reply_of_members, read_reply}
 use Rattle.primitive_json.specs.Writing.{reply_rows, written_reply}
 use Rattle.filter_criteria.specs.Values.{members_in, present, count_data}
 use Rattle.primitive_json.specs.declared.fault.PrimFault.{PrimFault}
@@ -19,6 +19,7 @@ use Rattle.primitive_json.specs.declared.reply.ReplyParts.{ReplyParts}
 use Rattle.primitive_json.proofs.FaultLemmas.{read_without_fault, read_if_no_fault}
 use Rattle.primitive_json.proofs.KindLemmas.{told_passes}
 use Rattle.filter_criteria.proofs.Present.{member_of-present, members_in-object_of}
+use Rattle.std.proofs.lemmas.Bool.{not-false}
 
 -- ---- the status code is read back from its number
 
@@ -77,10 +78,6 @@ id_good true id_bad status_bad h = cc
 id_good false true status_bad h = cc
 id_good false false status_bad h = refl
 
-not_false : (b : Bool) → not b ≡ false → b ≡ true
-not_false true h = refl
-not_false false h = cc
-
 id_passes : (o : Option Data) → option_map_or is_id_text o true ≡ true → IfSome (option_and_then as_text o) (λ s. is_request_id s ≡ true)
 id_passes None h = tt
 id_passes (Some d) h = told_passes is_request_id (as_text d) h
@@ -91,4 +88,4 @@ reply_of_kinds d r is =
     let read = read_without_fault (reply_fault es) (reply_made es) r is in
     let good = id_good (is_none (member_of rsc_name es)) (not (option_map_or is_id_text (member_of rqi_name es) true)) (not (option_map_or (λ d. is_some (read_status d)) (member_of rsc_name es) true)) read.0 in
     let P : ReplyParts → Type 0 = IsReplyOfKinds in
-    subst P read.1 (id_passes (member_of rqi_name es) (not_false _ good))
+    subst P read.1 (id_passes (member_of rqi_name es) (not-false _ good))

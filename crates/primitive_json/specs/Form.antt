@@ -38,6 +38,8 @@ has_fit_filter op fc = option_map_or (λ f. retrieves op && are_fit_conditions f
 abbrev pub has_fit_address_form : Option ℤ → Bool
 has_fit_address_form drt = option_map_or (is_among address_forms) drt true
 
+-- The parameters of a request are of their kinds, and there where its operation needs them
+-- (TS-0004, 8.2.2).
 abbrev pub has_form : RequestParts → Bool
 has_form request =
     is_request_id request.rqi
@@ -47,10 +49,11 @@ has_form request =
 
 -- ---- what isn't read isn't there
 
--- it is there only where it is read
+-- The parameter is there only where it is read.
 abbrev pub is_only_read : {A : Type 0} → Bool → Option A → Bool
 is_only_read reads value = reads || is_none value
 
+-- The request has no parameter that isn't read on its operation.
 abbrev pub has_no_more : RequestParts → Bool
 has_no_more request =
     is_only_read (creates request.op) request.ty && is_only_read (has_content request.op) request.pc

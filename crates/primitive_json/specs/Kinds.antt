@@ -33,9 +33,11 @@ target_limit = 1024
 abbrev pub is_address_text : Data → Bool
 is_address_text d = is_text_of (is_filled target_limit) d
 
+-- The value is a text that an originator may be.
 abbrev pub is_originator_text : Data → Bool
 is_originator_text d = is_text_of is_originator d
 
+-- The value is a text that a request identifier may be.
 abbrev pub is_id_text : Data → Bool
 is_id_text d = is_text_of is_request_id d
 
@@ -45,6 +47,7 @@ is_id_text d = is_text_of is_request_id d
 abbrev pub is_among : List ℤ → ℤ → Bool
 is_among numbers z = list_any (λ n. int_eq n z) numbers
 
+-- The value is one of these numbers.
 abbrev pub is_number_among : List ℤ → Data → Bool
 is_number_among numbers d = option_map_or (is_among numbers) (as_number d) false
 
@@ -92,6 +95,7 @@ structured_form = pos 1
 abbrev pub unstructured_form : ℤ
 unstructured_form = pos 2
 
+-- The numbers of both forms of addresses (TS-0004, 6.3.4.2.8).
 abbrev pub address_forms : List ℤ
 address_forms = structured_form ∷ unstructured_form ∷ []
 

@@ -34,6 +34,7 @@ abbrev pub IsShortWhen : When → Type 0
 IsShortWhen (At at) = ⊤
 IsShortWhen (Millis n) = n < 10 ^ numeral_limit
 
+-- Where a request says when it expires in milliseconds, these have at most 18 digits.
 abbrev pub HasShortExpiry : RequestParts → Type 0
 HasShortExpiry r = IfSome r.rqet IsShortWhen
 
@@ -46,7 +47,7 @@ abbrev pub RequestsAreReadBack : Type 0
 RequestsAreReadBack =
     (r : RequestParts) → IsOfKinds r → HasShortExpiry r → read_request (written_request r) ≡ Ok r
 
--- and so is every reading
+-- A request that was read from a value is read again from what is written of it.
 abbrev pub ReadingsAreReadBack : Type 0
 ReadingsAreReadBack =
     (d : Data) (r : RequestParts) → read_request d ≡ Ok r → HasShortExpiry r
@@ -56,8 +57,10 @@ ReadingsAreReadBack =
 abbrev pub IsReplyOfKinds : ReplyParts → Type 0
 IsReplyOfKinds r = IfSome r.rqi (λ s. IsTrue (is_request_id s))
 
+-- A reply that is read has parameters of their kinds.
 abbrev pub RepliesAreOfKinds : Type 0
 RepliesAreOfKinds = (d : Data) (r : ReplyParts) → read_reply d ≡ Ok r → IsReplyOfKinds r
 
+-- A reply that is written is read back as it was (TS-0004, 8.2.2).
 abbrev pub RepliesAreReadBack : Type 0
 RepliesAreReadBack = (r : ReplyParts) → IsReplyOfKinds r → read_reply (written_reply r) ≡ Ok r

@@ -42,6 +42,7 @@ op_reads creates retrieves has_content has_result =
       has_result = has_result;
     }
 
+-- Which of these parts a request of the operation has (TS-0001, 8.1.2).
 abbrev pub reads_of : Op → OpReads
 reads_of Create = op_reads true false true true
 reads_of Retrieve = op_reads false true false true
@@ -49,15 +50,19 @@ reads_of Update = op_reads false false true true
 reads_of Delete = op_reads false false false true
 reads_of Notify = op_reads false false true false
 
+-- A request of the operation says which type it creates.
 abbrev pub creates : Op → Bool
 creates op = (reads_of op).creates
 
+-- A request of the operation may have a filter.
 abbrev pub retrieves : Op → Bool
 retrieves op = (reads_of op).retrieves
 
+-- A request of the operation has a content.
 abbrev pub has_content : Op → Bool
 has_content op = (reads_of op).has_content
 
+-- A request of the operation may say which content its reply is to have.
 abbrev pub has_result : Op → Bool
 has_result op = (reads_of op).has_result
 
@@ -76,6 +81,7 @@ pub record MemberRow : Type 0 where
   pub scope : Scope
   pub needed : Bool
 
+-- The row of a member by its four columns.
 abbrev pub member_row : List ℕ → MemberKind → Scope → Bool → MemberRow
 member_row name kind scope needed =
     record { name = name; kind = kind; scope = scope; needed = needed }
@@ -100,6 +106,7 @@ all_members =
     DesiredForm ∷ FilterCriteria ∷ Originator ∷ Operation ∷ Content ∷ ResultContent ∷ Expiry ∷
     RequestId ∷ ResponseType ∷ Target ∷ ResourceType ∷ []
 
+-- The short name of a member (TS-0004, 8.2.2).
 abbrev pub name_of_member : Member → List ℕ
 name_of_member member = (row_of_member member).name
 
@@ -113,6 +120,7 @@ unread_names =
     codes "da" ∷ codes "ec" ∷ codes "gid" ∷ codes "oet" ∷ codes "ot" ∷ codes "rp" ∷ codes "rset" ∷
     codes "rvi" ∷ codes "vsi" ∷ []
 
+-- The member is accepted and never read.
 abbrev pub is_one_unread : List ℕ → Bool
 is_one_unread name = is_one_of unread_names name
 

@@ -16,6 +16,6 @@ IsSoundDest (Peer url) = IsSomeUrl url
 IsSoundDest (Channel number) = ⊤
 IsSoundDest Nowhere = ⊤
 
--- its destination is sound; the request keeps its own
+-- The destination of a note is sound; the request keeps its own.
 abbrev pub IsSoundNote : NoteParts → Type 0
 IsSoundNote n = IsSoundDest n.dest

@@ -55,10 +55,10 @@ abbrev pub Answers : {A : Type 0} → Result A PrimFault → Result A PrimFault 
 Answers (Ok a) told = told ≡ Ok a
 Answers (Err fault) told = (fault ≡ OutOfMemory) ⊎ (told ≡ Err fault)
 
--- the same fault, with a name of its own
-abbrev pub owned : Fault → PrimFault
-owned (lent.Missing name) = Missing name.now
-owned (lent.Bad name) = Bad name.now
+-- The fault of a reader, with a name of its own in place of the one that is lent.
+abbrev pub kept_fault : Fault → PrimFault
+kept_fault (lent.Missing name) = Missing name.now
+kept_fault (lent.Bad name) = Bad name.now
 
 -- ---- the first fault of a request
 
@@ -80,7 +80,8 @@ is_of_kind op TypeNumber d = is_some (read_type_number d)
 abbrev pub is_good_member : Option Op → Data → Member → Bool
 is_good_member op d member = not (is_read op member) || is_of_kind op (row_of_member member).kind d
 
--- and so is one that is never read; any other name is that of no member
+-- An entry is good whose name is that of a good member, or of a member that is never read; any
+-- other name is that of no member.
 abbrev pub is_good : Option Op → Entry → Bool
 is_good op e = option_map_or (is_good_member op e.1) (member_named e.0) (is_one_unread e.0)
 
@@ -109,6 +110,7 @@ abbrev pub value_read : Op → Member → List Entry → Option Data
 value_read op member es =
     if is_read (Some op) member then member_of (name_of_member member) es else None
 
+-- The operation that members name by its number.
 abbrev pub operation_in : List Entry → Option Op
 operation_in es = option_and_then read_operation (member_of (name_of_member Operation) es)
 
@@ -161,6 +163,7 @@ with_kept plain kept = record plain {
   fc = option_map (relabelled (labels_of kept.lbl)) plain.fc;
 }
 
+-- The request that members make, or their first fault.
 abbrev pub request_of_members : List Entry → Result RequestParts PrimFault
 request_of_members es =
     let op = operation_in es in
@@ -172,12 +175,15 @@ read_request d = request_of_members (members_in d)
 
 -- ---- a reply
 
+-- `rsc` is the name of the response status code in a reply (TS-0004, 8.2.2).
 abbrev pub rsc_name : List ℕ
 rsc_name = codes "rsc"
 
+-- `rqi` is the name of the request identifier, in a reply as in a request (TS-0004, 8.2.2).
 abbrev pub rqi_name : List ℕ
 rqi_name = name_of_member RequestId
 
+-- `pc` is the name of the content, in a reply as in a request (TS-0004, 8.2.2).
 abbrev pub pc_name : List ℕ
 pc_name = name_of_member Content
 
@@ -198,6 +204,7 @@ reply_made es = record {
   pc = member_of pc_name es;
 }
 
+-- The reply that members make, or their first fault.
 abbrev pub reply_of_members : List Entry → Result ReplyParts PrimFault
 reply_of_members es = read_as (reply_fault es) (reply_made es)
 

@@ -2,6 +2,6 @@
 use Rattle.std.specs.Prelude.{IfSome, IsUtf8}
 use Rattle.primitive_json.specs.declared.reply.ReplyParts.{ReplyParts}
 
--- its request identifier is UTF-8; the content keeps its own (TS-0001, 8.1.3)
+-- The request identifier of a reply is UTF-8; the content keeps its own (TS-0001, 8.1.3).
 abbrev pub IsSoundReply : ReplyParts → Type 0
 IsSoundReply r = IfSome r.rqi IsUtf8

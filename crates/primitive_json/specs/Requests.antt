@@ -10,8 +10,8 @@ abbrev pub IsSoundWhen : When → Type 0
 IsSoundWhen (At at) = IsMoment at
 IsSoundWhen (Millis n) = IsCount n
 
--- its texts are UTF-8, and its time of expiry is sound; the content and the filter keep their own
--- (TS-0001, 8.1.2)
+-- The texts of a request are UTF-8, and its time of expiry is sound; the content and the filter
+-- keep their own (TS-0001, 8.1.2).
 pub record IsSoundRequest (r : RequestParts) : Type 0 where
   pub to : IsUtf8 r.to
   pub fr : IfSome r.fr IsUtf8

@@ -35,17 +35,24 @@ abbrev pub expiry_text : When → List ℕ
 expiry_text (At at) = timestamp at
 expiry_text (Millis n) = decimal n
 
+-- When a request expires, as a JSON text.
 abbrev pub expiry_data : When → Data
 expiry_data when = text (expiry_text when)
 
 -- ---- a request
 
+-- A Retrieve has its filter criteria as `fc`, where it has any; no other operation has them
+-- (TS-0001, 8.1.2).
 abbrev pub filter_value : RequestParts → Option Data
 filter_value r = only_where (retrieves r.op) (option_map written_filter r.fc)
 
+-- A Create, an Update and a Notify have their content as `pc`, where they have one; no other
+-- operation has it (TS-0001, 8.1.2).
 abbrev pub content_value : RequestParts → Option Data
 content_value r = only_where (has_content r.op) r.pc
 
+-- A Create has the number of the type that it creates as `ty`, where it names one; no other
+-- operation has it (TS-0001, 8.1.2).
 abbrev pub type_value : RequestParts → Option Data
 type_value r = only_where (creates r.op) (option_map count_data r.ty)
 
@@ -63,18 +70,24 @@ member_value r ResponseType = option_map number r.rt
 member_value r Target = Some (text r.to)
 member_value r ResourceType = type_value r
 
+-- A member's short name with what is written of it.
 abbrev pub written_member : RequestParts → Member → NamedValue
 written_member r member = (name_of_member member, member_value r member)
 
+-- The JSON object that a request is written as: the members that are there, in byte order of their
+-- names (TS-0004, 8.2.2).
 abbrev pub written_request : RequestParts → Data
 written_request r = object_of (map (written_member r) all_members)
 
 -- ---- a reply
 
+-- The members of a reply in byte order of their names: content and request identifier where they
+-- are there, and always the status code (TS-0004, 8.2.2).
 abbrev pub reply_rows : ReplyParts → List NamedValue
 reply_rows r =
     (pc_name, r.pc) ∷ (rqi_name, option_map text r.rqi) ∷
     (rsc_name, Some (count_data (rsc_row r.rsc).number)) ∷ []
 
+-- The JSON object that a reply is written as (TS-0004, 8.2.2).
 abbrev pub written_reply : ReplyParts → Data
 written_reply r = object_of (reply_rows r)

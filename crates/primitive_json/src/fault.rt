@@ -1,6 +1,6 @@
 //! Why a value is no primitive.
 ghost use Rattle.std.specs.Prelude.{◌≡◌, IfOk};
-ghost use Rattle.primitive_json.specs.Reading.{owned};
+ghost use Rattle.primitive_json.specs.Reading.{kept_fault};
 ghost use Rattle.primitive_json.specs.declared.fault.PrimFault.TheVariants.{OutOfMemory};
 
 use m2m_value::Text;
@@ -27,7 +27,7 @@ pub enum Fault<'a> {
 impl Fault<'_> {
     /// The fault with a name of its own.
     pub fn kept(self, alloc: Global) -> Result<PrimFault, AllocError>
-        ensures { IfOk result (λ e. e ≡ owned self.entry) }
+        ensures { IfOk result (λ e. e ≡ kept_fault self.entry) }
     {
         match self {
             Fault::Missing(name) => Ok(PrimFault::Missing(Text::from_slice(alloc, name)?)),

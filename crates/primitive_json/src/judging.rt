@@ -88,7 +88,7 @@ pub fn operation_in(value: &Val) -> Option<Op>
 /// Why a value is no request; none where it is one. This takes no memory.
 pub fn request_fault(value: &Val) -> Option<Fault<'_>>
     ensures { let es = shared.members_in value.now in
-        option_map spec.owned result ≡ spec.request_fault (spec.operation_in es) es }
+        option_map spec.kept_fault result ≡ spec.request_fault (spec.operation_in es) es }
 {
     let op = operation_in(value);
     match missing_member(op, value) {
@@ -99,7 +99,7 @@ pub fn request_fault(value: &Val) -> Option<Fault<'_>>
 
 /// Why a value is no reply; none where it is one. This takes no memory.
 pub fn reply_fault(value: &Val) -> Option<Fault<'_>>
-    ensures { option_map spec.owned result ≡ spec.reply_fault (shared.members_in value.now) }
+    ensures { option_map spec.kept_fault result ≡ spec.reply_fault (shared.members_in value.now) }
 {
     let Some(status) = value_at(value, RSC) else {
         return Some(Fault::Missing(RSC.as_bytes()));

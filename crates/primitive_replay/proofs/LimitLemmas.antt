@@ -1,12 +1,9 @@
 -- Lines that are bad whatever stands on them.
-use Rattle.std.proofs.Common.{◌≡◌, ℕ, ◌<◌, Bool, true, false, ◌&&◌, List, length, None, refl, arith}
+use Rattle.std.proofs.Common.{◌≡◌, ℕ, ◌<◌, false, List, length, None, refl, arith}
 use Rattle.std.specs.Prelude.{nat_le}
 use Rattle.std.proofs.lemmas.Bool.Decides.{nat_tests}
 use Rattle.primitive_replay.specs.Lines.{line_at, line_limit, most_lines}
-
-and_no : (b : Bool) → (b && false) ≡ false
-and_no true = refl
-and_no false = refl
+use Rattle.std.proofs.lemmas.Bool.{and_right}
 
 too_many : (n m : ℕ) → m < n → nat_le n m ≡ false
 too_many n m more = grind (arith, nat_tests)
@@ -14,4 +11,4 @@ too_many n m more = grind (arith, nat_tests)
 -- more bytes than a line has
 pub line_at_long : (place : ℕ) (text : List ℕ) → line_limit < length text → line_at place text ≡ None
 line_at_long place text long =
-    rw (too_many (length text) line_limit long, and_no (nat_le place most_lines)) refl
+    rw (too_many (length text) line_limit long, and_right (nat_le place most_lines) false refl) refl

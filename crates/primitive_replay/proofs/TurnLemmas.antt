@@ -1,8 +1,10 @@
 -- One line taken, and what stands next.
-use Rattle.std.proofs.Common.{◌≡◌, ℕ, ◌+◌, ◌≤◌, List, [], ◌∷◌, ◌++◌, length, Option, Some, None, IfSome, MatchOption, Err, inl, inr, refl, sym, ap, subst, arith, append-nil}
+use Rattle.std.proofs.Common.{◌≡◌, ℕ, ◌+◌, ◌≤◌, ◌∙◌, List, [], ◌∷◌, ◌++◌, length, Option, Some, None, IfSome, MatchOption, Err, inl, inr, refl, sym, ap, subst, arith, append-nil}
+use Rattle.std.proofs.lemmas.Option.{same_Some}
 use Rattle.std.specs.Io.KnownBytes.{IsAtEnd, Keeps, prepend_known}
 use Rattle.std.specs.Str.Lines.{lines}
-use Rattle.cse_server.specs.Outside.{LinkTold, Outside, Puts, SinkTold, outside}
+use Rattle.cse_server.specs.Outside.{EndsByFault, LinkTold, Outside, Puts, SinkTold, outside}
+use Rattle.m2m_io.specs.Counts.{Rose}
 use Rattle.m2m_io.specs.declared.status.Status.{Status}
 use Rattle.m2m_io.specs.declared.status.Status.TheVariants.{Done, Usage, BadLine, ReadFault, WriteFault, Memory, BadStream}
 use Rattle.primitive_json.specs.declared.reply.ReplyParts.{ReplyParts}
@@ -14,7 +16,7 @@ use Rattle.cse_server.proofs.RepliesLemmas.{gives-one}
 use Rattle.cse_server.proofs.LinkLemmas.{carries_nothing}
 use Rattle.cse_server.proofs.PutLemmas.{puts_none, puts_nothing}
 use Rattle.primitive_replay.specs.Front.{HasNoEnd, held_limit}
-use Rattle.primitive_replay.specs.Script.{AsksLines, StopsRightly, Replays, ReplaysFrom, Writes, reply_line, reply_lines}
+use Rattle.primitive_replay.specs.Script.{AsksLines, StopsRightly, Replays, ReplaysFrom, Writes, reply_line, lines_of_replies}
 use Rattle.primitive_replay.specs.Stream.{BeginsBadly, BeginsWithLines, LeadsTo, NextIs, HoldsLittle}
 use Rattle.primitive_replay.specs.Way.{RepliesTo, ReplaysUpTo, WritesReplies, WritesText, TakesLine, fault_status}
 use Rattle.primitive_replay.specs.declared.fault.LineFault.{LineFault}
@@ -306,3 +308,13 @@ whatever_readings opening left rest out now readings told more status r = record
 -- lines that are replayed are no faulty command line
 pub never_usage : (opening : EntityData) (old new : Outside) (status : Status) → Replays opening old new status → status ≡ Usage → ⊥
 never_usage opening old new status r e = subst (λ (s : Status). Writes s r.all.asks.replies r.after old.out new.out) e r.all.said
+
+-- ---- how a line ends it
+
+-- A line ended it, and the count of faults before that line was what it is at the start.
+pub ended_at_line : {E : Type 0} (fault ended : E) (line start now : ℕ) → line ≡ start → EndsByFault (Some fault) (Some ended) line now → EndsByFault fault ended start now
+ended_at_line fault ended line start now same ends = record {
+  count = subst (λ (n : ℕ). n ≤ now) same ends.count;
+  cause = λ is. subst (λ (n : ℕ). Rose n now) same (ends.cause (ap Some is));
+  steady = λ other. ends.steady (λ is. other (same_Some ended fault is)) ∙ same;
+}

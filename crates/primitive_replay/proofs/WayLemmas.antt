@@ -21,7 +21,7 @@ use Rattle.cse_server.specs.Replies.{GivesReplies}
 use Rattle.cse_server.proofs.RepliesLemmas.{gives-append}
 use Rattle.cse_server.proofs.LinkLemmas.{Carries-append}
 use Rattle.cse_server.proofs.PutLemmas.{Puts-append}
-use Rattle.primitive_replay.specs.Script.{request_on, requests_on, next_reading, reading_behind, readings_on, AsksLines, items_left, line_of, reply_line, reply_lines, script, WritesAllButLast, WritesPartOfLast, Writes, StopsRightly, ReplaysFrom}
+use Rattle.primitive_replay.specs.Script.{request_on, requests_on, next_reading, reading_behind, readings_on, AsksLines, items_left, as_line, reply_line, lines_of_replies, script, WritesAllButLast, WritesPartOfLast, Writes, StopsRightly, ReplaysFrom}
 use Rattle.primitive_replay.specs.Stream.{AreLines, BeginsWithLines, LeadsTo}
 use Rattle.primitive_replay.specs.Way.{ReplaysUpTo}
 use Rattle.primitive_replay.specs.declared.line.Line.{Line}
@@ -128,27 +128,27 @@ asks-append reading now before between after t t' t'' xs ys reads a b = record {
 
 -- ---- what is written
 
-said-append : (rs ss : List ReplyParts) (old put new : SinkTold) → Puts (reply_lines rs) (length rs) old put → Puts (reply_lines ss) (length ss) put new
-    → Puts (reply_lines (rs ++ ss)) (length (rs ++ ss)) old new
+said-append : (rs ss : List ReplyParts) (old put new : SinkTold) → Puts (lines_of_replies rs) (length rs) old put → Puts (lines_of_replies ss) (length ss) put new
+    → Puts (lines_of_replies (rs ++ ss)) (length (rs ++ ss)) old new
 said-append rs ss old put new a b =
-    subst (λ (n : ℕ). Puts (reply_lines (rs ++ ss)) n old new) (sym (length-append rs ss))
+    subst (λ (n : ℕ). Puts (lines_of_replies (rs ++ ss)) n old new) (sym (length-append rs ss))
     (subst (λ (v : List ℕ). Puts v (length rs + length ss) old new) (sym (flat_map-append reply_line rs ss))
-    (Puts-append old put new (reply_lines rs) (reply_lines ss) (length rs) (length ss) a b))
+    (Puts-append old put new (lines_of_replies rs) (lines_of_replies ss) (length rs) (length ss) a b))
 
-script-append : (rs ss : List ReplyParts) (items : List (List ℕ)) → reply_lines rs ++ script ss items ≡ script (rs ++ ss) items
+script-append : (rs ss : List ReplyParts) (items : List (List ℕ)) → lines_of_replies rs ++ script ss items ≡ script (rs ++ ss) items
 script-append rs ss items =
-    sym (append_assoc (reply_lines rs) (reply_lines ss) (flat_map line_of items))
-    ∙ ap (λ v. v ++ flat_map line_of items) (sym (flat_map-append reply_line rs ss))
+    sym (append_assoc (lines_of_replies rs) (lines_of_replies ss) (flat_map as_line items))
+    ∙ ap (λ v. v ++ flat_map as_line items) (sym (flat_map-append reply_line rs ss))
 
-all-append : (rs ss : List ReplyParts) (items : List (List ℕ)) (old put new : SinkTold) → Puts (reply_lines rs) (length rs) old put
+all-append : (rs ss : List ReplyParts) (items : List (List ℕ)) (old put new : SinkTold) → Puts (lines_of_replies rs) (length rs) old put
     → Puts (script ss items) (length ss + length items) put new → Puts (script (rs ++ ss) items) (length (rs ++ ss) + length items) old new
 all-append rs ss items old put new a b =
     let count : length rs + (length ss + length items) ≡ length (rs ++ ss) + length items = omega (arith, length-append rs ss) in
     subst (λ (n : ℕ). Puts (script (rs ++ ss) items) n old new) count
     (subst (λ (v : List ℕ). Puts v (length rs + (length ss + length items)) old new) (script-append rs ss items)
-    (Puts-append old put new (reply_lines rs) (script ss items) (length rs) (length ss + length items) a b))
+    (Puts-append old put new (lines_of_replies rs) (script ss items) (length rs) (length ss + length items) a b))
 
-abbrev less-append : (rs ss : List ReplyParts) (old put new : SinkTold) → Puts (reply_lines rs) (length rs) old put → WritesAllButLast ss put new → WritesAllButLast (rs ++ ss) old new
+abbrev less-append : (rs ss : List ReplyParts) (old put new : SinkTold) → Puts (lines_of_replies rs) (length rs) old put → WritesAllButLast ss put new → WritesAllButLast (rs ++ ss) old new
 less-append rs ss old put new a b = record {
   whole = rs ++ b.whole;
   last = b.last;
@@ -156,14 +156,14 @@ less-append rs ss old put new a b = record {
   said = said-append rs b.whole old put new a b.said;
 }
 
-part-append : (rs ss : List ReplyParts) (old put new : SinkTold) → Puts (reply_lines rs) (length rs) old put → WritesPartOfLast ss put new → WritesPartOfLast (rs ++ ss) old new
+part-append : (rs ss : List ReplyParts) (old put new : SinkTold) → Puts (lines_of_replies rs) (length rs) old put → WritesPartOfLast ss put new → WritesPartOfLast (rs ++ ss) old new
 part-append rs ss old put new a b = record {
   between = b.between;
   before = less-append rs ss old put b.between a b.before;
   part = b.part;
 }
 
-Writes-then : (status : Status) (rs ss : List ReplyParts) (after : EntityData) (old put new : SinkTold) → Puts (reply_lines rs) (length rs) old put
+Writes-then : (status : Status) (rs ss : List ReplyParts) (after : EntityData) (old put new : SinkTold) → Puts (lines_of_replies rs) (length rs) old put
     → Writes status ss after put new → Writes status (rs ++ ss) after old new
 Writes-then Done rs ss after old put new a b = all-append rs ss (items_left after) old put new a b
 Writes-then Usage rs ss after old put new a b = absurd b

@@ -44,7 +44,7 @@ IsFront (Err Bad) held left = ⊤
 IsFront (Err ReadFault) held left = HasNoEnd held
 IsFront (Err OutOfMemory) held left = HasNoEnd held
 
--- the same once nothing is left to read
+-- What stands at the front of the bytes that are held, once nothing is left to read.
 abbrev pub IsFrontAtEnd : List ℕ → Front → Type 0
 IsFrontAtEnd held (Whole at) = ⊥
 IsFrontAtEnd held Last = held ≢ []

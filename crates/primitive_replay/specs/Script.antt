@@ -68,16 +68,16 @@ pub record AsksLines (reading : ℕ) (before after : EntityData)
 -- ---- what is written
 
 -- a text as a line: LF ends it
-abbrev pub line_of : List ℕ → List ℕ
-line_of text = text ++ 10 ∷ []
+abbrev pub as_line : List ℕ → List ℕ
+as_line text = text ++ 10 ∷ []
 
 -- a reply as a line: its compact JSON
 abbrev pub reply_line : ReplyParts → List ℕ
-reply_line reply = line_of (text_of (written_reply reply))
+reply_line reply = as_line (text_of (written_reply reply))
 
 -- replies, a line for each of them
-abbrev pub reply_lines : List ReplyParts → List ℕ
-reply_lines replies = flat_map reply_line replies
+abbrev pub lines_of_replies : List ReplyParts → List ℕ
+lines_of_replies replies = flat_map reply_line replies
 
 -- the items in the outbox of an entity, each as the text of its line: there are none as yet
 abbrev pub items_left : EntityData → List (List ℕ)
@@ -86,16 +86,17 @@ items_left entity = []
 -- The script of lines, the replies to their requests being these: a line for each of them, and
 -- behind them one for each of these items.
 abbrev pub script : List ReplyParts → List (List ℕ) → List ℕ
-script replies items = reply_lines replies ++ flat_map line_of items
+script replies items = lines_of_replies replies ++ flat_map as_line items
 
 -- The lines of all these replies but the last one were written, each by one put.
 pub record WritesAllButLast (replies : List ReplyParts) (old new : SinkTold) : Type 0 where
   pub whole : List ReplyParts
   pub last : ReplyParts
   pub replies_are : replies ≡ whole ++ last ∷ []
-  pub said : Puts (reply_lines whole) (length whole) old new
+  pub said : Puts (lines_of_replies whole) (length whole) old new
 
--- They were, and of the line of the last one a part, by one put more.
+-- The lines of all replies but the last one were written, and of that one's line a part, by one put
+-- more.
 pub record WritesPartOfLast (replies : List ReplyParts) (old new : SinkTold) : Type 0 where
   pub between : SinkTold
   pub before : WritesAllButLast replies old between
@@ -108,11 +109,11 @@ abbrev pub Writes : Status → List ReplyParts → EntityData → SinkTold → S
 Writes Done replies after old new = Puts (script replies (items_left after))
     (length replies + length (items_left after)) old new
 Writes Usage replies after old new = ⊥
-Writes (BadLine n) replies after old new = Puts (reply_lines replies) (length replies) old new
-Writes ReadFault replies after old new = Puts (reply_lines replies) (length replies) old new
+Writes (BadLine n) replies after old new = Puts (lines_of_replies replies) (length replies) old new
+Writes ReadFault replies after old new = Puts (lines_of_replies replies) (length replies) old new
 Writes WriteFault replies after old new = WritesPartOfLast replies old new
 Writes Memory replies after old new =
-    Puts (reply_lines replies) (length replies) old new ⊎ WritesAllButLast replies old new
+    Puts (lines_of_replies replies) (length replies) old new ⊎ WritesAllButLast replies old new
 Writes BadStream replies after old new = ⊥
 
 -- ---- how it ends

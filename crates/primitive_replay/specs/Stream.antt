@@ -42,7 +42,7 @@ pub record HoldsLittle (rest left : List ℕ) : Type 0 where
   pub rest_is : rest ≡ held ++ left
   pub few : length held ≤ held_limit
 
--- the same, and no line ends in what was read
+-- Of the rest some bytes were read, few more than the longest line has, and no line ends in them.
 pub record HoldsNoLine (rest left : List ℕ) : Type 0 where
   pub reads : HoldsLittle rest left
   pub none : HasNoEnd reads.held

@@ -12,7 +12,7 @@ use Rattle.cse_machine.specs.declared.event.Event.TheVariants.{Ask as AskEvent}
 use Rattle.cse_machine.specs.declared.event.Outcome.{Outcome}
 use Rattle.cse_server.specs.Replies.{GivesReply}
 use Rattle.primitive_replay.specs.Script.{AsksLines, WritesAllButLast, WritesPartOfLast}
-use Rattle.primitive_replay.specs.Script.{next_reading, reading_behind, reply_lines}
+use Rattle.primitive_replay.specs.Script.{next_reading, reading_behind, lines_of_replies}
 use Rattle.primitive_replay.specs.Stream.{LeadsTo}
 use Rattle.primitive_replay.specs.declared.fault.LineFault.{LineFault}
 use Rattle.primitive_replay.specs.declared.fault.LineFault.TheVariants.{Bad, ReadFault as Unread}
@@ -47,7 +47,7 @@ WritesText (Some BadStream) text old new = ⊥
 
 -- what was written of these replies where none is told to have ended it, and else of the last one
 abbrev pub WritesReplies : Option Status → List ReplyParts → SinkTold → SinkTold → Type 0
-WritesReplies None replies old new = Puts (reply_lines replies) (length replies) old new
+WritesReplies None replies old new = Puts (lines_of_replies replies) (length replies) old new
 WritesReplies (Some Done) replies old new = ⊥
 WritesReplies (Some Usage) replies old new = ⊥
 WritesReplies (Some (BadLine n)) replies old new = ⊥
@@ -64,7 +64,7 @@ pub record TakesLine (reading now : ℕ) (before after : EntityData)
   pub reads : now ≡ next_reading reading line
   pub said : WritesReplies status asks.replies old new
 
--- It goes on: the lines from this place up to the next were taken and answered.
+-- The replay goes on: the lines from this place up to the next were taken and answered.
 pub record ReplaysUpTo (place next reading now : ℕ) (before after : EntityData)
     (old new : Outside) : Type 0 where
   pub heard : List Line
@@ -72,4 +72,4 @@ pub record ReplaysUpTo (place next reading now : ℕ) (before after : EntityData
   pub places : place + length heard ≡ next
   pub reads : now ≡ reading_behind reading heard
   pub stream : LeadsTo place old.left heard new.left
-  pub said : Puts (reply_lines asks.replies) (length asks.replies) old.out new.out
+  pub said : Puts (lines_of_replies asks.replies) (length asks.replies) old.out new.out

@@ -16,7 +16,7 @@ use crate::next::next_line;
 use entity_model::Entity;
 use m2m_io::{Link, Sink, Source, Status};
 use m2m_value::Scratch;
-use plain_tree::ListTree;
+use resource_tree::IndexTree;
 use std::alloc::{AllocError as OutOfMemory, Global};
 use tree_model::{Home, Tree};
 
@@ -98,10 +98,10 @@ fn replay_next<T: Tree, S: Source, O: Sink, L: Link>(
 }
 
 /// An entity as it opens at the reading 0.
-fn opened(alloc: Global, home: Home) -> Result<Entity<ListTree>, OutOfMemory>
+fn opened(alloc: Global, home: Home) -> Result<Entity<IndexTree>, OutOfMemory>
     ensures { IfOk result (λ entity. entity ≡ opening home 0) }
 {
-    Entity::open(alloc, home, ListTree::new(alloc), 0)
+    Entity::open(alloc, home, IndexTree::new(alloc), 0)
 }
 
 /// Replays the lines of `input` against an entity that opens at the reading 0, and writes the

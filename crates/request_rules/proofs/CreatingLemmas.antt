@@ -12,7 +12,7 @@ use Rattle.attribute_rules.specs.declared.table.Writing.TheVariants.{Create as C
 use Rattle.request_rules.specs.Creation.{Creation, creation_of, is_unique, has_room}
 use Rattle.entity_model.specs.Entity.{EntityData}
 use Rattle.request_rules.specs.Order.{creation_by, content_places, creation_places, fault_creation, fault_named, fault_new, named_places, new_places}
-use Rattle.entity_model.specs.Places.{Place, first_fault, unless}
+use Rattle.entity_model.specs.Places.{Check, first_fault, unless}
 use Rattle.request_rules.specs.Requests.{admits, admits_content, child_ty, content_for, is_content_for, named_by, named_for}
 use Rattle.request_rules.proofs.EditingLemmas.{content_admits, no_content}
 use Rattle.request_rules.proofs.OrderLemmas.{first_fault-append}
@@ -46,7 +46,7 @@ creation_refused e o request parent ty es child content =
     by_admission true =
         first_fault-append (named_places e (named_by Create request parent)) (creation_places Create e o request parent)
         ∙ ap (λ (x : List Entry). option_or (fault_named e x) (first_fault (creation_places Create e o request parent))) (named_is request parent ty es child content)
-        ∙ ap (λ (x : List Place). option_or (fault_named e es) (first_fault x)) (new_is e o request parent ty es child content)
+        ∙ ap (λ (x : List Check). option_or (fault_named e es) (first_fault x)) (new_is e o request parent ty es child content)
     by_admission false = refl
 
 pub creation_names_none : (e : EntityData) (o : List ℕ) (request : RequestParts) (parent : ResourceData) (ty : Ty) → child_ty request ≡ Some ty → content_for request ty ≡ None → first_fault (content_places Create e request parent ++ creation_places Create e o request parent) ≡ Some BadRequest

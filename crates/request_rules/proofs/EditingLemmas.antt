@@ -1,8 +1,7 @@
 -- Contents that name attributes, and the order in which an Update is refused by them.
 use Rattle.std.proofs.Common.{◌≡◌, ℕ, List, [], ◌∷◌, ◌++◌, Bool, true, false, not, Option, Some, None, option_and_then, unwrap_or, if◌then◌else◌, refl, sym, ap, ◌∙◌}
 use Rattle.std.proofs.lemmas.Bool.{and_parts, both_ways}
-use Rattle.std.specs.Option.{option_map_or, option_or}
-use Rattle.m2m_names.specs.declared.codes.Rsc.{Rsc}
+use Rattle.std.specs.Option.{option_map_or}
 use Rattle.m2m_names.specs.declared.codes.Rsc.TheVariants.{BadRequest}
 use Rattle.m2m_names.specs.declared.operations.Op.TheVariants.{Update}
 use Rattle.m2m_names.specs.declared.types.Ty.{Ty}
@@ -17,6 +16,7 @@ use Rattle.entity_model.specs.Places.{first_fault, unless}
 use Rattle.request_rules.specs.Order.{content_places, creation_places, fault_edit, fault_named, named_places}
 use Rattle.request_rules.specs.Requests.{admits, content_for, is_content_for, named_by, names_copy}
 use Rattle.request_rules.proofs.OrderLemmas.{first_fault-append}
+use Rattle.m2m_names.proofs.LookupLemmas.{option_or-None}
 
 -- ---- which contents are for a type
 
@@ -47,10 +47,6 @@ content_names request ty content es is names = ap (option_and_then (attributes_i
 
 -- ---- an Update
 
-or_nothing : (x : Option Rsc) → option_or x None ≡ x
-or_nothing None = refl
-or_nothing (Some f) = refl
-
 module _ (e : EntityData) (o : List ℕ) (request : RequestParts) (r : ResourceData) where
   -- by whether its content is admitted
   admitting : (b : Bool) → is_content_for Updating request r.ty ≡ b → first_fault (content_places Update e request r ++ creation_places Update e o request r) ≡ first_fault ((unless b BadRequest ∷ named_places e (named_by Update request r)) ++ creation_places Update e o request r)
@@ -63,7 +59,7 @@ module _ (e : EntityData) (o : List ℕ) (request : RequestParts) (r : ResourceD
       by_admission : (b : Bool) → first_fault ((unless b BadRequest ∷ named_places e (named_by Update request r)) ++ creation_places Update e o request r) ≡ (if b then fault_named e es else Some BadRequest)
       by_admission true =
           first_fault-append (named_places e (named_by Update request r)) (creation_places Update e o request r)
-          ∙ or_nothing (first_fault (named_places e (named_by Update request r)))
+          ∙ option_or-None (first_fault (named_places e (named_by Update request r)))
           ∙ ap (λ (x : Option (List Entry)). fault_named e (unwrap_or x [])) names
       by_admission false = refl
 

@@ -9,14 +9,14 @@ use Rattle.resource_model.specs.Resource.{ResourceData}
 use Rattle.tree_model.specs.Tree.{at}
 use Rattle.tree_model.proofs.TreeLemmas.{at_number}
 use Rattle.entity_model.specs.Entity.{EntityData}
-use Rattle.entity_model.specs.Places.{Place, first_fault}
+use Rattle.entity_model.specs.Places.{Check, first_fault}
 use Rattle.request_rules.specs.Judged.{Judges}
 use Rattle.request_rules.specs.Order.{fault_at, fault_on}
 use Rattle.request_rules.specs.declared.judging.Refusal.{Refusal}
 use Rattle.request_rules.proofs.OrderLemmas.{rest_decides}
 
 -- by the places behind those that hold
-pub judges_rest : {X : Type 0} (r : Result X Refusal) (front back : List Place) (P : X → Type 0) → first_fault front ≡ None → Judges r (first_fault back) P → Judges r (first_fault (front ++ back)) P
+pub judges_rest : {X : Type 0} (r : Result X Refusal) (front back : List Check) (P : X → Type 0) → first_fault front ≡ None → Judges r (first_fault back) P → Judges r (first_fault (front ++ back)) P
 judges_rest r front back P none judged = subst (λ (f : Option Rsc). Judges r f P) (rest_decides front back (sym none)) judged
 
 -- by the resource that a number finds

@@ -5,3 +5,4 @@ pub mod JudgedLemmas
 pub mod NamingLemmas
 pub mod OrderLemmas
 pub mod RefusalLemmas
+pub mod RoomLemmas

@@ -1,16 +1,14 @@
 -- Names and identifiers are texts.
 use Rattle.std.proofs.Common.{◌≡◌, ℕ, List, ◌++◌, true, bytes_eq, IfOk, IsUtf8, Result, inl, inr, refl, sym, subst}
-use Rattle.std.proofs.lemmas.Bool.{cases_Bool, and_parts}
+use Rattle.std.proofs.lemmas.Bool.{cases_Bool}
 use Rattle.std.proofs.lemmas.Result.{IfOk-weaker}
 use Rattle.std.proofs.lemmas.Str.{IsUtf8-append}
-use Rattle.std.specs.Char.{is_ascii_graphic}
-use Rattle.std.specs.List.{list_all}
-use Rattle.m2m_names.specs.Name.{is_filled, is_originator}
-use Rattle.m2m_names.proofs.NameLemmas.{graphic_is_utf8}
+use Rattle.m2m_names.specs.Name.{is_originator, originator_limit}
+use Rattle.m2m_names.proofs.NameLemmas.{graphic_is_utf8, printable_is_utf8}
 use Rattle.request_rules.specs.Creation.{ae_stem, c_stem, s_stem}
 
 originator_is_text : (o : List ℕ) → is_originator o ≡ true → IsUtf8 o
-originator_is_text o is = graphic_is_utf8 o (and_parts (is_filled 256 o) (list_all is_ascii_graphic o) is).1
+originator_is_text o is = printable_is_utf8 originator_limit o is
 
 pub text_of_originator : {E : Type 0} (o : List ℕ) (r : Result (List ℕ) E) → is_originator o ≡ true → IfOk r (λ t. t ≡ o) → IfOk r (λ t. IsUtf8 t)
 text_of_originator o r is told = IfOk-weaker r (λ t. t ≡ o) (λ t. IsUtf8 t) (λ t same. subst IsUtf8 (sym same) (originator_is_text o is)) told

@@ -1,6 +1,6 @@
 -- Lists of places, and the first of them that doesn't hold.
-use Rattle.std.proofs.Common.{◌≡◌, ℕ, List, [], ◌∷◌, ◌++◌, Bool, true, false, not, Option, Some, None, is_some, option_map, Bor, IfOk, IfSome, Result, inl, inr, refl, sym, ap, ◌∙◌}
-use Rattle.std.proofs.lemmas.Bool.{cases_Bool, and_from, both_ways}
+use Rattle.std.proofs.Common.{◌≡◌, ℕ, List, [], ◌∷◌, ◌++◌, true, Option, Some, None, is_some, option_map, Bor, IfOk, IfSome, Result, inl, inr, refl, sym, ap, ◌∙◌}
+use Rattle.std.proofs.lemmas.Bool.{cases_Bool, and_parts, and_from, both_ways}
 use Rattle.std.proofs.lemmas.Result.{IfOk-weaker}
 use Rattle.std.specs.List.{list_all}
 use Rattle.std.specs.Option.{option_map_or, option_or}
@@ -12,25 +12,68 @@ use Rattle.resource_model.specs.Resource.{ResourceData}
 use Rattle.tree_model.specs.Tree.{at, has}
 use Rattle.tree_model.proofs.TreeLemmas.{at_has, at_number}
 use Rattle.entity_model.specs.Entity.{EntityData}
-use Rattle.request_rules.specs.Order.{fault_on, fault_at}
-use Rattle.entity_model.specs.Places.{Place, first_fault}
+use Rattle.request_rules.specs.Creation.{Creation, has_room, is_unique}
+use Rattle.request_rules.specs.Order.{creation_places, expires_later, fault_on, fault_at, new_places, places}
+use Rattle.request_rules.specs.Policies.{links_live}
+use Rattle.request_rules.specs.Requests.{admits_content, is_for, named_by, takes_child}
+use Rattle.request_rules.specs.Rights.{may_do}
+use Rattle.entity_model.specs.Places.{Check, first_fault}
 
 -- ---- a list of places
 
 -- where nothing refuses, the first place holds, and none of the others refuses
-pub first_holds : (place : Place) (rest : List Place) → first_fault (place ∷ rest) ≡ None → (place.holds ≡ true) × (first_fault rest ≡ None)
+pub first_holds : (place : Check) (rest : List Check) → first_fault (place ∷ rest) ≡ None → (place.holds ≡ true) × (first_fault rest ≡ None)
 first_holds place rest none = elim (cases_Bool place.holds) [
   | inl t ↦ (t, rw t at none)
   | inr f ↦ absurd (both_ways true (ap is_some (rw f at none)) refl)
 ]
 
 -- where none refuses, all hold
-pub all_hold : (places : List Place) → first_fault places ≡ None → list_all (λ (p : Place). p.holds) places ≡ true
+pub all_hold : (places : List Check) → first_fault places ≡ None → list_all (λ (p : Check). p.holds) places ≡ true
 all_hold [] none = refl
 all_hold (place ∷ rest) none = (let both = first_holds place rest none in and_from _ _ both.0 (all_hold rest both.1))
 
+-- what it says that no place refuses an operation on a resource
+pub record IsUnrefused (op : Op) (e : EntityData) (originator : List ℕ) (request : RequestParts) (target : ResourceData) : Type 0 where
+  pub right : may_do op e originator request target.number ≡ true
+  pub kind : is_for op target.ty ≡ true
+  pub child : takes_child op request target ≡ true
+  pub content : admits_content op request target ≡ true
+  pub later : expires_later e (named_by op request target) ≡ true
+  pub live : links_live e (named_by op request target) ≡ true
+  pub new : list_all (λ (p : Check). p.holds) (creation_places op e originator request target) ≡ true
+
+pub places_parts : (op : Op) (e : EntityData) (originator : List ℕ) (request : RequestParts) (target : ResourceData) → fault_on op e originator request target ≡ None → IsUnrefused op e originator request target
+places_parts op e originator request target none =
+    let all = all_hold (places op e originator request target) none in
+    let right = and_parts (may_do op e originator request target.number) _ all in
+    let kind = and_parts (is_for op target.ty) _ right.1 in
+    let child = and_parts (takes_child op request target) _ kind.1 in
+    let content = and_parts (admits_content op request target) _ child.1 in
+    let later = and_parts (expires_later e (named_by op request target)) _ content.1 in
+    let live = and_parts (links_live e (named_by op request target)) _ later.1 in
+    record {
+      right = right.0;
+      kind = kind.0;
+      child = child.0;
+      content = content.0;
+      later = later.0;
+      live = live.0;
+      new = live.1;
+    }
+
+-- and what it says of what is created
+pub record IsUnrefusedNew (c : Creation) : Type 0 where
+  pub unique : is_unique c ≡ true
+  pub room : has_room c ≡ true
+
+pub new_parts : (c : Creation) → list_all (λ (p : Check). p.holds) (new_places c) ≡ true → IsUnrefusedNew c
+new_parts c all =
+    let unique = and_parts (is_unique c) _ all in
+    record { unique = unique.0; room = (and_parts (has_room c) _ unique.1).0 }
+
 -- the places of one list after another
-pub first_fault-append : (front back : List Place) → first_fault (front ++ back) ≡ option_or (first_fault front) (first_fault back)
+pub first_fault-append : (front back : List Check) → first_fault (front ++ back) ≡ option_or (first_fault front) (first_fault back)
 first_fault-append [] back = refl
 first_fault-append (place ∷ front) back = elim (cases_Bool place.holds) [
   | inl t ↦ rw t (first_fault-append front back)
@@ -38,10 +81,10 @@ first_fault-append (place ∷ front) back = elim (cases_Bool place.holds) [
 ]
 
 -- the first list decides, or else the second
-pub front_decides : (front back : List Place) (f : Rsc) → Some f ≡ first_fault front → Some f ≡ first_fault (front ++ back)
+pub front_decides : (front back : List Check) (f : Rsc) → Some f ≡ first_fault front → Some f ≡ first_fault (front ++ back)
 front_decides front back f is = ap (λ (x : Option Rsc). option_or x (first_fault back)) is ∙ sym (first_fault-append front back)
 
-pub rest_decides : (front back : List Place) → None ≡ first_fault front → first_fault back ≡ first_fault (front ++ back)
+pub rest_decides : (front back : List Check) → None ≡ first_fault front → first_fault back ≡ first_fault (front ++ back)
 rest_decides front back none = ap (λ (x : Option Rsc). option_or x (first_fault back)) none ∙ sym (first_fault-append front back)
 
 -- what is told is told by an equal name

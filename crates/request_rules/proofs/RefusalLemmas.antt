@@ -14,15 +14,15 @@ use Rattle.primitive_json.specs.declared.request.RequestParts.{RequestParts}
 use Rattle.resource_model.specs.Resource.{ResourceData}
 use Rattle.tree_model.specs.Tree.{at}
 use Rattle.entity_model.specs.Entity.{EntityData}
-use Rattle.entity_model.specs.Places.{Place, first_fault}
+use Rattle.entity_model.specs.Places.{Check, first_fault}
 use Rattle.request_rules.specs.Order.{creation_by, creation_places, fault_at, fault_on, new_places, places}
 use Rattle.request_rules.specs.Requests.{child_ty}
 use Rattle.request_rules.specs.Rights.{is_subscribing}
 
-abbrev is_refusal : Place → Bool
+abbrev is_refusal : Check → Bool
 is_refusal place = not (is_success place.fault)
 
-not_served : (places : List Place) (f : Rsc) → list_all is_refusal places ≡ true → first_fault places ≡ Some f → is_success f ≡ false
+not_served : (places : List Check) (f : Rsc) → list_all is_refusal places ≡ true → first_fault places ≡ Some f → is_success f ≡ false
 not_served [] f all is = absurd (none-some f is)
 not_served (place ∷ rest) f all is =
     let both = and_parts (is_refusal place) (list_all is_refusal rest) all in

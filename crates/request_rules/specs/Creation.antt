@@ -34,14 +34,15 @@ use Rattle.entity_model.specs.Sound.{largest_size, greatest_depth, greatest_coun
 -- the content names. The number is the entity's next one.
 pub record Creation : Type 0 where
   pub e : EntityData
-  pub o : List ℕ
+  pub originator : List ℕ
   pub ty : Ty
   pub parent : ResourceData
   pub named : List Entry
 
+-- The creation that has these parts.
 abbrev pub creation_of : EntityData → List ℕ → Ty → ResourceData → List Entry → Creation
-creation_of e o ty parent named =
-    record { e = e; o = o; ty = ty; parent = parent; named = named }
+creation_of e originator ty parent named =
+    record { e = e; originator = originator; ty = ty; parent = parent; named = named }
 
 -- ---- names and identifiers
 
@@ -49,9 +50,11 @@ creation_of e o ty parent named =
 abbrev pub own_name : Ty → ℕ → List ℕ
 own_name ty n = (ty_row ty).word ++ codes "_" ++ decimal n
 
+-- The name of a new resource of this type and number, by what the content names.
 abbrev pub name_for : Ty → ℕ → List Entry → List ℕ
 name_for ty n es = unwrap_or (named_text Rn es) (own_name ty n)
 
+-- The name of the resource that a creation makes.
 abbrev pub new_name : Creation → List ℕ
 new_name c = name_for c.ty c.e.next c.named
 
@@ -66,28 +69,31 @@ s_stem = codes "S"
 -- an originator that is an AE-ID already: a name that begins with `C` or `S`, and more (TS-0001,
 -- 7.1.2)
 abbrev pub is_ae_id : List ℕ → Bool
-is_ae_id o =
-    is_name o && nat_lt 1 (length o)
-    && (starts_with nat_eq o c_stem || starts_with nat_eq o s_stem)
+is_ae_id originator =
+    is_name originator && nat_lt 1 (length originator)
+    && (starts_with nat_eq originator c_stem || starts_with nat_eq originator s_stem)
 
 -- what an AE-ID begins with that the CSE gives: `S` where that is asked for, else `C`
 abbrev pub ae_stem : List ℕ → List ℕ
-ae_stem o = if bytes_eq o s_stem then s_stem else c_stem
+ae_stem originator = if bytes_eq originator s_stem then s_stem else c_stem
 
 -- the AE-ID of a new application entity: its originator, or a new one with its resource id
 -- (TS-0001, 10.2.2.2)
 abbrev pub ae_id_for : List ℕ → ℕ → List ℕ
-ae_id_for o n = if is_ae_id o then o else ae_stem o ++ id_text Ae n
+ae_id_for originator n =
+    if is_ae_id originator then originator else ae_stem originator ++ id_text Ae n
 
+-- The AE-ID of the application entity that a creation makes (TS-0001, 10.2.2.2).
 abbrev pub new_ae_id : Creation → List ℕ
-new_ae_id c = ae_id_for c.o c.e.next
+new_ae_id c = ae_id_for c.originator c.e.next
 
 -- who owns it: an application entity owns itself, and all else its originator
 abbrev pub owner_for : List ℕ → Ty → ℕ → List ℕ
-owner_for o ty n = if is_ty ty Ae then ae_id_for o n else o
+owner_for originator ty n = if is_ty ty Ae then ae_id_for originator n else originator
 
+-- The owner of the resource that a creation makes.
 abbrev pub new_owner : Creation → List ℕ
-new_owner c = owner_for c.o c.ty c.e.next
+new_owner c = owner_for c.originator c.ty c.e.next
 
 -- ---- what must not stand twice
 
@@ -97,6 +103,8 @@ abbrev pub is_free_cse_id : EntityData → List ℕ → Bool
 is_free_cse_id e csi =
     not (has_cse_id (Some csi) e.nodes) && not (bytes_eq (own_cse_id e.home) csi)
 
+-- Nothing is there already that a new resource of this type alone may be (TS-0001, 7.1.2, 7.1.4 and
+-- 9.6.21).
 abbrev pub is_single : Ty → Creation → Bool
 is_single Ae c = not (has_ae_id (Some (new_ae_id c)) c.e.nodes)
 is_single RemoteCse c = option_map_or (is_free_cse_id c.e) (named_text Csi c.named) true
@@ -113,6 +121,7 @@ is_unique c = not (has_child c.parent.number (new_name c) c.e.nodes) && is_singl
 abbrev pub size_named : List Entry → ℕ
 size_named es = option_map_or (λ d. capped (size_of d)) (member_of (attr_short Con) es) 0
 
+-- The size of the content that a creation names, in bytes.
 abbrev pub new_size : Creation → ℕ
 new_size c = size_named c.named
 
@@ -127,6 +136,7 @@ takes_instance container size =
     nat_le size largest_size && is_within size (limits_of container).mbs
     && is_below 0 (limits_of container).mni && is_below 0 (limits_of container).mia
 
+-- The creation makes no content instance, or one that the container takes (TS-0001, 9.6.6).
 abbrev pub is_small : Creation → Bool
 is_small c = not (is_ty c.ty ContentInstance) || takes_instance c.parent (new_size c)
 
@@ -137,6 +147,7 @@ has_place e parent =
     nat_lt (length e.nodes) greatest_count && nat_lt e.next largest_count
     && nat_lt (level_of parent e.nodes) greatest_depth
 
+-- The entity has room for what is created, and its container takes an instance of its size.
 abbrev pub has_room : Creation → Bool
 has_room c = has_place c.e c.parent.number && is_small c
 
@@ -157,17 +168,19 @@ given_rows _ c = []
 
 -- the originator, where `cr` asks for it
 abbrev pub creator_rows : List ℕ → List Entry → List Row
-creator_rows o es = if is_named Cr es then (Cr, text o) ∷ [] else []
+creator_rows originator es = if is_named Cr es then (Cr, text originator) ∷ [] else []
 
 -- what it keeps beside what the content gives it; the policies by their resource ids
 abbrev pub rows_besides : Creation → List Row
 rows_besides c =
-    given_rows c.ty c ++ creator_rows c.o c.named
+    given_rows c.ty c ++ creator_rows c.originator c.named
     ++ link_row c.e c.named Acpi ++ link_row c.e c.named Macp
 
+-- The attributes that a new resource keeps.
 abbrev pub new_rows : Creation → List Row
 new_rows c = with_rows (rows_besides c) (wanted_in c.named).attrs
 
+-- The resource that a creation makes, with all its parts (TS-0001, 10.2.2).
 abbrev pub new_resource : Creation → ResourceData
 new_resource c = record {
   number = c.e.next;

@@ -13,8 +13,8 @@ use Rattle.request_rules.specs.declared.judging.AllowedUpdate.{AllowedUpdate}
 use Rattle.request_rules.specs.declared.judging.Refusal.{Refusal}
 use Rattle.request_rules.specs.declared.judging.Refusal.TheVariants.{Fault, OutOfMemory}
 
--- It is refused with this status, where there is one, and else it gives what is so; unless memory
--- runs out.
+-- The request is refused with this status, where there is one, and else gives what is so; unless
+-- memory runs out.
 abbrev pub Judges : {X : Type 0} → Result X Refusal → Option Rsc → (X → Type 0) → Type 0
 Judges (Ok x) fault IsSo = (fault ≡ None) × IsSo x
 Judges (Err (Fault f)) fault IsSo = fault ≡ Some f
@@ -40,4 +40,5 @@ pub record IsUpdateOf (e : EntityData) (request : RequestParts) (n : ℕ) (updat
 
 -- the creation that it asks of the entity
 abbrev pub creation_for : EntityData → List ℕ → AllowedCreate → Creation
-creation_for e o create = creation_of e o create.ty create.parent.now create.named.now
+creation_for e originator create =
+    creation_of e originator create.ty create.parent.now create.named.now

@@ -18,7 +18,7 @@ use Rattle.attribute_rules.specs.declared.table.Writing.TheVariants.{Create as C
 use Rattle.attribute_rules.specs.declared.table.Writing.TheVariants.{Update as Updating}
 use Rattle.request_rules.specs.Creation.{Creation, creation_of, is_unique, has_room}
 use Rattle.entity_model.specs.Entity.{EntityData}
-use Rattle.entity_model.specs.Places.{Place, absent, first_fault, unless}
+use Rattle.entity_model.specs.Places.{Check, absent, first_fault, unless}
 use Rattle.request_rules.specs.Policies.{links_live}
 use Rattle.request_rules.specs.Requests.{admits, admits_content, child_ty, is_for, named_by}
 use Rattle.request_rules.specs.Requests.{named_expiry, named_for, takes_child}
@@ -28,48 +28,55 @@ use Rattle.request_rules.specs.Rights.{is_subscribing, may_do}
 abbrev pub child_fault : RequestParts → Rsc
 child_fault request = if is_subscribing request then NotSubscribable else BadChild
 
--- it expires later than at the moment, where it says when
+-- The expiry that a content names, where it names one, is later than the entity's moment.
 abbrev pub expires_later : EntityData → List Entry → Bool
 expires_later e es = option_map_or (nat_lt e.last) (named_expiry es) true
 
 -- the creation that a Create asks for
 abbrev pub creation_by : EntityData → List ℕ → RequestParts → ResourceData → Ty → Creation
-creation_by e o request parent ty = creation_of e o ty parent (named_for request ty)
+creation_by e originator request parent ty =
+    creation_of e originator ty parent (named_for request ty)
 
 -- for want of the right, then by the types of target and child
-abbrev pub target_places : Op → EntityData → List ℕ → RequestParts → ResourceData → List Place
-target_places op e o request target =
-    unless (may_do op e o request target.number) NoPrivilege
+abbrev pub target_places : Op → EntityData → List ℕ → RequestParts → ResourceData → List Check
+target_places op e originator request target =
+    unless (may_do op e originator request target.number) NoPrivilege
     ∷ unless (is_for op target.ty) NotAllowed
     ∷ unless (takes_child op request target) (child_fault request)
     ∷ []
 
 -- then by what the content is and names
-abbrev pub named_places : EntityData → List Entry → List Place
+abbrev pub named_places : EntityData → List Entry → List Check
 named_places e es =
     unless (expires_later e es) BadRequest ∷ unless (links_live e es) BadRequest ∷ []
 
-abbrev pub content_places : Op → EntityData → RequestParts → ResourceData → List Place
+-- The places of the content: it is admitted, it expires later, and the policies that it names are
+-- there.
+abbrev pub content_places : Op → EntityData → RequestParts → ResourceData → List Check
 content_places op e request target =
     unless (admits_content op request target) BadRequest
     ∷ named_places e (named_by op request target)
 
 -- then by what stands there already, and by a limit; what creates nothing passes them
-abbrev pub new_places : Creation → List Place
+abbrev pub new_places : Creation → List Check
 new_places c = unless (is_unique c) Conflict ∷ unless (has_room c) NotAcceptable ∷ []
 
-abbrev pub creation_places : Op → EntityData → List ℕ → RequestParts → ResourceData → List Place
-creation_places Create e o request parent =
-    option_map_or (λ ty. new_places (creation_by e o request parent ty)) (child_ty request) []
-creation_places Retrieve e o request r = []
-creation_places Update e o request r = []
-creation_places Delete e o request r = []
-creation_places Notify e o request r = []
+-- The places of what is to be created; an operation that creates nothing has none.
+abbrev pub creation_places : Op → EntityData → List ℕ → RequestParts → ResourceData → List Check
+creation_places Create e originator request parent =
+    option_map_or (λ ty. new_places (creation_by e originator request parent ty))
+    (child_ty request) []
+creation_places Retrieve e originator request r = []
+creation_places Update e originator request r = []
+creation_places Delete e originator request r = []
+creation_places Notify e originator request r = []
 
 -- the status by which what a content names, and that by which what is created, is refused
 abbrev pub fault_named : EntityData → List Entry → Option Rsc
 fault_named e es = first_fault (named_places e es)
 
+-- The status by which what is to be created is refused, for what stands there already or for a
+-- limit.
 abbrev pub fault_new : Creation → Option Rsc
 fault_new c = first_fault (new_places c)
 
@@ -78,23 +85,24 @@ fault_new c = first_fault (new_places c)
 abbrev pub fault_edit : EntityData → Ty → List Entry → Option Rsc
 fault_edit e ty es = if admits Updating ty es then fault_named e es else Some BadRequest
 
+-- The status by which a Create is refused that names the attributes of this creation.
 abbrev pub fault_creation : Creation → Option Rsc
 fault_creation c =
     if admits Creating c.ty c.named then option_or (fault_named c.e c.named) (fault_new c)
     else Some BadRequest
 
 -- Every operation is refused in this order. A test that doesn't concern an operation holds of it.
-abbrev pub places : Op → EntityData → List ℕ → RequestParts → ResourceData → List Place
-places op e o request target =
-    target_places op e o request target
+abbrev pub places : Op → EntityData → List ℕ → RequestParts → ResourceData → List Check
+places op e originator request target =
+    target_places op e originator request target
     ++ content_places op e request target
-    ++ creation_places op e o request target
+    ++ creation_places op e originator request target
 
 -- the status of the first place that refuses it
 abbrev pub fault_on : Op → EntityData → List ℕ → RequestParts → ResourceData → Option Rsc
-fault_on op e o request target = first_fault (places op e o request target)
+fault_on op e originator request target = first_fault (places op e originator request target)
 
 -- on the resource of a number, which is looked up once
 abbrev pub fault_at : Op → EntityData → List ℕ → RequestParts → ℕ → Option Rsc
-fault_at op e o request n =
-    option_map_or (fault_on op e o request) (at n e.nodes) (Some absent)
+fault_at op e originator request n =
+    option_map_or (fault_on op e originator request) (at n e.nodes) (Some absent)

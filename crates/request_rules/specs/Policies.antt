@@ -24,6 +24,7 @@ abbrev pub policy_addressed : EntityData → List ℕ → Option ResourceData
 policy_addressed e address =
     option_and_then (policy_on e.nodes) (spot_named e.home address e.nodes)
 
+-- The live policy that a value addresses as a text.
 abbrev pub policy_meant : EntityData → Data → Option ResourceData
 policy_meant e d = option_and_then (policy_addressed e) (as_text d)
 

@@ -56,13 +56,15 @@ content_ty Notify request r = None
 abbrev pub content_for : RequestParts → Ty → Option (List Entry)
 content_for request ty = option_and_then (attributes_in ty) request.pc
 
+-- The attributes that the content names for a type, and none where it is no content for the type.
 abbrev pub named_for : RequestParts → Ty → List Entry
 named_for request ty = unwrap_or (content_for request ty) []
 
+-- The attributes that the content of an operation names, for the type that it is about.
 abbrev pub named_by : Op → RequestParts → ResourceData → List Entry
 named_by op request r = option_map_or (named_for request) (content_ty op request r) []
 
--- it names what announces a resource, or what of it is announced (TS-0001, 9.6.26)
+-- The content names what announces a resource, or what of it is announced (TS-0001, 9.6.26).
 abbrev pub names_copy : List Entry → Bool
 names_copy es = is_named At es || is_named Aa es
 
@@ -89,6 +91,6 @@ admits_content Notify request r = true
 abbrev pub named_expiry : List Entry → Option ℕ
 named_expiry es = (wanted_in es).et
 
--- and the last one, where they name none
+-- The moment of expiry that these attributes name, and the last moment where they name none.
 abbrev pub expiry_for : List Entry → ℕ
 expiry_for es = unwrap_or (named_expiry es) last_moment

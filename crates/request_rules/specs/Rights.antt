@@ -21,11 +21,11 @@ use Rattle.entity_model.specs.Places.{reading_bit}
 
 -- the originator has these bits on the resource of the number
 abbrev pub is_granted : EntityData → List ℕ → ℕ → ℕ → Bool
-is_granted e o bits n = grants e.home e.nodes o bits n
+is_granted e originator bits n = grants e.home e.nodes originator bits n
 
 -- ---- kinds of requests
 
--- it creates a subscription
+-- The request creates a subscription.
 abbrev pub is_subscribing : RequestParts → Bool
 is_subscribing request = option_map_or (λ n. n == (ty_row Subscription).number) request.ty false
 
@@ -34,6 +34,7 @@ abbrev pub is_search : FilterUsage → Bool
 is_search Discovery = true
 is_search Conditional = false
 
+-- The request looks for resources: its filter says so by `fu` 1 (TS-0001, 10.2.6).
 abbrev pub is_discovery : RequestParts → Bool
 is_discovery request =
     option_map_or is_search (option_and_then (λ f. f.fu) request.fc) false
@@ -46,7 +47,7 @@ sole d = option_and_then only_member (as_object d)
 abbrev pub is_link : Data → Bool
 is_link d = option_map_or (λ e. bytes_eq e.0 (attr_short Acpi)) (sole d) false
 
--- it is of `acpi` alone: the content is one member that holds it, and nothing else
+-- The request is of `acpi` alone: its content is one member that holds it, and nothing else.
 abbrev pub is_relink : RequestParts → Bool
 is_relink request =
     option_map_or (λ e. is_link e.1) (option_and_then sole request.pc) false
@@ -59,19 +60,20 @@ abbrev pub create_bits : RequestParts → ℕ
 create_bits request =
     if is_subscribing request then create_bit + retrieve_bit else create_bit
 
+-- The right that a Retrieve needs: DISCOVERY where it looks for resources, else RETRIEVE.
 abbrev pub retrieve_bits : RequestParts → ℕ
 retrieve_bits request = reading_bit (is_discovery request)
 
 -- a change of `acpi` alone is judged by who may change it, every other Update by UPDATE
 abbrev pub may_update : EntityData → List ℕ → RequestParts → ℕ → Bool
-may_update e o request n =
-    if is_relink request then relinks e.home e.nodes o n
-    else is_granted e o update_bit n
+may_update e originator request n =
+    if is_relink request then relinks e.home e.nodes originator n
+    else is_granted e originator update_bit n
 
 -- the originator has the right that the operation needs on the resource of the number
 abbrev pub may_do : Op → EntityData → List ℕ → RequestParts → ℕ → Bool
-may_do Create e o request n = is_granted e o (create_bits request) n
-may_do Retrieve e o request n = is_granted e o (retrieve_bits request) n
-may_do Update e o request n = may_update e o request n
-may_do Delete e o request n = is_granted e o delete_bit n
-may_do Notify e o request n = is_granted e o notify_bit n
+may_do Create e originator request n = is_granted e originator (create_bits request) n
+may_do Retrieve e originator request n = is_granted e originator (retrieve_bits request) n
+may_do Update e originator request n = may_update e originator request n
+may_do Delete e originator request n = is_granted e originator delete_bit n
+may_do Notify e originator request n = is_granted e originator notify_bit n

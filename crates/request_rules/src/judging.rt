@@ -78,16 +78,16 @@ fn child_fault(request: &Request) -> Rsc
 pub fn judge_target<T: Tree>(
     op: Op,
     entity: &Entity<T>,
-    o: &[u8],
+    originator: &[u8],
     request: &Request,
     target: &Resource,
 ) -> Option<Rsc>
-    requires originator { IsTrue (is_originator o.now) }
+    requires originator { IsTrue (is_originator originator.now) }
     requires resource { IsTrue (has target.now.number entity.now.nodes) }
     ensures { result ≡ first_fault
-        (spec.target_places op entity.now o.now request.now target.now) }
+        (spec.target_places op entity.now originator.now request.now target.now) }
 {
-    if !may_do(op, entity, o, request, target.number()) {
+    if !may_do(op, entity, originator, request, target.number()) {
         return Some(Rsc::NoPrivilege);
     }
     if !is_for(op, target.ty()) {
@@ -103,19 +103,20 @@ pub fn judge_target<T: Tree>(
 // a Create.
 fn judge_parent<T: Tree>(
     entity: &Entity<T>,
-    o: &[u8],
+    originator: &[u8],
     request: &Request,
     parent: &Resource,
 ) -> Result<Ty, Rsc>
-    requires originator { IsTrue (is_originator o.now) }
+    requires originator { IsTrue (is_originator originator.now) }
     requires resource { IsTrue (has parent.now.number entity.now.nodes) }
     ensures ok { OnOk result (first_fault
-        (spec.target_places ops.Create entity.now o.now request.now parent.now) ≡ None) }
+        (spec.target_places ops.Create entity.now originator.now request.now parent.now) ≡ None) }
     ensures child { IfOk result (λ ty. requests.child_ty request.now ≡ Some ty) }
     ensures err { IfErr result (λ fault. first_fault
-        (spec.target_places ops.Create entity.now o.now request.now parent.now) ≡ Some fault) }
+        (spec.target_places ops.Create entity.now originator.now request.now parent.now)
+        ≡ Some fault) }
 {
-    if !may_do(Op::Create, entity, o, request, parent.number()) {
+    if !may_do(Op::Create, entity, originator, request, parent.number()) {
         return Err(Rsc::NoPrivilege);
     }
     match child_ty(request) {
@@ -144,16 +145,16 @@ fn content_for(request: &Request, ty: Ty) -> Option<(&Val, &Members)>
 pub fn judge_create<'a, T: Tree>(
     alloc: Global,
     entity: &'a Entity<T>,
-    o: &[u8],
+    originator: &[u8],
     request: &'a Request,
     parent: u64,
 ) -> Result<AllowedCreate<'a>, Refusal>
-    requires { IsTrue (is_originator o.now) }
-    ensures { Judges result (spec.fault_at ops.Create entity.now o.now request.now parent)
+    requires { IsTrue (is_originator originator.now) }
+    ensures { Judges result (spec.fault_at ops.Create entity.now originator.now request.now parent)
         (IsCreateOf entity.now request.now parent) }
 {
     match find(entity, parent) {
-        Some(parent) => judge_under(alloc, entity, o, request, parent),
+        Some(parent) => judge_under(alloc, entity, originator, request, parent),
         None => Err(Refusal::Fault(Rsc::NotFound)),
     }
 }
@@ -161,18 +162,19 @@ pub fn judge_create<'a, T: Tree>(
 fn judge_under<'a, T: Tree>(
     alloc: Global,
     entity: &Entity<T>,
-    o: &[u8],
+    originator: &[u8],
     request: &'a Request,
     parent: &'a Resource,
 ) -> Result<AllowedCreate<'a>, Refusal>
-    requires originator { IsTrue (is_originator o.now) }
+    requires originator { IsTrue (is_originator originator.now) }
     requires sound { IsSoundEntity entity.now }
     requires stands { at parent.now.number entity.now.nodes ≡ Some parent.now }
-    ensures { Judges result (spec.fault_on ops.Create entity.now o.now request.now parent.now)
+    ensures { Judges result
+        (spec.fault_on ops.Create entity.now originator.now request.now parent.now)
         (IsCreateOf entity.now request.now parent.now.number) }
 {
-    match judge_parent(entity, o, request, parent) {
-        Ok(ty) => judge_child(alloc, entity, o, request, parent, ty),
+    match judge_parent(entity, originator, request, parent) {
+        Ok(ty) => judge_child(alloc, entity, originator, request, parent, ty),
         Err(fault) => Err(Refusal::Fault(fault)),
     }
 }
@@ -181,24 +183,24 @@ fn judge_under<'a, T: Tree>(
 fn judge_child<'a, T: Tree>(
     alloc: Global,
     entity: &Entity<T>,
-    o: &[u8],
+    originator: &[u8],
     request: &'a Request,
     parent: &'a Resource,
     ty: Ty,
 ) -> Result<AllowedCreate<'a>, Refusal>
-    requires originator { IsTrue (is_originator o.now) }
+    requires originator { IsTrue (is_originator originator.now) }
     requires sound { IsSoundEntity entity.now }
     requires stands { at parent.now.number entity.now.nodes ≡ Some parent.now }
     requires child { requests.child_ty request.now ≡ Some ty }
     ensures { Judges result (first_fault
         (spec.content_places ops.Create entity.now request.now parent.now
-        ++ spec.creation_places ops.Create entity.now o.now request.now parent.now))
+        ++ spec.creation_places ops.Create entity.now originator.now request.now parent.now))
         (IsCreateOf entity.now request.now parent.now.number) }
 {
     let Some((content, named)) = content_for(request, ty) else {
         return Err(Refusal::Fault(Rsc::BadRequest));
     };
-    match judge_members(alloc, entity, o, parent, ty, content, named)? {
+    match judge_members(alloc, entity, originator, parent, ty, content, named)? {
         Some(fault) => Err(Refusal::Fault(fault)),
         None => Ok(AllowedCreate {
             parent,
@@ -213,16 +215,16 @@ fn judge_child<'a, T: Tree>(
 fn judge_members<T: Tree>(
     alloc: Global,
     entity: &Entity<T>,
-    o: &[u8],
+    originator: &[u8],
     parent: &Resource,
     ty: Ty,
     content: &Val,
     named: &Members,
 ) -> Result<Option<Rsc>, OutOfMemory>
-    requires originator { IsTrue (is_originator o.now) }
+    requires originator { IsTrue (is_originator originator.now) }
     requires named { attributes_in ty content.now ≡ Some named.now }
     ensures { IfOk result (λ f.
-        f ≡ spec.fault_creation (creation_of entity.now o.now ty parent.now named.now)) }
+        f ≡ spec.fault_creation (creation_of entity.now originator.now ty parent.now named.now)) }
 {
     if !admits_new(ty, content, named) {
         return Ok(Some(Rsc::BadRequest));
@@ -230,7 +232,7 @@ fn judge_members<T: Tree>(
     if let Some(fault) = judge_named(alloc, entity, named)? {
         return Ok(Some(fault));
     }
-    judge_creation(alloc, entity, o, ty, parent, named)
+    judge_creation(alloc, entity, originator, ty, parent, named)
 }
 
 // ---- an Update
@@ -240,16 +242,16 @@ fn judge_members<T: Tree>(
 pub fn judge_update<'a, T: Tree>(
     alloc: Global,
     entity: &'a Entity<T>,
-    o: &[u8],
+    originator: &[u8],
     request: &'a Request,
     target: u64,
 ) -> Result<AllowedUpdate<'a>, Refusal>
-    requires { IsTrue (is_originator o.now) }
-    ensures { Judges result (spec.fault_at ops.Update entity.now o.now request.now target)
+    requires { IsTrue (is_originator originator.now) }
+    ensures { Judges result (spec.fault_at ops.Update entity.now originator.now request.now target)
         (IsUpdateOf entity.now request.now target) }
 {
     match find(entity, target) {
-        Some(target) => judge_on(alloc, entity, o, request, target),
+        Some(target) => judge_on(alloc, entity, originator, request, target),
         None => Err(Refusal::Fault(Rsc::NotFound)),
     }
 }
@@ -257,19 +259,20 @@ pub fn judge_update<'a, T: Tree>(
 fn judge_on<'a, T: Tree>(
     alloc: Global,
     entity: &Entity<T>,
-    o: &[u8],
+    originator: &[u8],
     request: &'a Request,
     target: &'a Resource,
 ) -> Result<AllowedUpdate<'a>, Refusal>
-    requires originator { IsTrue (is_originator o.now) }
+    requires originator { IsTrue (is_originator originator.now) }
     requires sound { IsSoundEntity entity.now }
     requires stands { at target.now.number entity.now.nodes ≡ Some target.now }
-    ensures { Judges result (spec.fault_on ops.Update entity.now o.now request.now target.now)
+    ensures { Judges result
+        (spec.fault_on ops.Update entity.now originator.now request.now target.now)
         (IsUpdateOf entity.now request.now target.now.number) }
 {
-    match judge_target(Op::Update, entity, o, request, target) {
+    match judge_target(Op::Update, entity, originator, request, target) {
         Some(fault) => Err(Refusal::Fault(fault)),
-        None => judge_edit(alloc, entity, o, request, target),
+        None => judge_edit(alloc, entity, originator, request, target),
     }
 }
 
@@ -277,7 +280,7 @@ fn judge_on<'a, T: Tree>(
 fn judge_edit<'a, T: Tree>(
     alloc: Global,
     entity: &Entity<T>,
-    o: &[u8],
+    originator: &[u8],
     request: &'a Request,
     target: &'a Resource,
 ) -> Result<AllowedUpdate<'a>, Refusal>
@@ -285,7 +288,7 @@ fn judge_edit<'a, T: Tree>(
     requires stands { at target.now.number entity.now.nodes ≡ Some target.now }
     ensures { Judges result (first_fault
         (spec.content_places ops.Update entity.now request.now target.now
-        ++ spec.creation_places ops.Update entity.now o.now request.now target.now))
+        ++ spec.creation_places ops.Update entity.now originator.now request.now target.now))
         (IsUpdateOf entity.now request.now target.now.number) }
 {
     let Some((content, named)) = content_for(request, target.ty()) else {

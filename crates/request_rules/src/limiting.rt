@@ -90,8 +90,8 @@ pub(crate) fn has_room<T: Tree>(
     parent: &Resource,
     members: &Members,
 ) -> bool
-    ensures { (o : List ℕ) → result
-        ≡ spec.has_room (creation_of entity.now o ty parent.now members.now) }
+    ensures { (originator : List ℕ) → result
+        ≡ spec.has_room (creation_of entity.now originator ty parent.now members.now) }
 {
     has_place(entity, parent) && is_small(ty, parent, members)
 }

@@ -29,51 +29,57 @@ pub(crate) fn text_named(attr: Attr, members: &Members) -> Option<&Text>
 }
 
 /// Whether an originator is an AE-ID already.
-pub(crate) fn is_ae_id(o: &[u8]) -> bool
-    ensures { result ≡ spec.is_ae_id o.now }
+pub(crate) fn is_ae_id(originator: &[u8]) -> bool
+    ensures { result ≡ spec.is_ae_id originator.now }
 {
-    is_name(o) && o.len() > 1 && (o.starts_with(b"C") || o.starts_with(b"S"))
+    is_name(originator)
+        && originator.len() > 1
+        && (originator.starts_with(b"C") || originator.starts_with(b"S"))
 }
 
-fn ae_stem(o: &[u8]) -> &'static [u8]
-    ensures { result.now ≡ spec.ae_stem o.now }
+fn ae_stem(originator: &[u8]) -> &'static [u8]
+    ensures { result.now ≡ spec.ae_stem originator.now }
 {
-    if o == b"S".as_slice() { b"S" } else { b"C" }
+    if originator == b"S".as_slice() {
+        b"S"
+    } else {
+        b"C"
+    }
 }
 
 /// The AE-ID that an originator gets with a resource id.
-pub(crate) fn given_ae_id(alloc: Global, o: &[u8], id: &Text) -> Result<Text, OutOfMemory>
+pub(crate) fn given_ae_id(alloc: Global, originator: &[u8], id: &Text) -> Result<Text, OutOfMemory>
     requires { IsUtf8 id.now }
-    ensures value { IfOk result (λ t. t ≡ spec.ae_stem o.now ++ id.now) }
+    ensures value { IfOk result (λ t. t ≡ spec.ae_stem originator.now ++ id.now) }
     ensures utf8 { IfOk result (λ t. IsUtf8 t) }
 {
-    let mut bytes = Vec::from_slice(alloc, ae_stem(o))?;
+    let mut bytes = Vec::from_slice(alloc, ae_stem(originator))?;
     bytes.extend_from_slice(id.entries())?;
     Ok(Text::of(bytes))
 }
 
 /// The AE-ID of a new application entity of a number.
-pub fn new_ae_id(alloc: Global, o: &[u8], number: u64) -> Result<Text, OutOfMemory>
-    requires { IsTrue (is_originator o.now) }
-    ensures value { IfOk result (λ t. t ≡ spec.ae_id_for o.now number) }
+pub fn new_ae_id(alloc: Global, originator: &[u8], number: u64) -> Result<Text, OutOfMemory>
+    requires { IsTrue (is_originator originator.now) }
+    ensures value { IfOk result (λ t. t ≡ spec.ae_id_for originator.now number) }
     ensures utf8 { IfOk result (λ t. IsUtf8 t) }
 {
-    if is_ae_id(o) {
-        return Text::from_slice(alloc, o);
+    if is_ae_id(originator) {
+        return Text::from_slice(alloc, originator);
     }
-    given_ae_id(alloc, o, &id_text(alloc, Ty::Ae, number)?)
+    given_ae_id(alloc, originator, &id_text(alloc, Ty::Ae, number)?)
 }
 
 /// Who owns a resource of a type and a number that an originator creates.
-pub fn new_owner(alloc: Global, o: &[u8], ty: Ty, number: u64) -> Result<Text, OutOfMemory>
-    requires { IsTrue (is_originator o.now) }
-    ensures value { IfOk result (λ t. t ≡ spec.owner_for o.now ty number) }
+pub fn new_owner(alloc: Global, originator: &[u8], ty: Ty, number: u64) -> Result<Text, OutOfMemory>
+    requires { IsTrue (is_originator originator.now) }
+    ensures value { IfOk result (λ t. t ≡ spec.owner_for originator.now ty number) }
     ensures utf8 { IfOk result (λ t. IsUtf8 t) }
 {
     if ty.number() == Ty::Ae.number() {
-        new_ae_id(alloc, o, number)
+        new_ae_id(alloc, originator, number)
     } else {
-        Text::from_slice(alloc, o)
+        Text::from_slice(alloc, originator)
     }
 }
 

@@ -44,16 +44,16 @@ pub(crate) fn judge_named<T: Tree>(
 pub(crate) fn judge_creation<T: Tree>(
     alloc: Global,
     entity: &Entity<T>,
-    o: &[u8],
+    originator: &[u8],
     ty: Ty,
     parent: &Resource,
     members: &Members,
 ) -> Result<Option<Rsc>, OutOfMemory>
-    requires { IsTrue (is_originator o.now) }
+    requires { IsTrue (is_originator originator.now) }
     ensures { IfOk result (λ f.
-        f ≡ spec.fault_new (creation_of entity.now o.now ty parent.now members.now)) }
+        f ≡ spec.fault_new (creation_of entity.now originator.now ty parent.now members.now)) }
 {
-    if !is_unique(alloc, entity, o, ty, parent, members)? {
+    if !is_unique(alloc, entity, originator, ty, parent, members)? {
         return Ok(Some(Rsc::Conflict));
     }
     if !has_room(entity, ty, parent, members) {

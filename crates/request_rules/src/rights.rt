@@ -16,12 +16,12 @@ use policy_eval::{granted, may_relink};
 use primitive_json::Request;
 use tree_model::Tree;
 
-fn is_granted<T: Tree>(entity: &Entity<T>, o: &[u8], bits: u32, number: u64) -> bool
-    requires originator { IsTrue (is_originator o.now) }
+fn is_granted<T: Tree>(entity: &Entity<T>, originator: &[u8], bits: u32, number: u64) -> bool
+    requires originator { IsTrue (is_originator originator.now) }
     requires resource { IsTrue (has number entity.now.nodes) }
-    ensures { result ≡ spec.is_granted entity.now o.now bits number }
+    ensures { result ≡ spec.is_granted entity.now originator.now bits number }
 {
-    granted(&entity.tree, &entity.home, o, bits, number)
+    granted(&entity.tree, &entity.home, originator, bits, number)
 }
 
 // ---- kinds of requests
@@ -122,15 +122,20 @@ fn retrieve_bits(request: &Request) -> u32
     }
 }
 
-fn may_update<T: Tree>(entity: &Entity<T>, o: &[u8], request: &Request, number: u64) -> bool
-    requires originator { IsTrue (is_originator o.now) }
+fn may_update<T: Tree>(
+    entity: &Entity<T>,
+    originator: &[u8],
+    request: &Request,
+    number: u64,
+) -> bool
+    requires originator { IsTrue (is_originator originator.now) }
     requires resource { IsTrue (has number entity.now.nodes) }
-    ensures { result ≡ spec.may_update entity.now o.now request.now number }
+    ensures { result ≡ spec.may_update entity.now originator.now request.now number }
 {
     if is_relink(request) {
-        may_relink(&entity.tree, &entity.home, o, number)
+        may_relink(&entity.tree, &entity.home, originator, number)
     } else {
-        is_granted(entity, o, Op::Update.bit(), number)
+        is_granted(entity, originator, Op::Update.bit(), number)
     }
 }
 
@@ -138,16 +143,22 @@ fn may_update<T: Tree>(entity: &Entity<T>, o: &[u8], request: &Request, number: 
 /// of a number: a Create on the parent, and of a subscription RETRIEVE besides; a Retrieve that
 /// looks for resources DISCOVERY; an Update of `acpi` alone by who may change that; every other
 /// operation its own bit.
-pub fn may_do<T: Tree>(op: Op, entity: &Entity<T>, o: &[u8], request: &Request, number: u64) -> bool
-    requires originator { IsTrue (is_originator o.now) }
+pub fn may_do<T: Tree>(
+    op: Op,
+    entity: &Entity<T>,
+    originator: &[u8],
+    request: &Request,
+    number: u64,
+) -> bool
+    requires originator { IsTrue (is_originator originator.now) }
     requires resource { IsTrue (has number entity.now.nodes) }
-    ensures { result ≡ spec.may_do op entity.now o.now request.now number }
+    ensures { result ≡ spec.may_do op entity.now originator.now request.now number }
 {
     match op {
-        Op::Create => is_granted(entity, o, create_bits(request), number),
-        Op::Retrieve => is_granted(entity, o, retrieve_bits(request), number),
-        Op::Update => may_update(entity, o, request, number),
-        Op::Delete => is_granted(entity, o, Op::Delete.bit(), number),
-        Op::Notify => is_granted(entity, o, Op::Notify.bit(), number),
+        Op::Create => is_granted(entity, originator, create_bits(request), number),
+        Op::Retrieve => is_granted(entity, originator, retrieve_bits(request), number),
+        Op::Update => may_update(entity, originator, request, number),
+        Op::Delete => is_granted(entity, originator, Op::Delete.bit(), number),
+        Op::Notify => is_granted(entity, originator, Op::Notify.bit(), number),
     }
 }

@@ -51,13 +51,17 @@ fn has_free_cse_id<T: Tree>(
     }
 }
 
-fn has_free_ae_id<T: Tree>(alloc: Global, entity: &Entity<T>, o: &[u8]) -> Result<bool, OutOfMemory>
-    requires { IsTrue (is_originator o.now) }
+fn has_free_ae_id<T: Tree>(
+    alloc: Global,
+    entity: &Entity<T>,
+    originator: &[u8],
+) -> Result<bool, OutOfMemory>
+    requires { IsTrue (is_originator originator.now) }
     ensures { IfOk result (λ b. b
-        ≡ not (trees.has_ae_id (Some (spec.ae_id_for o.now entity.now.next))
+        ≡ not (trees.has_ae_id (Some (spec.ae_id_for originator.now entity.now.next))
         entity.now.nodes)) }
 {
-    let aei = new_ae_id(alloc, o, entity.next)?;
+    let aei = new_ae_id(alloc, originator, entity.next)?;
     Ok(!has_ae(&entity.tree, aei.entries()))
 }
 
@@ -65,17 +69,17 @@ fn has_free_ae_id<T: Tree>(alloc: Global, entity: &Entity<T>, o: &[u8]) -> Resul
 fn is_single<T: Tree>(
     alloc: Global,
     entity: &Entity<T>,
-    o: &[u8],
+    originator: &[u8],
     ty: Ty,
     parent: &Resource,
     members: &Members,
 ) -> Result<bool, OutOfMemory>
-    requires { IsTrue (is_originator o.now) }
+    requires { IsTrue (is_originator originator.now) }
     ensures { IfOk result (λ b. b
-        ≡ spec.is_single ty (creation_of entity.now o.now ty parent.now members.now)) }
+        ≡ spec.is_single ty (creation_of entity.now originator.now ty parent.now members.now)) }
 {
     match ty {
-        Ty::Ae => has_free_ae_id(alloc, entity, o),
+        Ty::Ae => has_free_ae_id(alloc, entity, originator),
         Ty::RemoteCse => has_free_cse_id(alloc, entity, text_named(Attr::Csi, members)),
         Ty::PollingChannel => Ok(!has_channel(&entity.tree, parent.number())),
         _ => Ok(true),
@@ -107,17 +111,17 @@ fn has_free_name<T: Tree>(
 pub(crate) fn is_unique<T: Tree>(
     alloc: Global,
     entity: &Entity<T>,
-    o: &[u8],
+    originator: &[u8],
     ty: Ty,
     parent: &Resource,
     members: &Members,
 ) -> Result<bool, OutOfMemory>
-    requires { IsTrue (is_originator o.now) }
+    requires { IsTrue (is_originator originator.now) }
     ensures { IfOk result (λ b. b
-        ≡ spec.is_unique (creation_of entity.now o.now ty parent.now members.now)) }
+        ≡ spec.is_unique (creation_of entity.now originator.now ty parent.now members.now)) }
 {
     if !has_free_name(alloc, entity, ty, parent.number(), members)? {
         return Ok(false);
     }
-    is_single(alloc, entity, o, ty, parent, members)
+    is_single(alloc, entity, originator, ty, parent, members)
 }

@@ -2,37 +2,33 @@
 use Rattle.std.proofs.Common.{add-one, set, Result, Ok, Err, ◌≡◌, ℕ, zero, suc, ◌+◌, ◌<◌, ◌≤◌, ◌≢◌, List, [], ◌∷◌, ◌++◌, length, get_or, take, drop, Bool, true, false, cond, Option, Some, None, Ordering, Less, Equal, Greater, is_eq, inl, inr, refl, sym, ap, ◌∙◌, subst, arith}
 use Rattle.std.proofs.lemmas.Bool.{cases_lt, cases_Bool, false_from_ne_true}
 use Rattle.std.proofs.lemmas.Cmp.{nat_list_cmp_total, on_total, tied_itself}
-use Rattle.std.proofs.lemmas.List.{drop_all, get_or_default, map-append, set_split, take-append-drop, take_all}
+use Rattle.std.proofs.lemmas.List.{drop_all, get_or_default, map-append, set_split, take_all}
 use Rattle.std.proofs.lemmas.List.Kept.{IsStrictlySortedBy-filter}
 use Rattle.std.proofs.lemmas.List.Sorted.{searchable_from_sorted}
 use Rattle.std.proofs.lemmas.Map.Keys.{Less-from_sorted, sorted_tail}
-use Rattle.std.proofs.lemmas.Map.Text.{is_eq-slice_cmp}
-use Rattle.std.proofs.lemmas.Slice.Eq.{bytes_eq-Decides}
 use Rattle.std.specs.Cmp.{IsTotalOrder}
-use Rattle.std.specs.Cmp.Lexicographic.{slice_cmp}
 use Rattle.std.specs.List.{AllByRecursion, filter, insert, remove}
 use Rattle.std.specs.List.Sorted.{IsStrictlySortedBy, IsNonDecreasingBy, IsBinarySearchResult, IsSearchInRange}
 use Rattle.std.specs.Map.{keys_of}
 use Rattle.std.specs.Option.{option_or}
 use Rattle.std.specs.Result.{MatchResult}
-use Rattle.std.specs.Ordering.{nat_cmp, ordering_index, ordering_reverse, is_lt}
-use Rattle.m2m_names.proofs.AttributeLemmas.{same_attr}
+use Rattle.std.specs.Ordering.{ordering_index, ordering_reverse, is_lt}
+use Rattle.m2m_names.proofs.AttributeLemmas.{same_attr, equal_texts, less_not_equal, greater_not_equal}
 use Rattle.m2m_names.specs.Attributes.{attr_short}
 use Rattle.m2m_names.specs.declared.attributes.Attr.{Attr}
 use Rattle.m2m_value.specs.Data.{Data}
 use Rattle.resource_model.specs.Attributes.{Row, attr_cmp, is_attr, AreInOrder, value_of, rows_before, rows_after, with_value, without_value, HoldsRow, LacksRow}
+use Rattle.m2m_names.proofs.LookupLemmas.{option_or-None}
+use Rattle.m2m_names.proofs.PlaceLemmas.{less as lt_less}
 
 -- ---- the order of attributes
 
 pub attr_total : IsTotalOrder attr_cmp
 attr_total = on_total attr_short nat_list_cmp_total
 
-same_text : (x y : List ℕ) → slice_cmp nat_cmp x y ≡ Equal → x ≡ y
-same_text x y e = (bytes_eq-Decides x y).0 (sym (is_eq-slice_cmp x y) ∙ ap is_eq e)
-
 -- attributes that compare equal are one
 pub tied_attr : (a b : Attr) → attr_cmp a b ≡ Equal → a ≡ b
-tied_attr a b e = same_attr a b (same_text (attr_short a) (attr_short b) e)
+tied_attr a b e = same_attr a b (equal_texts (attr_short a) (attr_short b) e)
 
 pub attr_itself : (a : Attr) → attr_cmp a a ≡ Equal
 attr_itself a = tied_itself attr_total a
@@ -67,11 +63,16 @@ row_order rows i j d sorted before within =
     let less = Less-from_sorted attr_cmp (keys_of rows) i j d.0 sorted before (omega (arith, keys_len rows)) in
     rw (key_at rows i d, key_at rows j d) at less
 
-falls_back : (a b : Attr) → attr_cmp a b ≡ Less → is_lt (attr_cmp b a) ≡ false
+pub falls_back : (a b : Attr) → attr_cmp a b ≡ Less → is_lt (attr_cmp b a) ≡ false
 falls_back a b less = ap is_lt (attr_total.antisymm b a ∙ ap ordering_reverse less)
 
 rises_back : (a b : Attr) → attr_cmp a b ≡ Greater → is_lt (attr_cmp b a) ≡ true
 rises_back a b greater = ap is_lt (attr_total.antisymm b a ∙ ap ordering_reverse greater)
+
+is_equal : (o : Ordering) → is_eq o ≡ true → o ≡ Equal
+is_equal Less t = cc
+is_equal Equal t = refl
+is_equal Greater t = cc
 
 lookup_absent : (a : Attr) (rows : List Row) → ((k : ℕ) (d : Row) → k < length rows → attr_cmp (get_or rows k d).0 a ≢ Equal) → value_of a rows ≡ None
 lookup_absent a [] none = refl
@@ -79,35 +80,14 @@ lookup_absent a (e ∷ rows) none =
     let apart : is_attr a e.0 ≡ false = false_from_ne_true _ (λ t. none 0 e (omega arith) (turned a e.0 t)) in
     rw apart (lookup_absent a rows (λ k d within. none (suc k) d (omega arith)))
   where
-    is_equal : (o : Ordering) → is_eq o ≡ true → o ≡ Equal
-    is_equal Less t = cc
-    is_equal Equal t = refl
-    is_equal Greater t = cc
-
     turned : (a b : Attr) → is_attr a b ≡ true → attr_cmp b a ≡ Equal
     turned a b t = attr_total.antisymm b a ∙ ap ordering_reverse (is_equal _ t)
-
-is_equal : (o : Ordering) → is_eq o ≡ true → o ≡ Equal
-is_equal Less t = cc
-is_equal Equal t = refl
-is_equal Greater t = cc
 
 pub is_attr-same : (a b : Attr) → is_attr a b ≡ true → a ≡ b
 is_attr-same a b t = tied_attr a b (is_equal _ t)
 
 pub is_attr-itself : (a : Attr) → is_attr a a ≡ true
 is_attr-itself a = ap is_eq (attr_itself a)
-
-lt_less : (o : Ordering) → is_lt o ≡ true → o ≡ Less
-lt_less Less t = refl
-lt_less Equal t = cc
-lt_less Greater t = cc
-
-less_not_equal : (o : Ordering) → o ≡ Less → o ≢ Equal
-less_not_equal o less equal = cc
-
-greater_not_equal : (o : Ordering) → o ≡ Greater → o ≢ Equal
-greater_not_equal o greater equal = cc
 
 lookup_present : (a : Attr) (rows : List Row) (i : ℕ) (d : Row) → AreInOrder rows → i < length rows → (get_or rows i d).0 ≡ a → value_of a rows ≡ Some (get_or rows i d).1
 lookup_present a [] i d sorted within e = absurd (omega arith)
@@ -246,10 +226,6 @@ value-filter b p (x ∷ rows) = elim (cases_Bool (is_attr b x.0)) [
     | inr g ↦ rw (g, f) (value-filter b p rows)
   ]
 ]
-
-option_or-None : (o : Option Data) → option_or o None ≡ o
-option_or-None None = refl
-option_or-None (Some x) = refl
 
 -- what a changed attribute has
 pub value-with_value_same : (a : Attr) (d : Data) (rows : List Row) → value_of a (with_value a d rows) ≡ Some d

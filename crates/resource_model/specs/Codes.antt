@@ -8,6 +8,7 @@ use Rattle.m2m_value.specs.Code.{data_code}
 use Rattle.resource_model.specs.Attributes.{Row}
 use Rattle.resource_model.specs.Resource.{ResourceData}
 
+-- A list of attributes is stored as a list of pairs, each of an attribute and its value.
 abbrev pub rows_code : Coded (List Row)
 rows_code = coded_list (coded× attr.the_row.coded data_code)
 
@@ -31,6 +32,7 @@ of_resource_parts p = record {
   attrs = p.1.1.1.1.1.1.1.1;
 }
 
+-- A resource is stored as nested pairs of its nine parts, which give it back unchanged.
 abbrev pub resource_code : Coded ResourceData
 resource_code =
     code_by ResourceParts

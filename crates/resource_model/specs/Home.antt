@@ -21,6 +21,7 @@ is_base_name text = is_free_name text && not (is_resource_id text)
 abbrev pub last_cse_type : ℕ
 last_cse_type = 3
 
+-- The number is that of a CSE type.
 abbrev pub is_cse_type : ℤ → Bool
 is_cse_type cst = int_le (pos 1) cst && int_le cst (pos last_cse_type)
 

@@ -23,15 +23,15 @@ pub record ResourceData : Type 0 where
   pub et : ℕ
   pub attrs : List Row
 
--- it has this number
+-- The resource has this number.
 abbrev pub has_number : ℕ → ResourceData → Bool
 has_number n r = r.number == n
 
--- its resource identifier
+-- The resource identifier of a resource.
 abbrev pub id_of : ResourceData → List ℕ
 id_of r = id_text r.ty r.number
 
--- its name addresses nothing else (TS-0001, 9.6.1.3)
+-- The resource's name addresses nothing else (TS-0001, 9.6.1.3).
 abbrev pub has_free_name : ResourceData → Bool
 has_free_name r = is_free_name r.name
 

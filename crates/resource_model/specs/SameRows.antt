@@ -28,5 +28,6 @@ same_row-Decides : (x y : Row) → Decides (same_row x y) (x ≡ y)
 same_row-Decides x y =
     (same_row-means x y, λ e. subst (λ r. same_row x r ≡ true) e (same_row-refl x))
 
+-- The test of two lists row by row is true exactly of equal lists of attributes.
 pub same_rows-Decides : (xs ys : List Row) → Decides (pointwise same_row xs ys) (xs ≡ ys)
 same_rows-Decides = pointwise_decides same_row-Decides

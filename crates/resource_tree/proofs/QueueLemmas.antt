@@ -18,6 +18,10 @@ unfolding IsStrictlySortedBy
 none_ascend [] none = tt
 none_ascend (n ∷ numbers) none = cc
 
+pub one_ascends : (n : ℕ) → DoAscend (n ∷ [])
+unfolding IsStrictlySortedBy
+one_ascends n = (tt, tt)
+
 -- ---- one more
 
 all_less : (n : ℕ) (numbers : List ℕ) → list_all (λ m. nat_lt m n) numbers ≡ true → AllByRecursion (λ m. nat_cmp m n ≡ Less) numbers

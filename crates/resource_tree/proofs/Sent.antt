@@ -7,6 +7,10 @@ use Rattle.plain_tree.specs.contracts.list_tree.ListTree as list_tree
 use Rattle.resource_tree.specs.contracts.index.Index as index
 use Rattle.resource_tree.specs.contracts.index_tree.IndexTree as index_tree
 use Rattle.resource_tree.specs.contracts.index_tree.IndexTree.TheInside as index_tree_inside
+use Rattle.resource_tree.specs.contracts.kin.Kin as kin
+use Rattle.resource_tree.specs.contracts.kin.Row as row
+use Rattle.resource_tree.specs.contracts.named.Named as named
+use Rattle.resource_tree.specs.contracts.names.Names as names
 use Rattle.resource_tree.specs.contracts.queue.Queue as queue
 use Rattle.resource_tree.specs.contracts.queue.Queue.TheInside as queue_inside
 
@@ -16,11 +20,23 @@ queue_inside_send = declared_send queue_inside.the_type (search (sendable, cross
 queue_send : IsSend queue.the_row
 queue_send = record { owned = λ d vs x. (queue_inside_send.owned x.0 vs, tt); leaving = λ k d w. tt }
 
+kin_send : IsSend kin.the_row
+kin_send = search (sendable, crosses, maps.crosses, queue_send) depth 60 fits 5000
+
+row_send : IsSend row.the_row
+row_send = search (sendable, crosses) depth 20
+
 index_send : IsSend index.the_row
-index_send = search (sendable, crosses, maps.crosses, queue_send) depth 60 fits 5000
+index_send = search (sendable, crosses, maps.crosses, kin_send, row_send) depth 60 fits 5000
+
+names_send : IsSend names.the_row
+names_send = search (sendable, crosses, maps.crosses) depth 60 fits 5000
+
+named_send : IsSend named.the_row
+named_send = search (sendable, crosses, maps.crosses, names_send) depth 60 fits 5000
 
 inside_send : IsSend list_tree.the_row → IsSend index_tree_inside.the_row
-inside_send list = declared_send index_tree_inside.the_type (search (sendable, crosses) depth 20, (list, (index_send, tt)))
+inside_send list = declared_send index_tree_inside.the_type (search (sendable, crosses) depth 20, (list, (index_send, (named_send, tt))))
 
 pub index_tree_send : IsSend list_tree.the_row → IsSend index_tree.the_row
 index_tree_send list = record { owned = λ d vs x. ((inside_send list).owned x.0 vs, tt); leaving = λ k d w. tt }

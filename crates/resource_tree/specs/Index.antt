@@ -1,14 +1,25 @@
 -- What an index tells of a list of resources.
-use Rattle.std.specs.Prelude.{◌≡◌, ℕ, List, Bool, true, map, filter}
-use Rattle.std.specs.HashMap.{HashMap}
-use Rattle.resource_model.specs.Resource.{ResourceData}
-use Rattle.tree_model.specs.Tree.{has, is_instance, is_tree, is_under, numbers_of}
+use Rattle.std.specs.Prelude.{◌≡◌, ◌+◌, ℕ, List, Bool, true, map, filter, if◌then◌else◌}
+use Rattle.std.specs.Prelude.{Option, Some, None, nat_eq}
+use Rattle.std.specs.HashMap.{HashMap, get}
+use Rattle.std.specs.Option.{option_map_or}
+use Rattle.m2m_names.specs.declared.types.Ty.TheVariants.{ContentInstance, PollingChannel}
+use Rattle.m2m_names.specs.declared.types.Ty.TheVariants.{Subscription}
+use Rattle.resource_model.specs.Resource.{ResourceData, is_ty}
+use Rattle.tree_model.specs.Tree.{has, instance_size, is_kin, is_tree, is_under, numbers_of}
+use Rattle.tree_model.specs.Tree.{sizes_of}
 use Rattle.resource_tree.specs.declared.index.Index.{Index}
+use Rattle.resource_tree.specs.declared.kin.Kin.{Kin}
+use Rattle.resource_tree.specs.declared.kin.Row.{Row}
 use Rattle.resource_tree.specs.Queue.{queue_at}
 
--- its number, and that of its parent
-abbrev pub row_of : ResourceData → ℕ × ℕ
-row_of r = (r.number, r.parent)
+-- the size of an instance in bytes; other resources have none
+abbrev pub row_size : ResourceData → ℕ
+row_size r = if is_ty r.ty ContentInstance then instance_size r else 0
+
+-- its number, that of its parent, and its size
+abbrev pub row_of : ResourceData → Row
+row_of r = record { number = r.number; parent = r.parent; size = row_size r }
 
 -- each parent has the numbers of those that a test picks for it, in order of creation
 abbrev pub HasNumbers : {S : Type 0} → (ℕ → ResourceData → Bool) → List ResourceData
@@ -16,11 +27,32 @@ abbrev pub HasNumbers : {S : Type 0} → (ℕ → ResourceData → Bool) → Lis
 HasNumbers picks nodes m =
     (parent : ℕ) → queue_at m parent ≡ numbers_of (filter (picks parent) nodes)
 
+-- where a container has a sum, it is that of the sizes of its instances
+abbrev pub HasSums : {S : Type 0} → List ResourceData → HashMap ℕ ℕ S → Type 0
+HasSums nodes m =
+    (container sum : ℕ) → get nat_eq m container ≡ Some sum → sum ≡ sizes_of container nodes
+
+-- the sum with one more size; the first instance begins one
+abbrev pub grown_sum : Bool → ℕ → Option ℕ → Option ℕ
+grown_sum is_first size sum =
+    option_map_or (λ (s : ℕ). Some (s + size)) sum (if is_first then Some size else None)
+
+-- the queues of three types are those of the list
+pub record HasTypes (nodes : List ResourceData) (kin : Kin) : Type 0 where
+  pub instances : HasNumbers (is_kin ContentInstance) nodes kin.instances
+  pub subs : HasNumbers (is_kin Subscription) nodes kin.subs
+  pub channels : HasNumbers (is_kin PollingChannel) nodes kin.channels
+
+-- so are those of all children, and the sums
+pub record HasKin (nodes : List ResourceData) (kin : Kin) : Type 0 where
+  pub children : HasNumbers is_under nodes kin.children
+  pub types : HasTypes nodes kin
+  pub sums : HasSums nodes kin.sums
+
 -- the index is that of the list
 pub record IsIndex (nodes : List ResourceData) (index : Index) : Type 0 where
   pub rows : index.rows.items ≡ map row_of nodes
-  pub children : HasNumbers is_under nodes index.children
-  pub instances : HasNumbers is_instance nodes index.instances
+  pub kin : HasKin nodes index.kin
 
 -- the second is what stays of the first, which is a tree
 pub record IsLeft (nodes left : List ResourceData) : Type 0 where

@@ -1,2 +1,4 @@
 pub mod Index
+pub mod Indexed
+pub mod Names
 pub mod Queue

@@ -1,29 +1,26 @@
 //! What is kept beside the list of a tree's resources.
 ghost use Rattle.std.specs.Prelude.{◌≡◌, ℕ, ◌++◌, [], ◌∷◌, false, filter, List, OnOk, OnErr};
-ghost use Rattle.std.specs.Prelude.{IsTrue};
-ghost use Rattle.std.specs.Prelude.{nat_eq, option_map, slice_get, if◌then◌else◌};
+ghost use Rattle.std.specs.Prelude.{IsTrue, option_map, slice_get, Some, map, not};
 ghost use Rattle.std.specs.Option.{option_map_or};
 ghost use Rattle.resource_model.specs.Resource.{ResourceData, has_number};
-ghost use Rattle.tree_model.specs.Tree.{has, is_tree, may_stand};
-ghost use Rattle.resource_tree.specs.Index.{IsIndex, IsLeft};
-ghost use Rattle.resource_tree.specs.Queue.{queue_at, without_number};
+ghost use Rattle.tree_model.specs.Tree.{at, may_stand, replaced, standing};
+ghost use Rattle.resource_tree.specs.Index.{row_of, IsIndex, IsLeft};
+ghost use Rattle.resource_tree.specs.Names.{IsNamed};
 
-use crate::kin::{add_kin, take_kin};
-use crate::queue::Queue;
+use crate::kin::{Kin, Row, row_of};
+use crate::named::Named;
+use crate::sums::forget_sum;
 use m2m_names::Ty;
 use plain_tree::ListTree;
 use resource_model::Resource;
 use std::alloc::{AllocError as OutOfMemory, Global};
-use std::collections::HashMap;
 use tree_model::Tree;
 
-/// Of each resource its number and that of its parent, in order of creation; and of each parent the
-/// numbers of its children, and of its instances.
+/// Of each resource its row, in order of creation; and of each parent its children.
 #[derive(Drop)]
 pub(crate) struct Index {
-    pub(crate) rows: Vec<(u64, u64)>,
-    pub(crate) children: HashMap<u64, Queue>,
-    pub(crate) instances: HashMap<u64, Queue>,
+    pub(crate) rows: Vec<Row>,
+    pub(crate) kin: Kin,
 }
 
 impl Index {
@@ -33,8 +30,7 @@ impl Index {
     {
         Index {
             rows: Vec::new(alloc),
-            children: HashMap::new(alloc),
-            instances: HashMap::new(alloc),
+            kin: Kin::new(alloc),
         }
     }
 
@@ -50,19 +46,9 @@ impl Index {
         ensures ok { OnOk result (IsIndex (list.now ++ resource.now ∷ []) self.new) }
         ensures err { OnErr result (IsIndex list.now self.new) }
     {
-        let number = resource.number();
-        let parent = resource.parent();
         self.rows.reserve(1)?;
-        add_kin(alloc, &mut self.children, parent, number)?;
-        if !resource.is(Ty::ContentInstance) {
-            self.rows.push_reserved((number, parent));
-            return Ok(());
-        }
-        if let Err(_) = add_kin(alloc, &mut self.instances, parent, number) {
-            take_kin(&mut self.children, parent, number);
-            return Err(OutOfMemory);
-        }
-        self.rows.push_reserved((number, parent));
+        self.kin.add(alloc, list, resource)?;
+        self.rows.push_reserved(row_of(resource));
         Ok(())
     }
 
@@ -73,40 +59,65 @@ impl Index {
         ensures { IsIndex list.now self.new }
     {
         let _last = self.rows.pop();
-        self.take(resource.number(), resource.parent());
+        self.kin.take(row_of(resource));
     }
 
-    // Takes a number from its parent.
-    fn take(&mut self, number: u64, parent: u64)
-        ensures rows { self.new.rows ≡ self.old.rows }
-        ensures children { (p : ℕ) → queue_at self.new.children p
-            ≡ if nat_eq parent p then without_number number (queue_at self.old.children p)
-            else queue_at self.old.children p }
-        ensures instances { (p : ℕ) → queue_at self.new.instances p
-            ≡ if nat_eq parent p then without_number number (queue_at self.old.instances p)
-            else queue_at self.old.instances p }
+    /// In this list a resource takes the place of another that stood as it does. The sizes of a
+    /// container's instances are added up anew, when they are asked for, where it is an instance.
+    pub(crate) fn replace(&mut self, list: &ListTree, resource: &Resource)
+        requires index { IsIndex list.now self.old }
+        requires stood { option_map standing (at resource.now.number list.now)
+            ≡ Some (standing resource.now) }
+        ensures { IsIndex (replaced resource.now list.now) self.new }
     {
-        take_kin(&mut self.children, parent, number);
-        take_kin(&mut self.instances, parent, number);
+        if resource.is(Ty::ContentInstance) {
+            put_row(&mut self.rows, list, resource);
+            forget_sum(&mut self.kin.sums, resource.parent());
+        }
+    }
+
+    /// Without the resource of a number, which goes alone. The list has it still.
+    pub(crate) fn remove(&mut self, list: &ListTree, number: u64)
+        requires { IsIndex list.now self.old }
+        ensures { IsIndex (filter (λ r. not (has_number number r)) list.now) self.new }
+    {
+        // That it is a tree is told by its length.
+        let _count = list.len();
+        if let Some(at) = list.place(number) {
+            let row = self.rows.remove(at);
+            self.kin.take(row);
+        }
     }
 
     /// Without what is gone: what the list has now is what stays of those resources of which this
-    /// was the index. It looks at each row once.
-    pub(crate) fn let_go(&mut self, list: &ListTree)
-        ensures { (nodes : List ResourceData) → IsIndex nodes self.old → IsLeft nodes list.now
-            → IsIndex list.now self.new }
+    /// was the index. It looks at each row once. Names that find the list find it still.
+    pub(crate) fn let_go(&mut self, list: &ListTree, named: &mut Named)
+        ensures queues { (nodes : List ResourceData) → IsIndex nodes self.old
+            → IsLeft nodes list.now → IsIndex list.now self.new }
+        ensures names { IsNamed list.now named.old → IsNamed list.now named.new }
     {
         let mut stayed = 0;
         for at in 0..self.rows.len() {
             let row = self.rows[at];
-            if is_number_at(list, stayed, row.0) {
+            if is_number_at(list, stayed, row.number) {
                 self.rows[stayed] = row;
                 stayed += 1;
             } else {
-                self.take(row.0, row.1);
+                self.kin.take(row);
+                named.note_gone(list, row.number, row.parent);
             }
         }
         self.rows.truncate(stayed);
+    }
+}
+
+// The row of a resource, in the place of that of its number.
+fn put_row(rows: &mut Vec<Row>, list: &ListTree, resource: &Resource)
+    requires { rows.old.items ≡ map row_of list.now }
+    ensures { rows.new.items ≡ map row_of (replaced resource.now list.now) }
+{
+    if let Some(at) = list.place(resource.number()) {
+        rows[at] = row_of(resource);
     }
 }
 

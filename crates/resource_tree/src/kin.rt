@@ -1,12 +1,190 @@
 //! The children of each parent.
-ghost use Rattle.std.specs.Prelude.{◌≡◌, ℕ, ◌++◌, [], ◌∷◌, OnOk, OnErr, IsTrue, length, nat_lt};
-ghost use Rattle.std.specs.Prelude.{nat_eq, slice_get, if◌then◌else◌};
+ghost use Rattle.std.specs.Prelude.{◌≡◌, ℕ, ◌++◌, ◌-◌, [], ◌∷◌, OnOk, OnErr, length, nat_lt};
+ghost use Rattle.std.specs.Prelude.{IsTrue, nat_eq, slice_get, ◌&&◌, if◌then◌else◌, None, Some};
+ghost use Rattle.std.specs.Prelude.{option_map};
+ghost use Rattle.std.specs.HashMap.{get};
 ghost use Rattle.std.specs.List.{list_all};
+ghost use Rattle.resource_model.specs.Resource.{is_ty};
+ghost use Rattle.m2m_names.specs.declared.types.Ty.TheVariants.{ContentInstance};
+ghost use Rattle.tree_model.specs.Tree.{instance_size, may_stand};
+ghost use Rattle.resource_tree.specs.Index as spec;
+ghost use Rattle.resource_tree.specs.Index.{HasTypes, HasKin};
 ghost use Rattle.resource_tree.specs.Queue.{first_after, queue_at, without_number};
 
 use crate::queue::Queue;
+use crate::sums::{add_sum, forget_sum, take_sum};
+use m2m_names::{Attr, Ty};
+use plain_tree::ListTree;
+use resource_model::Resource;
 use std::alloc::{AllocError as OutOfMemory, Global};
 use std::collections::HashMap;
+
+/// Of a resource its number, that of its parent, and of an instance its size in bytes.
+#[derive(Clone, Copy)]
+pub(crate) struct Row {
+    pub(crate) number: u64,
+    pub(crate) parent: u64,
+    pub(crate) size: u64,
+}
+
+/// The row of a resource.
+pub(crate) fn row_of(resource: &Resource) -> Row
+    ensures { result ≡ spec.row_of resource.now }
+{
+    Row {
+        number: resource.number(),
+        parent: resource.parent(),
+        size: row_size(resource),
+    }
+}
+
+fn row_size(resource: &Resource) -> u64
+    ensures { result ≡ spec.row_size resource.now }
+{
+    if resource.is(Ty::ContentInstance) {
+        size_of(resource)
+    } else {
+        0
+    }
+}
+
+fn size_of(resource: &Resource) -> u64
+    ensures { result ≡ instance_size resource.now }
+{
+    resource.attrs().count(Attr::Cs).unwrap_or(0)
+}
+
+/// Of each parent the numbers of its children, and those of its instances, its subscriptions and
+/// its polling channels; and what the sizes of its instances add up to.
+#[derive(Drop)]
+pub(crate) struct Kin {
+    pub(crate) children: HashMap<u64, Queue>,
+    pub(crate) instances: HashMap<u64, Queue>,
+    pub(crate) subs: HashMap<u64, Queue>,
+    pub(crate) channels: HashMap<u64, Queue>,
+    // A container whose sum isn't here has no instance, or else they are added up when it is asked.
+    pub(crate) sums: HashMap<u64, u128>,
+}
+
+impl Kin {
+    /// That of no resource; it takes no memory.
+    pub(crate) fn new(alloc: Global) -> Kin
+        ensures { HasKin [] result }
+    {
+        Kin {
+            children: HashMap::new(alloc),
+            instances: HashMap::new(alloc),
+            subs: HashMap::new(alloc),
+            channels: HashMap::new(alloc),
+            sums: HashMap::new(alloc),
+        }
+    }
+
+    /// With a resource that comes last in this list. Where memory runs out, it is that of the list.
+    pub(crate) fn add(
+        &mut self,
+        alloc: Global,
+        list: &ListTree,
+        resource: &Resource,
+    ) -> Result<(), OutOfMemory>
+        requires kin { HasKin list.now self.old }
+        requires next { IsTrue (may_stand list.now resource.now) }
+        ensures ok { OnOk result (HasKin (list.now ++ resource.now ∷ []) self.new) }
+        ensures err { OnErr result (HasKin list.now self.new) }
+    {
+        let number = resource.number();
+        let parent = resource.parent();
+        let is_first = count_of_kin(&self.instances, parent) == 0;
+        add_kin(alloc, &mut self.children, parent, number)?;
+        if let Err(_) = self.add_by_type(alloc, list, resource) {
+            take_kin(&mut self.children, parent, number);
+            return Err(OutOfMemory);
+        }
+        self.add_sum(resource, is_first);
+        Ok(())
+    }
+
+    // With the size of a resource, where it is an instance.
+    fn add_sum(&mut self, resource: &Resource, is_first: bool)
+        ensures children { self.new.children ≡ self.old.children }
+        ensures instances { self.new.instances ≡ self.old.instances }
+        ensures subs { self.new.subs ≡ self.old.subs }
+        ensures channels { self.new.channels ≡ self.old.channels }
+        ensures sums { (p s : ℕ) → get nat_eq self.new.sums p ≡ Some s
+            → (if is_ty resource.now.ty ContentInstance && nat_eq resource.now.parent p
+            then spec.grown_sum is_first (instance_size resource.now) (get nat_eq self.old.sums p)
+            else get nat_eq self.old.sums p) ≡ Some s }
+    {
+        if resource.is(Ty::ContentInstance) {
+            add_sum(
+                &mut self.sums,
+                resource.parent(),
+                is_first,
+                size_of(resource),
+            );
+        }
+    }
+
+    // The same among the children of its type.
+    fn add_by_type(
+        &mut self,
+        alloc: Global,
+        list: &ListTree,
+        resource: &Resource,
+    ) -> Result<(), OutOfMemory>
+        requires types { HasTypes list.now self.old }
+        requires next { IsTrue (may_stand list.now resource.now) }
+        ensures children { self.new.children ≡ self.old.children }
+        ensures sums { self.new.sums ≡ self.old.sums }
+        ensures ok { OnOk result (HasTypes (list.now ++ resource.now ∷ []) self.new) }
+        ensures err { OnErr result (HasTypes list.now self.new) }
+    {
+        let number = resource.number();
+        let parent = resource.parent();
+        let is_instance = resource.is(Ty::ContentInstance);
+        add_if(alloc, &mut self.instances, is_instance, parent, number)?;
+        let is_sub = resource.is(Ty::Subscription);
+        if let Err(_) = add_if(alloc, &mut self.subs, is_sub, parent, number) {
+            take_kin(&mut self.instances, parent, number);
+            return Err(OutOfMemory);
+        }
+        let is_channel = resource.is(Ty::PollingChannel);
+        if let Err(_) = add_if(alloc, &mut self.channels, is_channel, parent, number) {
+            take_kin(&mut self.instances, parent, number);
+            take_kin(&mut self.subs, parent, number);
+            return Err(OutOfMemory);
+        }
+        Ok(())
+    }
+
+    /// Takes a resource from its parent.
+    pub(crate) fn take(&mut self, row: Row)
+        ensures children { (p : ℕ) → queue_at self.new.children p
+            ≡ if nat_eq row.parent p then without_number row.number (queue_at self.old.children p)
+            else queue_at self.old.children p }
+        ensures instances { (p : ℕ) → queue_at self.new.instances p
+            ≡ if nat_eq row.parent p then without_number row.number (queue_at self.old.instances p)
+            else queue_at self.old.instances p }
+        ensures subs { (p : ℕ) → queue_at self.new.subs p
+            ≡ if nat_eq row.parent p then without_number row.number (queue_at self.old.subs p)
+            else queue_at self.old.subs p }
+        ensures channels { (p : ℕ) → queue_at self.new.channels p
+            ≡ if nat_eq row.parent p then without_number row.number (queue_at self.old.channels p)
+            else queue_at self.old.channels p }
+        ensures sums { (p s : ℕ) → get nat_eq self.new.sums p ≡ Some s
+            → option_map (λ t. t - (if nat_eq row.parent p then row.size else 0))
+            (get nat_eq self.old.sums p) ≡ Some s }
+    {
+        take_kin(&mut self.children, row.parent, row.number);
+        take_kin(&mut self.instances, row.parent, row.number);
+        take_kin(&mut self.subs, row.parent, row.number);
+        take_kin(&mut self.channels, row.parent, row.number);
+        take_sum(&mut self.sums, row.parent, row.size);
+        if count_of_kin(&self.instances, row.parent) == 0 {
+            forget_sum(&mut self.sums, row.parent);
+        }
+    }
+}
 
 /// The number of the child of a parent at a place, from 0.
 pub(crate) fn kin_at(kin: &HashMap<u64, Queue>, parent: u64, k: u64) -> Option<u64>
@@ -56,6 +234,25 @@ pub(crate) fn add_kin(
     let mut queue = Queue::new(alloc);
     queue.push(number)?;
     kin.insert(parent, queue)?;
+    Ok(())
+}
+
+/// The same, where it is one of these.
+pub(crate) fn add_if(
+    alloc: Global,
+    kin: &mut HashMap<u64, Queue>,
+    is_one: bool,
+    parent: u64,
+    number: u64,
+) -> Result<(), OutOfMemory>
+    requires { IsTrue (list_all (λ m. nat_lt m number) (queue_at kin.old parent)) }
+    ensures ok { (p : ℕ) → OnOk result (queue_at kin.new p ≡ if nat_eq parent p && is_one
+        then queue_at kin.old p ++ number ∷ [] else queue_at kin.old p) }
+    ensures err { (p : ℕ) → OnErr result (queue_at kin.new p ≡ queue_at kin.old p) }
+{
+    if is_one {
+        return add_kin(alloc, kin, parent, number);
+    }
     Ok(())
 }
 

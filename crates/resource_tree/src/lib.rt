@@ -1,28 +1,34 @@
 //! A tree with an index: it meets the same trait as the plain tree, under the same contracts, and
-//! knows the children of each resource and the instances of each container, so that a walk over
-//! them costs a look-up for each and not a walk over all resources.
+//! knows the children of each resource, its instances, subscriptions and polling channels, what the
+//! sizes of its instances add up to, and the names, AE-IDs and CSE-IDs of all, so that what is
+//! asked for costs a look-up and not a walk over all resources.
 //!
-//! `IndexTree` keeps the list of the plain tree, and beside it a queue of numbers for each parent
-//! that has a child, and one for each container that has an instance (`Queue`, which only grows at
-//! its end). `kid`, `instance`, `instance_after` and `instance_count` ask these; all else is asked
-//! of the list. A removal is the list's, and one pass more over the numbers. The invariant is that
-//! the queues are what the definitions say of the list (`IsIndex` of `specs/Index`).
-//!
-//!     let mut tree = IndexTree::new(alloc);
-//!     tree.insert(resource)?;
-//!     let newest = tree.instance(container, true);
+//! `IndexTree` keeps the list of the plain tree. Beside it stands a row for each resource, and for
+//! each parent a queue of the numbers of its children, and of those of three types (`Queue`, which
+//! only grows at its end), with the sum of the sizes of its instances. `kid`, `sub`, `channel`,
+//! `instance`, `instance_after`, `instance_count` and `instance_sizes` ask these. `child`, `ae` and
+//! `cse` ask ordered tables of names (`Names`), one for each parent, and check that the resource
+//! that is found has the name: so a name may stay for a while once its resource has gone. A child
+//! whose name tells its number, as that of an instance does that nobody named, stands in no table.
+//! All else is asked of the list. A resource below which none stands goes without a walk; another
+//! removal is the list's, and one pass more over the rows. The invariant says that rows, queues and
+//! sums are what the definitions say of the list (`IsIndex` of `specs/Index`), and that the names
+//! find its resources (`IsNamed` of `specs/Names`).
 //!
 //! ```text
 //! let mut tree = IndexTree::new(alloc);
-//! let fits = may_insert(&tree, &resource);
-//! tree.len()
+//! tree.insert(resource)?;
+//! let newest = tree.instance(container, true);
 //! ```
 #![tactic(auto)]
 
 mod index;
 mod index_tree;
 mod kin;
+mod named;
+mod names;
 mod queue;
+mod sums;
 
 pub use index_tree::IndexTree;
 pub use queue::Queue;

@@ -1,7 +1,7 @@
 -- Forests, child by child.
-use Rattle.std.specs.Prelude.{nat_lt, slice_get}
+use Rattle.std.specs.Prelude.{slice_get}
 use Rattle.std.proofs.Common.{◌≡◌, ℕ, ◌+◌, ◌-◌, ◌<◌, List, [], ◌∷◌, length, drop, Bool, true, false, cond, Some, inl, inr, refl, sym, ap, ◌∙◌, arith}
-use Rattle.std.proofs.lemmas.Bool.{cases_Bool, and_parts, ltb-true, ne_eqb}
+use Rattle.std.proofs.lemmas.Bool.{cases_Bool, ne_eqb}
 use Rattle.std.proofs.lemmas.List.{append-nil, length-append}
 use Rattle.m2m_value.specs.Data.{Entry, object, pairs_of}
 use Rattle.m2m_names.specs.Types.{ty_member}
@@ -9,9 +9,9 @@ use Rattle.resource_model.specs.Resource.{ResourceData}
 use Rattle.tree_model.specs.Tree.{children_of, is_tree, is_under}
 use Rattle.retrieve_discover.specs.Contents.{with_forest, with_last}
 use Rattle.retrieve_discover.specs.Descendants.{Forest, bare, rooted, cut_forest, forest_of, preorder, reached_forest, forest_size}
-use Rattle.retrieve_discover.proofs.BelowLemmas.{above-filter}
-use Rattle.retrieve_discover.proofs.OrderLemmas.{are_above, in_order, in_order-tree, first_of}
+use Rattle.retrieve_discover.proofs.OrderLemmas.{in_order, in_order-tree, first_of}
 use Rattle.retrieve_discover.proofs.WalkLemmas.{drop_get}
+use Rattle.tree_model.proofs.OrderLemmas.{above_parts, above_filter, are_above}
 
 module _ (goes : ResourceData → Bool) where
   -- the children of a resource in order, each with what is reached below it
@@ -25,18 +25,18 @@ module _ (goes : ResourceData → Bool) where
   skip_all : (r : ResourceData) (later kids : List ResourceData) → r.parent < r.number → are_above r.number kids ≡ true → chain (r ∷ later) kids ≡ chain later kids
   skip_all r later [] parent above = refl
   skip_all r later (c ∷ kids) parent above =
-      let parts = and_parts (nat_lt r.number c.number) _ above in
-      let less : r.number < c.number = ltb-true r.number c.number parts.0 in
+      let parts = above_parts r.number c kids above in
+      let less : r.number < c.number = parts.first in
       let here : forest_of goes c.number (r ∷ later) ≡ forest_of goes c.number later = forest_of_skips c.number r later (omega (arith, less, parent)) in
       ap (λ f. cond (goes c) (rooted c f (chain (r ∷ later) kids)) (chain (r ∷ later) kids)) here
-      ∙ ap (λ f. cond (goes c) (rooted c (forest_of goes c.number later) f) f) (skip_all r later kids parent parts.1)
+      ∙ ap (λ f. cond (goes c) (rooted c (forest_of goes c.number later) f) f) (skip_all r later kids parent parts.rest)
 
   forest_of_kids : (n : ℕ) (nodes : List ResourceData) → in_order nodes ≡ true → forest_of goes n nodes ≡ chain nodes (children_of n nodes)
   forest_of_kids n [] order = refl
   forest_of_kids n (r ∷ later) order =
       let first = first_of r later order in
       let rest : chain (r ∷ later) (children_of n later) ≡ forest_of goes n later =
-      skip_all r later (children_of n later) first.parent (above-filter r.number (is_under n) later first.above)
+      skip_all r later (children_of n later) first.parent (above_filter (is_under n) r.number later first.above)
       ∙ sym (forest_of_kids n later first.rest) in
       elim (cases_Bool (is_under n r)) [
         | inl t ↦

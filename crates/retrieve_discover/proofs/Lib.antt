@@ -3,5 +3,6 @@ pub mod BelowLemmas
 pub mod PathLemmas
 pub mod TakeLemmas
 pub mod WalkLemmas
+pub mod FindingLemmas
 pub mod ForestLemmas
 pub mod MemberLemmas

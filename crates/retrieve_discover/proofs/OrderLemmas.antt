@@ -1,16 +1,11 @@
 -- Lists of resources whose numbers ascend, each above that of its parent.
 use Rattle.std.specs.Prelude.{nat_lt}
-use Rattle.std.proofs.Common.{◌≡◌, ℕ, ◌<◌, List, [], ◌∷◌, ◌++◌, Bool, true, ◌&&◌, refl, ◌∙◌}
-use Rattle.std.specs.List.{list_all}
+use Rattle.std.proofs.Common.{◌≡◌, ◌<◌, List, [], ◌∷◌, ◌++◌, Bool, true, ◌&&◌, refl}
 use Rattle.std.proofs.lemmas.Bool.{and_parts, and_from, ltb-true, lt-ltb}
-use Rattle.std.proofs.lemmas.List.Folds.{list_all-append}
 use Rattle.resource_model.specs.Resource.{ResourceData}
 use Rattle.tree_model.specs.Tree.{are_below, may_stand, is_tree}
-use Rattle.tree_model.proofs.GrowthLemmas.{growth, next_above_parent, next_fits}
-
--- every number is above this one
-abbrev pub are_above : ℕ → List ResourceData → Bool
-are_above n nodes = list_all (λ s. nat_lt n s.number) nodes
+use Rattle.tree_model.proofs.GrowthLemmas.{growth, next_above_parent, next_fits, below_parts}
+use Rattle.tree_model.proofs.OrderLemmas.{are_above, above_push}
 
 abbrev pub in_order : List ResourceData → Bool
 in_order [] = true
@@ -30,11 +25,10 @@ first_of r later order =
 in_order-push : (before : List ResourceData) (r : ResourceData) → in_order before ≡ true → are_below r.number before ≡ true → r.parent < r.number → in_order (before ++ r ∷ []) ≡ true
 in_order-push [] r order below above = and_from _ _ (and_from _ _ (lt-ltb r.parent r.number above) refl) refl
 in_order-push (s ∷ before) r order below above =
-    let two = and_parts (nat_lt s.parent s.number && are_above s.number before) _ order in
-    let one = and_parts (nat_lt s.parent s.number) _ two.0 in
-    let low = and_parts (nat_lt s.number r.number) (are_below r.number before) below in
-    let all : are_above s.number (before ++ r ∷ []) ≡ true = list_all-append (λ (x : ResourceData). nat_lt s.number x.number) before (r ∷ []) ∙ and_from _ _ one.1 (and_from _ _ low.0 refl) in
-    and_from _ _ (and_from _ _ one.0 all) (in_order-push before r two.1 low.1 above)
+    let first = first_of s before order in
+    let low = below_parts r.number s before below in
+    let all : are_above s.number (before ++ r ∷ []) ≡ true = above_push s.number before r first.above low.first in
+    and_from _ _ (and_from _ _ (lt-ltb s.parent s.number first.parent) all) (in_order-push before r first.rest low.rest above)
 
 -- a tree is such a list
 pub in_order-tree : (nodes : List ResourceData) → is_tree nodes ≡ true → in_order nodes ≡ true

@@ -28,14 +28,20 @@ use Rattle.filter_criteria.specs.declared.condition.Condition.TheVariants.{Unmod
 
 -- ---- bounds: where one is given, the resource has a value, and it stands so to the bound
 
+-- The value is there and lies below the bound. Where no bound is given, this always holds (TS-0004,
+-- 8.2.5).
 abbrev pub is_under_bound : Option ℕ → Option ℕ → Bool
 is_under_bound None value = true
 is_under_bound (Some bound) value = option_map_or (λ n. nat_lt n bound) value false
 
+-- The value is there and lies above the bound. Where no bound is given, this always holds (TS-0004,
+-- 8.2.5).
 abbrev pub is_over_bound : Option ℕ → Option ℕ → Bool
 is_over_bound None value = true
 is_over_bound (Some bound) value = option_map_or (λ n. nat_lt bound n) value false
 
+-- The value is there and is the bound or lies above it. Where no bound is given, this always holds
+-- (TS-0004, 8.2.5).
 abbrev pub is_from_bound : Option ℕ → Option ℕ → Bool
 is_from_bound None value = true
 is_from_bound (Some bound) value = option_map_or (λ n. nat_le bound n) value false
@@ -46,10 +52,11 @@ is_from_bound (Some bound) value = option_map_or (λ n. nat_le bound n) value fa
 abbrev pub size_in : ResourceData → Option ℕ
 size_in r = if is_ty r.ty ContentInstance then count_at Cs r.attrs else None
 
--- it has the label
+-- The value is this label, as a text.
 abbrev pub is_that_label : List ℕ → Data → Bool
 is_that_label label d = same_text (as_text d) (Some label)
 
+-- The resource has the label (TS-0001, 9.6.1.3).
 abbrev pub has_label : ResourceData → List ℕ → Bool
 has_label r label =
     option_map_or (list_any (is_that_label label)) (option_and_then as_list (value_of Lbl r.attrs))
@@ -88,6 +95,6 @@ holds Limit nodes f r = true
 abbrev pub meets : List ResourceData → FilterParts → ResourceData → Bool
 meets nodes f r = list_all (λ condition. holds condition nodes f r) all_conditions
 
--- it meets all conditions, where there is a filter
+-- The resource meets all conditions, where there is a filter.
 abbrev pub meets_any : List ResourceData → Option FilterParts → ResourceData → Bool
 meets_any nodes filter r = option_map_or (λ f. meets nodes f r) filter true

@@ -49,6 +49,7 @@ reference by_id nodes r = object (pairs_of (
     (codes "nm", text r.name) ∷ (codes "typ", shown_ty r.ty)
     ∷ (val_name, address by_id nodes r) ∷ []))
 
+-- The references to the first of the children that the originator may retrieve, as a list.
 abbrev pub references : HomeData → List ResourceData → List ℕ → Bool → ℕ → Data
 references home nodes originator by_id n =
     list (elements_of (map (reference by_id nodes) (referred home nodes originator n)))
@@ -70,7 +71,7 @@ abbrev pub shown_below : HomeData → List ResourceData → List ℕ → ℕ →
 shown_below home nodes originator n =
     take most_shown (filter (is_shown_below home nodes originator n) (below n nodes))
 
--- the same, each with what is shown below it
+-- The descendants that are shown, each with what is shown below it.
 abbrev pub shown_forest : HomeData → List ResourceData → List ℕ → ℕ → Forest
 shown_forest home nodes originator n =
     cut_forest (forest_of (may_retrieve home nodes originator) n nodes) most_shown
@@ -96,14 +97,17 @@ whole home nodes originator r = under_type r.ty
     (with_forest (members home nodes) (shown_forest home nodes originator r.number)
     (members home nodes r))
 
+-- The attributes of a resource, and references to its children as `ch`.
 abbrev pub with_references : HomeData → List ResourceData → List ℕ → Bool → ResourceData → Data
 with_references home nodes originator by_id r = under_type r.ty
     (with_member ch_name (references home nodes originator by_id r.number) (members home nodes r))
 
+-- References to the children of a resource, without its attributes.
 abbrev pub references_alone : HomeData → List ResourceData → List ℕ → Bool → ResourceData → Data
 references_alone home nodes originator by_id r =
     under_type r.ty ((ch_name, references home nodes originator by_id r.number) ∷ [])
 
+-- The content of the reply to a Retrieve, by the result content that is asked for (TS-0001, 8.1.2).
 abbrev pub content : HomeData → List ResourceData → List ℕ → Bool → Option ℤ → ResourceData → Data
 content home nodes originator by_id rcn r =
     let wanted = wanted_content rcn in

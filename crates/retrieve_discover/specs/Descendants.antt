@@ -26,8 +26,8 @@ pub data Forest : Type 0 where
   bare : Forest
   rooted : ResourceData → Forest → Forest → Forest
 
--- those descendants of a resource that are reached by going down through such resources alone, each
--- with those below it
+-- The descendants of a resource that are reached by going down through such resources alone, each
+-- with those below it.
 abbrev pub forest_of : (ResourceData → Bool) → ℕ → List ResourceData → Forest
 forest_of goes n [] = bare
 forest_of goes n (r ∷ later) =
@@ -39,6 +39,7 @@ abbrev pub preorder : Forest → List ResourceData
 preorder bare = []
 preorder (rooted r kids more) = r ∷ (preorder kids ++ preorder more)
 
+-- How many resources a forest has.
 abbrev pub forest_size : Forest → ℕ
 forest_size forest = length (preorder forest)
 

@@ -25,7 +25,7 @@ abbrev pub is_found : HomeData → List ResourceData → List ℕ → FilterPart
 is_found home nodes originator f r =
     grants home nodes originator discovery_bit r.number && meets nodes f r
 
--- those descendants of a resource that are found, in order
+-- The descendants of a resource that are found, in their order.
 abbrev pub all_found : HomeData → List ResourceData → List ℕ → FilterParts → ℕ →
     List ResourceData
 all_found home nodes originator f n = filter (is_found home nodes originator f) (below n nodes)
@@ -40,6 +40,7 @@ found home nodes originator f n = take (most_of f) (all_found home nodes origina
 abbrev pub address_in : Bool → List ResourceData → ResourceData → List ℕ
 address_in by_id nodes r = if by_id then id_of r else structured_of r.number nodes
 
+-- The address of a resource as a JSON text.
 abbrev pub address : Bool → List ResourceData → ResourceData → Data
 address by_id nodes r = text (address_in by_id nodes r)
 

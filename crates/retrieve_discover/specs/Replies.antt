@@ -44,7 +44,7 @@ retrieved_of home nodes originator request r =
     if not (meets_any nodes request.fc r) then refusal request NotFound else
     success request (content home nodes originator (is_by_id request) request.rcn r)
 
--- of the resource of the number
+-- The reply to a Retrieve of the resource of the number.
 abbrev pub retrieved : HomeData → List ResourceData → List ℕ → RequestParts → ℕ → ReplyParts
 retrieved home nodes originator request n =
     option_map_or (retrieved_of home nodes originator request) (at n nodes) (refusal request absent)

@@ -4,6 +4,7 @@ ghost use Rattle.std.specs.List.{list_any};
 ghost use Rattle.std.specs.Option.{option_copied, option_map_or};
 ghost use Rattle.m2m_names.specs.Types.{ty_row};
 ghost use Rattle.m2m_value.specs.View.{as_list};
+ghost use Rattle.tree_model.specs.Tree as spec_tree;
 ghost use Rattle.retrieve_discover.specs.Conditions as spec;
 
 use filter_criteria::Condition;
@@ -30,8 +31,8 @@ pub fn holds<T: Tree>(
         Condition::UnmodifiedSince => is_under_bound(filter.us, Some(resource.lt())),
         Condition::StateTagSmaller => is_under_bound(filter.sts, resource.attrs().count(Attr::St)),
         Condition::StateTagBigger => is_over_bound(filter.stb, resource.attrs().count(Attr::St)),
-        Condition::ExpireBefore => is_under_bound(filter.exb, due(tree, resource)),
-        Condition::ExpireAfter => is_over_bound(filter.exa, due(tree, resource)),
+        Condition::ExpireBefore => is_due_before(tree, filter.exb, resource),
+        Condition::ExpireAfter => is_due_after(tree, filter.exa, resource),
         Condition::OneLabel => has_one_of(resource, filter.lbl.entries()),
         Condition::OneType => is_of_one(resource, filter.ty.entries()),
         Condition::SizeAbove => is_from_bound(filter.sza, size_in(resource)),
@@ -78,6 +79,25 @@ fn is_over_bound(bound: Option<u64>, value: Option<u64>) -> bool
         (None, _) => true,
         (Some(bound), Some(value)) => bound < value,
         (Some(_), None) => false,
+    }
+}
+
+// When a resource is due is asked only where there is a bound, since its parent is looked up.
+fn is_due_before<T: Tree>(tree: &T, bound: Option<u64>, resource: &Resource) -> bool
+    ensures { result ≡ spec.is_under_bound bound (spec_tree.due (T.nodes tree.now) resource.now) }
+{
+    match bound {
+        None => true,
+        Some(_) => is_under_bound(bound, due(tree, resource)),
+    }
+}
+
+fn is_due_after<T: Tree>(tree: &T, bound: Option<u64>, resource: &Resource) -> bool
+    ensures { result ≡ spec.is_over_bound bound (spec_tree.due (T.nodes tree.now) resource.now) }
+{
+    match bound {
+        None => true,
+        Some(_) => is_over_bound(bound, due(tree, resource)),
     }
 }
 

@@ -6,7 +6,7 @@ ghost use Rattle.retrieve_discover.specs.Contents as spec;
 ghost use Rattle.retrieve_discover.specs.Replies.{is_by_id};
 
 use crate::descendants::add_descendants;
-use crate::look::{Look, members_of};
+use crate::look::{Viewer, object_members};
 use crate::references::references;
 use crate::replies;
 use entity_model::wanted_content;
@@ -30,7 +30,7 @@ pub(crate) fn content_of_reply<T: Tree>(
     ensures { IfOk result (λ v. v ≡ spec.content home.now (T.nodes tree.now) originator.now
         (is_by_id request.now) request.now.rcn target.now) }
 {
-    let look = Look {
+    let look = Viewer {
         tree,
         home,
         originator,
@@ -47,13 +47,13 @@ pub(crate) fn content_of_reply<T: Tree>(
 // The most descendants that are shown.
 const MOST_SHOWN: usize = 128;
 
-fn whole<T: Tree>(alloc: Global, look: &Look<T>, target: &Resource) -> Result<Val, OutOfMemory>
+fn whole<T: Tree>(alloc: Global, look: &Viewer<T>, target: &Resource) -> Result<Val, OutOfMemory>
     requires tree { IsTrue (is_tree (T.nodes look.now.tree.now)) }
     requires originator { IsTrue (is_originator look.now.originator.now) }
     ensures { IfOk result (λ v. v ≡ spec.whole look.now.home.now (T.nodes look.now.tree.now)
         look.now.originator.now target.now) }
 {
-    let mut shown = members_of(alloc, look, target)?;
+    let mut shown = object_members(alloc, look, target)?;
     let mut left = MOST_SHOWN;
     add_descendants(alloc, look, target.number(), &mut left, &mut shown)?;
     under_type(alloc, target.ty(), shown)
@@ -61,7 +61,7 @@ fn whole<T: Tree>(alloc: Global, look: &Look<T>, target: &Resource) -> Result<Va
 
 fn with_references<T: Tree>(
     alloc: Global,
-    look: &Look<T>,
+    look: &Viewer<T>,
     target: &Resource,
 ) -> Result<Val, OutOfMemory>
     requires tree { IsTrue (is_tree (T.nodes look.now.tree.now)) }
@@ -70,7 +70,7 @@ fn with_references<T: Tree>(
     ensures { IfOk result (λ v. v ≡ spec.with_references look.now.home.now
         (T.nodes look.now.tree.now) look.now.originator.now look.now.by_id target.now) }
 {
-    let mut shown = members_of(alloc, look, target)?;
+    let mut shown = object_members(alloc, look, target)?;
     let children = references(alloc, look, target)?;
     shown.put(Text::from_slice(alloc, b"ch")?, children)?;
     under_type(alloc, target.ty(), shown)
@@ -78,7 +78,7 @@ fn with_references<T: Tree>(
 
 fn references_alone<T: Tree>(
     alloc: Global,
-    look: &Look<T>,
+    look: &Viewer<T>,
     target: &Resource,
 ) -> Result<Val, OutOfMemory>
     requires tree { IsTrue (is_tree (T.nodes look.now.tree.now)) }

@@ -10,7 +10,7 @@ ghost use Rattle.retrieve_discover.specs.Contents as spec;
 ghost use Rattle.retrieve_discover.specs.Descendants.{cut_forest, forest_size, forest_of};
 ghost use Rattle.retrieve_discover.specs.Descendants.{reached_forest};
 
-use crate::look::{Look, may_retrieve, members_of};
+use crate::look::{Viewer, may_retrieve, object_members};
 use m2m_names::Ty;
 use m2m_value::{Items, Members, Node, Text, Val};
 use std::alloc::{AllocError as OutOfMemory, Global};
@@ -21,7 +21,7 @@ use tree_model::{Resource, Tree, child_at};
 #[cycle(descendants)]
 pub(crate) fn add_descendants<T: Tree>(
     alloc: Global,
-    look: &Look<T>,
+    look: &Viewer<T>,
     parent: u64,
     left: &mut usize,
     members: &mut Members,
@@ -55,7 +55,7 @@ pub(crate) fn add_descendants<T: Tree>(
 #[cycle(descendants)]
 fn add_child<T: Tree>(
     alloc: Global,
-    look: &Look<T>,
+    look: &Viewer<T>,
     child: &Resource,
     left: &mut usize,
     members: &mut Members,
@@ -78,7 +78,7 @@ fn add_child<T: Tree>(
         return Ok(());
     }
     *left -= 1;
-    let mut inner = members_of(alloc, look, child)?;
+    let mut inner = object_members(alloc, look, child)?;
     add_descendants(alloc, look, child.number(), left, &mut inner)?;
     add_last(alloc, members, child.ty(), Val::of_obj(inner))
 }

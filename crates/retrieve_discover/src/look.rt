@@ -13,7 +13,7 @@ use tree_model::{Home, Resource, Tree, shown};
 
 /// By whom resources are looked at, where, and in which form they are addressed.
 #[derive(Drop)]
-pub(crate) struct Look<'a, T: Tree> {
+pub(crate) struct Viewer<'a, T: Tree> {
     pub tree: &'a T,
     pub home: &'a Home,
     pub originator: &'a [u8],
@@ -21,7 +21,7 @@ pub(crate) struct Look<'a, T: Tree> {
 }
 
 /// Whether the originator may retrieve the resource.
-pub(crate) fn may_retrieve<T: Tree>(look: &Look<T>, resource: &Resource) -> bool
+pub(crate) fn may_retrieve<T: Tree>(look: &Viewer<T>, resource: &Resource) -> bool
     requires originator { IsTrue (is_originator look.now.originator.now) }
     requires resource { at resource.now.number (T.nodes look.now.tree.now) ≡ Some resource.now }
     ensures { result ≡ spec.may_retrieve look.now.home.now (T.nodes look.now.tree.now)
@@ -32,9 +32,9 @@ pub(crate) fn may_retrieve<T: Tree>(look: &Look<T>, resource: &Resource) -> bool
 }
 
 /// The members of a resource's object: its attributes.
-pub(crate) fn members_of<T: Tree>(
+pub(crate) fn object_members<T: Tree>(
     alloc: Global,
-    look: &Look<T>,
+    look: &Viewer<T>,
     resource: &Resource,
 ) -> Result<Members, OutOfMemory>
     ensures value { IfOk result (λ m. m

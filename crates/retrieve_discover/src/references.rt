@@ -7,7 +7,7 @@ ghost use Rattle.addressing.specs.Names.{structured_of};
 ghost use Rattle.m2m_value.specs.Data as plain;
 ghost use Rattle.retrieve_discover.specs.Contents as spec;
 
-use crate::look::{Look, may_retrieve};
+use crate::look::{Viewer, may_retrieve};
 use crate::paths::{address, go_down, path_to};
 use m2m_value::{Items, Members, Text, Val};
 use std::alloc::{AllocError as OutOfMemory, Global};
@@ -19,7 +19,7 @@ pub(crate) const MOST_LISTED: usize = 4_096;
 /// References to the first of those children of a resource that the originator may retrieve.
 pub(crate) fn references<T: Tree>(
     alloc: Global,
-    look: &Look<T>,
+    look: &Viewer<T>,
     target: &Resource,
 ) -> Result<Val, OutOfMemory>
     requires tree { IsTrue (is_tree (T.nodes look.now.tree.now)) }
@@ -33,7 +33,7 @@ pub(crate) fn references<T: Tree>(
 
 fn all_references<T: Tree>(
     alloc: Global,
-    look: &Look<T>,
+    look: &Viewer<T>,
     target: &Resource,
 ) -> Result<Vec<Val>, OutOfMemory>
     requires tree { IsTrue (is_tree (T.nodes look.now.tree.now)) }
@@ -61,7 +61,7 @@ fn all_references<T: Tree>(
 // Adds a reference to a child, behind whose parent's path this is, where it may be retrieved.
 fn add_reference<T: Tree>(
     alloc: Global,
-    look: &Look<T>,
+    look: &Viewer<T>,
     child: &Resource,
     path: &mut Vec<u8>,
     references: &mut Vec<Val>,

@@ -1,11 +1,11 @@
 -- Each resource of a list in order is found by its number.
-use Rattle.std.specs.Prelude.{nat_lt}
 use Rattle.std.proofs.Common.{◌≡◌, ◌<◌, List, [], ◌∷◌, Bool, true, false, Some, inl, inr, refl, arith}
 use Rattle.std.specs.List.{AllByRecursion, filter}
-use Rattle.std.proofs.lemmas.Bool.{cases_Bool, and_parts, eq-eqb, ne_eqb, ltb-true}
+use Rattle.std.proofs.lemmas.Bool.{cases_Bool, eq-eqb, ne_eqb}
 use Rattle.resource_model.specs.Resource.{ResourceData, has_number}
 use Rattle.tree_model.specs.Tree.{at}
-use Rattle.retrieve_discover.proofs.OrderLemmas.{are_above, in_order, first_of}
+use Rattle.retrieve_discover.proofs.OrderLemmas.{in_order, first_of}
+use Rattle.tree_model.proofs.OrderLemmas.{above_parts, are_above}
 
 abbrev pub Each : (ResourceData → Type 0) → List ResourceData → Type 0
 Each P nodes = AllByRecursion P nodes
@@ -16,11 +16,11 @@ IsFound nodes r = at r.number nodes ≡ Some r
 found_later : (r : ResourceData) (later some : List ResourceData) → are_above r.number some ≡ true → Each (IsFound later) some → Each (IsFound (r ∷ later)) some
 found_later r later [] above each = tt
 found_later r later (s ∷ some) above each =
-    let parts = and_parts (nat_lt r.number s.number) _ above in
-    let less : r.number < s.number = ltb-true r.number s.number parts.0 in
+    let parts = above_parts r.number s some above in
+    let less : r.number < s.number = parts.first in
     let apart : has_number s.number r ≡ false = ne_eqb r.number s.number (λ e. omega (arith, less, e)) in
     let here : at s.number (r ∷ later) ≡ Some s = rw apart each.0 in
-    (here, found_later r later some parts.1 each.1)
+    (here, found_later r later some parts.rest each.1)
 
 pub each_found : (nodes : List ResourceData) → in_order nodes ≡ true → Each (IsFound nodes) nodes
 each_found [] order = tt

@@ -2,7 +2,7 @@
 use Rattle.std.proofs.Common.{◌≡◌, ℕ, List, [], ◌∷◌, Bool, true, false, cond, get_or, not, inl, inr, ap, ◌∙◌}
 use Rattle.std.specs.List.{All, filter}
 use Rattle.std.specs.Option.{option_map_or}
-use Rattle.std.proofs.lemmas.Bool.{and_parts, cases_Bool}
+use Rattle.std.proofs.lemmas.Bool.{cases_Bool}
 use Rattle.std.proofs.lemmas.List.Elements.{All-append, All-cons, All-nil, All-take, filter_passes}
 use Rattle.m2m_names.specs.declared.codes.Rsc.TheVariants.{NoPrivilege, NotFound}
 use Rattle.filter_criteria.specs.declared.filter.FilterParts.{FilterParts}
@@ -12,12 +12,13 @@ use Rattle.resource_model.specs.Resource.{ResourceData}
 use Rattle.tree_model.specs.Tree.{children_of, has, is_under}
 use Rattle.tree_model.proofs.TreeLemmas.{has_at}
 use Rattle.policy_eval.specs.Rights.{grants, discovery_bit, retrieve_bit}
-use Rattle.retrieve_discover.specs.Conditions.{meets, meets_any}
+use Rattle.retrieve_discover.specs.Conditions.{meets_any}
 use Rattle.retrieve_discover.specs.Contents.{content, may_retrieve, most_shown, referred, shown_forest}
 use Rattle.retrieve_discover.specs.Descendants.{below, forest_of, preorder}
 use Rattle.retrieve_discover.specs.Findings.{address_list, all_found, found, found_addresses, is_found, most_listed, most_of}
 use Rattle.retrieve_discover.specs.Replies.{discovered, is_by_id, refusal, retrieved, retrieved_of, success}
 use Rattle.retrieve_laws.proofs.CutLemmas.{preorder-cut}
+use Rattle.retrieve_discover.proofs.FindingLemmas.{found_parts}
 
 -- what holds of every resource that may be gone to holds of all that are reached
 all_reached : (P : ResourceData → Type 0) (goes : ResourceData → Bool) → ((r : ResourceData) → goes r ≡ true → P r) → (rs : List ResourceData) (n : ℕ) → All P (preorder (forest_of goes n rs))
@@ -51,7 +52,7 @@ module _ (home : HomeData) (nodes : List ResourceData) (o : List ℕ) where
       let test = is_found home nodes o f in
       let passing : All (λ r. test r ≡ true) (found home nodes o f n) = All-take (λ r. test r ≡ true) (most_of f) (all_found home nodes o f n) (filter_passes test (below n nodes)) in
       let P = Grants home nodes o discovery_bit in
-      let first : (r : ResourceData) → test r ≡ true → P r = λ r passed. (and_parts (grants home nodes o discovery_bit r.number) (meets nodes f r) passed).0 in
+      let first : (r : ResourceData) → test r ≡ true → P r = λ r passed. (found_parts home nodes o f r passed).granted in
       λ k d less. first (get_or (found home nodes o f n) k d) (passing k d less)
 
   -- without the right nothing but that is told

@@ -1,19 +1,18 @@
 -- An address is that of one resource.
 use Rattle.std.specs.Prelude.{bytes_eq, is_none, nat_lt}
-use Rattle.std.proofs.Common.{◌≡◌, ℕ, zero, suc, ◌<◌, ◌≤◌, ◌^◌, List, [], ◌∷◌, length, map, reverse, Bool, true, false, cond, ◌&&◌, Option, Some, None, inl, inr, refl, sym, ap, ◌∙◌, arith}
+use Rattle.std.proofs.Common.{◌≡◌, ℕ, zero, suc, ◌<◌, ◌≤◌, ◌^◌, List, [], ◌∷◌, length, map, reverse, Bool, true, false, cond, Option, Some, None, inl, inr, refl, sym, ap, ◌∙◌, arith}
 use Rattle.std.specs.List.{list_all, list_any}
 use Rattle.std.proofs.lemmas.Bool.{and_from, and_parts, cases_Bool, ltb-false, ltb-true, or_cases, or_left, or_right}
-use Rattle.std.proofs.lemmas.List.{length-reverse, reverse-append, reverse-reverse}
-use Rattle.std.proofs.lemmas.List.Folds.{list_all-append}
+use Rattle.std.proofs.lemmas.List.{length-reverse, reverse-reverse}
 use Rattle.std.proofs.lemmas.Option.{same_Some}
 use Rattle.std.proofs.lemmas.Slice.Eq.{bytes_eq-Decides}
 use Rattle.m2m_names.specs.Name.{is_free_name, is_name}
 use Rattle.resource_model.specs.Home.{HomeData}
 use Rattle.resource_model.specs.Resource.{ResourceData, has_number, id_of}
-use Rattle.tree_model.specs.Tree.{at, child_of, has, is_tree, line_from, line_of}
+use Rattle.tree_model.specs.Tree.{at, child_of, has, is_tree, line_of}
 use Rattle.tree_model.proofs.GrowthLemmas.{stands, zero_lacks}
-use Rattle.tree_model.proofs.TreeLemmas.{has_at}
-use Rattle.tree_model.proofs.QuietLemmas.{found_passes}
+use Rattle.tree_model.proofs.TreeLemmas.{has_at, line_all}
+use Rattle.tree_model.proofs.QuietLemmas.{number_passes}
 use Rattle.policy_eval.specs.Rights.{grants}
 use Rattle.m2m_names.specs.Urls.{point_limit}
 use Rattle.addressing.specs.Addresses.{are_names, between_slashes, joined}
@@ -25,6 +24,8 @@ use Rattle.addressing.proofs.NameLemmas.{child_of_its_name, line_of_none, named_
 use Rattle.addressing.proofs.PartLemmas.{between_slashes-joined}
 use Rattle.retrieve_laws.specs.Guard.{HasOwnAddresses, IsNamedByRight, is_address_of, is_no_name}
 use Rattle.retrieve_laws.proofs.FoundLemmas.{IsFound}
+use Rattle.m2m_names.proofs.ListLemmas.{all_reversed}
+use Rattle.m2m_names.proofs.NameLemmas.{free_name_parts}
 
 -- ---- what holds of all resources holds of one that is found
 
@@ -40,28 +41,11 @@ any_found_at p (s ∷ nodes) n r found holds = elim (cases_Bool (has_number n s)
 abbrev name_of : ResourceData → List ℕ
 name_of r = r.name
 
-line_all : (p : ResourceData → Bool) (n : ℕ) (rs : List ResourceData) → list_all p rs ≡ true → list_all p (line_from n rs) ≡ true
-line_all p n [] all = refl
-line_all p n (r ∷ rs) all =
-    let parts = and_parts (p r) (list_all p rs) all in
-    elim (cases_Bool (has_number n r)) [
-      | inl t ↦ rw t (and_from (p r) (list_all p (line_from r.parent rs)) parts.0 (line_all p r.parent rs parts.1))
-      | inr f ↦ rw f (line_all p n rs parts.1)
-    ]
-
-reverse_all : {A : Type 0} (p : A → Bool) (xs : List A) → list_all p xs ≡ true → list_all p (reverse xs) ≡ true
-reverse_all p [] all = refl
-reverse_all p (x ∷ xs) all =
-    let parts = and_parts (p x) (list_all p xs) all in
-    ap (list_all p) (reverse-append (x ∷ []) xs)
-    ∙ list_all-append p (reverse xs) (x ∷ [])
-    ∙ and_from (list_all p (reverse xs)) (p x && true) (reverse_all p xs parts.1) (and_from (p x) true parts.0 refl)
-
 names_all : (rs : List ResourceData) → list_all (λ (r : ResourceData). is_free_name r.name) rs ≡ true → are_names (map name_of rs) ≡ true
 names_all [] free = refl
 names_all (r ∷ rs) free =
     let parts = and_parts (is_free_name r.name) (list_all (λ (s : ResourceData). is_free_name s.name) rs) free in
-    and_from (is_name r.name) (are_names (map name_of rs)) (and_parts (is_name r.name) _ parts.0).0 (names_all rs parts.1)
+    and_from (is_name r.name) (are_names (map name_of rs)) (free_name_parts r.name parts.0).name (names_all rs parts.1)
 
 parts_back : (names : List (List ℕ)) → 0 < length names → are_names names ≡ true → between_slashes (joined names) ≡ names
 parts_back [] some all = absurd (omega (arith, some))
@@ -125,8 +109,8 @@ module _ (nodes : List ResourceData) (tree : is_tree nodes ≡ true) where
     parts_of : (r : ResourceData) → IsFound nodes r → between_slashes (structured_of r.number nodes) ≡ reverse (names_up r.number)
     parts_of r there =
         let all : are_names (reverse (names_up r.number)) ≡ true =
-        reverse_all is_name (names_up r.number)
-        (names_all (line_of r.number nodes) (line_all (λ (s : ResourceData). is_free_name s.name) r.number (reverse nodes) (reverse_all (λ (s : ResourceData). is_free_name s.name) nodes free))) in
+        all_reversed is_name (names_up r.number)
+        (names_all (line_of r.number nodes) (line_all (λ (s : ResourceData). is_free_name s.name) r.number (reverse nodes) (all_reversed (λ (s : ResourceData). is_free_name s.name) nodes free))) in
         let long : length (reverse (names_up r.number)) ≡ length (names_up r.number) = length-reverse (names_up r.number) in
         let some : length (names_up r.number) ≡ length (r.name ∷ names_up r.parent) = ap length (up_from r there) in
         parts_back (reverse (names_up r.number)) (omega (arith, long, some)) all
@@ -156,8 +140,8 @@ named_is_short home text nodes spot named = elim (cases_Bool (nat_lt point_limit
 module _ (home : HomeData) (nodes : List ResourceData) (own : HasOwnAddresses nodes) where
   id_names : (r : ResourceData) → IsFound nodes r → spot_named home (id_of r) nodes ≡ Some (Resource r.number)
   id_names r there =
-      let small : r.number < 2 ^ 63 = ltb-true r.number (2 ^ 63) (found_passes (λ (s : ResourceData). nat_lt s.number (2 ^ 63)) r.number nodes r own.numbers there) in
-      let free : is_no_name nodes r ≡ true = found_passes (is_no_name nodes) r.number nodes r own.base there in
+      let small : r.number < 2 ^ 63 = ltb-true r.number (2 ^ 63) (number_passes (λ (s : ResourceData). nat_lt s.number (2 ^ 63)) r.number nodes r own.numbers there) in
+      let free : is_no_name nodes r ≡ true = number_passes (is_no_name nodes) r.number nodes r own.base there in
       named_by_id home nodes r there small (nothing (child_of 0 (id_of r) nodes) free)
     where
       nothing : (o : Option ℕ) → is_none o ≡ true → o ≡ None

@@ -1,29 +1,31 @@
 -- In which trees no two resources have one address.
 use Rattle.std.specs.Prelude.{bytes_eq, is_none, nat_eq, nat_lt, option_map}
-use Rattle.std.proofs.Common.{◌≡◌, ℕ, ◌+◌, ◌<◌, ◌^◌, List, [], ◌∷◌, ◌++◌, length, Bool, true, false, cond, not, Option, Some, None, inl, inr, refl, sym, ap, ◌∙◌, arith}
+use Rattle.std.proofs.Common.{◌≡◌, ℕ, ◌+◌, ◌<◌, ◌^◌, List, [], ◌∷◌, ◌++◌, length, Bool, true, false, Option, Some, inl, inr, refl, sym, ap, ◌∙◌, arith}
 use Rattle.std.specs.Char.{is_ascii_digit}
 use Rattle.std.specs.Fmt.{decimal}
 use Rattle.std.specs.List.{list_all, list_any, starts_with}
 use Rattle.std.proofs.Math.Seq.{drop-append_seam}
-use Rattle.std.proofs.lemmas.Bool.{and_from, and_parts, both_ways, eq-eqb, eqb-true, false_from_ne_true, lt-ltb, ltb-true, not-true, or_cases, or_from, or_left, or_right}
+use Rattle.std.proofs.lemmas.Bool.{and_from, both_ways, eq-eqb, false_from_ne_true, lt-ltb, ltb-true, or_cases, or_from, or_left, or_right}
 use Rattle.std.proofs.lemmas.Bool.Decides.{nat_tests}
 use Rattle.std.proofs.lemmas.Fmt.{decimal_nonempty}
 use Rattle.std.proofs.lemmas.List.{length-append}
 use Rattle.std.proofs.lemmas.Slice.Eq.{bytes_eq-Decides}
-use Rattle.m2m_names.specs.Name.{is_free_name, is_numbered, is_resource_id}
+use Rattle.m2m_names.specs.Name.{is_numbered, is_resource_id}
 use Rattle.m2m_names.specs.Types.{all_types, ty_row}
 use Rattle.m2m_names.specs.declared.types.Ty.{Ty}
 use Rattle.m2m_names.specs.declared.types.Ty.TheVariants.{AccessControlPolicy, Ae, Container, ContentInstance, CseBase, Group, PollingChannel, RemoteCse, Subscription, AccessControlPolicyAnnc, AeAnnc, ContainerAnnc, ContentInstanceAnnc, GroupAnnc}
 use Rattle.m2m_names.proofs.NumeralLemmas.{decimal_passes}
 use Rattle.m2m_names.proofs.StatusLemmas.{find_none}
-use Rattle.resource_model.specs.Home.{HomeData, IsHome, is_base_name}
+use Rattle.resource_model.specs.Home.{HomeData, IsHome}
 use Rattle.resource_model.specs.Resource.{ResourceData, id_of}
-use Rattle.tree_model.specs.Tree.{are_below, at, is_child, is_tree, is_under}
+use Rattle.tree_model.specs.Tree.{are_below, at, is_child, is_tree}
 use Rattle.addressing.specs.Laws.{have_free_names}
 use Rattle.retrieve_laws.specs.Guard.{HasOwnAddresses, is_no_name}
-use Rattle.tree_model.proofs.QuietLemmas.{found_passes}
+use Rattle.tree_model.proofs.QuietLemmas.{number_passes}
 use Rattle.retrieve_discover.proofs.OrderLemmas.{in_order-tree}
 use Rattle.retrieve_laws.proofs.FoundLemmas.{Each, IsFound, each_found}
+use Rattle.tree_model.proofs.TreeLemmas.{child_parts}
+use Rattle.resource_model.proofs.HomeLemmas.{base_name_parts, home_parts}
 
 -- ---- a resource id has the form of one
 
@@ -75,23 +77,14 @@ id_is_one r small =
 
 -- ---- the name of the CSEBase is none
 
-third_admitted : (a b c : Bool) (rest : Option ℕ) → cond (not a) (Some 0) (cond (not b) (Some 1) (cond (not c) (Some 2) rest)) ≡ None → c ≡ true
-third_admitted true true true rest e = refl
-third_admitted true true false rest e = (let no : Some 2 ≡ None = e in cc)
-third_admitted true false c rest e = (let no : Some 1 ≡ None = e in cc)
-third_admitted false b c rest e = (let no : Some 0 ≡ None = e in cc)
-
 base_is_none : (home : HomeData) → IsHome home → is_resource_id home.base ≡ false
-base_is_none home is =
-    let named : is_base_name home.base ≡ true = third_admitted (is_free_name home.sp) (is_free_name home.csi) (is_base_name home.base) _ is.admitted in
-    not-true (is_resource_id home.base) (and_parts (is_free_name home.base) _ named).1
+base_is_none home is = (base_name_parts home.base (home_parts home is).base).no_id
 
 module _ (home : HomeData) (nodes : List ResourceData) (is : IsHome home) (tree : is_tree nodes ≡ true) (base : (r : ResourceData) → at r.number nodes ≡ Some r → r.parent ≡ 0 → r.name ≡ home.base) where
   no_child : (r s : ResourceData) → r.number < 2 ^ 63 → IsFound nodes s → is_child 0 (id_of r) s ≡ false
   no_child r s small there = false_from_ne_true (is_child 0 (id_of r) s) (λ t.
-      let parts = and_parts (is_under 0 s) (bytes_eq s.name (id_of r)) t in
-      let name : s.name ≡ id_of r = (bytes_eq-Decides s.name (id_of r)).0 parts.1 in
-      let same : home.base ≡ id_of r = sym (base s there (eqb-true s.parent 0 parts.0)) ∙ name in
+      let child = child_parts 0 (id_of r) s t in
+      let same : home.base ≡ id_of r = sym (base s there child.under) ∙ child.called in
       both_ways (is_resource_id home.base) (base_is_none home is) (ap is_resource_id same ∙ id_is_one r small))
 
   no_children : (r : ResourceData) → r.number < 2 ^ 63 → (rs : List ResourceData) → Each (IsFound nodes) rs → list_any (is_child 0 (id_of r)) rs ≡ false
@@ -106,7 +99,7 @@ module _ (home : HomeData) (nodes : List ResourceData) (is : IsHome home) (tree 
   none_at_all : are_below (2 ^ 63) nodes ≡ true → (rs : List ResourceData) → Each (IsFound nodes) rs → list_all (is_no_name nodes) rs ≡ true
   none_at_all numbers [] each = refl
   none_at_all numbers (r ∷ rs) each =
-      let small : r.number < 2 ^ 63 = ltb-true r.number (2 ^ 63) (found_passes (λ (s : ResourceData). nat_lt s.number (2 ^ 63)) r.number nodes r numbers each.0) in
+      let small : r.number < 2 ^ 63 = ltb-true r.number (2 ^ 63) (number_passes (λ (s : ResourceData). nat_lt s.number (2 ^ 63)) r.number nodes r numbers each.0) in
       and_from (is_no_name nodes r) (list_all (is_no_name nodes) rs) (none_so r small) (none_at_all numbers rs each.1)
 
   pub own_addresses : have_free_names nodes ≡ true → are_below (2 ^ 63) nodes ≡ true → HasOwnAddresses nodes

@@ -1,7 +1,7 @@
 -- What is shown is what is reached by going down through what the originator may retrieve.
 use Rattle.std.proofs.Common.{◌≡◌, ℕ, ◌<◌, List, [], ◌∷◌, ◌++◌, Bool, true, false, cond, ◌&&◌, Some, inl, inr, refl, sym, ap, ◌∙◌, arith}
 use Rattle.std.specs.List.{filter, list_all}
-use Rattle.std.proofs.lemmas.Bool.{cases_Bool, eq-eqb, eqb-true, ne_eqb}
+use Rattle.std.proofs.lemmas.Bool.{cases_Bool, eq-eqb, eqb-true, ne_eqb, and_right}
 use Rattle.std.proofs.lemmas.List.{append_assoc}
 use Rattle.std.proofs.lemmas.List.Elements.{filter-append}
 use Rattle.std.proofs.lemmas.List.Folds.{list_all-append}
@@ -12,6 +12,7 @@ use Rattle.tree_model.proofs.TreeLemmas.{at_number}
 use Rattle.retrieve_discover.specs.Descendants.{below, forest_of, line_up_to, line_below, preorder}
 use Rattle.retrieve_discover.proofs.OrderLemmas.{in_order-tree}
 use Rattle.retrieve_laws.proofs.FoundLemmas.{Each, IsFound, each_found}
+use Rattle.std.proofs.Math.Bool.{and-true}
 
 -- what holds of each of two lists holds of each of both
 each-append : (P : ResourceData → Type 0) (xs ys : List ResourceData) → Each P xs → Each P ys → Each P (xs ++ ys)
@@ -87,14 +88,6 @@ module _ (nodes : List ResourceData) (tree : is_tree nodes ≡ true) where
     abbrev passes : ℕ → ResourceData → Bool
     passes n s = list_all goes (line_below n nodes s)
 
-    and_true : (b : Bool) → (b && true) ≡ b
-    and_true true = refl
-    and_true false = refl
-
-    and_false : (b : Bool) → (b && false) ≡ false
-    and_false true = refl
-    and_false false = refl
-
     -- where a resource is gone through, what is below it passes as from there
     passes_through : (n : ℕ) (r : ResourceData) (b : Bool) (rs : List ResourceData) → passes n r ≡ b → Each (GoesThrough n r.number) rs → Each (λ s. passes n s ≡ (passes r.number s && b)) rs
     passes_through n r b [] is each = tt
@@ -107,11 +100,11 @@ module _ (nodes : List ResourceData) (tree : is_tree nodes ≡ true) where
 
     all_same : (n : ℕ) (r : ResourceData) (rs : List ResourceData) → Each (λ s. passes n s ≡ (passes r.number s && true)) rs → Each (λ s. passes n s ≡ passes r.number s) rs
     all_same n r [] each = tt
-    all_same n r (s ∷ rs) each = (each.0 ∙ and_true (passes r.number s), all_same n r rs each.1)
+    all_same n r (s ∷ rs) each = (each.0 ∙ and-true (passes r.number s), all_same n r rs each.1)
 
     all_none : (n : ℕ) (r : ResourceData) (rs : List ResourceData) → Each (λ s. passes n s ≡ (passes r.number s && false)) rs → Each (λ s. passes n s ≡ false) rs
     all_none n r [] each = tt
-    all_none n r (s ∷ rs) each = (each.0 ∙ and_false (passes r.number s), all_none n r rs each.1)
+    all_none n r (s ∷ rs) each = (each.0 ∙ and_right (passes r.number s) false refl, all_none n r rs each.1)
 
     reaches : (later : List ResourceData) (n : ℕ) (t : ResourceData) → at n nodes ≡ Some t → Each (IsFound nodes) later → filter (passes n) (below n later) ≡ preorder (forest_of goes n later)
     reaches [] n t there each = refl
@@ -120,7 +113,7 @@ module _ (nodes : List ResourceData) (tree : is_tree nodes ≡ true) where
           let under : r.parent ≡ n = eqb-true r.parent n u in
           let higher : n < r.number = above_of r n each.0 u in
           let own : line_up_to n (line_of r.number nodes) ≡ r ∷ [] = line_of_child n n r each.0 under higher ∙ ap (λ rs. r ∷ rs) (line_to_itself n t there) in
-          let passing : passes n r ≡ goes r = ap (list_all goes) own ∙ and_true (goes r) in
+          let passing : passes n r ≡ goes r = ap (list_all goes) own ∙ and-true (goes r) in
           let first = through later r.number r each.0 each.1 n higher in
           let rest = reaches later n t there each.1 in
           let split = filter-append (passes n) (below r.number later) (below n later) in

@@ -5,7 +5,6 @@ use Rattle.std.specs.BTreeMap.{insert_entry}
 use Rattle.std.specs.List.{AllByRecursion, filter}
 use Rattle.std.specs.Option.{option_map_or}
 use Rattle.std.specs.Ordering.{int_eq}
-use Rattle.std.proofs.lemmas.Bool.{and_parts}
 use Rattle.std.proofs.lemmas.List.{append-nil}
 use Rattle.std.proofs.lemmas.List.Elements.{All-contains, All-from_recursion}
 use Rattle.m2m_names.specs.Attributes.{attr_short}
@@ -27,7 +26,7 @@ use Rattle.tree_model.specs.Shown.{shown_rows, under_type}
 use Rattle.tree_model.specs.Tree.{at, children_of, is_under}
 use Rattle.tree_model.proofs.ShownLemmas.{shown_value}
 use Rattle.policy_eval.specs.Rights.{discovery_bit, grants, retrieve_bit}
-use Rattle.retrieve_discover.specs.Conditions.{meets, meets_any}
+use Rattle.retrieve_discover.specs.Conditions.{meets_any}
 use Rattle.entity_model.specs.Places.{wanted_content}
 use Rattle.retrieve_discover.specs.Contents.{content, may_retrieve, members, most_shown, reference, references, references_alone, referred, shown_forest, whole, with_forest, with_references}
 use Rattle.retrieve_discover.specs.Descendants.{Forest, below, forest_of}
@@ -41,6 +40,7 @@ use Rattle.retrieve_discover.proofs.OrderLemmas.{in_order-tree}
 use Rattle.retrieve_laws.proofs.FoundLemmas.{Each, IsFound, each-filter, each_found}
 use Rattle.retrieve_laws.proofs.ReachLemmas.{each_below_found}
 use Rattle.retrieve_laws.proofs.ToldLemmas.{AllOf, AllUnder, kept_beside, member_of-members_of, no_type_name, none_referred, none_under, off_types, under_forest, under_put}
+use Rattle.retrieve_discover.proofs.FindingLemmas.{found_parts}
 
 -- ---- what an object under the name of a type tells
 
@@ -216,7 +216,7 @@ module _ (home : HomeData) (nodes : List ResourceData) (o : List ℕ) (own : Has
 
   each_is_found : (f : FilterParts) (rs : List ResourceData) → Each (λ r. IsFound nodes r × (is_found home nodes o f r ≡ true)) rs → Each (IsGranted discovery_bit) rs
   each_is_found f [] each = tt
-  each_is_found f (r ∷ rs) each = ((each.0.0, (and_parts (grants home nodes o discovery_bit r.number) (meets nodes f r) each.0.1).0), each_is_found f rs each.1)
+  each_is_found f (r ∷ rs) each = ((each.0.0, (found_parts home nodes o f r each.0.1).granted), each_is_found f rs each.1)
 
   found_there : (f : FilterParts) (n : ℕ) → Each (IsGranted discovery_bit) (found home nodes o f n)
   found_there f n =

@@ -1,19 +1,18 @@
 -- What the members of an object tell of the resources below it.
-use Rattle.std.proofs.Common.{◌≡◌, ℕ, List, [], ◌∷◌, ◌++◌, Bool, true, false, cond, not, ◌&&◌, bytes_eq, codes, find, Some, None, Ordering, Less, Equal, Greater, is_eq, inl, inr, refl, sym, ap, subst, ◌∙◌}
+use Rattle.std.proofs.Common.{◌≡◌, ℕ, List, [], ◌∷◌, ◌++◌, Bool, true, false, cond, not, ◌&&◌, bytes_eq, codes, Some, None, Ordering, Less, Equal, Greater, inl, inr, refl, sym, ap, subst, ◌∙◌}
 use Rattle.std.proofs.lemmas.Bool.{and_parts, cases_Bool, false_from_ne_true, not-true, true≢false}
 use Rattle.std.proofs.lemmas.List.{append_assoc}
 use Rattle.std.proofs.lemmas.Map.Text.{is_eq-slice_cmp}
-use Rattle.std.proofs.lemmas.Option.{same_Some}
 use Rattle.std.proofs.lemmas.Slice.Eq.{bytes_eq-Decides}
 use Rattle.std.specs.BTreeMap.{insert_entry}
-use Rattle.std.specs.List.{AllByRecursion, list_all}
+use Rattle.std.specs.List.{AllByRecursion}
 use Rattle.std.specs.Ordering.{match_ordering}
 use Rattle.m2m_names.specs.Attributes.{all_attrs, attr_short}
 use Rattle.m2m_names.specs.Types.{ty_member}
 use Rattle.m2m_names.specs.declared.attributes.Attr.{Attr}
 use Rattle.m2m_names.specs.declared.types.Ty.{Ty}
 use Rattle.m2m_names.specs.declared.types.Ty.TheVariants.{AccessControlPolicy, Ae, Container, ContentInstance, CseBase, Group, PollingChannel, RemoteCse, Subscription, AccessControlPolicyAnnc, AeAnnc, ContainerAnnc, ContentInstanceAnnc, GroupAnnc}
-use Rattle.m2m_names.proofs.AttributeLemmas.{attr_again}
+use Rattle.m2m_names.proofs.AttributeLemmas.{attr_again, equal_texts}
 use Rattle.m2m_value.specs.Data.{Data, Elements, Entry, boolean, element, elements_of, list, no_elements, null, number, object, pairs_of, text}
 use Rattle.m2m_value.specs.View.{elements, member_of}
 use Rattle.m2m_value.proofs.Lookup.{compared, member_of-put_other}
@@ -25,6 +24,7 @@ use Rattle.retrieve_discover.specs.Contents.{with_forest, with_last}
 use Rattle.retrieve_discover.specs.Descendants.{Forest, bare, rooted}
 use Rattle.retrieve_laws.proofs.CutLemmas.{AllIn}
 use Rattle.retrieve_laws.specs.Told.{is_type_name, values_among, values_in, values_under}
+use Rattle.m2m_names.proofs.LookupLemmas.{found_passes}
 
 -- ---- names of types, and those of attributes
 
@@ -49,26 +49,25 @@ pub off_types : (key : List ℕ) → is_type_name key ≡ false → (ty : Ty) �
 off_types key none ty = false_from_ne_true _ (λ t.
     true≢false (sym (type_named ty) ∙ ap is_type_name (sym ((bytes_eq-Decides key (ty_member ty)).0 t)) ∙ none))
 
--- what passes one test in a list whose elements all pass another passes that one
-found_passes : (p q : Attr → Bool) (xs : List Attr) (a : Attr) → find p xs ≡ Some a → list_all q xs ≡ true → q a ≡ true
-found_passes p q [] a found all = cc
-found_passes p q (x ∷ xs) a found all = elim (cases_Bool (p x)) [
-  | inl t ↦ subst (λ (b : Attr). q b ≡ true) (same_Some x a (rw t at found)) (and_parts (q x) _ all).0
-  | inr f ↦ found_passes p q xs a (rw f at found) (and_parts (q x) _ all).1
-]
-
 -- no attribute is named as a type is, nor as what refers to children
 abbrev is_plain_name : Attr → Bool
 is_plain_name a = not (is_type_name (attr_short a)) && not (bytes_eq (codes "ch") (attr_short a))
 
-plain_name : (a : Attr) → is_plain_name a ≡ true
-plain_name a = found_passes (λ b. bytes_eq (attr_short b) (attr_short a)) is_plain_name all_attrs a (attr_again a) refl
+record IsPlainName (a : Attr) : Type 0 where
+  no_type : is_type_name (attr_short a) ≡ false
+  no_reference : bytes_eq (codes "ch") (attr_short a) ≡ false
+
+plain_name : (a : Attr) → IsPlainName a
+plain_name a =
+    let is : is_plain_name a ≡ true = found_passes (λ b. bytes_eq (attr_short b) (attr_short a)) is_plain_name all_attrs a (attr_again a) refl in
+    let parts = and_parts (not (is_type_name (attr_short a))) (not (bytes_eq (codes "ch") (attr_short a))) is in
+    record { no_type = not-true _ parts.0; no_reference = not-true _ parts.1 }
 
 pub no_type_name : (a : Attr) → is_type_name (attr_short a) ≡ false
-no_type_name a = not-true _ (and_parts (not (is_type_name (attr_short a))) _ (plain_name a)).0
+no_type_name a = (plain_name a).no_type
 
 no_reference_name : (a : Attr) → bytes_eq (codes "ch") (attr_short a) ≡ false
-no_reference_name a = not-true _ (and_parts (not (is_type_name (attr_short a))) _ (plain_name a)).1
+no_reference_name a = (plain_name a).no_reference
 
 -- ---- attributes alone
 
@@ -108,9 +107,6 @@ among-elements : (es : Elements) → values_among (elements_of (elements es)) �
 among-elements no_elements = refl
 among-elements (element d es) = ap (λ ds. values_in d ++ ds) (among-elements es)
 
-same_key : (x key : List ℕ) → compared x key ≡ Equal → x ≡ key
-same_key x key e = (bytes_eq-Decides x key).0 (sym (is_eq-slice_cmp x key) ∙ ap is_eq e)
-
 -- what holds of all objects under members that are put in one after another
 module _ (Q : Data → Type 0) where
   abbrev pub AllOf : List Data → Type 0
@@ -136,7 +132,7 @@ module _ (Q : Data → Type 0) where
   put_at Less key v e es rest is own all more = both (told_by (key, v)) (values_under (pairs_of (e ∷ es))) own all
   put_at Equal key v e es rest is own all more =
       both (told_by (e.0, v)) (values_under (pairs_of es))
-      (subst (λ k. AllOf (told_by (k, v))) (same_key key e.0 is) own)
+      (subst (λ k. AllOf (told_by (k, v))) (equal_texts key e.0 is) own)
       (parted (told_by e) (values_under (pairs_of es)) all).1
   put_at Greater key v e es rest is own all more =
       both (told_by e) (values_under (pairs_of rest)) (parted (told_by e) (values_under (pairs_of es)) all).0 more

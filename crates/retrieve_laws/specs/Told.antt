@@ -51,6 +51,7 @@ abbrev mutual
   values_under (pair key d ps) =
       (if is_type_name key then values_in d else []) ++ values_under ps
 
+-- The value is an object.
 abbrev pub is_object : Data → Bool
 is_object d = is_some (as_object d)
 
@@ -76,6 +77,7 @@ shown_id d = text_or_empty (member_at (attr_short Ri) d)
 abbrev pub ids_shown : Data → List (List ℕ)
 ids_shown inner = map shown_id (flat_map values_below (member_values inner))
 
+-- The resource ids of those that the content of a reply shows below the first.
 abbrev pub ids_below : Data → List (List ℕ)
 ids_below content = ids_shown (unframed content)
 
@@ -88,6 +90,7 @@ references_shown inner =
     map shown_reference
     (flat_map (λ d. listed_parts (member_at ch_name d)) (member_values inner))
 
+-- The addresses that the content of a reply refers to as those of children.
 abbrev pub references_in : Data → List (List ℕ)
 references_in content = references_shown (unframed content)
 

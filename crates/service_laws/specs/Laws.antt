@@ -131,7 +131,8 @@ IsAnsweredInOneWay =
 -- that originator, or isn't served, whoever asks; and it sees the same of what they leave.
 abbrev pub EqualSightsAreServedAlike : Type 0
 EqualSightsAreServedAlike =
-    (left right after other : EntityData) (o : List ℕ) (both : ServesBoth left right after other)
-    → IsSoundEntity left → IsSoundEntity right → sight o left ≡ sight o right
-    → All (IsRequestBy left.home o) (requests_in both.first.heard)
-    → AreServedAlike both × (sight o after ≡ sight o other)
+    (left right after other : EntityData) (originator : List ℕ)
+    (both : ServesBoth left right after other)
+    → IsSoundEntity left → IsSoundEntity right → sight originator left ≡ sight originator right
+    → All (IsRequestBy left.home originator) (requests_in both.first.heard)
+    → AreServedAlike both × (sight originator after ≡ sight originator other)

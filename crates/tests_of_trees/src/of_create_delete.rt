@@ -71,15 +71,15 @@ fn request(alloc: Global, members: &str) -> Result<Request, OutOfMemory> {
 fn status(
     alloc: Global,
     entity: &mut Entity<ListTree>,
-    o: &[u8],
+    originator: &[u8],
     target: u64,
     members: &str,
 ) -> Result<u16, OutOfMemory> {
     let request = request(alloc, members)?;
-    if !is_originator(o) {
+    if !is_originator(originator) {
         return Err(OutOfMemory);
     }
-    let reply = create(alloc, entity, o, &request, target)?;
+    let reply = create(alloc, entity, originator, &request, target)?;
     Ok(reply.parts().rsc.number())
 }
 
@@ -89,11 +89,11 @@ fn check_line(
     line: &str,
 ) -> Result<(), Fail> {
     let (turn, want) = parts_of(rt, line, " => ");
-    let (o, turn) = parts_of(rt, turn, " ");
+    let (originator, turn) = parts_of(rt, turn, " ");
     let (target, members) = parts_of(rt, turn, " ");
     let target = target.parse::<u64>().expect(rt, "a number");
     let want = want.parse::<u16>().expect(rt, "a status");
-    let status = status(rt.alloc(), entity, o.as_bytes(), target, members)?;
+    let status = status(rt.alloc(), entity, originator.as_bytes(), target, members)?;
     assert!(rt; status == want, "{line}: {status}");
     Ok(())
 }

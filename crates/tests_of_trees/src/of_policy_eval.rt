@@ -87,25 +87,25 @@ fan C1 2 71 => yes: by `macp`
 fan C7 2 71 => no: not by the group where `macp` is set
 fan C1 2 72 => no: by missing policies alone, the owner";
 
-fn judged(tree: &ListTree, home: &Home, asked: &str, o: &str, place: (u32, u64)) -> bool {
+fn judged(tree: &ListTree, home: &Home, asked: &str, originator: &str, place: (u32, u64)) -> bool {
     let (bits, number) = place;
-    let o = o.as_bytes();
-    if !is_originator(o) || !stands_in(tree, number) {
+    let originator = originator.as_bytes();
+    if !is_originator(originator) || !stands_in(tree, number) {
         return false;
     }
     match asked {
-        "granted" => granted(tree, home, o, bits, number),
-        "relink" => may_relink(tree, home, o, number),
-        _ => fan_granted(tree, home, o, bits, number),
+        "granted" => granted(tree, home, originator, bits, number),
+        "relink" => may_relink(tree, home, originator, number),
+        _ => fan_granted(tree, home, originator, bits, number),
     }
 }
 
 fn told(alloc: Global, tree: &ListTree, words: &[&str]) -> Result<&'static str, Fail> {
     let home = Home::with_defaults(alloc)?;
     match words {
-        [asked, o, bits, n] => {
+        [asked, originator, bits, n] => {
             let place = (bits.parse::<u32>().unwrap_or(0), number(n));
-            Ok(if judged(tree, &home, asked, o, place) {
+            Ok(if judged(tree, &home, asked, originator, place) {
                 "yes"
             } else {
                 "no"

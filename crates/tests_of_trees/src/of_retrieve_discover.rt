@@ -135,23 +135,23 @@ fn is_search(request: &Request) -> bool {
 fn reply(
     alloc: Global,
     tree: &ListTree,
-    o: &[u8],
+    originator: &[u8],
     request: &Request,
 ) -> Result<Option<Reply>, OutOfMemory> {
     let home = Home::with_defaults(alloc)?;
-    if !is_originator(o) || !stands_in(tree, 3) {
+    if !is_originator(originator) || !stands_in(tree, 3) {
         Ok(None)
     } else if is_search(request) {
-        Ok(Some(discover(alloc, tree, &home, o, request, 3)?))
+        Ok(Some(discover(alloc, tree, &home, originator, request, 3)?))
     } else {
-        Ok(Some(retrieve(alloc, tree, &home, o, request, 3)?))
+        Ok(Some(retrieve(alloc, tree, &home, originator, request, 3)?))
     }
 }
 
 // A Retrieve by an originator with these members besides.
-fn request(alloc: Global, o: &str, members: &str) -> Result<Request, Fail> {
+fn request(alloc: Global, originator: &str, members: &str) -> Result<Request, Fail> {
     let text = format!(in alloc;
-        "{{\"op\":2,\"to\":\"x\",\"fr\":\"{o}\",\"rqi\":\"q\",{members}}}"
+        "{{\"op\":2,\"to\":\"x\",\"fr\":\"{originator}\",\"rqi\":\"q\",{members}}}"
     )?;
     Ok(read_request(alloc, &parsed(alloc, text.as_str())?)?)
 }
@@ -161,17 +161,17 @@ fn reply_text(alloc: Global, reply: &Reply) -> Result<String, OutOfMemory> {
 }
 
 // The reply to an originator, with these members of a Retrieve.
-fn told(alloc: Global, tree: &ListTree, o: &str, members: &str) -> Result<String, Fail> {
-    let request = request(alloc, o, members)?;
-    let reply = reply(alloc, tree, o.as_bytes(), &request)?.ok_or("no reply")?;
+fn told(alloc: Global, tree: &ListTree, originator: &str, members: &str) -> Result<String, Fail> {
+    let request = request(alloc, originator, members)?;
+    let reply = reply(alloc, tree, originator.as_bytes(), &request)?.ok_or("no reply")?;
     Ok(reply_text(alloc, &reply)?)
 }
 
 fn check(rt: &(impl Abort + AllocGlobal), tree: &ListTree, record: &str) -> Result<(), Fail> {
     let (asked, want) = parts(rt, record);
-    let (o, members) = asked.split_once(' ').ok_or("no originator")?;
+    let (originator, members) = asked.split_once(' ').ok_or("no originator")?;
     let want = spelled(rt.alloc(), &parsed(rt.alloc(), want)?)?;
-    let told = told(rt.alloc(), tree, o, members)?;
+    let told = told(rt.alloc(), tree, originator, members)?;
     assert!(rt; told.as_str() == want.as_str(), "{record}: {told}");
     Ok(())
 }

@@ -1,7 +1,6 @@
 -- What no two resources of a tree share.
 use Rattle.std.proofs.Common.{◌≡◌, ℕ, ◌⊎◌, List, [], ◌∷◌, ◌++◌, Bool, true, false, Option, Some, None, inl, inr, refl, sym, ap, ◌∙◌}
-use Rattle.std.specs.Prelude.{◌==◌}
-use Rattle.std.proofs.lemmas.Bool.{cases_Bool, and_parts, and_from, or_left, or_right, eq-eqb, eqb-true, both_ways}
+use Rattle.std.proofs.lemmas.Bool.{cases_Bool, or_left, or_right, eqb-true, both_ways}
 use Rattle.std.proofs.lemmas.Option.{same_Some}
 use Rattle.std.proofs.lemmas.Slice.Eq.{bytes_eq-Decides}
 use Rattle.std.specs.List.{list_any}
@@ -10,7 +9,9 @@ use Rattle.std.specs.Str.{bytes_eq}
 use Rattle.resource_model.specs.Resource.{ResourceData, has_number, ae_id, cse_id}
 use Rattle.tree_model.specs.Tree.{at, is_child, same_text, may_stand, is_tree}
 use Rattle.tree_model.proofs.GrowthLemmas.{growth, next_fits}
-use Rattle.tree_model.proofs.TreeLemmas.{at-append}
+use Rattle.tree_model.proofs.TreeLemmas.{at-append, child_parts, child_from}
+use Rattle.m2m_value.proofs.Lookup.{bytes_eq_itself}
+use Rattle.m2m_names.proofs.LookupLemmas.{option_or-None}
 
 -- the one that a number finds is among all
 found_any : (p : ResourceData → Bool) (n : ℕ) (nodes : List ResourceData) (r : ResourceData) → at n nodes ≡ Some r → p r ≡ true → list_any p nodes ≡ true
@@ -20,15 +21,11 @@ found_any p n (s ∷ nodes) r found passes = elim (cases_Bool (has_number n s)) 
   | inr f ↦ or_right (p s) (list_any p nodes) (found_any p n nodes r (rw f at found) passes)
 ]
 
-or_nothing : (o : Option ResourceData) → option_or o None ≡ o
-or_nothing None = refl
-or_nothing (Some r) = refl
-
 -- a number finds what came last, or what it found before
 last_or_before : (n : ℕ) (before : List ResourceData) (x r : ResourceData) → at n (before ++ x ∷ []) ≡ Some r → ((x ≡ r) × (x.number ≡ n)) ⊎ (at n before ≡ Some r)
 last_or_before n before x r found = elim (cases_Bool (has_number n x)) [
   | inl t ↦ new (at n before) refl (sym (at-append n before (x ∷ []) ∙ rw t refl) ∙ found) t
-  | inr f ↦ inr (sym (at-append n before (x ∷ []) ∙ rw f (or_nothing (at n before))) ∙ found)
+  | inr f ↦ inr (sym (at-append n before (x ∷ []) ∙ rw f (option_or-None (at n before))) ∙ found)
 ]
   where
     new : (o : Option ResourceData) → at n before ≡ o → option_or o (Some x) ≡ Some r → has_number n x ≡ true → ((x ≡ r) × (x.number ≡ n)) ⊎ (at n before ≡ Some r)
@@ -53,30 +50,26 @@ module _ (shares : ResourceData → ResourceData → Bool) (turned : (r s : Reso
 bytes_same : (xs ys : List ℕ) → bytes_eq xs ys ≡ true → xs ≡ ys
 bytes_same xs ys h = (bytes_eq-Decides xs ys).0 h
 
-bytes_itself : (xs : List ℕ) → bytes_eq xs xs ≡ true
-bytes_itself xs = (bytes_eq-Decides xs xs).1 refl
-
 -- names of siblings differ
 child_turned : (r s : ResourceData) → is_child s.parent s.name r ≡ true → is_child r.parent r.name s ≡ true
 child_turned r s share =
-    let parts = and_parts (r.parent == s.parent) (bytes_eq r.name s.name) share in
-    let name : bytes_eq s.name r.name ≡ true = ap (λ (t : List ℕ). bytes_eq s.name t) (bytes_same r.name s.name parts.1) ∙ bytes_itself s.name in
-    and_from (s.parent == r.parent) (bytes_eq s.name r.name) (eq-eqb s.parent r.parent (sym (eqb-true r.parent s.parent parts.0))) name
+    let parts = child_parts s.parent s.name r share in
+    child_from r.parent r.name s (record { under = sym parts.under; called = sym parts.called })
 
 pub names_apart : (nodes : List ResourceData) (m n : ℕ) (r s : ResourceData) → is_tree nodes ≡ true → at m nodes ≡ Some r → at n nodes ≡ Some s → r.parent ≡ s.parent → r.name ≡ s.name → m ≡ n
 names_apart nodes m n r s tree left right parent name =
     apart (λ a b. is_child b.parent b.name a) (λ a b. child_turned a b) (λ before x next. (next_fits before x next).name) nodes tree m n r s left right
-    (and_from (r.parent == s.parent) (bytes_eq r.name s.name) (eq-eqb r.parent s.parent parent) (ap (λ (t : List ℕ). bytes_eq t s.name) name ∙ bytes_itself s.name))
+    (child_from s.parent s.name r (record { under = parent; called = name }))
 
 -- ids differ
 text_turned : (a b : Option (List ℕ)) → same_text a b ≡ true → same_text b a ≡ true
 text_turned None None share = cc
 text_turned None (Some b) share = cc
 text_turned (Some a) None share = cc
-text_turned (Some a) (Some b) share = ap (λ (t : List ℕ). bytes_eq b t) (bytes_same a b share) ∙ bytes_itself b
+text_turned (Some a) (Some b) share = ap (λ (t : List ℕ). bytes_eq b t) (bytes_same a b share) ∙ bytes_eq_itself b
 
 both_have : (a b : Option (List ℕ)) (text : List ℕ) → a ≡ Some text → b ≡ Some text → same_text a b ≡ true
-both_have a b text first second = ap (λ (o : Option (List ℕ)). same_text o b) first ∙ ap (same_text (Some text)) second ∙ bytes_itself text
+both_have a b text first second = ap (λ (o : Option (List ℕ)). same_text o b) first ∙ ap (same_text (Some text)) second ∙ bytes_eq_itself text
 
 pub ae_ids_apart : (nodes : List ResourceData) (m n : ℕ) (r s : ResourceData) (aei : List ℕ) → is_tree nodes ≡ true → at m nodes ≡ Some r → at n nodes ≡ Some s → ae_id r ≡ Some aei → ae_id s ≡ Some aei → m ≡ n
 ae_ids_apart nodes m n r s aei tree left right first second =

@@ -1,17 +1,15 @@
 -- Children, instances, channels, sizes, ids and depth: under an append, a replacement and a removal.
 -- Due moments stand in QuietLemmas.
 use Rattle.std.specs.Prelude.{◌==◌}
-use Rattle.std.proofs.Common.{◌≡◌, ℕ, ◌+◌, ◌≤◌, List, [], ◌∷◌, ◌++◌, length, map, reverse, find, Bool, true, false, cond, not, ◌&&◌, ◌||◌, Option, Some, inl, inr, refl, sym, ap, ◌∙◌, subst, arith}
+use Rattle.std.proofs.Common.{◌≡◌, ℕ, ◌+◌, ◌≤◌, List, [], ◌∷◌, ◌++◌, length, map, reverse, find, Bool, true, false, cond, not, ◌&&◌, ◌||◌, Some, inl, inr, refl, sym, ap, ◌∙◌, subst, arith}
 use Rattle.std.proofs.lemmas.Bool.{cases_Bool, and_parts, or_parts, eq-eqb, eqb-true, both_ways, false_from_ne_true}
 use Rattle.std.proofs.lemmas.List.{append-nil, length-map, map-append, reverse-append}
 use Rattle.std.proofs.lemmas.List.Elements.{filter-append}
-use Rattle.std.proofs.lemmas.List.Folds.{find-append, list_any-append}
-use Rattle.std.proofs.lemmas.List.Sums.{sum_by-append, sum_by-cons}
+use Rattle.std.proofs.lemmas.List.Sums.{sum_by-cons}
 use Rattle.std.specs.List.{filter, list_any, sum_by}
-use Rattle.std.specs.Option.{option_or}
-use Rattle.resource_model.specs.Resource.{ResourceData, has_number, ae_id, cse_id}
-use Rattle.tree_model.specs.Tree.{at, has, resource_number, replaced, line_from, line_of, level_of, stays, staying, without, is_spared, same_text, has_ae_id, has_cse_id, instance_size, sizes_of, is_instance, instances_of, may_stand, is_tree}
-use Rattle.tree_model.proofs.GrowthLemmas.{IsNext, growth, next_fits, below_lacks, line-append, spared_new, stays_spared, without-spared}
+use Rattle.resource_model.specs.Resource.{ResourceData, has_number}
+use Rattle.tree_model.specs.Tree.{at, has, resource_number, replaced, line_from, line_of, level_of, stays, staying, without, is_spared, may_stand, is_tree}
+use Rattle.tree_model.proofs.GrowthLemmas.{IsNext, growth, next_fits, below_lacks, line-append, spared_new, stays_spared}
 use Rattle.tree_model.proofs.KeptLemmas.{map-replaced_same, is_tree-without, without-snoc}
 use Rattle.tree_model.proofs.TreeLemmas.{at_number, has-append, staying_any}
 
@@ -50,10 +48,6 @@ filter_both p q (r ∷ nodes) = elim (cases_Bool (q r)) [
   ]
   | inr f ↦ rw f (filter_both p q nodes)
 ]
-
-filter_same : (p q : ResourceData → Bool) → ((r : ResourceData) → p r ≡ q r) → (nodes : List ResourceData) → filter p nodes ≡ filter q nodes
-filter_same p q same [] = refl
-filter_same p q same (r ∷ nodes) = rw (same r, filter_same p q same nodes) refl
 
 -- ---- sizes
 

@@ -1,7 +1,7 @@
 -- What look-ups find.
 use Rattle.std.specs.Prelude.{nat_lt}
 use Rattle.std.proofs.Common.{◌≡◌, ℕ, suc, ◌-◌, ◌<◌, List, [], ◌∷◌, ◌++◌, length, reverse, find, get_or, Bool, true, false, ◌&&◌, Option, Some, None, is_some, inl, inr, refl, sym, ap, ◌∙◌, arith}
-use Rattle.std.proofs.lemmas.Bool.{cases_Bool, and_parts, and_from, ltb-true, lt-ltb}
+use Rattle.std.proofs.lemmas.Bool.{cases_Bool, and_from, and_right, ltb-true, lt-ltb}
 use Rattle.std.proofs.lemmas.List.{reverse-append}
 use Rattle.std.proofs.lemmas.List.Folds.{find-append, list_all-append}
 use Rattle.std.proofs.lemmas.Option.{slice_get-get_or}
@@ -10,6 +10,8 @@ use Rattle.std.specs.Option.{option_map_or, option_or}
 use Rattle.resource_model.specs.Resource.{ResourceData}
 use Rattle.tree_model.specs.Tree.{resource_number, last_number, same_text, are_below, may_stand, is_tree}
 use Rattle.tree_model.proofs.GrowthLemmas.{growth, next_fits}
+use Rattle.m2m_names.proofs.ListLemmas.{all_weaker}
+use Rattle.m2m_names.proofs.LookupLemmas.{option_or-None}
 
 -- ---- the last of a filter
 
@@ -28,10 +30,6 @@ end-cons r (s ∷ rs) =
     ∙ sym here
     ∙ ap (λ k. slice_get (r ∷ s ∷ rs) k) (sym long)
 
-option_or-nothing : (o : Option ResourceData) → option_or o None ≡ o
-option_or-nothing None = refl
-option_or-nothing (Some r) = refl
-
 last-found : (p : ResourceData → Bool) (nodes : List ResourceData) → find p (reverse nodes) ≡ end_of (filter p nodes)
 last-found p [] = refl
 last-found p (r ∷ nodes) =
@@ -41,7 +39,7 @@ last-found p (r ∷ nodes) =
     turned ∙ ap (λ (o : Option ResourceData). option_or o (find p (r ∷ []))) (last-found p nodes) in
     known ∙ elim (cases_Bool (p r)) [
       | inl t ↦ rw t (end-cons r (filter p nodes))
-      | inr f ↦ rw f (option_or-nothing (end_of (filter p nodes)))
+      | inr f ↦ rw f (option_or-None (end_of (filter p nodes)))
     ]
 
 -- the last of what grew is what came last
@@ -74,14 +72,7 @@ no_text_found id (r ∷ nodes) = rw (none_same (id r)) (no_text_found id nodes)
 -- ---- numbers ascend, so that the last is the greatest
 
 below_wider : (m n : ℕ) (nodes : List ResourceData) → m < n → are_below m nodes ≡ true → are_below n nodes ≡ true
-below_wider m n [] less below = refl
-below_wider m n (r ∷ nodes) less below =
-    let parts = and_parts (nat_lt r.number m) (are_below m nodes) below in
-    and_from _ _ (lt-ltb r.number n (let small : r.number < m = ltb-true r.number m parts.0 in omega arith)) (below_wider m n nodes less parts.1)
-
-and_no : (a : Bool) → (a && false) ≡ false
-and_no true = refl
-and_no false = refl
+below_wider m n nodes less below = all_weaker (λ (r : ResourceData). nat_lt r.number m) (λ (r : ResourceData). nat_lt r.number n) (λ r lower. lt-ltb r.number n (let small : r.number < m = ltb-true r.number m lower in omega arith)) nodes below
 
 abbrev last_below : ℕ → Option ResourceData → Bool
 last_below n o = option_map_or (λ (r : ResourceData). nat_lt r.number n) o true
@@ -94,5 +85,5 @@ below_last n = growth may_stand (λ nodes. are_below n nodes ≡ last_below n (e
       | inl t ↦
           let wide : are_below n before ≡ true = below_wider r.number n before (ltb-true r.number n t) (next_fits before r next).number in
           and_from _ _ wide (and_from _ _ t refl) ∙ sym (end ∙ t)
-      | inr f ↦ ap (λ b. are_below n before && (b && true)) f ∙ and_no (are_below n before) ∙ sym (end ∙ f)
+      | inr f ↦ ap (λ b. are_below n before && (b && true)) f ∙ and_right (are_below n before) false refl ∙ sym (end ∙ f)
     ])

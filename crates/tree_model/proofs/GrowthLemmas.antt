@@ -1,18 +1,20 @@
 -- What a list keeps that grows at its end.
 use Rattle.std.specs.Prelude.{◌==◌, nat_lt}
-use Rattle.std.proofs.Common.{◌≡◌, ℕ, ◌<◌, List, [], ◌∷◌, ◌++◌, map, Bool, true, false, cond, not, ◌&&◌, ◌||◌, Option, Some, None, Less, inl, inr, refl, sym, ap, ◌∙◌, subst, arith, append_assoc}
-use Rattle.std.proofs.lemmas.Bool.{cases_Bool, and_parts, and_from, or_cases, or_from, or_left, not-true, not_from_false, eqb-true, eq-eqb, ne_eqb, ltb-true, both_ways, false_from_ne_true}
+use Rattle.std.proofs.Common.{◌≡◌, ℕ, ◌<◌, List, [], ◌∷◌, ◌++◌, map, Bool, true, false, cond, not, ◌&&◌, ◌||◌, Some, None, Less, inl, inr, refl, sym, ap, ◌∙◌, subst, arith, append_assoc}
+use Rattle.std.proofs.lemmas.Bool.{cases_Bool, and_parts, and_from, and_right, or_cases, or_from, or_left, not-true, not_from_false, eqb-true, eq-eqb, ne_eqb, ltb-true, lt-ltb, both_ways, false_from_ne_true}
+use Rattle.std.proofs.Math.Bool.{and-true}
 use Rattle.std.proofs.lemmas.List.{append-nil, map-append, reverse-append}
 use Rattle.std.proofs.lemmas.List.Elements.{filter-append}
 use Rattle.std.proofs.lemmas.Option.{same_Some}
 use Rattle.std.specs.List.Sorted.{IsStrictlySortedBy}
 use Rattle.std.specs.Ordering.{nat_cmp}
 use Rattle.std.specs.List.{AllByRecursion, list_any, filter}
-use Rattle.std.specs.Option.{option_or}
 use Rattle.m2m_names.specs.declared.types.Ty.TheVariants.{CseBase}
 use Rattle.resource_model.specs.Resource.{ResourceData, is_ty, has_number, ae_id, cse_id}
-use Rattle.tree_model.specs.Tree.{at, has, line_from, line_of, stays, without, is_spared, are_below, is_root, is_placed, has_child, has_ae_id, has_cse_id, may_stand, fits_in, grows, is_tree, is_well_formed, AreAscending}
+use Rattle.tree_model.specs.Tree.{at, has, line_from, line_of, stays, without, is_spared, are_below, is_root, is_placed, has_child, has_ae_id, has_cse_id, may_stand, is_taken, fits_in, grows, is_tree, is_well_formed, AreAscending}
+use Rattle.m2m_names.proofs.ListLemmas.{filter_agree}
 use Rattle.tree_model.proofs.TreeLemmas.{at_has, at_none, at-append, has-append, staying-append}
+use Rattle.m2m_names.proofs.LookupLemmas.{option_or-None}
 
 -- ---- growing
 
@@ -20,14 +22,10 @@ and_assoc : (a b c : Bool) → ((a && b) && c) ≡ (a && (b && c))
 and_assoc true b c = refl
 and_assoc false b c = refl
 
-and_true : (a : Bool) → (a && true) ≡ a
-and_true true = refl
-and_true false = refl
-
 module _ (may : List ResourceData → ResourceData → Bool) where
   -- after an append
   pub grows-append : (before nodes : List ResourceData) (r : ResourceData) → grows may before (nodes ++ r ∷ []) ≡ (grows may before nodes && may (before ++ nodes) r)
-  grows-append before [] r = and_true (may before r) ∙ ap (λ (b : List ResourceData). may b r) (sym (append-nil before))
+  grows-append before [] r = and-true (may before r) ∙ ap (λ (b : List ResourceData). may b r) (sym (append-nil before))
   grows-append before (s ∷ nodes) r =
       ap (λ b. may before s && b) (grows-append (before ++ s ∷ []) nodes r)
       ∙ sym (and_assoc (may before s) (grows may (before ++ s ∷ []) nodes) (may ((before ++ s ∷ []) ++ nodes) r))
@@ -52,9 +50,19 @@ grows_weaker strong weak implies before (r ∷ nodes) grew =
     let parts = and_parts (strong before r) _ grew in
     and_from _ _ (implies before r parts.0) (grows_weaker strong weak implies (before ++ r ∷ []) nodes parts.1)
 
+-- it may come next, and its parent takes its type
+pub record FitsIn (nodes : List ResourceData) (r : ResourceData) : Type 0 where
+  pub stands : may_stand nodes r ≡ true
+  pub taken : is_taken nodes r ≡ true
+
+pub fits_parts : (nodes : List ResourceData) (r : ResourceData) → fits_in nodes r ≡ true → FitsIn nodes r
+fits_parts nodes r h =
+    let parts = and_parts (may_stand nodes r) (is_taken nodes r) h in
+    record { stands = parts.0; taken = parts.1 }
+
 -- a well-formed list is a tree
 pub tree_from_well_formed : (nodes : List ResourceData) → is_well_formed nodes ≡ true → is_tree nodes ≡ true
-tree_from_well_formed nodes well = grows_weaker fits_in may_stand (λ before r h. (and_parts (may_stand before r) _ h).0) [] nodes well
+tree_from_well_formed nodes well = grows_weaker fits_in may_stand (λ before r h. (fits_parts before r h).stands) [] nodes well
 
 -- ---- what may come next
 
@@ -79,30 +87,47 @@ fits_next nodes r h =
 
 -- ---- numbers
 
+-- the number of the first, and those of the rest, are below this one
+pub record AreBelow (n : ℕ) (r : ResourceData) (more : List ResourceData) : Type 0 where
+  pub first : r.number < n
+  pub rest : are_below n more ≡ true
+
+pub below_parts : (n : ℕ) (r : ResourceData) (more : List ResourceData) → are_below n (r ∷ more) ≡ true → AreBelow n r more
+below_parts n r more below =
+    let parts = and_parts (nat_lt r.number n) (are_below n more) below in
+    record { first = ltb-true r.number n parts.0; rest = parts.1 }
+
 pub below_has : (n m : ℕ) (nodes : List ResourceData) → are_below n nodes ≡ true → has m nodes ≡ true → m < n
 below_has n m [] below there = absurd (both_ways _ refl there)
 below_has n m (s ∷ nodes) below there =
-    let parts = and_parts _ _ below in
+    let parts = below_parts n s nodes below in
     elim (or_cases (has_number m s) _ there) [
-      | inl here ↦ let same : s.number ≡ m = eqb-true s.number m here in let less : s.number < n = ltb-true s.number n parts.0 in omega arith
-      | inr later ↦ below_has n m nodes parts.1 later
+      | inl here ↦ let same : s.number ≡ m = eqb-true s.number m here in let less : s.number < n = parts.first in omega arith
+      | inr later ↦ below_has n m nodes parts.rest later
     ]
 
 pub below_lacks : (n : ℕ) (nodes : List ResourceData) → are_below n nodes ≡ true → has n nodes ≡ false
 below_lacks n nodes below = false_from_ne_true _ (λ t. let less : n < n = below_has n n nodes below t in omega arith)
 
-pub root_parent : (nodes : List ResourceData) (r : ResourceData) → is_root nodes r ≡ true → (r.parent ≡ 0) × (0 < r.number) × (nodes ≡ [])
-root_parent [] r h =
+-- the first resource, the CSEBase
+pub record IsRoot (nodes : List ResourceData) (r : ResourceData) : Type 0 where
+  pub kind : is_ty r.ty CseBase ≡ true
+  pub parent : r.parent ≡ 0
+  pub number : 0 < r.number
+  pub first : nodes ≡ []
+
+pub root_parts : (nodes : List ResourceData) (r : ResourceData) → is_root nodes r ≡ true → IsRoot nodes r
+root_parts [] r h =
     let two = and_parts (is_ty r.ty CseBase && (r.parent == 0)) _ h in
     let one = and_parts (is_ty r.ty CseBase) _ two.0 in
-    (eqb-true r.parent 0 one.1, ltb-true 0 r.number two.1, refl)
-root_parent (s ∷ nodes) r h = absurd (both_ways _ refl h)
+    record { kind = one.0; parent = eqb-true r.parent 0 one.1; number = ltb-true 0 r.number two.1; first = refl }
+root_parts (s ∷ nodes) r h = absurd (both_ways _ refl h)
 
 -- a parent's number is below its child's
 pub next_above_parent : (nodes : List ResourceData) (r : ResourceData) → IsNext nodes r → r.parent < r.number
 next_above_parent nodes r h = elim (or_cases (has r.parent nodes) _ h.parent) [
   | inl there ↦ below_has r.number r.parent nodes h.number there
-  | inr root ↦ let parts = root_parent nodes r root in let none : r.parent ≡ 0 = parts.0 in let some : 0 < r.number = parts.1 in omega arith
+  | inr root ↦ let parts = root_parts nodes r root in let none : r.parent ≡ 0 = parts.parent in let some : 0 < r.number = parts.number in omega arith
 ]
 
 -- no resource has the number 0
@@ -116,9 +141,9 @@ zero_lacks = growth may_stand (λ nodes. has 0 nodes ≡ false) refl (λ before 
 all_less : (n : ℕ) (nodes : List ResourceData) → are_below n nodes ≡ true → AllByRecursion (λ m. nat_cmp m n ≡ Less) (map (λ (r : ResourceData). r.number) nodes)
 all_less n [] below = tt
 all_less n (s ∷ nodes) below =
-    let parts = and_parts (nat_lt s.number n) (are_below n nodes) below in
-    let less : nat_lt s.number n ≡ true = parts.0 in
-    (rw less refl, all_less n nodes parts.1)
+    let parts = below_parts n s nodes below in
+    let less : nat_lt s.number n ≡ true = lt-ltb s.number n parts.first in
+    (rw less refl, all_less n nodes parts.rest)
 
 all_pushed : (m n : ℕ) (ks : List ℕ) → AllByRecursion (λ k. nat_cmp m k ≡ Less) ks → nat_cmp m n ≡ Less → AllByRecursion (λ k. nat_cmp m k ≡ Less) (ks ++ n ∷ [])
 all_pushed m n [] all last = (last, tt)
@@ -141,10 +166,6 @@ ascending_from_tree = growth may_stand AreAscending sorted_nil (λ before r grew
 
 pub line-append : (n : ℕ) (nodes : List ResourceData) (r : ResourceData) → line_of n (nodes ++ r ∷ []) ≡ cond (has_number n r) (r ∷ line_of r.parent nodes) (line_of n nodes)
 line-append n nodes r = ap (line_from n) (reverse-append nodes (r ∷ []))
-
-option_or-None : (o : Option ResourceData) → option_or o None ≡ o
-option_or-None None = refl
-option_or-None (Some x) = refl
 
 -- what is known of a resource that stands in a tree
 pub record StandsIn (nodes : List ResourceData) (n : ℕ) (r : ResourceData) : Type 0 where
@@ -190,12 +211,6 @@ stands = growth may_stand (λ nodes. (n : ℕ) (r : ResourceData) → at n nodes
 
 -- ---- the reader's words for a removal
 
-filter_agree : (n : ℕ) (p q : ResourceData → Bool) → ((s : ResourceData) → s.number < n → p s ≡ q s) → (nodes : List ResourceData) → are_below n nodes ≡ true → filter p nodes ≡ filter q nodes
-filter_agree n p q agree [] below = refl
-filter_agree n p q agree (s ∷ nodes) below =
-    let parts = and_parts _ _ below in
-    rw (agree s (ltb-true s.number n parts.0), filter_agree n p q agree nodes parts.1) refl
-
 -- a filter by number
 pub has-filter : (keeps : ℕ → Bool) (n : ℕ) (nodes : List ResourceData) → has n (filter (λ s. keeps s.number) nodes) ≡ (has n nodes && keeps n)
 has-filter keeps n [] = refl
@@ -207,16 +222,12 @@ has-filter keeps n (s ∷ nodes) = elim (cases_Bool (has_number n s)) [
   ]
 ]
   where
-    and_false : (b : Bool) → (b && false) ≡ false
-    and_false true = refl
-    and_false false = refl
-
     has_here : (keeps : ℕ → Bool) (n : ℕ) (s : ResourceData) (nodes : List ResourceData) → s.number ≡ n → has n (filter (λ s. keeps s.number) nodes) ≡ (has n nodes && keeps n) → has n (filter (λ s. keeps s.number) (s ∷ nodes)) ≡ (has n (s ∷ nodes) && keeps n)
     has_here keeps n s nodes is later = elim (cases_Bool (keeps s.number)) [
       | inl u ↦ rw (u, eq-eqb s.number n is) (sym (ap keeps (sym is) ∙ u))
       | inr v ↦
           let none : keeps n ≡ false = ap keeps (sym is) ∙ v in
-          rw (v, eq-eqb s.number n is) (later ∙ ap (λ b. has n nodes && b) none ∙ and_false (has n nodes) ∙ sym none)
+          rw (v, eq-eqb s.number n is) (later ∙ ap (λ b. has n nodes && b) none ∙ and_right (has n nodes) false refl ∙ sym none)
     ]
 
 pub at-filter : (keeps : ℕ → Bool) (n : ℕ) (nodes : List ResourceData) → at n (filter (λ s. keeps s.number) nodes) ≡ cond (keeps n) (at n nodes) None
@@ -248,8 +259,8 @@ parent_stays p before r grew next law = elim (or_cases (has r.parent before) _ n
       let some : (r.parent == 0) ≡ false = ne_eqb r.parent 0 (λ e. both_ways _ (zero_lacks before grew) (ap (λ m. has m before) (sym e) ∙ there)) in
       rw some (ap (has r.parent) law ∙ has-filter (is_spared p before) r.parent before ∙ ap (λ b. b && is_spared p before r.parent) there)
   | inr root ↦
-      let parts = root_parent before r root in
-      or_left _ _ (eq-eqb r.parent 0 parts.0) ∙ sym (ap (λ (nodes : List ResourceData). is_spared p nodes r.parent) parts.2)
+      let parts = root_parts before r root in
+      or_left _ _ (eq-eqb r.parent 0 parts.parent) ∙ sym (ap (λ (nodes : List ResourceData). is_spared p nodes r.parent) parts.first)
 ]
 
 pub spared_new : (p : ResourceData → Bool) (before : List ResourceData) (r : ResourceData) → is_spared p (before ++ r ∷ []) r.number ≡ (not (p r) && is_spared p before r.parent)
@@ -271,7 +282,7 @@ without-spared p = growth may_stand (λ nodes. without p nodes ≡ filter (λ r.
     ap (λ b. not (p r) && b) (parent_stays p before r grew fact law) ∙ sym (spared_new p before r) in
     staying-append p [] before (r ∷ [])
     ∙ rw same refl
-    ∙ ap (λ front. front ++ filter (λ s. is_spared p (before ++ r ∷ []) s.number) (r ∷ [])) (law ∙ sym (filter_agree r.number (λ s. is_spared p (before ++ r ∷ []) s.number) (λ s. is_spared p before s.number) (λ s below. spared_old p before r s.number below) before fact.number))
+    ∙ ap (λ front. front ++ filter (λ s. is_spared p (before ++ r ∷ []) s.number) (r ∷ [])) (law ∙ sym (filter_agree (λ s. nat_lt s.number r.number) (λ s. is_spared p (before ++ r ∷ []) s.number) (λ s. is_spared p before s.number) (λ s below. spared_old p before r s.number (ltb-true s.number r.number below)) before fact.number))
     ∙ sym (filter-append (λ s. is_spared p (before ++ r ∷ []) s.number) before (r ∷ [])))
 
 -- what comes last stays where nothing in its line is picked

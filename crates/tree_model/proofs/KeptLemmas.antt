@@ -1,7 +1,7 @@
 -- A tree stays a tree: under a map, a replacement, an append and a removal.
 use Rattle.std.specs.Prelude.{◌==◌, nat_lt}
 use Rattle.std.proofs.Common.{◌≡◌, ℕ, List, [], ◌∷◌, ◌++◌, map, Bool, true, false, cond, not, ◌&&◌, ◌||◌, Option, Some, None, option_map, inl, inr, refl, sym, ap, ◌∙◌, subst, bytes_eq}
-use Rattle.std.proofs.lemmas.Bool.{cases_Bool, and_parts, and_from, or_cases, or_left, or_right, eqb-true, both_ways, false_from_ne_true}
+use Rattle.std.proofs.lemmas.Bool.{cases_Bool, and_from, or_cases, or_left, or_right, eqb-true, both_ways, false_from_ne_true}
 use Rattle.std.proofs.lemmas.List.{append-nil, map-append}
 use Rattle.std.proofs.lemmas.Option.{same_Some}
 use Rattle.std.specs.List.{list_any, list_all}
@@ -14,8 +14,8 @@ use Rattle.m2m_value.specs.Data.{text}
 use Rattle.resource_model.specs.Attributes.{Row, text_at}
 use Rattle.resource_model.specs.Resource.{ResourceData, is_ty, has_number, ae_id, cse_id}
 use Rattle.tree_model.specs.Tree.{at, has, is_child, child_of, replaced, stays, without, is_spared, are_below, is_root, is_placed, has_child, same_text, has_ae_id, has_cse_id, may_stand, is_taken, fits_in, grows, is_tree, is_well_formed, standing}
-use Rattle.tree_model.proofs.TreeLemmas.{list_any-same, list_all-same, has_at, at_has, at-map, has-map, staying-append, staying_all, staying_any}
-use Rattle.tree_model.proofs.GrowthLemmas.{IsNext, next_fits, fits_next, grown, growth, zero_lacks, root_parent, at-without, tree_from_well_formed}
+use Rattle.tree_model.proofs.TreeLemmas.{list_any-same, list_all-same, at-map, has-map, at_number, stays_parts, staying-append, staying_all, staying_any}
+use Rattle.tree_model.proofs.GrowthLemmas.{IsNext, next_fits, fits_next, grown, growth, zero_lacks, fits_parts, root_parts, at-without, tree_from_well_formed}
 
 -- ---- a map that keeps number and standing
 
@@ -155,14 +155,9 @@ map-replaced_same h r (s ∷ nodes) same = elim (cases_Bool (has_number r.number
 
 same_standing : (r : ResourceData) (nodes : List ResourceData) → option_map standing (at r.number nodes) ≡ Some (standing r) → (s : ResourceData) → at r.number nodes ≡ Some s → strip s ≡ strip r
 same_standing r nodes stood s found =
-    let number : s.number ≡ r.number = (has_number_of r.number nodes s found) in
+    let number : s.number ≡ r.number = at_number r.number nodes s found in
     let stands : standing s ≡ standing r = same_Some (standing s) (standing r) (sym (ap (option_map standing) found) ∙ stood) in
     ap (λ (n : ℕ). stripped n (standing s)) number ∙ ap (stripped r.number) stands
-  where
-    has_number_of : (n : ℕ) (nodes : List ResourceData) (s : ResourceData) → at n nodes ≡ Some s → s.number ≡ n
-    has_number_of n nodes s found =
-        let there = has_at n nodes (at_has n nodes s found) in
-        ap (λ (u : ResourceData). u.number) (same_Some s there.0 (sym found ∙ there.1)) ∙ there.2
 
 pub is_tree-replaced : (r : ResourceData) (nodes : List ResourceData) → option_map standing (at r.number nodes) ≡ Some (standing r) → is_tree (replaced r nodes) ≡ is_tree nodes
 is_tree-replaced r nodes stood =
@@ -202,12 +197,12 @@ without-snoc p before r = staying-append p [] before (r ∷ [])
 
 still_placed : (p : ResourceData → Bool) (before : List ResourceData) (r : ResourceData) → is_tree before ≡ true → is_placed before r ≡ true → stays p (without p before) r ≡ true → is_placed (without p before) r ≡ true
 still_placed p before r tree placed stayed = elim (or_cases (has r.parent before) _ placed) [
-  | inl there ↦ elim (or_cases (r.parent == 0) _ (and_parts (not (p r)) _ stayed).1) [
+  | inl there ↦ elim (or_cases (r.parent == 0) _ (stays_parts p (without p before) r stayed).parent) [
     | inl zero_parent ↦ absurd (both_ways _ (zero_lacks before tree) (ap (λ (m : ℕ). has m before) (sym (eqb-true r.parent 0 zero_parent)) ∙ there))
     | inr kept ↦ or_left _ _ kept
   ]
   | inr root ↦
-      let nothing : before ≡ [] = (root_parent before r root).2 in
+      let nothing : before ≡ [] = (root_parts before r root).first in
       subst (λ (nodes : List ResourceData). is_placed (without p nodes) r ≡ true) (sym nothing) (or_right (has r.parent []) (is_root [] r) (ap (λ (nodes : List ResourceData). is_root nodes r) (sym nothing) ∙ root))
 ]
 
@@ -234,11 +229,11 @@ taken_still false o ty taken = refl
 pub is_well_formed-without : (p : ResourceData → Bool) (nodes : List ResourceData) → is_well_formed nodes ≡ true → is_well_formed (without p nodes) ≡ true
 is_well_formed-without p = growth fits_in (λ nodes. is_well_formed (without p nodes) ≡ true) refl (λ before r well next holds.
     let tree = tree_from_well_formed before well in
-    let parts = and_parts (may_stand before r) (is_taken before r) next in
+    let parts = fits_parts before r next in
     let taken : is_taken (without p before) r ≡ true =
-    ap (λ (o : Option ResourceData). option_map_or (λ s. does_take s.ty r.ty) o true) (at-without p r.parent before tree) ∙ taken_still (is_spared p before r.parent) (at r.parent before) r.ty parts.1 in
+    ap (λ (o : Option ResourceData). option_map_or (λ s. does_take s.ty r.ty) o true) (at-without p r.parent before tree) ∙ taken_still (is_spared p before r.parent) (at r.parent before) r.ty parts.taken in
     ap is_well_formed (without-snoc p before r) ∙ elim (cases_Bool (stays p (without p before) r)) [
-      | inl t ↦ ap (λ b. is_well_formed (without p before ++ cond b (r ∷ []) [])) t ∙ is_well_formed-append (without p before) r holds (still_next p before r tree (next_fits before r parts.0) t) taken
+      | inl t ↦ ap (λ b. is_well_formed (without p before ++ cond b (r ∷ []) [])) t ∙ is_well_formed-append (without p before) r holds (still_next p before r tree (next_fits before r parts.stands) t) taken
       | inr f ↦ ap (λ b. is_well_formed (without p before ++ cond b (r ∷ []) [])) f ∙ ap is_well_formed (append-nil (without p before)) ∙ holds
     ])
 

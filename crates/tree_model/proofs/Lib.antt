@@ -1,3 +1,4 @@
+pub mod TakenLemmas
 pub mod TreeLemmas
 pub mod GrowthLemmas
 pub mod OrderLemmas

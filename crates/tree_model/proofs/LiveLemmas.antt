@@ -1,11 +1,12 @@
 -- What a removal leaves alone.
 use Rattle.std.specs.Prelude.{◌==◌}
 use Rattle.std.proofs.Common.{◌≡◌, List, [], ◌∷◌, ◌++◌, Bool, true, false, cond, ◌||◌, Option, Some, None, inl, inr, refl, sym, ap, ◌∙◌}
-use Rattle.std.proofs.lemmas.Bool.{and_parts, and_from, or_cases, or_left, or_right, or_parts, not-true, not_from_false, eq-eqb}
+use Rattle.std.proofs.lemmas.Bool.{and_parts, or_cases, or_left, or_right, or_parts, not-true, not_from_false, eq-eqb}
 use Rattle.std.specs.List.{list_any}
 use Rattle.resource_model.specs.Resource.{ResourceData}
 use Rattle.tree_model.specs.Tree.{at, has, line_of, stays, staying, without, is_spared, due, due_under, may_stand, grows, is_tree}
-use Rattle.tree_model.proofs.GrowthLemmas.{next_fits, root_parent, stands, at-without}
+use Rattle.tree_model.proofs.TreeLemmas.{stays_from}
+use Rattle.tree_model.proofs.GrowthLemmas.{next_fits, root_parts, stands, at-without}
 
 -- where nothing is picked, all stays
 staying_all_of : (p : ResourceData → Bool) (before nodes : List ResourceData) → grows may_stand before nodes ≡ true → list_any p nodes ≡ false → staying p before nodes ≡ nodes
@@ -15,9 +16,9 @@ staying_all_of p before (r ∷ nodes) grew none =
     let free = or_parts (p r) (list_any p nodes) none in
     let parent : ((r.parent == 0) || has r.parent before) ≡ true = elim (or_cases (has r.parent before) _ (next_fits before r parts.0).parent) [
       | inl there ↦ or_right _ _ there
-      | inr root ↦ or_left _ _ (eq-eqb r.parent 0 (root_parent before r root).0)
+      | inr root ↦ or_left _ _ (eq-eqb r.parent 0 (root_parts before r root).parent)
     ] in
-    let stay : stays p before r ≡ true = and_from _ _ (not_from_false _ free.0) parent in
+    let stay : stays p before r ≡ true = stays_from p before r (record { unpicked = free.0; parent = parent }) in
     rw stay (ap (λ rest. r ∷ rest) (staying_all_of p (before ++ r ∷ []) nodes parts.1 free.1))
 
 pub without_none : (p : ResourceData → Bool) (nodes : List ResourceData) → is_tree nodes ≡ true → list_any p nodes ≡ false → without p nodes ≡ nodes

@@ -1,5 +1,5 @@
 -- Numbers ascend, so that a resource at a place is found by its number.
-use Rattle.std.specs.Prelude.{◌==◌, nat_lt, slice_get, IfSome}
+use Rattle.std.specs.Prelude.{nat_lt, slice_get, IfSome}
 use Rattle.std.proofs.Common.{◌≡◌, ℕ, zero, suc, ◌<◌, List, [], ◌∷◌, ◌++◌, Bool, true, false, ◌&&◌, Option, Some, None, option_map, Bor, inl, inr, refl, sym, ap, ◌∙◌, arith}
 use Rattle.std.proofs.lemmas.Bool.{cases_Bool, eqb-true, and_parts, and_from, or_cases, ltb-true, lt-ltb, ne_eqb, eq-eqb, both_ways, false_from_ne_true}
 use Rattle.std.proofs.lemmas.List.Folds.{list_all-append}
@@ -7,7 +7,8 @@ use Rattle.std.proofs.lemmas.Option.{same_Some}
 use Rattle.std.specs.List.{filter, list_all}
 use Rattle.resource_model.specs.Resource.{ResourceData, has_number}
 use Rattle.tree_model.specs.Tree.{at, has, resource_number, number_at, is_under, children_of, are_below, may_stand, is_tree}
-use Rattle.tree_model.proofs.GrowthLemmas.{growth, next_fits}
+use Rattle.tree_model.proofs.GrowthLemmas.{below_parts, growth, next_fits}
+use Rattle.m2m_names.proofs.ListLemmas.{all_filtered}
 use Rattle.tree_model.proofs.TreeLemmas.{at_has}
 
 -- ---- numbers ascend
@@ -21,48 +22,64 @@ abbrev pub ascend : List ResourceData → Bool
 ascend [] = true
 ascend (r ∷ nodes) = are_above r.number nodes && ascend nodes
 
+-- the number of the first, and those of the rest, are above this one
+pub record AreAbove (n : ℕ) (r : ResourceData) (more : List ResourceData) : Type 0 where
+  pub first : n < r.number
+  pub rest : are_above n more ≡ true
+
+pub above_parts : (n : ℕ) (r : ResourceData) (more : List ResourceData) → are_above n (r ∷ more) ≡ true → AreAbove n r more
+above_parts n r more above =
+    let parts = and_parts (nat_lt n r.number) (are_above n more) above in
+    record { first = ltb-true n r.number parts.0; rest = parts.1 }
+
+-- the rest ascends above the first
+pub record Ascends (r : ResourceData) (more : List ResourceData) : Type 0 where
+  pub above : are_above r.number more ≡ true
+  pub rest : ascend more ≡ true
+
+pub ascend_parts : (r : ResourceData) (more : List ResourceData) → ascend (r ∷ more) ≡ true → Ascends r more
+ascend_parts r more order =
+    let parts = and_parts (are_above r.number more) (ascend more) order in
+    record { above = parts.0; rest = parts.1 }
+
 pub above_push : (n : ℕ) (nodes : List ResourceData) (r : ResourceData) → are_above n nodes ≡ true → n < r.number → are_above n (nodes ++ r ∷ []) ≡ true
 above_push n nodes r above less = list_all-append _ nodes (r ∷ []) ∙ and_from _ _ above (and_from _ _ (lt-ltb n r.number less) refl)
 
 ascend_push : (nodes : List ResourceData) (r : ResourceData) → ascend nodes ≡ true → are_below r.number nodes ≡ true → ascend (nodes ++ r ∷ []) ≡ true
 ascend_push [] r order below = refl
 ascend_push (s ∷ nodes) r order below =
-    let o = and_parts (are_above s.number nodes) (ascend nodes) order in
-    let b = and_parts (nat_lt s.number r.number) (are_below r.number nodes) below in
-    and_from _ _ (above_push s.number nodes r o.0 (ltb-true s.number r.number b.0)) (ascend_push nodes r o.1 b.1)
+    let o = ascend_parts s nodes order in
+    let b = below_parts r.number s nodes below in
+    and_from _ _ (above_push s.number nodes r o.above b.first) (ascend_push nodes r o.rest b.rest)
 
 pub tree_ascends : (nodes : List ResourceData) → is_tree nodes ≡ true → ascend nodes ≡ true
 tree_ascends = growth may_stand (λ nodes. ascend nodes ≡ true) refl (λ before r grew next holds. ascend_push before r holds (next_fits before r next).number)
 
 pub above_filter : (p : ResourceData → Bool) (n : ℕ) (nodes : List ResourceData) → are_above n nodes ≡ true → are_above n (filter p nodes) ≡ true
-above_filter p n [] above = refl
-above_filter p n (r ∷ nodes) above =
-    let parts = and_parts (nat_lt n r.number) (are_above n nodes) above in
-    elim (cases_Bool (p r)) [
-      | inl t ↦ rw t (and_from _ _ parts.0 (above_filter p n nodes parts.1))
-      | inr f ↦ rw f (above_filter p n nodes parts.1)
-    ]
+above_filter p n nodes above = all_filtered (λ (s : ResourceData). nat_lt n s.number) p nodes above
 
 pub ascend_filter : (p : ResourceData → Bool) (nodes : List ResourceData) → ascend nodes ≡ true → ascend (filter p nodes) ≡ true
 ascend_filter p [] order = refl
 ascend_filter p (r ∷ nodes) order =
-    let parts = and_parts (are_above r.number nodes) (ascend nodes) order in
+    let parts = ascend_parts r nodes order in
     elim (cases_Bool (p r)) [
-      | inl t ↦ rw t (and_from _ _ (above_filter p r.number nodes parts.0) (ascend_filter p nodes parts.1))
-      | inr f ↦ rw f (ascend_filter p nodes parts.1)
+      | inl t ↦ rw t (and_from _ _ (above_filter p r.number nodes parts.above) (ascend_filter p nodes parts.rest))
+      | inr f ↦ rw f (ascend_filter p nodes parts.rest)
     ]
+
+-- what stands behind another ascends by itself
+pub ascend_back : (front back : List ResourceData) → ascend (front ++ back) ≡ true → ascend back ≡ true
+ascend_back [] back order = order
+ascend_back (r ∷ front) back order = ascend_back front back (ascend_parts r (front ++ back) order).rest
 
 pub above_has : (n m : ℕ) (nodes : List ResourceData) → are_above n nodes ≡ true → has m nodes ≡ true → n < m
 above_has n m [] above there = absurd (both_ways _ refl there)
 above_has n m (r ∷ nodes) above there =
-    let parts = and_parts (nat_lt n r.number) (are_above n nodes) above in
+    let parts = above_parts n r nodes above in
     elim (or_cases (has_number m r) (has m nodes) there) [
-      | inl here ↦ let is : r.number ≡ m = eqb-is r.number m here in let less : n < r.number = ltb-true n r.number parts.0 in omega arith
-      | inr later ↦ above_has n m nodes parts.1 later
+      | inl here ↦ let is : r.number ≡ m = eqb-true r.number m here in let less : n < r.number = parts.first in omega arith
+      | inr later ↦ above_has n m nodes parts.rest later
     ]
-  where
-    eqb-is : (a b : ℕ) → (a == b) ≡ true → a ≡ b
-    eqb-is a b h = eqb-true a b h
 
 pub above_lacks : (n : ℕ) (nodes : List ResourceData) → are_above n nodes ≡ true → has n nodes ≡ false
 above_lacks n nodes above = false_from_ne_true _ (λ t. let less : n < n = above_has n n nodes above t in omega arith)
@@ -81,17 +98,17 @@ at_place (s ∷ nodes) zero r order found =
     let is : s ≡ r = same_Some s r found in
     rw (eq-eqb s.number r.number (ap (λ (x : ResourceData). x.number) is)) found
 at_place (s ∷ nodes) (suc k) r order found =
-    let parts = and_parts (are_above s.number nodes) (ascend nodes) order in
-    behind s nodes r parts.0 (at_place nodes k r parts.1 found)
+    let parts = ascend_parts s nodes order in
+    behind s nodes r parts.above (at_place nodes k r parts.rest found)
 
 -- one that a filter has at a place is found by its number
 pub at_filtered : (p : ResourceData → Bool) (nodes : List ResourceData) (k : ℕ) (r : ResourceData) → ascend nodes ≡ true → slice_get (filter p nodes) k ≡ Some r → at r.number nodes ≡ Some r
 at_filtered p [] k r order found = cc
 at_filtered p (s ∷ nodes) k r order found =
-    let parts = and_parts (are_above s.number nodes) (ascend nodes) order in
+    let parts = ascend_parts s nodes order in
     elim (cases_Bool (p s)) [
-      | inl t ↦ first s nodes k r parts.0 (λ j later. at_filtered p nodes j r parts.1 later) (rw t at found)
-      | inr f ↦ behind s nodes r parts.0 (at_filtered p nodes k r parts.1 (rw f at found))
+      | inl t ↦ first s nodes k r parts.above (λ j later. at_filtered p nodes j r parts.rest later) (rw t at found)
+      | inr f ↦ behind s nodes r parts.above (at_filtered p nodes k r parts.rest (rw f at found))
     ]
   where
     first : (s : ResourceData) (nodes : List ResourceData) (k : ℕ) (r : ResourceData) → are_above s.number nodes ≡ true → ((j : ℕ) → slice_get (filter p nodes) j ≡ Some r → at r.number nodes ≡ Some r) → slice_get (s ∷ filter p nodes) k ≡ Some r → at r.number (s ∷ nodes) ≡ Some r

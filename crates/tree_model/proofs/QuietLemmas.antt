@@ -17,12 +17,11 @@ use Rattle.tree_model.proofs.GrowthLemmas.{IsNext, next_fits, growth, below_has,
 use Rattle.tree_model.proofs.KeptLemmas.{is_tree-replaced, is_tree-without}
 use Rattle.tree_model.proofs.LiveLemmas.{due-without, without_none}
 use Rattle.tree_model.proofs.TreeLemmas.{at_has, at_none, at-append, at-replaced, at-replaced_other}
+use Rattle.m2m_names.proofs.ListLemmas.{all_weaker}
+use Rattle.m2m_names.proofs.LookupLemmas.{option_or-None}
+use Rattle.m2m_names.specs.declared.types.Ty.{Ty}
 
 -- ---- each, and all
-
-or_nothing : (o : Option ResourceData) → option_or o None ≡ o
-or_nothing None = refl
-or_nothing (Some r) = refl
 
 -- what holds of each resource that a number finds holds of all
 pub all_by_number : (q : ResourceData → Bool) (nodes : List ResourceData) → is_tree nodes ≡ true → ((r : ResourceData) → at r.number nodes ≡ Some r → q r ≡ true) → list_all q nodes ≡ true
@@ -35,14 +34,35 @@ all_by_number q = growth may_stand (λ nodes. ((r : ResourceData) → at r.numbe
     list_all-append q before (r ∷ []) ∙ and_from _ _ (holds old) (and_from _ _ new refl))
 
 -- what holds of all holds of the one that a number finds
-pub found_passes : (q : ResourceData → Bool) (n : ℕ) (nodes : List ResourceData) (r : ResourceData) → list_all q nodes ≡ true → at n nodes ≡ Some r → q r ≡ true
-found_passes q n [] r all found = cc
-found_passes q n (s ∷ nodes) r all found =
+pub number_passes : (q : ResourceData → Bool) (n : ℕ) (nodes : List ResourceData) (r : ResourceData) → list_all q nodes ≡ true → at n nodes ≡ Some r → q r ≡ true
+number_passes q n [] r all found = cc
+number_passes q n (s ∷ nodes) r all found =
     let parts = and_parts (q s) (list_all q nodes) all in
     elim (cases_Bool (has_number n s)) [
       | inl t ↦ ap q (sym (same_Some s r (rw t at found))) ∙ parts.0
-      | inr f ↦ found_passes q n nodes r parts.1 (rw f at found)
+      | inr f ↦ number_passes q n nodes r parts.1 (rw f at found)
     ]
+
+-- ---- when a resource is due, by its type
+
+-- the CSEBase never is, an instance may be by its age, and any other is when it expires
+pub data DueCase (ty : Ty) : Type 0 where
+  due_never : is_ty ty CseBase ≡ true → DueCase ty
+  due_by_age : is_ty ty CseBase ≡ false → is_ty ty ContentInstance ≡ true → DueCase ty
+  due_by_expiry : is_ty ty CseBase ≡ false → is_ty ty ContentInstance ≡ false → DueCase ty
+
+pub due_case : (ty : Ty) → DueCase ty
+due_case ty = elim (cases_Bool (is_ty ty CseBase)) [
+  | inl t ↦ due_never t
+  | inr f ↦ elim (cases_Bool (is_ty ty ContentInstance)) [
+    | inl u ↦ due_by_age f u
+    | inr v ↦ due_by_expiry f v
+  ]
+]
+
+-- what isn't an instance is due whatever it stands under
+pub due_plain : (o p : Option ResourceData) (s : ResourceData) → is_ty s.ty ContentInstance ≡ false → due_under o s ≡ due_under p s
+due_plain o p s plain = rw plain refl
 
 -- ---- moments
 
@@ -64,10 +84,7 @@ lesser_from n (Some m) = le-leb (min n m) m (omega arith)
 
 -- a moment that is earlier serves too
 pub quiet_earlier : (among nodes : List ResourceData) (early late : ℕ) → early ≤ late → list_all (is_quiet among late) nodes ≡ true → list_all (is_quiet among early) nodes ≡ true
-quiet_earlier among [] early late le all = refl
-quiet_earlier among (r ∷ nodes) early late le all =
-    let parts = and_parts (is_quiet among late r) _ all in
-    and_from _ _ (earlier_from early late (due among r) le parts.0) (quiet_earlier among nodes early late le parts.1)
+quiet_earlier among nodes early late le all = all_weaker (is_quiet among late) (is_quiet among early) (λ r later. earlier_from early late (due among r) le later) nodes all
 
 -- one more
 pub quiet_more : (among front : List ResourceData) (until : ℕ) (r : ResourceData) → list_all (is_quiet among until) front ≡ true → list_all (is_quiet among (lesser until (due among r))) (front ++ r ∷ []) ≡ true
@@ -103,7 +120,7 @@ quiet_live nodes until moment tree quiet before = without_none (is_due nodes mom
 pub due-append : (nodes : List ResourceData) (r s : ResourceData) → s.parent < r.number → due (nodes ++ r ∷ []) s ≡ due nodes s
 due-append nodes r s before =
     let apart : has_number s.parent r ≡ false = ne_eqb r.number s.parent (λ e. omega arith) in
-    let same : at s.parent (nodes ++ r ∷ []) ≡ at s.parent nodes = at-append s.parent nodes (r ∷ []) ∙ rw apart (or_nothing (at s.parent nodes)) in
+    let same : at s.parent (nodes ++ r ∷ []) ≡ at s.parent nodes = at-append s.parent nodes (r ∷ []) ∙ rw apart (option_or-None (at s.parent nodes)) in
     ap (λ (o : Option ResourceData). due_under o s) same
 
 pub quiet-append : (nodes : List ResourceData) (r : ResourceData) (until : ℕ) → is_tree nodes ≡ true → IsNext nodes r → are_quiet until nodes ≡ true → are_quiet (lesser until (due nodes r)) (nodes ++ r ∷ []) ≡ true
@@ -113,7 +130,7 @@ quiet-append nodes r until tree next quiet =
     let old : list_all (is_quiet (nodes ++ r ∷ []) early) nodes ≡ true = all_by_number (is_quiet (nodes ++ r ∷ []) early) nodes tree (λ s found.
     let above : s.parent < s.number = (stands nodes tree s.number s found).above in
     let below : s.number < r.number = below_has r.number s.number nodes next.number (at_has s.number nodes s found) in
-    ap (from early) (due-append nodes r s (omega arith)) ∙ found_passes (is_quiet nodes early) s.number nodes s all found) in
+    ap (from early) (due-append nodes r s (omega arith)) ∙ number_passes (is_quiet nodes early) s.number nodes s all found) in
     let new : is_quiet (nodes ++ r ∷ []) early r ≡ true = ap (from early) (due-append nodes r r (next_above_parent nodes r next)) ∙ lesser_from until (due nodes r) in
     list_all-append _ nodes (r ∷ []) ∙ and_from _ _ old (and_from _ _ new refl)
 
@@ -141,14 +158,12 @@ lowered_from until et ct (Some old) (Some age) young end = elim (cases_Bool (nat
 ]
 
 aged_from : (until : ℕ) (o : Option ResourceData) (r s : ResourceData) → from until (lowered_age (age_of o) (count_at Mia r.attrs)) ≡ true → from until (due_under o s) ≡ true → from until (due_under (Some r) s) ≡ true
-aged_from until o r s young old = elim (cases_Bool (is_ty s.ty CseBase)) [
-  | inl t ↦ rw t refl
-  | inr f ↦ elim (cases_Bool (is_ty s.ty ContentInstance)) [
-    | inl u ↦
-        let end : until ≤ lesser s.et (age_end o s) = leb-true until (lesser s.et (age_end o s)) (rw (f, u) at old) in
-        rw (f, u) (le-leb until _ (lowered_from until s.et s.ct (age_of o) (count_at Mia r.attrs) young end))
-    | inr v ↦ rw (f, v) (rw (f, v) at old)
-  ]
+aged_from until o r s young old = elim (due_case s.ty) [
+  | due_never t ↦ rw t refl
+  | due_by_age f u ↦
+      let end : until ≤ lesser s.et (age_end o s) = leb-true until (lesser s.et (age_end o s)) (rw (f, u) at old) in
+      rw (f, u) (le-leb until _ (lowered_from until s.et s.ct (age_of o) (count_at Mia r.attrs) young end))
+  | due_by_expiry f v ↦ rw (f, v) (rw (f, v) at old)
 ]
 
 -- the age that the new one allows, where instances are due earlier by it
@@ -179,7 +194,7 @@ replaced_each nodes r s early stood all own young found = elim (cases_eq s.numbe
       subst (λ (x : ResourceData). is_quiet (replaced r nodes) early x ≡ true) is (ap (λ (o : Option ResourceData). from early (due_under o r)) up ∙ own)
   | inr apart ↦
       let before : at s.number nodes ≡ Some s = sym (at-replaced_other s.number r nodes apart) ∙ found in
-      let held : from early (due_under (at s.parent nodes) s) ≡ true = found_passes (is_quiet nodes early) s.number nodes s all before in
+      let held : from early (due_under (at s.parent nodes) s) ≡ true = number_passes (is_quiet nodes early) s.number nodes s all before in
       elim (cases_eq s.parent r.number) [
         | inl under ↦
             let up : at s.parent (replaced r nodes) ≡ Some r = ap (λ (n : ℕ). at n (replaced r nodes)) under ∙ at-replaced r nodes stood.there in
@@ -209,4 +224,4 @@ found_spared false o s found = cc
 pub quiet-without : (p : ResourceData → Bool) (nodes : List ResourceData) (until : ℕ) → is_tree nodes ≡ true → are_quiet until nodes ≡ true → are_quiet until (without p nodes) ≡ true
 quiet-without p nodes until tree quiet = all_by_number (is_quiet (without p nodes) until) (without p nodes) (is_tree-without p nodes tree) (λ s found.
     let left = found_spared (is_spared p nodes s.number) (at s.number nodes) s (sym (at-without p s.number nodes tree) ∙ found) in
-    ap (from until) (due-without p nodes s tree left.1 left.0) ∙ found_passes (is_quiet nodes until) s.number nodes s quiet left.1)
+    ap (from until) (due-without p nodes s tree left.1 left.0) ∙ number_passes (is_quiet nodes until) s.number nodes s quiet left.1)

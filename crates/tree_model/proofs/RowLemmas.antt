@@ -4,13 +4,14 @@ use Rattle.std.proofs.lemmas.Bool.{cases_Bool, both_ways, false_from_ne_true}
 use Rattle.std.proofs.lemmas.List.Elements.{filter-append}
 use Rattle.std.specs.List.{filter}
 use Rattle.std.specs.Ordering.{is_lt, ordering_reverse}
+use Rattle.m2m_names.proofs.PlaceLemmas.{less as lt_less}
 use Rattle.m2m_names.specs.declared.attributes.Attr.{Attr}
 use Rattle.m2m_names.specs.declared.attributes.Attr.TheVariants.{Csi, Cst, Srt, Ty as TyAttr}
 use Rattle.m2m_value.specs.Data.{Data, text, number}
 use Rattle.resource_model.specs.Attributes.{Row, attr_cmp, is_attr, value_of, with_value}
 use Rattle.resource_model.specs.Home.{HomeData}
 use Rattle.resource_model.specs.Resource.{ResourceData}
-use Rattle.resource_model.proofs.AttributeLemmas.{attr_total}
+use Rattle.resource_model.proofs.AttributeLemmas.{attr_total, falls_back}
 use Rattle.tree_model.specs.Shown.{common_rows, own_cse_id, base_rows, shown_ty, shown_types, with_rows}
 
 -- ---- what passes two tests
@@ -39,7 +40,7 @@ module _ {X : Type 0} (p q : X → Bool) where
     | inr f ↦ rw f (filter_none fails xs)
   ]
 
-  filter_swap : (xs : List X) → filter p (filter q xs) ≡ filter q (filter p xs)
+  pub filter_swap : (xs : List X) → filter p (filter q xs) ≡ filter q (filter p xs)
   filter_swap [] = refl
   filter_swap (x ∷ xs) = elim (cases_Bool (p x)) [
     | inl s ↦ elim (cases_Bool (q x)) [
@@ -53,14 +54,6 @@ module _ {X : Type 0} (p q : X → Bool) where
   ]
 
 -- ---- two attributes that are put
-
-lt_less : (o : Ordering) → is_lt o ≡ true → o ≡ Less
-lt_less Less t = refl
-lt_less Equal t = cc
-lt_less Greater t = cc
-
-falls_back : (a b : Attr) → attr_cmp a b ≡ Less → is_lt (attr_cmp b a) ≡ false
-falls_back a b less = ap is_lt (attr_total.antisymm b a ∙ ap ordering_reverse less)
 
 put_less : (a b : Attr) (x y : Data) (rows : List Row) → attr_cmp a b ≡ Less → with_value a x (with_value b y rows) ≡ with_value b y (with_value a x rows)
 put_less a b x y rows less =

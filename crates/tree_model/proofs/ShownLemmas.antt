@@ -2,10 +2,9 @@
 use Rattle.std.specs.Prelude.{nat_lt, pos}
 use Rattle.std.proofs.Common.{zero, suc, Option, Some, None, is_some, inl, inr, bytes_eq, ◌≡◌, ℕ, List, [], ◌∷◌, ◌++◌, length, map, Bool, true, false, cond, not, ◌&&◌, Less, refl, sym, ap, ◌∙◌, subst, arith}
 use Rattle.std.proofs.lemmas.Bool.{cases_Bool, and_parts, ltb-true, both_ways}
-use Rattle.std.proofs.lemmas.Option.{same_Some}
 use Rattle.std.proofs.lemmas.Str.{IsUtf8-from_ascii}
 use Rattle.std.specs.Cmp.Lexicographic.{slice_cmp}
-use Rattle.std.specs.List.{AllByRecursion, find, list_all}
+use Rattle.std.specs.List.{AllByRecursion, list_all}
 use Rattle.std.specs.Str.{IsAscii, IsUtf8}
 use Rattle.std.specs.List.Sorted.{IsStrictlySortedBy}
 use Rattle.std.specs.Map.{keys_of}
@@ -24,6 +23,7 @@ use Rattle.resource_model.specs.Resource.{ResourceData, is_ty}
 use Rattle.resource_model.proofs.AttributeLemmas.{is_attr-same, is_attr-itself, in_order-with_value, value-with_value_same, value-with_value_other}
 use Rattle.tree_model.specs.Shown.{shown_count, common_rows, base_rows, expiry_rows, container_rows, group_rows, added_rows, with_rows, shown_rows, members_of}
 use Rattle.tree_model.specs.Tree.{instances_of, sizes_of}
+use Rattle.m2m_names.proofs.LookupLemmas.{found_passes}
 
 -- some rows, and then others
 pub with_rows-append : (xs ys rows : List Row) → with_rows (xs ++ ys) rows ≡ with_rows ys (with_rows xs rows)
@@ -48,15 +48,6 @@ pub members_sorted : (rows : List Row) → AreInOrder rows → AreSorted (member
 members_sorted rows h = subst (IsStrictlySortedBy (slice_cmp nat_cmp)) (sym (names_of rows)) (sorted_named (keys_of rows) h)
 
 -- ---- keys are texts
-
-found_passes : {X : Type 0} (p q : X → Bool) (xs : List X) (x : X) → find p xs ≡ Some x → list_all q xs ≡ true → q x ≡ true
-found_passes p q [] x found all = cc
-found_passes p q (y ∷ xs) x found all =
-    let parts = and_parts (q y) (list_all q xs) all in
-    elim (cases_Bool (p y)) [
-      | inl t ↦ ap q (sym (same_Some y x (rw t at found))) ∙ parts.0
-      | inr f ↦ found_passes p q xs x (rw f at found) parts.1
-    ]
 
 small_ascii : (bytes : List ℕ) → list_all (λ b. nat_lt b 128) bytes ≡ true → IsAscii bytes
 small_ascii [] small i = omega arith

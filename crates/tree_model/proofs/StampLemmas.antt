@@ -15,7 +15,7 @@ use Rattle.resource_model.proofs.AttributeLemmas.{value-with_value_other}
 use Rattle.tree_model.specs.Tree.{at, has, replaced, restamped, restamped_at, has_state, lesser, due_under, is_quiet, are_quiet, is_tree, standing, StandsAt}
 use Rattle.tree_model.proofs.GrowthLemmas.{stands}
 use Rattle.tree_model.proofs.KeptLemmas.{is_tree-replaced}
-use Rattle.tree_model.proofs.QuietLemmas.{all_by_number, found_passes, from}
+use Rattle.tree_model.proofs.QuietLemmas.{all_by_number, number_passes, from}
 use Rattle.tree_model.proofs.TreeLemmas.{at_has, at_number, at-replaced, at-replaced_other}
 
 -- another attribute keeps its value
@@ -65,10 +65,10 @@ module _ (nodes : List ResourceData) (n lt st : ℕ) (r : ResourceData) (tree : 
           let is : new ≡ s = same_Some new s (sym (at-replaced new nodes there) ∙ ap (λ (m : ℕ). at m (replaced new nodes)) (sym same) ∙ here) in
           let above : r.parent < r.number = (stands nodes tree r.number r own).above in
           let up : at r.parent (replaced new nodes) ≡ at r.parent nodes = at-replaced_other r.parent new nodes (λ e. omega arith) in
-          subst (λ (x : ResourceData). is_quiet (replaced new nodes) until x ≡ true) is (ap (λ (o : Option ResourceData). from until (due_under o r)) up ∙ found_passes (is_quiet nodes until) r.number nodes r quiet own)
+          subst (λ (x : ResourceData). is_quiet (replaced new nodes) until x ≡ true) is (ap (λ (o : Option ResourceData). from until (due_under o r)) up ∙ number_passes (is_quiet nodes until) r.number nodes r quiet own)
       | inr apart ↦
           let before : at s.number nodes ≡ Some s = sym (at-replaced_other s.number new nodes apart) ∙ here in
-          let held : from until (due_under (at s.parent nodes) s) ≡ true = found_passes (is_quiet nodes until) s.number nodes s quiet before in
+          let held : from until (due_under (at s.parent nodes) s) ≡ true = number_passes (is_quiet nodes until) s.number nodes s quiet before in
           elim (cases_eq s.parent r.number) [
             | inl under ↦
                 let up : at s.parent (replaced new nodes) ≡ Some new = ap (λ (m : ℕ). at m (replaced new nodes)) under ∙ at-replaced new nodes there in

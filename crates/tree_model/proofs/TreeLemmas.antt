@@ -5,10 +5,13 @@ use Rattle.std.proofs.lemmas.Bool.{cases_Bool, and_parts, and_from, or_cases, or
 use Rattle.std.proofs.lemmas.List.{append-nil, map-append}
 use Rattle.std.proofs.lemmas.List.Folds.{find-append, list_any-append}
 use Rattle.std.proofs.lemmas.Option.{same_Some}
-use Rattle.std.specs.List.{list_any, list_all}
+use Rattle.std.proofs.lemmas.Slice.Eq.{bytes_eq-Decides}
+use Rattle.std.specs.List.{filter, list_any, list_all}
 use Rattle.std.specs.Option.{option_or}
-use Rattle.resource_model.specs.Resource.{ResourceData, has_number}
-use Rattle.tree_model.specs.Tree.{at, has, replaced, stays, staying, without}
+use Rattle.std.specs.Str.{bytes_eq}
+use Rattle.m2m_names.specs.declared.types.Ty.{Ty}
+use Rattle.resource_model.specs.Resource.{ResourceData, is_ty, has_number}
+use Rattle.tree_model.specs.Tree.{at, has, is_under, is_kin, is_child, line_from, replaced, stays, staying}
 
 -- ---- tests over a list
 
@@ -99,6 +102,62 @@ map-replaced g keeps r (s ∷ nodes) = elim (cases_Bool (has_number r.number s))
   | inr f ↦ let u : has_number (g r).number (g s) ≡ false = ap (λ (m : ℕ). m == (g r).number) (keeps s) ∙ ap (λ (m : ℕ). s.number == m) (keeps r) ∙ f in rw (u, f) (ap (λ rest. g s ∷ rest) (map-replaced g keeps r nodes))
 ]
 
+-- ---- what the tests say
+
+-- a child of this parent, of this type
+pub record IsKin (ty : Ty) (parent : ℕ) (r : ResourceData) : Type 0 where
+  pub under : r.parent ≡ parent
+  pub kind : is_ty r.ty ty ≡ true
+
+pub kin_parts : (ty : Ty) (parent : ℕ) (r : ResourceData) → is_kin ty parent r ≡ true → IsKin ty parent r
+kin_parts ty parent r is =
+    let parts = and_parts (is_under parent r) (is_ty r.ty ty) is in
+    record { under = eqb-true r.parent parent parts.0; kind = parts.1 }
+
+-- a child of this parent, of this name
+pub record IsChild (parent : ℕ) (name : List ℕ) (r : ResourceData) : Type 0 where
+  pub under : r.parent ≡ parent
+  pub called : r.name ≡ name
+
+pub child_parts : (parent : ℕ) (name : List ℕ) (r : ResourceData) → is_child parent name r ≡ true → IsChild parent name r
+child_parts parent name r is =
+    let parts = and_parts (is_under parent r) (bytes_eq r.name name) is in
+    record { under = eqb-true r.parent parent parts.0; called = (bytes_eq-Decides r.name name).0 parts.1 }
+
+pub child_from : (parent : ℕ) (name : List ℕ) (r : ResourceData) → IsChild parent name r → is_child parent name r ≡ true
+child_from parent name r is = and_from _ _ (eq-eqb r.parent parent is.under) ((bytes_eq-Decides r.name name).1 is.called)
+
+-- it stays: it isn't picked, and its parent, where it has one, stayed
+pub record IsStaying (picks : ResourceData → Bool) (stayed : List ResourceData) (r : ResourceData) : Type 0 where
+  pub unpicked : picks r ≡ false
+  pub parent : ((r.parent == 0) || has r.parent stayed) ≡ true
+
+pub stays_parts : (picks : ResourceData → Bool) (stayed : List ResourceData) (r : ResourceData) → stays picks stayed r ≡ true → IsStaying picks stayed r
+stays_parts picks stayed r is =
+    let parts = and_parts (not (picks r)) _ is in
+    record { unpicked = not-true (picks r) parts.0; parent = parts.1 }
+
+pub stays_from : (picks : ResourceData → Bool) (stayed : List ResourceData) (r : ResourceData) → IsStaying picks stayed r → stays picks stayed r ≡ true
+stays_from picks stayed r is = and_from _ _ (not_from_false _ is.unpicked) is.parent
+
+-- what each passes, each of a line does
+pub line_all : (p : ResourceData → Bool) (n : ℕ) (older : List ResourceData) → list_all p older ≡ true → list_all p (line_from n older) ≡ true
+line_all p n [] all = refl
+line_all p n (r ∷ older) all =
+    let parts = and_parts (p r) (list_all p older) all in
+    elim (cases_Bool (has_number n r)) [
+      | inl t ↦ rw t (and_from _ _ parts.0 (line_all p r.parent older parts.1))
+      | inr f ↦ rw f (line_all p n older parts.1)
+    ]
+
+-- two filters that are the same on what the list has
+pub filter_among : (p q : ResourceData → Bool) (rs : List ResourceData) → ((s : ResourceData) → has s.number rs ≡ true → p s ≡ q s) → filter p rs ≡ filter q rs
+filter_among p q [] same = refl
+filter_among p q (r ∷ rs) same =
+    let first : p r ≡ q r = same r (rw (eq-eqb r.number r.number refl) refl) in
+    let rest : filter p rs ≡ filter q rs = filter_among p q rs (λ s there. same s (or_right _ _ there)) in
+    rw (first, rest) refl
+
 -- ---- the pass of a removal
 
 -- two lists of which the first has each number of the second
@@ -146,19 +205,21 @@ staying_any picks p stayed (r ∷ nodes) some = elim (cases_Bool (stays picks st
 pub staying_unpicked : (picks : ResourceData → Bool) (stayed nodes : List ResourceData) → list_any picks (staying picks stayed nodes) ≡ false
 staying_unpicked picks stayed [] = refl
 staying_unpicked picks stayed (r ∷ nodes) = elim (cases_Bool (stays picks stayed r)) [
-  | inl t ↦ rw (t, not-true (picks r) (and_parts (not (picks r)) _ t).0) (staying_unpicked picks (stayed ++ r ∷ []) nodes)
+  | inl t ↦ rw (t, (stays_parts picks stayed r t).unpicked) (staying_unpicked picks (stayed ++ r ∷ []) nodes)
   | inr f ↦ rw f (staying_unpicked picks stayed nodes)
 ]
 
 -- a wider pass after a narrower one is the wider one
 stays_wider : (narrow wide : ResourceData → Bool) → ((r : ResourceData) → narrow r ≡ true → wide r ≡ true) → (more less : List ResourceData) → Covers more less → (r : ResourceData) → stays wide less r ≡ true → stays narrow more r ≡ true
 stays_wider narrow wide within more less covers r stayed =
-    let parts = and_parts (not (wide r)) _ stayed in
-    let unpicked : narrow r ≡ false = false_from_ne_true _ (λ t. both_ways _ (not-true _ parts.0) (within r t)) in
-    and_from _ _ (not_from_false _ unpicked) (elim (or_cases _ _ parts.1) [
-      | inl root ↦ or_left _ _ root
-      | inr kept ↦ or_right _ _ (covers r.parent kept)
-    ])
+    let parts = stays_parts wide less r stayed in
+    stays_from narrow more r (record {
+      unpicked = false_from_ne_true _ (λ t. both_ways _ parts.unpicked (within r t));
+      parent = elim (or_cases (r.parent == 0) _ parts.parent) [
+        | inl root ↦ or_left _ _ root
+        | inr kept ↦ or_right _ _ (covers r.parent kept)
+      ];
+    })
 
 pub staying_wider : (narrow wide : ResourceData → Bool) → ((r : ResourceData) → narrow r ≡ true → wide r ≡ true) → (more less nodes : List ResourceData) → Covers more less → staying wide less (staying narrow more nodes) ≡ staying wide less nodes
 staying_wider narrow wide within more less [] covers = refl

@@ -1,28 +1,22 @@
 -- What comes after a number, where numbers ascend.
 use Rattle.std.specs.Prelude.{nat_lt}
-use Rattle.std.proofs.Common.{◌≡◌, ℕ, zero, suc, ◌<◌, ◌≤◌, List, [], ◌∷◌, length, find, Bool, true, false, ◌&&◌, Option, Some, None, Bor, option_map, inl, inr, refl, sym, ap, ◌∙◌, arith}
-use Rattle.std.proofs.lemmas.Bool.{cases_Bool, and_parts, and_from, ltb-true, ltb-false, lt-ltb, le-ltb}
+use Rattle.std.proofs.Common.{◌≡◌, ℕ, zero, suc, ◌<◌, ◌≤◌, List, [], ◌∷◌, length, find, Bool, true, false, Option, Some, None, Bor, option_map, inl, inr, refl, sym, ap, ◌∙◌, arith}
+use Rattle.std.proofs.lemmas.Bool.{cases_Bool, ltb-true, ltb-false, lt-ltb, le-ltb}
 use Rattle.std.proofs.lemmas.Option.{same_Some}
 use Rattle.std.specs.Iterator.{YieldsFirstRef, MakesProgress, item_count}
 use Rattle.std.specs.List.{filter, slice_get}
 use Rattle.resource_model.specs.Resource.{ResourceData}
 use Rattle.tree_model.specs.Tree.{at, resource_number, comes_after, all_after, next_after, is_tree, may_stand}
 use Rattle.tree_model.proofs.GrowthLemmas.{growth, next_fits, next_above_parent}
-use Rattle.tree_model.proofs.OrderLemmas.{are_above, ascend, tree_ascends, ascend_filter, above_filter, above_push, number_some, placed_stands}
+use Rattle.tree_model.proofs.OrderLemmas.{are_above, ascend, tree_ascends, ascend_filter, above_filter, above_push, number_some, placed_stands, ascend_parts}
+use Rattle.m2m_names.proofs.ListLemmas.{all_weaker, filter_whole}
 
 above_lower : (m n : ℕ) (rs : List ResourceData) → m < n → are_above n rs ≡ true → are_above m rs ≡ true
-above_lower m n [] less above = refl
-above_lower m n (r ∷ rs) less above =
-    let parts = and_parts (nat_lt n r.number) (are_above n rs) above in
-    let here : n < r.number = ltb-true n r.number parts.0 in
-    and_from _ _ (lt-ltb m r.number (omega arith)) (above_lower m n rs less parts.1)
+above_lower m n rs less above = all_weaker (λ (r : ResourceData). nat_lt n r.number) (λ (r : ResourceData). nat_lt m r.number) (λ r higher. let here : n < r.number = ltb-true n r.number higher in lt-ltb m r.number (omega arith)) rs above
 
 -- what is above a number all comes after it
 pub above_all : (n : ℕ) (rs : List ResourceData) → are_above n rs ≡ true → all_after n rs ≡ rs
-above_all n [] above = refl
-above_all n (r ∷ rs) above =
-    let parts = and_parts (nat_lt n r.number) (are_above n rs) above in
-    rw parts.0 (ap (λ (ss : List ResourceData). r ∷ ss) (above_all n rs parts.1))
+above_all n rs above = filter_whole (comes_after n) rs above
 
 -- the first that comes after a number does
 next_is_after : (n : ℕ) (rs : List ResourceData) (r : ResourceData) → next_after n rs ≡ Some r → nat_lt n r.number ≡ true
@@ -44,14 +38,14 @@ none_after n (s ∷ rs) found = elim (cases_Bool (nat_lt n s.number)) [
 after_split : (n : ℕ) (rs : List ResourceData) (r : ResourceData) → ascend rs ≡ true → next_after n rs ≡ Some r → all_after n rs ≡ r ∷ all_after r.number rs
 after_split n [] r order found = cc
 after_split n (s ∷ rs) r order found =
-    let parts = and_parts (are_above s.number rs) (ascend rs) order in
+    let parts = ascend_parts s rs order in
     elim (cases_Bool (nat_lt n s.number)) [
       | inl t ↦
           let is : s ≡ r = same_Some s r (rw t at found) in
           let less : n < s.number = ltb-true n s.number t in
           let own : nat_lt s.number s.number ≡ false = le-ltb s.number s.number (omega arith) in
-          let rest : all_after s.number (s ∷ rs) ≡ rs = rw own (above_all s.number rs parts.0) in
-          rw t (ap (λ (ss : List ResourceData). s ∷ ss) (above_all n rs (above_lower n s.number rs less parts.0) ∙ sym rest))
+          let rest : all_after s.number (s ∷ rs) ≡ rs = rw own (above_all s.number rs parts.above) in
+          rw t (ap (λ (ss : List ResourceData). s ∷ ss) (above_all n rs (above_lower n s.number rs less parts.above) ∙ sym rest))
           ∙ ap (λ (x : ResourceData). x ∷ all_after x.number (s ∷ rs)) is
       | inr f ↦
           let later : next_after n rs ≡ Some r = rw f at found in
@@ -59,7 +53,7 @@ after_split n (s ∷ rs) r order found =
           let low : s.number ≤ n = ltb-false n s.number f in
           let out : nat_lt r.number s.number ≡ false = le-ltb r.number s.number (omega arith) in
           let rest : all_after r.number (s ∷ rs) ≡ all_after r.number rs = rw out refl in
-          rw f (after_split n rs r parts.1 later) ∙ ap (λ (ss : List ResourceData). r ∷ ss) (sym rest)
+          rw f (after_split n rs r parts.rest later) ∙ ap (λ (ss : List ResourceData). r ∷ ss) (sym rest)
     ]
 
 -- a step of going over what comes after a number

@@ -21,11 +21,14 @@ restored (inl r) = created r
 restored (inr (inl p)) = updated p.0 p.1.0 p.1.1
 restored (inr (inr r)) = deleted r
 
+-- The change that is restored from what was stored of it is the one that was stored.
 pub restored-stored : (c : ChangeData) → restored (stored c) ≡ c
 restored-stored (created r) = refl
 restored-stored (updated r s named) = refl
 restored-stored (deleted r) = refl
 
+-- A change is stored as one of three kinds with the resources that it speaks of. These give it back
+-- unchanged.
 abbrev pub change_code : Coded ChangeData
 change_code =
     code_by Stored

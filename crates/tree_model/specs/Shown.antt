@@ -102,9 +102,11 @@ typed_member ty members = (ty_member ty, object (pairs_of members))
 abbrev pub under_type : Ty → List Entry → Data
 under_type ty members = object (pairs_of (typed_member ty members ∷ []))
 
--- the same with the members of all attributes
+-- An object whose one member is named by the type and has the members of all these attributes.
 abbrev pub wrapped : Ty → List Row → Data
 wrapped ty rows = under_type ty (members_of rows)
 
+-- The attributes of a resource as they are shown, under the name of its type (TS-0004, 7.4 and
+-- 8.4).
 abbrev pub attributes_of : HomeData → List ResourceData → ResourceData → Data
 attributes_of home nodes r = wrapped r.ty (shown_rows home nodes r)

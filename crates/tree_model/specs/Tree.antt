@@ -44,7 +44,7 @@ abbrev pub resource_of_id : List ℕ → List ResourceData → Option ResourceDa
 resource_of_id id nodes =
     option_and_then (λ (p : Ty × ℕ). typed_at p.0 p.1 nodes) (id_parts id)
 
--- it has this parent
+-- The resource has this parent.
 abbrev pub is_under : ℕ → ResourceData → Bool
 is_under parent r = r.parent == parent
 
@@ -52,10 +52,11 @@ is_under parent r = r.parent == parent
 abbrev pub children_of : ℕ → List ResourceData → List ResourceData
 children_of parent nodes = filter (is_under parent) nodes
 
--- it is a child of this type
+-- The resource is of this type, and a child of this parent.
 abbrev pub is_kin : Ty → ℕ → ResourceData → Bool
 is_kin ty parent r = is_under parent r && is_ty r.ty ty
 
+-- The children of this type under a resource, in order of creation.
 abbrev pub kin_of : Ty → ℕ → List ResourceData → List ResourceData
 kin_of ty parent nodes = filter (is_kin ty parent) nodes
 
@@ -63,7 +64,7 @@ kin_of ty parent nodes = filter (is_kin ty parent) nodes
 abbrev pub subs_of : ℕ → List ResourceData → List ResourceData
 subs_of parent nodes = kin_of Subscription parent nodes
 
--- it is a content instance of this container
+-- The resource is a content instance of this container.
 abbrev pub is_instance : ℕ → ResourceData → Bool
 is_instance container r = is_kin ContentInstance container r
 
@@ -78,7 +79,7 @@ instance_size r = unwrap_or (count_at Cs r.attrs) 0
 abbrev pub sizes_of : ℕ → List ResourceData → ℕ
 sizes_of container nodes = sum_by instance_size (instances_of container nodes)
 
--- it is the child of this name
+-- The resource is the child of this name under this parent.
 abbrev pub is_child : ℕ → List ℕ → ResourceData → Bool
 is_child parent name r = is_under parent r && bytes_eq r.name name
 
@@ -94,14 +95,15 @@ number_at k rs = resource_number (slice_get rs k)
 abbrev pub numbers_of : List ResourceData → List ℕ
 numbers_of rs = map (λ (r : ResourceData). r.number) rs
 
--- it comes after a number
+-- The resource's number is greater than this one.
 abbrev pub comes_after : ℕ → ResourceData → Bool
 comes_after n r = nat_lt n r.number
 
--- those that come after a number, and the first of them
+-- The resources whose numbers are greater than this one.
 abbrev pub all_after : ℕ → List ResourceData → List ResourceData
 all_after n rs = filter (comes_after n) rs
 
+-- The first of the resources whose number is greater than this one.
 abbrev pub next_after : ℕ → List ResourceData → Option ResourceData
 next_after n rs = find (comes_after n) rs
 
@@ -125,7 +127,7 @@ same_text (Some a) None = false
 same_text None (Some b) = false
 same_text None None = false
 
--- it has this AE-ID
+-- The resource has this AE-ID.
 abbrev pub is_ae : List ℕ → ResourceData → Bool
 is_ae aei r = same_text (ae_id r) (Some aei)
 
@@ -133,7 +135,7 @@ is_ae aei r = same_text (ae_id r) (Some aei)
 abbrev pub ae_of : List ℕ → List ResourceData → Option ℕ
 ae_of aei nodes = resource_number (find (is_ae aei) nodes)
 
--- it has this CSE-ID
+-- The resource has this CSE-ID.
 abbrev pub is_cse : List ℕ → ResourceData → Bool
 is_cse csi r = same_text (cse_id r) (Some csi)
 
@@ -166,6 +168,7 @@ line_from n [] = []
 line_from n (r ∷ older) =
     if has_number n r then r ∷ line_from r.parent older else line_from n older
 
+-- The resource, its parent, and so on up to the CSEBase.
 abbrev pub line_of : ℕ → List ResourceData → List ResourceData
 line_of n nodes = line_from n (reverse nodes)
 
@@ -173,7 +176,7 @@ line_of n nodes = line_from n (reverse nodes)
 abbrev pub level_of : ℕ → List ResourceData → ℕ
 level_of n nodes = length (line_of n nodes)
 
--- it is the resource of the number, or stands below it
+-- The resource is that of the number, or stands below it.
 abbrev pub is_at_or_below : ℕ → List ResourceData → ResourceData → Bool
 is_at_or_below n nodes r = list_any (has_number n) (line_of r.number nodes)
 
@@ -193,7 +196,7 @@ abbrev pub restamped_at : ℕ → ℕ → ℕ → List ResourceData → List Res
 restamped_at n lt st nodes = option_map_or (λ r. replaced (restamped lt st r) nodes)
     (at n nodes) nodes
 
--- it is there, and has a state tag
+-- The resource is there, and has a state tag.
 abbrev pub has_state : ℕ → List ResourceData → Bool
 has_state n nodes = option_map_or (λ r. is_some (value_of St r.attrs)) (at n nodes) false
 
@@ -214,7 +217,7 @@ staying picks stayed (r ∷ nodes) =
 abbrev pub without : (ResourceData → Bool) → List ResourceData → List ResourceData
 without picks nodes = staying picks [] nodes
 
--- it has one of these numbers
+-- The resource has one of these numbers.
 abbrev pub is_numbered_in : List ℕ → ResourceData → Bool
 is_numbered_in numbers r = list_any (nat_eq r.number) numbers
 
@@ -262,6 +265,7 @@ due_under parent r =
     if is_ty r.ty CseBase then None
     else (if is_ty r.ty ContentInstance then Some (end_by (age_of parent) r) else Some r.et)
 
+-- The moment at which a resource is due to expire, if it is at all (TS-0001, 9.6.1.3.2).
 abbrev pub due : List ResourceData → ResourceData → Option ℕ
 due nodes r = due_under (at r.parent nodes) r
 
@@ -269,10 +273,11 @@ due nodes r = due_under (at r.parent nodes) r
 abbrev pub has_come : ℕ → ℕ → Bool
 has_come moment at = nat_le at moment
 
--- it is due by then
+-- A resource with this parent is due by this moment.
 abbrev pub is_due_under : Option ResourceData → ℕ → ResourceData → Bool
 is_due_under parent moment r = option_map_or (has_come moment) (due_under parent r) false
 
+-- The resource is due to expire by this moment.
 abbrev pub is_due : List ResourceData → ℕ → ResourceData → Bool
 is_due nodes moment r = is_due_under (at r.parent nodes) moment r
 
@@ -285,7 +290,7 @@ abbrev pub overdue_numbers : ℕ → List ResourceData → List ℕ
 overdue_numbers moment nodes =
     numbers_of (filter (λ r. not (has r.number (live moment nodes))) nodes)
 
--- it isn't due before this moment
+-- The resource isn't due before this moment.
 abbrev pub is_quiet : List ResourceData → ℕ → ResourceData → Bool
 is_quiet nodes until r = option_map_or (λ at. nat_le until at) (due nodes r) true
 
@@ -303,12 +308,12 @@ are_below n nodes = list_all (λ s. nat_lt s.number n) nodes
 abbrev pub have_free_names : List ResourceData → Bool
 have_free_names nodes = list_all has_free_name nodes
 
--- it is the first resource, the CSEBase
+-- The resource is the first, the CSEBase.
 abbrev pub is_root : List ResourceData → ResourceData → Bool
 is_root [] r = is_ty r.ty CseBase && (r.parent == 0) && nat_lt 0 r.number
 is_root (s ∷ nodes) r = false
 
--- its parent is there, or it is the first resource
+-- The resource's parent is there, or it is the first resource.
 abbrev pub is_placed : List ResourceData → ResourceData → Bool
 is_placed nodes r = has r.parent nodes || is_root nodes r
 
@@ -332,10 +337,11 @@ may_stand nodes r =
     && not (has_child r.parent r.name nodes) && not (has_ae_id (ae_id r) nodes)
     && not (has_cse_id (cse_id r) nodes)
 
--- its parent, where it has one, takes its type (TS-0001, 9.6)
+-- The resource's parent, where it has one, takes its type (TS-0001, 9.6).
 abbrev pub is_taken : List ResourceData → ResourceData → Bool
 is_taken nodes r = option_map_or (λ p. does_take p.ty r.ty) (at r.parent nodes) true
 
+-- The resource may come next in the list, and its parent takes its type (TS-0001, 9.6).
 abbrev pub fits_in : List ResourceData → ResourceData → Bool
 fits_in nodes r = may_stand nodes r && is_taken nodes r
 
@@ -350,7 +356,7 @@ grows may before (r ∷ nodes) = may before r && grows may (before ++ r ∷ []) 
 abbrev pub is_tree : List ResourceData → Bool
 is_tree nodes = grows may_stand [] nodes
 
--- besides, each resource stands under a type that takes it
+-- The list is a tree, and each resource stands under a type that takes it (TS-0001, 9.6).
 abbrev pub is_well_formed : List ResourceData → Bool
 is_well_formed nodes = grows fits_in [] nodes
 

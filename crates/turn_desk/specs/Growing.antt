@@ -22,6 +22,7 @@ module _ {E R : Type 0} where
       [ true ↦ ap (λ l. n ∷ l) h | false ↦ h ]
 
 module _ {X E R : Type 0} where
+  -- A seat that has seen no further entry has not changed.
   pub grows-nothing : (v : View X E R) → Grows v [] v
   grows-nothing v = record {
     seen = sym (append-nil v.seen);
@@ -38,6 +39,7 @@ module _ {X E R : Type 0} where
       ap length g.seen ∙ length-append before.seen (all_entries more)
       ∙ ap (λ k. length before.seen + k) (length-map more (λ (m : Marked E R). m.entry))
 
+  -- A seat that has seen some entries more, and then others, has seen all of these more, in order.
   pub grows-on : (before between after : View X E R) (more later : List (Marked E R))
       → Grows before more between → Grows between later after → Grows before (more ++ later) after
   grows-on before between after more later g h = record {

@@ -10,6 +10,6 @@ module _ {X E R : Type 0} where
   abbrev pub known_to : DeskSeat X E R → View X E R
   known_to seat = seat.seat.me.0
 
-  -- it is a seat of this desk, and stands between two questions
+  -- The seat is one of this desk, and stands between two questions.
   abbrev pub IsSeated : (ℕ → E → X → R → X → Type 0) → TableId → DeskSeat X E R → Type 0
   IsSeated step desk seat = (seat.seat.table_id ≡ desk) × IsIdle step seat.seat.me

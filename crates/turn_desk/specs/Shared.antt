@@ -159,7 +159,7 @@ module _ {X E R : Type 0} where
 
   -- ---- what a step does to a seat
 
-  -- it has the ticket
+  -- What is known of a seat once it has drawn the ticket.
   abbrev pub with_ticket : ℕ → View X E R → View X E R
   with_ticket t v = record v { ticket = Some t }
 
@@ -255,7 +255,7 @@ module _ {X E R : Type 0} where
   abbrev pub SamePart : View X E R → View X E R → Type 0
   SamePart v w = (w.share ≡ v.share) × (w.whole ≡ v.whole)
 
-  -- it has the whole desk
+  -- The seat has the whole desk.
   abbrev pub IsWhole : View X E R → Type 0
   IsWhole v = v.share ≡ v.whole
 
@@ -270,7 +270,7 @@ module _ {X E R : Type 0} where
     pub part : me.0.share ≢ 0
     pub hand : me.1 ≡ []
 
-  -- its ticket is served, and its caller has the object
+  -- The seat's ticket is served, and its caller has the object.
   pub record IsServed (me : Me (Held X E R) (View X E R)) (ticket : ℕ) : Type 0 where
     pub empty : Held X E R
     pub drawn : me.0.ticket ≡ Some ticket

@@ -12,14 +12,14 @@ use Rattle.workers.specs.declared.serving.ServeFault.{ServeFault}
 use Rattle.workers.specs.declared.serving.ServeFault.TheVariants.{DoorFault, OutOfMemory}
 use Rattle.workers.specs.Gate.{DoorTold, TakesConnections, ServesDoor}
 use Rattle.workers.specs.Serving.{EndsServing, seat_after}
-use Rattle.workers.specs.Shares.{HasGoneOn, AddUpTo, IsJoinedOf, owned}
-use Rattle.workers.specs.Shifts.{IsServed}
+use Rattle.workers.specs.Shares.{HasGoneOn, AddUpTo, IsJoinedOf, all_own}
+use Rattle.workers.specs.Shifts.{GainsByAttending}
 use Rattle.workers.proofs.SharesLemmas.{come_back}
 
 module _ {X E R C B A : Type 0} {attends : DeskSeat X E R → C → B → DeskSeat X E R → A → B → Type 0} where
   -- a seat that had the same own entries was served likewise
   served_from : {benches all : List B} {kept seat back : DeskSeat X E R} → (known_to kept).own ≡ (known_to seat).own
-      → benches ≡ all → IsServed attends benches kept back → IsServed attends all seat back
+      → benches ≡ all → GainsByAttending attends benches kept back → GainsByAttending attends all seat back
   served_from own same s = record {
     shifts = s.shifts;
     last = s.last;
@@ -28,7 +28,7 @@ module _ {X E R C B A : Type 0} {attends : DeskSeat X E R → C → B → DeskSe
     fresh = s.fresh;
     each_bench = s.each_bench ∙ same;
     seen = s.seen;
-    gained = s.gained ∙ ap (λ l. l ++ owned (map (λ w. known_to w.later) s.shifts)) own;
+    gained = s.gained ∙ ap (λ l. l ++ all_own (map (λ w. known_to w.later) s.shifts)) own;
     back_is = s.back_is;
   }
 
@@ -42,7 +42,7 @@ module _ {X E R D C B A : Type 0} (step : ℕ → E → X → R → X → Type 0
       → HasGoneOn (known_to seat) (known_to kept) → AddUpTo (known_to seat) (known_to kept ∷ others)
       → (known_to kept).own ≡ (known_to seat).own → benches ≡ all
       → IsJoinedOf step desk (known_to kept) others (seat_after r)
-      → IsServed attends benches kept (seat_after r)
+      → GainsByAttending attends benches kept (seat_after r)
       → IfOk r (λ p. ServesDoor limit start (told p.1))
       → IfErr r (λ e. TakesConnections limit (Some Fault) start (told e.1))
       → IfErr r (λ e. e.2 ≡ DoorFault)

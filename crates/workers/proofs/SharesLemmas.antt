@@ -1,5 +1,5 @@
 -- Parts of seats that are split and joined, and what seats have seen.
-use Rattle.std.proofs.Common.{◌≡◌, ℕ, suc, ◌+◌, ◌*◌, ◌/◌, ◌<◌, ◌≤◌, nat_lt, true, false, List, [], ◌∷◌, ◌++◌, length, map, slice_index_or, take, drop, if◌then◌else◌, refl, sym, ap, ◌∙◌, subst, ⊎_elim, append_assoc, append-nil, length-append, mul_assoc, mul_comm, mul_right_comm, add-mul, arith}
+use Rattle.std.proofs.Common.{◌≡◌, ℕ, ◌+◌, ◌*◌, ◌/◌, ◌<◌, ◌≤◌, nat_lt, true, false, List, [], ◌∷◌, ◌++◌, length, map, take, drop, if◌then◌else◌, refl, sym, ap, ◌∙◌, subst, ⊎_elim, append_assoc, append-nil, length-append, mul_assoc, mul_comm, mul_right_comm, add-mul, arith}
 use Rattle.std.proofs.Math.Nat.{mul-div_cancel}
 use Rattle.std.proofs.lemmas.Bool.{le-ltb, ltb-false}
 use Rattle.std.proofs.lemmas.List.{map-append}
@@ -14,7 +14,7 @@ use Rattle.turn_desk.specs.Seats.{IsSeated, known_to}
 use Rattle.turn_desk.specs.Shared.{Begins, AreInLine, longer, total, Weighed, halved, sibling, AreJoined, Grows, own_places}
 use Rattle.turn_desk.specs.Growing.{grows-nothing, grows-on}
 use Rattle.turn_desk.proofs.SharedLemmas.{total-snoc, total-double, weighed-double, weighed-snoc}
-use Rattle.workers.specs.Shares.{HasGoneOn, HasPartOf, AddUpTo, HasGrown, HaveGrown, HasNone, HasSeenAll, owned, Carries, IsJoinedOf, HasComeBack}
+use Rattle.workers.specs.Shares.{HasGoneOn, HasPartOf, AddUpTo, HasGrown, HaveGrown, HasSeenAll, all_own, PassesOn, IsJoinedOf, HasComeBack}
 
 -- ---- what was seen
 
@@ -135,8 +135,8 @@ module _ {X E R : Type 0} where
 
   -- the entries of one seat more
   pub own_joined : {v w both : View X E R} (left : List (View X E R)) {own : List ℕ} → AreJoined v w both
-      → v.own ++ owned (w ∷ left) ≡ own → both.own ++ owned left ≡ own
-  own_joined {v} {w} {both} left j e = ap (λ l. l ++ owned left) j.own ∙ append_assoc v.own w.own (owned left) ∙ e
+      → v.own ++ all_own (w ∷ left) ≡ own → both.own ++ all_own left ≡ own
+  own_joined {v} {w} {both} left j e = ap (λ l. l ++ all_own left) j.own ∙ append_assoc v.own w.own (all_own left) ∙ e
 
 -- ---- parts
 
@@ -238,7 +238,7 @@ module _ {X E R : Type 0} where
 
   -- seats that asked add up as before
   pub carries_on : {u w : View X E R} {vs ws : List (View X E R)} → HaveGrown vs ws
-      → Carries (u ∷ ws) (w ∷ []) → Carries (u ∷ vs) (w ∷ [])
+      → PassesOn (u ∷ ws) (w ∷ []) → PassesOn (u ∷ vs) (w ∷ [])
   carries_on {u} {w} {vs} {ws} grown carries = λ v a. carries v (record {
     weights = a.weights;
     number = a.number;
@@ -277,7 +277,7 @@ module _ {X E R : Type 0} {step : ℕ → E → X → R → X → Type 0} {desk 
   -- those that were split off asked, and were joined
   pub comes_joined : {kept : View X E R} {before after : List (View X E R)} {seat : DeskSeat X E R}
       → IsSeated step desk seat → HasGoneOn kept (known_to seat) → HaveGrown before after
-      → Carries (kept ∷ after) (known_to seat ∷ []) → IsJoinedOf step desk kept before seat
+      → PassesOn (kept ∷ after) (known_to seat ∷ []) → IsJoinedOf step desk kept before seat
   comes_joined seated on grown parts = record {
     seated = seated;
     on = on;

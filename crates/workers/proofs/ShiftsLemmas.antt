@@ -1,16 +1,18 @@
 -- What workers did at their seats: visits one after another, and shifts that are put together.
-use Rattle.std.proofs.Common.{◌≡◌, ℕ, suc, ◌+◌, ◌<◌, List, [], ◌∷◌, ◌++◌, length, map, slice_index_or, refl, sym, ap, ◌∙◌, subst, append_assoc, arith}
+use denote.Param.Members.{Shared}
+use denote.Ref.{MutBor}
+use Rattle.std.proofs.Common.{◌≡◌, ℕ, suc, ◌<◌, List, [], ◌∷◌, ◌++◌, length, map, take, drop, slice_index_or, refl, sym, ap, ◌∙◌, subst, arith}
+use Rattle.std.specs.Fork.{ChangesEach}
 use Rattle.std.specs.List.{All}
 use Rattle.std.proofs.lemmas.List.Elements.{All-head, All-tail, All-nil, All-cons}
 use Rattle.atomic_table.specs.Seated.{TableId}
 use Rattle.turn_desk.specs.declared.shared.DeskSeat.{DeskSeat}
-use Rattle.turn_desk.specs.declared.view.View.{View}
-use Rattle.turn_desk.specs.Seats.{IsSeated, known_to}
+use Rattle.turn_desk.specs.Seats.{known_to}
 use Rattle.workers.specs.declared.sharing.Job.{Job}
-use Rattle.workers.specs.Jobs.{known_to_all, bench_of, IsClosedAt, IsSeatedAt}
-use Rattle.workers.specs.Shares.{HasGrown, HaveGrown, HasNone, HasSeenAll, Pairwise, owned}
-use Rattle.workers.specs.Shifts.{Visit, Shift, AttendsInTurn, HasAttended, WorksFrom, HasWorked, HaveWorked, IsServed}
-use Rattle.workers.proofs.SharesLemmas.{grown_self, grown_on, grown_seen, seen_on}
+use Rattle.workers.specs.Jobs.{known_to_all, bench_of, IsClosedAt, IsSeatedAt, AreSeated}
+use Rattle.workers.specs.Shares.{HasGrown, HaveGrown, HasNone, HasSeenAll, Pairwise, all_own}
+use Rattle.workers.specs.Shifts.{Visit, Shift, AttendsInTurn, HasAttended, WorksFrom, HasWorked, HaveWorked, GainsByAttending}
+use Rattle.workers.proofs.SharesLemmas.{grown_self, grown_on, grown_seen, seen_on, written_whole}
 
 -- ---- visits
 
@@ -67,25 +69,42 @@ module _ {A : Type 0} (P : A → A → Type 0) where
     pairwise_at xs ys (omega (arith, len)) (λ i d l. each (suc i) d (omega (arith, l))),
   )
 
-module _ {X B A E R : Type 0} where
-  -- jobs that are the same are alike
-  pub closed_alike : {a x : Job X B A E R} → a ≡ x → IsClosedAt a → IsClosedAt x
-  closed_alike p h = subst IsClosedAt p h
+-- ---- what the workers left
 
-  -- each of them is closed
-  pub closed_each : (js ks : List (Job X B A E R)) → length ks ≡ length js
-      → ((i : ℕ) (d : Job X B A E R) → i < length js → IsClosedAt (slice_index_or ks i d)) → All IsClosedAt ks
-  closed_each [] [] len each = All-nil IsClosedAt
-  closed_each [] (k ∷ ks) len each = absurd (omega (arith, len))
-  closed_each (j ∷ js) [] len each = absurd (omega (arith, len))
-  closed_each (j ∷ js) (k ∷ ks) len each = All-cons IsClosedAt k ks (each 0 j (omega arith))
-      (closed_each js ks (omega (arith, len)) (λ i d l. each (suc i) d (omega (arith, l))))
+module _ {X E R C B A : Type 0} (step : ℕ → E → X → R → X → Type 0) (desk : TableId)
+    (attends : DeskSeat X E R → C → B → DeskSeat X E R → A → B → Type 0) where
+  -- a worker has done its job
+  abbrev pub IsDone : Job X B A E R → Job X B A E R → Type 0
+  IsDone before after = IsSeatedAt step desk after × IsClosedAt after × HasWorked attends before after
 
-module _ {X E R C B A : Type 0} {attends : DeskSeat X E R → C → B → DeskSeat X E R → A → B → Type 0} where
-  pub worked_alike : {a b x y : Job X B A E R} → a ≡ x → b ≡ y → HasWorked attends a b → HasWorked attends x y
-  worked_alike {a = a} {y = y} p q h =
-      subst (λ (j : Job X B A E R). HasWorked attends j y) p
-      (subst (λ (k : Job X B A E R). HasWorked attends a k) q h)
+  -- all workers have done theirs
+  pub record AreDone (before after : List (Job X B A E R)) : Type 0 where
+    pub seated : AreSeated step desk after
+    pub closed : All IsClosedAt after
+    pub worked : HaveWorked attends before after
+
+  -- what is done at each place is done by all
+  are_done : (before after : List (Job X B A E R)) → length after ≡ length before
+      → ((i : ℕ) (d : Job X B A E R) → i < length before → IsDone (slice_index_or before i d) (slice_index_or after i d))
+      → AreDone before after
+  are_done before after len each = record {
+    seated = λ k d l. (each k d (omega (arith, len, l))).0;
+    closed = λ k d l. (each k d (omega (arith, len, l))).1;
+    worked = pairwise_at (HasWorked attends) before after len (λ i d l. (each i d l).2);
+  }
+
+  -- each call of f does a job, and f was called with each
+  pub left_done : {F : Type 0} (g : Shared F (ℕ × (MutBor (Job X B A E R) × Unit {0})) (Unit {0} × (MutBor (Job X B A E R) × Unit {0}))) (f : F)
+      → ((i : ℕ) (p q : MutBor (Job X B A E R)) → g.post f (i, (p, tt)) (tt, (q, tt)) → IsDone p.now q.now)
+      → {n : ℕ} {before now : List (Job X B A E R)} (new : List (Job X B A E R)) → now ≡ before → length before ≡ n → length new ≡ length now
+      → ChangesEach g f now new → AreDone before (take n (new ++ drop (length new) before))
+  left_done g f does {n} {before} {now} new same many len each =
+      subst (λ l. AreDone l (take n (new ++ drop (length new) before))) same
+      (subst (AreDone now) (written_whole n new before (omega (arith, len, ap length same, many)) many)
+      (are_done now new len (λ i d l.
+      let at = (each i d l).1 in
+      subst (λ (j : Job X B A E R). IsDone j (slice_index_or new i d)) at.argument_is
+      (subst (λ (k : Job X B A E R). IsDone at.argument.now k) at.left (does i at.argument at.after_call at.call)))))
 
 -- ---- shifts
 
@@ -126,13 +145,6 @@ module _ {X E R C B A : Type 0} (attends : DeskSeat X E R → C → B → DeskSe
         later = ap (λ l. known_to k.seat ∷ l) rest.later;
       }
 
-  -- the same lists
-  pub worked_as : {js mid later ks : List (Job X B A E R)} → mid ≡ js → later ≡ ks
-      → HaveWorked attends mid later → HaveWorked attends js ks
-  worked_as {js = js} {later = later} p q h =
-      subst (λ (l : List (Job X B A E R)). HaveWorked attends js l) q
-      (subst (λ (l : List (Job X B A E R)). HaveWorked attends l later) p h)
-
   -- workers that attended have grown
   pub have_grown : (before after : List (Job X B A E R)) → HaveWorked attends before after
       → HaveGrown (known_to_all before) (known_to_all after)
@@ -145,9 +157,9 @@ module _ {X E R C B A : Type 0} (attends : DeskSeat X E R → C → B → DeskSe
   pub served_of : (before after : List (Job X B A E R)) {seat joined back : DeskSeat X E R} {last left : B}
       → HaveWorked attends before after → All HasNone (known_to_all before)
       → HasSeenAll (known_to joined) (known_to_all after)
-      → (known_to joined).own ≡ (known_to seat).own ++ owned (known_to_all after)
+      → (known_to joined).own ≡ (known_to seat).own ++ all_own (known_to_all after)
       → WorksFrom attends joined last back left
-      → IsServed attends (map bench_of before ++ last ∷ []) seat back
+      → GainsByAttending attends (map bench_of before ++ last ∷ []) seat back
   served_of before after {seat} {joined} {back} {last} {left} worked none seen own rest =
       let s = shifts_of before after worked none in record {
         shifts = s.shifts;
@@ -158,6 +170,6 @@ module _ {X E R C B A : Type 0} (attends : DeskSeat X E R → C → B → DeskSe
         each_bench = ap (λ l. l ++ last ∷ []) s.benches;
         seen = subst (λ l. HasSeenAll (known_to back) l) (sym s.later)
             (seen_on (known_to joined) (known_to back) (known_to_all after) (grown_seen rest.attended.grew) seen);
-        gained = own ∙ ap (λ l. (known_to seat).own ++ owned l) (sym s.later);
+        gained = own ∙ ap (λ l. (known_to seat).own ++ all_own l) (sym s.later);
         back_is = refl;
       }

@@ -35,7 +35,7 @@ pub record GateData (D : Type 0) : Type 0 where
   pub left : Option ℕ
   pub ending : Option Ending
 
--- it gives no more connections
+-- The gate gives no more connections.
 abbrev pub HasEnded : Option Ending → Type 0
 HasEnded ending = (why : Ending) × (ending ≡ Some why)
 

@@ -15,7 +15,7 @@ module _ {X B A E R : Type 0} where
   abbrev pub bench_of : Job X B A E R → B
   bench_of job = job.bench
 
-  -- its worker has what the gate gave at its end
+  -- The worker of the job has what the gate gave at its end.
   abbrev pub IsClosedAt : Job X B A E R → Type 0
   IsClosedAt job = IsSome job.closed
 
@@ -23,6 +23,6 @@ module _ {X B A E R : Type 0} where
   abbrev pub IsSeatedAt : (ℕ → E → X → R → X → Type 0) → TableId → Job X B A E R → Type 0
   IsSeatedAt step desk job = IsSeated step desk job.seat
 
-  -- their seats are of this desk, and stand between two questions
+  -- The seats of the jobs are of this desk, and stand between two questions.
   abbrev pub AreSeated : (ℕ → E → X → R → X → Type 0) → TableId → List (Job X B A E R) → Type 0
   AreSeated step desk jobs = All (IsSeatedAt step desk) jobs

@@ -10,7 +10,7 @@ use Rattle.workers.specs.declared.serving.ServeFault.{ServeFault}
 use Rattle.workers.specs.declared.serving.ServeFault.TheVariants.{DoorFault, OutOfMemory}
 use Rattle.workers.specs.Gate.{DoorTold, TakesConnections, ServesDoor}
 use Rattle.workers.specs.Shares.{HasComeBack}
-use Rattle.workers.specs.Shifts.{IsServed}
+use Rattle.workers.specs.Shifts.{GainsByAttending}
 
 -- the seat that comes back, whether or not something failed
 abbrev pub seat_after : {S D : Type 0} → Result (S × D) (S × D × ServeFault) → S
@@ -27,14 +27,14 @@ pub record EndsServing {X E R D C B A : Type 0} (step : ℕ → E → X → R �
   -- without a fault the seat has come back
   pub back : IfOk result (λ r. HasComeBack step desk (known_to seat) r.0)
   -- what it has gained is what attending gave
-  pub attended : IfOk result (λ r. IsServed attends benches seat r.0)
+  pub attended : IfOk result (λ r. GainsByAttending attends benches seat r.0)
   -- and the door gave None, or as many connections as were to be accepted, where it tells that
   pub ok : IfOk result (λ r. ServesDoor accept (told door) (told r.1))
   -- where the door failed the seat has come back too
   pub back_at_fault : IfErr result
       (λ e. e.2 ≡ DoorFault → HasComeBack step desk (known_to seat) e.0)
   pub attended_at_fault : IfErr result
-      (λ e. e.2 ≡ DoorFault → IsServed attends benches seat e.0)
+      (λ e. e.2 ≡ DoorFault → GainsByAttending attends benches seat e.0)
   -- it failed in this call, and gave no more connections before than were to be accepted
   pub fault : IfErr result
       (λ e. e.2 ≡ DoorFault → TakesConnections accept (Some Fault) (told door) (told e.1))

@@ -36,10 +36,10 @@ module _ {X E R : Type 0} where
     pub all : v.share * number ≡ total (λ n. n) weights * v.whole
 
   -- whatever part these seats add up to, those do
-  abbrev pub Carries : List (View X E R) → List (View X E R) → Type 0
-  Carries views others = (v : View X E R) → AddUpTo v views → AddUpTo v others
+  abbrev pub PassesOn : List (View X E R) → List (View X E R) → Type 0
+  PassesOn views others = (v : View X E R) → AddUpTo v views → AddUpTo v others
 
-  -- it asked, and others did
+  -- The seat asked, and others did.
   abbrev pub HasGrown : View X E R → View X E R → Type 0
   HasGrown before after = (more : List (Marked E R)) × Grows before more after
 
@@ -47,18 +47,18 @@ module _ {X E R : Type 0} where
   abbrev pub HaveGrown : List (View X E R) → List (View X E R) → Type 0
   HaveGrown before after = Pairwise HasGrown before after
 
-  -- it has no entries of its own
+  -- The seat has no entries of its own.
   abbrev pub HasNone : View X E R → Type 0
   HasNone v = v.own ≡ []
 
-  -- it has seen all that these have
+  -- The seat has seen all that these seats have.
   abbrev pub HasSeenAll : View X E R → List (View X E R) → Type 0
   HasSeenAll v views = All (λ w. Begins v.seen w.seen) views
 
-  -- their own entries, one seat after another
-  abbrev pub owned : List (View X E R) → List ℕ
-  owned [] = []
-  owned (v ∷ views) = v.own ++ owned views
+  -- The own entries of these seats, one seat after another.
+  abbrev pub all_own : List (View X E R) → List ℕ
+  all_own [] = []
+  all_own (v ∷ views) = v.own ++ all_own views
 
   -- A seat has come of this one and of those that were split off it: it is of this desk and stands
   -- between two questions, went on from this one, and has the parts of all.
@@ -66,7 +66,7 @@ module _ {X E R : Type 0} where
       (kept : View X E R) (others : List (View X E R)) (seat : DeskSeat X E R) : Type 0 where
     pub seated : IsSeated step desk seat
     pub on : HasGoneOn kept (known_to seat)
-    pub parts : Carries (kept ∷ others) (known_to seat ∷ [])
+    pub parts : PassesOn (kept ∷ others) (known_to seat ∷ [])
 
   -- A seat has come back to who lent one that knew this: it is of this desk and stands between two
   -- questions, went on from that one, and has the part again that it had.

@@ -1,12 +1,10 @@
 -- What workers do at their seats: they attend to connections, one after another.
-use Rattle.std.specs.Prelude.{◌≡◌, ℕ, List, [], ◌∷◌, ◌++◌, map}
+use Rattle.std.specs.Prelude.{◌≡◌, List, [], ◌∷◌, ◌++◌, map}
 use Rattle.std.specs.List.{All}
-use Rattle.atomic_table.specs.Seated.{TableId}
 use Rattle.turn_desk.specs.declared.shared.DeskSeat.{DeskSeat}
-use Rattle.turn_desk.specs.declared.view.View.{View}
 use Rattle.turn_desk.specs.Seats.{known_to}
 use Rattle.workers.specs.declared.sharing.Job.{Job}
-use Rattle.workers.specs.Shares.{HasGrown, HasNone, HasSeenAll, Pairwise, owned}
+use Rattle.workers.specs.Shares.{HasGrown, HasNone, HasSeenAll, Pairwise, all_own}
 
 -- a connection as it came, and as it was when it had been attended to
 pub record Visit (C A : Type 0) : Type 0 where
@@ -34,7 +32,8 @@ module _ {X E R C B A : Type 0}
   -- A shift: the connections of its visits were attended to, one after another, and by nothing
   -- else the seat grew.
   pub record HasAttended (shift : Shift (DeskSeat X E R) C B A) : Type 0 where
-    pub attends_all : AttendsInTurn attends shift.seat shift.bench shift.visits shift.later shift.left
+    pub attends_all : AttendsInTurn attends shift.seat shift.bench shift.visits shift.later
+        shift.left
     pub grew : HasGrown (known_to shift.seat) (known_to shift.later)
 
   -- a shift came of a seat and a bench
@@ -59,7 +58,7 @@ module _ {X E R C B A : Type 0}
 
   -- The entries that a seat has gained are those that attending gave: at seats that were split off
   -- it, which had none before, one for each bench but the last, and then at the seat itself.
-  pub record IsServed (benches : List B) (lent back : DeskSeat X E R) : Type 0 where
+  pub record GainsByAttending (benches : List B) (lent back : DeskSeat X E R) : Type 0 where
     pub shifts : List (Shift (DeskSeat X E R) C B A)
     pub last : Shift (DeskSeat X E R) C B A
     pub worked : All HasAttended shifts
@@ -68,5 +67,5 @@ module _ {X E R C B A : Type 0}
     pub each_bench : map (λ s. s.bench) shifts ++ last.bench ∷ [] ≡ benches
     pub seen : HasSeenAll (known_to back) (map (λ s. known_to s.later) shifts)
     pub gained : (known_to last.seat).own
-        ≡ (known_to lent).own ++ owned (map (λ s. known_to s.later) shifts)
+        ≡ (known_to lent).own ++ all_own (map (λ s. known_to s.later) shifts)
     pub back_is : last.later ≡ back

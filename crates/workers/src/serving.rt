@@ -1,7 +1,6 @@
 //! The workers.
 ghost use Rattle.std.specs.Prelude.{◌≡◌, ◌<◌, ◌≤◌, ◌++◌, ◌∷◌, [], map, vec_len, Some};
 ghost use Rattle.std.specs.Prelude.{IfOk, IfErr};
-ghost use Rattle.std.specs.Fork.{AcceptsEach, ChangesEach};
 ghost use Rattle.std.specs.List.{All};
 ghost use Rattle.turn_desk.specs.Seats.{IsSeated, known_to};
 ghost use Rattle.workers.specs.declared.gate.Ending.TheVariants.{Fault};
@@ -9,7 +8,7 @@ ghost use Rattle.workers.specs.Gate.{HasEnded, TakesConnections, ServesDoor, doo
 ghost use Rattle.workers.specs.Jobs.{known_to_all, bench_of, AreSeated, IsClosedAt};
 ghost use Rattle.workers.specs.Serving.{EndsServing, seat_after};
 ghost use Rattle.workers.specs.Shares.{HasNone, IsJoinedOf};
-ghost use Rattle.workers.specs.Shifts.{WorksFrom, HasWorked, HaveWorked, IsServed};
+ghost use Rattle.workers.specs.Shifts.{WorksFrom, HasWorked, HaveWorked, GainsByAttending};
 
 use crate::gate::{Entrance, Gate};
 use crate::service::Service;
@@ -63,59 +62,6 @@ where
         }
     }
     unreachable!()
-}
-
-/// Has this done with each job, in a thread of its own where one can be made.
-fn each_job<R, O, B, A, F>(rt: &R, jobs: &mut [Job<O, B, A>], threads: usize, f: &F)
-where
-    R: Threads + Sync,
-    O: Object + Send,
-    O::Event: Send,
-    O::Outcome: Send,
-    B: Send,
-    A: Send,
-    F: Fn(usize, &mut Job<O, B, A>) + Sync,
-    requires threads { 0 < threads }
-    requires accepts { AcceptsEach F.Fn f.now jobs.old }
-    ensures { ChangesEach F.Fn f.now jobs.old jobs.new }
-{
-    for_each_mut(rt, jobs, threads, f);
-}
-
-/// Has each worker do its job.
-fn work_all<R, O, D, B, A, V, J>(
-    rt: &R,
-    desk: &TurnDesk<O, R>,
-    gate: &Mutex<Gate<D, J>>,
-    service: &V,
-    jobs: &mut [Job<O, B, A>],
-)
-where
-    R: Wait + Threads + Sync,
-    O: Object + Send,
-    O::Event: Send,
-    O::Outcome: Send,
-    D: Door + Send,
-    A: Drop + Send,
-    V: Service<TurnDesk<O, R>, D::Conn, B, A> + Sync,
-    J: Entrance + Send + Sync,
-    B: Send + Drop,
-    requires { AreSeated O.step desk.now.table.shared.table_id jobs.old }
-    ensures seats { AreSeated O.step desk.now.table.shared.table_id jobs.new }
-    ensures closed { All IsClosedAt jobs.new }
-    ensures attended { HaveWorked V.attends jobs.old jobs.new }
-{
-    let threads = jobs.len().max(1);
-    each_job(
-        rt,
-        jobs,
-        threads,
-        &|_place: usize, job: &mut Job<O, B, A>|
-            requires { IsSeated O.step desk.now.table.shared.table_id job.old.seat }
-            ensures { IsSeated O.step desk.entry.now.table.shared.table_id job.new.seat
-                × IsClosedAt job.new × HasWorked V.attends job.old job.new }
-        { work(rt, desk, gate, service, job) },
-    );
 }
 
 /// Takes what the gate still gives, with no lock, and has each connection attended to, until it is
@@ -178,7 +124,7 @@ where
     requires accept { accept ≡ J.accept }
     ensures comes { IsJoinedOf O.step desk.now.table.shared.table_id (known_to seat)
         (known_to_all jobs.items) (seat_after result) }
-    ensures attended { IsServed V.attends (map bench_of jobs.items ++ last ∷ []) seat
+    ensures attended { GainsByAttending V.attends (map bench_of jobs.items ++ last ∷ []) seat
         (seat_after result) }
     ensures ok { IfOk result (λ r. ServesDoor J.accept J.start
         (door_tells D.opened D.given D.ended D.faults r.1)) }
@@ -187,7 +133,18 @@ where
     ensures cause { IfErr result (λ e. e.2 ≡ ServeFault.DoorFault) }
 {
     let gate: Mutex<Gate<D, J>> = Mutex::new(Gate::new(door, accept));
-    work_all(rt, desk, &gate, service, &mut jobs);
+    let shared = &gate;
+    let threads = jobs.len().max(1);
+    for_each_mut(
+        rt,
+        &mut jobs,
+        threads,
+        &|_place: usize, job: &mut Job<O, B, A>|
+            requires { IsSeated O.step desk.now.table.shared.table_id job.old.seat }
+            ensures { IsSeated O.step desk.entry.now.table.shared.table_id job.new.seat
+                × IsClosedAt job.new × HasWorked V.attends job.old job.new }
+        { work(rt, desk, shared, service, job) },
+    );
     let mut seat = joined_seat(desk, seat, jobs);
     let mut gate = gate.into_inner();
     serve_rest(rt, desk, &mut gate, service, &mut seat, &mut last);

@@ -4,7 +4,7 @@ ghost use Rattle.std.specs.List.{All};
 ghost use Rattle.turn_desk.specs.Seats.{IsSeated, known_to};
 ghost use Rattle.turn_desk.specs.Shared.{halved, sibling};
 ghost use Rattle.workers.specs.Jobs.{known_to_all, bench_of, IsSeatedAt, AreSeated, IsClosedAt};
-ghost use Rattle.workers.specs.Shares.{HasGoneOn, AddUpTo, Carries, HasSeenAll, owned, HasNone};
+ghost use Rattle.workers.specs.Shares.{HasGoneOn, AddUpTo, PassesOn, HasSeenAll, all_own, HasNone};
 
 use crate::gate::Closed;
 use std::alloc::{AllocError as OutOfMemory, Global};
@@ -92,8 +92,8 @@ pub(crate) fn joined_seat<O: Object, R, B: Drop, A>(
     ensures on { HasGoneOn (known_to seat) (known_to result) }
     ensures seen { HasSeenAll (known_to result) (known_to_all jobs.items) }
     ensures own { (known_to result).own
-        ≡ (known_to seat).own ++ owned (known_to_all jobs.items) }
-    ensures parts { Carries (known_to seat ∷ known_to_all jobs.items)
+        ≡ (known_to seat).own ++ all_own (known_to_all jobs.items) }
+    ensures parts { PassesOn (known_to seat ∷ known_to_all jobs.items)
         (known_to result ∷ []) }
 {
     let mut all = seat;

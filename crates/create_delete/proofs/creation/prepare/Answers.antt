@@ -4,9 +4,9 @@ use Rattle.tree_model.specs.Tree.{has}
 use Rattle.tree_model.proofs.TreeLemmas.{at_has}
 use Rattle.request_rules.specs.Creation.{Creation, new_resource}
 use Rattle.request_rules.specs.Judged.{creation_for}
-use Rattle.create_delete.specs.Changing.{after_joining, filling_of}
+use Rattle.create_delete.specs.Changing.{after_joining, container_update_of}
 use Rattle.create_delete.specs.Joining.{MayJoin}
-use Rattle.create_delete.specs.declared.joining.Filling.{Filling}
+use Rattle.create_delete.specs.declared.joining.ContainerUpdate.{ContainerUpdate}
 use Rattle.create_delete.proofs.CreatedLemmas.{may_join}
 use Rattle.create_delete.proofs.creation.prepare.Goals as goal
 
@@ -19,13 +19,13 @@ created_content-requires g c =
 -- it may join as it is defined
 pub returns-clause-may : goal.returns-clause-may
 returns-clause-may g c =
-    let made : Creation = creation_for c.args.entity.now c.args.o.now c.args.create.now in
-    let joins : MayJoin made.e (new_resource made) (filling_of made) = may_join made c.requires.sound c.requires.originator c.entries-entries.ensures.sorted c.requires.allowed in
-    subst (λ (r : ResourceData). MayJoin made.e r c.in_ok-filling.filling) (sym c.in_ok-resource.ensures)
-    (subst (λ (f : Option Filling). MayJoin made.e (new_resource made) f) (sym (c.in_ok-filling.ensures c.args.o.now)) joins)
+    let made : Creation = creation_for c.args.entity.now c.args.originator.now c.args.create.now in
+    let joins : MayJoin made.e (new_resource made) (container_update_of made) = may_join made c.requires.sound c.requires.originator c.entries-entries.ensures.sorted c.requires.allowed in
+    subst (λ (r : ResourceData). MayJoin made.e r c.in_ok-update.update) (sym c.in_ok-resource.ensures)
+    (subst (λ (f : Option ContainerUpdate). MayJoin made.e (new_resource made) f) (sym (c.in_ok-update.ensures c.args.originator.now)) joins)
 
 pub returns-clause-after : goal.returns-clause-after
 returns-clause-after g c =
-    let made : Creation = creation_for c.args.entity.now c.args.o.now c.args.create.now in
-    ap (λ (r : ResourceData). after_joining made.e r c.in_ok-filling.filling) c.in_ok-resource.ensures
-    ∙ ap (after_joining made.e (new_resource made)) (c.in_ok-filling.ensures c.args.o.now)
+    let made : Creation = creation_for c.args.entity.now c.args.originator.now c.args.create.now in
+    ap (λ (r : ResourceData). after_joining made.e r c.in_ok-update.update) c.in_ok-resource.ensures
+    ∙ ap (after_joining made.e (new_resource made)) (c.in_ok-update.ensures c.args.originator.now)

@@ -3,7 +3,7 @@ use Rattle.tree_model.specs.Tree.{DoAscend}
 use Rattle.tree_model.proofs.GrowthLemmas.{tree_from_well_formed}
 use Rattle.entity_model.specs.Entity.{EntityData}
 use Rattle.create_delete.specs.Changing.{pushed_by}
-use Rattle.create_delete.specs.Newcomer.{IsReplacement}
+use Rattle.create_delete.specs.NewResource.{IsReplacement}
 use Rattle.create_delete.proofs.PushingLemmas.{pushed_ascend}
 use Rattle.create_delete.proofs.UpdatedLemmas.{updated_after}
 use Rattle.create_delete.proofs.updating.apply.Goals as goal

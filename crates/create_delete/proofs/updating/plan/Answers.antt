@@ -3,11 +3,11 @@ use Rattle.create_delete.proofs.updating.plan.Goals as goal
 
 pub prepare-requires-clause-allowed : goal.prepare-requires-clause-allowed
 prepare-requires-clause-allowed g c =
-    update_allowed c.args.entity.now c.args.o.now c.args.request.now c.args.target c.in_ok-update.update c.in_ok-update.ensures.0 c.in_ok-update.ensures.1
+    update_allowed c.args.entity.now c.args.originator.now c.args.request.now c.args.target c.in_ok-update.update c.in_ok-update.ensures.0 c.in_ok-update.ensures.1
 
 pub returns : goal.returns
 returns g c = (
   c.in_ok-update.ensures.0,
-  update_prepared c.args.entity.now c.args.o.now c.args.request.now c.args.target c.in_ok-update.update c.in_ok-update.ensures.0 c.in_ok-update.ensures.1
+  update_prepared c.args.entity.now c.args.originator.now c.args.request.now c.args.target c.in_ok-update.update c.in_ok-update.ensures.0 c.in_ok-update.ensures.1
       c.in_ok-prepare.field-0 c.in_ok-prepare.ensures.may c.in_ok-prepare.ensures.same c.in_ok-prepare.ensures.gone c.in_ok-prepare.ensures.reply c.in_ok-prepare.ensures.after,
 )

@@ -1,7 +1,7 @@
 use Rattle.std.proofs.Common.{sym, ap, subst}
 use Rattle.resource_model.specs.Resource.{ResourceData}
 use Rattle.create_delete.specs.Changing.{nodes_updated}
-use Rattle.create_delete.specs.Newcomer.{IsReplacement}
+use Rattle.create_delete.specs.NewResource.{IsReplacement}
 use Rattle.create_delete.proofs.ReplacementLemmas.{replacement}
 use Rattle.create_delete.proofs.updating.prepare.Goals as goal
 

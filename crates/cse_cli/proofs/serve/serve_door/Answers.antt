@@ -1,29 +1,26 @@
-use Rattle.std.proofs.Common.{ℕ, List, Some, refl, sym, subst, inl, inr}
+use Rattle.std.proofs.Common.{ℕ, List, Some, sym, subst}
 use denote.Param.Send.{sendable}
 use Rattle.m2m_io.specs.Told.{Tells}
 use Rattle.workers.specs.Gate.{door_tells}
-use Rattle.cse_cli.proofs.EntitiesSent.{served_list_send}
-use Rattle.cse_cli.proofs.ServeLemmas.{opens_none, opens_open}
+use Rattle.cse_cli.proofs.EntitiesSent.{served_tree_send}
+use Rattle.cse_cli.proofs.ServeLemmas.{opens_starved, opens_none, opens_open}
 use Rattle.cse_cli.proofs.serve.serve_door.Goals as goal
 
 -- memory ran out before the door was opened
 pub returns-in_default-clause-opens : goal.returns-in_default-clause-opens
-returns-in_default-clause-opens g c = opens_none c.now-reading.result c.now-reading.ensures (inl (refl, refl))
+returns-in_default-clause-opens g c = opens_starved c.now-reading.result c.now-reading.ensures
 
 pub returns-in_default-clone-clause-opens : goal.returns-in_default-clone-clause-opens
-returns-in_default-clone-clause-opens g c = opens_none c.now-reading.result c.now-reading.ensures (inl (refl, refl))
+returns-in_default-clone-clause-opens g c = opens_starved c.now-reading.result c.now-reading.ensures
 
 -- the door didn't open
 pub returns-in-Err-clause-opens : goal.returns-in-Err-clause-opens
-returns-in-Err-clause-opens g c = opens_none c.now-reading.result c.now-reading.ensures (inr (inl (
-  refl,
-  record {
-    opened = c.in-Err.ensures.err;
-    given = c.open.ensures.given;
-    ended = c.open.ensures.ended;
-    fault = c.in-Err.ensures.faults.cause;
-  },
-)))
+returns-in-Err-clause-opens g c = opens_none c.now-reading.result c.now-reading.ensures (record {
+  opened = c.in-Err.ensures.err;
+  given = c.open.ensures.given;
+  ended = c.open.ensures.ended;
+  fault = c.in-Err.ensures.faults.cause;
+})
 
 -- it opened, and was served
 pub returns-clause-opens : goal.returns-clause-opens
@@ -33,8 +30,7 @@ returns-clause-opens g c =
     (subst (λ (at : List ℕ). Tells (λ _. Some at) (g.D.Door.opened c.args.door) (g.D.Door.opened c.open.new.self)) c.as_bytes.ensures.value opened.ok)
     opened.given opened.ended opened.faults.steady
     (rw (sym c.benches_for.ensures.front, sym c.in-Ok.ensures) c.serve_at_desk.ensures.serves)
-    c.serve_at_desk.ensures.first
 
 -- an entity goes from thread to thread
 pub serve_at_desk-requires-send-O : goal.serve_at_desk-requires-send-O
-serve_at_desk-requires-send-O g c κs within = search (sendable, served_list_send)
+serve_at_desk-requires-send-O g c κs within = search (sendable, served_tree_send)

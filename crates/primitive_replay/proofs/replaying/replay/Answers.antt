@@ -5,7 +5,7 @@ use Rattle.m2m_io.specs.declared.status.Status.TheVariants.{ReadFault, WriteFaul
 use Rattle.entity_model.specs.Entity.{EntityData}
 use Rattle.entity_model.specs.Opening.{opening}
 use Rattle.primitive_replay.specs.Way.{ReplaysUpTo}
-use Rattle.primitive_replay.proofs.TurnLemmas.{goes_none, is_none, next_goes, starved_first}
+use Rattle.primitive_replay.proofs.TurnLemmas.{ended_at_line, goes_none, is_none, next_goes, starved_first}
 use Rattle.primitive_replay.proofs.WayLemmas.{ReplaysUpTo-then, Replays-then}
 use Rattle.primitive_replay.proofs.replaying.replay.Goals as goal
 
@@ -51,3 +51,12 @@ loop-place-preserved g c =
       read_steady = c.replay_next.ensures.reads.steady (on ReadFault) ∙ c.loop-place.invariant.read_steady;
       write_steady = c.replay_next.ensures.writes.steady (on WriteFault) ∙ c.loop-place.invariant.write_steady;
     }
+
+-- the count of faults is at the start of each line what it was at the first one
+pub returns-in-Some-clause-reads : goal.returns-in-Some-clause-reads
+returns-in-Some-clause-reads g c =
+    ended_at_line ReadFault c.in-Some.status _ _ _ c.loop-place.invariant.read_steady c.in-Some.ensures.reads
+
+pub returns-in-Some-clause-writes : goal.returns-in-Some-clause-writes
+returns-in-Some-clause-writes g c =
+    ended_at_line WriteFault c.in-Some.status _ _ _ c.loop-place.invariant.write_steady c.in-Some.ensures.writes

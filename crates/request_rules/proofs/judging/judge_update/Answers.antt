@@ -6,4 +6,4 @@ use Rattle.request_rules.proofs.judging.judge_update.Goals as goal
 
 pub returns-in-Some : goal.returns-in-Some
 returns-in-Some g c =
-    judges_at c.judge_on.result Update c.args.entity.now c.args.o.now c.args.request.now c.args.target c.in-Some.target.now (IsUpdateOf c.args.entity.now c.args.request.now) (sym c.in-Some.ensures.value) c.judge_on.ensures
+    judges_at c.judge_on.result Update c.args.entity.now c.args.originator.now c.args.request.now c.args.target c.in-Some.target.now (IsUpdateOf c.args.entity.now c.args.request.now) (sym c.in-Some.ensures.value) c.judge_on.ensures

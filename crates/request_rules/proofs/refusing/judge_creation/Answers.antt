@@ -5,10 +5,10 @@ use Rattle.request_rules.proofs.refusing.judge_creation.Goals as goal
 
 pub returns-then-not-has_room : goal.returns-then-not-has_room
 returns-then-not-has_room g c =
-    new_by_room (creation_of c.args.entity.now c.args.o.now c.args.ty c.args.parent.now c.args.members.now)
-    (sym c.in_ok-is_unique.ensures ∙ c.if-not-branch.false) (sym (c.has_room.ensures c.args.o.now) ∙ c.if-not-has_room.true)
+    new_by_room (creation_of c.args.entity.now c.args.originator.now c.args.ty c.args.parent.now c.args.members.now)
+    (sym c.in_ok-is_unique.ensures ∙ c.if-not-branch.false) (sym (c.has_room.ensures c.args.originator.now) ∙ c.if-not-has_room.true)
 
 pub returns : goal.returns
 returns g c =
-    new_by_nothing (creation_of c.args.entity.now c.args.o.now c.args.ty c.args.parent.now c.args.members.now)
-    (sym c.in_ok-is_unique.ensures ∙ c.if-not-branch.false) (sym (c.has_room.ensures c.args.o.now) ∙ c.if-not-has_room.false)
+    new_by_nothing (creation_of c.args.entity.now c.args.originator.now c.args.ty c.args.parent.now c.args.members.now)
+    (sym c.in_ok-is_unique.ensures ∙ c.if-not-branch.false) (sym (c.has_room.ensures c.args.originator.now) ∙ c.if-not-has_room.false)

@@ -1,10 +1,10 @@
-use Rattle.std.proofs.Common.{◌≡◌, ◌∷◌, ◌++◌, [], length, rules, refl, sym, ap, subst, ◌∙◌, append-nil, arith}
+use Rattle.std.proofs.Common.{◌≡◌, ◌∷◌, ◌++◌, [], length, rules, sym, ap, subst, ◌∙◌, append-nil, arith}
 use Rattle.std.specs.List.{All}
 use Rattle.std.specs.Vec.Iter.{into_iter_items}
 use Rattle.std.proofs.lemmas.List.Elements.{All-head, All-tail}
 use Rattle.turn_desk.specs.Seats.{known_to}
 use Rattle.workers.specs.Jobs.{known_to_all, IsSeatedAt, AreSeated, IsClosedAt}
-use Rattle.workers.specs.Shares.{AddUpTo, owned}
+use Rattle.workers.specs.Shares.{AddUpTo, all_own}
 use Rattle.workers.proofs.SharesLemmas.{on_self, on_on, on_joined, add_join, nothing_left, Sees, sees_joined, sees_all, own_joined}
 use Rattle.workers.proofs.sharing.joined_seat.Goals as goal
 
@@ -15,7 +15,7 @@ loop-job-init g c =
       subst (AreSeated g.O.Object.step c.args.desk.now.table.shared.table_id) (sym items) c.requires.jobs,
       subst (All IsClosedAt) (sym items) c.requires.closed,
       subst (λ l. Sees (known_to c.args.seat) (known_to_all l) (known_to_all c.args.jobs.items)) (sym items) (λ seen on all. all),
-      ap (λ l. (known_to c.args.seat).own ++ owned (known_to_all l)) items,
+      ap (λ l. (known_to c.args.seat).own ++ all_own (known_to_all l)) items,
       on_self _,
       λ v a. subst (λ l. AddUpTo v (known_to c.args.seat ∷ known_to_all l)) (sym items) a,
       search rules,
@@ -39,7 +39,7 @@ loop-job-preserved g c =
       All-tail (IsSeatedAt g.O.Object.step c.args.desk.now.table.shared.table_id) _ _ all,
       All-tail IsClosedAt _ _ (subst (All IsClosedAt) steps at.invariant.2),
       sees_joined (known_to_all (into_iter_items c.next.new.self)) (known_to_all c.args.jobs.items) j (subst (λ l. Sees (known_to at.all) (known_to_all l) (known_to_all c.args.jobs.items)) steps at.invariant.3),
-      own_joined (known_to_all (into_iter_items c.next.new.self)) j (sym (ap (λ l. (known_to at.all).own ++ owned (known_to_all l)) steps) ∙ at.invariant.4),
+      own_joined (known_to_all (into_iter_items c.next.new.self)) j (sym (ap (λ l. (known_to at.all).own ++ all_own (known_to_all l)) steps) ∙ at.invariant.4),
       on_on _ _ _ at.invariant.5 (on_joined _ _ _ j),
       λ v a. add_join v _ _ _ _ j (subst (λ l. AddUpTo v (known_to at.all ∷ known_to_all l)) steps (at.invariant.6 v a)),
       let was = at.invariant.7 in
@@ -61,7 +61,7 @@ returns-clause-own g c =
     let none = c.in-None.ensures.steps in
     let empty : into_iter_items at.job-iterator ≡ [] = nothing_left _ (sym at.invariant.7 ∙ none.0) in
     sym (append-nil (known_to at.all).own)
-    ∙ sym (ap (λ l. (known_to at.all).own ++ owned (known_to_all l)) empty) ∙ at.invariant.4
+    ∙ sym (ap (λ l. (known_to at.all).own ++ all_own (known_to_all l)) empty) ∙ at.invariant.4
 
 pub returns-clause-parts : goal.returns-clause-parts
 returns-clause-parts g c =

@@ -3,7 +3,7 @@ use Rattle.std.specs.List.{All}
 use Rattle.std.specs.Vec.Iter.{into_iter_items, into_iter_len}
 use Rattle.turn_desk.specs.Seats.{IsSeated, known_to}
 use Rattle.workers.specs.Jobs.{known_to_all, AreSeated, IsClosedAt}
-use Rattle.workers.specs.Shares.{HasGoneOn, Carries, owned}
+use Rattle.workers.specs.Shares.{HasGoneOn, PassesOn, all_own}
 use Rattle.workers.proofs.SharesLemmas.{Sees}
 use Rattle.workers.proofs.sharing.joined_seat.Given as goal
 
@@ -14,9 +14,9 @@ invariant-loop-job g l =
     (into_iter_items l.job-iterator)
     × All IsClosedAt (into_iter_items l.job-iterator)
     × Sees (known_to l.all) (known_to_all (into_iter_items l.job-iterator)) (known_to_all l.fn.jobs.items)
-    × ((known_to l.all).own ++ owned (known_to_all (into_iter_items l.job-iterator))
-    ≡ (known_to l.fn.seat).own ++ owned (known_to_all l.fn.jobs.items))
+    × ((known_to l.all).own ++ all_own (known_to_all (into_iter_items l.job-iterator))
+    ≡ (known_to l.fn.seat).own ++ all_own (known_to_all l.fn.jobs.items))
     × HasGoneOn (known_to l.fn.seat) (known_to l.all)
-    × Carries (known_to l.fn.seat ∷ known_to_all l.fn.jobs.items)
+    × PassesOn (known_to l.fn.seat ∷ known_to_all l.fn.jobs.items)
     (known_to l.all ∷ known_to_all (into_iter_items l.job-iterator))
     × (into_iter_len l.job-iterator ≡ length (into_iter_items l.job-iterator))

@@ -1,0 +1,37 @@
+-- What comes of a request, by the order of refusals.
+use Rattle.std.proofs.Common.{◌≡◌, ℕ, List, false, Option, Some, None, refl, ap, ◌∙◌}
+use Rattle.std.specs.Option.{option_map_or}
+use Rattle.m2m_names.specs.declared.codes.Rsc.{Rsc}
+use Rattle.m2m_names.specs.declared.codes.Rsc.TheVariants.{NoPrivilege, NotFound}
+use Rattle.m2m_names.specs.declared.operations.Op.{Op}
+use Rattle.primitive_json.specs.declared.request.RequestParts.{RequestParts}
+use Rattle.resource_model.specs.Resource.{ResourceData}
+use Rattle.tree_model.specs.Tree.{at}
+use Rattle.tree_model.proofs.TreeLemmas.{at_number}
+use Rattle.entity_model.specs.Entity.{EntityData}
+use Rattle.entity_model.specs.Places.{refused}
+use Rattle.request_rules.specs.Order.{fault_on, fault_at}
+use Rattle.request_rules.specs.Rights.{may_do}
+use Rattle.request_rules.proofs.OrderLemmas.{nothing_on}
+use Rattle.create_delete.specs.Changing.{effect_by, effect_on, effect_at}
+
+refused_on : (op : Op) (e : EntityData) (o : List ℕ) (request : RequestParts) (found : Option ResourceData) (f : Rsc) → option_map_or (fault_on op e o request) found (Some NotFound) ≡ Some f → option_map_or (effect_on op e o request) found (refused e request NotFound) ≡ refused e request f
+refused_on op e o request None f is = ap (λ (x : Option Rsc). option_map_or (refused e request) x (refused e request NotFound)) is
+refused_on op e o request (Some t) f is = ap (λ (x : Option Rsc). option_map_or (refused e request) x (effect_by op e o request t)) is
+
+-- where a place refuses it, it is refused so
+pub refused_at : (op : Op) (e : EntityData) (o : List ℕ) (request : RequestParts) (n : ℕ) (f : Rsc) → fault_at op e o request n ≡ Some f → effect_at op e o request n ≡ refused e request f
+refused_at op e o request n f is = refused_on op e o request (at n e.nodes) f is
+
+-- it is done
+pub done_at : (op : Op) (e : EntityData) (o : List ℕ) (request : RequestParts) (n : ℕ) (t : ResourceData) → at n e.nodes ≡ Some t → fault_at op e o request n ≡ None → effect_at op e o request n ≡ effect_by op e o request t
+done_at op e o request n t there none =
+    ap (λ (x : Option ResourceData). option_map_or (effect_on op e o request) x (refused e request NotFound)) there
+    ∙ ap (λ (x : Option Rsc). option_map_or (refused e request) x (effect_by op e o request t)) (nothing_on op e o request n t there none)
+
+-- without the right it is refused for that
+pub no_right : (op : Op) (e : EntityData) (o : List ℕ) (request : RequestParts) (n : ℕ) (t : ResourceData) → at n e.nodes ≡ Some t → may_do op e o request n ≡ false → effect_at op e o request n ≡ refused e request NoPrivilege
+no_right op e o request n t there none =
+    let same : may_do op e o request t.number ≡ false = ap (λ (m : ℕ). may_do op e o request m) (at_number n e.nodes t there) ∙ none in
+    let fault : fault_on op e o request t ≡ Some NoPrivilege = rw same refl in
+    refused_at op e o request n NoPrivilege (ap (λ (x : Option ResourceData). option_map_or (fault_on op e o request) x (Some NotFound)) there ∙ fault)

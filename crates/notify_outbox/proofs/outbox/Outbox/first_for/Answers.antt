@@ -1,0 +1,30 @@
+use Rattle.std.proofs.Common.{◌≡◌, List, Some, None, option_map, sym, ap, ◌∙◌, subst}
+use Rattle.notify_outbox.specs.Items.{is_numbered, waits_for}
+use Rattle.notify_outbox.specs.Outbox.{first_note}
+use Rattle.notify_outbox.specs.Queues.{least_from}
+use Rattle.notify_outbox.specs.declared.item.Item.{Item}
+use Rattle.notify_outbox.specs.declared.queues.Queue.{Queue}
+use Rattle.notify_outbox.proofs.LeastLemmas.{took_none, front_found, place_filled}
+use Rattle.notify_outbox.proofs.outbox.Outbox.first_for.Goals as goal
+
+pub returns-in-None : goal.returns-in-None
+returns-in-None c =
+    let none = subst (λ (qs : List Queue). least_from (is_numbered c.args.channel) None 0 qs ≡ None) c.deref.ensures.value (sym c.in-None.ensures) in
+    sym (ap (option_map (λ (i : Item). i.note)) (took_none (is_numbered c.args.channel) c.self.inside.queues.items c.self.invariant.0.each none).0)
+    ∙ ap (first_note (waits_for c.args.channel)) c.self.view_is
+
+pub front_at-requires-clause-within : goal.front_at-requires-clause-within
+front_at-requires-clause-within c =
+    let some = subst (λ (qs : List Queue). least_from (is_numbered c.args.channel) None 0 qs ≡ Some c.in-Some.best) c.deref.ensures.value (sym c.in-Some.ensures) in
+    (place_filled (is_numbered c.args.channel) c.self.inside.queues.items c.in-Some.best some).0
+
+pub front_at-requires-clause-some : goal.front_at-requires-clause-some
+front_at-requires-clause-some c =
+    let some = subst (λ (qs : List Queue). least_from (is_numbered c.args.channel) None 0 qs ≡ Some c.in-Some.best) c.deref.ensures.value (sym c.in-Some.ensures) in
+    (place_filled (is_numbered c.args.channel) c.self.inside.queues.items c.in-Some.best some).1
+
+pub returns-in-Some : goal.returns-in-Some
+returns-in-Some c =
+    let some = subst (λ (qs : List Queue). least_from (is_numbered c.args.channel) None 0 qs ≡ Some c.in-Some.best) c.deref.ensures.value (sym c.in-Some.ensures) in
+    sym (ap (option_map (λ (i : Item). i.note)) (front_found (is_numbered c.args.channel) c.self.inside.queues.items c.in-Some.best c.front_at.result.now c.self.invariant.0.each c.self.invariant.0.apart some c.front_at.ensures))
+    ∙ ap (first_note (waits_for c.args.channel)) c.self.view_is

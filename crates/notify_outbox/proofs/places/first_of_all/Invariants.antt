@@ -1,0 +1,7 @@
+use Rattle.std.proofs.Common.{◌≡◌, drop, None}
+use Rattle.notify_outbox.specs.Items.{is_any}
+use Rattle.notify_outbox.specs.Queues.{least_from}
+use Rattle.notify_outbox.proofs.places.first_of_all.Given as goal
+
+abbrev pub invariant-loop-place : goal.invariant-loop-place
+invariant-loop-place l = least_from is_any l.best l.place (drop l.place l.queues) ≡ least_from is_any None 0 l.queues

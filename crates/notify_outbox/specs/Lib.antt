@@ -1,0 +1,3 @@
+pub mod Items
+pub mod Outbox
+pub mod Queues

@@ -1,0 +1,191 @@
+//! The outbox.
+ghost use Rattle.std.specs.Prelude.{◌≡◌, ◌<◌, ◌≤◌, min, [], length, OnOk, option_map};
+ghost use Rattle.std.specs.List.{AllByRecursion};
+ghost use Rattle.notify_outbox.specs.Items.{is_item, is_to_send, waits_for};
+ghost use Rattle.notify_outbox.specs.Outbox.{appended, dropped, first_note, taken};
+ghost use Rattle.notify_outbox.specs.declared.item.Item.{Item};
+
+use crate::aging::drop_until;
+use crate::item::Item;
+use crate::numbering::{note_channel, under_id};
+use crate::places::{first_for, first_of_all, first_to_send};
+use crate::queues::{Queue, count_all, front_at, pop, put};
+use crate::stock::{next_id, node_of, stock_ids, stock_nodes};
+use m2m_value::Text;
+use primitive_json::Note;
+use std::alloc::{AllocError as OutOfMemory, Global};
+use std::collections::{LinkedList, VecDeque};
+use std::marker::Model;
+use tree_model::Tree;
+
+/// For how long an item is kept, in seconds.
+pub const KEEPING_TIME: u64 = 86400;
+
+// The last number of an item.
+const LAST_NUMBER: u64 = 9_223_372_036_854_775_807;
+
+/// The items that wait to be sent or polled.
+#[derive(Drop)]
+pub struct Outbox {
+    queues: Vec<Queue>,
+    // No item was appended before this moment.
+    oldest: u64,
+    // How many items were ever numbered.
+    count: u64,
+    // The identifiers of the requests to come, and nodes for their items.
+    ids: VecDeque<Text>,
+    nodes: LinkedList<Item>,
+}
+
+impl Model for Outbox {
+    ghost use Rattle.std.specs.Prelude.{◌+◌, ◌≤◌, length, vec_capacity};
+    ghost use Rattle.m2m_value.specs.Code.{data_code};
+    ghost use Rattle.std.specs.Coded.{codes};
+    ghost use Rattle.notify_outbox.specs.Outbox.{OutboxData};
+
+    ghost Value = { OutboxData };
+
+    ghost coded = { Prim.hlevel (codes, data_code) };
+
+    ghost use Rattle.m2m_value.specs.Shapes.{largest_count};
+    ghost use Rattle.notify_outbox.specs.Queues.{joined, in_order, AreKept, AreIds};
+
+    ghost view = { λ o. record {
+      items = in_order (joined o.queues.items);
+      count = o.count;
+      room = length o.nodes;
+    } };
+
+    ghost invariant = { λ o. AreKept o.queues.items o.count o.oldest
+        × AreIds (o.count + 1) o.ids.items
+        × (length o.nodes ≤ length o.ids.items)
+        × (o.count + length o.nodes ≤ largest_count)
+        × (length o.queues.items + length o.nodes ≤ vec_capacity o.queues) };
+}
+
+fn least_of(a: u64, b: u64) -> u64
+    ensures { result ≡ min a b }
+{
+    a.min(b)
+}
+
+impl Outbox {
+    /// No items; no memory is taken.
+    pub fn new(alloc: Global) -> Outbox
+        ensures { result ≡ record { items = []; count = 0; room = 0 } }
+    {
+        Outbox {
+            queues: Vec::new(alloc),
+            oldest: 0,
+            count: 0,
+            ids: VecDeque::new(alloc),
+            nodes: LinkedList::new(alloc),
+        }
+    }
+
+    /// Room for so many items and for the identifiers of their requests.
+    pub fn reserve(&mut self, alloc: Global, n: u64) -> Result<(), OutOfMemory>
+        ensures room { OnOk result (n ≤ self.new.room) }
+        ensures more { self.old.room ≤ self.new.room }
+        ensures items { self.new.items ≡ self.old.items }
+        ensures count { self.new.count ≡ self.old.count }
+    {
+        if LAST_NUMBER - self.count < n {
+            return Err(OutOfMemory);
+        }
+        if n <= self.nodes.len() as u64 {
+            return Ok(());
+        }
+        self.queues.reserve(n as usize)?;
+        stock_ids(alloc, &mut self.ids, self.count, n)?;
+        stock_nodes(alloc, &mut self.nodes, n)
+    }
+
+    /// Appends a note at a moment, which isn't before that of any item; its request gets the next
+    /// number as its identifier. No memory is taken.
+    pub fn append(&mut self, note: Note, since: u64)
+        requires room { 0 < self.old.room }
+        requires order { AllByRecursion (λ (i : Item). i.since ≤ since) self.old.items }
+        ensures { self.new ≡ appended note since self.old }
+    {
+        let number = self.count + 1;
+        let channel = note_channel(&note);
+        let id = next_id(&mut self.ids);
+        let known = under_id(note, id);
+        let item = Item {
+            number,
+            since,
+            note: known,
+        };
+        let node = node_of(&mut self.nodes, item);
+        put(&mut self.queues, channel, node);
+        self.count = number;
+        let oldest = least_of(self.oldest, since);
+        self.oldest = oldest;
+    }
+
+    /// Takes the first item that isn't for a polling channel of the tree.
+    pub fn take_next<T: Tree>(&mut self, tree: &T) -> Option<Note>
+        ensures note { result ≡ first_note (is_to_send (T.nodes tree.now)) self.old }
+        ensures rest { self.new ≡ taken (is_to_send (T.nodes tree.now)) self.old }
+    {
+        match first_to_send(&self.queues, tree) {
+            Some(best) => Some(pop(&mut self.queues, best.0).note),
+            None => None,
+        }
+    }
+
+    /// Takes the first item, wherever it leads.
+    pub fn take_first(&mut self) -> Option<Note>
+        ensures note { result ≡ first_note is_item self.old }
+        ensures rest { self.new ≡ taken is_item self.old }
+    {
+        match first_of_all(&self.queues) {
+            Some(best) => Some(pop(&mut self.queues, best.0).note),
+            None => None,
+        }
+    }
+
+    /// Takes the first item for a polling channel.
+    pub fn take_for(&mut self, channel: u64) -> Option<Note>
+        ensures note { result ≡ first_note (waits_for channel) self.old }
+        ensures rest { self.new ≡ taken (waits_for channel) self.old }
+    {
+        match first_for(&self.queues, channel) {
+            Some(best) => Some(pop(&mut self.queues, best.0).note),
+            None => None,
+        }
+    }
+
+    /// Drops what has waited the keeping time at a moment. No memory is taken.
+    pub fn drop_old(&mut self, moment: u64)
+        ensures { self.new ≡ dropped moment self.old }
+    {
+        if moment < KEEPING_TIME {
+            return;
+        }
+        let limit = moment - KEEPING_TIME;
+        if limit < self.oldest {
+            return;
+        }
+        drop_until(&mut self.queues, limit);
+        self.oldest = limit + 1;
+    }
+
+    /// How many items there are.
+    pub fn len(&self) -> u64
+        ensures { result ≡ length self.now.items }
+    {
+        count_all(&self.queues)
+    }
+
+    /// The note that `take_for` would give, which stays.
+    pub fn first_for(&self, channel: u64) -> Option<&Note>
+        ensures { option_map (λ n. n.now) result ≡ first_note (waits_for channel) self.now }
+    {
+        match first_for(&self.queues, channel) {
+            Some(best) => Some(&front_at(&self.queues, best.0).note),
+            None => None,
+        }
+    }
+}

@@ -1,0 +1,16 @@
+use Rattle.std.proofs.Common.{refl, sym, ◌∙◌}
+use Rattle.resource_tree.proofs.IndexLemmas.{index-replaced, kin-replaced, sums_forgotten}
+use Rattle.resource_tree.proofs.index.Index.replace.Goals as goal
+
+pub returns-then-is : goal.returns-then-is
+returns-then-is c =
+    let nodes = c.args.list.now in
+    let r = c.args.resource.now in
+    let kin = c.args.self.now.kin in
+    record {
+      rows = c.put_row.ensures;
+      kin = kin-replaced nodes r c.requires.stood kin _ c.requires.index.kin refl refl refl refl (sums_forgotten nodes r c.requires.stood kin.sums c.forget_sum.new.sums c.parent.result c.parent.ensures.value c.requires.index.kin.sums c.forget_sum.ensures);
+    }
+
+pub returns-else-is : goal.returns-else-is
+returns-else-is c = index-replaced c.args.list.now c.args.resource.now c.requires.stood c.args.self.now c.requires.index (sym c.is.ensures ∙ c.if-is.false)

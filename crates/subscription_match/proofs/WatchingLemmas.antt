@@ -1,0 +1,237 @@
+-- Two lists of subscriptions as one, in order of creation.
+use Rattle.std.specs.Prelude.{nat_lt, slice_get, filter, drop, option_map, IfSome}
+use Rattle.std.proofs.Common.{◌≡◌, ℕ, zero, suc, ◌+◌, ◌<◌, ◌≤◌, ◌==◌, length, Bor, List, [], ◌∷◌, ◌++◌, Bool, true, false, not, ◌||◌, Option, Some, None, refl, sym, ap, ◌∙◌, subst, inl, inr, arith}
+use Rattle.std.proofs.lemmas.Bool.{cases_Bool, and_parts, eqb-true, ltb-true, le-ltb, both_ways}
+use Rattle.std.proofs.lemmas.List.Elements.{filter_map-append}
+use Rattle.std.proofs.lemmas.Option.{slice_get_within}
+use Rattle.std.specs.List.{filter_map}
+use Rattle.std.specs.Option.{option_to_list}
+use Rattle.m2m_names.specs.declared.types.Ty.TheVariants.{Subscription}
+use Rattle.resource_model.specs.Resource.{ResourceData, is_ty}
+use Rattle.tree_model.specs.Tree.{is_kin, is_tree}
+use Rattle.tree_model.proofs.OrderLemmas.{are_above, ascend, tree_ascends, above_filter}
+use Rattle.tree_model.proofs.StepLemmas.{drop_step}
+use Rattle.tree_model.specs.Changes.{ChangeData, created, updated, deleted}
+use Rattle.resource_model.specs.Home.{HomeData}
+use Rattle.subscription_match.specs.Matching.{above_of, event_for, is_sub_of, is_sub_of_either, own_of}
+use Rattle.subscription_match.specs.Notices.{told, told_as, told_to_all}
+use Rattle.subscription_match.specs.Watching.{by_number, comes_next, subs_under, unless_same}
+
+-- ---- the first of a list, and what follows it
+
+dropped_some : (rs : List ResourceData) (k : ℕ) (r : ResourceData) → slice_get rs k ≡ Some r → drop k rs ≡ r ∷ drop (k + 1) rs
+dropped_some rs k r found =
+    drop_step rs k ∙ ap (λ (o : Option ResourceData). option_to_list o ++ drop (k + 1) rs) found
+
+dropped_none : (rs : List ResourceData) (k : ℕ) → slice_get rs k ≡ None → drop k rs ≡ []
+dropped_none [] zero none = refl
+dropped_none [] (suc k) none = refl
+dropped_none (r ∷ rs) zero none = absurd (let e : Some r ≡ None = none in cc)
+dropped_none (r ∷ rs) (suc k) none = dropped_none rs k none
+
+-- ---- which of two lists goes on
+
+one_goes_on : (r s : ResourceData) (rs ss : List ResourceData) → nat_lt s.number r.number ≡ false → by_number (r ∷ rs) (s ∷ ss) ≡ r ∷ by_number rs (s ∷ ss)
+one_goes_on r s rs ss later = rw later refl
+
+other_goes_on : (r s : ResourceData) (rs ss : List ResourceData) → nat_lt s.number r.number ≡ true → by_number (r ∷ rs) (s ∷ ss) ≡ s ∷ by_number (r ∷ rs) ss
+other_goes_on r s rs ss less = rw less refl
+
+not_true : (b : Bool) → not b ≡ true → b ≡ false
+not_true true h = sym h
+not_true false h = refl
+
+not_false : (b : Bool) → not b ≡ false → b ≡ true
+not_false true h = refl
+not_false false h = sym h
+
+front_one : (r : ResourceData) (rs ss : List ResourceData) (o : Option ResourceData) → slice_get ss 0 ≡ o → comes_next (Some r) o ≡ true → by_number (r ∷ rs) ss ≡ r ∷ by_number rs ss
+front_one r rs [] o is first = refl
+front_one r rs (s ∷ ss) o is first =
+    let here : comes_next (Some r) (Some s) ≡ true = ap (comes_next (Some r)) is ∙ first in
+    one_goes_on r s rs ss (not_true (nat_lt s.number r.number) here)
+
+front_other : (s : ResourceData) (rs ss : List ResourceData) (o : Option ResourceData) → slice_get rs 0 ≡ o → comes_next o (Some s) ≡ false → by_number rs (s ∷ ss) ≡ s ∷ by_number rs ss
+front_other s [] ss o is later = refl
+front_other s (r ∷ rs) ss o is later =
+    let here : comes_next (Some r) (Some s) ≡ false = ap (λ (x : Option ResourceData). comes_next x (Some s)) is ∙ later in
+    other_goes_on r s rs ss (not_false (nat_lt s.number r.number) here)
+
+head_dropped : (rs : List ResourceData) (k : ℕ) → slice_get (drop k rs) 0 ≡ slice_get rs k
+head_dropped [] zero = refl
+head_dropped [] (suc k) = refl
+head_dropped (r ∷ rs) zero = refl
+head_dropped (r ∷ rs) (suc k) = head_dropped rs k
+
+-- the next one is of the one list
+pub next_of_one : (rs ss : List ResourceData) (k j : ℕ) (r : ResourceData) (o : Option ResourceData) → slice_get rs k ≡ Some r → slice_get ss j ≡ o → comes_next (Some r) o ≡ true → by_number (drop k rs) (drop j ss) ≡ r ∷ by_number (drop (k + 1) rs) (drop j ss)
+next_of_one rs ss k j r o found other first =
+    ap (λ (xs : List ResourceData). by_number xs (drop j ss)) (dropped_some rs k r found)
+    ∙ front_one r (drop (k + 1) rs) (drop j ss) o (head_dropped ss j ∙ other) first
+
+-- it is of the other
+pub next_of_other : (rs ss : List ResourceData) (k j : ℕ) (s : ResourceData) (o : Option ResourceData) → slice_get ss j ≡ Some s → slice_get rs k ≡ o → comes_next o (Some s) ≡ false → by_number (drop k rs) (drop j ss) ≡ s ∷ by_number (drop k rs) (drop (j + 1) ss)
+next_of_other rs ss k j s o found one later =
+    ap (λ (xs : List ResourceData). by_number (drop k rs) xs) (dropped_some ss j s found)
+    ∙ front_other s (drop k rs) (drop (j + 1) ss) o (head_dropped rs k ∙ one) later
+
+-- where the one list has none, and it would come next, nothing is left
+pub none_next : (rs ss : List ResourceData) (k j : ℕ) (o : Option ResourceData) → slice_get rs k ≡ None → slice_get ss j ≡ o → comes_next None o ≡ true → by_number (drop k rs) (drop j ss) ≡ []
+none_next rs ss k j None found other first =
+    ap (λ (xs : List ResourceData). by_number xs (drop j ss)) (dropped_none rs k found) ∙ dropped_none ss j other
+none_next rs ss k j (Some s) found other first = absurd (both_ways _ refl first)
+
+-- a step, by what was asked for: the one list has no more
+pub step_none : (rs ss left : List ResourceData) (k j : ℕ) (one other : Option (Bor ResourceData)) → by_number (drop k rs) (drop j ss) ≡ left → option_map (λ r. r.now) one ≡ slice_get rs k → option_map (λ r. r.now) other ≡ slice_get ss j → comes_next (option_map (λ r. r.now) one) (option_map (λ r. r.now) other) ≡ true → one ≡ None → left ≡ []
+step_none rs ss left k j one other view own above first is =
+    sym view
+    ∙ none_next rs ss k j (option_map (λ r. r.now) other)
+    (sym own ∙ ap (option_map (λ r. r.now)) is)
+    (sym above)
+    (ap (λ (o : Option (Bor ResourceData)). comes_next (option_map (λ r. r.now) o) (option_map (λ r. r.now) other)) (sym is) ∙ first)
+
+-- it has one
+pub step_one : (rs ss left : List ResourceData) (k j : ℕ) (one other : Option (Bor ResourceData)) (r : Bor ResourceData) → by_number (drop k rs) (drop j ss) ≡ left → option_map (λ r. r.now) one ≡ slice_get rs k → option_map (λ r. r.now) other ≡ slice_get ss j → comes_next (option_map (λ r. r.now) one) (option_map (λ r. r.now) other) ≡ true → one ≡ Some r → left ≡ r.now ∷ by_number (drop (k + 1) rs) (drop j ss)
+step_one rs ss left k j one other r view own above first is =
+    sym view
+    ∙ next_of_one rs ss k j r.now (option_map (λ r. r.now) other)
+    (sym own ∙ ap (option_map (λ r. r.now)) is)
+    (sym above)
+    (ap (λ (o : Option (Bor ResourceData)). comes_next (option_map (λ r. r.now) o) (option_map (λ r. r.now) other)) (sym is) ∙ first)
+
+-- the other has one
+pub step_other : (rs ss left : List ResourceData) (k j : ℕ) (one other : Option (Bor ResourceData)) (s : Bor ResourceData) → by_number (drop k rs) (drop j ss) ≡ left → option_map (λ r. r.now) one ≡ slice_get rs k → option_map (λ r. r.now) other ≡ slice_get ss j → comes_next (option_map (λ r. r.now) one) (option_map (λ r. r.now) other) ≡ false → other ≡ Some s → left ≡ s.now ∷ by_number (drop k rs) (drop (j + 1) ss)
+step_other rs ss left k j one other s view own above later is =
+    sym view
+    ∙ next_of_other rs ss k j s.now (option_map (λ r. r.now) one)
+    (sym above ∙ ap (option_map (λ r. r.now)) is)
+    (sym own)
+    (ap (λ (o : Option (Bor ResourceData)). comes_next (option_map (λ r. r.now) one) (option_map (λ r. r.now) o)) (sym is) ∙ later)
+
+-- ---- where a subscription stands
+
+none_under : (nodes : List ResourceData) → subs_under None nodes ≡ []
+none_under [] = refl
+none_under (r ∷ nodes) = none_under nodes
+
+-- under no resource stands none
+pub no_place : (o : Option (Bor ResourceData)) (parent : Option ℕ) (nodes : List ResourceData) (k : ℕ) → parent ≡ None → o ≡ None → option_map (λ r. r.now) o ≡ slice_get (subs_under parent nodes) k
+no_place o parent nodes k is none =
+    ap (option_map (λ r. r.now)) none
+    ∙ ap (λ (rs : List ResourceData). slice_get rs k) (sym (none_under nodes))
+    ∙ ap (λ (p : Option ℕ). slice_get (subs_under p nodes) k) (sym is)
+
+filter_short : (p : ResourceData → Bool) (rs : List ResourceData) → length (filter p rs) ≤ length rs
+filter_short p [] = omega arith
+filter_short p (r ∷ rs) = elim (cases_Bool (p r)) [
+  | inl t ↦ rw t (omega (arith, filter_short p rs))
+  | inr f ↦ rw f (omega (arith, filter_short p rs))
+]
+
+-- a place at which one stands is within the tree
+pub place_within : (o : Option (Bor ResourceData)) (p : ResourceData → Bool) (nodes : List ResourceData) (k : ℕ) → option_map (λ r. r.now) o ≡ slice_get (filter p nodes) k → IfSome o (λ r. k < length nodes)
+place_within None p nodes k is = tt
+place_within (Some r) p nodes k is =
+    let within : k < length (filter p nodes) = slice_get_within (filter p nodes) k r.now (sym is) in
+    omega (arith, within, filter_short p nodes)
+
+-- ---- both lists together
+
+skips_above : (r : ResourceData) (rs ss : List ResourceData) → are_above r.number ss ≡ true → by_number (r ∷ rs) ss ≡ r ∷ by_number rs ss
+skips_above r rs [] above = refl
+skips_above r rs (s ∷ ss) above =
+    let parts = and_parts (nat_lt r.number s.number) (are_above r.number ss) above in
+    let less : r.number < s.number = ltb-true r.number s.number parts.0 in
+    one_goes_on r s rs ss (le-ltb s.number r.number (omega arith))
+
+takes_below : (s : ResourceData) (rs ss : List ResourceData) → are_above s.number rs ≡ true → by_number rs (s ∷ ss) ≡ s ∷ by_number rs ss
+takes_below s [] ss above = refl
+takes_below s (r ∷ rs) ss above =
+    other_goes_on r s rs ss (and_parts (nat_lt s.number r.number) (are_above s.number rs) above).0
+
+-- what passes one of two tests, which nothing passes both of
+merged : (p q : ResourceData → Bool) → ((r : ResourceData) → p r ≡ true → q r ≡ false) → (nodes : List ResourceData) → ascend nodes ≡ true → by_number (filter p nodes) (filter q nodes) ≡ filter (λ r. p r || q r) nodes
+merged p q apart [] order = refl
+merged p q apart (r ∷ nodes) order =
+    let parts = and_parts (are_above r.number nodes) (ascend nodes) order in
+    let rest = merged p q apart nodes parts.1 in
+    elim (cases_Bool (p r)) [
+      | inl t ↦ (let f = apart r t in
+          rw (t, f) (skips_above r (filter p nodes) (filter q nodes) (above_filter q r.number nodes parts.0) ∙ ap (λ (xs : List ResourceData). r ∷ xs) rest))
+      | inr f ↦ elim (cases_Bool (q r)) [
+        | inl t ↦ rw (f, t) (takes_below r (filter p nodes) (filter q nodes) (above_filter p r.number nodes parts.0) ∙ ap (λ (xs : List ResourceData). r ∷ xs) rest)
+        | inr g ↦ rw (f, g) rest
+      ]
+    ]
+
+same_filter : (p q : ResourceData → Bool) → ((r : ResourceData) → p r ≡ q r) → (rs : List ResourceData) → filter p rs ≡ filter q rs
+same_filter p q same [] = refl
+same_filter p q same (r ∷ rs) = elim (cases_Bool (q r)) [
+  | inl t ↦ rw (same r ∙ t, t) (ap (λ (xs : List ResourceData). r ∷ xs) (same_filter p q same rs))
+  | inr f ↦ rw (same r ∙ f, f) (same_filter p q same rs)
+]
+
+other : (n m : ℕ) (r : ResourceData) → r.parent ≡ n → (n == m) ≡ false → is_kin Subscription m r ≡ false
+other n m r is f = rw (subst (λ (x : ℕ). (x == m) ≡ false) (sym is) f) refl
+
+apart : (own above : Option ℕ) (r : ResourceData) → is_sub_of own r ≡ true → is_sub_of (unless_same own above) r ≡ false
+apart own None r under = refl
+apart None (Some m) r under = absurd (both_ways _ refl under)
+apart (Some n) (Some m) r under = elim (cases_Bool (n == m)) [
+  | inl t ↦ rw t refl
+  | inr f ↦ rw f (other n m r (eqb-true r.parent n (and_parts (r.parent == n) (is_ty r.ty Subscription) under).0) f)
+]
+
+either_same : (own above : Option ℕ) (r : ResourceData) → (is_sub_of own r || is_sub_of (unless_same own above) r) ≡ is_sub_of_either own above r
+either_same own None r = refl
+either_same None (Some m) r = refl
+either_same (Some n) (Some m) r = elim (cases_Bool (n == m)) [
+  | inl t ↦ rw t (subst (λ (x : ℕ). (is_kin Subscription n r || false) ≡ (is_kin Subscription n r || is_kin Subscription x r)) (eqb-true n m t) (twice (is_kin Subscription n r)))
+  | inr f ↦ rw f refl
+]
+  where
+    twice : (b : Bool) → (b || false) ≡ (b || b)
+    twice true = refl
+    twice false = refl
+
+-- the two lists together are the subscriptions under either resource
+pub watched : (own above : Option ℕ) (nodes : List ResourceData) → is_tree nodes ≡ true → filter (is_sub_of_either own above) nodes ≡ by_number (subs_under own nodes) (subs_under (unless_same own above) nodes)
+watched own above nodes tree =
+    sym (merged (is_sub_of own) (is_sub_of (unless_same own above)) (apart own above) nodes (tree_ascends nodes tree)
+    ∙ same_filter _ _ (either_same own above) nodes)
+
+-- ---- what is under neither is told nothing
+
+-- what gives nothing at all that fails a test gives the same of what passes it
+pub narrowed : {Y : Type 0} (h : ResourceData → Option Y) (p : ResourceData → Bool) → ((r : ResourceData) → p r ≡ false → h r ≡ None) → (rs : List ResourceData) → filter_map h (filter p rs) ≡ filter_map h rs
+narrowed h p none [] = refl
+narrowed {Y = Y} h p none (r ∷ rs) =
+    let split : filter_map h (r ∷ rs) ≡ filter_map h (r ∷ []) ++ filter_map h rs = filter_map-append h (r ∷ []) rs in
+    elim (cases_Bool (p r)) [
+      | inl t ↦ rw t (filter_map-append h (r ∷ []) (filter p rs) ∙ ap (λ (ys : List Y). filter_map h (r ∷ []) ++ ys) (narrowed h p none rs) ∙ sym split)
+      | inr f ↦ rw f (narrowed h p none rs ∙ sym (rw (none r f) refl))
+    ]
+
+neither : (a b : Bool) → (a || b) ≡ false → (a ≡ false) × (b ≡ false)
+neither true b h = absurd (both_ways _ h refl)
+neither false b h = (refl, h)
+
+event_elsewhere : (going : List ℕ) (change : ChangeData) (r : ResourceData) → is_sub_of_either (own_of change) (above_of change) r ≡ false → event_for going change r ≡ None
+event_elsewhere going (created new) r elsewhere =
+    let above : is_sub_of (Some new.parent) r ≡ false = (neither (is_sub_of None r) (is_sub_of (Some new.parent) r) elsewhere).1 in
+    rw above refl
+event_elsewhere going (updated before after named) r elsewhere =
+    let own : is_sub_of (Some after.number) r ≡ false = (neither (is_sub_of (Some after.number) r) (is_sub_of None r) elsewhere).0 in
+    rw own refl
+event_elsewhere going (deleted gone) r elsewhere =
+    let both = neither (is_sub_of (Some gone.number) r) (is_sub_of (Some gone.parent) r) elsewhere in
+    let own : is_sub_of (Some gone.number) r ≡ false = both.0 in
+    let above : is_sub_of (Some gone.parent) r ≡ false = both.1 in
+    rw (own, above) refl
+
+-- those under the changed resource and its parent are told all that is told of a change
+pub told_there : (home : HomeData) (nodes rs : List ResourceData) (going : List ℕ) (change : ChangeData) → rs ≡ filter (is_sub_of_either (own_of change) (above_of change)) nodes → filter_map (told home nodes going change) rs ≡ told_to_all home nodes going change
+told_there home nodes rs going change is =
+    ap (filter_map (told home nodes going change)) is
+    ∙ narrowed (told home nodes going change) (is_sub_of_either (own_of change) (above_of change))
+    (λ r elsewhere. ap (option_map (told_as home nodes change r)) (event_elsewhere going change r elsewhere)) nodes

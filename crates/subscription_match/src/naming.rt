@@ -1,0 +1,32 @@
+//! How this CSE and its subscriptions are named.
+ghost use Rattle.std.specs.Prelude.{◌≡◌, IfOk, IsUtf8};
+ghost use Rattle.subscription_match.specs.Notices as spec;
+ghost use Rattle.tree_model.specs.Shown.{own_cse_id};
+
+use m2m_value::Text;
+use std::alloc::{AllocError as OutOfMemory, Global};
+use tree_model::{Home, Resource};
+
+/// Own CSE-ID, with its slash.
+pub(crate) fn own_cse_id(alloc: Global, home: &Home) -> Result<Text, OutOfMemory>
+    ensures value { IfOk result (λ t. t ≡ own_cse_id home.now) }
+    ensures utf8 { IfOk result (λ t. IsUtf8 t) }
+{
+    let csi = home.csi().entries();
+    let mut bytes = Vec::with_capacity(alloc, csi.len().saturating_add(1))?;
+    bytes.push(b'/')?;
+    bytes.extend_from_slice(csi)?;
+    Ok(Text::of(bytes))
+}
+
+/// A subscription as its notifications name it: the CSE-ID, `/`, and its resource id.
+pub(crate) fn reference_of(alloc: Global, home: &Home, sub: &Resource) -> Result<Text, OutOfMemory>
+    ensures value { IfOk result (λ t. t ≡ spec.reference_of home.now sub.now) }
+    ensures utf8 { IfOk result (λ t. IsUtf8 t) }
+{
+    let id = sub.id(alloc)?;
+    let mut bytes = own_cse_id(alloc, home)?.into_vec();
+    bytes.push(b'/')?;
+    bytes.extend_from_slice(id.entries())?;
+    Ok(Text::of(bytes))
+}
