@@ -6,7 +6,7 @@ use Rattle.std.specs.Option.{option_or, option_map_or}
 use Rattle.m2m_names.specs.declared.attributes.Attr.{Attr}
 use Rattle.m2m_names.specs.declared.attributes.Attr.TheVariants.{Aa, Acpi, Aei, Api, Apn, At, Cb}
 use Rattle.m2m_names.specs.declared.attributes.Attr.TheVariants.{Cbs, Cnf, Cni, Cnm, Con, Cr, Cs}
-use Rattle.m2m_names.specs.declared.attributes.Attr.TheVariants.{Csi, Cst, Csy, Ct, Enc, Et, Gn}
+use Rattle.m2m_names.specs.declared.attributes.Attr.TheVariants.{Csi, Cst, Csy, Ct, Enc, Et, Exc, Gn}
 use Rattle.m2m_names.specs.declared.attributes.Attr.TheVariants.{Lbl, Lnk, Lt, Macp, Mbs, Mia, Mid}
 use Rattle.m2m_names.specs.declared.attributes.Attr.TheVariants.{Mni, Mnm, Mt, Mtv, Nct, Nu, Pi}
 use Rattle.m2m_names.specs.declared.attributes.Attr.TheVariants.{Poa, Pv, Pvs, Ri, Rn, Rr, Srt, Srv}
@@ -19,6 +19,7 @@ use Rattle.m2m_names.specs.declared.types.Ty.TheVariants.{AccessControlPolicyAnn
 use Rattle.m2m_names.specs.declared.types.Ty.TheVariants.{ContainerAnnc, ContentInstanceAnnc}
 use Rattle.m2m_names.specs.declared.types.Ty.TheVariants.{GroupAnnc}
 use Rattle.m2m_names.specs.Types.{all_types}
+use Rattle.m2m_value.specs.Shapes.{largest_count}
 use Rattle.resource_model.specs.Attributes.{is_attr}
 use Rattle.resource_model.specs.Home.{last_cse_type}
 use Rattle.resource_model.specs.Resource.{is_ty}
@@ -146,6 +147,7 @@ attr_rows =
     ∷ attr_row (Subscription ∷ []) Nu (Given Target) Mandatory Mandatory false
     ∷ attr_row (Subscription ∷ []) Nct (Given (OneOf 1 3)) Optional Optional false
     ∷ attr_row (Subscription ∷ []) Su (Given Label) Optional NotPermitted false
+    ∷ attr_row (Subscription ∷ []) Exc (Given (OneOf 1 largest_count)) Optional Optional false
     ∷ attr_row announced_types Lnk (Given Label) Mandatory NotPermitted false
     ∷ []
 

@@ -10,7 +10,7 @@ use Source::*;
 use attribute_kinds::Kind;
 use attribute_kinds::Kind::*;
 use m2m_names::Ty::*;
-use m2m_names::{Attr, Ty};
+use m2m_names::{Attr, LARGEST_COUNT, Ty};
 use m2m_value::Val;
 use resource_model::{LAST_CSE_TYPE, Resource};
 
@@ -299,6 +299,13 @@ fn table_rule(ty: Ty, attr: Attr) -> Option<Rule>
         }
         Attr::Enc => row(&[Subscription], ty, Given(Criteria), FREE, false),
         Attr::Et => row(&CREATED, ty, Apart(Stamp), FREE, false),
+        Attr::Exc => row(
+            &[Subscription],
+            ty,
+            Given(OneOf(1, LARGEST_COUNT)),
+            FREE,
+            false,
+        ),
         Attr::Gn => row(&[Group], ty, Given(Text), FREE, true),
         Attr::Lbl => row(&CREATED, ty, Given(Labels), FREE, false),
         Attr::Lnk => row(&ANNOUNCED, ty, Given(Label), FIXED, false),

@@ -16,6 +16,8 @@ use Rattle.attribute_rules.specs.declared.table.Writing.TheVariants.{Create as C
 use Rattle.entity_model.specs.Entity.{EntityData}
 use Rattle.entity_model.specs.Places.{Check, first_fault, refused}
 use Rattle.request_rules.specs.Creation.{creation_of}
+use Rattle.request_rules.proofs.OrderLemmas.{AreAdmitted, members_parts}
+use Rattle.request_rules.specs.Groups.{admits_members, membership_edited, membership_new}
 use Rattle.request_rules.specs.Order.{creation_by, creation_places, expires_later, fault_at, fault_on, places}
 use Rattle.request_rules.specs.Policies.{links_live}
 use Rattle.request_rules.specs.Requests.{admits_content, is_content_for, named_by, takes_child}
@@ -44,10 +46,13 @@ module _ (e : EntityData) (o : List ℕ) (request : RequestParts) (parent : Reso
   names : named_by Create request parent ≡ es
   names = named_is request parent ty es may.child may.named
 
+  members : AreAdmitted e (membership_new (creation_of e o ty parent es))
+  members = members_parts e (membership_new (creation_of e o ty parent es)) may.members
+
   new : list_all (λ (p : Check). p.holds) (creation_places Create e o request parent) ≡ true
   new =
       ap (list_all (λ (p : Check). p.holds)) (new_is e o request parent ty es may.child may.named)
-      ∙ and_from _ _ may.unique (and_from _ _ may.room refl)
+      ∙ and_from _ _ members.addresses (and_from _ _ may.unique (and_from _ _ may.room (and_from _ _ members.few (and_from _ _ members.consistent refl))))
 
   taken : takes_child Create request parent ≡ true
   taken = ap (λ (x : Option Ty). option_map_or (does_take parent.ty) x false) may.child ∙ may.takes
@@ -74,10 +79,14 @@ module _ (e : EntityData) (o : List ℕ) (request : RequestParts) (r : ResourceD
   update_names : named_by Update request r ≡ es
   update_names = ap (λ (x : Option (List Entry)). unwrap_or x []) may.named
 
+  edited : AreAdmitted e (membership_edited r (named_by Update request r))
+  edited = members_parts e (membership_edited r (named_by Update request r)) (ap (λ (es : List Entry). admits_members e (membership_edited r es)) update_names ∙ may.members)
+
   pub update_holds : list_all (λ (p : Check). p.holds) (places Update e o request r) ≡ true
   update_holds =
       and_from _ _ may.right (and_from _ _ may.kind (and_from _ _ refl (and_from _ _ (content_admits Updating request r.ty es may.named ∙ may.admitted)
-      (and_from _ _ (ap (expires_later e) update_names ∙ may.later) (and_from _ _ (ap (links_live e) update_names ∙ may.live) refl)))))
+      (and_from _ _ (ap (expires_later e) update_names ∙ may.later) (and_from _ _ (ap (links_live e) update_names ∙ may.live)
+      (and_from _ _ edited.addresses (and_from _ _ edited.few (and_from _ _ edited.consistent refl))))))))
 
 pub update_served : (e : EntityData) (o : List ℕ) (request : RequestParts) (n : ℕ) (r : ResourceData) (es : List Entry) → at n e.nodes ≡ Some r → MayUpdate e o request r es → effect_at Update e o request n ≡ update_effect e request es r
 update_served e o request n r es there may =

@@ -73,7 +73,7 @@ adds_plain e r sound new = record {
 }
 
 -- an instance changes its container
-adds_instance : (e : EntityData) (sound : IsSoundEntity e) (r c : ResourceData) (st : ℕ) (filling : IsNewInstance e r c st) → st ≡ next_state c → AddsOne e r.parent (record { home = e.home; nodes = nodes_filled e sound r c st filling; next = e.next + 1; last = e.last })
+adds_instance : (e : EntityData) (sound : IsSoundEntity e) (r c : ResourceData) (st : ℕ) (filling : IsNewInstance e r c st) → st ≡ next_state c → AddsOne e r.parent (record { home = e.home; nodes = nodes_filled e sound r c st filling; next = e.next + 1; last = e.last; items = e.items; numbered = e.numbered })
 adds_instance e sound r c st filling counts = record {
   made = r;
   alone = fresh e sound r c st filling;

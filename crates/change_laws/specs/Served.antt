@@ -12,6 +12,7 @@ use Rattle.attribute_rules.specs.declared.table.Writing.TheVariants.{Update as U
 use Rattle.entity_model.specs.Entity.{EntityData}
 use Rattle.entity_model.specs.Places.{Effect}
 use Rattle.request_rules.specs.Creation.{creation_of, has_room, is_unique, next_state}
+use Rattle.request_rules.specs.Groups.{admits_members, membership_edited, membership_new}
 use Rattle.request_rules.specs.Order.{creation_by, expires_later}
 use Rattle.request_rules.specs.Policies.{links_live}
 use Rattle.request_rules.specs.Requests.{admits, child_ty, content_for, is_for, named_by}
@@ -96,6 +97,7 @@ pub record MayCreate (e : EntityData) (originator : List ℕ) (request : Request
   pub live : IsTrue (links_live e es)
   pub unique : IsTrue (is_unique (creation_of e originator ty parent es))
   pub room : IsTrue (has_room (creation_of e originator ty parent es))
+  pub members : IsTrue (admits_members e (membership_new (creation_of e originator ty parent es)))
 
 -- The originator may update the resource by these attributes, which the content names.
 pub record MayUpdate (e : EntityData) (originator : List ℕ) (request : RequestParts)
@@ -106,6 +108,7 @@ pub record MayUpdate (e : EntityData) (originator : List ℕ) (request : Request
   pub admitted : IsTrue (admits Updating r.ty es)
   pub later : IsTrue (expires_later e es)
   pub live : IsTrue (links_live e es)
+  pub members : IsTrue (admits_members e (membership_edited r es))
 
 -- The originator may delete the resource, which isn't the CSEBase.
 pub record MayDelete (e : EntityData) (originator : List ℕ) (request : RequestParts)

@@ -10,12 +10,13 @@ ghost use Rattle.primitive_json.specs.declared.request.RequestParts.{RequestPart
 ghost use Rattle.resource_model.specs.Resource.{ResourceData};
 ghost use Rattle.tree_model.specs.Tree.{at, is_at_or_below};
 ghost use Rattle.policy_eval.specs.Rights.{delete_bit, grants};
-ghost use Rattle.entity_model.specs.Entity.{EntityData};
+ghost use Rattle.entity_model.specs.Entity.{EntityData, telling};
 ghost use Rattle.entity_model.specs.Sound.{IsSoundEntity};
-ghost use Rattle.create_delete.specs.Changes.{only_in};
+ghost use Rattle.create_delete.specs.Changes.{changes_at, only_in};
 ghost use Rattle.create_delete.specs.Changing.{create_effect, delete_effect, effect_at};
 ghost use Rattle.create_delete.specs.Changing.{update_effect};
 ghost use Rattle.create_delete.specs.Guard.{NamesInOrder};
+ghost use Rattle.create_delete.specs.Telling.{gone_numbers, told_effect_at};
 ghost use Rattle.change_laws.specs.Served.{AddsOne, ChangesOne, ServesCreate, ServesDelete};
 ghost use Rattle.change_laws.specs.Served.{MayCreate, MayDelete, MayUpdate, ServesUpdate};
 ghost use Rattle.request_rules.specs.Creation.{creation_of};
@@ -51,6 +52,18 @@ pub fn what_may_be_done_is_served()
     ensures deletes { (e : EntityData) (originator : List ℕ) (request : RequestParts) (n : ℕ)
         (r : ResourceData) → at n e.nodes ≡ Some r → MayDelete e originator request r
         → effect_at Delete e originator request n ≡ delete_effect e request r }
+{}
+
+/// What an operation gives is what is defined of it before anybody is told: the same reply, and the
+/// entity after it, of a sound one, with its changes told behind.
+pub fn what_is_done_is_told_behind()
+    ensures reply { (op : Op) (e : EntityData) (originator : List ℕ) (request : RequestParts)
+        (n : ℕ) → (told_effect_at op e originator request n).reply
+        ≡ (effect_at op e originator request n).reply }
+    ensures after { (op : Op) (e : EntityData) (originator : List ℕ) (request : RequestParts)
+        (n : ℕ) → IsSoundEntity e → (told_effect_at op e originator request n).after
+        ≡ telling e.nodes (gone_numbers e (effect_at op e originator request n).after)
+        (changes_at op e originator request n) (effect_at op e originator request n).after }
 {}
 
 /// A Create that is served adds exactly one resource to a sound entity, with the next number, under

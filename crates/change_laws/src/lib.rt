@@ -5,7 +5,9 @@
 //! Create that is served adds one resource, an Update changes its target alone, and a Delete takes
 //! its target with all that stands below it. A Create and an Update remove besides at most
 //! instances that a container pushes out. The next number rises by just as many as are new. The
-//! changes that an operation makes, one after another, are those that it prepares.
+//! changes that an operation makes, one after another, are those that it prepares. All this is said
+//! of what an operation does before anybody is told (`effect_at`); what is told comes behind, with
+//! the same reply.
 #![tactic(auto)]
 
 mod changes;
@@ -15,5 +17,5 @@ pub use changes::the_changes_are_those_that_are_prepared;
 pub use laws::{
     a_creation_adds_one_resource, a_deletion_takes_what_stands_at_or_below_its_target,
     an_update_changes_its_target_alone, the_next_number_rises_by_what_is_new,
-    what_may_be_done_is_served, what_no_place_refuses_is_served,
+    what_is_done_is_told_behind, what_may_be_done_is_served, what_no_place_refuses_is_served,
 };

@@ -29,8 +29,6 @@ pub fn evictions<T: Tree>(
     ensures memory { OnErr result
         (evicted limits new_size moment (instances_of container (T.nodes tree.now)) ≢ []) }
 {
-    // That it is a tree is told by its length.
-    let _count = tree.len();
     let quiet = is_quiet(tree, container, limits.mia, moment);
     let outside = count_outside(tree, container, limits, new_size, moment, quiet);
     Ok(Numbers::of(gone(alloc, tree, container, limits.mia, moment, outside, quiet)?))

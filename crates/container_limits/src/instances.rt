@@ -1,7 +1,7 @@
 //! The instances of a container, one by one, and what they add up to.
-ghost use Rattle.std.specs.Prelude.{◌≡◌, ◌+◌, ◌-◌, ◌^◌, ◌<◌, length, filter, sum_by};
+ghost use Rattle.std.specs.Prelude.{◌≡◌, ◌+◌, ◌-◌, ◌^◌, ◌<◌, IsTrue, length, filter, sum_by};
 ghost use Rattle.std.specs.Prelude.{option_map, option_to_list, unwrap_or};
-ghost use Rattle.tree_model.specs.Tree.{age_of, instances_of, instance_size};
+ghost use Rattle.tree_model.specs.Tree.{age_of, instances_of, instance_size, is_tree};
 ghost use Rattle.container_limits.specs.Limits.{lasts, is_in_state, is_age, is_mia_of};
 ghost use Rattle.container_limits.specs.Limits.{IsQuiet};
 
@@ -119,10 +119,10 @@ pub(crate) fn lasting_total<T: Tree>(
 /// Whether the tree knows that none of a container's instances is due at the moment, where they may
 /// reach this age.
 pub(crate) fn is_quiet<T: Tree>(tree: &T, container: u64, mia: Option<u64>, moment: u64) -> bool
-    ensures { IsQuiet result mia moment (instances_of container (T.nodes tree.now)) }
+    ensures quiet { IsQuiet result mia moment (instances_of container (T.nodes tree.now)) }
+    ensures tree { IsTrue (is_tree (T.nodes tree.now)) }
 {
-    let until = tree.quiet_until();
-    moment < until && is_mia_of(tree.get(container), mia)
+    is_mia_of(tree.get(container), mia) && moment < tree.quiet_until()
 }
 
 fn is_mia_of(container: Option<&Resource>, mia: Option<u64>) -> bool

@@ -12,7 +12,7 @@ use Rattle.m2m_names.specs.declared.operations.Op.TheVariants.{Create, Update, D
 use Rattle.m2m_names.specs.declared.types.Ty.TheVariants.{Container, ContentInstance}
 use Rattle.primitive_json.specs.declared.request.RequestParts.{RequestParts}
 use Rattle.resource_model.specs.Resource.{ResourceData, has_number, is_ty}
-use Rattle.tree_model.specs.Tree.{at, has, instances_of, instance_size, is_spared, is_tree, line_of, replaced, restamped, without}
+use Rattle.tree_model.specs.Tree.{at, has, instances_of, instance_size, is_at_or_below, is_spared, is_tree, line_of, numbers_of, replaced, restamped, without}
 use Rattle.tree_model.proofs.ChangeLemmas.{unpicked-replaced}
 use Rattle.tree_model.proofs.GrowthLemmas.{has-without, tree_from_well_formed}
 use Rattle.tree_model.proofs.TreeLemmas.{at_has, at_number, at-replaced_other, has_from_at, filter_among, kin_parts}
@@ -26,6 +26,7 @@ use Rattle.create_delete.specs.Changes.{changes_at, changes_by, created, creatio
 use Rattle.create_delete.specs.Changing.{after_joining, is_numbered_in, nodes_updated, effect_at, pushed_by, pushed_out, with_new_resource, without_all}
 use Rattle.create_delete.specs.Joining.{gone_by, MayJoin}
 use Rattle.create_delete.specs.NewResource.{IsNewInstance, IsNewResource, IsReplacement}
+use Rattle.create_delete.specs.Telling.{gone_numbers, numbers_below}
 use Rattle.create_delete.specs.declared.joining.ContainerUpdate.{ContainerUpdate}
 use Rattle.create_delete.proofs.GrownLemmas.{grown_by, nothing_picked}
 use Rattle.create_delete.proofs.InstanceLemmas.{limits_restamped, pruning as filling_pruning}
@@ -36,7 +37,7 @@ use Rattle.create_delete.proofs.PushingLemmas.{nothing_removed}
 use Rattle.create_delete.proofs.ReplacedLemmas.{replaced_by}
 use Rattle.create_delete.proofs.RightCreateLemmas.{container_there, lacks, nodes_filled, not_out, older_there, same_filled, stamped_there}
 use Rattle.create_delete.proofs.RightUpdateLemmas.{now_there, turned_tree, updated_in, updated_left}
-use Rattle.create_delete.proofs.ThoseLemmas.{those_evicted, those_pushed}
+use Rattle.create_delete.proofs.ThoseLemmas.{numbers_evicted, numbers_pushed, those_evicted, those_pushed}
 use Rattle.create_delete.proofs.UpdatedLemmas.{pruning}
 use Rattle.tree_model.proofs.RowLemmas.{filter_swap}
 
@@ -58,12 +59,17 @@ nothing_apart nodes = filter_among (λ s. not (has s.number nodes)) (λ s. false
 
 -- ---- a Delete
 
-pub delete_changes : (e : EntityData) (request : RequestParts) (n : ℕ) → IsSoundEntity e → changes_by Delete request n e (record { home = e.home; nodes = without (has_number n) e.nodes; next = e.next; last = e.last }) ≡ deletion_changes e.nodes n
-delete_changes e request n sound =
-    let tree = tree_from_well_formed e.nodes sound.tree in
-    ap (map deleted) (gone_are (λ r. list_any (has_number n) (line_of r.number e.nodes)) e.nodes (without (has_number n) e.nodes) tree (λ r found.
-    has-without (has_number n) r.number e.nodes tree
-    ∙ ap (λ (b : Bool). b && is_spared (has_number n) e.nodes r.number) (at_has r.number e.nodes r found)))
+pub only_below : (n : ℕ) (nodes : List ResourceData) → is_tree nodes ≡ true → only_in nodes (without (has_number n) nodes) ≡ filter (is_at_or_below n nodes) nodes
+only_below n nodes tree =
+    gone_are (λ r. list_any (has_number n) (line_of r.number nodes)) nodes (without (has_number n) nodes) tree (λ r found.
+    has-without (has_number n) r.number nodes tree
+    ∙ ap (λ (b : Bool). b && is_spared (has_number n) nodes r.number) (at_has r.number nodes r found))
+
+pub delete_changes : (e : EntityData) (request : RequestParts) (n : ℕ) → IsSoundEntity e → changes_by Delete request n e (record { home = e.home; nodes = without (has_number n) e.nodes; next = e.next; last = e.last; items = e.items; numbered = e.numbered }) ≡ deletion_changes e.nodes n
+delete_changes e request n sound = ap (map deleted) (only_below n e.nodes (tree_from_well_formed e.nodes sound.tree))
+
+pub delete_gone : (e : EntityData) (n : ℕ) → IsSoundEntity e → gone_numbers e (record e { nodes = without (has_number n) e.nodes }) ≡ numbers_below n e.nodes
+delete_gone e n sound = ap numbers_of (only_below n e.nodes (tree_from_well_formed e.nodes sound.tree))
 
 -- ---- an Update
 
@@ -99,12 +105,18 @@ module _ (e : EntityData) (sound : IsSoundEntity e) (c : ResourceData) (new : Is
       by_left None is = absurd (both_ways _ new.plain (kin_parts ContentInstance c.number c ((updated_left e sound c new).gone c (now_there e sound c new) is)).kind)
       by_left (Some s) is = sym ((updated_left e sound c new).stood c.number s is) ∙ now_there e sound c new
 
+  gone_left : only_in e.nodes (nodes_updated e c) ≡ filter (is_numbered_in (pushed_by e c)) e.nodes
+  gone_left = gone_are (is_numbered_in (pushed_by e c)) e.nodes (nodes_updated e c) (tree_from_well_formed e.nodes sound.tree) each_left
+
+  pub updating_gone : gone_numbers e (updated_in e c) ≡ pushed_by e c
+  updating_gone = ap numbers_of gone_left ∙ numbers_pushed e c (tree_from_well_formed e.nodes sound.tree)
+
   pub updating_changes : (request : RequestParts) (old : ResourceData) → at c.number e.nodes ≡ Some old → changes_by Update request c.number e (updated_in e c) ≡ update_changes e.nodes old c (named_attrs request old) (pushed_by e c)
   updating_changes request old found =
       ap (λ (x : Option ResourceData). update_made request x (at c.number (nodes_updated e c)) ++ map deleted (only_in e.nodes (nodes_updated e c))) found
       ∙ ap (λ (x : Option ResourceData). update_made request (Some old) x ++ map deleted (only_in e.nodes (nodes_updated e c))) c_left
       ∙ ap (λ (rs : List ResourceData). updated old c (named_attrs request old) ∷ map deleted rs)
-      (gone_are (is_numbered_in (pushed_by e c)) e.nodes (nodes_updated e c) (tree_from_well_formed e.nodes sound.tree) each_left
+      (gone_left
       ∙ sym (those_pushed e c (tree_from_well_formed e.nodes sound.tree)))
 
 -- ---- a Create
@@ -116,13 +128,16 @@ only_last e r sound new =
     ∙ ap (λ (rs : List ResourceData). rs ++ filter (λ s. not (has s.number e.nodes)) (r ∷ [])) (nothing_apart e.nodes)
     ∙ ap (λ (b : Bool). cond (not b) (r ∷ []) []) (has_from_at r.number e.nodes (lacks e sound r new))
 
+-- what isn't an instance takes nothing
+none_gone : (e : EntityData) (r : ResourceData) → IsSoundEntity e → IsNewResource e r → only_in e.nodes (e.nodes ++ r ∷ []) ≡ []
+none_gone e r sound new =
+    gone_are (λ s. false) e.nodes (e.nodes ++ r ∷ []) (tree_from_well_formed e.nodes sound.tree) (λ s found. at_has s.number (e.nodes ++ r ∷ []) s (older_there e sound r new s.number s found))
+    ∙ nothing_picked (λ s. false) e.nodes (none_false e.nodes)
+
 join_changes : (e : EntityData) (r : ResourceData) (request : RequestParts) (n : ℕ) → IsSoundEntity e → IsNewResource e r → changes_by Create request n e (with_new_resource e r) ≡ created r ∷ []
 join_changes e r request n sound new =
-    let tree = tree_from_well_formed e.nodes sound.tree in
-    let gone : only_in e.nodes (e.nodes ++ r ∷ []) ≡ filter (λ s. false) e.nodes =
-    gone_are (λ s. false) e.nodes (e.nodes ++ r ∷ []) tree (λ s found. at_has s.number (e.nodes ++ r ∷ []) s (older_there e sound r new s.number s found)) in
     ap (λ (rs : List ResourceData). map created rs ++ map deleted (only_in e.nodes (e.nodes ++ r ∷ []))) (only_last e r sound new)
-    ∙ ap (λ (rs : List ResourceData). created r ∷ map deleted rs) (gone ∙ nothing_picked (λ s. false) e.nodes (none_false e.nodes))
+    ∙ ap (λ (rs : List ResourceData). created r ∷ map deleted rs) (none_gone e r sound new)
 
 module _ (e : EntityData) (sound : IsSoundEntity e) (r c : ResourceData) (st : ℕ) (filling : IsNewInstance e r c st) where
   abbrev all : List ResourceData
@@ -176,11 +191,17 @@ module _ (e : EntityData) (sound : IsSoundEntity e) (r c : ResourceData) (st : �
       ∙ ap (filter (λ s. not (is_numbered_in out_stamped s))) (stays_known ∙ only_last e r sound filling.new)
       ∙ ap (λ (b : Bool). cond (not b) (r ∷ []) []) (not_out e sound r c st filling)
 
-  fill_changes : (request : RequestParts) (n : ℕ) → changes_by Create request n e (record { home = e.home; nodes = left; next = e.next + 1; last = e.last }) ≡ creation_changes e.nodes r out
+  gone_filled : only_in e.nodes left ≡ filter (is_numbered_in out) e.nodes
+  gone_filled = gone_are (is_numbered_in out) e.nodes left (tree_from_well_formed e.nodes sound.tree) each_has
+
+  pub fill_gone : numbers_of (only_in e.nodes left) ≡ out
+  fill_gone = ap numbers_of gone_filled ∙ numbers_evicted (limits_of c) (Some (instance_size r)) e.last r.parent e.nodes (tree_from_well_formed e.nodes sound.tree)
+
+  fill_changes : (request : RequestParts) (n : ℕ) → changes_by Create request n e (record { home = e.home; nodes = left; next = e.next + 1; last = e.last; items = e.items; numbered = e.numbered }) ≡ creation_changes e.nodes r out
   fill_changes request n =
       ap (λ (rs : List ResourceData). map created rs ++ map deleted (only_in e.nodes left)) fresh
       ∙ ap (λ (rs : List ResourceData). created r ∷ map deleted rs)
-      (gone_are (is_numbered_in out) e.nodes left (tree_from_well_formed e.nodes sound.tree) each_has
+      (gone_filled
       ∙ sym (those_evicted (limits_of c) (Some (instance_size r)) e.last r.parent e.nodes (tree_from_well_formed e.nodes sound.tree)))
 
 pub join_makes_changes : (e : EntityData) (r : ResourceData) (f : Option ContainerUpdate) (request : RequestParts) (n : ℕ) → IsSoundEntity e → MayJoin e r f → changes_by Create request n e (after_joining e r f) ≡ creation_changes e.nodes r (gone_by f)
@@ -189,6 +210,13 @@ join_makes_changes e r (Some f) request n sound may =
     ap (changes_by Create request n e) (sym (filled_is e r f may))
     ∙ fill_changes e sound r may.parent f.state may.joins request n
     ∙ ap (creation_changes e.nodes r) (pushes_named e r may.parent f.state may.joins ∙ sym may.gone)
+
+pub join_gone : (e : EntityData) (r : ResourceData) (f : Option ContainerUpdate) → IsSoundEntity e → MayJoin e r f → gone_numbers e (after_joining e r f) ≡ gone_by f
+join_gone e r None sound may = ap numbers_of (none_gone e r sound may.0)
+join_gone e r (Some f) sound may =
+    ap (gone_numbers e) (sym (filled_is e r f may))
+    ∙ fill_gone e sound r may.parent f.state may.joins
+    ∙ pushes_named e r may.parent f.state may.joins ∙ sym may.gone
 
 -- ---- what an operation prepares
 

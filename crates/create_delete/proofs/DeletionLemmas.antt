@@ -30,7 +30,7 @@ use Rattle.m2m_names.proofs.StepLemmas.{chosen}
 abbrev removed_from : EntityData → RequestParts → ℕ → Effect
 removed_from e request n = record {
   reply = reply_to request Deleted None;
-  after = record { home = e.home; nodes = without (has_number n) e.nodes; next = e.next; last = e.last };
+  after = record { home = e.home; nodes = without (has_number n) e.nodes; next = e.next; last = e.last; items = e.items; numbered = e.numbered };
 }
 
 -- where nothing refuses it, the resource goes with all that stands below it
@@ -127,6 +127,3 @@ deletion_keeps e o request n r sound left = by_fault (fault_at Delete e o reques
     by_fault None is =
         (chosen (is_spared (has_number n) e.nodes r.number) (at r.number e.nodes) r
         (sym (at-without (has_number n) r.number e.nodes (tree_from_well_formed e.nodes sound.tree)) ∙ ap (at r.number) (sym (done_on e o request n is).after) ∙ left)).1
-
--- a deletion that is done, and one that is refused
-pub ruleset deletion_cases = (delete_done, deletable, refused_at)

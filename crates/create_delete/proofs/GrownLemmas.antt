@@ -213,7 +213,7 @@ due_grown nodes r moment tree next later none = all_none (is_due (nodes ++ r ∷
 -- ---- the entity
 
 abbrev pub grown_by : EntityData → ResourceData → EntityData
-grown_by e r = record { home = e.home; nodes = e.nodes ++ r ∷ []; next = e.next + 1; last = e.last }
+grown_by e r = record { home = e.home; nodes = e.nodes ++ r ∷ []; next = e.next + 1; last = e.last; items = e.items; numbered = e.numbered }
 
 pub framed_grown : (e : EntityData) (r : ResourceData) → IsFramed e → IsNewResource e r → IsFramed (grown_by e r)
 framed_grown e r framed new =
@@ -240,6 +240,8 @@ framed_grown e r framed new =
       channels = channels_grown e.nodes r tree next (λ polls. ap length (nothing_picked (is_kin PollingChannel r.parent) e.nodes (none_all _ e.nodes (new.channel polls)))) framed.channels;
       sizes = all_grown has_size e.nodes r framed.sizes new.size;
       last = framed.last;
+      waiting = framed.waiting;
+      moments = framed.moments;
     }
 
 -- what comes next in the tree

@@ -205,9 +205,9 @@ module _ (e : EntityData) (r c : ResourceData) (st : ℕ) (sound : IsSoundEntity
           one_sum : sum_by instance_size (r ∷ []) ≡ instance_size r
           one_sum = search arith
 
-  pub sound_filled : IsSoundEntity (record { home = e.home; nodes = without_all (evicted (limits_of c) (Some (instance_size r)) e.last (instances_of n e.nodes)) (restamped_at n e.last st grown); next = e.next + 1; last = e.last })
+  pub sound_filled : IsSoundEntity (record { home = e.home; nodes = without_all (evicted (limits_of c) (Some (instance_size r)) e.last (instances_of n e.nodes)) (restamped_at n e.last st grown); next = e.next + 1; last = e.last; items = e.items; numbered = e.numbered })
   sound_filled =
-      let entity : List ℕ → List ResourceData → EntityData = λ gone nodes. record { home = e.home; nodes = without_all gone nodes; next = e.next + 1; last = e.last } in
+      let entity : List ℕ → List ResourceData → EntityData = λ gone nodes. record { home = e.home; nodes = without_all gone nodes; next = e.next + 1; last = e.last; items = e.items; numbered = e.numbered } in
       let same_limits = ap (λ l. entity (evicted l (Some (instance_size r)) e.last (instances_of n e.nodes)) after.nodes) (limits_restamped e.last st c) in
       let same_nodes = ap (entity (evicted (limits_of c) (Some (instance_size r)) e.last (instances_of n e.nodes))) (restamped_is grown n e.last st c grown_tree there) in
       subst IsSoundEntity (same_limits ∙ sym same_nodes) (sound_pruned n after stamped (Some (instance_size r)) (instances_of n e.nodes) (r ∷ []) pruning)

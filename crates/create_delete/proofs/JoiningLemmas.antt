@@ -12,7 +12,7 @@ use Rattle.tree_model.proofs.TreeLemmas.{at_number}
 use Rattle.container_limits.specs.Limits.{evicted, limits_of}
 use Rattle.entity_model.specs.Entity.{EntityData}
 use Rattle.entity_model.specs.Sound.{has_state_tag, IsSoundEntity}
-use Rattle.create_delete.specs.Changing.{with_new_instance, pushed_out, without_all}
+use Rattle.create_delete.specs.Changing.{nodes_joined, with_new_instance, pushed_out, without_all}
 use Rattle.create_delete.specs.Joining.{MayJoinContainer}
 use Rattle.create_delete.specs.NewResource.{IsNewInstance, IsNewResource}
 use Rattle.create_delete.specs.declared.joining.ContainerUpdate.{ContainerUpdate}
@@ -42,18 +42,16 @@ filling_tree e r f sound may = tree_restamped (e.nodes ++ r ∷ []) f.container 
 pub pushes_named : (e : EntityData) (r c : ResourceData) (st : ℕ) → IsNewInstance e r c st → evicted (limits_of c) (Some (instance_size r)) e.last (instances_of r.parent e.nodes) ≡ pushed_out e c (Some (instance_size r))
 pushes_named e r c st filling = ap (λ (n : ℕ). evicted (limits_of c) (Some (instance_size r)) e.last (instances_of n e.nodes)) (sym (at_number r.parent e.nodes c filling.container))
 
-pub filled_is : (e : EntityData) (r : ResourceData) (f : ContainerUpdate) (may : MayJoinContainer e r f) → record { home = e.home; nodes = without_all (evicted (limits_of may.parent) (Some (instance_size r)) e.last (instances_of r.parent e.nodes)) (restamped_at r.parent e.last f.state (e.nodes ++ r ∷ [])); next = e.next + 1; last = e.last } ≡ with_new_instance e r f
+pub filled_is : (e : EntityData) (r : ResourceData) (f : ContainerUpdate) (may : MayJoinContainer e r f) → record { home = e.home; nodes = without_all (evicted (limits_of may.parent) (Some (instance_size r)) e.last (instances_of r.parent e.nodes)) (restamped_at r.parent e.last f.state (e.nodes ++ r ∷ [])); next = e.next + 1; last = e.last; items = e.items; numbered = e.numbered } ≡ with_new_instance e r f
 filled_is e r f may =
-    let after : List ℕ → ℕ → EntityData = λ gone n. record { home = e.home; nodes = without_all gone (restamped_at n e.last f.state (e.nodes ++ r ∷ [])); next = e.next + 1; last = e.last } in
+    let after : List ℕ → ℕ → EntityData = λ gone n. record { home = e.home; nodes = without_all gone (restamped_at n e.last f.state (e.nodes ++ r ∷ [])); next = e.next + 1; last = e.last; items = e.items; numbered = e.numbered } in
     ap (λ (gone : List ℕ). after gone r.parent) (pushes_named e r may.parent f.state may.joins ∙ sym may.gone)
     ∙ ap (after f.gone) (sym may.container)
 
 pub filling_sound : (e : EntityData) (r : ResourceData) (f : ContainerUpdate) → IsSoundEntity e → MayJoinContainer e r f → IsSoundEntity (with_new_instance e r f)
 filling_sound e r f sound may = subst IsSoundEntity (filled_is e r f may) (sound_filled e r may.parent f.state sound may.joins)
 
--- what the steps leave is sound
-pub filling_after : (e : EntityData) (r : ResourceData) (f : ContainerUpdate) (gone : List ℕ) (grown stamped left : List ResourceData) → IsSoundEntity e → MayJoinContainer e r f → grown ≡ e.nodes ++ r ∷ [] → stamped ≡ restamped_at f.container e.last f.state grown → gone ≡ f.gone → left ≡ without_all gone stamped → IsSoundEntity (record { home = e.home; nodes = left; next = e.next + 1; last = e.last })
-filling_after e r f gone grown stamped left sound may first second which third =
-    subst (λ (nodes : List ResourceData). IsSoundEntity (record { home = e.home; nodes = nodes; next = e.next + 1; last = e.last }))
-    (sym (third ∙ ap (λ (ns : List ℕ). without_all ns stamped) which ∙ ap (without_all f.gone) (second ∙ ap (restamped_at f.container e.last f.state) first)))
-    (filling_sound e r f sound may)
+-- what the steps leave
+pub filling_after : (moment : ℕ) (nodes : List ResourceData) (r : ResourceData) (f : ContainerUpdate) (gone : List ℕ) (grown stamped left : List ResourceData) → grown ≡ nodes ++ r ∷ [] → stamped ≡ restamped_at f.container moment f.state grown → gone ≡ f.gone → left ≡ without_all gone stamped → left ≡ nodes_joined moment nodes r (Some f)
+filling_after moment nodes r f gone grown stamped left first second which third =
+    third ∙ ap (λ (ns : List ℕ). without_all ns stamped) which ∙ ap (without_all f.gone) (second ∙ ap (restamped_at f.container moment f.state) first)

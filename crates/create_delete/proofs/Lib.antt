@@ -1,13 +1,16 @@
+pub mod CarriedLemmas
 pub mod ChangesLemmas
 pub mod CreatableLemmas
 pub mod CreatedLemmas
 pub mod DeletionLemmas
 pub mod EffectLemmas
+pub mod GoingLemmas
 pub mod GrownLemmas
 pub mod InstanceLemmas
 pub mod JoinedLemmas
 pub mod JoiningLemmas
 pub mod KeptLemmas
+pub mod KeptToldLemmas
 pub mod LeftLemmas
 pub mod NewResourceLemmas
 pub mod PlannedLemmas
@@ -21,6 +24,8 @@ pub mod RightCreateLemmas
 pub mod RightLemmas
 pub mod RightUpdateLemmas
 pub mod RowLemmas
+pub mod SilentLemmas
+pub mod SpendLemmas
 pub mod TellingLemmas
 pub mod ThoseLemmas
 pub mod UpdatableLemmas

@@ -1,16 +1,22 @@
 -- What is prepared where a request is judged, and no place refuses it.
 use Rattle.std.specs.Prelude.{unwrap_or}
 use Rattle.std.proofs.Common.{◌≡◌, ℕ, List, [], Option, Some, None, sym, ap, ◌∙◌}
+use Rattle.std.proofs.lemmas.Option.{same_Some}
 use Rattle.std.specs.Option.{option_map_or}
-use Rattle.m2m_names.specs.declared.codes.Rsc.TheVariants.{BadChild}
-use Rattle.m2m_names.specs.declared.operations.Op.TheVariants.{Create, Update}
+use Rattle.m2m_names.specs.declared.attributes.Attr.{Attr}
+use Rattle.m2m_names.specs.declared.codes.Rsc.TheVariants.{BadChild, Deleted}
+use Rattle.m2m_names.specs.declared.operations.Op.TheVariants.{Create, Delete, Update}
 use Rattle.m2m_names.specs.declared.types.Ty.{Ty}
 use Rattle.m2m_value.specs.Data.{Entry}
+use Rattle.primitive_json.specs.declared.reply.ReplyParts.{ReplyParts}
 use Rattle.primitive_json.specs.declared.request.RequestParts.{RequestParts}
-use Rattle.tree_model.specs.Tree.{at}
+use Rattle.resource_model.specs.Resource.{has_number}
+use Rattle.tree_model.specs.Changes.{ChangeData, creation_changes, update_changes}
+use Rattle.tree_model.specs.Tree.{at, without}
 use Rattle.tree_model.proofs.TreeLemmas.{at_number}
-use Rattle.entity_model.specs.Entity.{EntityData}
-use Rattle.entity_model.specs.Places.{Effect, refused}
+use Rattle.entity_model.specs.Entity.{EntityData, telling}
+use Rattle.entity_model.specs.Places.{Effect, refused, reply_to}
+use Rattle.entity_model.specs.Sound.{IsSoundEntity}
 use Rattle.request_rules.specs.Creation.{creation_of}
 use Rattle.request_rules.specs.Judged.{IsCreateOf, IsUpdateOf, creation_for}
 use Rattle.request_rules.specs.Order.{creation_by, fault_at}
@@ -18,17 +24,20 @@ use Rattle.request_rules.specs.declared.judging.AllowedCreate.{AllowedCreate}
 use Rattle.request_rules.specs.declared.judging.AllowedUpdate.{AllowedUpdate}
 use Rattle.request_rules.specs.Requests.{content_for}
 use Rattle.request_rules.proofs.EditingLemmas.{content_names}
-use Rattle.request_rules.proofs.OrderLemmas.{nothing_on}
+use Rattle.request_rules.proofs.OrderLemmas.{found_at, nothing_on}
 use Rattle.create_delete.specs.Changing.{after_joining, create_effect, nodes_updated, effect_at, pushed_by, update_effect}
-use Rattle.create_delete.specs.Joining.{IsAllowed, MayJoin}
+use Rattle.create_delete.specs.Joining.{IsAllowed, MayJoin, gone_by}
 use Rattle.create_delete.specs.NewResource.{IsReplacement}
 use Rattle.create_delete.specs.Prepared.{IsPreparedCreate, IsPreparedUpdate}
 use Rattle.create_delete.specs.Updating.{IsUpdatable}
 use Rattle.create_delete.specs.declared.creation.PreparedCreate.{PreparedCreate}
 use Rattle.create_delete.specs.declared.updating.PreparedUpdate.{PreparedUpdate}
-use Rattle.create_delete.proofs.ChangesLemmas.{created_are, updated_are}
+use Rattle.create_delete.specs.Changes.{attrs_of, changes_by, named_attrs}
+use Rattle.create_delete.specs.Telling.{gone_numbers, numbers_below, removed_told, told_effect_at, updated_told}
+use Rattle.create_delete.proofs.ChangesLemmas.{delete_changes, delete_gone, join_gone, join_makes_changes, updating_changes, updating_gone}
 use Rattle.create_delete.proofs.CreatableLemmas.{allowed}
-use Rattle.create_delete.proofs.EffectLemmas.{done_at}
+use Rattle.create_delete.proofs.DeletionLemmas.{deletable, delete_done}
+use Rattle.create_delete.proofs.EffectLemmas.{done_at, told_after, told_refused_at, told_reply}
 use Rattle.create_delete.proofs.UpdatableLemmas.{updatable}
 
 -- ---- a Create
@@ -51,11 +60,14 @@ module _ (e : EntityData) (o : List ℕ) (request : RequestParts) (n : ℕ) (cre
   pub create_prepared : (p : PreparedCreate) → MayJoin e p.resource p.update → p.reply ≡ (create_effect request (creation_for e o create)).reply → after_joining e p.resource p.update ≡ (create_effect request (creation_for e o create)).after → IsPreparedCreate e o request n p
   create_prepared p may reply after =
       let leaves : after_joining e p.resource p.update ≡ (effect_at Create e o request n).after = after ∙ ap (λ (x : Effect). x.after) (sym create_does) in
+      let tells : List ℕ → List ChangeData → EntityData = λ going changes. telling e.nodes going changes (after_joining e p.resource p.update) in
       record {
         may = may;
-        reply = reply ∙ ap (λ (x : Effect). x.reply) (sym create_does);
-        after = leaves;
-        changes = created_are e o request n p.resource p.update asked.sound none may leaves;
+        reply = reply ∙ ap (λ (x : Effect). x.reply) (sym create_does) ∙ sym (told_reply Create e o request n create.parent.now asked.parent none);
+        after =
+            ap (λ (going : List ℕ). tells going (creation_changes e.nodes p.resource (gone_by p.update))) (sym (join_gone e p.resource p.update asked.sound may))
+            ∙ ap (tells (gone_numbers e (after_joining e p.resource p.update))) (sym (join_makes_changes e p.resource p.update request n asked.sound may))
+            ∙ sym (told_after Create e o request n create.parent.now (after_joining e p.resource p.update) asked.parent none leaves);
       }
 
 -- ---- an Update
@@ -77,13 +89,41 @@ module _ (e : EntityData) (o : List ℕ) (request : RequestParts) (n : ℕ) (upd
       done_at Update e o request n update.target.now asked.target none
       ∙ ap (λ (x : Option (List Entry)). update_effect e request (unwrap_or x []) update.target.now) update_names
 
-  pub update_prepared : (p : PreparedUpdate) → IsReplacement e p.resource → p.resource.number ≡ update.target.now.number → p.gone ≡ pushed_by e p.resource → p.reply ≡ (update_effect e request update.named.now update.target.now).reply → record e { nodes = nodes_updated e p.resource } ≡ (update_effect e request update.named.now update.target.now).after → IsPreparedUpdate e o request n p
-  update_prepared p may same gone reply after =
+  pub update_prepared : (p : PreparedUpdate) → IsReplacement e p.resource → p.resource.number ≡ update.target.now.number → p.named ≡ attrs_of update.named.now → p.gone ≡ pushed_by e p.resource → p.reply ≡ (update_effect e request update.named.now update.target.now).reply → record e { nodes = nodes_updated e p.resource } ≡ (update_effect e request update.named.now update.target.now).after → IsPreparedUpdate e o request n p
+  update_prepared p may same named gone reply after =
       let leaves : record e { nodes = nodes_updated e p.resource } ≡ (effect_at Update e o request n).after = after ∙ ap (λ (x : Effect). x.after) (sym update_does) in
+      let tells : List ℕ → List ChangeData → EntityData = λ going changes. telling e.nodes going changes (record e { nodes = nodes_updated e p.resource }) in
       record {
         may = may;
         gone = gone;
-        reply = reply ∙ ap (λ (x : Effect). x.reply) (sym update_does);
-        after = leaves;
-        changes = λ r found. updated_are e o request n r p.resource p.gone asked.sound none found (same ∙ number) may gone leaves;
+        reply = reply ∙ ap (λ (x : Effect). x.reply) (sym update_does) ∙ sym (told_reply Update e o request n update.target.now asked.target none);
+        after = λ r found.
+            let is : update.target.now ≡ r = same_Some update.target.now r (sym asked.target ∙ ap (λ (m : ℕ). at m e.nodes) (sym (same ∙ number)) ∙ found) in
+            let names : p.named ≡ named_attrs request r = named ∙ ap (λ (x : Option (List Entry)). attrs_of (unwrap_or x [])) (sym update_names) ∙ ap (named_attrs request) is in
+            ap (λ (attrs : List Attr). updated_told e r p.resource attrs p.gone) names
+            ∙ ap (updated_told e r p.resource (named_attrs request r)) gone
+            ∙ ap (λ (going : List ℕ). tells going (update_changes e.nodes r p.resource (named_attrs request r) (pushed_by e p.resource))) (sym (updating_gone e asked.sound p.resource may))
+            ∙ ap (tells (gone_numbers e (record e { nodes = nodes_updated e p.resource }))) (sym (updating_changes e asked.sound p.resource may request r found))
+            ∙ ap (λ (m : ℕ). tells (gone_numbers e (record e { nodes = nodes_updated e p.resource })) (changes_by Update request m e (record e { nodes = nodes_updated e p.resource }))) (same ∙ number)
+            ∙ sym (told_after Update e o request n update.target.now (record e { nodes = nodes_updated e p.resource }) asked.target none leaves);
       }
+
+-- ---- a Delete
+
+abbrev pub removed_and_told : EntityData → RequestParts → ℕ → Effect
+removed_and_told e request n = record { reply = reply_to request Deleted None; after = removed_told e n }
+
+-- where nothing refuses it, the resource goes with all that stands below it, and that is told
+pub delete_told : (e : EntityData) (o : List ℕ) (request : RequestParts) (n : ℕ) → IsSoundEntity e → fault_at Delete e o request n ≡ None → told_effect_at Delete e o request n ≡ removed_and_told e request n
+delete_told e o request n sound none =
+    let found = found_at Delete e o request n none in
+    let after : EntityData = record e { nodes = without (has_number n) e.nodes } in
+    ap (λ (x : ReplyParts). record { reply = x; after = (told_effect_at Delete e o request n).after })
+    (told_reply Delete e o request n found.0 found.1 none ∙ ap (λ (x : Effect). x.reply) (delete_done e o request n none))
+    ∙ ap (λ (x : EntityData). record { reply = reply_to request Deleted None; after = x })
+    (told_after Delete e o request n found.0 after found.1 none (sym (ap (λ (x : Effect). x.after) (delete_done e o request n none)))
+    ∙ ap (λ (going : List ℕ). telling e.nodes going (changes_by Delete request n e after) after) (delete_gone e n sound)
+    ∙ ap (λ (changes : List ChangeData). telling e.nodes (numbers_below n e.nodes) changes after) (delete_changes e request n sound))
+
+-- a deletion that is done, and one that is refused
+pub ruleset deletion_cases = (delete_told, deletable, told_refused_at)

@@ -40,13 +40,13 @@ pub record IsSoundBut (n : ℕ) (e : EntityData) : Type 0 where
   pub quiet : list_all (is_quiet_but n e.last e.nodes) e.nodes ≡ true
 
 abbrev pub left_by : (ResourceData → Bool) → EntityData → EntityData
-left_by p e = record { home = e.home; nodes = without p e.nodes; next = e.next; last = e.last }
+left_by p e = record { home = e.home; nodes = without p e.nodes; next = e.next; last = e.last; items = e.items; numbered = e.numbered }
 
 but_left : (p : ResourceData → Bool) (n : ℕ) (e : EntityData) → IsSoundBut n e → spares_first p e.nodes ≡ true → IsSoundBut n (left_by p e)
 but_left p n e sound spared =
     let tree = tree_from_well_formed e.nodes sound.frame.tree in
     record {
-      frame = framed_left p e e.last sound.frame spared sound.frame.last;
+      frame = framed_left p e e.last e.items sound.frame spared sound.frame.last sound.frame.waiting sound.frame.moments;
       limits = all_left p (is_within_but n) e.nodes (λ s held. elim (or_cases (has_number n s) (is_within_limits e.nodes s) held) [
         | inl here ↦ or_left _ _ here
         | inr within ↦ or_right _ _ (limits_left p e.nodes s within)

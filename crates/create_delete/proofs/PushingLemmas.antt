@@ -17,7 +17,7 @@ pub evicted_ascend : (limits : Limits) (size : Option ℕ) (moment n : ℕ) (nod
 evicted_ascend limits size moment n nodes tree =
     picked_ascend (is_instance n) (λ r. not (has r.number (kept limits size moment (instances_of n nodes)))) nodes tree
 
-none_ascend : DoAscend []
+pub none_ascend : DoAscend []
 unfolding IsStrictlySortedBy
 none_ascend = tt
 

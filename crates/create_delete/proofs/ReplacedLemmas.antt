@@ -123,7 +123,7 @@ module _ (nodes : List ResourceData) (c : ResourceData) (stood : option_map stan
 -- ---- soundness but for limits and what is due
 
 abbrev pub replaced_by : EntityData → ResourceData → EntityData
-replaced_by e c = record { home = e.home; nodes = replaced c e.nodes; next = e.next; last = e.last }
+replaced_by e c = record { home = e.home; nodes = replaced c e.nodes; next = e.next; last = e.last; items = e.items; numbered = e.numbered }
 
 pub framed_replaced : (e : EntityData) (c : ResourceData) → IsFramed e → IsReplacement e c → IsFramed (replaced_by e c)
 framed_replaced e c framed new =
@@ -146,6 +146,8 @@ framed_replaced e c framed new =
       channels = all_channels;
       sizes = all_replaced has_size c e.nodes framed.sizes (or_left _ _ (not_from_false _ new.plain));
       last = framed.last;
+      waiting = framed.waiting;
+      moments = framed.moments;
     }
   where
     was : Stood e.nodes c

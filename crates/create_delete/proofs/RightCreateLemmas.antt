@@ -178,10 +178,10 @@ module _ (e : EntityData) (sound : IsSoundEntity e) (r c : ResourceData) (st : �
   -- ---- what it changes
 
   abbrev after : EntityData
-  after = record { home = e.home; nodes = nodes_filled; next = e.next + 1; last = e.last }
+  after = record { home = e.home; nodes = nodes_filled; next = e.next + 1; last = e.last; items = e.items; numbered = e.numbered }
 
   -- what stands after stood there with the new one, but for the container
-  stood_grown : (m : ℕ) (s : ResourceData) → m ≢ c.number → at m nodes_filled ≡ Some s → at m all ≡ Some s
+  pub stood_grown : (m : ℕ) (s : ResourceData) → m ≢ c.number → at m nodes_filled ≡ Some s → at m all ≡ Some s
   stood_grown m s other found = sym (at-replaced_other m stamped all other) ∙ filled_left.stood m s found
 
   created : (s : ResourceData) → IsNew e.nodes nodes_filled s → s.parent ≡ r.parent
@@ -202,7 +202,7 @@ module _ (e : EntityData) (sound : IsSoundEntity e) (r c : ResourceData) (st : �
   itself = and_from _ _ (eq-eqb r.parent r.parent refl) filling.instance
 
   stamped_by_right : (o : List ℕ) → IsChangedByRight e o after c stamped
-  stamped_by_right o = inr (inr (r, (lacks e sound r filling.new, new_left), ap (λ (m : ℕ). is_instance m r) named ∙ itself, tag_alone))
+  stamped_by_right o = inr (inr (inl (r, (lacks e sound r filling.new, new_left), ap (λ (m : ℕ). is_instance m r) named ∙ itself, tag_alone)))
 
   -- of what stood there the container alone differs
   pub changed_is : (a b : ResourceData) → IsChanged e.nodes nodes_filled a b → (c ≡ a) × (stamped ≡ b)
@@ -235,7 +235,7 @@ module _ (e : EntityData) (sound : IsSoundEntity e) (r c : ResourceData) (st : �
   filled_by_right o right = record {
     created = λ s fresh. (created s fresh, right);
     changed = changed o;
-    removed = λ s gone. inr (removed s gone, right);
+    removed = λ s gone. inr (inl (removed s gone, right));
   }
 
 -- ---- what joins

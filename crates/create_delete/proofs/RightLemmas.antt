@@ -8,23 +8,34 @@ use Rattle.m2m_names.specs.declared.operations.Op.TheVariants.{Create, Retrieve,
 use Rattle.m2m_names.specs.declared.types.Ty.TheVariants.{Container}
 use Rattle.primitive_json.specs.declared.request.RequestParts.{RequestParts}
 use Rattle.resource_model.specs.Resource.{ResourceData, has_number, is_ty}
+use Rattle.subscription_match.specs.Notices.{notes_of_all}
+use Rattle.subscription_match.specs.declared.drafts.DraftParts.{DraftParts}
+use Rattle.tree_model.specs.Changes.{ChangeData, update_changes}
 use Rattle.tree_model.specs.Tree.{at, instances_of}
 use Rattle.container_limits.specs.Limits.{kept, limits_of}
-use Rattle.entity_model.specs.Entity.{EntityData}
+use Rattle.entity_model.specs.Entity.{EntityData, with_told}
 use Rattle.entity_model.specs.Places.{Effect}
 use Rattle.entity_model.specs.Sound.{IsSoundEntity}
 use Rattle.entity_model.proofs.SoundLemmas.{sound_removed}
+use Rattle.entity_model.proofs.TellingLemmas.{sound_told}
 use Rattle.request_rules.specs.Order.{fault_at}
 use Rattle.request_rules.proofs.OrderLemmas.{found_at}
-use Rattle.create_delete.specs.Changing.{nodes_updated, effect_at, pushed_by, pushed_out, without_all}
+use Rattle.request_rules.specs.Creation.{new_resource}
+use Rattle.create_delete.specs.Changes.{changes_by, named_attrs}
+use Rattle.create_delete.specs.Changing.{after_joining, container_update_of, nodes_updated, effect_at, pushed_by, pushed_out, updated_resource, without_all}
 use Rattle.create_delete.specs.Guard.{ChangesByRight, NamesInOrder}
 use Rattle.create_delete.specs.NewResource.{IsReplacement}
+use Rattle.create_delete.specs.Telling.{gone_numbers, told_effect_at}
 use Rattle.create_delete.proofs.DeletionLemmas.{deletable, deletable_spared, deletion_keeps, deletion_takes, delete_done}
 use Rattle.create_delete.proofs.LeftLemmas.{instances_left}
-use Rattle.create_delete.proofs.EffectLemmas.{done_at, refused_at}
+use Rattle.create_delete.proofs.ChangesLemmas.{updating_changes}
+use Rattle.create_delete.proofs.EffectLemmas.{done_at, refused_at, told_after, told_refused_at}
+use Rattle.create_delete.proofs.KeptToldLemmas.{keeps_joined, keeps_removed, keeps_same, keeps_updated, KeepsTold}
 use Rattle.create_delete.proofs.ReplacedLemmas.{replaced_by}
-use Rattle.create_delete.proofs.RightCreateLemmas.{create_by_right, create_sound}
-use Rattle.create_delete.proofs.RightUpdateLemmas.{update_by_right, update_sound}
+use Rattle.create_delete.proofs.ReplacementLemmas.{replacement}
+use Rattle.create_delete.proofs.RightCreateLemmas.{after_is, create, create_by_right, create_sound, joins, made_sound}
+use Rattle.create_delete.proofs.RightUpdateLemmas.{is_update, update_by_right, update_sound, updated_in}
+use Rattle.create_delete.proofs.SpendLemmas.{told_right}
 use Rattle.create_delete.proofs.UpdatedLemmas.{pruning}
 
 -- ---- where nothing changes
@@ -94,6 +105,82 @@ changes_by_right op e o request n sound originator content = by_fault e o reques
 
 pub stays_sound : (op : Op) (e : EntityData) (o : List ℕ) (request : RequestParts) (n : ℕ) → IsSoundEntity e → is_originator o ≡ true → NamesInOrder request → IsSoundEntity (effect_at op e o request n).after
 stays_sound op e o request n sound originator content = sound_by_fault e o request n sound originator content op (fault_at op e o request n) refl
+
+-- ---- and where it is told
+
+module _ (e : EntityData) (o : List ℕ) (request : RequestParts) (n : ℕ) (sound : IsSoundEntity e) (originator : is_originator o ≡ true) (content : NamesInOrder request) where
+  abbrev left : Op → EntityData
+  left op = (effect_at op e o request n).after
+
+  abbrev drafts : Op → List DraftParts
+  drafts op = notes_of_all (left op).home e.nodes (gone_numbers e (left op)) (changes_by op request n e (left op))
+
+  create_keeps : fault_at Create e o request n ≡ None → KeepsTold e.nodes (drafts Create) (left Create).nodes
+  create_keeps none =
+      let c = create e o request n sound originator content none in
+      let home = (left Create).home in
+      let going = gone_numbers e (left Create) in
+      let changes = changes_by Create request n e (left Create) in
+      let r = new_resource c.made in
+      let f = container_update_of c.made in
+      subst (λ (x : EntityData). KeepsTold e.nodes (notes_of_all home e.nodes going changes) x.nodes) (sym (after_is e o request n sound originator content none))
+      (subst (λ (x : EntityData). KeepsTold x.nodes (notes_of_all home x.nodes going changes) (after_joining c.made.e r f).nodes) c.entity
+      (keeps_joined home c.made.e (made_sound e o request n sound originator content none) going r changes f (joins e o request n sound originator content none)))
+
+  update_keeps : fault_at Update e o request n ≡ None → KeepsTold e.nodes (drafts Update) (left Update).nodes
+  update_keeps none =
+      let u = is_update e o request n content none in
+      let now = updated_resource e u.es u.target in
+      let new = replacement e u.es u.target sound u.sorted u.may in
+      let home = (left Update).home in
+      let going = gone_numbers e (left Update) in
+      let makes : changes_by Update request n e (left Update) ≡ update_changes e.nodes u.target now (named_attrs request u.target) (pushed_by e now) =
+      ap (changes_by Update request n e) u.after
+      ∙ ap (λ (m : ℕ). changes_by Update request m e (updated_in e now)) (sym u.number)
+      ∙ updating_changes e sound now new request u.target u.may.stands in
+      subst (λ (x : EntityData). KeepsTold e.nodes (notes_of_all home e.nodes going (changes_by Update request n e (left Update))) x.nodes) (sym u.after)
+      (subst (λ (cs : List ChangeData). KeepsTold e.nodes (notes_of_all home e.nodes going cs) (nodes_updated e now)) (sym makes)
+      (keeps_updated home e sound going u.target now (named_attrs request u.target) new))
+
+  delete_keeps : fault_at Delete e o request n ≡ None → KeepsTold e.nodes (drafts Delete) (left Delete).nodes
+  delete_keeps none =
+      subst (λ (x : EntityData). KeepsTold e.nodes (drafts Delete) x.nodes) (sym (ap (λ (x : Effect). x.after) (delete_done e o request n none)))
+      (keeps_removed (left Delete).home e sound (gone_numbers e (left Delete)) (has_number n) (changes_by Delete request n e (left Delete)))
+
+  same_keeps : (op : Op) → left op ≡ e → KeepsTold e.nodes (drafts op) (left op).nodes
+  same_keeps op same =
+      subst (λ (x : EntityData). KeepsTold e.nodes (drafts op) x.nodes) (sym same)
+      (keeps_same (left op).home e sound (gone_numbers e (left op)) (changes_by op request n e (left op)))
+
+  keeps : (op : Op) → fault_at op e o request n ≡ None → KeepsTold e.nodes (drafts op) (left op).nodes
+  keeps Create none = create_keeps none
+  keeps Retrieve none = same_keeps Retrieve (retrieve_same e o request n none)
+  keeps Update none = update_keeps none
+  keeps Delete none = delete_keeps none
+  keeps Notify none = same_keeps Notify (notify_same e o request n none)
+
+  told_is : (op : Op) → fault_at op e o request n ≡ None → (told_effect_at op e o request n).after ≡ with_told e.nodes (drafts op) (left op)
+  told_is op none =
+      let found = found_at op e o request n none in
+      told_after op e o request n found.0 (left op) found.1 none refl
+
+  by_right_or_refused : (op : Op) (x : Option Rsc) → fault_at op e o request n ≡ x → ChangesByRight op e o n (told_effect_at op e o request n).after
+  by_right_or_refused op (Some f) is = subst (ChangesByRight op e o n) (sym (ap (λ (x : Effect). x.after) (told_refused_at op e o request n f is))) (unchanged op e o n)
+  by_right_or_refused op None none =
+      subst (ChangesByRight op e o n) (sym (told_is op none))
+      (told_right op e o n (drafts op) (left op) (stays_sound op e o request n sound originator content) (keeps op none) (changes_by_right op e o request n sound originator content))
+
+  sound_or_refused : (op : Op) (x : Option Rsc) → fault_at op e o request n ≡ x → IsSoundEntity (told_effect_at op e o request n).after
+  sound_or_refused op (Some f) is = subst IsSoundEntity (sym (ap (λ (x : Effect). x.after) (told_refused_at op e o request n f is))) sound
+  sound_or_refused op None none =
+      subst IsSoundEntity (sym (told_is op none)) (sound_told e.nodes (drafts op) (left op) (stays_sound op e o request n sound originator content))
+
+-- what an operation changes, and what is told of it, it does by right
+pub told_by_right : (op : Op) (e : EntityData) (o : List ℕ) (request : RequestParts) (n : ℕ) → IsSoundEntity e → is_originator o ≡ true → NamesInOrder request → ChangesByRight op e o n (told_effect_at op e o request n).after
+told_by_right op e o request n sound originator content = by_right_or_refused e o request n sound originator content op (fault_at op e o request n) refl
+
+pub told_stays_sound : (op : Op) (e : EntityData) (o : List ℕ) (request : RequestParts) (n : ℕ) → IsSoundEntity e → is_originator o ≡ true → NamesInOrder request → IsSoundEntity (told_effect_at op e o request n).after
+told_stays_sound op e o request n sound originator content = sound_or_refused e o request n sound originator content op (fault_at op e o request n) refl
 
 -- ---- a container after an update
 

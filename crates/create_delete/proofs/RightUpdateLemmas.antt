@@ -37,7 +37,7 @@ use Rattle.create_delete.proofs.UpdatedLemmas.{pruning, sound_updated}
 
 -- the entity in which a resource is as it is now
 abbrev pub updated_in : EntityData → ResourceData → EntityData
-updated_in e now = record { home = e.home; nodes = nodes_updated e now; next = e.next; last = e.last }
+updated_in e now = record { home = e.home; nodes = nodes_updated e now; next = e.next; last = e.last; items = e.items; numbered = e.numbered }
 
 -- ---- where a resource takes a place
 
@@ -146,7 +146,7 @@ module _ (e : EntityData) (sound : IsSoundEntity e) (o : List ℕ) (request : Re
               cc
           | inr other ↦
               let updates_it : is_granted e o (op_row Update).bit old.number ≡ true = rw other at right in
-              inr ((updated_left e sound now new).gone r stands gone.1, updates_it)
+              inr (inl ((updated_left e sound now new).gone r stands gone.1, updates_it))
         ]
   ]
 

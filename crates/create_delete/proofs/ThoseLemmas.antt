@@ -40,6 +40,17 @@ those_evicted limits size moment n nodes tree =
     subst (λ (rs : List ResourceData). those_of (numbers_of rs) nodes ≡ filter (is_numbered_in (numbers_of rs)) nodes) (sym (filter_both (is_instance n) goes nodes))
     (those_picked (λ s. is_instance n s && goes s) nodes tree)
 
+-- and so are their numbers
+numbers_picked : (p : ResourceData → Bool) (nodes : List ResourceData) → is_tree nodes ≡ true → numbers_of (filter (is_numbered_in (numbers_of (filter p nodes))) nodes) ≡ numbers_of (filter p nodes)
+numbers_picked p nodes tree =
+    ap numbers_of (sym (those_picked p nodes tree) ∙ those_all nodes (filter p nodes) (λ k s got. placed_stands p nodes k s tree got))
+
+pub numbers_evicted : (limits : Limits) (size : Option ℕ) (moment n : ℕ) (nodes : List ResourceData) → is_tree nodes ≡ true → numbers_of (filter (is_numbered_in (evicted limits size moment (instances_of n nodes))) nodes) ≡ evicted limits size moment (instances_of n nodes)
+numbers_evicted limits size moment n nodes tree =
+    let goes : ResourceData → Bool = λ s. not (has s.number (kept limits size moment (instances_of n nodes))) in
+    subst (λ (rs : List ResourceData). numbers_of (filter (is_numbered_in (numbers_of rs)) nodes) ≡ numbers_of rs) (sym (filter_both (is_instance n) goes nodes))
+    (numbers_picked (λ s. is_instance n s && goes s) nodes tree)
+
 none_false : (nodes : List ResourceData) → list_all (λ (s : ResourceData). not false) nodes ≡ true
 none_false [] = refl
 none_false (s ∷ nodes) = none_false nodes
@@ -49,4 +60,10 @@ pub those_pushed : (e : EntityData) (c : ResourceData) → is_tree e.nodes ≡ t
 those_pushed e c tree = elim (cases_Bool (is_ty c.ty Container)) [
   | inl t ↦ rw t (those_evicted (limits_of c) None e.last c.number e.nodes tree)
   | inr f ↦ rw f (sym (nothing_picked (is_numbered_in []) e.nodes (none_false e.nodes)))
+]
+
+pub numbers_pushed : (e : EntityData) (c : ResourceData) → is_tree e.nodes ≡ true → numbers_of (filter (is_numbered_in (pushed_by e c)) e.nodes) ≡ pushed_by e c
+numbers_pushed e c tree = elim (cases_Bool (is_ty c.ty Container)) [
+  | inl t ↦ rw t (numbers_evicted (limits_of c) None e.last c.number e.nodes tree)
+  | inr f ↦ rw f (ap numbers_of (nothing_picked (is_numbered_in []) e.nodes (none_false e.nodes)))
 ]

@@ -19,7 +19,7 @@ use Rattle.tree_model.proofs.OrderLemmas.{ascend_filter, tree_ascends}
 use Rattle.entity_model.specs.Entity.{EntityData}
 use Rattle.entity_model.specs.Sound.{IsSoundEntity}
 use Rattle.entity_model.proofs.SoundLemmas.{framed_from}
-use Rattle.create_delete.specs.Changing.{pushed_by, pushed_out, without_all}
+use Rattle.create_delete.specs.Changing.{nodes_updated, pushed_by, pushed_out, without_all}
 use Rattle.create_delete.specs.NewResource.{IsReplacement}
 use Rattle.create_delete.proofs.GrownLemmas.{is_within_but, nothing_within, within_by}
 use Rattle.create_delete.proofs.InstanceLemmas.{instance_type, takes_is_container}
@@ -80,9 +80,9 @@ module _ (e : EntityData) (c : ResourceData) (sound : IsSoundEntity e) (new : Is
       subst (λ (x : ResourceData). within_by x (instances_of x.number now) ≡ true) is (or_left _ _ (not_from_false _ other)))
       (all_by_number (λ s. not (is_instance n s) || not (is_due now e.last s)) now (tree_from_well_formed now but.frame.tree) (λ s found. or_left _ _ (not_from_false _ (none_under other s found))))
 
-  pub sound_updated : IsSoundEntity (record { home = e.home; nodes = without_all (pushed_by e c) (replaced c e.nodes); next = e.next; last = e.last })
+  pub sound_updated : IsSoundEntity (record { home = e.home; nodes = without_all (pushed_by e c) (replaced c e.nodes); next = e.next; last = e.last; items = e.items; numbered = e.numbered })
   sound_updated =
-      let entity : List ℕ → EntityData = λ gone. record { home = e.home; nodes = without_all gone now; next = e.next; last = e.last } in
+      let entity : List ℕ → EntityData = λ gone. record { home = e.home; nodes = without_all gone now; next = e.next; last = e.last; items = e.items; numbered = e.numbered } in
       elim (cases_Bool (is_ty c.ty Container)) [
         | inl t ↦
             let same : pushed_out e c None ≡ pushed_by e c = rw t refl in
@@ -90,13 +90,11 @@ module _ (e : EntityData) (c : ResourceData) (sound : IsSoundEntity e) (new : Is
         | inr f ↦
             let same : pushed_by e c ≡ [] = rw f refl in
             let all : without_all [] now ≡ now = nothing_removed now (tree_from_well_formed now but.frame.tree) in
-            let keep : List ResourceData → EntityData = λ nodes. record { home = e.home; nodes = nodes; next = e.next; last = e.last } in
+            let keep : List ResourceData → EntityData = λ nodes. record { home = e.home; nodes = nodes; next = e.next; last = e.last; items = e.items; numbered = e.numbered } in
             subst IsSoundEntity (sym (ap entity same ∙ ap keep all)) (plain_sound f)
       ]
 
--- what the steps leave is sound
-pub updated_after : (e : EntityData) (c : ResourceData) (gone : List ℕ) (turned left : List ResourceData) → IsSoundEntity e → IsReplacement e c → turned ≡ replaced c e.nodes → gone ≡ pushed_by e c → left ≡ without_all gone turned → IsSoundEntity (record { home = e.home; nodes = left; next = e.next; last = e.last })
-updated_after e c gone turned left sound new first which second =
-    subst (λ (nodes : List ResourceData). IsSoundEntity (record { home = e.home; nodes = nodes; next = e.next; last = e.last }))
-    (sym (second ∙ ap (λ (numbers : List ℕ). without_all numbers turned) which ∙ ap (without_all (pushed_by e c)) first))
-    (sound_updated e c sound new)
+-- what the steps leave
+pub updated_after : (e : EntityData) (c : ResourceData) (gone : List ℕ) (turned left : List ResourceData) → turned ≡ replaced c e.nodes → gone ≡ pushed_by e c → left ≡ without_all gone turned → left ≡ nodes_updated e c
+updated_after e c gone turned left first which second =
+    second ∙ ap (λ (numbers : List ℕ). without_all numbers turned) which ∙ ap (without_all (pushed_by e c)) first

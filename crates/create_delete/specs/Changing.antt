@@ -45,22 +45,25 @@ pushed_out e container size =
 
 -- ---- Create
 
--- the entity with a new instance, which is the last in order of creation: its container was changed
--- at the moment, and has pushed out what doesn't fit beside it
-abbrev pub with_new_instance : EntityData → ResourceData → ContainerUpdate → EntityData
-with_new_instance e r f = record e {
-  nodes = without_all f.gone (restamped_at f.container e.last f.state (e.nodes ++ r ∷ []));
-  next = e.next + 1;
-}
+-- The list with a new resource, which is the last in order of creation. An instance changes its
+-- container too: that was changed at the moment, and has pushed out what doesn't fit beside it.
+abbrev pub nodes_joined : ℕ → List ResourceData → ResourceData → Option ContainerUpdate
+    → List ResourceData
+nodes_joined moment nodes r None = nodes ++ r ∷ []
+nodes_joined moment nodes r (Some f) =
+    without_all f.gone (restamped_at f.container moment f.state (nodes ++ r ∷ []))
 
--- the entity with any other resource
-abbrev pub with_new_resource : EntityData → ResourceData → EntityData
-with_new_resource e r = record e { nodes = e.nodes ++ r ∷ []; next = e.next + 1 }
-
--- The entity with a new resource: an instance changes its container too.
+-- the entity with a new resource
 abbrev pub after_joining : EntityData → ResourceData → Option ContainerUpdate → EntityData
-after_joining e r None = with_new_resource e r
-after_joining e r (Some f) = with_new_instance e r f
+after_joining e r f =
+    record e { nodes = nodes_joined e.last e.nodes r f; next = e.next + 1 }
+
+-- with one that is an instance, and with any other
+abbrev pub with_new_instance : EntityData → ResourceData → ContainerUpdate → EntityData
+with_new_instance e r f = after_joining e r (Some f)
+
+abbrev pub with_new_resource : EntityData → ResourceData → EntityData
+with_new_resource e r = after_joining e r None
 
 -- what the resource of a creation does besides
 abbrev pub container_update_of : Creation → Option ContainerUpdate

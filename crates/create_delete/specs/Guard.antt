@@ -1,5 +1,5 @@
 -- What an operation may change, and by what right (TS-0001, 9.6.2).
-use Rattle.std.specs.Prelude.{◌≡◌, ◌≢◌, ◌⊎◌, ℕ, Bool, false, List, [], ◌∷◌, Some, None}
+use Rattle.std.specs.Prelude.{◌≡◌, ◌≢◌, ◌⊎◌, ◌<◌, ℕ, Bool, false, List, [], ◌∷◌, Some, None}
 use Rattle.std.specs.Prelude.{IsTrue, if◌then◌else◌}
 use Rattle.m2m_names.specs.declared.attributes.Attr.{Attr}
 use Rattle.m2m_names.specs.declared.attributes.Attr.TheVariants.{Acpi, St}
@@ -7,13 +7,14 @@ use Rattle.m2m_names.specs.declared.operations.Op.{Op}
 use Rattle.m2m_names.specs.declared.operations.Op.TheVariants.{Create, Retrieve, Update, Delete}
 use Rattle.m2m_names.specs.declared.operations.Op.TheVariants.{Notify}
 use Rattle.m2m_names.specs.declared.types.Ty.{Ty}
-use Rattle.m2m_names.specs.declared.types.Ty.TheVariants.{Container}
+use Rattle.m2m_names.specs.declared.types.Ty.TheVariants.{Container, Subscription}
 use Rattle.m2m_value.specs.Data.{Entry}
 use Rattle.m2m_value.specs.Node.{AreSorted}
 use Rattle.primitive_json.specs.declared.request.RequestParts.{RequestParts}
 use Rattle.resource_model.specs.Attributes.{value_of}
 use Rattle.resource_model.specs.Resource.{ResourceData, is_ty}
-use Rattle.tree_model.specs.Tree.{at, is_at_or_below, is_instance}
+use Rattle.subscription_match.specs.Spending.{left_to}
+use Rattle.tree_model.specs.Tree.{at, is_at_or_below, is_instance, recounted}
 use Rattle.policy_eval.specs.Rules.{is_attr_in}
 use Rattle.policy_eval.specs.Rights.{create_bit, update_bit, delete_bit, relinks}
 use Rattle.entity_model.specs.Entity.{EntityData}
@@ -57,16 +58,34 @@ container_update_attrs = St ∷ []
 
 -- ---- by what right
 
+-- Nothing but how many notifications are left to the subscription was lowered (TS-0001, 9.6.8:
+-- expirationCounter).
+pub record IsLowered (r s : ResourceData) : Type 0 where
+  pub kind : IsTrue (is_ty r.ty Subscription)
+  pub old : ℕ
+  pub left : ℕ
+  pub counted : left_to r ≡ Some old
+  pub less : left < old
+  pub rest : s ≡ recounted left r
+
+-- it is a subscription that counts
+pub record IsCounting (r : ResourceData) : Type 0 where
+  pub kind : IsTrue (is_ty r.ty Subscription)
+  pub left : ℕ
+  pub counted : left_to r ≡ Some left
+
 -- A resource that stays was changed by UPDATE, in all but whom it is judged by; or the originator
--- may change its `acpi`, and that changed; or a new instance stands in it.
+-- may change its `acpi`, and that changed; or a new instance stands in it; or it is a subscription
+-- that was told something, and counts that.
 abbrev pub IsChangedByRight :
     EntityData → List ℕ → EntityData → ResourceData → ResourceData → Type 0
 IsChangedByRight before originator after r s =
     (IsTrue (is_granted before originator update_bit r.number) × IsUpdated r s)
     ⊎ ((IsTrue (relinks before.home before.nodes originator r.number)
     × DiffersIn (link_attrs r.ty) r s)
-    ⊎ ((i : ResourceData) × IsNew before.nodes after.nodes i × IsTrue (is_instance r.number i)
-    × DiffersIn container_update_attrs r s))
+    ⊎ (((i : ResourceData) × IsNew before.nodes after.nodes i × IsTrue (is_instance r.number i)
+    × DiffersIn container_update_attrs r s)
+    ⊎ IsLowered r s))
 
 -- the operation may push out instances of the container of the number: by CREATE it adds one, or by
 -- UPDATE it changes the container (TS-0001, 9.6.6)
@@ -78,15 +97,18 @@ may_push_out Delete e originator n = false
 may_push_out Notify e originator n = false
 
 -- The resource is at or below the target, which the originator may delete, or it is an instance of
--- the target that the operation may push out.
+-- the target that the operation may push out, or it is a subscription that was told the last that
+-- it counts.
 abbrev pub IsRemovedByRight : Op → EntityData → List ℕ → ℕ → ResourceData → Type 0
 IsRemovedByRight op before originator n r =
     (IsTrue (is_at_or_below n before.nodes r)
     × IsTrue (is_granted before originator delete_bit n))
-    ⊎ (IsTrue (is_instance n r) × IsTrue (may_push_out op before originator n))
+    ⊎ ((IsTrue (is_instance n r) × IsTrue (may_push_out op before originator n))
+    ⊎ IsCounting r)
 
 -- An operation on the resource of a number changes nothing but by a grant to the originator, in the
--- entity before it: it creates under a target with CREATE, and changes and removes by right.
+-- entity before it: it creates under a target with CREATE, and changes and removes by right. The
+-- entity itself counts what it tells subscriptions.
 pub record ChangesByRight (op : Op) (before : EntityData) (originator : List ℕ) (n : ℕ)
     (after : EntityData) : Type 0 where
   pub created : (r : ResourceData) → IsNew before.nodes after.nodes r

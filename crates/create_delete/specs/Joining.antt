@@ -7,6 +7,7 @@ use Rattle.tree_model.specs.Tree.{at, instance_size}
 use Rattle.attribute_rules.specs.Admission.{are_admitted}
 use Rattle.attribute_rules.specs.declared.table.Writing.TheVariants.{Create}
 use Rattle.entity_model.specs.Entity.{EntityData}
+use Rattle.entity_model.specs.Sound.{IsSoundEntity}
 use Rattle.request_rules.specs.Creation.{Creation, has_room, is_unique}
 use Rattle.request_rules.specs.Order.{expires_later}
 use Rattle.request_rules.specs.Policies.{links_live}
@@ -42,3 +43,12 @@ MayJoin e r (Some f) = MayJoinContainer e r f
 abbrev pub gone_by : Option ContainerUpdate → List ℕ
 gone_by None = []
 gone_by (Some f) = f.gone
+
+-- A sound entity has these resources at this moment, and the resource may join it so.
+pub record JoinsAt (moment : ℕ) (nodes : List ResourceData) (r : ResourceData)
+    (f : Option ContainerUpdate) : Type 0 where
+  pub entity : EntityData
+  pub stand : entity.nodes ≡ nodes
+  pub last : entity.last ≡ moment
+  pub sound : IsSoundEntity entity
+  pub may : MayJoin entity r f

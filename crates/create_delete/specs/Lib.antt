@@ -5,3 +5,4 @@ pub mod Joining
 pub mod NewResource
 pub mod Prepared
 pub mod Updating
+pub mod Telling

@@ -7,15 +7,16 @@ ghost use Rattle.entity_model.specs.Sound.{IsSoundEntity};
 ghost use Rattle.request_rules.specs.Judged.{Judges, creation_for};
 ghost use Rattle.request_rules.specs.Order.{fault_at};
 ghost use Rattle.create_delete.specs.Changing.{after_joining, create_effect, container_update_of};
-ghost use Rattle.create_delete.specs.Changing.{effect_at};
 ghost use Rattle.create_delete.specs.Joining.{IsAllowed, MayJoin};
 ghost use Rattle.create_delete.specs.Prepared.{IsPreparedCreate};
+ghost use Rattle.create_delete.specs.Telling.{joined_told, told_effect_at};
 
 use crate::building::{new_resource, next_state};
 use crate::joining::{ContainerUpdate, put_new_resource};
+use crate::notifying::prepare_creation;
 use crate::pushing::pushed_out;
 use crate::telling::created_content;
-use entity_model::{Entity, refuse, reply_to};
+use entity_model::{Entity, refuse, reply_to, tell};
 use m2m_names::{Rsc, Ty};
 use primitive_json::{Reply, Request};
 use request_rules::{AllowedCreate, Refusal, judge_create, size_named};
@@ -30,9 +31,10 @@ pub(crate) struct PreparedCreate {
     pub(crate) reply: Reply,
 }
 
-/// Creates a resource under the one of a number, for an originator in its short form, or refuses
-/// to; 4004 where there is none. Where memory runs out, nothing has changed.
-#[tactic(auto, using(crate::proofs::EffectLemmas::refused_at))]
+/// Creates a resource under the one of a number, for an originator in its short form, and tells
+/// those who subscribed to that, or refuses to; 4004 where there is none. Where memory runs out,
+/// nothing has changed.
+#[tactic(auto, using(crate::proofs::EffectLemmas::told_refused_at))]
 pub fn create<T: Tree>(
     alloc: Global,
     entity: &mut Entity<T>,
@@ -42,13 +44,13 @@ pub fn create<T: Tree>(
 ) -> Result<Reply, OutOfMemory>
     requires { IsTrue (is_originator originator.now) }
     ensures reply { IfOk result (λ r.
-        r ≡ (effect_at Create entity.old originator.now request.now parent).reply) }
+        r ≡ (told_effect_at Create entity.old originator.now request.now parent).reply) }
     ensures after { OnOk result
-        (entity.new ≡ (effect_at Create entity.old originator.now request.now parent).after) }
+        (entity.new ≡ (told_effect_at Create entity.old originator.now request.now parent).after) }
     ensures err { OnErr result (entity.new ≡ entity.old) }
 {
     match plan(alloc, entity, originator, request, parent) {
-        Ok(prepared) => apply(entity, prepared),
+        Ok(prepared) => apply(alloc, entity, prepared),
         Err(Refusal::Fault(fault)) => refuse(alloc, request, fault),
         Err(Refusal::OutOfMemory) => Err(OutOfMemory),
     }
@@ -121,14 +123,34 @@ fn container_update<T: Tree>(
     }))
 }
 
-// The insert alone takes memory, and comes first.
-fn apply<T: Tree>(entity: &mut Entity<T>, prepared: PreparedCreate) -> Result<Reply, OutOfMemory>
+// What it tells is prepared, with room in the outbox; then the insert alone takes memory, and comes
+// first.
+fn apply<T: Tree>(
+    alloc: Global,
+    entity: &mut Entity<T>,
+    prepared: PreparedCreate,
+) -> Result<Reply, OutOfMemory>
     requires { MayJoin entity.old prepared.resource prepared.update }
     ensures reply { IfOk result (λ r. r ≡ prepared.reply) }
     ensures after { OnOk result
-        (entity.new ≡ after_joining entity.old prepared.resource prepared.update) }
+        (entity.new ≡ joined_told entity.old prepared.resource prepared.update) }
     ensures err { OnErr result (entity.new ≡ entity.old) }
 {
-    put_new_resource(entity, prepared.resource, prepared.update)?;
+    let told = prepare_creation(
+        alloc,
+        &entity.tree,
+        &entity.home,
+        &mut entity.outbox,
+        &prepared.resource,
+        &prepared.update,
+    )?;
+    put_new_resource(
+        &mut entity.tree,
+        entity.last,
+        prepared.resource,
+        prepared.update,
+    )?;
+    entity.next += 1;
+    tell(&mut entity.tree, &mut entity.outbox, entity.last, told);
     Ok(prepared.reply)
 }

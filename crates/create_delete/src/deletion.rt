@@ -4,14 +4,16 @@ ghost use Rattle.std.specs.Option.{option_map_or};
 ghost use Rattle.m2m_names.specs.Name.{is_originator};
 ghost use Rattle.m2m_names.specs.declared.codes.Rsc.TheVariants.{Deleted};
 ghost use Rattle.m2m_names.specs.declared.operations.Op.TheVariants.{Delete};
-ghost use Rattle.resource_model.specs.Resource.{ResourceData, has_number};
-ghost use Rattle.tree_model.specs.Tree.{at, without};
-ghost use Rattle.create_delete.specs.Changing.{effect_at};
+ghost use Rattle.resource_model.specs.Resource.{ResourceData};
+ghost use Rattle.tree_model.specs.Tree.{at};
+ghost use Rattle.create_delete.specs.Telling.{removed_told, told_effect_at};
 ghost use Rattle.request_rules.specs.Order.{fault_at};
 ghost use Rattle.entity_model.specs.Places as places;
+ghost use Rattle.entity_model.specs.Sound.{IsSoundEntity};
 ghost use Rattle.request_rules.specs.Requests.{is_for};
 
-use entity_model::{Entity, refuse, reply_to};
+use crate::notifying::prepare_deletion;
+use entity_model::{Entity, refuse, reply_to, tell};
 use m2m_names::{Op, Rsc};
 use primitive_json::{Reply, Request};
 use request_rules::{find, judge_target};
@@ -19,8 +21,9 @@ use std::alloc::{AllocError as OutOfMemory, Global};
 use tree_model::Tree;
 
 /// Deletes the resource of a number, with all that stands below it, for an originator in its short
-/// form, or refuses to; 4004 where there is none. Where memory runs out, nothing has changed.
-#[tactic(auto, using(crate::proofs::DeletionLemmas::deletion_cases))]
+/// form, and tells those who subscribed to that, or refuses to; 4004 where there is none. Where
+/// memory runs out, nothing has changed.
+#[tactic(auto, using(crate::proofs::PlannedLemmas::deletion_cases))]
 pub fn delete<T: Tree>(
     alloc: Global,
     entity: &mut Entity<T>,
@@ -30,16 +33,16 @@ pub fn delete<T: Tree>(
 ) -> Result<Reply, OutOfMemory>
     requires { IsTrue (is_originator originator.now) }
     ensures reply { IfOk result (λ r.
-        r ≡ (effect_at Delete entity.old originator.now request.now target).reply) }
+        r ≡ (told_effect_at Delete entity.old originator.now request.now target).reply) }
     ensures after { OnOk result
-        (entity.new ≡ (effect_at Delete entity.old originator.now request.now target).after) }
+        (entity.new ≡ (told_effect_at Delete entity.old originator.now request.now target).after) }
     ensures err { OnErr result (entity.new ≡ entity.old) }
 {
     if let Some(fault) = judge(entity, originator, request, target) {
         return refuse(alloc, request, fault);
     }
     let reply = prepare(alloc, request)?;
-    apply(entity, target);
+    apply(alloc, entity, target)?;
     Ok(reply)
 }
 
@@ -51,7 +54,8 @@ fn judge<T: Tree>(
     target: u64,
 ) -> Option<Rsc>
     requires { IsTrue (is_originator originator.now) }
-    ensures { result ≡ fault_at Delete entity.now originator.now request.now target }
+    ensures fault { result ≡ fault_at Delete entity.now originator.now request.now target }
+    ensures sound { IsSoundEntity entity.now }
 {
     match find(entity, target) {
         Some(resource) => judge_target(Op::Delete, entity, originator, request, resource),
@@ -59,19 +63,29 @@ fn judge<T: Tree>(
     }
 }
 
-// The reply, which takes all the memory that is taken.
+// The reply.
 fn prepare(alloc: Global, request: &Request) -> Result<Reply, OutOfMemory>
     ensures { IfOk result (λ r. r ≡ places.reply_to request.now Deleted None) }
 {
     reply_to(alloc, request, Rsc::Deleted, None)
 }
 
-// The removal of a resource that may be deleted, which can't fail.
-fn apply<T: Tree>(entity: &mut Entity<T>, target: u64)
+// What the removal of a resource tells that may be deleted is prepared, with room in the outbox;
+// then nothing can fail.
+fn apply<T: Tree>(alloc: Global, entity: &mut Entity<T>, target: u64) -> Result<(), OutOfMemory>
     requires { IsTrue (option_map_or (λ (r : ResourceData). is_for Delete r.ty)
         (at target entity.old.nodes) false) }
-    ensures { entity.new
-        ≡ record entity.old { nodes = without (has_number target) entity.old.nodes } }
+    ensures ok { OnOk result (entity.new ≡ removed_told entity.old target) }
+    ensures err { OnErr result (entity.new ≡ entity.old) }
 {
+    let told = prepare_deletion(
+        alloc,
+        &entity.tree,
+        &entity.home,
+        &mut entity.outbox,
+        target,
+    )?;
     entity.tree.remove_subtree(target);
+    tell(&mut entity.tree, &mut entity.outbox, entity.last, told);
+    Ok(())
 }

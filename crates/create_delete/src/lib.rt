@@ -1,13 +1,14 @@
 //! The requests that change an entity: Create, Update and Delete (TS-0001, 10.2).
 //!
-//! What comes of one is a function of the entity, the originator and the request (`effect_at` of
-//! `specs/Changing`): a refusal by the first place that doesn't hold, in the one order of the crate
-//! request_rules, and else a reply and the entity after it. A call judges, which changes nothing;
-//! it prepares, which takes all memory; and it applies, which can't fail but where a resource is
-//! put last, which comes first. Where memory runs out nothing has changed. What is prepared lends
-//! the changes that it makes, one after another (`Changes`): those by which the entity comes to be
-//! what the call leaves (`changes_at` of `specs/Changes`). The crate change_laws says what holds of
-//! each operation.
+//! What comes of one is a function of the entity, the originator and the request
+//! (`told_effect_at` of `specs/Telling`): a refusal by the first place that doesn't hold, in the
+//! one order of the crate request_rules, and else a reply and the entity after it. That is the
+//! entity which the operation leaves (`effect_at` of `specs/Changing`), told of the changes by which
+//! it comes to be so (`changes_at` of `specs/Changes`): each subscription that looks for one of them
+//! has its item in the outbox, and one that counts is lowered, or goes. A call judges, which changes
+//! nothing; it prepares, which takes all memory, room in the outbox included; and it applies, which
+//! can't fail but where a resource is put last, which comes first. Where memory runs out nothing has
+//! changed. The crate change_laws says what holds of each operation.
 //!
 //! An originator is passed in its short form. A content for a group is admitted as the table says,
 //! but its members aren't judged: callers refuse groups.
@@ -27,6 +28,7 @@ mod growth;
 mod guard;
 mod joining;
 mod listing;
+mod notifying;
 mod pushing;
 mod telling;
 mod updating;

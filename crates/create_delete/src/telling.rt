@@ -137,28 +137,13 @@ fn is_told(members: &Members, attr: Attr) -> bool
     members.get(attr.short().as_bytes()).is_some() || attr.order(Attr::Lt).is_eq()
 }
 
-fn told_rows(
-    alloc: Global,
-    members: &Members,
-    attrs: Attrs,
-) -> Result<Vec<(Attr, Val)>, OutOfMemory>
-    ensures { IfOk result (λ v. v.items ≡ filter (spec.is_told members.now) attrs) }
-{
-    let mut rows = Vec::new(alloc);
-    for (attr, value) in attrs.into_vec() {
-        if is_told(members, attr) {
-            rows.push((attr, value))?;
-        }
-    }
-    Ok(rows)
-}
-
 // The named attributes that have a value, and `lt`.
-#[tactic(auto, using(crate::proofs::RowLemmas::told_in_order))]
-fn told_attrs(alloc: Global, members: &Members, attrs: Attrs) -> Result<Attrs, OutOfMemory>
-    ensures { IfOk result (λ a. a ≡ filter (spec.is_told members.now) attrs) }
+fn told_attrs(members: &Members, attrs: Attrs) -> Attrs
+    ensures { result ≡ filter (spec.is_told members.now) attrs }
 {
-    Ok(Attrs::of(told_rows(alloc, members, attrs)?))
+    let mut rows = attrs.into_vec();
+    rows.retain(|row| is_told(members, row.0));
+    Attrs::of(rows)
 }
 
 // What the named attributes are after the update.
@@ -172,7 +157,7 @@ fn told_content<T: Tree>(
         ≡ wrapped resource.now.ty (spec.told_rows entity.now members.now resource.now)) }
 {
     let all = shown(alloc, &entity.tree, &entity.home, resource)?;
-    content(alloc, resource.ty(), told_attrs(alloc, members, all)?)
+    content(alloc, resource.ty(), told_attrs(members, all))
 }
 
 /// The content of the reply to an Update that named these attributes and left a resource so.

@@ -1,39 +1,46 @@
 //! Updates (TS-0001, 10.2.4).
 ghost use Rattle.std.specs.Prelude.{◌≡◌, IfOk, OnOk, OnErr, IsTrue, Some};
+ghost use Rattle.resource_model.specs.Resource.{ResourceData};
+ghost use Rattle.tree_model.specs.Tree.{at};
 ghost use Rattle.m2m_names.specs.Name.{is_originator};
 ghost use Rattle.m2m_names.specs.declared.operations.Op.TheVariants.{Update};
 ghost use Rattle.attribute_rules.specs.Admission.{attributes_in};
 ghost use Rattle.entity_model.specs.Sound.{IsSoundEntity};
 ghost use Rattle.request_rules.specs.Judged.{Judges};
 ghost use Rattle.request_rules.specs.Order.{fault_at};
+ghost use Rattle.create_delete.specs.Changes.{attrs_of};
 ghost use Rattle.create_delete.specs.Changing as spec;
-ghost use Rattle.create_delete.specs.Changing.{effect_at};
 ghost use Rattle.create_delete.specs.NewResource.{IsReplacement};
 ghost use Rattle.create_delete.specs.Prepared.{IsPreparedUpdate};
+ghost use Rattle.create_delete.specs.Telling.{told_effect_at, updated_told};
 ghost use Rattle.create_delete.specs.Updating.{IsUpdatable};
 
 use crate::editing::updated_resource;
+use crate::listing::named_attrs;
+use crate::notifying::prepare_update;
 use crate::pushing::pushed_by;
 use crate::telling::updated_content;
-use entity_model::{Entity, refuse, reply_to};
+use entity_model::{Entity, refuse, reply_to, tell};
 use m2m_names::Rsc;
 use m2m_value::Numbers;
 use primitive_json::{Reply, Request};
 use request_rules::{AllowedUpdate, Refusal, judge_update};
 use std::alloc::{AllocError as OutOfMemory, Global};
-use tree_model::{Resource, Tree};
+use tree_model::{AttrSet, Resource, Tree};
 
 // What an update does, for which all memory is taken.
 #[derive(Drop)]
 pub(crate) struct PreparedUpdate {
     pub(crate) resource: Resource,
+    pub(crate) named: AttrSet,
     pub(crate) gone: Numbers,
     pub(crate) reply: Reply,
 }
 
-/// Updates the resource of a number, for an originator in its short form, or refuses to; 4004 where
-/// there is none. Where memory runs out, nothing has changed.
-#[tactic(auto, using(crate::proofs::EffectLemmas::refused_at))]
+/// Updates the resource of a number, for an originator in its short form, and tells those who
+/// subscribed to that, or refuses to; 4004 where there is none. Where memory runs out, nothing has
+/// changed.
+#[tactic(auto, using(crate::proofs::EffectLemmas::told_refused_at))]
 pub fn update<T: Tree>(
     alloc: Global,
     entity: &mut Entity<T>,
@@ -43,13 +50,13 @@ pub fn update<T: Tree>(
 ) -> Result<Reply, OutOfMemory>
     requires { IsTrue (is_originator originator.now) }
     ensures reply { IfOk result (λ r.
-        r ≡ (effect_at Update entity.old originator.now request.now target).reply) }
+        r ≡ (told_effect_at Update entity.old originator.now request.now target).reply) }
     ensures after { OnOk result
-        (entity.new ≡ (effect_at Update entity.old originator.now request.now target).after) }
+        (entity.new ≡ (told_effect_at Update entity.old originator.now request.now target).after) }
     ensures err { OnErr result (entity.new ≡ entity.old) }
 {
     match plan(alloc, entity, originator, request, target) {
-        Ok(prepared) => Ok(apply(entity, prepared)),
+        Ok(prepared) => apply(alloc, entity, prepared),
         Err(Refusal::Fault(fault)) => refuse(alloc, request, fault),
         Err(Refusal::OutOfMemory) => Err(OutOfMemory),
     }
@@ -71,7 +78,7 @@ fn plan<T: Tree>(
     Ok(prepare(alloc, entity, request, &update)?)
 }
 
-// The resource, what it pushes out, and the reply.
+// The resource, what was named of it, what it pushes out, and the reply.
 #[tactic(auto, using(crate::proofs::UpdatableLemmas::update_admitted))]
 fn prepare<T: Tree>(
     alloc: Global,
@@ -85,6 +92,7 @@ fn prepare<T: Tree>(
         ≡ Some update.now.named.now }
     ensures may { IfOk result (λ p. IsReplacement entity.now p.resource) }
     ensures same { IfOk result (λ p. p.resource.number ≡ update.now.target.now.number) }
+    ensures named { IfOk result (λ p. p.named ≡ attrs_of update.now.named.now) }
     ensures gone { IfOk result (λ p. p.gone ≡ spec.pushed_by entity.now p.resource) }
     ensures reply { IfOk result (λ p. p.reply ≡ (spec.update_effect entity.now request.now
         update.now.named.now update.now.target.now).reply) }
@@ -96,25 +104,43 @@ fn prepare<T: Tree>(
     // That members stand in order is told by their list.
     let _entries = update.named.entries();
     let resource = updated_resource(alloc, entity, update)?;
+    let named = named_attrs(alloc, update.named)?;
     let gone = pushed_by(alloc, entity, &resource)?;
     let told = updated_content(alloc, entity, request, update.named, &resource)?;
     let reply = reply_to(alloc, request, Rsc::Updated, told)?;
     Ok(PreparedUpdate {
         resource,
+        named,
         gone,
         reply,
     })
 }
 
-// Nothing here can fail.
-fn apply<T: Tree>(entity: &mut Entity<T>, prepared: PreparedUpdate) -> Reply
+// What it tells is prepared, with room in the outbox; then nothing can fail.
+fn apply<T: Tree>(
+    alloc: Global,
+    entity: &mut Entity<T>,
+    prepared: PreparedUpdate,
+) -> Result<Reply, OutOfMemory>
     requires may { IsReplacement entity.old prepared.resource }
     requires gone { prepared.gone ≡ spec.pushed_by entity.old prepared.resource }
-    ensures reply { result ≡ prepared.reply }
-    ensures after { entity.new
-        ≡ record entity.old { nodes = spec.nodes_updated entity.old prepared.resource } }
+    ensures reply { IfOk result (λ r. r ≡ prepared.reply) }
+    ensures after { (r : ResourceData) → at prepared.resource.number entity.old.nodes ≡ Some r
+        → OnOk result (entity.new
+        ≡ updated_told entity.old r prepared.resource prepared.named prepared.gone) }
+    ensures err { OnErr result (entity.new ≡ entity.old) }
 {
+    let told = prepare_update(
+        alloc,
+        &entity.tree,
+        &entity.home,
+        &mut entity.outbox,
+        &prepared.resource,
+        &prepared.named,
+        prepared.gone.entries(),
+    )?;
     entity.tree.replace(prepared.resource);
     entity.tree.remove_all(prepared.gone.entries());
-    prepared.reply
+    tell(&mut entity.tree, &mut entity.outbox, entity.last, told);
+    Ok(prepared.reply)
 }

@@ -7,10 +7,13 @@ use command_words::{Logged, Task, read_command};
 use cse_cli::run;
 use cse_server::Bench;
 use devices::{Log, LogLevel, StdIn, StdOut, SystemClock, TcpDoor, words};
-use m2m_io::{MemLink, Status};
+use m2m_io::Status;
 use std::alloc::{AllocError, Global};
+use std::io::Eprint;
+use std::net::{Net, TcpListener, TcpStream};
 use std::process::ExitCode;
 use std::time::Clock;
+use tcp_link::TcpLink;
 
 /// As many workers as a server can be told to have.
 const MOST_WORKERS: u64 = 4_096;
@@ -59,25 +62,30 @@ fn told_by(alloc: Global, words: &[&str]) -> Result<Told, AllocError>
     })
 }
 
-/// The system's clock, and a link that has no answers.
-fn bench<R: Clock>(rt: R, alloc: Global) -> Bench<SystemClock<R>, MemLink> {
-    Bench {
+/// The system's clock, and a link over TCP that says on this log what fails.
+fn bench<R>(rt: R, log: &Log<R>) -> Result<Bench<SystemClock<R>, TcpLink<R>>, AllocError>
+where
+    R: Net<Listener = TcpListener, Stream = TcpStream> + Clock + Eprint + Copy + Drop,
+{
+    Ok(Bench {
         clock: SystemClock::new(rt),
-        link: MemLink::new(Vec::new(alloc), Vec::new(alloc)),
-    }
+        link: TcpLink::new(log.again()?),
+    })
 }
 
-fn all_benches<R: Clock + Copy + Drop>(
+fn all_benches<R>(
     rt: R,
-    alloc: Global,
+    log: &Log<R>,
     count: usize,
-) -> Result<Vec<Bench<SystemClock<R>, MemLink>>, AllocError>
+) -> Result<Vec<Bench<SystemClock<R>, TcpLink<R>>>, AllocError>
+where
+    R: Net<Listener = TcpListener, Stream = TcpStream> + Clock + Eprint + Copy + Drop,
     requires { 2 ≤ count }
     ensures { IfOk result (λ benches. 2 ≤ vec_len benches) }
 {
-    let mut benches = Vec::new(alloc);
+    let mut benches = Vec::new(log.allocator());
     while benches.len() < count {
-        benches.push(bench(rt, alloc))?;
+        benches.push(bench(rt, log)?)?;
     }
     Ok(benches)
 }
@@ -101,10 +109,13 @@ fn main(rt: HostRuntime) -> ExitCode {
     let Ok(told) = told_by(alloc, &texts) else {
         return starved();
     };
-    let Ok(benches) = all_benches(rt, alloc, told.benches) else {
+    let Ok(log) = Log::new(rt, alloc, told.log) else {
         return starved();
     };
-    let Ok(log) = Log::new(rt, alloc, told.log) else {
+    let Ok(benches) = all_benches(rt, &log, told.benches) else {
+        return starved();
+    };
+    let Ok(mut first) = bench(rt, &log) else {
         return starved();
     };
     let (status, _) = run(
@@ -115,7 +126,7 @@ fn main(rt: HostRuntime) -> ExitCode {
         &mut StdOut::new(rt.stdout()),
         &mut StdOut::new(rt.stderr()),
         TcpDoor::new(log, told.whom),
-        &mut bench(rt, alloc),
+        &mut first,
         benches,
     );
     ExitCode::from(status)

@@ -3,6 +3,7 @@ use denote.RattleType.{RattleType}
 use denote.Param.Send.{IsSend, sendable}
 use denote.Param.SendFields.{declared_send}
 use Rattle.std.proofs.Crossing.{crosses}
+use Rattle.cse_cli.proofs.OutboxSent.{outbox_send}
 use Rattle.cse_cli.proofs.TreesSent.{home_send, list_tree_send}
 use Rattle.tree_model.specs.declared.tree.Tree.{Ghosts}
 use Rattle.entity_model.specs.contracts.entity.Entity as entity
@@ -16,7 +17,7 @@ use Rattle.resource_tree.specs.contracts.index_tree.IndexTreeTree.TheImpl as ind
 module _ (T : RattleType) (g : Ghosts T.Denot) (t : IsSend T) where
   entity_inside_send : IsSend (entity_inside.the_row T g)
   entity_inside_send = declared_send (entity_inside.the_type T g)
-      (home_send, (search (sendable, crosses) depth 20, (search (sendable, crosses) depth 20, (search (sendable, crosses) depth 20, tt))))
+      (home_send, (search (sendable, crosses) depth 20, (search (sendable, crosses) depth 20, (search (sendable, crosses) depth 20, (outbox_send, tt)))))
 
   entity_send : IsSend (entity.the_row T g)
   entity_send = record { owned = λ d vs x. (entity_inside_send.owned x.0 vs, tt); leaving = λ k d w. tt }

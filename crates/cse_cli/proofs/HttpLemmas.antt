@@ -1,15 +1,14 @@
 -- Streams that were lent to a connection, and how it ended.
-use Rattle.std.proofs.Common.{◌≡◌, ℕ, List, ◌∷◌, [], Option, get_or, refl, sym, ap, subst, ◌∙◌}
+use Rattle.std.proofs.Common.{◌≡◌, ◌≢◌, ◌↔◌, ◌⊎◌, ℕ, List, ◌∷◌, [], Option, get_or, inl, inr, sym, ap, subst, ◌∙◌}
 use Rattle.m2m_io.specs.declared.status.Status.{Status}
-use Rattle.m2m_io.specs.declared.status.Status.TheVariants.{ReadFault, WriteFault, Usage}
+use Rattle.m2m_io.specs.declared.status.Status.TheVariants.{ReadFault, WriteFault, Memory}
 use Rattle.cse_server.specs.Outside.{EndsByFault, LinkTold, Outside, SinkTold, outside}
 use Rattle.turn_desk.specs.Entries.{Marked}
 use Rattle.cse_machine.specs.declared.event.Event.{Event}
 use Rattle.cse_machine.specs.declared.event.Outcome.{Outcome}
 use Rattle.cse_server.specs.Connection.{Serves}
 use Rattle.cse_server.specs.declared.connection.Ended.{Ended}
-use Rattle.cse_server.specs.declared.connection.Ended.TheVariants.{Closed, NoFrame, ReadFault as EndedReading, WriteFault as EndedWriting, Memory as EndedStarved}
-use Rattle.cse_cli.specs.Run.{status_of}
+use Rattle.cse_server.specs.declared.connection.Ended.TheVariants.{ReadFault as EndedReading, WriteFault as EndedWriting}
 
 -- ---- names of the two references that a connection holds
 
@@ -30,54 +29,34 @@ after_both P a b c d x x' y y' same lent same' lent' h =
 
 -- ---- how it ended
 
-abbrev IsReading : Status → Type 0
-IsReading ReadFault = Unit {0}
-IsReading _ = ⊥
+pub neither : {A B : Type 0} → (A → ⊥) → (B → ⊥) → A ↔ B
+neither never other = (λ a. absurd (never a), λ b. absurd (other b))
 
-abbrev IsWriting : Status → Type 0
-IsWriting WriteFault = Unit {0}
-IsWriting _ = ⊥
+pub both : {A B : Type 0} → A → B → A ↔ B
+both a b = (λ _. b, λ _. a)
 
-pub ended_reading : (ended : Ended) → status_of ended ≡ ReadFault → ended ≡ EndedReading
-ended_reading Closed e = absurd (subst IsReading (sym e) tt)
-ended_reading NoFrame e = absurd (subst IsReading (sym e) tt)
-ended_reading EndedReading e = refl
-ended_reading EndedWriting e = absurd (subst IsReading (sym e) tt)
-ended_reading EndedStarved e = absurd (subst IsReading (sym e) tt)
-
-pub ended_writing : (ended : Ended) → status_of ended ≡ WriteFault → ended ≡ EndedWriting
-ended_writing Closed e = absurd (subst IsWriting (sym e) tt)
-ended_writing NoFrame e = absurd (subst IsWriting (sym e) tt)
-ended_writing EndedReading e = absurd (subst IsWriting (sym e) tt)
-ended_writing EndedWriting e = refl
-ended_writing EndedStarved e = absurd (subst IsWriting (sym e) tt)
-
-abbrev IsUsage : Status → Type 0
-IsUsage Usage = Unit {0}
-IsUsage _ = ⊥
-
-pub never_usage : (ended : Ended) → status_of ended ≡ Usage → ⊥
-never_usage Closed e = subst IsUsage (sym e) tt
-never_usage NoFrame e = subst IsUsage (sym e) tt
-never_usage EndedReading e = subst IsUsage (sym e) tt
-never_usage EndedWriting e = subst IsUsage (sym e) tt
-never_usage EndedStarved e = subst IsUsage (sym e) tt
+-- items that are sent end by no other status than want of memory
+pub ends_otherwise : (fault whole status : Status) → (status ≡ whole) ⊎ (status ≡ Memory) → whole ≢ fault → Memory ≢ fault → status ≢ fault
+ends_otherwise fault whole status either first second is = elim either [
+  | inl same ↦ first (sym same ∙ is)
+  | inr starved ↦ second (sym starved ∙ is)
+]
 
 -- a fault of reading is the status of a connection that ended by it, and of writing likewise
-pub reads_of : {status : Status} (ended : Ended) (before now : ℕ) → status ≡ status_of ended
+pub reads_of : {status : Status} (ended : Ended) (before now : ℕ) → (status ≡ ReadFault ↔ ended ≡ EndedReading)
     → EndsByFault EndedReading ended before now → EndsByFault ReadFault status before now
 reads_of ended before now is h = record {
   count = h.count;
-  cause = λ e. h.cause (ended_reading ended (sym is ∙ e));
-  steady = λ other. h.steady (λ e. other (is ∙ ap status_of e));
+  cause = λ e. h.cause (is.0 e);
+  steady = λ other. h.steady (λ e. other (is.1 e));
 }
 
-pub writes_of : {status : Status} (ended : Ended) (before now : ℕ) → status ≡ status_of ended
+pub writes_of : {status : Status} (ended : Ended) (before now : ℕ) → (status ≡ WriteFault ↔ ended ≡ EndedWriting)
     → EndsByFault EndedWriting ended before now → EndsByFault WriteFault status before now
 writes_of ended before now is h = record {
   count = h.count;
-  cause = λ e. h.cause (ended_writing ended (sym is ∙ e));
-  steady = λ other. h.steady (λ e. other (is ∙ ap status_of e));
+  cause = λ e. h.cause (is.0 e);
+  steady = λ other. h.steady (λ e. other (is.1 e));
 }
 
 -- ---- the same connection, by other names

@@ -3,4 +3,5 @@ mod WordsLemmas
 mod ServeLemmas
 mod RunningLemmas
 mod TreesSent
+mod OutboxSent
 mod EntitiesSent

@@ -7,6 +7,7 @@ use Rattle.command_words.specs.Command.{Command, Serving, Task, http, replay, se
 use Rattle.cse_server.specs.Outside.{EndsByFault}
 use Rattle.entity_model.specs.Entity.{EntityData}
 use Rattle.entity_model.specs.Opening.{opening}
+use Rattle.primitive_replay.proofs.ItemLemmas.{replays_none}
 use Rattle.primitive_replay.proofs.TurnLemmas.{starved_first}
 use Rattle.cse_cli.specs.Devices.{Devices}
 use Rattle.cse_cli.specs.Running.{RunsCommand, RunsTask}
@@ -27,7 +28,7 @@ module _ {S O C L D : Type 0} (served : Serving → EntityData → Type 0) where
   }
   starved_task replay home devices = record {
     done = record {
-      replays = record { after = opening home 0; all = starved_first (opening home 0) _ _ _ _ };
+      replays = replays_none (opening home 0) _ _ _ _ _ _ _ _ (starved_first (opening home 0) _ _ _ _);
       still = refl;
     };
     no_usage = λ e. cc;

@@ -12,9 +12,9 @@ use Rattle.resource_model.specs.contracts.home.Home.TheInside as home_inside
 use Rattle.resource_model.specs.contracts.resource.Moments as moments
 use Rattle.resource_model.specs.contracts.resource.Resource as resource
 use Rattle.resource_model.specs.contracts.resource.Resource.TheInside as resource_inside
-use Rattle.plain_tree.specs.contracts.places.Places as places
-use Rattle.plain_tree.specs.contracts.nodes.Nodes as nodes
-use Rattle.plain_tree.specs.contracts.nodes.Nodes.TheInside as nodes_inside
+use Rattle.resource_list.specs.contracts.places.Places as places
+use Rattle.resource_list.specs.contracts.nodes.Nodes as nodes
+use Rattle.resource_list.specs.contracts.nodes.Nodes.TheInside as nodes_inside
 use Rattle.plain_tree.specs.contracts.list_tree.ListTree as list_tree
 use Rattle.plain_tree.specs.contracts.list_tree.ListTree.TheInside as list_tree_inside
 

@@ -1,5 +1,8 @@
 -- What the program does with its streams: the headline.
 use Rattle.std.specs.Prelude.{◌≡◌, ◌⊎◌, ℕ, List, [], ◌∷◌, ◌++◌, Option}
+use Rattle.std.specs.declared.alloc.AllocError.{AllocError}
+use Rattle.std.specs.declared.result.Result.{Result}
+use Rattle.std.specs.declared.result.Result.TheVariants.{Ok, Err}
 use Rattle.cse_server.specs.Outside.{Outside}
 use Rattle.m2m_io.specs.Told.{Tells}
 use Rattle.m2m_io.specs.declared.status.Status.{Status}
@@ -11,6 +14,7 @@ use Rattle.entity_model.specs.Entity.{EntityData}
 use Rattle.entity_model.specs.Opening.{opening}
 use Rattle.cse_machine.specs.Step.{Step}
 use Rattle.cse_server.specs.Connection.{Serves}
+use Rattle.cse_server.specs.Sending.{SendsItems}
 use Rattle.primitive_replay.specs.Script.{Replays}
 use Rattle.cse_server.specs.declared.connection.Ended.{Ended}
 use Rattle.cse_server.specs.declared.connection.Ended.TheVariants.{Closed, NoFrame}
@@ -18,31 +22,56 @@ use Rattle.cse_server.specs.declared.connection.Ended.TheVariants.{ReadFault as 
 use Rattle.cse_server.specs.declared.connection.Ended.TheVariants.{WriteFault as EndedWriting}
 use Rattle.cse_server.specs.declared.connection.Ended.TheVariants.{Memory as EndedStarved}
 
--- the status of a connection that ended so
-abbrev pub status_of : Ended → Status
-status_of Closed = Done
-status_of NoFrame = BadStream
-status_of EndedReading = ReadFault
-status_of EndedWriting = WriteFault
-status_of EndedStarved = Memory
+-- the status where items were then sent, and what came of that: want of memory, or the status of
+-- the connection
+abbrev pub status_behind : {E : Type 0} → Status → Result ℕ E → Status
+status_behind status (Ok sent) = status
+status_behind status (Err starved) = Memory
+
+-- The items that a connection left in the outbox of an entity were sent, of which the machine was
+-- asked each, one after another, by nobody else. Nothing was read or written.
+pub record SendsBehind (before after : EntityData) (old new : Outside) (whole status : Status)
+    : Type 0 where
+  pub result : Result ℕ AllocError
+  pub sends : SendsItems (IsOwnRun Step) before after old.readings new.readings old.link new.link
+      result
+  pub left : new.left ≡ old.left
+  pub out : new.out ≡ old.out
+  pub status_is : status ≡ status_behind whole result
+
+-- nothing was done, and the status is this
+abbrev pub EndsAt : Status → EntityData → EntityData → Outside → Outside → Status → Type 0
+EndsAt whole before after old new status = (status ≡ whole) × (after ≡ before) × (new ≡ old)
+
+-- What is done behind a connection that ended so: where it was closed, or what was left of it was no
+-- message, the items are sent; and else nothing.
+abbrev pub EndsBehind : Ended → EntityData → EntityData → Outside → Outside → Status → Type 0
+EndsBehind Closed before after old new status = SendsBehind before after old new Done status
+EndsBehind NoFrame before after old new status = SendsBehind before after old new BadStream status
+EndsBehind EndedReading before after old new status = EndsAt ReadFault before after old new status
+EndsBehind EndedWriting before after old new status = EndsAt WriteFault before after old new status
+EndsBehind EndedStarved before after old new status = EndsAt Memory before after old new status
 
 -- Input and output were served as one connection of an entity with this home, which opened at this
--- reading, what the objects outside told being first `old` and now `new`. The requests were taken
--- by the machine, one after another, and by nobody else.
+-- reading, and then what it left in the outbox was sent, what the objects outside told being first
+-- `old` and now `new`. The requests were taken by the machine, one after another, and by nobody
+-- else.
 pub record ServesOpened (home : HomeData) (reading : ℕ) (old new : Outside) (status : Status)
     : Type 0 where
+  pub between : EntityData
   pub after : EntityData
+  pub served : Outside
   pub ended : Ended
-  pub serves : Serves (IsOwnRun Step) (opening home reading) after old new ended
-  pub status_is : status ≡ status_of ended
+  pub serves : Serves (IsOwnRun Step) (opening home reading) between old served ended
+  pub behind : EndsBehind ended between after served new status
 
 -- Memory ran out before the entity opened: nothing was read, written or exchanged.
 pub record RanOut (old new : Outside) (status : Status) : Type 0 where
   pub status_is : status ≡ Memory
   pub same : new ≡ old
 
--- An entity opens at the first reading that the clock gives, and serves input and output as one
--- connection.
+-- An entity opens at the first reading that the clock gives, serves input and output as one
+-- connection, and sends the items that this leaves in the outbox.
 pub record ServesStreams (home : HomeData) (old new : Outside) (status : Status) : Type 0 where
   pub reading : ℕ
   pub given : Option (List ℕ)
@@ -50,8 +79,8 @@ pub record ServesStreams (home : HomeData) (old new : Outside) (status : Status)
   pub run : ServesOpened home reading (record old { readings = given }) new status
       ⊎ RanOut (record old { readings = given }) new status
 
--- The command `http` at this home: input and output are served as one connection, unless memory
--- runs out for the home.
+-- The command `http` at this home: input and output are served as one connection, and the items
+-- that it leaves are sent, unless memory runs out for the home.
 abbrev pub RunsHttp : HomeData → Outside → Outside → Status → Type 0
 RunsHttp home old new status = ServesStreams home old new status ⊎ RanOut old new status
 

@@ -90,8 +90,8 @@ ServesEntity attends benches serving opened =
     ServesObject Step attends (take (max 1 serving.workers + 1) benches) opened
 
 -- A server with this first bench, whose clock gives one reading: at it the entity with this home
--- opens, by which the connections of the door are then `served`. Where they were, what is left in
--- the outbox at the end is sent with the bench; where nobody was served, the bench stays as it is
+-- opens, by which the connections of the door are then `served`. Where they were, nothing is sent
+-- yet of what is left in the outbox at the end; where nobody was served, the bench stays as it is
 -- behind the reading.
 pub record OpensServer {C L : Type 0} (served : EntityData → Type 0) (serving : Serving)
     (home : HomeData) (clock : C → Option (List ℕ)) (link : L → LinkTold)

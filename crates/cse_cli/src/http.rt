@@ -1,28 +1,17 @@
 //! The command `http`.
-ghost use Rattle.std.specs.Prelude.{◌≡◌, ◌≢◌, ◌≤◌, IfOk};
-ghost use Rattle.cse_server.specs.Outside.{EndsByFault, link_told, outside, sink_told};
+ghost use Rattle.std.specs.Prelude.{◌≡◌, ◌≢◌, ◌↔◌, ◌⊎◌, ◌≤◌, ℕ, IfOk, List, Option};
+ghost use Rattle.cse_server.specs.Outside.{EndsByFault, SinkTold, link_told, outside};
+ghost use Rattle.cse_server.specs.Outside.{sink_told};
 ghost use Rattle.entity_model.specs.Opening.{opening};
-ghost use Rattle.cse_cli.specs.Run.{ServesStreams, status_of};
+ghost use Rattle.cse_cli.specs.Run.{EndsBehind, SendsBehind, ServesStreams};
 
-use cse_server::{Bench, Ended, Served, Wire, serve_connection};
+use cse_server::{Bench, Ended, Served, Wire, send_notes, serve_connection};
 use entity_model::Entity;
 use m2m_io::{Clock, Link, Sink, Source, Status};
 use resource_tree::IndexTree;
 use std::alloc::{AllocError as OutOfMemory, Global};
 use tree_model::Home;
 use turn_desk::{OwnDesk, OwnSeat};
-
-fn status_of(ended: Ended) -> Status
-    ensures { result ≡ status_of ended }
-{
-    match ended {
-        Ended::Closed => Status::Done,
-        Ended::NoFrame => Status::BadStream,
-        Ended::ReadFault => Status::ReadFault,
-        Ended::WriteFault => Status::WriteFault,
-        Ended::Memory => Status::Memory,
-    }
-}
 
 /// The entity with this home, as it opens at a reading of the clock.
 pub(crate) fn opened(
@@ -36,8 +25,56 @@ pub(crate) fn opened(
     Ok(Served::new(alloc, entity))
 }
 
-/// Opens an entity with this home at the clock's first reading, and serves input and output as one
-/// connection.
+/// Sends the items of the outbox of the entity at a seat. The status is this one, unless memory runs
+/// out.
+fn send_behind<C: Clock, L: Link>(
+    alloc: Global,
+    seat: &mut OwnSeat<Served<IndexTree>>,
+    bench: &mut Bench<C, L>,
+    whole: Status,
+) -> Status
+    ensures sends { (left : Option (List ℕ)) → (out : SinkTold)
+        → SendsBehind seat.old seat.new (outside left out (C.readings bench.old.clock)
+        (link_told (L.exchanges bench.old.link) (L.faults bench.old.link)))
+        (outside left out (C.readings bench.new.clock)
+        (link_told (L.exchanges bench.new.link) (L.faults bench.new.link))) whole result }
+    ensures status { (result ≡ whole) ⊎ (result ≡ Status.Memory) }
+{
+    let Bench { clock, link } = bench;
+    match send_notes(alloc, &OwnDesk::new(), seat, clock, link) {
+        Ok(_) => whole,
+        Err(_) => Status::Memory,
+    }
+}
+
+/// What is done behind a connection that ended so: where it was closed, or what was left of it was
+/// no message, the items of the outbox are sent.
+fn finish<C: Clock, L: Link>(
+    alloc: Global,
+    seat: &mut OwnSeat<Served<IndexTree>>,
+    bench: &mut Bench<C, L>,
+    ended: Ended,
+) -> Status
+    ensures behind { (left : Option (List ℕ)) → (out : SinkTold)
+        → EndsBehind ended seat.old seat.new (outside left out (C.readings bench.old.clock)
+        (link_told (L.exchanges bench.old.link) (L.faults bench.old.link)))
+        (outside left out (C.readings bench.new.clock)
+        (link_told (L.exchanges bench.new.link) (L.faults bench.new.link))) result }
+    ensures reads { result ≡ Status.ReadFault ↔ ended ≡ Ended.ReadFault }
+    ensures writes { result ≡ Status.WriteFault ↔ ended ≡ Ended.WriteFault }
+    ensures command { result ≢ Status.Usage }
+{
+    match ended {
+        Ended::Closed => send_behind(alloc, seat, bench, Status::Done),
+        Ended::NoFrame => send_behind(alloc, seat, bench, Status::BadStream),
+        Ended::ReadFault => Status::ReadFault,
+        Ended::WriteFault => Status::WriteFault,
+        Ended::Memory => Status::Memory,
+    }
+}
+
+/// Opens an entity with this home at the clock's first reading, serves input and output as one
+/// connection, and sends the items that this leaves in the outbox.
 pub(crate) fn serve_streams<S: Source, O: Sink, C: Clock, L: Link>(
     alloc: Global,
     home: Home,
@@ -70,5 +107,5 @@ pub(crate) fn serve_streams<S: Source, O: Sink, C: Clock, L: Link>(
         &mut bench.clock,
         &mut bench.link,
     );
-    status_of(ended)
+    finish(alloc, &mut seat, bench, ended)
 }

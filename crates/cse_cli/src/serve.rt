@@ -18,7 +18,7 @@ use tree_model::Home;
 use turn_desk::{Object, TurnDesk};
 
 /// Serves the connections of an open door, of which so many are accepted at most, at a desk of this
-/// object. Unless memory runs out, what is left in the outbox then is sent with the first bench.
+/// object. Nothing is sent yet of what is left in the outbox then.
 #[tactic(auto, using(crate::proofs::ServeLemmas::comes_back))]
 fn serve_at_desk<R, O, D, C, L>(
     rt: &R,

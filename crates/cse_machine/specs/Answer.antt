@@ -38,8 +38,8 @@ use Rattle.entity_model.specs.Entity.{EntityData}
 use Rattle.entity_model.specs.Places.{absent, refusal, refused, Effect, reply_alone, on_found}
 use Rattle.entity_model.specs.Places.{Check, first_fault, unless}
 use Rattle.retrieve_discover.specs.Replies.{discovered, retrieved}
-use Rattle.create_delete.specs.Changing.{effect_on}
 use Rattle.create_delete.specs.Guard.{NamesInOrder}
+use Rattle.create_delete.specs.Telling.{told_effect_on}
 use Rattle.cse_machine.specs.declared.event.Outcome.{Outcome}
 use Rattle.cse_machine.specs.declared.event.Outcome.TheVariants.{Done}
 use Rattle.request_rules.specs.Requests.{child_ty}
@@ -63,7 +63,7 @@ is_creatable CseBase = true
 is_creatable Group = false
 is_creatable PollingChannel = false
 is_creatable RemoteCse = false
-is_creatable Subscription = false
+is_creatable Subscription = true
 is_creatable AccessControlPolicyAnnc = false
 is_creatable AeAnnc = false
 is_creatable ContainerAnnc = false
@@ -155,10 +155,10 @@ reading_reply e request n =
     else retrieved e.home e.nodes (claimed_originator e.home request) request n
 
 -- what an operation that may change something gives, for its originator: a refusal by the first
--- place that doesn't hold, or what is done
+-- place that doesn't hold, or what is done, and its changes told (TS-0001, 9.6.8)
 unfoldable pub change_effect : Op → EntityData → RequestParts → ResourceData → Effect
 change_effect op e request target =
-    effect_on op e (claimed_originator e.home request) request target
+    told_effect_on op e (claimed_originator e.home request) request target
 
 -- what an operation on a resource gives: a Retrieve reads it, and every other may change something
 -- (TS-0001, 10.2)

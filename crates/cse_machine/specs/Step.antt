@@ -2,12 +2,12 @@
 use Rattle.std.specs.Prelude.{◌≡◌, ◌≤◌, ◌⊎◌, ℕ, IsTrue, length, take}
 use Rattle.primitive_json.specs.declared.request.RequestParts.{RequestParts}
 use Rattle.addressing.specs.Laws.{spot_named}
-use Rattle.entity_model.specs.Entity.{EntityData, event_moment, swept}
+use Rattle.entity_model.specs.Entity.{EntityData, event_moment, next_note, swept, without_next}
 use Rattle.entity_model.specs.Expiry.{is_some_due}
 use Rattle.cse_machine.specs.declared.event.Event.{Event}
-use Rattle.cse_machine.specs.declared.event.Event.TheVariants.{Ask}
+use Rattle.cse_machine.specs.declared.event.Event.TheVariants.{Ask, Take, Tick}
 use Rattle.cse_machine.specs.declared.event.Outcome.{Outcome}
-use Rattle.cse_machine.specs.declared.event.Outcome.TheVariants.{Done, Starved}
+use Rattle.cse_machine.specs.declared.event.Outcome.TheVariants.{Done, Item, Ticked, Starved}
 use Rattle.cse_machine.specs.Answer.{ComesOf}
 use Rattle.cse_machine.specs.Fan.{after_members, served_members}
 
@@ -18,6 +18,14 @@ IsCutShort e request done after =
     let members = served_members e request (spot_named e.home request.to e.nodes) in
     (done ≤ length members) × (after ≡ after_members e (take done members))
 
+-- What a request may give on an entity from which what is due is gone, and the entity that it may
+-- leave: one function of the two, but for want of memory.
+abbrev pub IsAnswered : EntityData → RequestParts → Outcome → EntityData → Type 0
+IsAnswered e request (Done reply) after = ComesOf e request (Done reply) after
+IsAnswered e request (Item given) after = ⊥
+IsAnswered e request Ticked after = ⊥
+IsAnswered e request (Starved done) after = IsCutShort e request done after
+
 -- Memory ran out in the expiry, which takes none where nothing is due: nothing has changed.
 pub record IsUnswept (reading : ℕ) (before : EntityData) (done : ℕ) (after : EntityData)
     : Type 0 where
@@ -26,12 +34,23 @@ pub record IsUnswept (reading : ℕ) (before : EntityData) (done : ℕ) (after :
   pub due : IsTrue (is_some_due before.nodes (event_moment before.last reading))
 
 -- What an event at a reading of the clock may give, and the entity that it may leave. What is due
--- goes first. Outcome and entity after are one function of what is left and of the request, but for
--- want of memory, which may come at any place. Then nothing has changed but that what is due is
--- gone, unless it is the expiry that ran out of memory, and that so many members of a fan-out have
--- been served.
+-- goes first, and is told. Then a request is answered on what is left, and what it changes is told;
+-- or the next item of the outbox is given away; or nothing else is done. Where memory runs out in
+-- the expiry, nothing has changed; where it runs out for a request, nothing but what the expiry
+-- changed, and so many members of a fan-out.
 abbrev pub Step : ℕ → Event → EntityData → Outcome → EntityData → Type 0
 Step reading (Ask request) before (Done reply) after =
     ComesOf (swept reading before) request (Done reply) after
+Step reading (Ask request) before (Item given) after = ⊥
+Step reading (Ask request) before Ticked after = ⊥
 Step reading (Ask request) before (Starved done) after =
     IsCutShort (swept reading before) request done after ⊎ IsUnswept reading before done after
+Step reading Take before (Done reply) after = ⊥
+Step reading Take before (Item given) after =
+    (given ≡ next_note (swept reading before)) × (after ≡ without_next (swept reading before))
+Step reading Take before Ticked after = ⊥
+Step reading Take before (Starved done) after = IsUnswept reading before done after
+Step reading Tick before (Done reply) after = ⊥
+Step reading Tick before (Item given) after = ⊥
+Step reading Tick before Ticked after = after ≡ swept reading before
+Step reading Tick before (Starved done) after = IsUnswept reading before done after

@@ -1,11 +1,15 @@
 //! What a CSE is asked, and what comes of it.
-use primitive_json::{Reply, Request};
+use primitive_json::{Note, Reply, Request};
 
 /// What a CSE is asked at one moment.
 #[derive(Drop)]
 pub enum Event {
     /// A request of an originator.
     Ask(Request),
+    /// The next item of the outbox is to be sent.
+    Take,
+    /// Time has passed.
+    Tick,
 }
 
 /// What comes of an event.
@@ -13,6 +17,10 @@ pub enum Event {
 pub enum Outcome {
     /// The reply to a request.
     Done(Reply),
+    /// The item that was taken from the outbox; None where each waits for a polling channel.
+    Item(Option<Note>),
+    /// What was due is gone.
+    Ticked,
     /// Memory ran out. So many members of a fan-out have taken effect, and nothing else: 0, as none
     /// is served so far.
     Starved { done: u32 },

@@ -23,9 +23,9 @@ fn is_creatable(ty: Ty) -> bool
     ensures { result ≡ spec.is_creatable ty }
 {
     match ty {
-        Ty::AccessControlPolicy | Ty::Ae | Ty::Container | Ty::ContentInstance | Ty::CseBase =>
-            true,
-        Ty::Group | Ty::PollingChannel | Ty::RemoteCse | Ty::Subscription => false,
+        Ty::AccessControlPolicy | Ty::Ae | Ty::Container | Ty::ContentInstance => true,
+        Ty::CseBase | Ty::Subscription => true,
+        Ty::Group | Ty::PollingChannel | Ty::RemoteCse => false,
         Ty::AccessControlPolicyAnnc | Ty::AeAnnc | Ty::ContainerAnnc => false,
         Ty::ContentInstanceAnnc | Ty::GroupAnnc => false,
     }
@@ -41,7 +41,7 @@ fn has_creatable_type(request: &Request) -> bool
 }
 
 /// Whether the request is one of those that are served so far: all but a Notify, and the creation
-/// of what is told of changes, polls, fans out or comes from another CSE.
+/// of what polls, fans out or comes from another CSE.
 pub(crate) fn is_served(request: &Request) -> bool
     ensures { result ≡ spec.is_served request.now }
 {

@@ -1,19 +1,23 @@
 //! The oneM2M machine: what a CSE answers one event after another (TS-0001, 10; TS-0004, 7).
 //!
 //! Callers hand `step` an entity, a reading of the clock and an event, and get the outcome; the
-//! entity is then the one after it. Both are exactly the relation `Step` of `specs/Step`: one
-//! function of the entity without what is due and of the request, and want of memory as the one
-//! free answer. Every request may be asked. Those that aren't served yet (`is_served` of
-//! `specs/Answer`) are answered as malformed: a Notify, and the creation of another type than
-//! accessControlPolicy, AE, container and contentInstance. Fan-out points and poll points name
-//! nothing yet. A content that asks for copies isn't admitted yet.
+//! entity is then the one after it. An event is a request, the wish for the next item of the
+//! outbox, or that time has passed. Outcome and entity are exactly the relation `Step` of
+//! `specs/Step`: one function of the event and of the entity without what is due, and want of
+//! memory as the one free answer. What an expiry or a request changes is told to the subscriptions
+//! that look for it: as items of the outbox, those of the expiry first.
+//!
+//! Every request may be asked. Those that aren't served yet (`is_served` of `specs/Answer`) are
+//! answered as malformed: a Notify, and the creation of another type than accessControlPolicy, AE,
+//! container, contentInstance and subscription. Fan-out points and poll points name nothing yet. A
+//! content that asks for copies isn't admitted yet.
 //!
 //! The laws of these definitions stand in machine_laws.
 //!
 //! ```text
 //! match step(alloc, entity, 1_700_000_000, &Event::Ask(request)) {
 //!     Outcome::Done(reply) => Some(reply),
-//!     Outcome::Starved { .. } => None, // memory ran out
+//!     _ => None, // memory ran out
 //! }
 //! ```
 #![tactic(auto)]

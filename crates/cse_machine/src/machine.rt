@@ -13,14 +13,14 @@ ghost use Rattle.cse_machine.specs.Answer.{reading_reply, resource_effect, spot_
 ghost use Rattle.cse_machine.specs.Answer.{time_places};
 ghost use Rattle.cse_machine.specs.Answer as spec;
 ghost use Rattle.cse_machine.specs.Rights.{claimed_originator};
-ghost use Rattle.cse_machine.specs.Step.{Step};
+ghost use Rattle.cse_machine.specs.Step.{IsAnswered, Step};
 ghost use Rattle.cse_machine.specs.declared.event.Outcome.TheVariants.{Done};
 
 use crate::event::{Event, Outcome};
 use crate::judging::{is_blocking, is_in_time, is_served, said_originator, tell_order};
 use addressing::{Addr, AddrFault, Spot, name_spot, parse, short_fr};
 use create_delete::{create, delete, update};
-use entity_model::{Entity, refuse, sweep};
+use entity_model::{Entity, refuse, sweep, take_next};
 use m2m_names::{Op, Rsc};
 use primitive_json::{Reply, Request, has_form};
 use request_rules::{find, is_discovery};
@@ -28,24 +28,28 @@ use retrieve_discover::{discover, retrieve};
 use std::alloc::{AllocError as OutOfMemory, Global};
 use tree_model::Tree;
 
-/// Takes one event at a reading of the clock, in seconds since 1970: what is due by then is
-/// removed, and the request is answered on what is left. Where memory runs out, nothing has changed
-/// but that; and not even that where the expiry ran out of memory.
+/// Takes one event at a reading of the clock, in seconds since 1970. What is due by then is
+/// removed, and told. Then a request is answered on what is left, and what it changes is told; or
+/// the next item of the outbox is taken; or nothing else is done. Where memory runs out, nothing
+/// has changed but what the expiry changed; and not even that where the expiry ran out of memory.
 pub fn step<T: Tree>(alloc: Global, entity: &mut Entity<T>, reading: u64, event: &Event) -> Outcome
     ensures { Step reading event.now entity.old result entity.new }
 {
-    match event {
-        Event::Ask(request) => ask(alloc, entity, reading, request),
-    }
-}
-
-fn ask<T: Tree>(alloc: Global, entity: &mut Entity<T>, reading: u64, request: &Request) -> Outcome
-    ensures { Step reading (Event.Ask request.now) entity.old result entity.new }
-{
-    tell_order(request);
     if let Err(_) = sweep(alloc, entity, reading) {
         return Outcome::Starved { done: 0 };
     }
+    match event {
+        Event::Ask(request) => ask(alloc, entity, request),
+        Event::Take => Outcome::Item(take_next(entity)),
+        Event::Tick => Outcome::Ticked,
+    }
+}
+
+// What a request gives on the entity as it stands.
+fn ask<T: Tree>(alloc: Global, entity: &mut Entity<T>, request: &Request) -> Outcome
+    ensures { IsAnswered entity.old request.now result entity.new }
+{
+    tell_order(request);
     match answer(alloc, entity, request) {
         Ok(outcome) => outcome,
         Err(_) => Outcome::Starved { done: 0 },
@@ -59,7 +63,7 @@ fn turn_down(alloc: Global, request: &Request, fault: Rsc) -> Result<Outcome, Ou
     Ok(Outcome::Done(refuse(alloc, request, fault)?))
 }
 
-// What the request gives on the entity as it stands.
+// What it gives where there is memory for it.
 fn answer<T: Tree>(
     alloc: Global,
     entity: &mut Entity<T>,

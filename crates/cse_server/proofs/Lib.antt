@@ -6,6 +6,7 @@ pub mod NextLemmas
 pub mod ClosingLemmas
 pub mod RequestLemmas
 pub mod PutLemmas
+pub mod SendingLemmas
 pub mod TurnLemmas
 pub mod SideLemmas
 pub mod MostLemmas

@@ -1,8 +1,7 @@
 -- What puts write, joined and cut short.
-use Rattle.std.proofs.Common.{◌≡◌, ℕ, ◌+◌, List, [], ◌++◌, take, drop, Option, Some, None, sym, ap, subst, ◌∙◌, append_assoc, append-nil, arith}
+use Rattle.std.proofs.Common.{◌≡◌, ℕ, ◌+◌, List, [], ◌++◌, take, drop, Option, Some, None, sym, ap, subst, ◌∙◌, append_assoc, arith}
 use Rattle.std.proofs.KnownBytes.{Appends-nil, Appends-trans}
 use Rattle.std.proofs.lemmas.List.{take-append-drop}
-use Rattle.std.specs.Io.KnownBytes.{Appends}
 use Rattle.cse_server.specs.Outside.{Puts, PutsPart, SinkTold}
 use Rattle.m2m_io.specs.Told.{Tells}
 use Rattle.cse_server.specs.Connection.{PutsCut, PutsOneLess}

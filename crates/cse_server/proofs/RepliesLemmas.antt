@@ -1,12 +1,14 @@
 -- Replies that outcomes give, joined and compared.
-use Rattle.std.proofs.Common.{◌≡◌, List, [], ◌∷◌, ◌++◌, length, refl, sym, ap, subst, ◌∙◌, arith, append_assoc, append-nil}
+use Rattle.std.proofs.Common.{◌≡◌, List, [], ◌∷◌, ◌++◌, length, Some, None, refl, sym, ap, subst, ◌∙◌, arith, append_assoc, append-nil}
 use Rattle.std.proofs.lemmas.List.Elements.{All-tail}
+use Rattle.std.proofs.lemmas.Option.{same_Some}
 use Rattle.m2m_io.specs.Link.{Carrying}
 use Rattle.primitive_json.specs.declared.reply.ReplyParts.{ReplyParts}
 use Rattle.primitive_json.specs.declared.request.RequestParts.{RequestParts}
 use Rattle.cse_machine.specs.Answer.{starved}
 use Rattle.cse_machine.specs.declared.event.Outcome.{Outcome}
-use Rattle.cse_machine.specs.declared.event.Outcome.TheVariants.{Done, Starved}
+use Rattle.cse_machine.specs.declared.event.Outcome.TheVariants.{Done, Item, Ticked, Starved}
+use Rattle.cse_server.specs.Way.{reply_of}
 use Rattle.cse_server.specs.Replies.{GivesReply, GivesReplies, IsAnsweredHere, WhatIsAnsweredHereIsNotCarried}
 
 -- one outcome
@@ -45,10 +47,26 @@ gives-length (x ∷ xs) [] (p ∷ ps) es g = absurd g
 gives-length (x ∷ xs) (o ∷ os) [] es g = absurd g
 gives-length (x ∷ xs) (o ∷ os) (p ∷ ps) es g = let rest = gives-length xs os ps g.1 g.4 in omega (arith, rest)
 
+-- an outcome that has no reply gives the one that memory ran out
+pub gives_starved : (request : RequestParts) (outcome : Outcome) → reply_of outcome ≡ None → GivesReply request outcome (starved request) []
+gives_starved request (Done answered) none = cc
+gives_starved request (Item given) none = (refl, refl)
+gives_starved request Ticked none = (refl, refl)
+gives_starved request (Starved done) none = (refl, refl)
+
+-- one that has a reply gives that
+pub gives_done : (request : RequestParts) (outcome : Outcome) (reply : ReplyParts) → reply_of outcome ≡ Some reply → GivesReply request outcome reply []
+gives_done request (Done answered) reply some = (sym (same_Some answered reply some), refl)
+gives_done request (Item given) reply some = cc
+gives_done request Ticked reply some = cc
+gives_done request (Starved done) reply some = cc
+
 -- one outcome gives one reply, for which one list is carried
 reply_one_way : (request : RequestParts) (outcome : Outcome) (reply other : ReplyParts) (es fs : List Carrying)
     → GivesReply request outcome reply es → GivesReply request outcome other fs → (reply ≡ other) × (es ≡ fs)
 reply_one_way request (Done answered) reply other es fs g h = (g.0 ∙ sym h.0, g.1 ∙ sym h.1)
+reply_one_way request (Item given) reply other es fs g h = (g.0 ∙ sym h.0, g.1 ∙ sym h.1)
+reply_one_way request Ticked reply other es fs g h = (g.0 ∙ sym h.0, g.1 ∙ sym h.1)
 reply_one_way request (Starved done) reply other es fs g h = (g.0 ∙ sym h.0, g.1 ∙ sym h.1)
 
 -- the same outcomes of the same requests give the same replies, for which the same is carried
@@ -72,6 +90,8 @@ gives_one_way (x ∷ xs) (o ∷ os) (p ∷ ps) (q ∷ qs) es fs g h =
 
 no_cost : (request : RequestParts) (outcome : Outcome) (reply : ReplyParts) (carried : List Carrying) → GivesReply request outcome reply carried → carried ≡ []
 no_cost request (Done answered) reply carried g = g.1
+no_cost request (Item given) reply carried g = g.1
+no_cost request Ticked reply carried g = g.1
 no_cost request (Starved done) reply carried g = g.1
 
 pub not_carried : WhatIsAnsweredHereIsNotCarried

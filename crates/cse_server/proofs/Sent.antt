@@ -7,6 +7,10 @@ use Rattle.cse_server.proofs.ValuesSent.{text_send, val_send}
 use Rattle.filter_criteria.specs.contracts.filter.Filter as filter
 use Rattle.filter_criteria.specs.contracts.filter.Filter.TheInside as filter_inside
 use Rattle.filter_criteria.specs.contracts.filter.FilterParts as filter_parts
+use Rattle.primitive_json.specs.contracts.note.Dest as dest
+use Rattle.primitive_json.specs.contracts.note.NoteParts as note_parts
+use Rattle.primitive_json.specs.contracts.note.Note as note
+use Rattle.primitive_json.specs.contracts.note.Note.TheInside as note_inside
 use Rattle.primitive_json.specs.contracts.request.RequestParts as request_parts
 use Rattle.primitive_json.specs.contracts.request.Request as request
 use Rattle.primitive_json.specs.contracts.request.Request.TheInside as request_inside
@@ -25,9 +29,6 @@ reply_inside_send = declared_send reply_inside.the_type (reply_parts_send, tt)
 
 reply_send : IsSend reply.the_row
 reply_send = record { owned = λ d vs x. (reply_inside_send.owned x.0 vs, tt); leaving = λ k d w. tt }
-
-pub outcome_send : IsSend outcome.the_row
-outcome_send = variants_send outcome.enum ((reply_send, tt), ((search (sendable, crosses) depth 20, tt), tt))
 
 filter_parts_send : IsSend filter_parts.the_row
 filter_parts_send = declared_send filter_parts.the_type (
@@ -114,4 +115,20 @@ request_send : IsSend request.the_row
 request_send = record { owned = λ d vs x. (request_inside_send.owned x.0 vs, tt); leaving = λ k d w. tt }
 
 pub event_send : IsSend event.the_row
-event_send = variants_send event.enum ((request_send, tt), tt)
+event_send = variants_send event.enum ((request_send, tt), (tt, (tt, tt)))
+
+dest_send : IsSend dest.the_row
+dest_send = variants_send dest.enum ((text_send, tt), ((text_send, tt), ((search (sendable, crosses) depth 20, tt), (tt, tt))))
+
+note_parts_send : IsSend note_parts.the_row
+note_parts_send = declared_send note_parts.the_type (search (sendable, crosses) depth 20, (dest_send, (request_send, tt)))
+
+note_inside_send : IsSend note_inside.the_row
+note_inside_send = declared_send note_inside.the_type (note_parts_send, tt)
+
+pub note_send : IsSend note.the_row
+note_send = record { owned = λ d vs x. (note_inside_send.owned x.0 vs, tt); leaving = λ k d w. tt }
+
+pub outcome_send : IsSend outcome.the_row
+outcome_send = variants_send outcome.enum
+    ((reply_send, tt), ((search (sendable, crosses, note_send) depth 20, tt), (tt, ((search (sendable, crosses) depth 20, tt), tt))))

@@ -80,7 +80,7 @@ module _ {C L : Type 0} (clock : C → Option (List ℕ)) (link : L → LinkTold
   SendsInTurn (sending ∷ rest) bench left =
       (between : Bench C L) × Sends sending bench between × SendsInTurn rest between left
 
-  -- The items that were left in the outbox were sent: there are none as yet.
+  -- Of the items that were left in the outbox these were sent: none yet.
   pub record SendsWhatIsLeft (bench left : Bench C L) : Type 0 where
     pub sent : List Sending
     pub none_yet : sent ≡ []

@@ -1,8 +1,7 @@
 -- What serving a connection does: to its bytes, to the seat at the desk, to the clock and to the
 -- link.
-use Rattle.std.specs.Prelude.{◌≡◌, ◌≢◌, ◌⊎◌, ℕ, ◌+◌, ◌<◌, Bool, true, false, List, [], ◌∷◌}
+use Rattle.std.specs.Prelude.{◌≡◌, ◌≢◌, ◌⊎◌, ℕ, ◌+◌, ◌<◌, Bool, true, false, List, []}
 use Rattle.std.specs.Prelude.{◌++◌, length, map, Option, IfSome, IsTrue}
-use Rattle.std.specs.Io.KnownBytes.{Appends}
 use Rattle.m2m_io.specs.Link.{Carrying}
 use Rattle.cse_server.specs.Outside.{Carries, LinkTold, Outside, Puts, SinkTold}
 use Rattle.m2m_io.specs.Told.{Tells}

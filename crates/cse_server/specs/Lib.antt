@@ -3,5 +3,6 @@ pub mod Closing
 pub mod Connection
 pub mod Outside
 pub mod Replies
+pub mod Sending
 pub mod Talk
 pub mod Way

@@ -1,5 +1,5 @@
 -- A connection on its way: what its calls say of the frames so far.
-use Rattle.std.specs.Prelude.{◌≡◌, ◌⊎◌, ℕ, ◌+◌, true, false, List, [], ◌∷◌, ◌++◌, length}
+use Rattle.std.specs.Prelude.{◌≡◌, ◌⊎◌, ℕ, ◌+◌, true, false, List, [], ◌∷◌, length}
 use Rattle.std.specs.Prelude.{Option, Some, None, IfOk, Result, ⊤}
 use Rattle.m2m_io.specs.Link.{Carrying}
 use Rattle.cse_server.specs.Outside.{Carries, LinkTold, Outside, Puts, PutsPart, SinkTold}
@@ -12,6 +12,7 @@ use Rattle.http_frames.specs.declared.fault.PutFault.TheVariants.{WriteFault as 
 use Rattle.http_frames.specs.declared.fault.PutFault.TheVariants.{OutOfMemory as PutMemory}
 use Rattle.cse_machine.specs.declared.event.Event.{Event}
 use Rattle.cse_machine.specs.declared.event.Outcome.{Outcome}
+use Rattle.cse_machine.specs.declared.event.Outcome.TheVariants.{Done, Item, Ticked, Starved}
 use Rattle.cse_server.specs.declared.connection.Ended.{Ended}
 use Rattle.cse_server.specs.declared.connection.Ended.TheVariants.{Closed, NoFrame, ReadFault}
 use Rattle.cse_server.specs.declared.connection.Ended.TheVariants.{WriteFault, Memory}
@@ -39,6 +40,13 @@ pub record Goes {S : Type 0} (place next : ℕ) (grown : S → List (Marked Even
   pub stays_on : some_closes heard place ≡ false
   pub stream : Leads old.left heard new.left
   pub said : Puts (reply_texts heard place asks.replies) (length heard) old.out new.out
+
+-- the reply that an outcome has
+abbrev pub reply_of : Outcome → Option ReplyParts
+reply_of (Done reply) = Some reply
+reply_of (Item given) = None
+reply_of Ticked = None
+reply_of (Starved done) = None
 
 -- The outcome of a request gave this reply over a link that told `old` before and tells `new` now,
 -- unless memory ran out.

@@ -10,6 +10,7 @@ ghost use Rattle.http_binding.specs.Replying.{reply_text};
 ghost use Rattle.cse_machine.specs.Answer.{starved};
 ghost use Rattle.cse_server.specs.Talk as spec;
 ghost use Rattle.cse_server.specs.Talk.{last_reply};
+ghost use Rattle.cse_server.specs.Way as way;
 ghost use Rattle.cse_server.specs.Way.{RepliesOver};
 
 use cse_machine::Outcome;
@@ -57,6 +58,16 @@ fn starved_reply(alloc: Global, frame: &Frame) -> Result<Reply, OutOfMemory>
     Ok(bare_reply(Rsc::Internal, rqi))
 }
 
+/// The reply that an outcome has, if it has one.
+fn reply_of(outcome: Outcome) -> Option<Reply>
+    ensures { result ≡ way.reply_of outcome }
+{
+    match outcome {
+        Outcome::Done(reply) => Some(reply),
+        _ => None,
+    }
+}
+
 /// The reply to the request of a frame by the outcome of its event. The link is for requests that
 /// go on to another entity; none do as yet.
 pub(crate) fn reply_by<L: Link>(
@@ -69,9 +80,9 @@ pub(crate) fn reply_by<L: Link>(
         → RepliesOver request outcome (link_told (L.exchanges link.old) (L.faults link.old))
         (link_told (L.exchanges link.new) (L.faults link.new)) result }
 {
-    match outcome {
-        Outcome::Done(reply) => Ok(reply),
-        Outcome::Starved { .. } => starved_reply(alloc, frame),
+    match reply_of(outcome) {
+        Some(reply) => Ok(reply),
+        None => starved_reply(alloc, frame),
     }
 }
 

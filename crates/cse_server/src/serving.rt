@@ -59,9 +59,9 @@ where
 /// as `accept` says. Each bench but the last is a worker's, with a seat of its own that is split
 /// off this one; it takes a connection under the door's lock, which it holds for that alone, serves
 /// it by `serve_connection`, and takes the next. The last bench is for what is left when they have
-/// ended, and `first` for the notifications that are left then, of which there are none as yet. All
-/// seats are joined into the one that comes back, with the door. What a connection ended with
-/// doesn't change the answer.
+/// ended. A server doesn't send what waits in the outbox yet, so `first` stays as it is. All seats
+/// are joined into the one that comes back, with the door. What a connection ended with doesn't
+/// change the answer.
 pub fn serve<R, O, D, C, L>(
     rt: &R,
     alloc: Global,
@@ -92,8 +92,7 @@ where
         (door_tells D.opened D.given D.ended D.faults) attends accept benches.items seat door
         result }
 
-    // What is left in the outbox then is sent with the first bench, which stays as it was where
-    // memory ran out.
+    // Nothing is sent yet of what is left in the outbox then, so the first bench stays as it was.
     ensures first { IfOk result (λ _. SendsWhatIsLeft C.readings (link_tells L.exchanges L.faults)
         first.old first.new) }
     ensures first_at_fault { IfErr result (λ e. e.2 ≡ ServeFault.DoorFault

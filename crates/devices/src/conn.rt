@@ -2,6 +2,7 @@
 ghost use Rattle.std.specs.Prelude.{◌≡◌};
 ghost use Rattle.std.specs.Io.{ReadsAtMost};
 
+use crate::clock::{millis_now, millis_of, since_start, time_left};
 use crate::heard::Heard;
 use crate::log::Log;
 use m2m_io::{Connection, Failed, Sink, Source};
@@ -41,35 +42,10 @@ pub struct TcpConn<R: Clock + Eprint + Copy> {
     write_faults: u64,
 }
 
-/// The time since some start.
-fn since_start<R: Clock>(rt: &R) -> Duration {
-    match rt.monotonic() {
-        Ok(time) => time,
-        Err(_) => Duration::ZERO,
-    }
-}
-
-fn millis_of(time: Duration) -> u64 {
-    time.as_secs()
-        .saturating_mul(1_000)
-        .saturating_add(time.subsec_millis() as u64)
-}
-
 fn micros_of(time: Duration) -> u64 {
     time.as_secs()
         .saturating_mul(1_000_000)
         .saturating_add(time.subsec_micros() as u64)
-}
-
-/// What is left of so many milliseconds since this moment; None where nothing is.
-fn time_left<R: Clock>(rt: &R, begun: u64, millis: u64) -> Option<Duration> {
-    let gone = millis_of(since_start(rt)).saturating_sub(begun);
-    let left = millis.saturating_sub(gone);
-    if left > 0 {
-        Some(Duration::from_millis(left))
-    } else {
-        None
-    }
 }
 
 fn timed_out() -> io::Error {
@@ -86,7 +62,7 @@ fn patience_left<R: Clock>(rt: &R, begun: u64) -> io::Result<Duration> {
 
 /// Reads and passes over what comes, for a while.
 fn drain<R: Clock>(rt: &R, stream: &mut TcpStream) {
-    let begun = millis_of(since_start(rt));
+    let begun = millis_now(rt);
     let mut buf = [0u8; 4_096];
     let mut drained = 0usize;
     for _ in 0..MOST_DRAINED {
@@ -123,7 +99,7 @@ fn read_some(stream: &mut TcpStream, buf: &mut [u8]) -> io::Result<usize>
 /// Writes all of it within `PATIENCE`, and tells whether the next write waits less. Where the
 /// system breaks a write off, as it does where somebody stopped the program, the time begins anew.
 fn write_all_in_time<R: Clock>(rt: &R, stream: &mut TcpStream, bytes: &[u8]) -> io::Result<bool> {
-    let mut begun = millis_of(since_start(rt));
+    let mut begun = millis_now(rt);
     let mut rest = bytes;
     let mut is_pressed = false;
     for _ in 0..u64::MAX {
@@ -134,7 +110,7 @@ fn write_all_in_time<R: Clock>(rt: &R, stream: &mut TcpStream, bytes: &[u8]) -> 
             Ok(0) => return Err(io::Error::from(ErrorKind::WriteZero)),
             Ok(n) => rest = rest.split_at(n.min(rest.len())).1,
             Err(error) if error.kind() == ErrorKind::Interrupted => {
-                begun = millis_of(since_start(rt));
+                begun = millis_now(rt);
             }
             Err(error) => return Err(error),
         }

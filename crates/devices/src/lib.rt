@@ -21,7 +21,7 @@ mod heard;
 mod log;
 mod streams;
 
-pub use clock::SystemClock;
+pub use clock::{SystemClock, millis_now, time_left};
 pub use conn::{PATIENCE, TcpConn};
 pub use door::TcpDoor;
 pub use log::{Log, LogLevel};

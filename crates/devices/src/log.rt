@@ -102,7 +102,7 @@ impl<R: Clock + Eprint + Copy + Drop> Log<R> {
     }
 
     /// Another handle of the log.
-    pub(crate) fn again(&self) -> Result<Self, OutOfMemory> {
+    pub fn again(&self) -> Result<Self, OutOfMemory> {
         Ok(Log {
             rt: self.rt,
             alloc: self.alloc,
@@ -111,11 +111,13 @@ impl<R: Clock + Eprint + Copy + Drop> Log<R> {
         })
     }
 
-    pub(crate) fn runtime(&self) -> R {
+    /// The runtime by which the log writes.
+    pub fn runtime(&self) -> R {
         self.rt
     }
 
-    pub(crate) fn allocator(&self) -> Global {
+    /// The allocator with which it was made.
+    pub fn allocator(&self) -> Global {
         self.alloc
     }
 
@@ -222,7 +224,7 @@ impl<R: Clock + Eprint + Copy + Drop> Log<R> {
     }
 
     /// A line for a fault, where faults are logged and not too many came in this second.
-    pub(crate) fn fault(&self, text: &str) {
+    pub fn fault(&self, text: &str) {
         if self.level == LogLevel::Nothing {
             return;
         }

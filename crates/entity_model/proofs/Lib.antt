@@ -3,3 +3,9 @@ pub mod NumberLemmas
 pub mod SoundLemmas
 pub mod WrittenLemmas
 pub mod ExpiryLemmas
+pub mod WaitingLemmas
+pub mod SpentLemmas
+pub mod LoweringLemmas
+pub mod TellingLemmas
+pub mod SweepingLemmas
+pub mod UntoldLemmas

@@ -26,11 +26,14 @@ use Rattle.tree_model.proofs.LiveLemmas.{without_none}
 use Rattle.m2m_names.specs.Name.{is_free_name, is_originator}
 use Rattle.attribute_rules.specs.Kinds.{are_kinds}
 use Rattle.container_limits.specs.Limits.{is_within}
-use Rattle.entity_model.specs.Entity.{EntityData, blank, last_reading, cut, event_moment, swept}
+use Rattle.notify_outbox.specs.Items.{still_waits}
+use Rattle.notify_outbox.specs.Outbox.{OutboxData, without_first}
+use Rattle.notify_outbox.specs.declared.item.Item.{Item}
+use Rattle.entity_model.specs.Entity.{EntityData, blank, last_reading, cut, event_moment, expired, still_waiting}
 use Rattle.entity_model.specs.Opening.{opening_base, opening_policy, opening_nodes, opening}
 use Rattle.policy_eval.proofs.NameLemmas.{policy_number-id_of}
-use Rattle.entity_model.proofs.NumberLemmas.{swept_is}
-use Rattle.entity_model.specs.Sound.{is_known_id, has_known_ids, has_free_name, has_size, has_state_tag, is_shallow, is_within_limits, begins_with_base, cse_ids, are_distinct, has_one_channel, spares_first, greatest_count, IsSoundEntity}
+use Rattle.entity_model.proofs.WaitingLemmas.{waiting_later, order_filtered, order_without, all_waiting, all_without}
+use Rattle.entity_model.specs.Sound.{is_known_id, has_known_ids, has_free_name, has_size, has_state_tag, is_shallow, is_within_limits, begins_with_base, cse_ids, are_distinct, has_one_channel, spares_first, greatest_count, is_waiting, do_not_fall, IsSoundEntity}
 use Rattle.entity_model.proofs.RemovalLemmas.{staying_length}
 use Rattle.m2m_names.proofs.ListLemmas.{all_weaker}
 use Rattle.resource_model.proofs.HomeLemmas.{base_name_parts, home_parts}
@@ -190,6 +193,8 @@ pub record IsFramed (e : EntityData) : Type 0 where
   pub channels : list_all (has_one_channel e.nodes) e.nodes ≡ true
   pub sizes : list_all has_size e.nodes ≡ true
   pub last : e.last ≤ last_reading
+  pub waiting : list_all (is_waiting e.last) e.items ≡ true
+  pub moments : do_not_fall e.items ≡ true
 
 pub framed_from : (e : EntityData) → IsSoundEntity e → IsFramed e
 framed_from e sound = record {
@@ -208,6 +213,8 @@ framed_from e sound = record {
   channels = sound.channels;
   sizes = sound.sizes;
   last = sound.last;
+  waiting = sound.waiting;
+  moments = sound.moments;
 }
 
 pub sound_framed : (e : EntityData) → IsFramed e → list_all (is_within_limits e.nodes) e.nodes ≡ true → list_any (is_due e.nodes e.last) e.nodes ≡ false → IsSoundEntity e
@@ -229,10 +236,12 @@ sound_framed e framed limits due = record {
   limits = limits;
   last = framed.last;
   due = due;
+  waiting = framed.waiting;
+  moments = framed.moments;
 }
 
-pub framed_left : (p : ResourceData → Bool) (e : EntityData) (last : ℕ) → IsFramed e → spares_first p e.nodes ≡ true → last ≤ last_reading → IsFramed (record e { nodes = without p e.nodes; last = last })
-framed_left p e last framed spared small =
+pub framed_left : (p : ResourceData → Bool) (e : EntityData) (last : ℕ) (items : List Item) → IsFramed e → spares_first p e.nodes ≡ true → last ≤ last_reading → list_all (is_waiting last) items ≡ true → do_not_fall items ≡ true → IsFramed (record e { nodes = without p e.nodes; last = last; items = items })
+framed_left p e last items framed spared small waiting moments =
     let tree = tree_from_well_formed e.nodes framed.tree in
     let fewer : length (without p e.nodes) ≤ length e.nodes = staying_length p [] e.nodes in
     let few : length e.nodes ≤ 100000 = framed.count in
@@ -252,11 +261,13 @@ framed_left p e last framed spared small =
       channels = all_left p has_one_channel e.nodes (channel_left p e.nodes) framed.channels;
       sizes = staying_all p has_size [] e.nodes framed.sizes;
       last = small;
+      waiting = waiting;
+      moments = moments;
     }
 
-pub sound_left : (p : ResourceData → Bool) (e : EntityData) (last : ℕ) → IsSoundEntity e → spares_first p e.nodes ≡ true → last ≤ last_reading → list_any (is_due (without p e.nodes) last) (without p e.nodes) ≡ false → IsSoundEntity (record e { nodes = without p e.nodes; last = last })
-sound_left p e last sound spared small none =
-    sound_framed _ (framed_left p e last (framed_from e sound) spared small)
+pub sound_left : (p : ResourceData → Bool) (e : EntityData) (last : ℕ) (items : List Item) → IsSoundEntity e → spares_first p e.nodes ≡ true → last ≤ last_reading → list_any (is_due (without p e.nodes) last) (without p e.nodes) ≡ false → list_all (is_waiting last) items ≡ true → do_not_fall items ≡ true → IsSoundEntity (record e { nodes = without p e.nodes; last = last; items = items })
+sound_left p e last items sound spared small none waiting moments =
+    sound_framed _ (framed_left p e last items (framed_from e sound) spared small waiting moments)
     (all_left p is_within_limits e.nodes (limits_left p e.nodes) sound.limits) none
 
 -- the CSEBase is never due
@@ -270,31 +281,55 @@ none_live nodes moment tree =
     none_weaker (is_due nodes moment) (is_due (without (is_due nodes moment) nodes) moment) (λ r due. due_left (is_due nodes moment) nodes moment r tree due)
     (without (is_due nodes moment) nodes) (staying_unpicked (is_due nodes moment) [] nodes)
 
-moment_small : (last reading : ℕ) → last ≤ 253402300798 → event_moment last reading ≤ 253402300798
+pub moment_small : (last reading : ℕ) → last ≤ 253402300798 → event_moment last reading ≤ 253402300798
 moment_small last reading small = omega arith
 
-pub sound_swept : (reading : ℕ) (e : EntityData) → IsSoundEntity e → IsSoundEntity (swept reading e)
-sound_swept reading e sound =
-    sound_left (is_due e.nodes (event_moment e.last reading)) e (event_moment e.last reading) sound
-    (base_spared e.home e.nodes e.nodes (event_moment e.last reading) sound.base)
-    (moment_small e.last reading sound.last)
-    (none_live e.nodes (event_moment e.last reading) (tree_from_well_formed e.nodes sound.tree))
-
--- and so is what is left at the moment of an event, by its parts
-pub sound_moved : {e : EntityData} → IsSoundEntity e → (reading moment : ℕ) (after : List ResourceData) → moment ≡ event_moment e.last reading → after ≡ live moment e.nodes → IsSoundEntity (record e { nodes = after; last = moment })
-sound_moved {e} sound reading moment after when left =
-    subst IsSoundEntity (sym (swept_is e reading moment after when left)) (sound_swept reading e sound)
+pub sound_expired : (moment : ℕ) (e : EntityData) → e.last ≤ moment → moment ≤ 253402300798 → IsSoundEntity e → IsSoundEntity (expired moment e)
+sound_expired moment e later small sound =
+    sound_left (is_due e.nodes moment) e moment (still_waiting moment e.items) sound
+    (base_spared e.home e.nodes e.nodes moment sound.base)
+    small
+    (none_live e.nodes moment (tree_from_well_formed e.nodes sound.tree))
+    (waiting_later e.last moment e.items later sound.waiting)
+    (order_filtered (still_waits moment) e.items sound.moments)
 
 pub sound_removed : (p : ResourceData → Bool) (e : EntityData) → IsSoundEntity e → spares_first p e.nodes ≡ true → IsSoundEntity (record e { nodes = without p e.nodes })
-sound_removed p e sound spared = sound_left p e e.last sound spared sound.last (none_due_left p e.nodes e.last (tree_from_well_formed e.nodes sound.tree) sound.due)
+sound_removed p e sound spared = sound_left p e e.last e.items sound spared sound.last (none_due_left p e.nodes e.last (tree_from_well_formed e.nodes sound.tree) sound.due) sound.waiting sound.moments
+
+-- and so is what is left where an item is taken
+pub sound_taken : (p : Item → Bool) (e : EntityData) → IsSoundEntity e → IsSoundEntity (record e { items = without_first p e.items })
+sound_taken p e sound =
+    let framed = framed_from e sound in
+    let tree = tree_from_well_formed e.nodes sound.tree in
+    sound_framed _ (record {
+      numbers = framed.numbers;
+      next = framed.next;
+      ids = framed.ids;
+      tree = framed.tree;
+      base = framed.base;
+      names = framed.names;
+      home = framed.home;
+      depth = framed.depth;
+      count = framed.count;
+      kinds = framed.kinds;
+      tags = framed.tags;
+      cses = framed.cses;
+      channels = framed.channels;
+      sizes = framed.sizes;
+      last = framed.last;
+      waiting = all_without p (is_waiting e.last) e.items framed.waiting;
+      moments = order_without p e.items framed.moments;
+    }) sound.limits sound.due
 
 -- where no time passes, nothing is due
-pub swept_still : (reading : ℕ) (e : EntityData) → IsSoundEntity e → cut reading ≤ e.last → swept reading e ≡ e
-swept_still reading e sound early =
-    let entity : List ResourceData → ℕ → EntityData = λ nodes last. record e { nodes = nodes; last = last } in
+pub expired_still : (reading : ℕ) (e : EntityData) → IsSoundEntity e → cut reading ≤ e.last → expired (event_moment e.last reading) e ≡ e
+expired_still reading e sound early =
+    let entity : List ResourceData → ℕ → List Item → EntityData = λ nodes last items. record e { nodes = nodes; last = last; items = items } in
     let same : event_moment e.last reading ≡ e.last = omega arith in
     let all : live e.last e.nodes ≡ e.nodes = without_none (is_due e.nodes e.last) e.nodes (tree_from_well_formed e.nodes sound.tree) sound.due in
-    ap (λ (m : ℕ). entity (live m e.nodes) m) same ∙ ap (λ (nodes : List ResourceData). entity nodes e.last) all
+    ap (λ (m : ℕ). entity (live m e.nodes) m (still_waiting m e.items)) same
+    ∙ ap (λ (nodes : List ResourceData). entity nodes e.last (still_waiting e.last e.items)) all
+    ∙ ap (entity e.nodes e.last) (all_waiting e.last e.items sound.waiting)
 
 -- ---- the opening
 
@@ -340,14 +375,22 @@ sound_opening home reading is = record {
   limits = refl;
   last = omega arith;
   due = rw (cut_small reading) refl;
+  waiting = refl;
+  moments = refl;
 }
 
+-- the entity as it opens, by its parts
+pub opened_is : (home : HomeData) (reading moment : ℕ) (nodes : List ResourceData) (o : OutboxData) → moment ≡ cut reading → nodes ≡ opening_nodes home moment → o ≡ record { items = []; count = 0; room = 0 } → record (blank home) { nodes = nodes; next = 3; last = moment; items = o.items; numbered = o.count } ≡ opening home reading
+opened_is home reading moment nodes o when stand none =
+    let entity : List ResourceData → ℕ → OutboxData → EntityData = λ ns m b. record (blank home) { nodes = ns; next = 3; last = m; items = b.items; numbered = b.count } in
+    let empty : OutboxData = record { items = []; count = 0; room = 0 } in
+    ap (entity nodes moment) none
+    ∙ ap (λ (ns : List ResourceData). entity ns moment empty) stand
+    ∙ ap (λ (m : ℕ). entity (opening_nodes home m) m empty) when
+
 -- the same, of what stands for its parts
-pub sound_opened : (home : HomeData) (reading moment : ℕ) (nodes : List ResourceData) → IsHome home → moment ≡ cut reading → nodes ≡ opening_nodes home moment → IsSoundEntity (record (blank home) { nodes = nodes; next = 3; last = moment })
-sound_opened home reading moment nodes is when stand =
-    let entity : List ResourceData → ℕ → EntityData = λ ns m. record (blank home) { nodes = ns; next = 3; last = m } in
-    let same : entity nodes moment ≡ opening home reading = ap (λ (ns : List ResourceData). entity ns moment) stand ∙ ap (λ (m : ℕ). entity (opening_nodes home m) m) when in
-    subst IsSoundEntity (sym same) (sound_opening home reading is)
+pub sound_opened : (home : HomeData) (reading moment : ℕ) (nodes : List ResourceData) (o : OutboxData) → IsHome home → moment ≡ cut reading → nodes ≡ opening_nodes home moment → o ≡ record { items = []; count = 0; room = 0 } → IsSoundEntity (record (blank home) { nodes = nodes; next = 3; last = moment; items = o.items; numbered = o.count })
+sound_opened home reading moment nodes o is when stand none = subst IsSoundEntity (sym (opened_is home reading moment nodes o when stand none)) (sound_opening home reading is)
 
 -- ---- one CSEBase
 

@@ -4,7 +4,9 @@ use Rattle.std.specs.Coded.{Coded, code_by, coded×, coded_ℕ, coded_ℤ, coded
 use Rattle.resource_model.specs.Codes.{resource_code}
 use Rattle.resource_model.specs.Home.{HomeData}
 use Rattle.resource_model.specs.Resource.{ResourceData}
-use Rattle.entity_model.specs.Entity.{EntityData, blank}
+use Rattle.notify_outbox.specs.contracts.item.Item as item
+use Rattle.notify_outbox.specs.declared.item.Item.{Item}
+use Rattle.entity_model.specs.Entity.{EntityData}
 
 abbrev HomeParts : Type 0
 HomeParts = List ℕ × (List ℕ × (List ℕ × (ℤ × List ℕ)))
@@ -20,14 +22,22 @@ home_code =
     (λ _. refl)
 
 abbrev EntityParts : Type 0
-EntityParts = HomeData × (List ResourceData × (ℕ × ℕ))
+EntityParts = HomeData × (List ResourceData × (ℕ × (ℕ × (List Item × ℕ))))
 
 -- An entity is stored as its home, its resources, its next number and the moment of its last event.
 -- These give it back unchanged.
 abbrev pub entity_code : Coded EntityData
 entity_code =
     code_by EntityParts
-    (coded× home_code (coded× (coded_list resource_code) (coded× coded_ℕ coded_ℕ)))
-    (λ e. (e.home, (e.nodes, (e.next, e.last))))
-    (λ p. record (blank p.0) { nodes = p.1.0; next = p.1.1.0; last = p.1.1.1 })
+    (coded× home_code (coded× (coded_list resource_code) (coded× coded_ℕ (coded× coded_ℕ
+    (coded× (coded_list item.the_row.coded) coded_ℕ)))))
+    (λ e. (e.home, (e.nodes, (e.next, (e.last, (e.items, e.numbered))))))
+    (λ p. record {
+      home = p.0;
+      nodes = p.1.0;
+      next = p.1.1.0;
+      last = p.1.1.1.0;
+      items = p.1.1.1.1.0;
+      numbered = p.1.1.1.1.1;
+    })
     (λ _. refl)

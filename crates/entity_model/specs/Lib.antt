@@ -4,3 +4,4 @@ pub mod Expiry
 pub mod Opening
 pub mod Places
 pub mod Sound
+pub mod Telling

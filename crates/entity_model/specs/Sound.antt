@@ -20,6 +20,8 @@ use Rattle.tree_model.specs.Tree.{are_below, have_free_names, is_well_formed}
 use Rattle.attribute_rules.specs.Kinds.{are_kinds}
 use Rattle.container_limits.specs.Limits.{are_within, limits_of}
 use Rattle.policy_eval.specs.Rules.{policy_number, linked_ids}
+use Rattle.notify_outbox.specs.Items.{still_waits}
+use Rattle.notify_outbox.specs.declared.item.Item.{Item}
 use Rattle.entity_model.specs.Entity.{EntityData, last_reading}
 use Rattle.entity_model.specs.Expiry.{is_some_due}
 
@@ -87,6 +89,21 @@ are_distinct (s ∷ texts) = not (list_any (bytes_eq s) texts) && are_distinct t
 abbrev pub has_one_channel : List ResourceData → ResourceData → Bool
 has_one_channel nodes r = nat_le (length (channels_of r.number nodes)) 1
 
+-- ---- the outbox
+
+-- the item was appended by a moment, and hasn't waited the keeping time then
+abbrev pub is_waiting : ℕ → Item → Bool
+is_waiting moment item = nat_le item.since moment && still_waits moment item
+
+-- each was appended at this moment or later
+abbrev pub are_from : ℕ → List Item → Bool
+are_from since items = list_all (λ (i : Item). nat_le since i.since) items
+
+-- the moments at which they were appended don't fall along the list
+abbrev pub do_not_fall : List Item → Bool
+do_not_fall [] = true
+do_not_fall (item ∷ items) = are_from item.since items && do_not_fall items
+
 -- ---- soundness
 
 -- the first resource, the CSEBase, isn't picked
@@ -121,3 +138,6 @@ pub record IsSoundEntity (e : EntityData) : Type 0 where
   -- nothing is due at the last moment
   pub last : e.last ≤ last_reading
   pub due : is_some_due e.nodes e.last ≡ false
+  -- the items stand in the order of their moments, and none has waited too long
+  pub waiting : IsTrue (list_all (is_waiting e.last) e.items)
+  pub moments : IsTrue (do_not_fall e.items)

@@ -4,18 +4,20 @@ ghost use Rattle.entity_model.specs.Opening.{opening};
 
 use crate::moments::cut;
 use crate::opening::put_opening;
+use notify_outbox::Outbox;
 use std::alloc::{AllocError as OutOfMemory, Global};
 use std::marker::Model;
 use tree_model::{Home, Tree};
 
-/// An entity: its home, its resources, the number of the resource that is created next, and the
-/// moment of the last event, in seconds since 1970.
+/// An entity: its home, its resources, the number of the resource that is created next, the moment
+/// of the last event, in seconds since 1970, and its outbox.
 #[derive(Drop)]
 pub struct Entity<T: Tree> {
     pub home: Home,
     pub tree: T,
     pub next: u64,
     pub last: u64,
+    pub outbox: Outbox,
 }
 
 impl<T: Tree> Model for Entity<T> {
@@ -32,12 +34,16 @@ impl<T: Tree> Model for Entity<T> {
       nodes = T.nodes e.tree;
       next = e.next;
       last = e.last;
+      items = e.outbox.items;
+      numbered = e.outbox.count;
     } };
 
     ghost invariant = { λ e. IsSoundEntity (record (blank e.home) {
       nodes = T.nodes e.tree;
       next = e.next;
       last = e.last;
+      items = e.outbox.items;
+      numbered = e.outbox.count;
     }) };
 }
 
@@ -56,6 +62,7 @@ impl<T: Tree> Entity<T> {
             tree,
             next: 3,
             last: moment,
+            outbox: Outbox::new(alloc),
         })
     }
 }

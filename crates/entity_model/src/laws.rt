@@ -1,11 +1,11 @@
 //! What holds of every entity.
-ghost use Rattle.std.specs.Prelude.{◌≡◌, ℕ, ◌≤◌, List, Bool, IsTrue, filter, map, not, take};
+ghost use Rattle.std.specs.Prelude.{◌≡◌, ℕ, ◌≤◌, List, [], Bool, IsTrue, filter, map, not, take};
 ghost use Rattle.m2m_names.specs.declared.types.Ty.TheVariants.{CseBase};
 ghost use Rattle.resource_model.specs.Home.{HomeData, IsHome};
 ghost use Rattle.resource_model.specs.Resource.{ResourceData, is_ty};
-ghost use Rattle.tree_model.specs.Changes.{deleted};
+ghost use Rattle.tree_model.specs.Changes.{ChangeData, deleted};
 ghost use Rattle.tree_model.specs.Tree.{has, without};
-ghost use Rattle.entity_model.specs.Entity.{EntityData, cut, expired, swept};
+ghost use Rattle.entity_model.specs.Entity.{EntityData, cut, expired, swept, telling};
 ghost use Rattle.entity_model.specs.Expiry.{expiry_changes};
 ghost use Rattle.entity_model.specs.Opening.{opening};
 ghost use Rattle.entity_model.specs.Sound.{IsSoundEntity, spares_first};
@@ -38,4 +38,13 @@ pub fn nothing_expires_while_no_time_passes()
 pub fn an_expiry_tells_what_it_takes()
     ensures { (moment : ℕ) (e : EntityData) → IsSoundEntity e → expiry_changes moment e.nodes
         ≡ map deleted (filter (λ r. not (has r.number (expired moment e).nodes)) e.nodes) }
+{}
+
+/// An entity stays sound where what an operation tells is appended and subscriptions that count are
+/// lowered; and where nothing changed, it stays as it is.
+pub fn what_is_told_leaves_an_entity_sound()
+    ensures sound { (before : List ResourceData) (going : List ℕ) (changes : List ChangeData)
+        (e : EntityData) → IsSoundEntity e → IsSoundEntity (telling before going changes e) }
+    ensures nothing { (before : List ResourceData) (e : EntityData) → IsSoundEntity e
+        → telling before [] [] e ≡ e }
 {}

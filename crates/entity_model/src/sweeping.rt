@@ -1,20 +1,28 @@
 //! The expiry.
-ghost use Rattle.std.specs.Prelude.{◌≡◌, OnOk, OnErr, IsTrue};
-ghost use Rattle.tree_model.specs.Tree.{is_tree, live};
+ghost use Rattle.std.specs.Prelude.{◌≡◌, ◌≤◌, length, IfOk, OnOk, OnErr, IsTrue};
+ghost use Rattle.subscription_match.specs.Notices.{notes_of_all};
+ghost use Rattle.notify_outbox.specs.Outbox.{dropped};
+ghost use Rattle.tree_model.specs.Changes.{removal_changes};
+ghost use Rattle.tree_model.specs.Tree.{is_tree, live, overdue_numbers, DoAscend};
 ghost use Rattle.entity_model.specs.Entity as spec;
-ghost use Rattle.entity_model.specs.Entity.{swept};
+ghost use Rattle.entity_model.specs.Entity.{expired, expired_told, last_reading, swept};
+ghost use Rattle.entity_model.specs.Telling.{IsTold};
 ghost use Rattle.entity_model.specs.Expiry.{is_some_due};
 
 use crate::entity::Entity;
 use crate::moments::event_moment;
+use crate::telling::{Told, prepare_telling, tell};
+use notify_outbox::Outbox;
 use std::alloc::{AllocError as OutOfMemory, Global};
-use tree_model::Tree;
+use tree_model::{Changes, Home, Tree};
 
-/// Brings the entity to the moment of an event at which the clock reads so, in seconds since 1970,
-/// and removes what is due by then, with all that stands below it. It takes no memory, and looks at
-/// no resource where the moment stands still or the tree knows that nothing is due.
+/// Brings the entity to the moment of an event at which the clock reads so, in seconds since 1970:
+/// what is due by then is removed, with all that stands below it, and so are the items that have
+/// waited the keeping time; then what the expiry tells is appended to the outbox. It looks at no
+/// resource where the moment stands still or the tree knows that nothing is due, and takes no
+/// memory there. Where memory runs out, nothing has changed.
 pub fn sweep<T: Tree>(
-    _alloc: Global,
+    alloc: Global,
     entity: &mut Entity<T>,
     reading: u64,
 ) -> Result<(), OutOfMemory>
@@ -28,9 +36,72 @@ pub fn sweep<T: Tree>(
     if moment == entity.last {
         return Ok(());
     }
-    expire(&mut entity.tree, moment);
+    let gone = entity.tree.due_numbers(alloc, moment)?;
+    if gone.entries().is_empty() {
+        pass(entity, moment);
+        return Ok(());
+    }
+    expire_and_tell(alloc, entity, moment, gone.entries())
+}
+
+// What is due goes, and so does what has waited the keeping time; then what the removal of these
+// tells is appended.
+fn expire_and_tell<T: Tree>(
+    alloc: Global,
+    entity: &mut Entity<T>,
+    moment: u64,
+    gone: &[u64],
+) -> Result<(), OutOfMemory>
+    requires later { entity.old.last ≤ moment }
+    requires last { moment ≤ last_reading }
+    requires gone { gone.now ≡ overdue_numbers moment entity.old.nodes }
+    ensures ok { OnOk result (entity.new ≡ expired_told moment entity.old) }
+    ensures err { OnErr result (entity.new ≡ entity.old) }
+{
+    let told = prepare_expiry(alloc, &entity.tree, &entity.home, &mut entity.outbox, gone)?;
+    age(&mut entity.tree, &mut entity.outbox, moment);
     entity.last = moment;
+    tell(&mut entity.tree, &mut entity.outbox, moment, told);
     Ok(())
+}
+
+// What the removal of these tells.
+fn prepare_expiry<T: Tree>(
+    alloc: Global,
+    tree: &T,
+    home: &Home,
+    outbox: &mut Outbox,
+    gone: &[u64],
+) -> Result<Told, OutOfMemory>
+    requires { DoAscend gone.now }
+    ensures told { IfOk result (IsTold home.now (T.nodes tree.now)
+        (notes_of_all home.now (T.nodes tree.now) gone.now
+        (removal_changes (T.nodes tree.now) gone.now))) }
+    ensures room { IfOk result (λ t. length t.notes.items ≤ outbox.new.room) }
+    ensures items { outbox.new.items ≡ outbox.old.items }
+    ensures count { outbox.new.count ≡ outbox.old.count }
+{
+    let changes = Changes::of_removal(tree, gone);
+    prepare_telling(alloc, tree, home, outbox, gone, changes)
+}
+
+// Time passes: what is due goes, and what has waited the keeping time.
+fn pass<T: Tree>(entity: &mut Entity<T>, moment: u64)
+    requires later { entity.old.last ≤ moment }
+    requires last { moment ≤ last_reading }
+    ensures { entity.new ≡ expired moment entity.old }
+{
+    age(&mut entity.tree, &mut entity.outbox, moment);
+    entity.last = moment;
+}
+
+fn age<T: Tree>(tree: &mut T, outbox: &mut Outbox, moment: u64)
+    requires { IsTrue (is_tree (T.nodes tree.old)) }
+    ensures nodes { T.nodes tree.new ≡ live moment (T.nodes tree.old) }
+    ensures items { outbox.new ≡ dropped moment outbox.old }
+{
+    expire(tree, moment);
+    outbox.drop_old(moment);
 }
 
 // Removes what is due at a moment, with all that stands below it.

@@ -7,6 +7,7 @@ use Rattle.primitive_json.specs.declared.request.When.{When}
 use Rattle.http_frames.specs.declared.frame.Start.TheVariants.{Ask}
 use Rattle.http_frames.specs.declared.frame.Frame.{Frame}
 use Rattle.http_frames.specs.Lines.{Line}
+use Rattle.http_frames.specs.Text.{frame_text}
 use Rattle.http_binding.specs.Binding.{created_type}
 use Rattle.http_binding.specs.Headers.{origin_field, expiry_field}
 use Rattle.http_binding.specs.Methods.{method_text}
@@ -58,3 +59,7 @@ request_frame r url aim = record {
   lines = caller_lines r url ++ ending_lines r;
   body = body_of r.pc;
 }
+
+-- what is written to the host of a URL for a request
+abbrev pub request_text : RequestParts → List ℕ → Aim → List ℕ
+request_text r url aim = frame_text (request_frame r url aim)

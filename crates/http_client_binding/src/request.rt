@@ -14,7 +14,7 @@ use http_binding::{
     EXPIRY_FIELD, ID_FIELD, JSON_TYPE, ORIGIN_FIELD, TYPE_FIELD, WRITTEN_MINOR, body_of,
     created_type, method_text, push_close, push_field, push_length,
 };
-use http_frames::{Frame, Lines, Start};
+use http_frames::{Frame, Lines, Start, frame_bytes};
 use m2m_value::{Text, Val};
 use primitive_json::{Request, RequestParts, When, expiry_text};
 use std::alloc::Global;
@@ -188,4 +188,18 @@ pub fn of_request(
         lines,
         body: Text::of(body),
     })
+}
+
+/// The text of the frame of a request to a URL.
+pub fn request_bytes(
+    alloc: Global,
+    request: &Request,
+    url: &[u8],
+    aim: Aim,
+) -> Result<Vec<u8>, OutOfMemory>
+    requires { IsSomeUrl url.now }
+    ensures { IfOk result (λ text. text.items ≡ spec.request_text request.now url.now aim) }
+{
+    let frame = of_request(alloc, request, url, aim)?;
+    frame_bytes(alloc, &frame)
 }

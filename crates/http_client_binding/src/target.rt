@@ -34,7 +34,7 @@ fn behind_scheme(url: &[u8]) -> &[u8]
 }
 
 /// The host of a URL, with its port where it has one, as they are written.
-pub(crate) fn host_of(url: &[u8]) -> &[u8]
+pub fn host_of(url: &[u8]) -> &[u8]
     requires { IsSomeUrl url.now }
     ensures { result.now ≡ spec.host_of url.now }
 {

@@ -36,4 +36,4 @@ pub use laws::{
     whole_chunk_lines_are_judged, whole_heads_are_judged,
 };
 pub use lines::{Found, Lines};
-pub use write::{phrase_of, write_frame};
+pub use write::{frame_bytes, phrase_of, write_frame};

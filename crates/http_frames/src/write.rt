@@ -121,8 +121,9 @@ fn append_lines(out: &mut Vec<u8>, lines: &Lines) -> Result<(), AllocError>
     Ok(())
 }
 
-/// The text of a frame.
-fn frame_bytes(alloc: Global, frame: &Frame) -> Result<Vec<u8>, AllocError>
+/// The text of a frame: its head with the lines as they are, and its body as it is. It adds no line,
+/// so the lines have to say how long the body is.
+pub fn frame_bytes(alloc: Global, frame: &Frame) -> Result<Vec<u8>, AllocError>
     ensures { IfOk result (λ text. text.items ≡ frame_text frame.now) }
 {
     let body = frame.body.entries();
@@ -134,8 +135,7 @@ fn frame_bytes(alloc: Global, frame: &Frame) -> Result<Vec<u8>, AllocError>
     Ok(out)
 }
 
-/// Writes a frame by one call of the sink: its head with the lines as they are, and its body as
-/// it is. It adds no line, so the lines have to say how long the body is.
+/// Writes the text of a frame by one call of the sink.
 pub fn write_frame<O: Sink>(alloc: Global, frame: &Frame, sink: &mut O) -> Result<(), PutFault>
     ensures ok { OnOk result
         (Appends (O.written sink.old) (O.written sink.new) (frame_text frame.now)) }

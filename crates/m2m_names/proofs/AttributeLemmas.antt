@@ -10,7 +10,7 @@ use Rattle.std.specs.List.Sorted.{IsNonDecreasingBy, IsBinarySearchResult}
 use Rattle.std.specs.Ordering.{ordering_index, is_lt}
 use Rattle.m2m_names.proofs.LookupLemmas.{same_key}
 use Rattle.m2m_names.specs.declared.attributes.Attr.{Attr}
-use Rattle.m2m_names.specs.declared.attributes.Attr.TheVariants.{Aa, Acpi, Aei, Api, Apn, At, Cb, Cbs, Cnf, Cni, Cnm, Con, Cr, Cs, Csi, Cst, Csy, Ct, Enc, Et, Gn, Lbl, Lnk, Lt, Macp, Mbs, Mia, Mid, Mni, Mnm, Mt, Mtv, Nct, Nu, Pi, Poa, Pv, Pvs, Ri, Rn, Rr, Srt, Srv, St, Su, Ty}
+use Rattle.m2m_names.specs.declared.attributes.Attr.TheVariants.{Aa, Acpi, Aei, Api, Apn, At, Cb, Cbs, Cnf, Cni, Cnm, Con, Cr, Cs, Csi, Cst, Csy, Ct, Enc, Et, Exc, Gn, Lbl, Lnk, Lt, Macp, Mbs, Mia, Mid, Mni, Mnm, Mt, Mtv, Nct, Nu, Pi, Poa, Pv, Pvs, Ri, Rn, Rr, Srt, Srv, St, Su, Ty}
 use Rattle.m2m_names.specs.Attributes.{attr_short, attr_of_short, attr_cmp, all_attrs}
 
 -- each attribute is found at its short name
@@ -35,6 +35,7 @@ attr_again Csy = refl
 attr_again Ct = refl
 attr_again Enc = refl
 attr_again Et = refl
+attr_again Exc = refl
 attr_again Gn = refl
 attr_again Lbl = refl
 attr_again Lnk = refl

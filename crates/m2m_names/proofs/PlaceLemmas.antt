@@ -7,7 +7,7 @@ use Rattle.std.specs.Cmp.{nat_cmp_is}
 use Rattle.std.specs.Ordering.{is_lt, ordering_reverse}
 use Rattle.std.specs.Prelude.{slice_get}
 use Rattle.m2m_names.specs.declared.attributes.Attr.{Attr}
-use Rattle.m2m_names.specs.declared.attributes.Attr.TheVariants.{Aa, Acpi, Aei, Api, Apn, At, Cb, Cbs, Cnf, Cni, Cnm, Con, Cr, Cs, Csi, Cst, Csy, Ct, Enc, Et, Gn, Lbl, Lnk, Lt, Macp, Mbs, Mia, Mid, Mni, Mnm, Mt, Mtv, Nct, Nu, Pi, Poa, Pv, Pvs, Ri, Rn, Rr, Srt, Srv, St, Su, Ty}
+use Rattle.m2m_names.specs.declared.attributes.Attr.TheVariants.{Aa, Acpi, Aei, Api, Apn, At, Cb, Cbs, Cnf, Cni, Cnm, Con, Cr, Cs, Csi, Cst, Csy, Ct, Enc, Et, Exc, Gn, Lbl, Lnk, Lt, Macp, Mbs, Mia, Mid, Mni, Mnm, Mt, Mtv, Nct, Nu, Pi, Poa, Pv, Pvs, Ri, Rn, Rr, Srt, Srv, St, Su, Ty}
 use Rattle.m2m_names.specs.Attributes.{attr_short, attr_cmp, attr_place, all_attrs}
 
 -- each attribute stands at its place
@@ -32,6 +32,7 @@ placed Csy = refl
 placed Ct = refl
 placed Enc = refl
 placed Et = refl
+placed Exc = refl
 placed Gn = refl
 placed Lbl = refl
 placed Lnk = refl

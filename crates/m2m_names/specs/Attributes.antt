@@ -7,7 +7,8 @@ use Rattle.std.specs.Str.{bytes_eq}
 use Rattle.m2m_names.specs.declared.attributes.Attr.{Attr}
 use Rattle.m2m_names.specs.declared.attributes.Attr.TheVariants.{Aa, Acpi, Aei, Api, Apn, At, Cb}
 use Rattle.m2m_names.specs.declared.attributes.Attr.TheVariants.{Cbs, Cnf, Cni, Cnm, Con, Cr, Cs}
-use Rattle.m2m_names.specs.declared.attributes.Attr.TheVariants.{Csi, Cst, Csy, Ct, Enc, Et, Gn}
+use Rattle.m2m_names.specs.declared.attributes.Attr.TheVariants.{Csi, Cst, Csy, Ct, Enc, Et}
+use Rattle.m2m_names.specs.declared.attributes.Attr.TheVariants.{Exc, Gn}
 use Rattle.m2m_names.specs.declared.attributes.Attr.TheVariants.{Lbl, Lnk, Lt, Macp, Mbs, Mia, Mid}
 use Rattle.m2m_names.specs.declared.attributes.Attr.TheVariants.{Mni, Mnm, Mt, Mtv, Nct, Nu, Pi}
 use Rattle.m2m_names.specs.declared.attributes.Attr.TheVariants.{Poa, Pv, Pvs, Ri, Rn, Rr, Srt, Srv}
@@ -35,6 +36,7 @@ attr_short Csy = codes "csy"
 attr_short Ct = codes "ct"
 attr_short Enc = codes "enc"
 attr_short Et = codes "et"
+attr_short Exc = codes "exc"
 attr_short Gn = codes "gn"
 attr_short Lbl = codes "lbl"
 attr_short Lnk = codes "lnk"
@@ -66,8 +68,8 @@ attr_short Ty = codes "ty"
 abbrev pub all_attrs : List Attr
 all_attrs =
     Aa ∷ Acpi ∷ Aei ∷ Api ∷ Apn ∷ At ∷ Cb ∷ Cbs ∷ Cnf ∷ Cni ∷ Cnm ∷ Con ∷ Cr ∷ Cs ∷ Csi ∷ Cst ∷
-    Csy ∷ Ct ∷ Enc ∷ Et ∷ Gn ∷ Lbl ∷ Lnk ∷ Lt ∷ Macp ∷ Mbs ∷ Mia ∷ Mid ∷ Mni ∷ Mnm ∷ Mt ∷ Mtv ∷
-    Nct ∷ Nu ∷ Pi ∷ Poa ∷ Pv ∷ Pvs ∷ Ri ∷ Rn ∷ Rr ∷ Srt ∷ Srv ∷ St ∷ Su ∷ Ty ∷ []
+    Csy ∷ Ct ∷ Enc ∷ Et ∷ Exc ∷ Gn ∷ Lbl ∷ Lnk ∷ Lt ∷ Macp ∷ Mbs ∷ Mia ∷ Mid ∷ Mni ∷ Mnm ∷ Mt ∷
+    Mtv ∷ Nct ∷ Nu ∷ Pi ∷ Poa ∷ Pv ∷ Pvs ∷ Ri ∷ Rn ∷ Rr ∷ Srt ∷ Srv ∷ St ∷ Su ∷ Ty ∷ []
 
 -- the attribute of a short name
 abbrev pub attr_of_short : List ℕ → Option Attr

@@ -32,6 +32,7 @@ pub enum Attr {
     Ct,
     Enc,
     Et,
+    Exc,
     Gn,
     Lbl,
     Lnk,
@@ -61,7 +62,7 @@ pub enum Attr {
 }
 
 // In the order of bytes of their short names.
-const ALL: [Attr; 46] = [
+const ALL: [Attr; 47] = [
     Attr::Aa,
     Attr::Acpi,
     Attr::Aei,
@@ -82,6 +83,7 @@ const ALL: [Attr; 46] = [
     Attr::Ct,
     Attr::Enc,
     Attr::Et,
+    Attr::Exc,
     Attr::Gn,
     Attr::Lbl,
     Attr::Lnk,
@@ -172,6 +174,7 @@ impl Attr {
             Attr::Ct => "ct",
             Attr::Enc => "enc",
             Attr::Et => "et",
+            Attr::Exc => "exc",
             Attr::Gn => "gn",
             Attr::Lbl => "lbl",
             Attr::Lnk => "lnk",

@@ -7,28 +7,46 @@ use Rattle.resource_model.specs.Home.{HomeData}
 use Rattle.entity_model.specs.Entity.{EntityData}
 use Rattle.entity_model.specs.Sound.{IsSoundEntity}
 use Rattle.cse_machine.specs.declared.event.Event.{Event}
-use Rattle.cse_machine.specs.declared.event.Event.TheVariants.{Ask}
+use Rattle.cse_machine.specs.declared.event.Event.TheVariants.{Ask, Take, Tick}
 use Rattle.cse_machine.specs.declared.event.Outcome.{Outcome}
-use Rattle.cse_machine.specs.declared.event.Outcome.TheVariants.{Done, Starved}
+use Rattle.cse_machine.specs.declared.event.Outcome.TheVariants.{Done, Item, Ticked, Starved}
 use Rattle.cse_machine.specs.History.{History, HistoryLeaves, IsDone}
 use Rattle.machine_laws.specs.Sight.{sight, IsBy}
 use Rattle.cse_machine.specs.Step.{Step}
 use Rattle.machine_laws.proofs.HistoryLemmas.{none_some, same_entity, same_first, same_rest, sound_step}
-use Rattle.machine_laws.proofs.SightLemmas.{left-alike, outcomes-alike}
+use Rattle.machine_laws.proofs.SightLemmas.{left-alike, outcomes-alike, passed-alike}
 
 module _ (o : List ℕ) (one other : EntityData) (sound : IsSoundEntity one) (sounds : IsSoundEntity other) (same : sight o one ≡ sight o other) where
   -- a step of both
   step_alike : (reading : ℕ) (event : Event) (after left : EntityData) (outcome twin : Outcome) → IsBy one.home o event → Step reading event one outcome after → Step reading event other twin left → IsDone outcome → IsDone twin
       → (outcome ≡ twin) × (sight o after ≡ sight o left) × IsSoundEntity after × IsSoundEntity left × (one.home ≡ after.home)
   step_alike reading (Ask request) after left (Done reply) (Done replied) by first second done dones = (
-    first.0 ∙ outcomes-alike one other o reading request sound sounds same by ∙ sym second.0,
-    ap (sight o) first.1 ∙ left-alike one other o reading request sound sounds same by ∙ sym (ap (sight o) second.1),
+    first.0 ∙ outcomes-alike one other o reading sound sounds same request by ∙ sym second.0,
+    ap (sight o) first.1 ∙ left-alike one other o reading sound sounds same request by ∙ sym (ap (sight o) second.1),
     sound_step reading (Ask request) one after (Done reply) sound first,
     sound_step reading (Ask request) other left (Done replied) sounds second,
     sym (same_entity reading (Ask request) (Done reply) one after first).home,
   )
   step_alike reading (Ask request) after left (Done reply) (Starved none) by first second done dones = absurd dones
   step_alike reading (Ask request) after left (Starved none) twin by first second done dones = absurd done
+  step_alike reading (Ask request) after left (Done reply) (Item given) by first second done dones = absurd second
+  step_alike reading (Ask request) after left (Done reply) Ticked by first second done dones = absurd second
+  step_alike reading (Ask request) after left (Item given) twin by first second done dones = absurd first
+  step_alike reading (Ask request) after left Ticked twin by first second done dones = absurd first
+  step_alike reading Take after left outcome twin by first second done dones = absurd by
+  step_alike reading Tick after left Ticked Ticked by first second done dones = (
+    refl,
+    ap (sight o) first ∙ passed-alike one other o reading sound sounds same ∙ sym (ap (sight o) second),
+    sound_step reading Tick one after Ticked sound first,
+    sound_step reading Tick other left Ticked sounds second,
+    sym (same_entity reading Tick Ticked one after first).home,
+  )
+  step_alike reading Tick after left Ticked (Starved none) by first second done dones = absurd dones
+  step_alike reading Tick after left Ticked (Done reply) by first second done dones = absurd second
+  step_alike reading Tick after left Ticked (Item given) by first second done dones = absurd second
+  step_alike reading Tick after left (Starved none) twin by first second done dones = absurd done
+  step_alike reading Tick after left (Done reply) twin by first second done dones = absurd first
+  step_alike reading Tick after left (Item given) twin by first second done dones = absurd first
 
 pub stay_alike : (history twin : History) (o : List ℕ) (left right after other : EntityData) → IsSoundEntity left → IsSoundEntity right → sight o left ≡ sight o right → HistoryLeaves left history after → HistoryLeaves right twin other
     → readings_of history ≡ readings_of twin → events_of history ≡ events_of twin → All (IsBy left.home o) (events_of history)

@@ -1,31 +1,36 @@
 -- What a request that was served changes.
 use Rattle.std.specs.Prelude.{◌+◌}
-use Rattle.std.proofs.Common.{◌≡◌, ℕ, length, true, Some, refl, sym, ap, subst, ◌∙◌, arith}
+use Rattle.std.proofs.Common.{◌≡◌, ℕ, List, length, true, Some, None, refl, sym, ap, subst, ◌∙◌, arith}
 use Rattle.m2m_names.specs.Name.{is_originator}
 use Rattle.m2m_names.specs.declared.operations.Op.{Op}
 use Rattle.m2m_names.specs.declared.operations.Op.TheVariants.{Create, Retrieve, Update, Delete, Notify}
 use Rattle.primitive_json.specs.declared.reply.ReplyParts.{ReplyParts}
 use Rattle.primitive_json.specs.declared.request.RequestParts.{RequestParts}
 use Rattle.resource_model.specs.Resource.{ResourceData}
+use Rattle.subscription_match.specs.Notices.{notes_of_all}
 use Rattle.entity_model.specs.Entity.{EntityData, swept}
 use Rattle.tree_model.specs.Tree.{at}
 use Rattle.entity_model.specs.Places.{Effect, refusal, reply_alone}
+use Rattle.request_rules.specs.Order.{fault_on}
 use Rattle.entity_model.specs.Sound.{IsSoundEntity}
-use Rattle.entity_model.proofs.SoundLemmas.{sound_swept}
-use Rattle.create_delete.specs.Changes.{only_in}
-use Rattle.create_delete.specs.Changing.{effect_at}
+use Rattle.entity_model.proofs.TellingLemmas.{sound_swept}
+use Rattle.create_delete.specs.Changes.{changes_by, only_in}
+use Rattle.create_delete.specs.Changing.{effect_at, effect_by}
 use Rattle.create_delete.specs.Guard.{NamesInOrder}
-use Rattle.change_laws.specs.Served.{AddsOne, ChangesOne}
+use Rattle.create_delete.specs.Telling.{gone_numbers, told_effect_at}
+use Rattle.create_delete.proofs.EffectLemmas.{done_at}
+use Rattle.create_delete.proofs.RightLemmas.{stays_sound}
 use Rattle.create_delete.proofs.ChangesLemmas.{nothing_apart}
 use Rattle.change_laws.proofs.ServedLemmas.{creation_adds_one, next_rises, update_alone}
 use Rattle.cse_machine.specs.Answer.{change_effect, operation_effect, reading_reply}
 use Rattle.cse_machine.proofs.OutcomeLemmas.{changing_at}
-use Rattle.machine_laws.specs.Asked.{CreatesAddOne, DeletesTakeTheirTarget, IsServedStep, NumbersRiseByWhatIsNew, UpdatesChangeTheirTarget}
+use Rattle.machine_laws.specs.Asked.{CreatesAddOne, DeletesTakeTheirTarget, IsServedStep, NumbersRiseByWhatIsNew, UpdatesChangeTheirTarget, told_of}
 use Rattle.machine_laws.specs.Guard.{is_success}
 use Rattle.cse_machine.specs.Rights.{claimed_originator}
-use Rattle.machine_laws.proofs.ChangingLemmas.{delete_served}
+use Rattle.machine_laws.proofs.ChangingLemmas.{comes_at, fault_there, told_done, unrefused}
 use Rattle.machine_laws.proofs.GuardLemmas.{Served, comes, performed_is, served_after, served_on, served_reply}
 use Rattle.machine_laws.proofs.HistoryLemmas.{done_holds}
+use Rattle.machine_laws.proofs.RiseLemmas.{as_many_new, untold}
 
 -- what was served on its target, and left so
 served_step : (reading : ℕ) (request : RequestParts) (before after : EntityData) (reply : ReplyParts) (target : ResourceData) → IsServedStep reading request before after reply target → Served (swept reading before) request target
@@ -45,7 +50,26 @@ step_after reading request before after reply target step =
 -- as it was performed on the resource of the number, with what it succeeded by
 record Performed (op : Op) (e : EntityData) (request : RequestParts) (after : EntityData) (target : ResourceData) : Type 0 where
   success : is_success (effect_at op e (claimed_originator e.home request) request target.number).reply.rsc ≡ true
-  left : after ≡ (effect_at op e (claimed_originator e.home request) request target.number).after
+  left : after ≡ told_of op request target.number e (effect_at op e (claimed_originator e.home request) request target.number).after
+
+-- what no place refuses is done, and told
+module _ (op : Op) (e : EntityData) (request : RequestParts) (target : ResourceData) (there : at target.number e.nodes ≡ Some target) (served : is_success (told_effect_at op e (claimed_originator e.home request) request target.number).reply.rsc ≡ true) where
+  abbrev o : List ℕ
+  o = claimed_originator e.home request
+
+  none : fault_on op e (claimed_originator e.home request) request target ≡ None
+  none = unrefused op e request target there served
+
+  is_done : effect_at op e (claimed_originator e.home request) request target.number ≡ effect_by op e (claimed_originator e.home request) request target
+  is_done = done_at op e o request target.number target there (fault_there op e request target there ∙ none)
+
+  performed : (after : EntityData) → after ≡ (told_effect_at op e (claimed_originator e.home request) request target.number).after → Performed op e request after target
+  performed after left =
+      let told = told_done op e request target there none in
+      record {
+        success = ap (λ (x : Effect). is_success x.reply.rsc) is_done ∙ sym (ap (λ (x : Effect). is_success x.reply.rsc) told) ∙ served;
+        left = left ∙ ap (λ (x : Effect). x.after) told ∙ ap (λ (x : Effect). told_of op request target.number e x.after) (sym is_done);
+      }
 
 performed_step : (op : Op) (reading : ℕ) (request : RequestParts) (before after : EntityData) (reply : ReplyParts) (target : ResourceData) → request.op ≡ op → operation_effect op (swept reading before) request target ≡ change_effect op (swept reading before) request target → IsServedStep reading request before after reply target → Performed op (swept reading before) request after target
 performed_step op reading request before after reply target is changes step =
@@ -53,27 +77,29 @@ performed_step op reading request before after reply target is changes step =
     let on = served_step reading request before after reply target step in
     let way = performed_is op e request target is on.there changes in
     let said = step_reply reading request before after reply target step ∙ ap (λ (x : Effect). x.reply) way in
-    record {
-      success = ap (λ (r : ReplyParts). is_success r.rsc) (sym said) ∙ step.served;
-      left = step_after reading request before after reply target step ∙ ap (λ (x : Effect). x.after) way;
-    }
+    performed op e request target on.there (ap (λ (r : ReplyParts). is_success r.rsc) (sym said) ∙ step.served)
+    after (step_after reading request before after reply target step ∙ ap (λ (x : Effect). x.after) way)
 
 pub create_adds : CreatesAddOne
 create_adds reading request before after reply target sound op step =
     let e = swept reading before in
     let o = claimed_originator e.home request in
     let on = served_step reading request before after reply target step in
-    let effect_on = performed_step Create reading request before after reply target op refl step in
-    subst (AddsOne e target.number) (sym effect_on.left)
-    (creation_adds_one e o request target.number (sound_swept reading before sound) on.originator step.step.2 effect_on.success)
+    let made = performed_step Create reading request before after reply target op refl step in (
+      (effect_at Create e o request target.number).after,
+      creation_adds_one e o request target.number (sound_swept reading before sound) on.originator step.step.2 made.success,
+      made.left,
+    )
 
 pub update_changes : UpdatesChangeTheirTarget
 update_changes reading request before after reply target sound op step =
     let e = swept reading before in
     let o = claimed_originator e.home request in
-    let effect_on = performed_step Update reading request before after reply target op refl step in
-    subst (ChangesOne e target.number) (sym effect_on.left)
-    (update_alone e o request target.number (sound_swept reading before sound) step.step.2 effect_on.success)
+    let made = performed_step Update reading request before after reply target op refl step in (
+      (effect_at Update e o request target.number).after,
+      update_alone e o request target.number (sound_swept reading before sound) step.step.2 made.success,
+      made.left,
+    )
 
 pub delete_takes : DeletesTakeTheirTarget
 delete_takes reading request before after reply target op step =
@@ -81,9 +107,10 @@ delete_takes reading request before after reply target op step =
     let on = served_step reading request before after reply target step in
     let is = performed_is Delete e request target op on.there refl in
     let said = step_reply reading request before after reply target step ∙ ap (λ (x : Effect). x.reply) is in
-    let done = delete_served e request target on.there (ap (λ (r : ReplyParts). is_success r.rsc) (sym said) ∙ step.served) in (
-      said ∙ ap (λ (x : Effect). x.reply) done,
-      step_after reading request before after reply target step ∙ ap (λ (x : Effect). x.after) (is ∙ done),
+    let served = ap (λ (r : ReplyParts). is_success r.rsc) (sym said) ∙ step.served in
+    let told = told_done Delete e request target on.there (unrefused Delete e request target on.there served) in (
+      said ∙ ap (λ (x : Effect). x.reply) told,
+      step_after reading request before after reply target step ∙ ap (λ (x : Effect). x.after) (is ∙ told),
     )
 
 -- ---- the next number
@@ -94,9 +121,23 @@ Rises e x = x.after.next ≡ e.next + length (only_in x.after.nodes e.nodes)
 still_rises : (e : EntityData) (reply : ReplyParts) → Rises e (reply_alone e reply)
 still_rises e reply = omega (arith, ap length (nothing_apart e.nodes))
 
+-- what is done rises so, and what is told of it leaves as many that are new
+told_rises : (op : Op) (e : EntityData) (request : RequestParts) (target : ResourceData) → IsSoundEntity e → is_originator (claimed_originator e.home request) ≡ true → NamesInOrder request → at target.number e.nodes ≡ Some target → Rises e (told_effect_at op e (claimed_originator e.home request) request target.number)
+told_rises op e request target sound originator names there =
+    comes_at e request target there op (Rises e) (λ f other. still_rises e (refusal request f)) (λ none.
+    let o = claimed_originator e.home request in
+    let x = effect_by op e o request target in
+    let is = done_at op e o request target.number target there (fault_there op e request target there ∙ none) in
+    let rises : Rises e x = subst (Rises e) is (next_rises op e o request target.number sound originator names) in
+    let done_sound : IsSoundEntity x.after = subst (λ (y : Effect). IsSoundEntity y.after) is (stays_sound op e o request target.number sound originator names) in
+    let drafts = notes_of_all x.after.home e.nodes (gone_numbers e x.after) (changes_by op request target.number e x.after) in
+    rises
+    ∙ ap (λ (k : ℕ). e.next + k) (sym (as_many_new drafts x.after.nodes e.nodes done_sound.tree done_sound.kinds (λ n none.
+    untold e.nodes (gone_numbers e x.after) n x.after.home (changes_by op request target.number e x.after) none))))
+
 changed_rises : (op : Op) (e : EntityData) (request : RequestParts) (target : ResourceData) → IsSoundEntity e → is_originator (claimed_originator e.home request) ≡ true → NamesInOrder request → at target.number e.nodes ≡ Some target → Rises e (change_effect op e request target)
 changed_rises op e request target sound originator names there =
-    subst (Rises e) (sym (changing_at op e request target there)) (next_rises op e (claimed_originator e.home request) request target.number sound originator names)
+    subst (Rises e) (sym (changing_at op e request target there)) (told_rises op e request target sound originator names there)
 
 operation_rises : (op : Op) (e : EntityData) (request : RequestParts) (target : ResourceData) → IsSoundEntity e → is_originator (claimed_originator e.home request) ≡ true → NamesInOrder request → at target.number e.nodes ≡ Some target → Rises e (operation_effect op e request target)
 operation_rises Create e request target = changed_rises Create e request target

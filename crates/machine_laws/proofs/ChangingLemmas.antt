@@ -1,15 +1,15 @@
 -- What comes of a request that may change an entity.
 use Rattle.std.specs.Prelude.{Contains, ℤ, pos, ◌++◌, map, codes, unwrap_or}
 use Rattle.std.proofs.Common.{◌≡◌, ℕ, ◌≤◌, List, [], ◌∷◌, true, false, Option, Some, None, inl, inr, refl, sym, ap, subst, ◌∙◌, arith}
-use Rattle.std.proofs.lemmas.Bool.{cases_Bool, true≢false}
+use Rattle.std.proofs.lemmas.Bool.{cases_Bool, false≢true, true≢false}
 use Rattle.std.specs.Option.{option_map_or}
 use Rattle.std.specs.Ordering.{int_eq}
 use Rattle.std.proofs.lemmas.List.{append-nil}
 use Rattle.m2m_names.specs.Name.{is_originator}
-use Rattle.m2m_names.specs.Types.{ty_member}
+use Rattle.m2m_names.specs.Types.{does_take, ty_member}
 use Rattle.m2m_names.specs.declared.types.Ty.{Ty}
 use Rattle.m2m_names.specs.declared.codes.Rsc.{Rsc}
-use Rattle.m2m_names.specs.declared.codes.Rsc.TheVariants.{BadChild, Created, Deleted, NoPrivilege, Updated}
+use Rattle.m2m_names.specs.declared.codes.Rsc.TheVariants.{BadChild, Created, Deleted, NoPrivilege, NotFound, Updated}
 use Rattle.m2m_names.specs.declared.operations.Op.{Op}
 use Rattle.m2m_names.specs.declared.operations.Op.TheVariants.{Create, Update, Delete}
 use Rattle.m2m_value.specs.Data.{Data, object, text, pairs_of, Entry}
@@ -25,22 +25,23 @@ use Rattle.addressing.specs.Names.{structured_of}
 use Rattle.entity_model.specs.Entity.{EntityData}
 use Rattle.entity_model.specs.Places.{Effect, refusal, refused, reply_alone, reply_to}
 use Rattle.entity_model.specs.Sound.{IsSoundEntity}
-use Rattle.request_rules.specs.Order.{fault_at}
+use Rattle.request_rules.specs.Order.{fault_at, fault_on}
+use Rattle.request_rules.proofs.OrderLemmas.{places_parts}
 use Rattle.request_rules.proofs.RefusalLemmas.{refuses_at}
 use Rattle.request_rules.specs.Creation.{new_resource}
 use Rattle.request_rules.specs.Order.{creation_by}
-use Rattle.request_rules.specs.Requests.{child_ty, named_by}
+use Rattle.request_rules.specs.Requests.{child_ty, named_by, takes_child}
 use Rattle.request_rules.specs.Rights.{may_do}
 use Rattle.retrieve_laws.specs.Guard.{OthersAreShownByRight}
 use Rattle.retrieve_laws.specs.Told.{addresses_in, ids_below, listed_parts, references_in, shown_id, shown_reference, values_under}
 use Rattle.retrieve_laws.proofs.RightLemmas.{addresses_under, ids_under, references_under}
 use Rattle.retrieve_laws.proofs.ToldLemmas.{none_referred, none_under}
-use Rattle.create_delete.specs.Changing.{create_effect, created_content, delete_effect, effect_by, container_update_of, effect_at, told_rows, update_effect, updated_content, updated_resource}
+use Rattle.create_delete.specs.Changes.{changes_by}
+use Rattle.create_delete.specs.Changing.{create_effect, created_content, told_rows, update_effect, updated_content, updated_resource}
 use Rattle.create_delete.specs.Guard.{ChangesByRight, NamesInOrder}
-use Rattle.create_delete.proofs.RightLemmas.{changes_by_right}
-use Rattle.create_delete.proofs.DeletionLemmas.{is_deletable, deletable, delete_done}
-use Rattle.create_delete.proofs.JoinedLemmas.{joined_home, joined_last, joined_next}
-use Rattle.create_delete.proofs.EffectLemmas.{done_at, no_right, refused_at}
+use Rattle.create_delete.proofs.EffectLemmas.{told_done_at, told_refused_at}
+use Rattle.create_delete.proofs.RightLemmas.{told_by_right}
+use Rattle.create_delete.specs.Telling.{told_effect, told_effect_at, told_effect_by}
 use Rattle.cse_machine.specs.Answer.{addressed}
 use Rattle.machine_laws.specs.Guard.{is_success, DoesShow, HasRight, IsGuardedAlone}
 use Rattle.cse_machine.specs.Rights.{claimed_originator}
@@ -89,13 +90,34 @@ pub record IsKept (e : EntityData) (effect : Effect) : Type 0 where
 pub still_kept : (e : EntityData) (reply : ReplyParts) → IsKept e (reply_alone e reply)
 still_kept e reply = record { home = refl; last = refl; next = omega arith; unserved = λ none. refl }
 
+-- what comes of an operation on a resource that is there
+module _ (op : Op) (e : EntityData) (request : RequestParts) (t : ResourceData) (there : at t.number e.nodes ≡ Some t) where
+  abbrev asks : List ℕ
+  asks = claimed_originator e.home request
+
+  pub fault_there : fault_at op e (claimed_originator e.home request) request t.number ≡ fault_on op e (claimed_originator e.home request) request t
+  fault_there = ap (λ (x : Option ResourceData). option_map_or (fault_on op e asks request) x (Some NotFound)) there
+
+  -- where a place refuses it, that; else it is done, and told
+  pub told_refused : (f : Rsc) → fault_on op e (claimed_originator e.home request) request t ≡ Some f → told_effect_at op e (claimed_originator e.home request) request t.number ≡ refused e request f
+  told_refused f is = told_refused_at op e asks request t.number f (fault_there ∙ is)
+
+  pub told_done : fault_on op e (claimed_originator e.home request) request t ≡ None → told_effect_at op e (claimed_originator e.home request) request t.number ≡ told_effect_by op e (claimed_originator e.home request) request t
+  told_done none = told_done_at op e asks request t.number t there (fault_there ∙ none)
+
+  -- a place refuses with no success
+  pub refuses_on : (f : Rsc) → fault_on op e (claimed_originator e.home request) request t ≡ Some f → is_success f ≡ false
+  refuses_on f is = refuses_at op e asks request t.number f (fault_there ∙ is)
+
 -- what shows something, is done by right
-pub shows_by_right : (op : Op) (e : EntityData) (request : RequestParts) (t : ResourceData) → at t.number e.nodes ≡ Some t → addressed e request.to ≡ Some t → request.op ≡ op → DoesShow (effect_at op e (claimed_originator e.home request) request t.number).reply → HasRight e request
+pub shows_by_right : (op : Op) (e : EntityData) (request : RequestParts) (t : ResourceData) → at t.number e.nodes ≡ Some t → addressed e request.to ≡ Some t → request.op ≡ op → DoesShow (told_effect_at op e (claimed_originator e.home request) request t.number).reply → HasRight e request
 shows_by_right op e request t there named is shows =
     let o = claimed_originator e.home request in
     elim (cases_Bool (may_do op e o request t.number)) [
       | inl right ↦ record { target = t; named = named; right = ap (λ (p : Op). may_do p e o request t.number) is ∙ right }
-      | inr none ↦ absurd (shows_none request NoPrivilege refl (subst DoesShow (ap (λ (x : Effect). x.reply) (no_right op e o request t.number t there none)) shows))
+      | inr none ↦
+          let refuses : fault_on op e o request t ≡ Some NoPrivilege = rw none refl in
+          absurd (shows_none request NoPrivilege refl (subst DoesShow (ap (λ (x : Effect). x.reply) (told_refused op e request t there NoPrivilege refuses)) shows))
     ]
 
 -- ---- a Create and an Update
@@ -144,21 +166,23 @@ module _ (e : EntityData) (request : RequestParts) (t : ResourceData) (there : a
   abbrev who : List ℕ
   who = claimed_originator e.home request
 
-  -- what holds of a refusal, and of what is done, holds of what comes of an operation
-  comes : (op : Op) (P : Effect → Type 0) → ((f : Rsc) → is_success f ≡ false → P (refused e request f)) → P (effect_by op e who request t) → P (effect_at op e who request t.number)
-  comes op P refuses does = by_place (fault_at op e who request t.number) refl
-    where
-      by_place : (fault : Option Rsc) → fault_at op e who request t.number ≡ fault → P (effect_at op e who request t.number)
-      by_place (Some f) is = subst P (sym (refused_at op e who request t.number f is)) (refuses f (refuses_at op e who request t.number f is))
-      by_place None is = subst P (sym (done_at op e who request t.number t there is)) does
+  -- what a Create makes under it, of this type
+  abbrev made_of : Option Ty → Effect
+  made_of ty = option_map_or (λ (y : Ty). create_effect request (creation_by e (claimed_originator e.home request) request t y)) ty (refused e request BadChild)
 
-  created_kept : (ty : Option Ty) → IsKept e (option_map_or (λ (y : Ty). create_effect request (creation_by e who request t y)) ty (refused e request BadChild))
-  created_kept None = still_kept e (refusal request BadChild)
-  created_kept (Some ty) =
-      let made = creation_by e who request t ty in
-      let r = new_resource made in
-      let f = container_update_of made in
-      record { home = joined_home e r f; last = joined_last e r f; next = joined_next e r f; unserved = λ none. absurd (true≢false none) }
+  -- what holds of a refusal, and of what is done and told, holds of what comes of an operation
+  pub comes_at : (op : Op) (P : Effect → Type 0) → ((f : Rsc) → is_success f ≡ false → P (refused e request f)) → (fault_on op e (claimed_originator e.home request) request t ≡ None → P (told_effect_by op e (claimed_originator e.home request) request t)) → P (told_effect_at op e (claimed_originator e.home request) request t.number)
+  comes_at op P refuses does = by_place (fault_on op e who request t) refl
+    where
+      by_place : (fault : Option Rsc) → fault_on op e who request t ≡ fault → P (told_effect_at op e who request t.number)
+      by_place (Some f) is = subst P (sym (told_refused op e request t there f is)) (refuses f (refuses_on op e request t there f is))
+      by_place None is = subst P (sym (told_done op e request t there is)) (does is)
+
+  -- what is created is of a type that is asked for
+  created_kept : (ty : Option Ty) → child_ty request ≡ ty → takes_child Create request t ≡ true → IsKept e (told_effect e (changes_by Create request t.number e (made_of ty).after) (made_of ty))
+  created_kept None is takes = absurd (false≢true (sym (ap (λ (x : Option Ty). option_map_or (does_take t.ty) x false) is) ∙ takes))
+  created_kept (Some ty) is takes =
+      record { home = refl; last = refl; next = omega arith; unserved = λ none. absurd (true≢false none) }
 
   created_told : (ty : Option Ty) → IsToldByRight e request (option_map_or (λ (y : Ty). create_effect request (creation_by e who request t y)) ty (refused e request BadChild)).reply
   created_told None = tells_nothing e request BadChild
@@ -166,81 +190,55 @@ module _ (e : EntityData) (request : RequestParts) (t : ResourceData) (there : a
       let made = creation_by e who request t ty in
       tells_none e request Created (created_content (unwrap_or request.rcn (pos 1)) e (new_resource made)) (created_tells (unwrap_or request.rcn (pos 1)) e (new_resource made))
 
-  pub create_kept : IsKept e (effect_at Create e who request t.number)
-  create_kept = comes Create (IsKept e) (λ f other. still_kept e (refusal request f)) (created_kept (child_ty request))
+  pub create_kept : IsKept e (told_effect_at Create e (claimed_originator e.home request) request t.number)
+  create_kept = comes_at Create (IsKept e) (λ f other. still_kept e (refusal request f)) (λ none. created_kept (child_ty request) refl (places_parts Create e who request t none).child)
 
-  pub create_told : IsToldByRight e request (effect_at Create e who request t.number).reply
-  create_told = comes Create (λ x. IsToldByRight e request x.reply) (λ f other. tells_nothing e request f) (created_told (child_ty request))
-
-  updated_kept : (es : List Entry) → IsKept e (update_effect e request es t)
-  updated_kept es = record { home = refl; last = refl; next = omega arith; unserved = λ none. absurd (true≢false none) }
+  pub create_told : IsToldByRight e request (told_effect_at Create e (claimed_originator e.home request) request t.number).reply
+  create_told = comes_at Create (λ x. IsToldByRight e request x.reply) (λ f other. tells_nothing e request f) (λ none. created_told (child_ty request))
 
   updated_told : (es : List Entry) → IsToldByRight e request (update_effect e request es t).reply
   updated_told es =
       let now = updated_resource e es t in
       tells_none e request Updated (updated_content (unwrap_or request.rcn (pos 1)) e es now) (updated_tells (unwrap_or request.rcn (pos 1)) e es now)
 
-  pub update_kept : IsKept e (effect_at Update e who request t.number)
-  update_kept = comes Update (IsKept e) (λ f other. still_kept e (refusal request f)) (updated_kept (named_by Update request t))
+  pub update_kept : IsKept e (told_effect_at Update e (claimed_originator e.home request) request t.number)
+  update_kept = comes_at Update (IsKept e) (λ f other. still_kept e (refusal request f)) (λ none. record { home = refl; last = refl; next = omega arith; unserved = λ other. absurd (true≢false other) })
 
-  pub update_told : IsToldByRight e request (effect_at Update e who request t.number).reply
-  update_told = comes Update (λ x. IsToldByRight e request x.reply) (λ f other. tells_nothing e request f) (updated_told (named_by Update request t))
+  pub update_told : IsToldByRight e request (told_effect_at Update e (claimed_originator e.home request) request t.number).reply
+  update_told = comes_at Update (λ x. IsToldByRight e request x.reply) (λ f other. tells_nothing e request f) (λ none. updated_told (named_by Update request t))
 
   -- what an operation changes, it changes by right
-  pub change_guarded : (op : Op) → IsSoundEntity e → is_originator who ≡ true → NamesInOrder request → addressed e request.to ≡ Some t → request.op ≡ op → IsToldByRight e request (effect_at op e who request t.number).reply → IsGuardedAlone e request (effect_at op e who request t.number).reply (effect_at op e who request t.number).after
+  pub change_guarded : (op : Op) → IsSoundEntity e → is_originator who ≡ true → NamesInOrder request → addressed e request.to ≡ Some t → request.op ≡ op → IsToldByRight e request (told_effect_at op e who request t.number).reply → IsGuardedAlone e request (told_effect_at op e who request t.number).reply (told_effect_at op e who request t.number).after
   change_guarded op sound originator names named is told =
-      let by = changes_by_right op e who request t.number sound originator names in
+      let by = told_by_right op e who request t.number sound originator names in
       record {
         shown = shows_by_right op e request t there named is;
         others = told;
         changes = inr (record {
           target = t;
           named = named;
-          right = subst (λ (p : Op). ChangesByRight p e who t.number (effect_at op e who request t.number).after) (sym is) by;
+          right = subst (λ (p : Op). ChangesByRight p e who t.number (told_effect_at op e who request t.number).after) (sym is) by;
         });
       }
 
 -- ---- a Delete
 
--- it is refused, or may be done and is
-data Deleting (e : EntityData) (request : RequestParts) (t : ResourceData) (effect : Effect) : Type 0 where
-  was_refused : (f : Rsc) → is_success f ≡ false → effect ≡ refused e request f → Deleting e request t effect
-  was_done : is_deletable t.number e ≡ true → effect ≡ delete_effect e request t → Deleting e request t effect
-
 module _ (e : EntityData) (request : RequestParts) (t : ResourceData) (there : at t.number e.nodes ≡ Some t) where
-  abbrev o : List ℕ
-  o = claimed_originator e.home request
+  pub delete_kept : IsKept e (told_effect_at Delete e (claimed_originator e.home request) request t.number)
+  delete_kept =
+      comes_at e request t there Delete (IsKept e) (λ f other. still_kept e (refusal request f))
+      (λ none. record { home = refl; last = refl; next = omega arith; unserved = λ other. absurd (true≢false other) })
 
-  abbrev deleted : Effect
-  deleted = effect_at Delete e o request t.number
+  pub delete_told : IsToldByRight e request (told_effect_at Delete e (claimed_originator e.home request) request t.number).reply
+  delete_told = comes_at e request t there Delete (λ x. IsToldByRight e request x.reply) (λ f other. tells_nothing e request f) (λ none. tells_nothing e request Deleted)
 
-  deleting : Deleting e request t deleted
-  deleting = by_fault (fault_at Delete e o request t.number) refl
-    where
-      by_fault : (fault : Option Rsc) → fault_at Delete e o request t.number ≡ fault → Deleting e request t deleted
-      by_fault (Some f) is = was_refused f (refuses_at Delete e o request t.number f is) (refused_at Delete e o request t.number f is)
-      by_fault None is = was_done (deletable e o request t.number is) (delete_done e o request t.number is)
+-- ---- what was served
 
-  kept_of : (effect : Effect) → Deleting e request t effect → IsKept e effect
-  kept_of effect (was_refused f other is) = subst (IsKept e) (sym is) (still_kept e (refusal request f))
-  kept_of effect (was_done may is) =
-      subst (IsKept e) (sym is)
-      (record { home = refl; last = refl; next = omega arith; unserved = λ none. absurd (true≢false none) })
-
-  pub delete_kept : IsKept e deleted
-  delete_kept = kept_of deleted deleting
-
-  -- where it was served, it was done
-  done_of : (effect : Effect) → Deleting e request t effect → is_success effect.reply.rsc ≡ true → effect ≡ delete_effect e request t
-  done_of effect (was_refused f other is) served = absurd (true≢false (sym served ∙ ap (λ (x : Effect). is_success x.reply.rsc) is ∙ other))
-  done_of effect (was_done may is) served = is
-
-  pub delete_served : is_success deleted.reply.rsc ≡ true → deleted ≡ delete_effect e request t
-  delete_served served = done_of deleted deleting served
-
-  told_of : (effect : Effect) → Deleting e request t effect → IsToldByRight e request effect.reply
-  told_of effect (was_refused f other is) = subst (λ (x : Effect). IsToldByRight e request x.reply) (sym is) (tells_nothing e request f)
-  told_of effect (was_done may is) = subst (λ (x : Effect). IsToldByRight e request x.reply) (sym is) (tells_nothing e request Deleted)
-
-  pub delete_told : IsToldByRight e request deleted.reply
-  delete_told = told_of deleted deleting
+-- where it was served, no place refused it
+pub unrefused : (op : Op) (e : EntityData) (request : RequestParts) (t : ResourceData) (there : at t.number e.nodes ≡ Some t) → is_success (told_effect_at op e (claimed_originator e.home request) request t.number).reply.rsc ≡ true → fault_on op e (claimed_originator e.home request) request t ≡ None
+unrefused op e request t there served = by_place (fault_on op e (claimed_originator e.home request) request t) refl
+  where
+    by_place : (fault : Option Rsc) → fault_on op e (claimed_originator e.home request) request t ≡ fault → fault_on op e (claimed_originator e.home request) request t ≡ None
+    by_place None is = is
+    by_place (Some f) is =
+        absurd (true≢false (sym served ∙ ap (λ (x : Effect). is_success x.reply.rsc) (told_refused op e request t there f is) ∙ refuses_on op e request t there f is))

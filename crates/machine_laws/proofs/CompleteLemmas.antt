@@ -22,13 +22,16 @@ use Rattle.addressing.specs.declared.spot.Spot.{Spot}
 use Rattle.addressing.specs.declared.spot.Spot.TheVariants.{Resource, Fan, Poll}
 use Rattle.policy_eval.specs.Rights.{grants}
 use Rattle.entity_model.specs.Entity.{EntityData, swept}
-use Rattle.entity_model.specs.Places.{Effect, first_fault, reading_bit, refused, refusal}
+use Rattle.entity_model.specs.Places.{first_fault, reading_bit, refused, refusal}
+use Rattle.request_rules.proofs.OrderLemmas.{members_parts}
+use Rattle.request_rules.specs.Groups.{membership_edited, membership_new}
 use Rattle.request_rules.specs.Order.{creation_by, creation_places, fault_on, fault_new, new_places}
-use Rattle.request_rules.specs.Requests.{child_ty}
+use Rattle.request_rules.specs.Requests.{child_ty, named_by}
 use Rattle.request_rules.specs.Rights.{is_discovery}
 use Rattle.retrieve_discover.specs.Replies.{retrieved_of}
 use Rattle.create_delete.specs.Changing.{effect_by}
-use Rattle.cse_machine.specs.declared.event.Outcome.TheVariants.{Done, Starved}
+use Rattle.create_delete.specs.Telling.{told_effect_by}
+use Rattle.cse_machine.specs.declared.event.Outcome.TheVariants.{Done, Item, Ticked, Starved}
 use Rattle.cse_machine.specs.Answer.{EventEffect, address_effect, addressed, as_done, change_effect, does_serve, operation_effect, reading_reply, resource_at, resource_effect}
 use Rattle.machine_laws.specs.Complete.{IsSuccess, MayBeDone, WhatMayBeServedIsServed}
 use Rattle.machine_laws.specs.Guard.{spot_asked}
@@ -52,21 +55,24 @@ module _ (e : EntityData) (request : RequestParts) (r : ResourceData) where
   abbrev o : List ℕ
   o = claimed_originator e.home request
 
-  -- where no place refuses it, a change is done
-  done_unrefused : (op : Op) → fault_on op e o request r ≡ None → change_effect op e request r ≡ effect_by op e o request r
+  -- where no place refuses it, a change is done, and its reply is that
+  done_unrefused : (op : Op) → fault_on op e o request r ≡ None → (change_effect op e request r).reply ≡ (effect_by op e o request r).reply
   unfolding change_effect
-  done_unrefused op none = ap (λ (f : Option Rsc). option_map_or (refused e request) f (effect_by op e o request r)) none
+  done_unrefused op none = ap (λ (f : Option Rsc). (option_map_or (refused e request) f (told_effect_by op e o request r)).reply) none
 
   -- the places of a creation
   create_unrefused : (ty : Ty) → child_ty request ≡ Some ty → MayBeDone Create e request r → fault_on Create e o request r ≡ None
   create_unrefused ty is may =
       let new = may.creation ty is in
-      let none : fault_new (creation_by e o request r ty) ≡ None = rw (new.unique, new.room) refl in
+      let members = members_parts e (membership_new (creation_by e o request r ty)) new.members in
+      let none : fault_new (creation_by e o request r ty) ≡ None = rw (members.addresses, new.unique, new.room, members.few, members.consistent) refl in
       let all : fault_on Create e o request r ≡ first_fault (creation_places Create e o request r) = rw (may.right, may.child, may.content, may.expiry, may.links) refl in
       all ∙ ap (λ (x : Option Ty). first_fault (option_map_or (λ (y : Ty). new_places (creation_by e o request r y)) x [])) is ∙ none
 
   update_unrefused : MayBeDone Update e request r → fault_on Update e o request r ≡ None
-  update_unrefused may = rw (may.right, may.type, may.content, may.expiry, may.links) refl
+  update_unrefused may =
+      let members = members_parts e (membership_edited r (named_by Update request r)) may.creation in
+      rw (may.right, may.type, may.content, may.expiry, may.links, members.addresses, members.few, members.consistent) refl
 
   delete_unrefused : MayBeDone Delete e request r → fault_on Delete e o request r ≡ None
   delete_unrefused may = rw (may.right, may.type) refl
@@ -77,13 +83,13 @@ module _ (e : EntityData) (request : RequestParts) (r : ResourceData) where
   created None is may = absurd (false≢true (sym (ap (λ (x : Option Ty). option_map_or (does_take r.ty) x false) is) ∙ may.child))
   created (Some ty) is may =
       let done = done_unrefused Create (create_unrefused ty is may) in
-      ap (λ (x : Effect). Done x.reply) done ∙ rw is refl
+      ap Done done ∙ rw is refl
 
   updated : MayBeDone Update e request r → IsSuccess Update e request r (Done (change_effect Update e request r).reply)
-  updated may = ap (λ (x : Effect). Done x.reply) (done_unrefused Update (update_unrefused may))
+  updated may = ap Done (done_unrefused Update (update_unrefused may))
 
   deleted : MayBeDone Delete e request r → IsSuccess Delete e request r (Done (change_effect Delete e request r).reply)
-  deleted may = ap (λ (x : Effect). Done x.reply) (done_unrefused Delete (delete_unrefused may))
+  deleted may = ap Done (done_unrefused Delete (delete_unrefused may))
 
   read : at r.number e.nodes ≡ Some r → MayBeDone Retrieve e request r → IsSuccess Retrieve e request r (Done (reading_reply e request r.number))
   read there may = elim (cases_Bool (is_discovery request)) [
@@ -122,4 +128,6 @@ served_steps reading request before after (Done reply) target step hears named m
     heard e request hears.served hears.form hears.originator hears.address hears.time hears.blocking
     ∙ to_named e request target (address_of e.home request.to) refl named in
     inl (subst (IsSuccess request.op e request target) (sym (step.0 ∙ ap (λ (x : EventEffect). x.outcome) is)) (succeeds e request target request.op hears.served there may))
+served_steps reading request before after (Item given) target step hears named may = absurd step
+served_steps reading request before after Ticked target step hears named may = absurd step
 served_steps reading request before after (Starved done) target step hears named may = inr tt

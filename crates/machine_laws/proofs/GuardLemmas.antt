@@ -19,9 +19,9 @@ use Rattle.retrieve_discover.specs.Replies.{discovered, retrieved}
 use Rattle.retrieve_laws.proofs.RightLemmas.{discovered_by_right, retrieved_by_right}
 use Rattle.addressing.specs.declared.spot.Spot.{Spot}
 use Rattle.addressing.specs.declared.spot.Spot.TheVariants.{Resource, Fan, Poll}
-use Rattle.create_delete.specs.Changing.{effect_at}
 use Rattle.create_delete.specs.Guard.{NamesInOrder}
-use Rattle.create_delete.proofs.RightLemmas.{stays_sound}
+use Rattle.create_delete.specs.Telling.{told_effect_at}
+use Rattle.create_delete.proofs.RightLemmas.{told_stays_sound}
 use Rattle.cse_machine.specs.declared.event.Outcome.TheVariants.{Done}
 use Rattle.cse_machine.specs.Answer.{EventEffect, addressed, as_done, change_effect, does_serve, operation_effect, reading_reply, effect_of}
 use Rattle.machine_laws.specs.Guard.{is_success, DoesShow, HasRight, IsGuardedAlone, IsGuardedAt, IsGuarded, spot_asked}
@@ -84,7 +84,7 @@ module _ (e : EntityData) (sound : IsSoundEntity e) (request : RequestParts) (r 
 -- what a served operation on what its address names gives
 module _ (e : EntityData) (request : RequestParts) (r : ResourceData) (there : at r.number e.nodes ≡ Some r) where
   -- what comes of a change, as what is done on the resource of the number
-  as_changed : (op : Op) (P : Effect → Type 0) → P (effect_at op e (claimed_originator e.home request) request r.number) → P (change_effect op e request r)
+  as_changed : (op : Op) (P : Effect → Type 0) → P (told_effect_at op e (claimed_originator e.home request) request r.number) → P (change_effect op e request r)
   as_changed op P holds = subst P (sym (changing_at op e request r there)) holds
 
   operated_guarded : (op : Op) → IsSoundEntity e → is_originator (claimed_originator e.home request) ≡ true → NamesInOrder request → does_serve op request ≡ true → request.op ≡ op → addressed e request.to ≡ Some r → IsGuardedIn e request (operation_effect op e request r)
@@ -99,12 +99,12 @@ module _ (e : EntityData) (request : RequestParts) (r : ResourceData) (there : a
 
   operated_sound : (op : Op) → IsSoundEntity e → is_originator (claimed_originator e.home request) ≡ true → NamesInOrder request → does_serve op request ≡ true → IsSoundEntity (operation_effect op e request r).after
   operated_sound Create sound originator names served =
-      as_changed Create (λ x. IsSoundEntity x.after) (stays_sound Create e (claimed_originator e.home request) request r.number sound originator names)
+      as_changed Create (λ x. IsSoundEntity x.after) (told_stays_sound Create e (claimed_originator e.home request) request r.number sound originator names)
   operated_sound Retrieve sound originator names served = sound
   operated_sound Update sound originator names served =
-      as_changed Update (λ x. IsSoundEntity x.after) (stays_sound Update e (claimed_originator e.home request) request r.number sound originator names)
+      as_changed Update (λ x. IsSoundEntity x.after) (told_stays_sound Update e (claimed_originator e.home request) request r.number sound originator names)
   operated_sound Delete sound originator names served =
-      as_changed Delete (λ x. IsSoundEntity x.after) (stays_sound Delete e (claimed_originator e.home request) request r.number sound originator names)
+      as_changed Delete (λ x. IsSoundEntity x.after) (told_stays_sound Delete e (claimed_originator e.home request) request r.number sound originator names)
   operated_sound Notify sound originator names served = absurd (false≢true served)
 
   operated_kept : (op : Op) → does_serve op request ≡ true → IsKept e (operation_effect op e request r)
@@ -199,6 +199,6 @@ pub served_after : (e : EntityData) (request : RequestParts) (target : ResourceD
 served_after e request target served = ap (λ (x : EventEffect). x.after) served.is
 
 -- as it was performed on the resource of the number
-pub performed_is : (op : Op) (e : EntityData) (request : RequestParts) (target : ResourceData) → request.op ≡ op → at target.number e.nodes ≡ Some target → operation_effect op e request target ≡ change_effect op e request target → operation_effect request.op e request target ≡ effect_at op e (claimed_originator e.home request) request target.number
+pub performed_is : (op : Op) (e : EntityData) (request : RequestParts) (target : ResourceData) → request.op ≡ op → at target.number e.nodes ≡ Some target → operation_effect op e request target ≡ change_effect op e request target → operation_effect request.op e request target ≡ told_effect_at op e (claimed_originator e.home request) request target.number
 performed_is op e request target is there changes =
     ap (λ (p : Op). operation_effect p e request target) is ∙ changes ∙ changing_at op e request target there

@@ -8,3 +8,6 @@ pub mod AlikeLemmas
 pub mod AskedLemmas
 pub mod CompleteLemmas
 pub mod OrderLemmas
+pub mod ToldLemmas
+pub mod OutboxLemmas
+pub mod RiseLemmas

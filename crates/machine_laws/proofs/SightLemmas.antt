@@ -1,5 +1,5 @@
 -- An originator is answered the same on what it sees, and sees the same of what is left.
-use Rattle.std.proofs.Common.{◌≡◌, ℕ, List, [], ◌∷◌, Bool, true, false, cond, Option, Some, None, Result, Ok, Err, option_map, inl, inr, refl, sym, ap, ap₂, subst, ◌∙◌}
+use Rattle.std.proofs.Common.{◌≡◌, ℕ, List, [], ◌∷◌, map, Bool, true, false, cond, Option, Some, None, Result, Ok, Err, option_map, inl, inr, refl, sym, ap, ap₂, subst, ◌∙◌}
 use Rattle.std.specs.Option.{option_map_or}
 use Rattle.std.specs.Prelude.{not}
 use Rattle.std.specs.List.{list_any}
@@ -12,7 +12,8 @@ use Rattle.m2m_names.specs.declared.operations.Op.TheVariants.{Create, Retrieve,
 use Rattle.primitive_json.specs.declared.request.RequestParts.{RequestParts}
 use Rattle.resource_model.specs.Home.{HomeData}
 use Rattle.resource_model.specs.Resource.{ResourceData, has_number}
-use Rattle.tree_model.specs.Tree.{at, is_due, is_well_formed, live}
+use Rattle.tree_model.specs.Changes.{deleted}
+use Rattle.tree_model.specs.Tree.{at, is_due, is_well_formed, live, numbers_of, overdue_numbers, without}
 use Rattle.tree_model.proofs.GrowthLemmas.{tree_from_well_formed}
 use Rattle.tree_model.proofs.KeptLemmas.{KeepsStanding, is_well_formed-map, is_well_formed-without}
 use Rattle.tree_model.proofs.LiveLemmas.{without_none}
@@ -25,11 +26,14 @@ use Rattle.addressing.specs.declared.spot.Spot.{Spot}
 use Rattle.addressing.specs.declared.spot.Spot.TheVariants.{Resource, Fan, Poll}
 use Rattle.retrieve_laws.proofs.SpotLemmas.{spot_of-seen}
 use Rattle.policy_laws.specs.Seen.{seen, seen_list}
-use Rattle.policy_laws.proofs.DueLemmas.{is_due-seen}
 use Rattle.policy_laws.proofs.SeenLemmas.{ae_id-seen, at-seen, cse_id-seen, grants-seen}
 use Rattle.policy_laws.proofs.ShapeLemmas.{sight_shape}
-use Rattle.policy_laws.proofs.TwiceLemmas.{live-same, seen_list-twice}
-use Rattle.entity_model.specs.Entity.{EntityData, event_moment, swept}
+use Rattle.policy_laws.proofs.TwiceLemmas.{left-seen, live-same, seen_list-twice}
+use Rattle.subscription_match.specs.Notices.{notes_of_all}
+use Rattle.subscription_match.specs.Spending.{nodes_spent}
+use Rattle.subscription_match.specs.declared.drafts.DraftParts.{DraftParts}
+use Rattle.entity_model.specs.Entity.{EntityData, event_moment, expired, expired_told, swept}
+use Rattle.entity_model.specs.Expiry.{expiry_changes}
 use Rattle.entity_model.specs.Places.{Effect, first_fault, refused}
 use Rattle.entity_model.specs.Sound.{IsSoundEntity}
 use Rattle.request_rules.specs.Order.{fault_on}
@@ -37,12 +41,15 @@ use Rattle.request_rules.specs.Requests.{is_for}
 use Rattle.retrieve_discover.specs.Replies.{discovered, retrieved}
 use Rattle.retrieve_laws.proofs.AnswerLemmas.{retrieved-seen}
 use Rattle.retrieve_laws.proofs.SightLemmas.{discovered-seen}
-use Rattle.create_delete.specs.Changing.{delete_effect, effect_on}
+use Rattle.create_delete.specs.Changes.{only_in}
+use Rattle.create_delete.specs.Changing.{delete_effect}
+use Rattle.create_delete.specs.Telling.{told_effect_by, told_effect_on}
 use Rattle.cse_machine.specs.declared.event.Outcome.TheVariants.{Done}
 use Rattle.cse_machine.specs.Answer.{EventEffect, address_effect, as_done, is_served, first_places, change_effect, operation_effect, found_effect, reading_reply, resource_effect, spot_effect, effect_of}
 use Rattle.request_rules.specs.Rights.{is_discovery}
 use Rattle.cse_machine.specs.Rights.{claimed_originator}
 use Rattle.machine_laws.specs.Sight.{sight, shape, does_cover, IsRequestBy, SightHasItsShape, EqualSightsHaveOneShape}
+use Rattle.machine_laws.proofs.ToldLemmas.{OnlySubsCount, expiry_seen, for_whom, numbers_seen, numbers_told_all, only_seen, removal_seen, sight_counts, sound_counts, spent-same, spent_counts, spent_well, whom_all, without_counts}
 
 -- ---- what is seen of a well-formed list is one
 
@@ -96,7 +103,35 @@ none_any : (nodes : List ResourceData) → list_any (λ (r : ResourceData). fals
 none_any [] = refl
 none_any (r ∷ nodes) = none_any nodes
 
-module _ (e : EntityData) (o : List ℕ) (well : is_well_formed e.nodes ≡ true) where
+-- ---- what comes of a Delete, told
+
+-- what is told of what is taken
+abbrev notes_taken : EntityData → ResourceData → List DraftParts
+notes_taken e r =
+    let taken = only_in e.nodes (without (has_number r.number) e.nodes) in
+    notes_of_all e.home e.nodes (numbers_of taken) (map deleted taken)
+
+-- ---- what is told leaves alike what is seen alike
+
+module _ (o : List ℕ) (one other : EntityData) (same : sight o one ≡ sight o other) where
+  pub same_home : one.home ≡ other.home
+  same_home = ap (λ (e : EntityData). e.home) same
+
+  pub same_last : one.last ≡ other.last
+  same_last = ap (λ (e : EntityData). e.last) same
+
+  pub same_seen : seen_list one.home one.nodes o ≡ seen_list one.home other.nodes o
+  same_seen = ap (λ (e : EntityData). e.nodes) same ∙ ap (λ (h : HomeData). seen_list h other.nodes o) (sym same_home)
+
+  -- where drafts are for the same
+  spent_alike : (drafts others : List DraftParts) → is_well_formed one.nodes ≡ true → is_well_formed other.nodes ≡ true → OnlySubsCount one.nodes → OnlySubsCount other.nodes → for_whom drafts ≡ for_whom others → sight o (record one { nodes = nodes_spent drafts one.nodes }) ≡ sight o (record other { nodes = nodes_spent others other.nodes })
+  spent_alike drafts others well wells counts count whom =
+      ap (λ (ns : List ResourceData). record (sight o one) { nodes = ns })
+      (spent-same one.home o one.nodes other.nodes drafts others well wells counts count same_seen whom
+      ∙ ap (λ (h : HomeData). seen_list h (nodes_spent others other.nodes) o) same_home)
+      ∙ ap (λ (e : EntityData). record e { nodes = seen_list other.home (nodes_spent others other.nodes) o }) same
+
+module _ (e : EntityData) (o : List ℕ) (well : is_well_formed e.nodes ≡ true) (counts : OnlySubsCount e.nodes) where
   abbrev seeing : EntityData
   seeing = sight o e
 
@@ -132,21 +167,47 @@ module _ (e : EntityData) (o : List ℕ) (well : is_well_formed e.nodes ≡ true
   delete_refused request r =
       ap (λ (b : Bool). cond b (cond (is_for Delete r.ty) None (Some NotAllowed)) (Some NoPrivilege)) (grants-seen e.home e.nodes o (op_row Delete).bit r.number)
 
-  delete_left : (request : RequestParts) (r : ResourceData) → AreSeenAlike o (delete_effect seeing request (see r)) (delete_effect e request r)
-  delete_left request r = record {
-    reply = refl;
-    after = ap (λ (ns : List ResourceData). record seeing { nodes = ns }) (seen_list-twice e.home e.nodes o well (has_number r.number) (has_number r.number) (λ s found. refl));
-  }
+  module _ (request : RequestParts) (r : ResourceData) where
+    abbrev picked : ResourceData → Bool
+    picked = has_number r.number
 
-  performed_seen : (request : RequestParts) (r : ResourceData) → AreSeenAlike o (effect_on Delete seeing o request (see r)) (effect_on Delete e o request r)
-  performed_seen request r =
-      subst (λ (f : Option Rsc). AreSeenAlike o (option_map_or (refused seeing request) f (delete_effect seeing request (see r))) (effect_on Delete e o request r)) (sym (delete_refused request r))
-      (by_fault seeing e o request (fault_on Delete e o request r) (delete_effect seeing request (see r)) (delete_effect e request r) sight_twice (delete_left request r))
+    -- what it takes is seen so
+    taken_seen : only_in (seen_list e.home e.nodes o) (without (has_number r.number) (seen_list e.home e.nodes o)) ≡ map see (only_in e.nodes (without (has_number r.number) e.nodes))
+    taken_seen =
+        ap (only_in (seen_list e.home e.nodes o)) (left-seen e.home e.nodes o well picked picked (λ s found. refl))
+        ∙ only_seen e.home e.nodes o e.nodes (without picked e.nodes)
+
+    -- and told to the same
+    deletion_whom : for_whom (notes_taken seeing r) ≡ for_whom (notes_taken e r)
+    deletion_whom =
+        let taken = only_in e.nodes (without picked e.nodes) in
+        ap (λ (rs : List ResourceData). for_whom (notes_of_all e.home (seen_list e.home e.nodes o) (numbers_of rs) (map deleted rs))) taken_seen
+        ∙ ap (λ (going : List ℕ). for_whom (notes_of_all e.home (seen_list e.home e.nodes o) going (map deleted (map see taken)))) (numbers_seen e.home e.nodes o taken)
+        ∙ whom_all e.home (seen_list e.home e.nodes o) (numbers_of taken) (map deleted (map see taken))
+        ∙ removal_seen e.home e.nodes o (numbers_of taken) taken
+        ∙ sym (whom_all e.home e.nodes (numbers_of taken) (map deleted taken))
+
+    delete_left : AreSeenAlike o (told_effect_by Delete seeing o request (see r)) (told_effect_by Delete e o request r)
+    delete_left = record {
+      reply = refl;
+      after =
+          spent_alike o (delete_effect seeing request r).after (delete_effect e request r).after
+          (ap (λ (ns : List ResourceData). record seeing { nodes = ns }) (seen_list-twice e.home e.nodes o well picked picked (λ s found. refl)))
+          (notes_taken seeing r) (notes_taken e r)
+          (is_well_formed-without picked (seen_list e.home e.nodes o) (well_seen e.home e.nodes o well)) (is_well_formed-without picked e.nodes well)
+          (without_counts picked (seen_list e.home e.nodes o) (sight_counts e.home e.nodes o counts)) (without_counts picked e.nodes counts)
+          deletion_whom;
+    }
+
+    performed_seen : AreSeenAlike o (told_effect_on Delete seeing o request (see r)) (told_effect_on Delete e o request r)
+    performed_seen =
+        subst (λ (f : Option Rsc). AreSeenAlike o (option_map_or (refused seeing request) f (told_effect_by Delete seeing o request (see r))) (told_effect_on Delete e o request r)) (sym (delete_refused request r))
+        (by_fault seeing e o request (fault_on Delete e o request r) (told_effect_by Delete seeing o request (see r)) (told_effect_by Delete e o request r) sight_twice delete_left)
 
   delete_seen : (request : RequestParts) (r : ResourceData) → claimed_originator e.home request ≡ o → AreSeenAlike o (change_effect Delete seeing request (see r)) (change_effect Delete e request r)
   unfolding change_effect
   delete_seen request r by =
-      subst (λ (t : List ℕ). AreSeenAlike o (effect_on Delete seeing t request (see r)) (effect_on Delete e t request r)) (sym by) (performed_seen request r)
+      subst (λ (t : List ℕ). AreSeenAlike o (told_effect_on Delete seeing t request (see r)) (told_effect_on Delete e t request r)) (sym by) (performed_seen request r)
 
   -- an operation that is covered gives what is seen alike
   operated_seen : (op : Op) (request : RequestParts) (r : ResourceData) → does_cover op ≡ true → claimed_originator e.home request ≡ o → AreSeenAlike o (operation_effect op seeing request (see r)) (operation_effect op e request r)
@@ -199,71 +260,99 @@ module _ (e : EntityData) (o : List ℕ) (well : is_well_formed e.nodes ≡ true
     ]
   ]
 
+-- ---- what is left of an entity at a moment
+
 well_live : (nodes : List ResourceData) (m : ℕ) → is_well_formed nodes ≡ true → is_well_formed (live m nodes) ≡ true
 well_live nodes m well = is_well_formed-without (is_due nodes m) nodes well
 
+-- what an expiry tells
+abbrev expiry_drafts : ℕ → EntityData → List DraftParts
+expiry_drafts m e = notes_of_all e.home e.nodes (overdue_numbers m e.nodes) (expiry_changes m e.nodes)
+
+well_swept : (e : EntityData) (reading : ℕ) → is_well_formed e.nodes ≡ true → is_well_formed (swept reading e).nodes ≡ true
+well_swept e reading well =
+    let m = event_moment e.last reading in
+    spent_well (expiry_drafts m e) (live m e.nodes) (well_live e.nodes m well)
+
+counts_swept : (e : EntityData) (reading : ℕ) → OnlySubsCount e.nodes → OnlySubsCount (swept reading e).nodes
+counts_swept e reading counts =
+    let m = event_moment e.last reading in
+    spent_counts (expiry_drafts m e) (live m e.nodes) (without_counts (is_due e.nodes m) e.nodes counts)
+
 -- ---- what is left of two entities that are seen alike is seen alike
 
-module _ (o : List ℕ) (one other : EntityData) (well : is_well_formed one.nodes ≡ true) (wells : is_well_formed other.nodes ≡ true) (same : sight o one ≡ sight o other) where
-  same_home : one.home ≡ other.home
-  same_home = ap (λ (e : EntityData). e.home) same
+module _ (o : List ℕ) (one other : EntityData) (well : is_well_formed one.nodes ≡ true) (wells : is_well_formed other.nodes ≡ true) (counts : OnlySubsCount one.nodes) (count : OnlySubsCount other.nodes) (same : sight o one ≡ sight o other) where
+  abbrev home : HomeData
+  home = one.home
 
-  same_last : one.last ≡ other.last
-  same_last = ap (λ (e : EntityData). e.last) same
+  abbrev sees : List ResourceData → List ResourceData
+  sees nodes = seen_list home nodes o
 
-  same_seen : seen_list one.home one.nodes o ≡ seen_list one.home other.nodes o
-  same_seen = ap (λ (e : EntityData). e.nodes) same ∙ ap (λ (h : HomeData). seen_list h other.nodes o) (sym same_home)
+  -- what isn't due of both at a moment is seen alike
+  live_alike : (m : ℕ) → sight o (expired m one) ≡ sight o (expired m other)
+  live_alike m =
+      ap (λ (ns : List ResourceData). record (sight o one) { nodes = ns; last = m })
+      (live-same home one.nodes other.nodes o m well wells (same_seen o one other same)
+      ∙ ap (λ (h : HomeData). seen_list h (live m other.nodes) o) (same_home o one other same))
+      ∙ ap (λ (e : EntityData). record e { nodes = seen_list other.home (live m other.nodes) o; last = m }) same
 
-  -- what is left of both at a moment is seen alike
-  seen_left : (reading : ℕ) → seen_list one.home (live (event_moment one.last reading) one.nodes) o ≡ seen_list other.home (live (event_moment other.last reading) other.nodes) o
-  seen_left reading =
-      live-same one.home one.nodes other.nodes o (event_moment one.last reading) well wells same_seen
-      ∙ ap (λ (h : HomeData). seen_list h (live (event_moment one.last reading) other.nodes) o) same_home
-      ∙ ap (λ (n : ℕ). seen_list other.home (live (event_moment n reading) other.nodes) o) same_last
+  -- the same are told of what is gone
+  expiry_whom : (m : ℕ) → for_whom (expiry_drafts m one) ≡ for_whom (expiry_drafts m other)
+  expiry_whom m =
+      whom_all home one.nodes (overdue_numbers m one.nodes) (expiry_changes m one.nodes)
+      ∙ sym (expiry_seen home one.nodes o well m)
+      ∙ ap (λ (ns : List ResourceData). numbers_told_all (overdue_numbers m ns) ns (expiry_changes m ns)) (same_seen o one other same)
+      ∙ expiry_seen home other.nodes o wells m
+      ∙ sym (whom_all other.home other.nodes (overdue_numbers m other.nodes) (expiry_changes m other.nodes))
 
-  -- what it sees of an entity, with these resources at this moment
-  abbrev with_left : EntityData → List ResourceData → ℕ → EntityData
-  with_left e nodes last = record e { nodes = nodes; last = last }
+  told_alike : (m : ℕ) → sight o (expired_told m one) ≡ sight o (expired_told m other)
+  told_alike m =
+      spent_alike o (expired m one) (expired m other) (live_alike m) (expiry_drafts m one) (expiry_drafts m other)
+      (well_live one.nodes m well) (well_live other.nodes m wells)
+      (without_counts (is_due one.nodes m) one.nodes counts) (without_counts (is_due other.nodes m) other.nodes count) (expiry_whom m)
 
   pub swept-alike : (reading : ℕ) → sight o (swept reading one) ≡ sight o (swept reading other)
   swept-alike reading =
-      let left = seen_list other.home (live (event_moment other.last reading) other.nodes) o in
-      ap (λ (ns : List ResourceData). with_left (sight o one) ns (event_moment one.last reading)) (seen_left reading)
-      ∙ ap (λ (n : ℕ). with_left (sight o one) left (event_moment n reading)) same_last
-      ∙ ap (λ (e : EntityData). with_left e left (event_moment other.last reading)) same
+      told_alike (event_moment one.last reading)
+      ∙ ap (λ (n : ℕ). sight o (expired_told (event_moment n reading) other)) (same_last o one other same)
 
 -- what comes of a request to two entities of which the originator sees the same, it sees alike
-alike : (one other : EntityData) (o : List ℕ) (request : RequestParts) → is_well_formed one.nodes ≡ true → is_well_formed other.nodes ≡ true → sight o one ≡ sight o other → IsRequestBy one.home o request → AreAnsweredAlike o (effect_of one request) (effect_of other request)
-alike one other o request well wells same by =
-    let mine = effect_seen one o well request by in
-    let theirs = effect_seen other o wells request (subst (λ (h : HomeData). IsRequestBy h o request) (ap (λ (e : EntityData). e.home) same) by) in
+alike : (one other : EntityData) (o : List ℕ) (request : RequestParts) → is_well_formed one.nodes ≡ true → is_well_formed other.nodes ≡ true → OnlySubsCount one.nodes → OnlySubsCount other.nodes → sight o one ≡ sight o other → IsRequestBy one.home o request → AreAnsweredAlike o (effect_of one request) (effect_of other request)
+alike one other o request well wells counts count same by =
+    let mine = effect_seen one o well counts request by in
+    let theirs = effect_seen other o wells count request (subst (λ (h : HomeData). IsRequestBy h o request) (ap (λ (e : EntityData). e.home) same) by) in
     record {
       outcome = sym mine.outcome ∙ ap (λ (e : EntityData). (effect_of e request).outcome) same ∙ theirs.outcome;
       after = sym mine.after ∙ ap (λ (e : EntityData). sight o (effect_of e request).after) same ∙ theirs.after;
     }
 
-module _ (one other : EntityData) (o : List ℕ) (reading : ℕ) (request : RequestParts) (sound : IsSoundEntity one) (sounds : IsSoundEntity other) (same : sight o one ≡ sight o other) (by : IsRequestBy one.home o request) where
-  swept_alike : AreAnsweredAlike o (effect_of (swept reading one) request) (effect_of (swept reading other) request)
-  swept_alike =
-      alike (swept reading one) (swept reading other) o request
-      (well_live one.nodes (event_moment one.last reading) sound.tree) (well_live other.nodes (event_moment other.last reading) sounds.tree)
-      (swept-alike o one other sound.tree sounds.tree same reading) by
+swept_alike : (one other : EntityData) (o : List ℕ) (reading : ℕ) (request : RequestParts) → is_well_formed one.nodes ≡ true → is_well_formed other.nodes ≡ true → OnlySubsCount one.nodes → OnlySubsCount other.nodes → sight o one ≡ sight o other → IsRequestBy one.home o request → AreAnsweredAlike o (effect_of (swept reading one) request) (effect_of (swept reading other) request)
+swept_alike one other o reading request well wells counts count same by =
+    alike (swept reading one) (swept reading other) o request (well_swept one reading well) (well_swept other reading wells)
+    (counts_swept one reading counts) (counts_swept other reading count)
+    (swept-alike o one other well wells counts count same reading) by
 
-  pub outcomes-alike : (effect_of (swept reading one) request).outcome ≡ (effect_of (swept reading other) request).outcome
-  outcomes-alike = swept_alike.outcome
+module _ (one other : EntityData) (o : List ℕ) (reading : ℕ) (sound : IsSoundEntity one) (sounds : IsSoundEntity other) (same : sight o one ≡ sight o other) where
+  -- time passes alike
+  pub passed-alike : sight o (swept reading one) ≡ sight o (swept reading other)
+  passed-alike = swept-alike o one other sound.tree sounds.tree (sound_counts one sound) (sound_counts other sounds) same reading
 
-  pub left-alike : sight o (effect_of (swept reading one) request).after ≡ sight o (effect_of (swept reading other) request).after
-  left-alike = swept_alike.after
+  module _ (request : RequestParts) (by : IsRequestBy one.home o request) where
+    answered_alike : AreAnsweredAlike o (effect_of (swept reading one) request) (effect_of (swept reading other) request)
+    answered_alike = swept_alike one other o reading request sound.tree sounds.tree (sound_counts one sound) (sound_counts other sounds) same by
+
+    pub outcomes-alike : (effect_of (swept reading one) request).outcome ≡ (effect_of (swept reading other) request).outcome
+    outcomes-alike = answered_alike.outcome
+
+    pub left-alike : sight o (effect_of (swept reading one) request).after ≡ sight o (effect_of (swept reading other) request).after
+    left-alike = answered_alike.after
 
 -- on what it sees of an entity it is answered as by the entity
 pub outcome-seen : (e : EntityData) (o : List ℕ) (reading : ℕ) (request : RequestParts) → IsSoundEntity e → IsRequestBy e.home o request → (effect_of (swept reading (sight o e)) request).outcome ≡ (effect_of (swept reading e) request).outcome
 outcome-seen e o reading request sound by =
-    let m = event_moment e.last reading in
-    let left : seen_list e.home (live m (seen_list e.home e.nodes o)) o ≡ seen_list e.home (live m e.nodes) o =
-    seen_list-twice e.home e.nodes o sound.tree (is_due e.nodes m) (is_due (seen_list e.home e.nodes o) m) (is_due-seen e.home e.nodes o sound.tree m) in
-    (alike (swept reading (sight o e)) (swept reading e) o request
-    (well_live (seen_list e.home e.nodes o) m (well_seen e.home e.nodes o sound.tree)) (well_live e.nodes m sound.tree)
-    (ap (λ (ns : List ResourceData). record (sight o (swept reading e)) { nodes = ns }) left) by).outcome
+    let counts = sound_counts e sound in
+    (swept_alike (sight o e) e o reading request (well_seen e.home e.nodes o sound.tree) sound.tree
+    (sight_counts e.home e.nodes o counts) counts (sight_twice e o sound.tree counts) by).outcome
 
 -- ---- the shape
 

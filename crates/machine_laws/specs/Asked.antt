@@ -1,16 +1,18 @@
 -- What a request that is served changes (TS-0001, 10.2).
 use Rattle.std.specs.Prelude.{◌≡◌, ℕ, ◌+◌, false, [], ◌∷◌, ◌++◌, length, Some, None, IsTrue}
 use Rattle.m2m_names.specs.declared.codes.Rsc.TheVariants.{Deleted}
+use Rattle.m2m_names.specs.declared.operations.Op.{Op}
 use Rattle.m2m_names.specs.declared.operations.Op.TheVariants.{Create, Update, Delete}
 use Rattle.primitive_json.specs.declared.reply.ReplyParts.{ReplyParts}
 use Rattle.primitive_json.specs.declared.request.RequestParts.{RequestParts}
 use Rattle.resource_model.specs.Resource.{ResourceData}
 use Rattle.turn_desk.specs.Entries.{entry_of}
-use Rattle.entity_model.specs.Entity.{EntityData, swept}
+use Rattle.entity_model.specs.Entity.{EntityData, swept, telling}
 use Rattle.entity_model.specs.Places.{reply_to}
 use Rattle.entity_model.specs.Sound.{IsSoundEntity}
-use Rattle.create_delete.specs.Changes.{only_in}
+use Rattle.create_delete.specs.Changes.{changes_by, only_in}
 use Rattle.create_delete.specs.Changing.{delete_effect}
+use Rattle.create_delete.specs.Telling.{gone_numbers}
 use Rattle.change_laws.specs.Served.{AddsOne, ChangesOne}
 use Rattle.cse_machine.specs.declared.event.Event.{Event}
 use Rattle.cse_machine.specs.declared.event.Event.TheVariants.{Ask}
@@ -29,34 +31,44 @@ pub record IsServedStep (reading : ℕ) (request : RequestParts) (before after :
   pub served : IsTrue (is_success reply.rsc)
   pub named : addressed (swept reading before) request.to ≡ Some target
 
+-- An operation on the resource of a number made the second entity of the first, and its changes are
+-- then told: their notes are appended, and subscriptions that count are lowered, or go (TS-0001,
+-- 9.6.8).
+abbrev pub told_of : Op → RequestParts → ℕ → EntityData → EntityData → EntityData
+told_of op request n before done =
+    telling before.nodes (gone_numbers before done) (changes_by op request n before done) done
+
 -- A Create that is served adds exactly one resource, with the next number, under the one that its
 -- address names; it changes besides at most that one, and removes at most instances of it (TS-0001,
--- 10.2.1).
+-- 10.2.1). Then its changes are told.
 abbrev pub CreatesAddOne : Type 0
 CreatesAddOne =
     (reading : ℕ) (request : RequestParts) (before after : EntityData) (reply : ReplyParts)
     (target : ResourceData) → IsSoundEntity before → request.op ≡ Create
     → IsServedStep reading request before after reply target
-    → AddsOne (swept reading before) target.number after
+    → (done : EntityData) × AddsOne (swept reading before) target.number done
+    × (after ≡ told_of Create request target.number (swept reading before) done)
 
 -- An Update that is served changes the resource that its address names alone, which stays, and
--- removes at most instances of it (TS-0001, 10.2.4).
+-- removes at most instances of it (TS-0001, 10.2.4). Then its changes are told.
 abbrev pub UpdatesChangeTheirTarget : Type 0
 UpdatesChangeTheirTarget =
     (reading : ℕ) (request : RequestParts) (before after : EntityData) (reply : ReplyParts)
     (target : ResourceData) → IsSoundEntity before → request.op ≡ Update
     → IsServedStep reading request before after reply target
-    → ChangesOne (swept reading before) target.number after
+    → (done : EntityData) × ChangesOne (swept reading before) target.number done
+    × (after ≡ told_of Update request target.number (swept reading before) done)
 
 -- A Delete that is served takes the resource that its address names and all that stands below it,
--- and changes nothing else (TS-0001, 10.2.5).
+-- and changes nothing else (TS-0001, 10.2.5). Then its changes are told.
 abbrev pub DeletesTakeTheirTarget : Type 0
 DeletesTakeTheirTarget =
     (reading : ℕ) (request : RequestParts) (before after : EntityData) (reply : ReplyParts)
     (target : ResourceData) → request.op ≡ Delete
     → IsServedStep reading request before after reply target
     → (reply ≡ reply_to request Deleted None)
-    × (after ≡ (delete_effect (swept reading before) request target).after)
+    × (after ≡ told_of Delete request target.number (swept reading before)
+    (delete_effect (swept reading before) request target).after)
 
 -- The next number rises by exactly as many as are new; a fan-out may take some of them again.
 abbrev pub NumbersRiseByWhatIsNew : Type 0

@@ -13,6 +13,7 @@ use Rattle.resource_model.specs.Resource.{ResourceData}
 use Rattle.entity_model.specs.Entity.{EntityData, swept}
 use Rattle.entity_model.specs.Places.{reply_to, wanted_content}
 use Rattle.request_rules.specs.Creation.{Creation, has_room, is_unique, new_resource}
+use Rattle.request_rules.specs.Groups.{admits_members, membership_edited, membership_new}
 use Rattle.request_rules.specs.Order.{creation_by, expires_later}
 use Rattle.request_rules.specs.Policies.{links_live}
 use Rattle.request_rules.specs.Requests.{admits_content, child_ty, is_for, named_by, takes_child}
@@ -24,7 +25,7 @@ use Rattle.retrieve_discover.specs.Replies.{is_by_id}
 use Rattle.create_delete.specs.Changing.{created_content, updated_content, updated_resource}
 use Rattle.cse_machine.specs.declared.event.Event.TheVariants.{Ask}
 use Rattle.cse_machine.specs.declared.event.Outcome.{Outcome}
-use Rattle.cse_machine.specs.declared.event.Outcome.TheVariants.{Done, Starved}
+use Rattle.cse_machine.specs.declared.event.Outcome.TheVariants.{Done, Item, Ticked, Starved}
 use Rattle.cse_machine.specs.Answer.{addressed, has_address, has_originator, is_blocking}
 use Rattle.cse_machine.specs.Answer.{is_in_time, is_served}
 use Rattle.cse_machine.specs.Rights.{claimed_originator}
@@ -32,18 +33,22 @@ use Rattle.cse_machine.specs.Step.{Step}
 
 -- ---- what speaks against a request
 
--- what is created is the only one of its name and of its ids, and there is room for it
+-- what is created is the only one of its name and of its ids, there is room for it, and a group may
+-- have its members
 pub record MayBeMade (c : Creation) : Type 0 where
   pub unique : IsTrue (is_unique c)
   pub room : IsTrue (has_room c)
+  pub members : IsTrue (admits_members c.e (membership_new c))
 
--- an operation that creates something may make it
+-- an operation that creates something may make it, and a group may have the members that one gives
+-- it
 abbrev pub MayMakeChild : Op → EntityData → RequestParts → ResourceData → Type 0
 MayMakeChild Create e request parent =
     (ty : Ty) → child_ty request ≡ Some ty
     → MayBeMade (creation_by e (claimed_originator e.home request) request parent ty)
 MayMakeChild Retrieve e request target = Unit {0}
-MayMakeChild Update e request target = Unit {0}
+MayMakeChild Update e request target =
+    IsTrue (admits_members e (membership_edited target (named_by Update request target)))
 MayMakeChild Delete e request target = Unit {0}
 MayMakeChild Notify e request target = Unit {0}
 
@@ -118,6 +123,8 @@ IsSuccess Notify e request target outcome = ⊥
 -- memory ran out
 abbrev pub IsStarved : Outcome → Type 0
 IsStarved (Done reply) = ⊥
+IsStarved (Item given) = ⊥
+IsStarved Ticked = ⊥
 IsStarved (Starved done) = Unit {0}
 
 -- A request is served which nothing speaks against, unless memory runs out: it is answered by the

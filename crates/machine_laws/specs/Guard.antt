@@ -59,7 +59,8 @@ pub record ChangesAsAddressed (before : EntityData) (request : RequestParts)
 -- ---- at a resource
 
 -- One operation shows nothing and changes no resource but by a grant to the originator, in the
--- entity before it.
+-- entity before it. Only how many notifications are left to a subscription is counted by the entity
+-- itself (TS-0001, 9.6.8).
 pub record IsGuardedAlone (before : EntityData) (request : RequestParts) (reply : ReplyParts)
     (after : EntityData) : Type 0 where
   pub shown : DoesShow reply → HasRight before request

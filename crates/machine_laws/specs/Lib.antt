@@ -4,3 +4,4 @@ pub mod Legal
 pub mod Sight
 pub mod Asked
 pub mod Complete
+pub mod Outbox

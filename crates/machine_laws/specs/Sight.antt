@@ -1,5 +1,5 @@
 -- What an originator sees of an entity, and that it is answered by no more than that.
-use Rattle.std.specs.Prelude.{◌≡◌, ◌⊎◌, ℕ, List, Bool, true, false, ◌||◌, not, IsTrue}
+use Rattle.std.specs.Prelude.{◌≡◌, ◌⊎◌, ℕ, List, Bool, true, false, ◌||◌, not, IsTrue, ⊤}
 use Rattle.std.specs.List.{All}
 use Rattle.m2m_names.specs.declared.operations.Op.{Op}
 use Rattle.m2m_names.specs.declared.operations.Op.TheVariants.{Create, Retrieve, Update, Delete}
@@ -13,7 +13,7 @@ use Rattle.policy_laws.specs.Shape.{shape_list}
 use Rattle.entity_model.specs.Entity.{EntityData, blank, swept}
 use Rattle.entity_model.specs.Sound.{IsSoundEntity}
 use Rattle.cse_machine.specs.declared.event.Event.{Event}
-use Rattle.cse_machine.specs.declared.event.Event.TheVariants.{Ask}
+use Rattle.cse_machine.specs.declared.event.Event.TheVariants.{Ask, Take, Tick}
 use Rattle.cse_machine.specs.declared.event.Outcome.TheVariants.{Done}
 use Rattle.cse_machine.specs.Answer.{effect_of, is_served}
 use Rattle.cse_machine.specs.History.{History, HistoryLeaves, IsDone}
@@ -21,7 +21,7 @@ use Rattle.cse_machine.specs.Rights.{claimed_originator}
 use Rattle.cse_machine.specs.Step.{Step}
 
 -- the entity as the originator sees it: of each resource what it sees whatever its rights, and what
--- these show; what isn't named here is blank
+-- these show; what isn't named here is blank, as the outbox
 abbrev pub sight : List ℕ → EntityData → EntityData
 sight originator e = record (blank e.home) {
   nodes = seen_list e.home e.nodes originator;
@@ -32,8 +32,8 @@ sight originator e = record (blank e.home) {
 -- What an originator sees of the entity whatever its rights, and by which it is judged. That is
 -- home, next number and last moment, and of each resource the number, type, name and parent, when
 -- it is due, `acpi`, `macp` and whether the originator owns it; the `aei` of an AE; the `csi` of a
--- remote CSE and the first http URL of its `poa`; and of a policy the bits that the originator has
--- by `pv` and by `pvs`.
+-- remote CSE and the first http URL of its `poa`; the `enc` and the `exc` of a subscription; and of
+-- a policy the bits that the originator has by `pv` and by `pvs`.
 abbrev pub shape : List ℕ → EntityData → EntityData
 shape originator e = record (blank e.home) {
   nodes = shape_list e.home e.nodes originator;
@@ -92,13 +92,15 @@ EqualSightsAnswerAlike =
     → Step reading (Ask request) right (Done replied) other
     → reply ≡ replied
 
--- the event is such a request
+-- the event is such a request, or time has passed
 abbrev pub IsBy : HomeData → List ℕ → Event → Type 0
 IsBy home originator (Ask request) = IsRequestBy home originator request
+IsBy home originator Take = ⊥
+IsBy home originator Tick = ⊤
 
 -- Two entities of which the originator sees the same answer its requests, one after another at the
 -- same readings, alike, where there is memory for all of them; and it sees the same of what they
--- leave.
+-- leave. Time may pass between its requests, but no item is taken: what waits isn't seen.
 abbrev pub EqualSightsStayAlike : Type 0
 EqualSightsStayAlike =
     (left right after other : EntityData) (originator : List ℕ) (history twin : History)

@@ -4,6 +4,7 @@ ghost use Rattle.machine_laws.specs.Asked.{EntriesAreSteps, NumbersRiseByWhatIsN
 ghost use Rattle.machine_laws.specs.Asked.{UpdatesChangeTheirTarget};
 ghost use Rattle.machine_laws.specs.Complete.{WhatMayBeServedIsServed};
 ghost use Rattle.machine_laws.specs.Order.{KindsHaveTheForm, RetrievesAreRefusedInOrder};
+ghost use Rattle.machine_laws.specs.Outbox.{OutboxesAreAccounted};
 ghost use Rattle.machine_laws.specs.Guard.{StepsAreGuarded, HistoriesAreGuarded};
 ghost use Rattle.machine_laws.specs.Guard.{RefusalsChangeNothing, RetrievesChangeNoResource};
 ghost use Rattle.machine_laws.specs.Guard.{FanOutsAloneAreCutShort, WantOfMemoryChangesNothing};
@@ -21,7 +22,8 @@ pub fn an_originator_is_answered_by_what_it_sees()
 
 /// Two sound entities of which an originator sees the same give it the same reply to the same
 /// covered request at the same reading: at a step, and so all along a history in which it alone
-/// asks.
+/// asks and time passes. Who is told of what it does, how often, and which subscriptions go then,
+/// is the same for both; what they are told needn't be.
 pub fn equal_sights_are_answered_alike()
     ensures steps { EqualSightsAnswerAlike }
     ensures histories { EqualSightsStayAlike }
@@ -40,9 +42,10 @@ pub fn a_sight_has_the_shape_of_its_entity()
 /// the request needs on the resource that it addressed; other resources are shown by RETRIEVE, and
 /// found by DISCOVERY. A resource is new only under a parent with CREATE. It differs only with
 /// UPDATE, and then not in its `acpi`; or in that alone with the right to change it; or in its
-/// state tag alone where a new instance stands in it, but for the moment of its last change. It is
-/// gone only at or below a target with DELETE, or as an instance of a container that the operation
-/// adds to or changes by right.
+/// state tag alone where a new instance stands in it, but for the moment of its last change; or it
+/// is a subscription with fewer notifications left, and else as it was. It is gone only at or below
+/// a target with DELETE, or as an instance of a container that the operation adds to or changes by
+/// right, or as a subscription with no notification left.
 pub fn nothing_is_shown_or_changed_without_a_grant()
     ensures steps { StepsAreGuarded }
     ensures histories { HistoriesAreGuarded }
@@ -67,7 +70,8 @@ pub fn what_may_be_served_is_served()
 /// A step keeps the home and the moment of the event, and the next number rises by just as many as
 /// are new. A Create that is served adds exactly one resource under its target, an Update changes
 /// its target alone, and both remove at most instances of it; a Delete takes its target and what
-/// stands below that, and changes nothing else.
+/// stands below that, and changes nothing else. What is changed so is then told, by which
+/// subscriptions that count are lowered, or go.
 pub fn a_step_changes_what_is_asked_alone()
     ensures entity { StepsKeepTheEntity }
     ensures created { CreatesAddOne }
@@ -88,6 +92,15 @@ pub fn steps_make_a_legal_history()
 /// that what holds of each step of a sound entity holds of each entry.
 pub fn the_entries_of_a_history_are_its_steps()
     ensures { EntriesAreSteps }
+{}
+
+/// After every history from an empty outbox, the outbox is the list of all items that were
+/// appended, in order, less those that were given away and those that were dropped. Each step
+/// appends the items of its expiry, and then those of its request: one for each change and each
+/// subscription that looks for it, as long as it has notifications left, and one for each deletion
+/// notice. Only what waited the keeping time is dropped.
+pub fn the_outbox_holds_what_was_appended()
+    ensures { OutboxesAreAccounted }
 {}
 
 /// The same events at the same readings have the same outcomes, where there is memory for them.

@@ -4,7 +4,8 @@
 //! changed is so by a grant to the originator. A request changes what it asks for and nothing else.
 //! One that nothing speaks against is served, unless memory runs out. An originator is answered by
 //! no more than it sees, in the requests that `is_covered` of `specs/Sight` names. Each entry of a
-//! legal history is such a step.
+//! legal history is such a step, and after each the outbox holds what was appended, less what was
+//! given away or dropped.
 #![tactic(auto)]
 
 mod laws;
@@ -14,6 +15,6 @@ pub use laws::{
     a_step_changes_what_is_asked_alone, an_originator_is_answered_by_what_it_sees,
     equal_sights_are_answered_alike, nothing_is_shown_or_changed_without_a_grant,
     steps_make_a_legal_history, the_entries_of_a_history_are_its_steps,
-    what_is_of_its_kinds_has_the_form, what_is_refused_or_read_changes_nothing,
-    what_may_be_served_is_served,
+    the_outbox_holds_what_was_appended, what_is_of_its_kinds_has_the_form,
+    what_is_refused_or_read_changes_nothing, what_may_be_served_is_served,
 };

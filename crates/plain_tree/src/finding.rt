@@ -6,8 +6,8 @@ ghost use Rattle.tree_model.specs.Tree.{next_after, number_at, AreAscending};
 ghost use Rattle.tree_model.specs.Tree.{last_number, children_of, child_of, ae_of, cse_of, kin_of};
 ghost use Rattle.tree_model.specs.Tree.{instances_of, instance_size, sizes_of, channel_of};
 
-use crate::placing::place_after;
 use m2m_names::{Attr, Ty};
+use resource_list::place_after;
 use resource_model::Resource;
 
 /// Whether a resource is the child of a name.

@@ -4,11 +4,12 @@ ghost use Rattle.resource_model.specs.Resource.{has_number};
 ghost use Rattle.tree_model.specs.Tree.{at, children_of, without, StandsAt};
 
 use crate::finding::{
-    ae_in, channel_in, child_in, count_of_instances, cse_in, kid_in, kin_in, last_kin_in, sizes_in,
+    ae_in, channel_in, child_in, count_of_instances, cse_in, kid_in, kin_after, kin_in,
+    last_kin_in, sizes_in,
 };
-use crate::nodes::Nodes;
 use m2m_names::Ty;
 use m2m_value::Numbers;
+use resource_list::Nodes;
 use resource_model::Resource;
 use std::alloc::{AllocError as OutOfMemory, Global};
 use std::marker::Model;
@@ -110,7 +111,7 @@ impl Tree for ListTree {
     }
 
     fn instance_after(&self, container: u64, number: u64) -> Option<u64> {
-        self.nodes.instance_after(container, number)
+        kin_after(self.nodes.entries(), Ty::ContentInstance, container, number)
     }
 
     fn instance_count(&self, container: u64) -> u64 {
@@ -138,12 +139,7 @@ impl Tree for ListTree {
     }
 
     fn due_numbers(&self, alloc: Global, moment: u64) -> Result<Numbers, OutOfMemory> {
-        // That it is a tree is told by its length.
-        let _count = self.nodes.len();
-        if moment < self.quiet {
-            return Ok(Numbers::of(Vec::new(alloc)));
-        }
-        Ok(Numbers::of(self.nodes.overdue(alloc, moment)?))
+        Ok(Numbers::of(self.nodes.overdue(alloc, moment, self.quiet)?))
     }
 
     fn insert(&mut self, resource: Resource) -> Result<(), (Resource, OutOfMemory)> {
@@ -162,6 +158,10 @@ impl Tree for ListTree {
 
     fn restamp(&mut self, number: u64, lt: u64, st: u64) {
         self.nodes.restamp(number, lt, st)
+    }
+
+    fn recount(&mut self, number: u64, left: u64) {
+        self.nodes.recount(number, left)
     }
 
     fn remove_subtree(&mut self, number: u64) {

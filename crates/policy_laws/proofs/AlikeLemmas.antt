@@ -1,7 +1,8 @@
 -- Rights on lists by which an originator is judged alike, and changes that keep lists alike.
 use Rattle.std.specs.Prelude.{◌==◌}
 use Rattle.std.proofs.Common.{◌≡◌, ℕ, List, [], ◌∷◌, ◌++◌, map, Bool, true, false, Option, Some, None, inl, inr, refl, sym, ap, ◌∙◌, arith}
-use Rattle.std.proofs.lemmas.Bool.{cases_Bool, and_parts, eqb-true}
+use Rattle.std.proofs.lemmas.Bool.{cases_Bool, and_parts, eqb-true, or_left, or_right}
+use Rattle.std.proofs.lemmas.List.Folds.{list_any-append}
 use Rattle.std.proofs.lemmas.List.Elements.{AllZip-push}
 use Rattle.std.proofs.lemmas.Nat.Bits.{bit_at_or, bit_at-zero, same_from_bits}
 use Rattle.std.specs.Int.RustNames.{bit_or}
@@ -15,11 +16,11 @@ use Rattle.m2m_names.specs.declared.types.Ty.{Ty}
 use Rattle.m2m_names.specs.declared.types.Ty.TheVariants.{AccessControlPolicy, Ae, ContentInstance, PollingChannel, RemoteCse}
 use Rattle.m2m_value.specs.Data.{Data}
 use Rattle.m2m_value.specs.View.{as_text}
-use Rattle.resource_model.specs.Attributes.{value_of}
+use Rattle.resource_model.specs.Attributes.{is_attr, value_of}
 use Rattle.resource_model.specs.Home.{HomeData}
 use Rattle.resource_model.specs.Resource.{ResourceData, is_ty, has_number, ae_id, cse_id}
 use Rattle.tree_model.specs.Tree.{at, has, is_child, child_of, of_type, replaced, resource_of_id, stays, staying, typed_at, without}
-use Rattle.policy_laws.specs.Alike.{id_attrs, Alike, AreAlike, FindAlike}
+use Rattle.policy_laws.specs.Alike.{id_attrs, told_attrs, shape_attrs, Alike, AreAlike, FindAlike}
 use Rattle.m2m_names.specs.Operations.{all_bits}
 use Rattle.policy_eval.specs.Rules.{is_attr_in, only, Rule, rule_for, rules_in, policy_named, policy_of, policies_of, rules_by, listed_in, ids_at, lists_ids, registree, linked_rules, channel_rules, rules_of, fan_rules, link_rules}
 use Rattle.policy_eval.specs.Rights.{is_subject, with_rule, with_rules, bits_by, do_give, update_bit, grants, relinks, fan_grants}
@@ -154,6 +155,15 @@ cse_named ty cse = elim (cases_Bool (is_ty ty Ae)) [
   | inr f ↦ rw (f, cse) refl
 ]
 
+-- what names a resource, and by what a subscription is told, is of its shape
+pub ids_in_shape : (ty : Ty) (a : Attr) → is_attr_in (id_attrs ty) a ≡ true → is_attr_in (shape_attrs ty) a ≡ true
+ids_in_shape ty a one =
+    or_right _ _ (or_right _ _ (list_any-append (is_attr a) (id_attrs ty) (told_attrs ty) ∙ or_left _ _ one))
+
+pub told_in_shape : (ty : Ty) (a : Attr) → is_attr_in (told_attrs ty) a ≡ true → is_attr_in (shape_attrs ty) a ≡ true
+told_in_shape ty a one =
+    or_right _ _ (or_right _ _ (list_any-append (is_attr a) (id_attrs ty) (told_attrs ty) ∙ or_right _ _ one))
+
 pub same_ids : (a b c d : Option (List ℕ)) → a ≡ b → c ≡ d → option_or a c ≡ option_or b d
 same_ids a b c d first second = ap (λ (x : Option (List ℕ)). option_or x c) first ∙ ap (option_or b) second
 
@@ -184,13 +194,13 @@ module _ (home : HomeData) (o : List ℕ) where
 
   pub ae_id-alike : (s r : ResourceData) → Alike home o s r → ae_id s ≡ ae_id r
   ae_id-alike s r alike = elim (cases_Bool (is_ty r.ty Ae)) [
-    | inl t ↦ rw (ty-alike s r alike Ae ∙ t, t) (ap (option_and_then as_text) (alike.shape Aei (rw t refl)))
+    | inl t ↦ rw (ty-alike s r alike Ae ∙ t, t) (ap (option_and_then as_text) (alike.shape Aei (ids_in_shape r.ty Aei (rw t refl))))
     | inr f ↦ rw (ty-alike s r alike Ae ∙ f, f) refl
   ]
 
   pub cse_id-alike : (s r : ResourceData) → Alike home o s r → cse_id s ≡ cse_id r
   cse_id-alike s r alike = elim (cases_Bool (is_ty r.ty RemoteCse)) [
-    | inl t ↦ rw (ty-alike s r alike RemoteCse ∙ t, t) (ap (option_and_then as_text) (alike.shape Csi (cse_named r.ty t)))
+    | inl t ↦ rw (ty-alike s r alike RemoteCse ∙ t, t) (ap (option_and_then as_text) (alike.shape Csi (ids_in_shape r.ty Csi (cse_named r.ty t))))
     | inr f ↦ rw (ty-alike s r alike RemoteCse ∙ f, f) refl
   ]
 

@@ -2,22 +2,23 @@
 use Rattle.std.specs.Prelude.{nat_le, unwrap_or}
 use Rattle.std.proofs.Common.{◌≡◌, ℕ, ◌+◌, ◌==◌, List, map, Bool, true, false, cond, ◌||◌, Option, Some, None, option_map, inl, inr, refl, sym, ap, ◌∙◌, subst}
 use Rattle.std.proofs.lemmas.Bool.{cases_Bool, both_ways, and_left, and_right, or_cases, or_from, or_left, or_parts, or_right, cond-true, cond-false, eqb-true}
+use Rattle.std.proofs.lemmas.List.Folds.{list_any-append}
 use Rattle.std.specs.List.{list_any}
 use Rattle.std.specs.Option.{option_and_then, option_map_or}
 use Rattle.m2m_names.specs.Types.{does_take, ty_row}
 use Rattle.m2m_names.specs.declared.attributes.Attr.TheVariants.{Mia, Pv}
 use Rattle.m2m_names.specs.declared.types.Ty.{Ty}
-use Rattle.m2m_names.specs.declared.types.Ty.TheVariants.{Ae, Container, ContentInstance, CseBase, RemoteCse}
+use Rattle.m2m_names.specs.declared.types.Ty.TheVariants.{Ae, Container, ContentInstance, CseBase, RemoteCse, Subscription}
 use Rattle.m2m_value.specs.Data.{Data}
 use Rattle.m2m_value.specs.Shapes.{as_count}
-use Rattle.resource_model.specs.Attributes.{value_of}
+use Rattle.resource_model.specs.Attributes.{is_attr, value_of}
 use Rattle.resource_model.specs.Home.{HomeData}
 use Rattle.resource_model.specs.Resource.{ResourceData, is_ty}
 use Rattle.tree_model.specs.Tree.{at, due, due_under, lesser, is_due, live, is_taken, is_well_formed}
 use Rattle.tree_model.proofs.GrowthLemmas.{tree_from_well_formed}
 use Rattle.tree_model.proofs.TreeLemmas.{at-map}
 use Rattle.tree_model.proofs.QuietLemmas.{number_passes}
-use Rattle.policy_laws.specs.Alike.{AreAlike, shape_attrs}
+use Rattle.policy_laws.specs.Alike.{AreAlike, id_attrs, told_attrs, shape_attrs}
 use Rattle.policy_eval.specs.Rules.{is_attr_in, Rule, linked_rules, rules_of}
 use Rattle.policy_eval.specs.Rights.{bits_by, has_bits, do_give, grants, relinks, fan_grants}
 use Rattle.policy_laws.specs.Seen.{retrieve_bit, has_bit, fills, is_filled_in, is_shown, seen_ct, seen_et, with_seen_owner, seen, seen_list}
@@ -42,14 +43,24 @@ in_container nodes r p taken instance found =
     holds_instances p.ty (sym (ap (λ (n : ℕ). list_any (λ ty. (ty_row ty).number == n) (ty_row p.ty).takes) (number_of r.ty ContentInstance instance)) ∙ takes)
 
 -- the greatest age isn't always seen
-no_shape : (t : Ty) → is_attr_in (shape_attrs t) Mia ≡ false
-no_shape t = elim (cases_Bool (is_ty t Ae)) [
+names_none : (t : Ty) → is_attr_in (id_attrs t) Mia ≡ false
+names_none t = elim (cases_Bool (is_ty t Ae)) [
   | inl is ↦ rw is refl
   | inr f ↦ elim (cases_Bool (is_ty t RemoteCse)) [
     | inl is ↦ rw (f, is) refl
     | inr g ↦ rw (f, g) refl
   ]
 ]
+
+tells_none : (t : Ty) → is_attr_in (told_attrs t) Mia ≡ false
+tells_none t = elim (cases_Bool (is_ty t Subscription)) [
+  | inl is ↦ rw is refl
+  | inr f ↦ rw f refl
+]
+
+no_shape : (t : Ty) → is_attr_in (shape_attrs t) Mia ≡ false
+no_shape t =
+    list_any-append (is_attr Mia) (id_attrs t) (told_attrs t) ∙ or_from _ _ (names_none t) (tells_none t)
 
 -- an instance is judged as its container
 container_rules : (nodes : List ResourceData) (p : ResourceData) → (ty_row p.ty).number ≡ 3 → rules_of nodes p ≡ linked_rules Pv nodes p

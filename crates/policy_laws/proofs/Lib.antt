@@ -10,3 +10,4 @@ pub mod LookupLemmas
 pub mod AppendLemmas
 pub mod ReplaceLemmas
 pub mod ShapeLemmas
+pub mod RecountLemmas

@@ -65,7 +65,7 @@ changes_kept b (c ∷ changes) none rows =
     changes_kept b changes parts.1 (with_change c.0 c.1 rows) ∙ change_kept c.0 b c.1 rows parts.0
 
 -- what is kept of rows, attribute by attribute
-abbrev kept_row : (Attr → Data → Option Data) → Row → Option Row
+abbrev pub kept_row : (Attr → Data → Option Data) → Row → Option Row
 kept_row h row = option_map (λ (d : Data). (row.0, d)) (h row.0 row.1)
 
 filter_kept : (h : Attr → Data → Option Data) (p : Attr → Bool) (rows : List Row) → filter_map (kept_row h) (filter (λ row. p row.0) rows) ≡ filter (λ row. p row.0) (filter_map (kept_row h) rows)
@@ -84,7 +84,7 @@ filter_kept h p (row ∷ rows) = elim (cases_Bool (p row.0)) [
     fails (Some d) f = rw f refl
 
 -- a change of what is kept is what is kept of the change
-change_seen : (h : Attr → Data → Option Data) (a : Attr) (x : Option Data) (rows : List Row) → filter_map (kept_row h) (with_change a x rows) ≡ with_change a (option_and_then (h a) x) (filter_map (kept_row h) rows)
+pub change_seen : (h : Attr → Data → Option Data) (a : Attr) (x : Option Data) (rows : List Row) → filter_map (kept_row h) (with_change a x rows) ≡ with_change a (option_and_then (h a) x) (filter_map (kept_row h) rows)
 change_seen h a None rows =
     filter_map-append (kept_row h) (rows_before a rows) (rows_after a rows)
     ∙ ap (λ more. more ++ filter_map (kept_row h) (rows_after a rows)) (filter_kept h (λ b. is_lt (attr_cmp b a)) rows)
@@ -151,7 +151,7 @@ type_same ty (Some s) (Some r) found =
       | inr f ↦ rw (same ∙ f, f) tt
     ]
 
-abbrev no_id : Data → Bool
+abbrev pub no_id : Data → Bool
 no_id id = false
 
 -- the last change and the expiry as they are then seen
@@ -167,6 +167,22 @@ et_by (Some m) tells base before = cond tells m (cond base 0 m)
 abbrev after : ResourceData → Option ℕ → Option ℕ → Bool → Bool → Bool → List NewValue → ResourceData
 after s lt et retrieves tells inside changes =
     made s s.owner s.ct (lt_by lt (retrieves || tells) s.lt) (et_by et (retrieves || inside) (is_ty s.ty CseBase) s.et) (with_changes changes s.attrs)
+
+-- where all is found the same, so are the policies that ids name
+pub finds_same : (zs xs : List ResourceData) → ((m : ℕ) → FindSame (at m zs) (at m xs)) → FindsSame no_id zs xs
+finds_same zs xs find_same = record {
+  policies = λ id any. by_text (as_text id);
+  free = λ m s at_m. list_any-append no_id (ids_at Acpi s) (ids_at Macp s) ∙ or_from _ _ (none_of (ids_at Acpi s)) (none_of (ids_at Macp s));
+  above = λ m s at_m. find_same s.parent;
+}
+  where
+    by_parts : (x : Option (Ty × ℕ)) → FindSame (option_and_then (λ (q : Ty × ℕ). typed_at q.0 q.1 zs) x) (option_and_then (λ (q : Ty × ℕ). typed_at q.0 q.1 xs) x)
+    by_parts None = tt
+    by_parts (Some q) = type_same q.0 (at q.1 zs) (at q.1 xs) (find_same q.1)
+
+    by_text : (x : Option (List ℕ)) → FindSame (option_and_then (policy_named zs) x) (option_and_then (policy_named xs) x)
+    by_text None = tt
+    by_text (Some text) = type_same AccessControlPolicy (resource_of_id text zs) (resource_of_id text xs) (by_parts (id_parts text))
 
 module _ (home : HomeData) (o : List ℕ) (xs : List ResourceData) (well : is_well_formed xs ≡ true) (n : ℕ) (r : ResourceData) (found : at n xs ≡ Some r) (other : is_ty r.ty ContentInstance ≡ false) (changes : List NewValue) (lt et : Option ℕ) (free : do_judge r.ty changes ≡ false) (limits : do_reach changes ≡ true → has_bit home xs o update_bit r ≡ true) where
   abbrev new : ResourceData
@@ -217,19 +233,7 @@ module _ (home : HomeData) (o : List ℕ) (xs : List ResourceData) (well : is_we
   ]
 
   finds : FindsSame no_id (replaced (changed changes lt et r) xs) xs
-  finds = record {
-    policies = λ id any. by_text (as_text id);
-    free = λ m s at_m. list_any-append no_id (ids_at Acpi s) (ids_at Macp s) ∙ or_from _ _ (none_of (ids_at Acpi s)) (none_of (ids_at Macp s));
-    above = λ m s at_m. find_same s.parent;
-  }
-    where
-      by_parts : (x : Option (Ty × ℕ)) → FindSame (option_and_then (λ (q : Ty × ℕ). typed_at q.0 q.1 zs) x) (option_and_then (λ (q : Ty × ℕ). typed_at q.0 q.1 xs) x)
-      by_parts None = tt
-      by_parts (Some q) = type_same q.0 (at q.1 zs) (at q.1 xs) (find_same q.1)
-
-      by_text : (x : Option (List ℕ)) → FindSame (option_and_then (policy_named (replaced (changed changes lt et r) xs)) x) (option_and_then (policy_named xs) x)
-      by_text None = tt
-      by_text (Some text) = type_same AccessControlPolicy (resource_of_id text zs) (resource_of_id text xs) (by_parts (id_parts text))
+  finds = finds_same (replaced (changed changes lt et r) xs) xs find_same
 
   -- an instance of a container whose greatest age is changed is seen with its end
   end_same : (s : ResourceData) → at s.number xs ≡ Some s → (has_bit home xs o retrieve_bit s || is_filled_in home xs o s) ≡ false → due (replaced (changed changes lt et r) xs) s ≡ due xs s

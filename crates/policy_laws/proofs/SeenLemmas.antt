@@ -124,10 +124,10 @@ owner_seen home o r = elim (cases_Bool (is_same home o r.owner)) [
 kept_value : (home : HomeData) (nodes : List ResourceData) (o : List ℕ) (r : ResourceData) (a : Attr) → ((d : Data) → seen_value home nodes o r a d ≡ Some d) → value_of a (seen home nodes o r).attrs ≡ value_of a r.attrs
 kept_value home nodes o r a shown = value-shown (seen_value home nodes o r) a (λ d. d) shown r.attrs ∙ itself _
 
-shown_kept : (home : HomeData) (nodes : List ResourceData) (o : List ℕ) (r : ResourceData) (a : Attr) → is_shown home nodes o r a ≡ true → value_of a (seen home nodes o r).attrs ≡ value_of a r.attrs
+pub shown_kept : (home : HomeData) (nodes : List ResourceData) (o : List ℕ) (r : ResourceData) (a : Attr) → is_shown home nodes o r a ≡ true → value_of a (seen home nodes o r).attrs ≡ value_of a r.attrs
 shown_kept home nodes o r a shown = kept_value home nodes o r a (λ d. rw shown refl)
 
-shape_shown : (home : HomeData) (nodes : List ResourceData) (o : List ℕ) (r : ResourceData) (a : Attr) → is_attr_in (shape_attrs r.ty) a ≡ true → is_shown home nodes o r a ≡ true
+pub shape_shown : (home : HomeData) (nodes : List ResourceData) (o : List ℕ) (r : ResourceData) (a : Attr) → is_attr_in (shape_attrs r.ty) a ≡ true → is_shown home nodes o r a ≡ true
 shape_shown home nodes o r a one = or_left _ _ (or_left _ _ (or_left _ _ (or_left _ _ (or_left _ _ one))))
 
 -- of the rules of a policy either all is seen or what they give

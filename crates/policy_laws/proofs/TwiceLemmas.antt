@@ -246,7 +246,7 @@ module _ (home : HomeData) (nodes : List ResourceData) (o : List ℕ) (well : is
         ∙ ap (made r (seen_owner home o r) (seen_ct home left o r) (seen_lt home left o r) (seen_et home left o r)) (attrs-twice r)
 
   -- what is left of the sight is what is left, as it was seen
-  left-seen : (q : ResourceData → Bool) → ((r : ResourceData) → at r.number nodes ≡ Some r → q (seen home nodes o r) ≡ picks r) → without q (seen_list home nodes o) ≡ map (seen home nodes o) (without picks nodes)
+  pub left-seen : (q : ResourceData → Bool) → ((r : ResourceData) → at r.number nodes ≡ Some r → q (seen home nodes o r) ≡ picks r) → without q (seen_list home nodes o) ≡ map (seen home nodes o) (without picks nodes)
   left-seen q pick =
       let g = seen home nodes o in
       map_from_zip g (without q (map g nodes)) (without picks nodes)

@@ -1,10 +1,13 @@
--- Resources and lists by which an originator is judged alike.
-use Rattle.std.specs.Prelude.{◌≡◌, ℕ, true, List, [], ◌∷◌, Option, Some, None, if◌then◌else◌}
+-- Resources and lists by which an originator is judged alike, and subscriptions are told alike.
+use Rattle.std.specs.Prelude.{◌≡◌, ℕ, true, List, [], ◌∷◌, ◌++◌, Option, Some, None}
+use Rattle.std.specs.Prelude.{if◌then◌else◌}
 use Rattle.std.specs.List.{AllZip}
 use Rattle.m2m_names.specs.declared.attributes.Attr.{Attr}
-use Rattle.m2m_names.specs.declared.attributes.Attr.TheVariants.{Acpi, Aei, Csi, Macp, Pv, Pvs}
+use Rattle.m2m_names.specs.declared.attributes.Attr.TheVariants.{Acpi, Aei, Csi, Enc, Exc}
+use Rattle.m2m_names.specs.declared.attributes.Attr.TheVariants.{Macp, Pv, Pvs}
 use Rattle.m2m_names.specs.declared.types.Ty.{Ty}
 use Rattle.m2m_names.specs.declared.types.Ty.TheVariants.{AccessControlPolicy, Ae, RemoteCse}
+use Rattle.m2m_names.specs.declared.types.Ty.TheVariants.{Subscription}
 use Rattle.resource_model.specs.Attributes.{value_of}
 use Rattle.resource_model.specs.Home.{HomeData}
 use Rattle.resource_model.specs.Resource.{ResourceData, is_ty}
@@ -22,12 +25,17 @@ id_attrs ty =
     if is_ty ty Ae then Aei ∷ [] else
     if is_ty ty RemoteCse then Csi ∷ [] else []
 
--- attributes by which a resource of the type is judged or named
+-- attributes by which a subscription is told of changes: what it looks for, and how many
+-- notifications are left to it (TS-0001, 9.6.8)
+abbrev pub told_attrs : Ty → List Attr
+told_attrs ty = if is_ty ty Subscription then Enc ∷ Exc ∷ [] else []
+
+-- attributes by which a resource of the type is judged, named or told
 abbrev pub shape_attrs : Ty → List Attr
-shape_attrs ty = Acpi ∷ Macp ∷ id_attrs ty
+shape_attrs ty = Acpi ∷ Macp ∷ (id_attrs ty ++ told_attrs ty)
 
 -- Two resources stand at one place, and the originator is judged alike by them: it owns both or
--- neither, by what they are judged and named is the same, and where they are policies, their
+-- neither, by what they are judged, named and told is the same, and where they are policies, their
 -- rules give it the same bits (TS-0001, 9.6.2).
 pub record Alike (home : HomeData) (originator : List ℕ) (s r : ResourceData) : Type 0 where
   pub number : s.number ≡ r.number

@@ -3,14 +3,16 @@
 use Rattle.std.specs.Prelude.{◌≡◌, ℕ, Bool, true, false, ◌||◌, List, [], ◌∷◌, map, Option}
 use Rattle.std.specs.Prelude.{Some, None, is_some, option_and_then, unwrap_or}
 use Rattle.std.specs.List.{list_any}
+use Rattle.std.specs.Option.{option_map_or}
 use Rattle.m2m_names.specs.declared.attributes.Attr.{Attr}
 use Rattle.m2m_names.specs.declared.attributes.Attr.TheVariants.{Acpi, Macp, Mia, Pv, Pvs}
 use Rattle.m2m_names.specs.declared.types.Ty.{Ty}
-use Rattle.m2m_names.specs.declared.types.Ty.TheVariants.{ContentInstance}
+use Rattle.m2m_names.specs.declared.types.Ty.TheVariants.{ContentInstance, Subscription}
 use Rattle.m2m_value.specs.Data.{Data}
 use Rattle.resource_model.specs.Attributes.{Row, with_value, without_value}
 use Rattle.resource_model.specs.Home.{HomeData}
 use Rattle.resource_model.specs.Resource.{ResourceData, is_ty}
+use Rattle.tree_model.specs.Tree.{at, recounted}
 use Rattle.policy_laws.specs.Alike.{id_attrs}
 use Rattle.policy_eval.specs.Rules.{is_attr_in, linked_ids, policy_of}
 use Rattle.policy_eval.specs.Rights.{create_bit, retrieve_bit, update_bit, grants}
@@ -88,3 +90,16 @@ pub record ShowNoMore (home : HomeData) (nodes : List ResourceData) (originator 
   pub other : is_ty r.ty ContentInstance ≡ false
   pub free : do_judge r.ty changes ≡ false
   pub reach : do_reach changes ≡ true → has_bit home nodes originator update_bit r ≡ true
+
+-- ---- subscriptions that are counted anew
+
+-- the resource with as many notifications left as are given for its number, if any are (TS-0001,
+-- 9.6.8)
+abbrev pub counted_anew : (ℕ → Option ℕ) → ResourceData → ResourceData
+counted_anew left r = option_map_or (λ n. recounted n r) (left r.number) r
+
+-- of a list only subscriptions are counted anew
+abbrev pub CountsSubscriptions : (ℕ → Option ℕ) → List ResourceData → Type 0
+CountsSubscriptions left nodes =
+    (r : ResourceData) → at r.number nodes ≡ Some r → is_some (left r.number) ≡ true
+    → is_ty r.ty Subscription ≡ true

@@ -1,7 +1,8 @@
 -- What an originator sees of a list of resources. Whatever its rights, it sees of each resource the
 -- number, type, name and parent, when it is due, `acpi`, `macp` and whether it owns it; the `aei`
--- of an AE; the `csi` of a remote CSE and the first http URL of its `poa`; and of a policy the bits
--- that it has by `pv` and by `pvs`. Besides, it sees what its rights show, and nothing else.
+-- of an AE; the `csi` of a remote CSE and the first http URL of its `poa`; the `enc` and the `exc`
+-- of a subscription; and of a policy the bits that it has by `pv` and by `pvs`. Besides, it sees
+-- what its rights show, and nothing else.
 use Rattle.std.specs.Prelude.{◌≡◌, ℕ, nat_lt, Bool, true, false, ◌&&◌, ◌||◌, List, [], ◌∷◌}
 use Rattle.std.specs.Prelude.{◌++◌, map, codes, Option, Some, None, option_map, unwrap_or, find}
 use Rattle.std.specs.Prelude.{is_some, if◌then◌else◌}
@@ -195,8 +196,8 @@ seen_list home nodes originator = map (seen home nodes originator) nodes
 -- what a resource s, seen by the originator, shows of the resource r
 pub record Shows (home : HomeData) (nodes : List ResourceData) (originator : List ℕ)
     (r s : ResourceData) : Type 0 where
-  -- always: where it stands, whether the originator owns it, by what it is judged and named, what
-  -- the rules of a policy give the originator, and the first URL of a remote CSE
+  -- always: where it stands, whether the originator owns it, by what it is judged, named and told,
+  -- what the rules of a policy give the originator, and the first URL of a remote CSE
   pub always : Alike home originator s r
   pub way : is_ty r.ty RemoteCse ≡ true → way_in s.attrs ≡ way_in r.attrs
   -- with RETRIEVE all but the owner's name

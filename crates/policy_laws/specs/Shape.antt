@@ -1,7 +1,8 @@
 -- What an originator sees of a list of resources whatever its rights: of each the number, type,
 -- name and parent, when it is due, `acpi`, `macp` and whether it owns it; the `aei` of an AE; the
--- `csi` of a remote CSE and the first http URL of its `poa`; and of a policy the bits that it has
--- by `pv` and by `pvs`. By this it is judged.
+-- `csi` of a remote CSE and the first http URL of its `poa`; the `enc` and the `exc` of a
+-- subscription; and of a policy the bits that it has by `pv` and by `pvs`. By this it is judged,
+-- and by this subscriptions are told of what it does.
 use Rattle.std.specs.Prelude.{◌≡◌, ℕ, List, map, Option, Some, option_map, unwrap_or, IsTrue}
 use Rattle.std.specs.Prelude.{if◌then◌else◌}
 use Rattle.std.specs.List.{filter_map}
@@ -15,8 +16,8 @@ use Rattle.policy_eval.specs.Rules.{is_attr_in}
 use Rattle.policy_laws.specs.Alike.{shape_attrs}
 use Rattle.policy_laws.specs.Seen.{hidden_value, seen_owner, seen_list}
 
--- What the shape keeps of a value: all of it for an attribute by which the resource is judged or
--- named, and else what an originator sees of a value that isn't shown.
+-- What the shape keeps of a value: all of it for an attribute by which the resource is judged,
+-- named or told, and else what an originator sees of a value that isn't shown.
 abbrev pub shape_value : HomeData → List ℕ → ResourceData → Attr → Data → Option Data
 shape_value home originator r a d =
     if is_attr_in (shape_attrs r.ty) a then Some d else hidden_value home originator r a d

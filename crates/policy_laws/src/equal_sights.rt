@@ -1,13 +1,13 @@
 //! Laws of two lists of which an originator sees the same.
 ghost use Rattle.std.specs.Prelude.{◌≡◌, ◌++◌, ◌∷◌, [], Bool, false, List, ℕ, Option};
-ghost use Rattle.std.specs.Prelude.{Some, IsTrue};
+ghost use Rattle.std.specs.Prelude.{Some, IsTrue, map};
 ghost use Rattle.resource_model.specs.Home.{HomeData};
 ghost use Rattle.m2m_names.specs.declared.types.Ty.TheVariants.{ContentInstance};
 ghost use Rattle.resource_model.specs.Resource.{ResourceData, is_ty};
 ghost use Rattle.tree_model.specs.Tree.{at, has, due, live, is_well_formed};
 ghost use Rattle.tree_model.specs.Tree.{replaced, without};
-ghost use Rattle.policy_laws.specs.Changes.{NewValue, ShowNoMore, changed, is_linked};
-ghost use Rattle.policy_laws.specs.Changes.{learns_limits, seen_changes};
+ghost use Rattle.policy_laws.specs.Changes.{CountsSubscriptions, NewValue, ShowNoMore, changed};
+ghost use Rattle.policy_laws.specs.Changes.{counted_anew, is_linked, learns_limits, seen_changes};
 ghost use Rattle.policy_laws.specs.Seen.{Shows, seen, seen_list};
 
 /// Two lists of which an originator sees the same have resources of the same numbers, and show it
@@ -84,4 +84,20 @@ pub fn equal_sights_stay_equal_under_a_replacement()
         seen_list home xs originator ≡ seen_list home ys originator →
         seen_list home (replaced (changed changes lt et r) xs) originator
         ≡ seen_list home (replaced (changed more lt et q) ys) originator }
+{}
+
+/// Where an originator sees the same of two lists, it still does after the same subscriptions of
+/// both are counted anew: whatever its rights, it sees how many notifications are left to each.
+pub fn equal_sights_stay_equal_under_a_count()
+    ensures seen { (home : HomeData) (nodes : List ResourceData) (originator : List ℕ)
+        (left : ℕ → Option ℕ) →
+        IsTrue (is_well_formed nodes) → CountsSubscriptions left nodes →
+        seen_list home (map (counted_anew left) nodes) originator
+        ≡ map (counted_anew left) (seen_list home nodes originator) }
+    ensures same { (home : HomeData) (xs ys : List ResourceData) (originator : List ℕ)
+        (left : ℕ → Option ℕ) →
+        IsTrue (is_well_formed xs) → IsTrue (is_well_formed ys) → CountsSubscriptions left xs →
+        seen_list home xs originator ≡ seen_list home ys originator →
+        seen_list home (map (counted_anew left) xs) originator
+        ≡ seen_list home (map (counted_anew left) ys) originator }
 {}

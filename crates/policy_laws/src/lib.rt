@@ -5,13 +5,14 @@
 //! originator give it the same rights. The list as an originator sees it gives it the same
 //! resources and the same rights, at once and after the removal of what is due. Two lists of which
 //! an originator sees the same show it the same. They stay equal to its eyes under a removal, an
-//! append, and changes of a resource that show nothing but themselves.
+//! append, changes of a resource that show nothing but themselves, and where subscriptions are
+//! counted anew.
 //!
 //! Whatever its rights, an originator sees of each resource the number, type, name and parent, when
 //! it is due, `acpi`, `macp` and whether it owns it; the `aei` of an AE; the `csi` of a remote CSE
-//! and the first http URL of its `poa`; and of a policy the bits that it has by `pv` and by `pvs`.
-//! That is the shape of the list (`specs/Shape`). Besides, it sees what its rights show, and
-//! nothing else.
+//! and the first http URL of its `poa`; the `enc` and the `exc` of a subscription; and of a policy
+//! the bits that it has by `pv` and by `pvs`. That is the shape of the list (`specs/Shape`).
+//! Besides, it sees what its rights show, and nothing else.
 #![tactic(auto)]
 
 mod equal_sights;
@@ -19,8 +20,9 @@ mod rights;
 mod sight;
 
 pub use equal_sights::{
-    equal_sights_show_the_same, equal_sights_stay_equal_under_a_removal,
-    equal_sights_stay_equal_under_a_replacement, equal_sights_stay_equal_under_an_append,
+    equal_sights_show_the_same, equal_sights_stay_equal_under_a_count,
+    equal_sights_stay_equal_under_a_removal, equal_sights_stay_equal_under_a_replacement,
+    equal_sights_stay_equal_under_an_append,
 };
 pub use rights::{alike_lists_give_the_same_rights, removal_grants_nothing};
 pub use sight::{sight_has_the_shape_of_the_list, sight_keeps_rights, sight_keeps_what_is_live};

@@ -13,7 +13,8 @@ ghost use Rattle.policy_laws.specs.Shape.{SightHasShape};
 /// show, and nothing else, and the originator finds the same on it and has the same rights. Always
 /// seen are number, type, name and parent, when it is due, `acpi`, `macp` and whether the
 /// originator owns it; the `aei` of an AE; the `csi` of a remote CSE and the first http URL of its
-/// `poa`; and of a policy the bits that the originator has by `pv` and by `pvs`.
+/// `poa`; the `enc` and the `exc` of a subscription; and of a policy the bits that the originator
+/// has by `pv` and by `pvs`.
 pub fn sight_keeps_rights()
     ensures shown { (home : HomeData) (nodes : List ResourceData) (originator : List ℕ)
         (r : ResourceData) →

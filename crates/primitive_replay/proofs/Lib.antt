@@ -5,4 +5,5 @@ pub mod StandLemmas
 pub mod NextLemmas
 pub mod WayLemmas
 pub mod TurnLemmas
+pub mod ItemLemmas
 pub mod LawLemmas

@@ -16,9 +16,9 @@ use Rattle.cse_server.proofs.RepliesLemmas.{gives-one}
 use Rattle.cse_server.proofs.LinkLemmas.{carries_nothing}
 use Rattle.cse_server.proofs.PutLemmas.{puts_none, puts_nothing}
 use Rattle.primitive_replay.specs.Front.{HasNoEnd, held_limit}
-use Rattle.primitive_replay.specs.Script.{AsksLines, StopsRightly, Replays, ReplaysFrom, Writes, reply_line, lines_of_replies}
+use Rattle.primitive_replay.specs.Script.{AsksLines, StopsRightly, WritesReplies, reply_line, lines_of_replies}
 use Rattle.primitive_replay.specs.Stream.{BeginsBadly, BeginsWithLines, LeadsTo, NextIs, HoldsLittle}
-use Rattle.primitive_replay.specs.Way.{RepliesTo, ReplaysUpTo, WritesReplies, WritesText, TakesLine, fault_status}
+use Rattle.primitive_replay.specs.Way.{RepliesTo, ReplaysFrom, ReplaysUpTo, WritesOn, WritesText, TakesLine, fault_status}
 use Rattle.primitive_replay.specs.declared.fault.LineFault.{LineFault}
 use Rattle.primitive_replay.specs.declared.fault.LineFault.TheVariants.{Bad, ReadFault as Unread, OutOfMemory as Starved}
 use Rattle.primitive_replay.specs.declared.line.Line.{Line}
@@ -72,7 +72,7 @@ takes_reading reading moment e told out = record {
 }
 
 -- the line of one reply
-one_line : (status : Option Status) (reply : ReplyParts) (old new : SinkTold) → WritesText status (reply_line reply) old new → WritesReplies status (reply ∷ []) old new
+one_line : (status : Option Status) (reply : ReplyParts) (old new : SinkTold) → WritesText status (reply_line reply) old new → WritesOn status (reply ∷ []) old new
 one_line None reply old new said = subst (λ (v : List ℕ). Puts v 1 old new) (sym (append-nil (reply_line reply))) said
 one_line (Some Done) reply old new said = said
 one_line (Some Usage) reply old new said = said
@@ -125,18 +125,18 @@ line_goes place reading now before after old on line leads t = record {
   said = t.said;
 }
 
-line_says : (status : Status) (replies : List ReplyParts) (after : EntityData) (old new : SinkTold)
-    → WritesReplies (Some status) replies old new → Writes status replies after old new
-line_says Done replies after old new said = absurd said
-line_says Usage replies after old new said = absurd said
-line_says (BadLine n) replies after old new said = absurd said
-line_says ReadFault replies after old new said = absurd said
-line_says WriteFault replies after old new said = said
-line_says Memory replies after old new said = inr said
-line_says BadStream replies after old new said = absurd said
+line_says : (status : Status) (replies : List ReplyParts) (old new : SinkTold)
+    → WritesOn (Some status) replies old new → WritesReplies status replies old new
+line_says Done replies old new said = absurd said
+line_says Usage replies old new said = absurd said
+line_says (BadLine n) replies old new said = absurd said
+line_says ReadFault replies old new said = absurd said
+line_says WriteFault replies old new said = said
+line_says Memory replies old new said = inr said
+line_says BadStream replies old new said = absurd said
 
 line_stops : (place : ℕ) (status : Status) (replies : List ReplyParts) (old new : SinkTold) (rest : List ℕ) (left : Option (List ℕ))
-    → IfSome left (HoldsLittle rest) → WritesReplies (Some status) replies old new → StopsRightly place status rest left
+    → IfSome left (HoldsLittle rest) → WritesOn (Some status) replies old new → StopsRightly place status rest left
 line_stops place Done replies old new rest left few said = absurd said
 line_stops place Usage replies old new rest left few said = absurd said
 line_stops place (BadLine n) replies old new rest left few said = absurd said
@@ -151,7 +151,7 @@ EndsOn place status heard now bytes =
 
 line_ends_on : (place : ℕ) (status : Status) (line : Line) (stream : Option (List ℕ)) (held : List ℕ) (left : Option (List ℕ))
     (replies : List ReplyParts) (old new : SinkTold) → length held ≤ held_limit
-    → LeadsTo place stream (line ∷ []) (prepend_known held left) → WritesReplies (Some status) replies old new
+    → LeadsTo place stream (line ∷ []) (prepend_known held left) → WritesOn (Some status) replies old new
     → IfSome stream (EndsOn place status (line ∷ []) left)
 line_ends_on place status line None held left replies old new few leads said = tt
 line_ends_on place status line (Some bytes) held None replies old new few leads said = absurd leads
@@ -168,7 +168,7 @@ line_ends place reading now before after stream held left old new told more line
   heard = line ∷ [];
   asks = t.asks;
   stream = line_ends_on place status line stream held left t.asks.replies old new few leads t.said;
-  said = line_says status t.asks.replies after old new t.said;
+  said = line_says status t.asks.replies old new t.said;
 }
 
 -- a line was taken, and it goes on or ends
@@ -189,6 +189,11 @@ pub is_none : (status : Option Status) → ((s : Status) → status ≡ Some s �
 is_none None on = refl
 is_none (Some s) on = absurd (on s refl)
 
+-- where none is told to have ended it, all of the text was written
+pub none_said : (status : Option Status) (text : List ℕ) (old new : SinkTold) → ((s : Status) → status ≡ Some s → ⊥) → WritesText status text old new → Puts text 1 old new
+none_said None text old new on said = said
+none_said (Some s) text old new on said = absurd (on s refl)
+
 pub next_goes : (P : Type 0) (Q : Status → Type 0) (status : Option Status) → ((s : Status) → status ≡ Some s → ⊥) → MatchOption status P Q → P
 next_goes P Q None on h = h
 next_goes P Q (Some s) on h = absurd (on s refl)
@@ -199,10 +204,10 @@ next_goes P Q (Some s) on h = absurd (on s refl)
 still_begins : (place : ℕ) (bytes : List ℕ) → BeginsWithLines place bytes [] bytes
 still_begins place bytes = record { front = []; texts = []; bytes_are = refl; texts_are = refl; each = tt }
 
-nothing_said : (fault : LineFault) (place : ℕ) (e : EntityData) (out : SinkTold) → Writes (fault_status fault place) [] e out out
-nothing_said Bad place e out = puts_none out
-nothing_said Unread place e out = puts_none out
-nothing_said Starved place e out = inl (puts_none out)
+nothing_said : (fault : LineFault) (place : ℕ) (out : SinkTold) → WritesReplies (fault_status fault place) [] out out
+nothing_said Bad place out = puts_none out
+nothing_said Unread place out = puts_none out
+nothing_said Starved place out = inl (puts_none out)
 
 at_end : (place : ℕ) (stream left : Option (List ℕ)) → IsAtEnd stream → IsAtEnd left → IfSome stream (EndsOn place Done [] left)
 at_end place None left end over = tt
@@ -260,7 +265,7 @@ fault_ends fault place reading e stream held left out told few next none = recor
   heard = [];
   asks = asks_nothing reading e told;
   stream = fault_ends_on fault place stream held left few next none;
-  said = nothing_said fault place e out;
+  said = nothing_said fault place out;
 }
 
 -- ---- before the first line
@@ -293,21 +298,6 @@ starved_first e left out readings told = record {
     here : (l : Option (List ℕ)) → IfSome l (EndsOn 1 Memory [] l)
     here None = tt
     here (Some bytes) = (bytes, still_begins 1 bytes, little [] bytes (omega arith))
-
--- ---- for callers that have a clock
-
--- what a clock told is no matter
-pub whatever_readings : (opening : EntityData) (left rest : Option (List ℕ)) (out now : SinkTold) (readings : Option (List ℕ)) (told more : LinkTold) (status : Status)
-    → Replays opening (outside left out None told) (outside rest now None more) status
-    → Replays opening (outside left out readings told) (outside rest now readings more) status
-whatever_readings opening left rest out now readings told more status r = record {
-  after = r.after;
-  all = record { heard = r.all.heard; asks = r.all.asks; stream = r.all.stream; said = r.all.said };
-}
-
--- lines that are replayed are no faulty command line
-pub never_usage : (opening : EntityData) (old new : Outside) (status : Status) → Replays opening old new status → status ≡ Usage → ⊥
-never_usage opening old new status r e = subst (λ (s : Status). Writes s r.all.asks.replies r.after old.out new.out) e r.all.said
 
 -- ---- how a line ends it
 

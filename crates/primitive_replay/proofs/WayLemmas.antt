@@ -21,9 +21,9 @@ use Rattle.cse_server.specs.Replies.{GivesReplies}
 use Rattle.cse_server.proofs.RepliesLemmas.{gives-append}
 use Rattle.cse_server.proofs.LinkLemmas.{Carries-append}
 use Rattle.cse_server.proofs.PutLemmas.{Puts-append}
-use Rattle.primitive_replay.specs.Script.{request_on, requests_on, next_reading, reading_behind, readings_on, AsksLines, items_left, as_line, reply_line, lines_of_replies, script, WritesAllButLast, WritesPartOfLast, Writes, StopsRightly, ReplaysFrom}
+use Rattle.primitive_replay.specs.Script.{request_on, requests_on, next_reading, reading_behind, readings_on, AsksLines, reply_line, lines_of_replies, WritesAllButLast, WritesPartOfLast, WritesReplies, StopsRightly}
 use Rattle.primitive_replay.specs.Stream.{AreLines, BeginsWithLines, LeadsTo}
-use Rattle.primitive_replay.specs.Way.{ReplaysUpTo}
+use Rattle.primitive_replay.specs.Way.{ReplaysFrom, ReplaysUpTo}
 use Rattle.primitive_replay.specs.declared.line.Line.{Line}
 use Rattle.primitive_replay.specs.declared.line.Line.TheVariants.{Empty, Reading, Ask}
 
@@ -135,19 +135,6 @@ said-append rs ss old put new a b =
     (subst (λ (v : List ℕ). Puts v (length rs + length ss) old new) (sym (flat_map-append reply_line rs ss))
     (Puts-append old put new (lines_of_replies rs) (lines_of_replies ss) (length rs) (length ss) a b))
 
-script-append : (rs ss : List ReplyParts) (items : List (List ℕ)) → lines_of_replies rs ++ script ss items ≡ script (rs ++ ss) items
-script-append rs ss items =
-    sym (append_assoc (lines_of_replies rs) (lines_of_replies ss) (flat_map as_line items))
-    ∙ ap (λ v. v ++ flat_map as_line items) (sym (flat_map-append reply_line rs ss))
-
-all-append : (rs ss : List ReplyParts) (items : List (List ℕ)) (old put new : SinkTold) → Puts (lines_of_replies rs) (length rs) old put
-    → Puts (script ss items) (length ss + length items) put new → Puts (script (rs ++ ss) items) (length (rs ++ ss) + length items) old new
-all-append rs ss items old put new a b =
-    let count : length rs + (length ss + length items) ≡ length (rs ++ ss) + length items = omega (arith, length-append rs ss) in
-    subst (λ (n : ℕ). Puts (script (rs ++ ss) items) n old new) count
-    (subst (λ (v : List ℕ). Puts v (length rs + (length ss + length items)) old new) (script-append rs ss items)
-    (Puts-append old put new (lines_of_replies rs) (script ss items) (length rs) (length ss + length items) a b))
-
 abbrev less-append : (rs ss : List ReplyParts) (old put new : SinkTold) → Puts (lines_of_replies rs) (length rs) old put → WritesAllButLast ss put new → WritesAllButLast (rs ++ ss) old new
 less-append rs ss old put new a b = record {
   whole = rs ++ b.whole;
@@ -163,18 +150,18 @@ part-append rs ss old put new a b = record {
   part = b.part;
 }
 
-Writes-then : (status : Status) (rs ss : List ReplyParts) (after : EntityData) (old put new : SinkTold) → Puts (lines_of_replies rs) (length rs) old put
-    → Writes status ss after put new → Writes status (rs ++ ss) after old new
-Writes-then Done rs ss after old put new a b = all-append rs ss (items_left after) old put new a b
-Writes-then Usage rs ss after old put new a b = absurd b
-Writes-then (BadLine n) rs ss after old put new a b = said-append rs ss old put new a b
-Writes-then ReadFault rs ss after old put new a b = said-append rs ss old put new a b
-Writes-then WriteFault rs ss after old put new a b = part-append rs ss old put new a b
-Writes-then Memory rs ss after old put new a b = elim b [
+WritesReplies-then : (status : Status) (rs ss : List ReplyParts) (old put new : SinkTold) → Puts (lines_of_replies rs) (length rs) old put
+    → WritesReplies status ss put new → WritesReplies status (rs ++ ss) old new
+WritesReplies-then Done rs ss old put new a b = said-append rs ss old put new a b
+WritesReplies-then Usage rs ss old put new a b = absurd b
+WritesReplies-then (BadLine n) rs ss old put new a b = said-append rs ss old put new a b
+WritesReplies-then ReadFault rs ss old put new a b = said-append rs ss old put new a b
+WritesReplies-then WriteFault rs ss old put new a b = part-append rs ss old put new a b
+WritesReplies-then Memory rs ss old put new a b = elim b [
   | inl all ↦ inl (said-append rs ss old put new a all)
   | inr less ↦ inr (less-append rs ss old put new a less)
 ]
-Writes-then BadStream rs ss after old put new a b = absurd b
+WritesReplies-then BadStream rs ss old put new a b = absurd b
 
 -- ---- what goes on, and then goes on or ends
 
@@ -197,5 +184,5 @@ Replays-then place between reading then before entity after old mid new status a
   heard = a.heard ++ b.heard;
   asks = asks-append reading then before entity after old.link mid.link new.link a.heard b.heard a.reads a.asks b.asks;
   stream = stream_then place between a.heard b.heard status old.left mid.left new.left a.places a.stream b.stream;
-  said = Writes-then status a.asks.replies b.asks.replies after old.out mid.out new.out a.said b.said;
+  said = WritesReplies-then status a.asks.replies b.asks.replies old.out mid.out new.out a.said b.said;
 }

@@ -1,6 +1,6 @@
 -- What is answered to lines, one after another.
 use Rattle.std.specs.Prelude.{◌≡◌, ◌⊎◌, ℕ, ◌+◌, List, [], ◌∷◌, ◌++◌, length, map, Option, Some}
-use Rattle.std.specs.Prelude.{None, IfSome}
+use Rattle.std.specs.Prelude.{None, IfSome, codes}
 use Rattle.std.specs.List.{filter_map, flat_map}
 use Rattle.std.specs.Io.KnownBytes.{IsAtEnd}
 use Rattle.m2m_io.specs.Link.{Carrying}
@@ -8,11 +8,17 @@ use Rattle.cse_server.specs.Outside.{Carries, LinkTold, Outside, Puts, PutsPart,
 use Rattle.m2m_io.specs.declared.status.Status.{Status}
 use Rattle.m2m_io.specs.declared.status.Status.TheVariants.{Done, Usage, BadLine, ReadFault}
 use Rattle.m2m_io.specs.declared.status.Status.TheVariants.{WriteFault, Memory, BadStream}
+use Rattle.m2m_names.specs.Ids.{id_text}
+use Rattle.m2m_names.specs.declared.types.Ty.TheVariants.{PollingChannel}
 use Rattle.m2m_value.specs.Spelling.{text_of}
-use Rattle.primitive_json.specs.Writing.{written_reply}
+use Rattle.primitive_json.specs.Writing.{written_reply, written_request}
+use Rattle.primitive_json.specs.declared.note.Dest.{Dest}
+use Rattle.primitive_json.specs.declared.note.Dest.TheVariants.{Direct, Peer, Channel, Nowhere}
+use Rattle.primitive_json.specs.declared.note.NoteParts.{NoteParts}
 use Rattle.primitive_json.specs.declared.reply.ReplyParts.{ReplyParts}
 use Rattle.primitive_json.specs.declared.request.RequestParts.{RequestParts}
 use Rattle.turn_desk.specs.Entries.{readings_of, events_of, outcomes_of}
+use Rattle.notify_outbox.specs.declared.item.Item.{Item}
 use Rattle.entity_model.specs.Entity.{EntityData}
 use Rattle.cse_machine.specs.History.{History, HistoryLeaves}
 use Rattle.cse_machine.specs.declared.event.Event.TheVariants.{Ask as AskEvent}
@@ -79,14 +85,25 @@ reply_line reply = as_line (text_of (written_reply reply))
 abbrev pub lines_of_replies : List ReplyParts → List ℕ
 lines_of_replies replies = flat_map reply_line replies
 
--- the items in the outbox of an entity, each as the text of its line: there are none as yet
-abbrev pub items_left : EntityData → List (List ℕ)
-items_left entity = []
+-- where an item of the outbox is to go, in words
+abbrev pub dest_words : Dest → List ℕ
+dest_words (Direct url) = codes "direct " ++ url
+dest_words (Peer url) = codes "peer " ++ url
+dest_words (Channel number) = codes "channel " ++ id_text PollingChannel number
+dest_words Nowhere = codes "nowhere"
 
--- The script of lines, the replies to their requests being these: a line for each of them, and
--- behind them one for each of these items.
-abbrev pub script : List ReplyParts → List (List ℕ) → List ℕ
-script replies items = lines_of_replies replies ++ flat_map as_line items
+-- the note of an item as a line: where it is to go, a blank, and its request in compact JSON
+abbrev pub note_line : NoteParts → List ℕ
+note_line note = as_line (dest_words note.dest ++ 32 ∷ text_of (written_request note.request))
+
+-- items, a line for each of them
+abbrev pub lines_of_items : List Item → List ℕ
+lines_of_items items = flat_map (λ (item : Item). note_line item.note) items
+
+-- The script of lines, these being the replies to their requests, and these the items that are left
+-- in the outbox then: a line for each reply, and behind them one for each item.
+abbrev pub script : List ReplyParts → List Item → List ℕ
+script replies items = lines_of_replies replies ++ lines_of_items items
 
 -- The lines of all these replies but the last one were written, each by one put.
 pub record WritesAllButLast (replies : List ReplyParts) (old new : SinkTold) : Type 0 where
@@ -102,23 +119,67 @@ pub record WritesPartOfLast (replies : List ReplyParts) (old new : SinkTold) : T
   pub before : WritesAllButLast replies old between
   pub part : PutsPart (reply_line before.last) between new
 
--- What is written where it ends so, the replies being these, and the entity that is left this one:
--- each line by one put. Where memory ran out, all lines are written, or all but the last one, which
--- isn't begun.
-abbrev pub Writes : Status → List ReplyParts → EntityData → SinkTold → SinkTold → Type 0
-Writes Done replies after old new = Puts (script replies (items_left after))
-    (length replies + length (items_left after)) old new
-Writes Usage replies after old new = ⊥
-Writes (BadLine n) replies after old new = Puts (lines_of_replies replies) (length replies) old new
-Writes ReadFault replies after old new = Puts (lines_of_replies replies) (length replies) old new
-Writes WriteFault replies after old new = WritesPartOfLast replies old new
-Writes Memory replies after old new =
+-- What is written to lines that ended so, these being the replies to their requests: each line by
+-- one put. Where memory ran out, all lines are written, or all but the last one, which isn't begun.
+abbrev pub WritesReplies : Status → List ReplyParts → SinkTold → SinkTold → Type 0
+WritesReplies Done replies old new = Puts (lines_of_replies replies) (length replies) old new
+WritesReplies Usage replies old new = ⊥
+WritesReplies (BadLine n) replies old new =
+    Puts (lines_of_replies replies) (length replies) old new
+WritesReplies ReadFault replies old new = Puts (lines_of_replies replies) (length replies) old new
+WritesReplies WriteFault replies old new = WritesPartOfLast replies old new
+WritesReplies Memory replies old new =
     Puts (lines_of_replies replies) (length replies) old new ⊎ WritesAllButLast replies old new
-Writes BadStream replies after old new = ⊥
+WritesReplies BadStream replies old new = ⊥
 
--- ---- how it ends
+-- The lines of all replies and of the items before this one were written, each by one put.
+pub record WritesBeforeItem (replies : List ReplyParts) (items : List Item) (old new : SinkTold)
+    : Type 0 where
+  pub whole : List Item
+  pub next : Item
+  pub later : List Item
+  pub items_are : items ≡ whole ++ next ∷ later
+  pub said : Puts (script replies whole) (length replies + length whole) old new
 
--- When it ends so, what is left behind the lines that were heard and what the source has left now
+-- The lines of all replies and of the items before one were written, and of that one's line a part,
+-- by one put more.
+pub record WritesPartOfItem (replies : List ReplyParts) (items : List Item) (old new : SinkTold)
+    : Type 0 where
+  pub between : SinkTold
+  pub before : WritesBeforeItem replies items old between
+  pub part : PutsPart (note_line before.next.note) between new
+
+-- What is written where lines were read to their end and it then ended so, these being the replies
+-- and these the items: all of the script; or a part of it where writing an item failed, or where
+-- memory ran out for one, whose line isn't begun.
+abbrev pub WritesScript : Status → List ReplyParts → List Item → SinkTold → SinkTold → Type 0
+WritesScript Done replies items old new =
+    Puts (script replies items) (length replies + length items) old new
+WritesScript Usage replies items old new = ⊥
+WritesScript (BadLine n) replies items old new = ⊥
+WritesScript ReadFault replies items old new = ⊥
+WritesScript WriteFault replies items old new = WritesPartOfItem replies items old new
+WritesScript Memory replies items old new = WritesBeforeItem replies items old new
+WritesScript BadStream replies items old new = ⊥
+
+-- What is written where the lines ended as the first status says, and all then as the second says:
+-- the items are written only where the lines were read to their end.
+abbrev pub Writes : Status → Status → List ReplyParts → List Item → SinkTold → SinkTold → Type 0
+Writes Done status replies items old new = WritesScript status replies items old new
+Writes Usage status replies items old new = ⊥
+Writes (BadLine n) status replies items old new =
+    (status ≡ BadLine n) × WritesReplies (BadLine n) replies old new
+Writes ReadFault status replies items old new =
+    (status ≡ ReadFault) × WritesReplies ReadFault replies old new
+Writes WriteFault status replies items old new =
+    (status ≡ WriteFault) × WritesReplies WriteFault replies old new
+Writes Memory status replies items old new =
+    (status ≡ Memory) × WritesReplies Memory replies old new
+Writes BadStream status replies items old new = ⊥
+
+-- ---- how the lines end
+
+-- When the lines end so, what is left behind the lines that were heard and what the source has left now
 -- being these, and the next line having this place: it is done where nothing is left; at a bad line
 -- where the next one is; at a fault of reading each line that was read to its end was heard; and
 -- little was read behind the lines that were heard.
@@ -134,18 +195,14 @@ StopsRightly place BadStream rest now = ⊥
 
 -- ---- all together
 
--- Lines were replayed from the one at this place on, before which this was the reading and this the
--- entity, what the objects outside told being first `old` and now `new`. Of the bytes that the
--- source had left, `heard` are the lines that were taken.
-pub record ReplaysFrom (place reading : ℕ) (before after : EntityData)
-    (old new : Outside) (status : Status) : Type 0 where
-  pub heard : List Line
-  pub asks : AsksLines reading before after old.link new.link heard
-  pub stream : IfSome old.left (λ bytes. (rest : List ℕ) × BeginsWithLines place bytes heard rest
-      × StopsRightly (place + length heard) status rest new.left)
-  pub said : Writes status asks.replies after old.out new.out
-
--- Lines were replayed, from the first one on: the clock stands at 0 before them.
+-- Lines were replayed, from the first one on, what the objects outside told being first `old` and
+-- now `new`. The clock stood at 0 before them, and this was the entity. Of the bytes that the source
+-- had left, `heard` are the lines that were taken, and `ended` is how the lines ended.
 pub record Replays (opening : EntityData) (old new : Outside) (status : Status) : Type 0 where
   pub after : EntityData
-  pub all : ReplaysFrom 1 0 opening after old new status
+  pub heard : List Line
+  pub ended : Status
+  pub asks : AsksLines 0 opening after old.link new.link heard
+  pub stream : IfSome old.left (λ bytes. (rest : List ℕ) × BeginsWithLines 1 bytes heard rest
+      × StopsRightly (1 + length heard) ended rest new.left)
+  pub said : Writes ended status asks.replies after.items old.out new.out

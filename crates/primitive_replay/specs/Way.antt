@@ -1,19 +1,23 @@
 -- Lines on their way: what its calls say of the lines so far.
-use Rattle.std.specs.Prelude.{◌≡◌, ℕ, ◌+◌, List, [], ◌∷◌, length, Option, Some, None}
+use Rattle.std.specs.Prelude.{◌≡◌, ℕ, ◌+◌, List, [], ◌∷◌, ◌++◌, length, Option, Some, None}
+use Rattle.std.specs.Prelude.{IfSome}
 use Rattle.cse_server.specs.Outside.{LinkTold, Outside, Puts, PutsPart, SinkTold}
 use Rattle.m2m_io.specs.declared.status.Status.{Status}
 use Rattle.m2m_io.specs.declared.status.Status.TheVariants.{Done, Usage, BadLine, ReadFault}
 use Rattle.m2m_io.specs.declared.status.Status.TheVariants.{WriteFault, Memory, BadStream}
 use Rattle.primitive_json.specs.declared.reply.ReplyParts.{ReplyParts}
 use Rattle.primitive_json.specs.declared.request.RequestParts.{RequestParts}
+use Rattle.notify_outbox.specs.declared.item.Item.{Item}
 use Rattle.entity_model.specs.Entity.{EntityData}
 use Rattle.cse_machine.specs.Step.{Step}
 use Rattle.cse_machine.specs.declared.event.Event.TheVariants.{Ask as AskEvent}
 use Rattle.cse_machine.specs.declared.event.Outcome.{Outcome}
 use Rattle.cse_server.specs.Replies.{GivesReply}
-use Rattle.primitive_replay.specs.Script.{AsksLines, WritesAllButLast, WritesPartOfLast}
-use Rattle.primitive_replay.specs.Script.{next_reading, reading_behind, lines_of_replies}
-use Rattle.primitive_replay.specs.Stream.{LeadsTo}
+use Rattle.primitive_replay.specs.Script.{AsksLines, StopsRightly, WritesAllButLast}
+use Rattle.primitive_replay.specs.Script.{WritesPartOfLast, WritesReplies, WritesScript}
+use Rattle.primitive_replay.specs.Script.{lines_of_items, lines_of_replies, next_reading}
+use Rattle.primitive_replay.specs.Script.{reading_behind}
+use Rattle.primitive_replay.specs.Stream.{BeginsWithLines, LeadsTo}
 use Rattle.primitive_replay.specs.declared.fault.LineFault.{LineFault}
 use Rattle.primitive_replay.specs.declared.fault.LineFault.TheVariants.{Bad, ReadFault as Unread}
 use Rattle.primitive_replay.specs.declared.fault.LineFault.TheVariants.{OutOfMemory as Starved}
@@ -46,15 +50,15 @@ WritesText (Some Memory) text old new = new ≡ old
 WritesText (Some BadStream) text old new = ⊥
 
 -- what was written of these replies where none is told to have ended it, and else of the last one
-abbrev pub WritesReplies : Option Status → List ReplyParts → SinkTold → SinkTold → Type 0
-WritesReplies None replies old new = Puts (lines_of_replies replies) (length replies) old new
-WritesReplies (Some Done) replies old new = ⊥
-WritesReplies (Some Usage) replies old new = ⊥
-WritesReplies (Some (BadLine n)) replies old new = ⊥
-WritesReplies (Some ReadFault) replies old new = ⊥
-WritesReplies (Some WriteFault) replies old new = WritesPartOfLast replies old new
-WritesReplies (Some Memory) replies old new = WritesAllButLast replies old new
-WritesReplies (Some BadStream) replies old new = ⊥
+abbrev pub WritesOn : Option Status → List ReplyParts → SinkTold → SinkTold → Type 0
+WritesOn None replies old new = Puts (lines_of_replies replies) (length replies) old new
+WritesOn (Some Done) replies old new = ⊥
+WritesOn (Some Usage) replies old new = ⊥
+WritesOn (Some (BadLine n)) replies old new = ⊥
+WritesOn (Some ReadFault) replies old new = ⊥
+WritesOn (Some WriteFault) replies old new = WritesPartOfLast replies old new
+WritesOn (Some Memory) replies old new = WritesAllButLast replies old new
+WritesOn (Some BadStream) replies old new = ⊥
 
 -- A line was taken: what it asks was answered, and the reading is that behind it.
 pub record TakesLine (reading now : ℕ) (before after : EntityData)
@@ -62,7 +66,7 @@ pub record TakesLine (reading now : ℕ) (before after : EntityData)
     (line : Line) (status : Option Status) : Type 0 where
   pub asks : AsksLines reading before after told more (line ∷ [])
   pub reads : now ≡ next_reading reading line
-  pub said : WritesReplies status asks.replies old new
+  pub said : WritesOn status asks.replies old new
 
 -- The replay goes on: the lines from this place up to the next were taken and answered.
 pub record ReplaysUpTo (place next reading now : ℕ) (before after : EntityData)
@@ -73,3 +77,22 @@ pub record ReplaysUpTo (place next reading now : ℕ) (before after : EntityData
   pub reads : now ≡ reading_behind reading heard
   pub stream : LeadsTo place old.left heard new.left
   pub said : Puts (lines_of_replies asks.replies) (length asks.replies) old.out new.out
+
+-- Lines were replayed from the one at this place on, before which this was the reading and this the
+-- entity, and ended so. Of the bytes that the source had left, `heard` are the lines that were
+-- taken.
+pub record ReplaysFrom (place reading : ℕ) (before after : EntityData)
+    (old new : Outside) (ended : Status) : Type 0 where
+  pub heard : List Line
+  pub asks : AsksLines reading before after old.link new.link heard
+  pub stream : IfSome old.left (λ bytes. (rest : List ℕ) × BeginsWithLines place bytes heard rest
+      × StopsRightly (place + length heard) ended rest new.left)
+  pub said : WritesReplies ended asks.replies old.out new.out
+
+-- ---- items
+
+-- The lines of a front of these items were written, each by one put, and these are left.
+pub record PutsFront (items left : List Item) (old new : SinkTold) : Type 0 where
+  pub whole : List Item
+  pub items_are : items ≡ whole ++ left
+  pub said : Puts (lines_of_items whole) (length whole) old new

@@ -28,6 +28,7 @@ fn starved_reply(event: Event) -> Reply
             let RequestParts { rqi, .. } = request.into_parts();
             bare_reply(Rsc::Internal, Some(rqi))
         }
+        Event::Take | Event::Tick => bare_reply(Rsc::Internal, None),
     }
 }
 
@@ -43,6 +44,7 @@ pub(crate) fn put_request<T: Tree>(
     let event = Event::Ask(request);
     match step(alloc, entity, reading, &event) {
         Outcome::Done(reply) => reply,
+        Outcome::Item(_) | Outcome::Ticked => unreachable!(),
         Outcome::Starved { .. } => starved_reply(event),
     }
 }
@@ -58,6 +60,20 @@ fn reply_text(alloc: Global, reply: Reply) -> Result<Vec<u8>, OutOfMemory>
     Ok(text)
 }
 
+/// Writes a line by one call of the sink. None where it was written.
+pub(crate) fn put_line<O: Sink>(out: &mut O, line: &[u8]) -> Option<Status>
+    ensures said { WritesText result line.now
+        (sink_told (O.written out.old) (O.puts out.old))
+        (sink_told (O.written out.new) (O.puts out.new)) }
+    ensures writes { EndsByFault (Some Status.WriteFault) result
+        (O.faults out.old) (O.faults out.new) }
+{
+    match out.put(line) {
+        Ok(()) => None,
+        Err(_) => Some(Status::WriteFault),
+    }
+}
+
 /// Writes the reply as a line, by one call of the sink. None where it was written. Where memory
 /// runs out, it isn't begun.
 pub(crate) fn put_reply<O: Sink>(alloc: Global, out: &mut O, reply: Reply) -> Option<Status>
@@ -70,8 +86,5 @@ pub(crate) fn put_reply<O: Sink>(alloc: Global, out: &mut O, reply: Reply) -> Op
     let Ok(text) = reply_text(alloc, reply) else {
         return Some(Status::Memory);
     };
-    match out.put(&text) {
-        Ok(()) => None,
-        Err(_) => Some(Status::WriteFault),
-    }
+    put_line(out, &text)
 }

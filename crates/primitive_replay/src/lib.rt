@@ -1,9 +1,10 @@
 //! Lines of JSON primitives, answered as they come (TS-0004, 8.2).
 //!
 //! Callers hand in a home, a source of lines, a sink and a link. `replay` opens an entity with that
-//! home, and they see that what was written is the script of the lines that were taken, by the
-//! replies that the outcomes of a history of the machine give (`specs/Script`); what a line is, and
-//! which is bad (`specs/Lines`); and why it ended.
+//! home, and they see that what was written is the script of the lines that were taken: the replies
+//! that the outcomes of a history of the machine give, and behind them the items that the history
+//! leaves in the outbox (`specs/Script`); what a line is, and which is bad (`specs/Lines`); and why
+//! it ended.
 //!
 //! ```text
 //! let home = Home::with_defaults(alloc)?;
@@ -15,6 +16,7 @@
 mod answer;
 mod fault;
 mod front;
+mod items;
 mod laws;
 mod line;
 mod line_buffer;

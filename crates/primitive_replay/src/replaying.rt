@@ -5,17 +5,19 @@ ghost use Rattle.cse_server.specs.Outside.{EndsByFault, link_told, outside, sink
 ghost use Rattle.entity_model.specs.Opening.{opening};
 ghost use Rattle.primitive_replay.specs.Front.{held_limit};
 ghost use Rattle.primitive_replay.specs.Lines.{most_lines};
-ghost use Rattle.primitive_replay.specs.Script.{Replays, ReplaysFrom};
-ghost use Rattle.primitive_replay.specs.Way.{ReplaysUpTo, TakesLine, fault_status};
+ghost use Rattle.primitive_replay.specs.Script.{Replays};
+ghost use Rattle.primitive_replay.specs.Way.{ReplaysFrom, ReplaysUpTo, TakesLine, fault_status};
 
 use crate::answer::{put_reply, put_request};
 use crate::fault::LineFault;
+use crate::items::finish;
 use crate::line::{Line, MOST_LINES};
 use crate::line_buffer::LineBuffer;
 use crate::next::next_line;
 use entity_model::Entity;
 use m2m_io::{Link, Sink, Source, Status};
 use m2m_value::Scratch;
+use notify_outbox::Outbox;
 use resource_tree::IndexTree;
 use std::alloc::{AllocError as OutOfMemory, Global};
 use tree_model::{Home, Tree};
@@ -104,6 +106,55 @@ fn opened(alloc: Global, home: Home) -> Result<Entity<IndexTree>, OutOfMemory>
     Entity::open(alloc, home, IndexTree::new(alloc), 0)
 }
 
+/// The outbox of an entity that is let go.
+fn outbox_of<T: Tree>(entity: Entity<T>) -> Outbox
+    ensures { result.items ≡ entity.items }
+{
+    let Entity { outbox, .. } = entity;
+    outbox
+}
+
+/// Replays the lines of `input`, and writes the replies to their requests to `out`, a line each.
+fn replay_lines<T: Tree, S: Source, O: Sink, L: Link>(
+    alloc: Global,
+    entity: &mut Entity<T>,
+    input: &mut S,
+    out: &mut O,
+    link: &mut L,
+) -> Status
+    ensures lines { let old = outside (S.left input.old)
+        (sink_told (O.written out.old) (O.puts out.old)) None
+        (link_told (L.exchanges link.old) (L.faults link.old)) in
+        let new = outside (S.left input.new)
+        (sink_told (O.written out.new) (O.puts out.new)) None
+        (link_told (L.exchanges link.new) (L.faults link.new)) in
+        ReplaysFrom 1 0 entity.old entity.new old new result }
+    ensures reads { EndsByFault Status.ReadFault result (S.faults input.old) (S.faults input.new) }
+    ensures writes { EndsByFault Status.WriteFault result (O.faults out.old) (O.faults out.new) }
+{
+    let Ok(mut held) = LineBuffer::new(alloc) else {
+        return Status::Memory;
+    };
+    let mut scratch = Scratch::new(alloc);
+    let mut reading = 0;
+    for place in 1..MOST_LINES + 2 {
+        if let Some(status) = replay_next(
+            alloc,
+            entity,
+            &mut scratch,
+            &mut held,
+            &mut reading,
+            input,
+            out,
+            link,
+            place,
+        ) {
+            return status;
+        }
+    }
+    Status::Done
+}
+
 /// Replays the lines of `input` against an entity that opens at the reading 0, and writes the
 /// replies to their requests to `out`, a line each.
 ///
@@ -112,9 +163,11 @@ fn opened(alloc: Global, home: Home) -> Result<Entity<IndexTree>, OutOfMemory>
 /// on, in seconds since 1970; or it is a request in JSON. Any other line is bad, and so is one of
 /// more than 131,072 bytes, and the 1,000,001st. Lines are read as they come: each is answered
 /// before more is read than the bytes in which it ended. Behind a bad line nothing is read or
-/// written. Each reply is written by one call of the sink, and one for which memory ran out isn't
-/// begun. At the end the items of the outbox would be written; there are none as yet. The link is
-/// for requests that go on to another entity; none do as yet.
+/// written. Behind the last line the items that are left in the outbox are written, in order, a line
+/// each: where the item is to go (`direct` or `peer` and the URL, `channel` and its id, `nowhere`),
+/// a blank, and its request in JSON. Each line is written by one call of the sink, and one for which
+/// memory ran out isn't begun. The link is for requests that go on to another entity; none do as
+/// yet.
 ///
 /// A line is answered in time linear in it beside its event, and the bytes held and the room for
 /// reading one, which is kept from line to line, are at most some multiple of the longest line.
@@ -137,28 +190,10 @@ pub fn replay<S: Source, O: Sink, L: Link>(
     ensures reads { EndsByFault Status.ReadFault result (S.faults input.old) (S.faults input.new) }
     ensures writes { EndsByFault Status.WriteFault result (O.faults out.old) (O.faults out.new) }
 {
-    let Ok(mut held) = LineBuffer::new(alloc) else {
-        return Status::Memory;
-    };
     let Ok(mut entity) = opened(alloc, home) else {
         return Status::Memory;
     };
-    let mut scratch = Scratch::new(alloc);
-    let mut reading = 0;
-    for place in 1..MOST_LINES + 2 {
-        if let Some(status) = replay_next(
-            alloc,
-            &mut entity,
-            &mut scratch,
-            &mut held,
-            &mut reading,
-            input,
-            out,
-            link,
-            place,
-        ) {
-            return status;
-        }
-    }
-    Status::Done
+    let ended = replay_lines(alloc, &mut entity, input, out, link);
+    let mut outbox = outbox_of(entity);
+    finish(alloc, &mut outbox, out, ended)
 }

@@ -1,7 +1,7 @@
 -- Contents that name attributes, and the order in which an Update is refused by them.
 use Rattle.std.proofs.Common.{◌≡◌, ℕ, List, [], ◌∷◌, ◌++◌, Bool, true, false, not, Option, Some, None, option_and_then, unwrap_or, if◌then◌else◌, refl, sym, ap, ◌∙◌}
 use Rattle.std.proofs.lemmas.Bool.{and_parts, both_ways}
-use Rattle.std.specs.Option.{option_map_or}
+use Rattle.std.specs.Option.{option_map_or, option_or}
 use Rattle.m2m_names.specs.declared.codes.Rsc.TheVariants.{BadRequest}
 use Rattle.m2m_names.specs.declared.operations.Op.TheVariants.{Update}
 use Rattle.m2m_names.specs.declared.types.Ty.{Ty}
@@ -13,10 +13,9 @@ use Rattle.attribute_rules.specs.declared.table.Writing.{Writing}
 use Rattle.attribute_rules.specs.declared.table.Writing.TheVariants.{Update as Updating}
 use Rattle.entity_model.specs.Entity.{EntityData}
 use Rattle.entity_model.specs.Places.{first_fault, unless}
-use Rattle.request_rules.specs.Order.{content_places, creation_places, fault_edit, fault_named, named_places}
+use Rattle.request_rules.specs.Order.{content_places, creation_places, edit_places, fault_edit, fault_named, named_places}
 use Rattle.request_rules.specs.Requests.{admits, content_for, is_content_for, named_by, names_copy}
 use Rattle.request_rules.proofs.OrderLemmas.{first_fault-append}
-use Rattle.m2m_names.proofs.LookupLemmas.{option_or-None}
 
 -- ---- which contents are for a type
 
@@ -52,15 +51,14 @@ module _ (e : EntityData) (o : List ℕ) (request : RequestParts) (r : ResourceD
   admitting : (b : Bool) → is_content_for Updating request r.ty ≡ b → first_fault (content_places Update e request r ++ creation_places Update e o request r) ≡ first_fault ((unless b BadRequest ∷ named_places e (named_by Update request r)) ++ creation_places Update e o request r)
   admitting b is = ap (λ (x : Bool). first_fault ((unless x BadRequest ∷ named_places e (named_by Update request r)) ++ creation_places Update e o request r)) is
 
-  -- it is refused by what it names
-  pub edit_refused : (es : List Entry) → content_for request r.ty ≡ Some es → first_fault (content_places Update e request r ++ creation_places Update e o request r) ≡ fault_edit e r.ty es
+  -- it is refused by what it names, and then by the members that a group is to have
+  pub edit_refused : (es : List Entry) → content_for request r.ty ≡ Some es → first_fault (content_places Update e request r ++ creation_places Update e o request r) ≡ fault_edit e r es
   edit_refused es names = admitting (admits Updating r.ty es) (content_admits Updating request r.ty es names) ∙ by_admission (admits Updating r.ty es)
     where
-      by_admission : (b : Bool) → first_fault ((unless b BadRequest ∷ named_places e (named_by Update request r)) ++ creation_places Update e o request r) ≡ (if b then fault_named e es else Some BadRequest)
+      by_admission : (b : Bool) → first_fault ((unless b BadRequest ∷ named_places e (named_by Update request r)) ++ creation_places Update e o request r) ≡ option_or (if b then fault_named e es else Some BadRequest) (first_fault (edit_places e r es))
       by_admission true =
           first_fault-append (named_places e (named_by Update request r)) (creation_places Update e o request r)
-          ∙ option_or-None (first_fault (named_places e (named_by Update request r)))
-          ∙ ap (λ (x : Option (List Entry)). fault_named e (unwrap_or x [])) names
+          ∙ ap (λ (x : Option (List Entry)). option_or (fault_named e (unwrap_or x [])) (first_fault (edit_places e r (unwrap_or x [])))) names
       by_admission false = refl
 
   pub edit_names_none : content_for request r.ty ≡ None → first_fault (content_places Update e request r ++ creation_places Update e o request r) ≡ Some BadRequest

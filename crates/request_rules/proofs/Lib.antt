@@ -1,6 +1,7 @@
 pub mod CreatingLemmas
 pub mod DepthLemmas
 pub mod EditingLemmas
+pub mod GroupLemmas
 pub mod JudgedLemmas
 pub mod NamingLemmas
 pub mod OrderLemmas

@@ -1,5 +1,5 @@
 -- Lists of places, and the first of them that doesn't hold.
-use Rattle.std.proofs.Common.{◌≡◌, ℕ, List, [], ◌∷◌, ◌++◌, true, Option, Some, None, is_some, option_map, Bor, IfOk, IfSome, Result, inl, inr, refl, sym, ap, ◌∙◌}
+use Rattle.std.proofs.Common.{◌≡◌, ℕ, List, [], ◌∷◌, ◌++◌, true, ◌&&◌, Option, Some, None, is_some, option_map, Bor, IfOk, IfSome, Result, inl, inr, refl, sym, ap, ◌∙◌}
 use Rattle.std.proofs.lemmas.Bool.{cases_Bool, and_parts, and_from, both_ways}
 use Rattle.std.proofs.lemmas.Result.{IfOk-weaker}
 use Rattle.std.specs.List.{list_all}
@@ -13,7 +13,8 @@ use Rattle.tree_model.specs.Tree.{at, has}
 use Rattle.tree_model.proofs.TreeLemmas.{at_has, at_number}
 use Rattle.entity_model.specs.Entity.{EntityData}
 use Rattle.request_rules.specs.Creation.{Creation, has_room, is_unique}
-use Rattle.request_rules.specs.Order.{creation_places, expires_later, fault_on, fault_at, new_places, places}
+use Rattle.request_rules.specs.Groups.{MembershipData, admits_members, are_few, have_addresses, is_consistent, membership_new}
+use Rattle.request_rules.specs.Order.{creation_places, expires_later, fault_on, fault_at, member_places, new_places, places}
 use Rattle.request_rules.specs.Policies.{links_live}
 use Rattle.request_rules.specs.Requests.{admits_content, is_for, named_by, takes_child}
 use Rattle.request_rules.specs.Rights.{may_do}
@@ -64,13 +65,29 @@ places_parts op e originator request target none =
 
 -- and what it says of what is created
 pub record IsUnrefusedNew (c : Creation) : Type 0 where
+  pub addresses : have_addresses c.e.home (membership_new c) ≡ true
   pub unique : is_unique c ≡ true
   pub room : has_room c ≡ true
+  pub members : list_all (λ (p : Check). p.holds) (member_places c.e (membership_new c)) ≡ true
 
 pub new_parts : (c : Creation) → list_all (λ (p : Check). p.holds) (new_places c) ≡ true → IsUnrefusedNew c
 new_parts c all =
-    let unique = and_parts (is_unique c) _ all in
-    record { unique = unique.0; room = (and_parts (has_room c) _ unique.1).0 }
+    let addresses = and_parts (have_addresses c.e.home (membership_new c)) _ all in
+    let unique = and_parts (is_unique c) _ addresses.1 in
+    let room = and_parts (has_room c) _ unique.1 in
+    record { addresses = addresses.0; unique = unique.0; room = room.0; members = room.1 }
+
+-- what it says of the members that a group is to have
+pub record AreAdmitted (e : EntityData) (m : Option MembershipData) : Type 0 where
+  pub addresses : have_addresses e.home m ≡ true
+  pub few : option_map_or are_few m true ≡ true
+  pub consistent : option_map_or (is_consistent e) m true ≡ true
+
+pub members_parts : (e : EntityData) (m : Option MembershipData) → admits_members e m ≡ true → AreAdmitted e m
+members_parts e m is =
+    let front = and_parts (have_addresses e.home m && option_map_or are_few m true) (option_map_or (is_consistent e) m true) is in
+    let parts = and_parts (have_addresses e.home m) (option_map_or are_few m true) front.0 in
+    record { addresses = parts.0; few = parts.1; consistent = front.1 }
 
 -- the places of one list after another
 pub first_fault-append : (front back : List Check) → first_fault (front ++ back) ≡ option_or (first_fault front) (first_fault back)

@@ -14,7 +14,7 @@ use Rattle.m2m_names.specs.declared.attributes.Attr.TheVariants.{Rn, St}
 use Rattle.m2m_names.specs.declared.types.Ty.{Ty}
 use Rattle.m2m_names.specs.declared.types.Ty.TheVariants.{Ae, Container, ContentInstance}
 use Rattle.m2m_names.specs.declared.types.Ty.TheVariants.{PollingChannel, RemoteCse}
-use Rattle.m2m_value.specs.Data.{Data, Entry, number, text}
+use Rattle.m2m_value.specs.Data.{Entry, number, text}
 use Rattle.m2m_value.specs.Shapes.{largest_count}
 use Rattle.m2m_value.specs.Spelling.{capped, size_of}
 use Rattle.m2m_value.specs.View.{member_of}

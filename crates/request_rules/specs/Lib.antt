@@ -1,4 +1,5 @@
 pub mod Creation
+pub mod Groups
 pub mod Judged
 pub mod Order
 pub mod Policies

@@ -5,7 +5,8 @@ use Rattle.std.specs.Option.{option_map_or, option_or}
 use Rattle.m2m_names.specs.declared.codes.Rsc.{Rsc}
 use Rattle.m2m_names.specs.declared.codes.Rsc.TheVariants.{BadChild, BadRequest, Conflict}
 use Rattle.m2m_names.specs.declared.codes.Rsc.TheVariants.{NoPrivilege, NotAcceptable, NotAllowed}
-use Rattle.m2m_names.specs.declared.codes.Rsc.TheVariants.{NotSubscribable}
+use Rattle.m2m_names.specs.declared.codes.Rsc.TheVariants.{NotSubscribable, TooManyMembers}
+use Rattle.m2m_names.specs.declared.codes.Rsc.TheVariants.{WrongMember}
 use Rattle.m2m_names.specs.declared.operations.Op.{Op}
 use Rattle.m2m_names.specs.declared.operations.Op.TheVariants.{Create, Retrieve, Update, Delete}
 use Rattle.m2m_names.specs.declared.operations.Op.TheVariants.{Notify}
@@ -14,11 +15,14 @@ use Rattle.m2m_value.specs.Data.{Entry}
 use Rattle.primitive_json.specs.declared.request.RequestParts.{RequestParts}
 use Rattle.resource_model.specs.Resource.{ResourceData}
 use Rattle.tree_model.specs.Tree.{at}
+use Rattle.attribute_rules.specs.declared.table.Writing.{Writing}
 use Rattle.attribute_rules.specs.declared.table.Writing.TheVariants.{Create as Creating}
 use Rattle.attribute_rules.specs.declared.table.Writing.TheVariants.{Update as Updating}
 use Rattle.request_rules.specs.Creation.{Creation, creation_of, is_unique, has_room}
 use Rattle.entity_model.specs.Entity.{EntityData}
 use Rattle.entity_model.specs.Places.{Check, absent, first_fault, unless}
+use Rattle.request_rules.specs.Groups.{MembershipData, are_few, have_addresses, is_consistent}
+use Rattle.request_rules.specs.Groups.{membership_edited, membership_new}
 use Rattle.request_rules.specs.Policies.{links_live}
 use Rattle.request_rules.specs.Requests.{admits, admits_content, child_ty, is_for, named_by}
 use Rattle.request_rules.specs.Requests.{named_expiry, named_for, takes_child}
@@ -57,17 +61,36 @@ content_places op e request target =
     unless (admits_content op request target) BadRequest
     ∷ named_places e (named_by op request target)
 
--- then by what stands there already, and by a limit; what creates nothing passes them
-abbrev pub new_places : Creation → List Check
-new_places c = unless (is_unique c) Conflict ∷ unless (has_room c) NotAcceptable ∷ []
+-- by how many members a group is to have, and by their types; what asks for none passes both
+abbrev pub member_places : EntityData → Option MembershipData → List Check
+member_places e m =
+    unless (option_map_or are_few m true) TooManyMembers
+    ∷ unless (option_map_or (is_consistent e) m true) WrongMember
+    ∷ []
 
--- The places of what is to be created; an operation that creates nothing has none.
+-- then by the addresses of a group's members, by what stands there already, and by a limit; what
+-- creates nothing passes them
+abbrev pub new_places : Creation → List Check
+new_places c =
+    unless (have_addresses c.e.home (membership_new c)) BadRequest
+    ∷ unless (is_unique c) Conflict
+    ∷ unless (has_room c) NotAcceptable
+    ∷ member_places c.e (membership_new c)
+
+-- and an Update by the members that a group is to have
+abbrev pub edit_places : EntityData → ResourceData → List Entry → List Check
+edit_places e r es =
+    unless (have_addresses e.home (membership_edited r es)) BadRequest
+    ∷ member_places e (membership_edited r es)
+
+-- The places of what is to be created, and of the members that a group is to have; an operation
+-- that creates nothing and changes no member has none.
 abbrev pub creation_places : Op → EntityData → List ℕ → RequestParts → ResourceData → List Check
 creation_places Create e originator request parent =
     option_map_or (λ ty. new_places (creation_by e originator request parent ty))
     (child_ty request) []
 creation_places Retrieve e originator request r = []
-creation_places Update e originator request r = []
+creation_places Update e originator request r = edit_places e r (named_by Update request r)
 creation_places Delete e originator request r = []
 creation_places Notify e originator request r = []
 
@@ -80,16 +103,20 @@ fault_named e es = first_fault (named_places e es)
 abbrev pub fault_new : Creation → Option Rsc
 fault_new c = first_fault (new_places c)
 
--- the status by which an Update is refused that names these attributes of a resource of the type,
--- and that by which a Create is that names those of the creation
-abbrev pub fault_edit : EntityData → Ty → List Entry → Option Rsc
-fault_edit e ty es = if admits Updating ty es then fault_named e es else Some BadRequest
+-- The status by which a content is refused that names these attributes of a type: they aren't
+-- admitted, or by what they name.
+abbrev pub fault_content : Writing → EntityData → Ty → List Entry → Option Rsc
+fault_content writing e ty es =
+    if admits writing ty es then fault_named e es else Some BadRequest
 
--- The status by which a Create is refused that names the attributes of this creation.
+-- The status by which an Update is refused that names these attributes of the resource, and that by
+-- which a Create is that names those of the creation.
+abbrev pub fault_edit : EntityData → ResourceData → List Entry → Option Rsc
+fault_edit e r es =
+    option_or (fault_content Updating e r.ty es) (first_fault (edit_places e r es))
+
 abbrev pub fault_creation : Creation → Option Rsc
-fault_creation c =
-    if admits Creating c.ty c.named then option_or (fault_named c.e c.named) (fault_new c)
-    else Some BadRequest
+fault_creation c = option_or (fault_content Creating c.e c.ty c.named) (fault_new c)
 
 -- Every operation is refused in this order. A test that doesn't concern an operation holds of it.
 abbrev pub places : Op → EntityData → List ℕ → RequestParts → ResourceData → List Check

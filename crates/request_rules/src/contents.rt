@@ -1,11 +1,10 @@
 //! The content of a request to a resource.
 ghost use Rattle.std.specs.Prelude.{◌≡◌, ◌≤◌, IfSome, Some};
 ghost use Rattle.m2m_names.specs.Stamps.{last_moment};
-ghost use Rattle.attribute_rules.specs.Admission.{attributes_in};
-ghost use Rattle.attribute_rules.specs.declared.table.Writing.TheVariants.{Create, Update};
+ghost use Rattle.attribute_rules.specs.Admission.{attributes_in, is_admitted};
 ghost use Rattle.request_rules.specs.Requests as spec;
 
-use attribute_rules::{admits_create, admits_update};
+use attribute_rules::{Writing, admits_create, admits_update};
 use m2m_names::{Attr, Ty, read_stamp};
 use m2m_value::{Members, Val};
 
@@ -16,23 +15,22 @@ fn names_copy(members: &Members) -> bool
         || members.get(Attr::Aa.short().as_bytes()).is_some()
 }
 
-/// Whether a content that names these attributes is admitted for a new resource of the type.
-#[tactic(auto, using(crate::proofs::EditingLemmas::attributes_admitted))]
-pub(crate) fn admits_new(ty: Ty, content: &Val, named: &Members) -> bool
-    requires { attributes_in ty content.now ≡ Some named.now }
-    ensures { result ≡ spec.admits Create ty named.now }
+fn may_carry(writing: Writing, ty: Ty, content: &Val) -> bool
+    ensures { result ≡ is_admitted writing ty content.now }
 {
-    !names_copy(named) && admits_create(ty, content)
+    match writing {
+        Writing::Create => admits_create(ty, content),
+        Writing::Update => admits_update(ty, content),
+    }
 }
 
-/// Whether a content that names these attributes is admitted for a resource of the type that is to
-/// be updated.
+/// Whether a content that names these attributes is admitted for a resource of the type.
 #[tactic(auto, using(crate::proofs::EditingLemmas::attributes_admitted))]
-pub(crate) fn admits_edit(ty: Ty, content: &Val, named: &Members) -> bool
+pub(crate) fn admits(writing: Writing, ty: Ty, content: &Val, named: &Members) -> bool
     requires { attributes_in ty content.now ≡ Some named.now }
-    ensures { result ≡ spec.admits Update ty named.now }
+    ensures { result ≡ spec.admits writing ty named.now }
 {
-    !names_copy(named) && admits_update(ty, content)
+    !names_copy(named) && may_carry(writing, ty, content)
 }
 
 /// The moment of expiry that a content names, in seconds since 1970.

@@ -13,10 +13,9 @@ ghost use Rattle.request_rules.specs.Order as spec;
 ghost use Rattle.request_rules.specs.Requests as requests;
 
 use crate::asking::{child_ty, find, is_for, takes_child};
-use crate::contents::{admits_edit, admits_new};
-use crate::refusing::{judge_creation, judge_named};
+use crate::refusing::{judge_content, judge_creation, judge_edition};
 use crate::rights::{is_subscribing, may_do};
-use attribute_rules::attributes_in;
+use attribute_rules::{Writing, attributes_in};
 use entity_model::Entity;
 use m2m_names::{Op, Rsc, Ty};
 use m2m_value::{Members, Val};
@@ -226,10 +225,7 @@ fn judge_members<T: Tree>(
     ensures { IfOk result (λ f.
         f ≡ spec.fault_creation (creation_of entity.now originator.now ty parent.now named.now)) }
 {
-    if !admits_new(ty, content, named) {
-        return Ok(Some(Rsc::BadRequest));
-    }
-    if let Some(fault) = judge_named(alloc, entity, named)? {
+    if let Some(fault) = judge_content(alloc, entity, Writing::Create, ty, content, named)? {
         return Ok(Some(fault));
     }
     judge_creation(alloc, entity, originator, ty, parent, named)
@@ -294,7 +290,7 @@ fn judge_edit<'a, T: Tree>(
     let Some((content, named)) = content_for(request, target.ty()) else {
         return Err(Refusal::Fault(Rsc::BadRequest));
     };
-    match judge_edits(alloc, entity, target.ty(), content, named)? {
+    match judge_edits(alloc, entity, target, content, named)? {
         Some(fault) => Err(Refusal::Fault(fault)),
         None => Ok(AllowedUpdate {
             target,
@@ -308,15 +304,16 @@ fn judge_edit<'a, T: Tree>(
 fn judge_edits<T: Tree>(
     alloc: Global,
     entity: &Entity<T>,
-    ty: Ty,
+    target: &Resource,
     content: &Val,
     named: &Members,
 ) -> Result<Option<Rsc>, OutOfMemory>
-    requires { attributes_in ty content.now ≡ Some named.now }
-    ensures { IfOk result (λ f. f ≡ spec.fault_edit entity.now ty named.now) }
+    requires { attributes_in target.now.ty content.now ≡ Some named.now }
+    ensures { IfOk result (λ f. f ≡ spec.fault_edit entity.now target.now named.now) }
 {
-    if !admits_edit(ty, content, named) {
-        return Ok(Some(Rsc::BadRequest));
+    let ty = target.ty();
+    if let Some(fault) = judge_content(alloc, entity, Writing::Update, ty, content, named)? {
+        return Ok(Some(fault));
     }
-    judge_named(alloc, entity, named)
+    judge_edition(alloc, entity, target, named)
 }

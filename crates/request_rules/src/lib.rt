@@ -4,14 +4,13 @@
 //! The order is one list of places for all operations (`places` of `specs/Order`), each a test and
 //! a status: the right of the originator (`specs/Rights`); the types of the target and of the
 //! child; the content, its expiry and the policies that it names (`specs/Policies`); what stands in
-//! the tree already; and a limit (`specs/Creation`). `judge_create` and `judge_update` give the
+//! the tree already; a limit (`specs/Creation`); and the members that a group is to have
+//! (`specs/Groups`). `judge_create` and `judge_update` give the
 //! status of the first that doesn't hold, or hand on what they found: the resource, the type and
 //! the attributes that the content names. They change nothing. `Creation` also says which resource
 //! a Create makes, as its name, its identifiers and its size are what places speak of.
 //!
 //! An originator is passed in its short form. A content that asks for copies isn't admitted yet.
-//! One for a group is admitted as the table says, but its members aren't judged: callers refuse
-//! groups.
 //!
 //! ```text
 //! let target = 1; // the CSEBase
@@ -22,6 +21,7 @@
 
 mod asking;
 mod contents;
+mod groups;
 mod judging;
 mod limiting;
 mod naming;
@@ -32,6 +32,7 @@ mod uniqueness;
 
 pub use asking::{child_ty, find};
 pub use contents::named_expiry;
+pub use groups::{Membership, member_named, membership_edited, membership_new};
 pub use judging::{
     AllowedCreate, AllowedUpdate, Refusal, judge_create, judge_target, judge_update,
 };

@@ -13,8 +13,8 @@ use policy_eval::{listed_in, policy_at};
 use std::alloc::{AllocError as OutOfMemory, Global};
 use tree_model::{Resource, Tree};
 
-// What an address names in the tree.
-fn spot_named<T: Tree>(
+/// What an address names in the tree.
+pub(crate) fn spot_named<T: Tree>(
     alloc: Global,
     entity: &Entity<T>,
     address: &[u8],

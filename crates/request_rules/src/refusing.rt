@@ -1,16 +1,20 @@
 //! What a content names, and what it would create, in the order in which it is refused.
-ghost use Rattle.std.specs.Prelude.{◌≡◌, IfOk, IsTrue};
+ghost use Rattle.std.specs.Prelude.{◌≡◌, IfOk, IsTrue, Some};
 ghost use Rattle.m2m_names.specs.Name.{is_originator};
+ghost use Rattle.attribute_rules.specs.Admission.{attributes_in};
+ghost use Rattle.entity_model.specs.Places.{first_fault};
 ghost use Rattle.request_rules.specs.Creation.{creation_of};
 ghost use Rattle.request_rules.specs.Order as spec;
 
-use crate::contents::named_expiry;
+use crate::contents::{admits, named_expiry};
+use crate::groups::{have_addresses, judge_group, membership_edited, membership_new};
 use crate::limiting::has_room;
 use crate::policies::links_live;
 use crate::uniqueness::is_unique;
+use attribute_rules::Writing;
 use entity_model::Entity;
 use m2m_names::{Rsc, Ty};
-use m2m_value::Members;
+use m2m_value::{Members, Val};
 use std::alloc::{AllocError as OutOfMemory, Global};
 use tree_model::{Resource, Tree};
 
@@ -23,8 +27,8 @@ fn expires_later<T: Tree>(entity: &Entity<T>, members: &Members) -> bool
     }
 }
 
-/// The status with which what an admitted content names refuses an operation.
-pub(crate) fn judge_named<T: Tree>(
+// By what an admitted content names.
+fn judge_named<T: Tree>(
     alloc: Global,
     entity: &Entity<T>,
     members: &Members,
@@ -40,7 +44,27 @@ pub(crate) fn judge_named<T: Tree>(
     Ok(None)
 }
 
-/// The status with which what stands there, or a limit, refuses a creation.
+/// The status with which a content refuses an operation that writes this: it isn't admitted, or by
+/// what it names.
+pub(crate) fn judge_content<T: Tree>(
+    alloc: Global,
+    entity: &Entity<T>,
+    writing: Writing,
+    ty: Ty,
+    content: &Val,
+    named: &Members,
+) -> Result<Option<Rsc>, OutOfMemory>
+    requires { attributes_in ty content.now ≡ Some named.now }
+    ensures { IfOk result (λ f. f ≡ spec.fault_content writing entity.now ty named.now) }
+{
+    if !admits(writing, ty, content, named) {
+        return Ok(Some(Rsc::BadRequest));
+    }
+    judge_named(alloc, entity, named)
+}
+
+/// The status with which the members that a group is to have, what stands there, or a limit refuse
+/// a creation.
 pub(crate) fn judge_creation<T: Tree>(
     alloc: Global,
     entity: &Entity<T>,
@@ -53,11 +77,32 @@ pub(crate) fn judge_creation<T: Tree>(
     ensures { IfOk result (λ f.
         f ≡ spec.fault_new (creation_of entity.now originator.now ty parent.now members.now)) }
 {
+    let group = membership_new(ty, members);
+    if !have_addresses(alloc, &entity.home, group)? {
+        return Ok(Some(Rsc::BadRequest));
+    }
     if !is_unique(alloc, entity, originator, ty, parent, members)? {
         return Ok(Some(Rsc::Conflict));
     }
     if !has_room(entity, ty, parent, members) {
         return Ok(Some(Rsc::NotAcceptable));
     }
-    Ok(None)
+    judge_group(alloc, entity, group)
+}
+
+/// The status with which the members that a group is to have refuse an Update.
+pub(crate) fn judge_edition<T: Tree>(
+    alloc: Global,
+    entity: &Entity<T>,
+    target: &Resource,
+    members: &Members,
+) -> Result<Option<Rsc>, OutOfMemory>
+    ensures { IfOk result (λ f.
+        f ≡ first_fault (spec.edit_places entity.now target.now members.now)) }
+{
+    let group = membership_edited(target, members);
+    if !have_addresses(alloc, &entity.home, group)? {
+        return Ok(Some(Rsc::BadRequest));
+    }
+    judge_group(alloc, entity, group)
 }

@@ -1,7 +1,7 @@
 -- The index of a list that grows at its end, and of what stays of a list.
 use Rattle.std.specs.Prelude.{nat_eq, nat_lt}
 use Rattle.std.proofs.Common.{◌≡◌, ◌==◌, ℕ, zero, suc, ◌+◌, ◌-◌, ◌<◌, ◌≤◌, List, [], ◌∷◌, ◌++◌, map, length, take, drop, find, get_or, set, Bool, true, false, cond, pos, ◌&&◌, ◌||◌, Option, Some, None, option_map, unwrap_or, sum_by, inl, inr, refl, sym, ap, ◌∙◌, subst, arith, append_assoc, length-append, zero-add}
-use Rattle.std.proofs.lemmas.Bool.{both_ways, cases_Bool, and_parts, or_parts, eq-eqb, ne_eqb, eqb-true, ltb-true}
+use Rattle.std.proofs.lemmas.Bool.{cases_Bool, and_parts, or_parts, eq-eqb, ne_eqb, eqb-true, ltb-true}
 use Rattle.std.proofs.lemmas.List.{append-nil, drop_all, drop_more, length-drop, length-map, map-append, take-append-drop, take_all, take_more_set, drop-set-lt}
 use Rattle.std.proofs.lemmas.List.Elements.{filter-append}
 use Rattle.std.proofs.lemmas.List.Sums.{sum_by-cons}
@@ -10,24 +10,23 @@ use Rattle.std.proofs.Math.Numerals.{suc-eq-add-one}
 use Rattle.std.specs.HashMap.{HashMap, get}
 use Rattle.std.specs.List.{filter, list_all, remove, slice_get}
 use Rattle.std.specs.Option.{option_map_or, option_and_then}
-use Rattle.m2m_names.specs.declared.attributes.Attr.TheVariants.{Cs, St}
+use Rattle.m2m_names.specs.declared.attributes.Attr.{Attr}
+use Rattle.m2m_names.specs.declared.attributes.Attr.TheVariants.{Cs, Exc, St}
 use Rattle.m2m_names.specs.declared.types.Ty.{Ty}
 use Rattle.m2m_names.specs.declared.types.Ty.TheVariants.{ContentInstance, PollingChannel, Subscription}
 use Rattle.m2m_value.specs.Data.{Data, number as whole_number}
 use Rattle.m2m_value.specs.Shapes.{as_count}
-use Rattle.resource_model.specs.Attributes.{is_attr}
 use Rattle.resource_model.specs.Resource.{ResourceData, has_number, is_ty}
-use Rattle.resource_model.proofs.AttributeLemmas.{value-with_value_other}
-use Rattle.tree_model.specs.Tree.{are_below, at, children_of, has, instance_size, is_kin, is_tree, is_under, may_stand, next_after, numbers_of, replaced, resource_number, restamped, restamped_at, sizes_of, standing, without, without_all, is_spared, StandsAt}
+use Rattle.tree_model.specs.Tree.{are_below, at, children_of, has, instance_size, is_kin, is_tree, is_under, may_stand, next_after, numbers_of, replaced, recounted, recounted_at, resource_number, restamped, restamped_at, sizes_of, standing, without, without_all, is_spared, StandsAt}
 use Rattle.tree_model.proofs.ChangeLemmas.{sum-replaced, unpicked-replaced}
-use Rattle.plain_tree.proofs.LeafLemmas.{others, removed_at}
+use Rattle.resource_list.proofs.LeafLemmas.{others, removed_at}
 use Rattle.tree_model.proofs.GrowthLemmas.{ascending_from_tree, below_lacks, has-without, next_fits, without-spared}
 use Rattle.tree_model.proofs.KeptLemmas.{map-replaced_same}
 use Rattle.tree_model.proofs.OrderLemmas.{above_filter, above_has, above_lacks, are_above, ascend, tree_ascends}
 use Rattle.tree_model.proofs.ManyLemmas.{nothing_removed}
-use Rattle.tree_model.proofs.StampLemmas.{standing-restamped}
+use Rattle.tree_model.proofs.MarkLemmas.{marked, IsAside, exc_aside, st_aside, other_kept, stood_marked}
 use Rattle.tree_model.proofs.TreeLemmas.{at_number, has-append}
-use Rattle.resource_tree.specs.Index.{grown_sum, row_of, row_size, HasNumbers, HasSums, HasTypes, IsIndex, HasKin, IsLeft}
+use Rattle.resource_tree.specs.Index.{grown_sum, row_of, row_size, HasNumbers, HasSums, IsIndex, HasKin, IsLeft}
 use Rattle.resource_tree.specs.Queue.{first_after, queue_at, without_number}
 use Rattle.resource_tree.specs.declared.index.Index.{Index}
 use Rattle.resource_tree.specs.declared.kin.Kin.{Kin}
@@ -732,36 +731,40 @@ module _ (nodes : List ResourceData) (r : ResourceData) (stood : option_map stan
     kin = kin-replaced index.kin index.kin is.kin refl refl refl refl (sums-replaced index.kin.sums index.kin.sums is.kin.sums (λ p s e. (e, no_instance other p)));
   }
 
-size_kept : (lt st : ℕ) (r : ResourceData) → instance_size (restamped lt st r) ≡ instance_size r
-size_kept lt st r = ap (λ (o : Option Data). unwrap_or (option_and_then as_count o) 0) (value-with_value_other St Cs (whole_number (pos st)) r.attrs (λ e. both_ways _ apart (ap (is_attr Cs) (sym e) ∙ itself)))
-  where
-    apart : is_attr Cs St ≡ false
-    apart = refl
+size_kept : (a : Attr) (aside : IsAside a) (d : Data) (lt : ℕ) (r : ResourceData) → instance_size (marked a d lt r) ≡ instance_size r
+size_kept a aside d lt r = ap (λ (o : Option Data). unwrap_or (option_and_then as_count o) 0) (other_kept Cs a d r aside.cs refl)
 
-    itself : is_attr Cs Cs ≡ true
-    itself = refl
-
-row_kept : (lt st : ℕ) (r : ResourceData) → row_of (restamped lt st r) ≡ row_of r
-row_kept lt st r = ap (sized_row r) (size_kept lt st r)
+row_kept : (a : Attr) (aside : IsAside a) (d : Data) (lt : ℕ) (r : ResourceData) → row_of (marked a d lt r) ≡ row_of r
+row_kept a aside d lt r = ap (sized_row r) (size_kept a aside d lt r)
   where
     sized_row : ResourceData → ℕ → Row
     sized_row r size = record { number = r.number; parent = r.parent; size = cond (is_ty r.ty ContentInstance) size 0 }
+
+-- a resource of which such an attribute is set
+index-marked : (a : Attr) (aside : IsAside a) (d : Data) (lt : ℕ) (nodes : List ResourceData) (n : ℕ) (r : ResourceData) → at n nodes ≡ Some r → (index : Index) → IsIndex nodes index → IsIndex (replaced (marked a d lt r) nodes) index
+index-marked a aside d lt nodes n r found index is =
+    let own : at r.number nodes ≡ Some r = ap (λ k. at k nodes) (at_number n nodes r found) ∙ found in
+    let it : (s : ResourceData) → at r.number nodes ≡ Some s → s ≡ r = λ s there. same_Some s r (sym there ∙ own) in
+    record {
+      rows = is.rows ∙ sym (map-replaced_same row_of (marked a d lt r) nodes (λ s there. ap row_of (it s there) ∙ sym (row_kept a aside d lt r)));
+      kin = kin-replaced nodes (marked a d lt r) (stood_marked a aside d lt nodes n r found) index.kin index.kin is.kin refl refl refl refl (λ p s e.
+          is.kin.sums p s e
+          ∙ sym (sum-replaced (is_kin ContentInstance p) instance_size (marked a d lt r) nodes (λ s there. (ap (is_kin ContentInstance p) (it s there), ap instance_size (it s there) ∙ sym (size_kept a aside d lt r)))));
+    }
 
 pub index-restamped : (nodes : List ResourceData) (n lt st : ℕ) (index : Index) → IsIndex nodes index → IsIndex (restamped_at n lt st nodes) index
 index-restamped nodes n lt st index is = by (at n nodes) refl
   where
     by : (o : Option ResourceData) → at n nodes ≡ o → IsIndex (option_map_or (λ r. replaced (restamped lt st r) nodes) o nodes) index
     by None found = is
-    by (Some r) found =
-        let own : at r.number nodes ≡ Some r = ap (λ k. at k nodes) (at_number n nodes r found) ∙ found in
-        let stood : option_map standing (at r.number nodes) ≡ Some (standing (restamped lt st r)) = ap (option_map standing) own ∙ ap Some (sym (standing-restamped lt st r)) in
-        let it : (s : ResourceData) → at r.number nodes ≡ Some s → s ≡ r = λ s there. same_Some s r (sym there ∙ own) in
-        record {
-          rows = is.rows ∙ sym (map-replaced_same row_of (restamped lt st r) nodes (λ s there. ap row_of (it s there) ∙ sym (row_kept lt st r)));
-          kin = kin-replaced nodes (restamped lt st r) stood index.kin index.kin is.kin refl refl refl refl (λ p s e.
-              is.kin.sums p s e
-              ∙ sym (sum-replaced (is_kin ContentInstance p) instance_size (restamped lt st r) nodes (λ s there. (ap (is_kin ContentInstance p) (it s there), ap instance_size (it s there) ∙ sym (size_kept lt st r)))));
-        }
+    by (Some r) found = index-marked St st_aside (whole_number (pos st)) lt nodes n r found index is
+
+pub index-recounted : (nodes : List ResourceData) (n left : ℕ) (index : Index) → IsIndex nodes index → IsIndex (recounted_at n left nodes) index
+index-recounted nodes n left index is = by (at n nodes) refl
+  where
+    by : (o : Option ResourceData) → at n nodes ≡ o → IsIndex (option_map_or (λ r. replaced (recounted left r) nodes) o nodes) index
+    by None found = is
+    by (Some r) found = index-marked Exc exc_aside (whole_number (pos left)) r.lt nodes n r found index is
 
 -- a parent without numbers has no children
 pub no_children : {S : Type 0} (nodes : List ResourceData) (m : HashMap ℕ (List ℕ) S) (n : ℕ) → HasNumbers is_under nodes m → length (queue_at m n) ≡ 0 → children_of n nodes ≡ []

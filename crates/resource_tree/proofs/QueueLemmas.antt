@@ -1,16 +1,14 @@
 -- Numbers that ascend.
 use Rattle.std.specs.Prelude.{nat_le, nat_lt}
-use Rattle.std.proofs.Common.{◌≡◌, ◌≢◌, ◌==◌, ℕ, zero, suc, ◌+◌, ◌<◌, ◌≤◌, List, [], ◌∷◌, ◌++◌, length, get_or, Bool, true, false, not, Err, Less, Equal, Greater, cond, inl, inr, refl, sym, ap, subst, arith}
+use Rattle.std.proofs.Common.{◌≡◌, ◌≢◌, ◌==◌, ℕ, zero, suc, ◌<◌, ◌≤◌, List, [], ◌∷◌, ◌++◌, length, get_or, Bool, true, false, not, Err, Less, Equal, cond, inl, inr, refl, sym, ap, subst, arith}
 use Rattle.std.proofs.lemmas.Bool.{cases_lt, and_parts, eq-eqb, ne_eqb, leb-true, leb-false, lt-ltb, le-ltb}
-use Rattle.std.proofs.lemmas.Bool.Decides.{nat_tests}
-use Rattle.std.proofs.lemmas.Cmp.{nat_cmp_total}
 use Rattle.std.proofs.lemmas.List.Kept.{IsStrictlySortedBy-filter}
-use Rattle.std.proofs.lemmas.List.Sorted.{searchable_from_sorted}
 use Rattle.std.proofs.lemmas.Map.Keys.{below_from_sorted}
 use Rattle.std.specs.List.{AllByRecursion, list_all, remove, slice_get}
-use Rattle.std.specs.List.Sorted.{IsBinarySearchResult, IsNonDecreasingBy, IsPartitionPoint, IsStrictlySortedBy}
-use Rattle.std.specs.Ordering.{nat_cmp, ordering_index, is_lt}
+use Rattle.std.specs.List.Sorted.{IsBinarySearchResult, IsPartitionPoint, IsStrictlySortedBy}
+use Rattle.std.specs.Ordering.{nat_cmp}
 use Rattle.tree_model.specs.Tree.{DoAscend}
+use Rattle.tree_model.proofs.NumberLemmas.{equal_is, greater_is, less_is, searchable}
 use Rattle.resource_tree.specs.Queue.{first_after, without_number}
 
 pub none_ascend : (numbers : List ℕ) → numbers ≡ [] → DoAscend numbers
@@ -77,18 +75,6 @@ taken_out n (m ∷ numbers) (suc i) within others is =
     let apart : (m == n) ≡ false = ne_eqb m n (λ e. others 0 m (omega arith) (λ z. omega arith) e) in
     rw apart (ap (λ (ms : List ℕ). m ∷ ms) (taken_out n numbers i (omega arith) (λ k d inside other. others (suc k) d (omega arith) (λ e. other (omega arith))) is))
 
-less_is : (m n : ℕ) → nat_cmp m n ≡ Less → m < n
-less_is m n e = grind (arith, nat_tests)
-
-equal_is : (m n : ℕ) → nat_cmp m n ≡ Equal → m ≡ n
-equal_is m n e = grind (arith, nat_tests)
-
-greater_is : (m n : ℕ) → nat_cmp m n ≡ Greater → n < m
-greater_is m n e = grind (arith, nat_tests)
-
-below_not_above : (m n : ℕ) → m < n → is_lt (nat_cmp n m) ≡ false
-below_not_above m n less = grind (arith, nat_tests)
-
 apart_from : (numbers : List ℕ) (n i k d : ℕ) → DoAscend numbers → i < length numbers → get_or numbers i d ≡ n → k < length numbers → k ≢ i → get_or numbers k d ≢ n
 apart_from numbers n i k d sorted within is inside other e = elim (cases_lt k i) [
   | inl before ↦ let less : get_or numbers k d < get_or numbers i d = below_from_sorted numbers k i d sorted before within in omega arith
@@ -103,9 +89,6 @@ pub found_out : (n : ℕ) (numbers : List ℕ) (i : ℕ) → DoAscend numbers �
 found_out n numbers i sorted within found =
     let is : (d : ℕ) → get_or numbers i d ≡ n = λ d. equal_is _ _ (found d) in
     taken_out n numbers i within (λ k d inside other. apart_from numbers n i k d sorted within (is d) inside other) is
-
-searchable : (ks : List ℕ) (n : ℕ) → DoAscend ks → IsNonDecreasingBy (λ k. ordering_index (nat_cmp k n)) ks
-searchable ks n sorted = searchable_from_sorted nat_cmp_total (λ (k : ℕ). k) ks n (λ k d low within. below_not_above _ _ (below_from_sorted ks k (k + 1) d sorted (omega arith) (omega arith)))
 
 -- where a search found none, nothing is taken out
 pub not_found : (n : ℕ) (ks : List ℕ) (i : ℕ) → DoAscend ks → IsBinarySearchResult (λ k. nat_cmp k n) ks (Err i) → ks ≡ without_number n ks

@@ -1,4 +1,3 @@
 pub mod Index
 pub mod Indexed
-pub mod Names
 pub mod Queue

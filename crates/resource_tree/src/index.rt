@@ -3,16 +3,16 @@ ghost use Rattle.std.specs.Prelude.{◌≡◌, ℕ, ◌++◌, [], ◌∷◌, fal
 ghost use Rattle.std.specs.Prelude.{IsTrue, option_map, slice_get, Some, map, not};
 ghost use Rattle.std.specs.Option.{option_map_or};
 ghost use Rattle.resource_model.specs.Resource.{ResourceData, has_number};
-ghost use Rattle.tree_model.specs.Tree.{at, may_stand, replaced, standing};
+ghost use Rattle.tree_model.specs.Tree.{at, is_tree, may_stand, replaced, standing};
 ghost use Rattle.resource_tree.specs.Index.{row_of, IsIndex, IsLeft};
-ghost use Rattle.resource_tree.specs.Names.{IsNamed};
+ghost use Rattle.resource_names.specs.Names.{IsNamed};
 
 use crate::kin::{Kin, Row, row_of};
-use crate::named::Named;
 use crate::sums::forget_sum;
 use m2m_names::Ty;
 use plain_tree::ListTree;
 use resource_model::Resource;
+use resource_names::Named;
 use std::alloc::{AllocError as OutOfMemory, Global};
 use tree_model::Tree;
 
@@ -78,11 +78,10 @@ impl Index {
 
     /// Without the resource of a number, which goes alone. The list has it still.
     pub(crate) fn remove(&mut self, list: &ListTree, number: u64)
-        requires { IsIndex list.now self.old }
+        requires tree { IsTrue (is_tree list.now) }
+        requires index { IsIndex list.now self.old }
         ensures { IsIndex (filter (λ r. not (has_number number r)) list.now) self.new }
     {
-        // That it is a tree is told by its length.
-        let _count = list.len();
         if let Some(at) = list.place(number) {
             let row = self.rows.remove(at);
             self.kin.take(row);

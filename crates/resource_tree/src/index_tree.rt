@@ -1,17 +1,21 @@
 //! The tree with an index.
-ghost use Rattle.std.specs.Prelude.{◌≡◌, []};
+ghost use Rattle.std.specs.Prelude.{◌≡◌, [], ◌∷◌, IfOk};
 
 use crate::index::Index;
 use crate::kin::{count_of_kin, kin_after, kin_at};
-use crate::named::Named;
 use crate::sums::known_sum;
 use m2m_value::Numbers;
 use plain_tree::ListTree;
+use resource_dues::{Dues, due_of, has_come};
 use resource_model::Resource;
+use resource_names::Named;
 use std::alloc::{AllocError as OutOfMemory, Global};
 use std::marker::Model;
 use std::sync::ledger::Ledger;
-use tree_model::{Steps, Tree};
+use tree_model::{Steps, Tree, due};
+
+// So many that are due at once go one by one; where more are, one pass takes all.
+const FEW: u64 = 4;
 
 /// A tree that knows the children of each resource, those of three types, their names, and what the
 /// sizes of instances add up to, so that none is sought.
@@ -21,6 +25,7 @@ pub struct IndexTree {
     list: ListTree,
     index: Index,
     named: Named,
+    dues: Dues,
 }
 
 impl Model for IndexTree {
@@ -36,7 +41,7 @@ impl Model for IndexTree {
 
     ghost view = { λ t. t.list };
 
-    ghost invariant = { λ t. IsIndexed t.list t.index t.named };
+    ghost invariant = { λ t. IsIndexed t.list t.index t.named t.dues };
 }
 
 impl IndexTree {
@@ -49,6 +54,7 @@ impl IndexTree {
             list: ListTree::new(alloc),
             index: Index::new(alloc),
             named: Named::new(alloc),
+            dues: Dues::new(alloc),
         }
     }
 }
@@ -74,21 +80,113 @@ impl IndexTree {
         requires { children_of number self.old ≡ [] }
         ensures { self.new ≡ without (has_number number) self.old }
     {
-        let _count = self.list.len();
         let parent = parent_of(&self.list, number);
         self.index.remove(&self.list, number);
         self.list.remove_leaf(number);
         self.named.note_gone(&self.list, number, parent);
+        self.dues.note_gone(&self.list);
     }
 
     fn remove_several(&mut self, numbers: &[u64])
         requires { DoAscend numbers.now }
         ensures { self.new ≡ without_all numbers.now self.old }
     {
-        let _count = self.list.len();
         self.list.remove_all(numbers);
+        if numbers.is_empty() {
+            return;
+        }
         self.index.let_go(&self.list, &mut self.named);
+        self.dues.note_gone(&self.list);
     }
+}
+
+// What is due.
+impl IndexTree {
+    ghost use Rattle.std.specs.Prelude.{IsTrue, ℕ, Some};
+    ghost use Rattle.tree_model.specs.Tree.{live, overdue_numbers};
+    ghost use Rattle.resource_dues.specs.Dues.{IsDueLeaf};
+
+    // Removes what is due at a moment, where that is little and nothing stands below it: each of
+    // it alone.
+    fn expire_few(&mut self, moment: u64)
+        ensures { live moment self.new ≡ live moment self.old }
+    {
+        for _ in 0..FEW {
+            self.renote(moment);
+            if !self.expire_first(moment) {
+                return;
+            }
+        }
+        self.renote(moment)
+    }
+
+    // Removes the resource of the first entry, where that is due and nothing stands below it.
+    fn expire_first(&mut self, moment: u64) -> bool
+        ensures { live moment self.new ≡ live moment self.old }
+    {
+        let Some(number) = self.dues.first_number() else {
+            return false;
+        };
+        if !self.is_due_leaf(number, moment) {
+            return false;
+        }
+        self.remove_leaf(number);
+        true
+    }
+
+    fn is_due_leaf(&self, number: u64, moment: u64) -> bool
+        ensures { IsTrue result → IsDueLeaf number moment self.now }
+    {
+        count_of_kin(&self.index.kin.children, number) == 0
+            && has_come(due_of(&self.list, number), moment)
+    }
+
+    // The number of what is overdue at a moment, where that is one resource.
+    fn only_overdue(&self, moment: u64) -> Option<u64>
+        ensures { (n : ℕ) → result ≡ Some n → overdue_numbers moment self.now ≡ n ∷ [] }
+    {
+        if !self.dues.whole {
+            return None;
+        }
+        let number = self.dues.sole(moment)?;
+        if !self.is_due_leaf(number, moment) {
+            return None;
+        }
+        Some(number)
+    }
+
+    // Goes over the entries up to a moment: those of resources that have gone go, and others are
+    // noted again at the moment at which they are due. It ends at the first that is due by now.
+    fn renote(&mut self, moment: u64)
+        ensures { self.new ≡ self.old }
+    {
+        self.dues.renote(&self.list, moment)
+    }
+
+    // Whether nothing is due at a moment, as far as the entries tell.
+    fn is_quiet_at(&self, moment: u64) -> bool
+        ensures live { IsTrue result → live moment self.now ≡ self.now }
+        ensures none { IsTrue result → overdue_numbers moment self.now ≡ [] }
+    {
+        self.dues.whole && moment < self.dues.quiet()
+    }
+
+    // Removes what is due at a moment in one pass.
+    fn sweep(&mut self, moment: u64)
+        ensures { self.new ≡ live moment self.old }
+    {
+        self.list.expire(moment);
+        self.index.let_go(&self.list, &mut self.named);
+        self.dues.refresh(self.alloc, &self.list, moment);
+    }
+}
+
+fn one_number(alloc: Global, number: u64) -> Result<Numbers, OutOfMemory>
+    ensures { IfOk result (λ n. n ≡ number ∷ []) }
+{
+    let mut numbers = Vec::new(alloc);
+    numbers.push(number)?;
+    Ok(Numbers::of(numbers))
 }
 
 // The number of the parent of a resource, or 0.
@@ -122,8 +220,6 @@ impl Tree for IndexTree {
     }
 
     fn child<L: Ledger>(&self, parent: u64, name: &[u8], steps: &mut Steps<L>) -> Option<u64> {
-        // That it is a tree is told by its length.
-        let _count = self.list.len();
         steps.tick();
         self.named.child(&self.list, parent, name)
     }
@@ -168,12 +264,10 @@ impl Tree for IndexTree {
     }
 
     fn ae(&self, aei: &[u8]) -> Option<u64> {
-        let _count = self.list.len();
         self.named.ae(&self.list, aei)
     }
 
     fn cse(&self, csi: &[u8]) -> Option<u64> {
-        let _count = self.list.len();
         self.named.cse(&self.list, csi)
     }
 
@@ -182,15 +276,28 @@ impl Tree for IndexTree {
     }
 
     fn quiet_until(&self) -> u64 {
+        if self.dues.whole {
+            return self.dues.quiet();
+        }
         self.list.quiet_until()
     }
 
     fn due_numbers(&self, alloc: Global, moment: u64) -> Result<Numbers, OutOfMemory> {
+        if self.is_quiet_at(moment) {
+            return Ok(Numbers::of(Vec::new(alloc)));
+        }
+        if let Some(number) = self.only_overdue(moment) {
+            return one_number(alloc, number);
+        }
         self.list.due_numbers(alloc, moment)
     }
 
     fn insert(&mut self, resource: Resource) -> Result<(), (Resource, OutOfMemory)> {
         if let Err(_) = self.named.add(self.alloc, &self.list, &resource) {
+            return Err((resource, OutOfMemory));
+        }
+        let moment = due(&self.list, &resource);
+        if let Err(_) = self.dues.add(moment, resource.number()) {
             return Err((resource, OutOfMemory));
         }
         if let Err(_) = self.index.add(self.alloc, &self.list, &resource) {
@@ -207,6 +314,7 @@ impl Tree for IndexTree {
 
     fn replace(&mut self, resource: Resource) {
         self.index.replace(&self.list, &resource);
+        self.dues.replace(&self.list, &resource);
         self.list.replace(resource)
     }
 
@@ -214,16 +322,15 @@ impl Tree for IndexTree {
         self.list.restamp(number, lt, st)
     }
 
+    fn recount(&mut self, number: u64, left: u64) {
+        self.list.recount(number, left)
+    }
+
     fn remove_subtree(&mut self, number: u64) {
         self.remove_one(number)
     }
 
     fn remove_all(&mut self, numbers: &[u64]) {
-        // That it is a tree is told by its length.
-        let _count = self.list.len();
-        if numbers.is_empty() {
-            return;
-        }
         match numbers {
             [number] => self.remove_one(*number),
             _ => self.remove_several(numbers),
@@ -231,8 +338,9 @@ impl Tree for IndexTree {
     }
 
     fn expire(&mut self, moment: u64) {
-        let _count = self.list.len();
-        self.list.expire(moment);
-        self.index.let_go(&self.list, &mut self.named);
+        self.expire_few(moment);
+        if !self.is_quiet_at(moment) {
+            self.sweep(moment);
+        }
     }
 }

@@ -7,13 +7,13 @@
 //! each parent a queue of the numbers of its children, and of those of three types (`Queue`, which
 //! only grows at its end), with the sum of the sizes of its instances. `kid`, `sub`, `channel`,
 //! `instance`, `instance_after`, `instance_count` and `instance_sizes` ask these. `child`, `ae` and
-//! `cse` ask ordered tables of names (`Names`), one for each parent, and check that the resource
-//! that is found has the name: so a name may stay for a while once its resource has gone. A child
-//! whose name tells its number, as that of an instance does that nobody named, stands in no table.
-//! All else is asked of the list. A resource below which none stands goes without a walk; another
-//! removal is the list's, and one pass more over the rows. The invariant says that rows, queues and
-//! sums are what the definitions say of the list (`IsIndex` of `specs/Index`), and that the names
-//! find its resources (`IsNamed` of `specs/Names`).
+//! `cse` ask tables of names (`resource_names`). `quiet_until`, `due_numbers` and `expire` ask
+//! moments in order (`resource_dues`): a resource that is due alone, or one of few, goes without a
+//! walk where nothing stands below it. All else is asked of the list. A resource below which none
+//! stands is removed without a walk; another removal, and an expiry of many, is the list's, and one
+//! pass more over the rows. The invariant says that the list is a tree, that rows, queues and sums
+//! are what the definitions say of it (`IsIndex` of `specs/Index`), that the names find its
+//! resources, and that of each is told when it is due (`IsIndexed` of `specs/Indexed`).
 //!
 //! ```text
 //! let mut tree = IndexTree::new(alloc);
@@ -25,8 +25,6 @@
 mod index;
 mod index_tree;
 mod kin;
-mod named;
-mod names;
 mod queue;
 mod sums;
 

@@ -3,6 +3,7 @@ pub mod BelowLemmas
 pub mod PathLemmas
 pub mod TakeLemmas
 pub mod WalkLemmas
+pub mod AskedLemmas
 pub mod FindingLemmas
 pub mod ForestLemmas
 pub mod MemberLemmas

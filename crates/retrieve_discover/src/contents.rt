@@ -10,6 +10,7 @@ use crate::look::{Viewer, object_members};
 use crate::references::references;
 use crate::replies;
 use entity_model::wanted_content;
+use known_rights::{Asker, Known};
 use m2m_value::{Members, Text, Val};
 use primitive_json::Request;
 use std::alloc::{AllocError as OutOfMemory, Global};
@@ -30,17 +31,54 @@ pub(crate) fn content_of_reply<T: Tree>(
     ensures { IfOk result (λ v. v ≡ spec.content home.now (T.nodes tree.now) originator.now
         (is_by_id request.now) request.now.rcn target.now) }
 {
+    match wanted_content(request) {
+        4 | 5 | 6 => content_beyond(alloc, tree, home, originator, request, target),
+        _ => attributes(alloc, tree, home, target),
+    }
+}
+
+// The same where others than the target may be shown.
+fn content_beyond<T: Tree>(
+    alloc: Global,
+    tree: &T,
+    home: &Home,
+    originator: &[u8],
+    request: &Request,
+    target: &Resource,
+) -> Result<Val, OutOfMemory>
+    requires tree { IsTrue (is_tree (T.nodes tree.now)) }
+    requires originator { IsTrue (is_originator originator.now) }
+    requires target { at target.now.number (T.nodes tree.now) ≡ Some target.now }
+    ensures { IfOk result (λ v. v ≡ spec.content home.now (T.nodes tree.now) originator.now
+        (is_by_id request.now) request.now.rcn target.now) }
+{
+    let asker = Asker::of(alloc, home, originator)?;
+    content_for(alloc, tree, &asker, request, target)
+}
+
+fn content_for<T: Tree>(
+    alloc: Global,
+    tree: &T,
+    asker: &Asker,
+    request: &Request,
+    target: &Resource,
+) -> Result<Val, OutOfMemory>
+    requires tree { IsTrue (is_tree (T.nodes tree.now)) }
+    requires originator { IsTrue (is_originator asker.now.originator) }
+    requires target { at target.now.number (T.nodes tree.now) ≡ Some target.now }
+    ensures { IfOk result (λ v. v ≡ spec.content asker.now.home (T.nodes tree.now)
+        asker.now.originator (is_by_id request.now) request.now.rcn target.now) }
+{
     let look = Viewer {
         tree,
-        home,
-        originator,
+        asker,
         by_id: replies::is_by_id(request),
     };
     match wanted_content(request) {
         4 => whole(alloc, &look, target),
         5 => with_references(alloc, &look, target),
         6 => references_alone(alloc, &look, target),
-        _ => attributes(alloc, tree, home, target),
+        _ => attributes(alloc, tree, asker.home(), target),
     }
 }
 
@@ -49,13 +87,21 @@ const MOST_SHOWN: usize = 128;
 
 fn whole<T: Tree>(alloc: Global, look: &Viewer<T>, target: &Resource) -> Result<Val, OutOfMemory>
     requires tree { IsTrue (is_tree (T.nodes look.now.tree.now)) }
-    requires originator { IsTrue (is_originator look.now.originator.now) }
-    ensures { IfOk result (λ v. v ≡ spec.whole look.now.home.now (T.nodes look.now.tree.now)
-        look.now.originator.now target.now) }
+    requires originator { IsTrue (is_originator look.now.asker.now.originator) }
+    ensures { IfOk result (λ v. v ≡ spec.whole look.now.asker.now.home (T.nodes look.now.tree.now)
+        look.now.asker.now.originator target.now) }
 {
     let mut shown = object_members(alloc, look, target)?;
     let mut left = MOST_SHOWN;
-    add_descendants(alloc, look, target.number(), &mut left, &mut shown)?;
+    let mut known = Known::nothing(alloc);
+    add_descendants(
+        alloc,
+        look,
+        target.number(),
+        &mut left,
+        &mut shown,
+        &mut known,
+    )?;
     under_type(alloc, target.ty(), shown)
 }
 
@@ -65,10 +111,10 @@ fn with_references<T: Tree>(
     target: &Resource,
 ) -> Result<Val, OutOfMemory>
     requires tree { IsTrue (is_tree (T.nodes look.now.tree.now)) }
-    requires originator { IsTrue (is_originator look.now.originator.now) }
+    requires originator { IsTrue (is_originator look.now.asker.now.originator) }
     requires target { at target.now.number (T.nodes look.now.tree.now) ≡ Some target.now }
-    ensures { IfOk result (λ v. v ≡ spec.with_references look.now.home.now
-        (T.nodes look.now.tree.now) look.now.originator.now look.now.by_id target.now) }
+    ensures { IfOk result (λ v. v ≡ spec.with_references look.now.asker.now.home
+        (T.nodes look.now.tree.now) look.now.asker.now.originator look.now.by_id target.now) }
 {
     let mut shown = object_members(alloc, look, target)?;
     let children = references(alloc, look, target)?;
@@ -82,17 +128,17 @@ fn references_alone<T: Tree>(
     target: &Resource,
 ) -> Result<Val, OutOfMemory>
     requires tree { IsTrue (is_tree (T.nodes look.now.tree.now)) }
-    requires originator { IsTrue (is_originator look.now.originator.now) }
+    requires originator { IsTrue (is_originator look.now.asker.now.originator) }
     requires target { at target.now.number (T.nodes look.now.tree.now) ≡ Some target.now }
-    ensures { IfOk result (λ v. v ≡ spec.references_alone look.now.home.now
-        (T.nodes look.now.tree.now) look.now.originator.now look.now.by_id target.now) }
+    ensures { IfOk result (λ v. v ≡ spec.references_alone look.now.asker.now.home
+        (T.nodes look.now.tree.now) look.now.asker.now.originator look.now.by_id target.now) }
 {
     let children = references(alloc, look, target)?;
     under_type(alloc, target.ty(), only_member(alloc, b"ch", children)?)
 }
 
-// The members of an object that has one.
-fn only_member(alloc: Global, key: &[u8], value: Val) -> Result<Members, OutOfMemory>
+/// The members of an object that has one.
+pub(crate) fn only_member(alloc: Global, key: &[u8], value: Val) -> Result<Members, OutOfMemory>
     ensures { IfOk result (λ m. m ≡ (key.now, value) ∷ []) }
 {
     let mut members = Vec::with_capacity(alloc, 1)?;

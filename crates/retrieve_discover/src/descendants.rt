@@ -4,6 +4,7 @@ ghost use Rattle.m2m_names.specs.Name.{is_originator};
 ghost use Rattle.m2m_names.specs.Types.{ty_member};
 ghost use Rattle.m2m_value.specs.Node.{HaveTextKeys};
 ghost use Rattle.m2m_value.specs.View.{as_list};
+ghost use Rattle.known_rights.specs.Known.{IsKnown};
 ghost use Rattle.policy_eval.specs.Rules.{listed_in};
 ghost use Rattle.tree_model.specs.Tree.{at, is_tree};
 ghost use Rattle.retrieve_discover.specs.Contents as spec;
@@ -11,6 +12,7 @@ ghost use Rattle.retrieve_discover.specs.Descendants.{cut_forest, forest_size, f
 ghost use Rattle.retrieve_discover.specs.Descendants.{reached_forest};
 
 use crate::look::{Viewer, may_retrieve, object_members};
+use known_rights::Known;
 use m2m_names::Ty;
 use m2m_value::{Items, Members, Node, Text, Val};
 use std::alloc::{AllocError as OutOfMemory, Global};
@@ -25,26 +27,31 @@ pub(crate) fn add_descendants<T: Tree>(
     parent: u64,
     left: &mut usize,
     members: &mut Members,
+    known: &mut Known,
 ) -> Result<(), OutOfMemory>
     requires tree { IsTrue (is_tree (T.nodes look.now.tree.now)) }
-    requires originator { IsTrue (is_originator look.now.originator.now) }
+    requires originator { IsTrue (is_originator look.now.asker.now.originator) }
+    requires known { IsKnown look.now.asker.now.home (T.nodes look.now.tree.now)
+        look.now.asker.now.originator known.old }
     ensures members { OnOk result (members.new
-        ≡ spec.with_forest (spec.members look.now.home.now (T.nodes look.now.tree.now))
+        ≡ spec.with_forest (spec.members look.now.asker.now.home (T.nodes look.now.tree.now))
         (cut_forest (forest_of
-        (spec.may_retrieve look.now.home.now (T.nodes look.now.tree.now) look.now.originator.now)
+        (spec.may_retrieve look.now.asker.now.home (T.nodes look.now.tree.now) look.now.asker.now.originator)
         parent (T.nodes look.now.tree.now)) left.old) members.old) }
     ensures left { OnOk result (left.new ≡ left.old - forest_size
         (forest_of
-        (spec.may_retrieve look.now.home.now (T.nodes look.now.tree.now) look.now.originator.now)
+        (spec.may_retrieve look.now.asker.now.home (T.nodes look.now.tree.now) look.now.asker.now.originator)
         parent (T.nodes look.now.tree.now))) }
     ensures keys { OnOk result (HaveTextKeys members.old → HaveTextKeys members.new) }
+    ensures known { OnOk result (IsKnown look.now.asker.now.home (T.nodes look.now.tree.now)
+        look.now.asker.now.originator known.new) }
 {
     for k in 0..look.tree.len() {
         if *left == 0 {
             return Ok(());
         }
         match child_at(look.tree, parent, k) {
-            Some(child) => add_child(alloc, look, child, left, members)?,
+            Some(child) => add_child(alloc, look, child, left, members, known)?,
             None => return Ok(()),
         }
     }
@@ -59,27 +66,32 @@ fn add_child<T: Tree>(
     child: &Resource,
     left: &mut usize,
     members: &mut Members,
+    known: &mut Known,
 ) -> Result<(), OutOfMemory>
     requires tree { IsTrue (is_tree (T.nodes look.now.tree.now)) }
-    requires originator { IsTrue (is_originator look.now.originator.now) }
+    requires originator { IsTrue (is_originator look.now.asker.now.originator) }
     requires child { at child.now.number (T.nodes look.now.tree.now) ≡ Some child.now }
     requires left { 0 < left.old }
+    requires known { IsKnown look.now.asker.now.home (T.nodes look.now.tree.now)
+        look.now.asker.now.originator known.old }
     ensures members { OnOk result (members.new
-        ≡ spec.with_forest (spec.members look.now.home.now (T.nodes look.now.tree.now))
+        ≡ spec.with_forest (spec.members look.now.asker.now.home (T.nodes look.now.tree.now))
         (cut_forest (reached_forest
-        (spec.may_retrieve look.now.home.now (T.nodes look.now.tree.now) look.now.originator.now)
+        (spec.may_retrieve look.now.asker.now.home (T.nodes look.now.tree.now) look.now.asker.now.originator)
         (T.nodes look.now.tree.now) child.now) left.old) members.old) }
     ensures left { OnOk result (left.new ≡ left.old - forest_size (reached_forest
-        (spec.may_retrieve look.now.home.now (T.nodes look.now.tree.now) look.now.originator.now)
+        (spec.may_retrieve look.now.asker.now.home (T.nodes look.now.tree.now) look.now.asker.now.originator)
         (T.nodes look.now.tree.now) child.now)) }
     ensures keys { OnOk result (HaveTextKeys members.old → HaveTextKeys members.new) }
+    ensures known { OnOk result (IsKnown look.now.asker.now.home (T.nodes look.now.tree.now)
+        look.now.asker.now.originator known.new) }
 {
-    if !may_retrieve(look, child) {
+    if !may_retrieve(look, child, known) {
         return Ok(());
     }
     *left -= 1;
     let mut inner = object_members(alloc, look, child)?;
-    add_descendants(alloc, look, child.number(), left, &mut inner)?;
+    add_descendants(alloc, look, child.number(), left, &mut inner, known)?;
     add_last(alloc, members, child.ty(), Val::of_obj(inner))
 }
 

@@ -6,11 +6,13 @@ ghost use Rattle.tree_model.specs.Tree.{at, has, is_tree};
 ghost use Rattle.retrieve_discover.specs.Findings as spec;
 ghost use Rattle.retrieve_discover.specs.Replies.{discovered};
 
+use crate::asked::Asked;
 use crate::finding::{Wanted, find_below};
 use crate::paths::path_to;
 use crate::references::MOST_LISTED;
 use crate::replies::{is_by_id, succeed};
 use entity_model::refuse;
+use known_rights::{Asker, Known};
 use m2m_names::{DISCOVERY_BIT, Rsc};
 use m2m_value::{Items, Members, Text, Val};
 use policy_eval::granted;
@@ -88,13 +90,30 @@ fn addresses<T: Tree>(
     ensures { IfOk result (λ v. v.items ≡ map (spec.address by_id (T.nodes tree.now))
         (spec.found home.now (T.nodes tree.now) originator.now filter.now target)) }
 {
+    let asker = Asker::of(alloc, home, originator)?;
+    let asked = Asked::of(alloc, filter)?;
+    addresses_for(alloc, tree, &asker, &asked, by_id, target)
+}
+
+fn addresses_for<T: Tree>(
+    alloc: Global,
+    tree: &T,
+    asker: &Asker,
+    asked: &Asked,
+    by_id: bool,
+    target: u64,
+) -> Result<Vec<Val>, OutOfMemory>
+    requires originator { IsTrue (is_originator asker.now.originator) }
+    requires resource { IsTrue (has target (T.nodes tree.now)) }
+    ensures { IfOk result (λ v. v.items ≡ map (spec.address by_id (T.nodes tree.now))
+        (spec.found asker.now.home (T.nodes tree.now) asker.now.originator asked.now target)) }
+{
     let wanted = Wanted {
         tree,
-        home,
-        originator,
-        filter,
+        asker,
+        filter: asked,
         by_id,
-        limit: limit(filter),
+        limit: limit(asked.filter()),
     };
     from_target(alloc, &wanted, target)
 }
@@ -111,15 +130,13 @@ fn from_target<T: Tree>(
     wanted: &Wanted<T>,
     target: u64,
 ) -> Result<Vec<Val>, OutOfMemory>
-    requires originator { IsTrue (is_originator wanted.now.originator.now) }
+    requires originator { IsTrue (is_originator wanted.now.asker.now.originator) }
     requires resource { IsTrue (has target (T.nodes wanted.now.tree.now)) }
     ensures { IfOk result (λ v. v.items ≡ take wanted.now.limit
         (map (spec.address wanted.now.by_id (T.nodes wanted.now.tree.now))
-        (spec.all_found wanted.now.home.now (T.nodes wanted.now.tree.now) wanted.now.originator.now
+        (spec.all_found wanted.now.asker.now.home (T.nodes wanted.now.tree.now) wanted.now.asker.now.originator
         wanted.now.filter.now target))) }
 {
-    // That it is a tree is told by its length.
-    let _count = wanted.tree.len();
     match wanted.tree.get(target) {
         Some(resource) => from_resource(alloc, wanted, resource),
         None => Ok(Vec::new(alloc)),
@@ -132,16 +149,24 @@ fn from_resource<T: Tree>(
     target: &Resource,
 ) -> Result<Vec<Val>, OutOfMemory>
     requires tree { IsTrue (is_tree (T.nodes wanted.now.tree.now)) }
-    requires originator { IsTrue (is_originator wanted.now.originator.now) }
+    requires originator { IsTrue (is_originator wanted.now.asker.now.originator) }
     requires target { at target.now.number (T.nodes wanted.now.tree.now) ≡ Some target.now }
     ensures { IfOk result (λ v. v.items ≡ take wanted.now.limit
         (map (spec.address wanted.now.by_id (T.nodes wanted.now.tree.now))
-        (spec.all_found wanted.now.home.now (T.nodes wanted.now.tree.now) wanted.now.originator.now
+        (spec.all_found wanted.now.asker.now.home (T.nodes wanted.now.tree.now) wanted.now.asker.now.originator
         wanted.now.filter.now target.now.number))) }
 {
     let mut path = path_to(alloc, wanted.tree, target)?;
     let mut found = Vec::new(alloc);
-    find_below(alloc, wanted, target.number(), &mut path, &mut found)?;
+    let mut known = Known::nothing(alloc);
+    find_below(
+        alloc,
+        wanted,
+        target.number(),
+        &mut path,
+        &mut found,
+        &mut known,
+    )?;
     Ok(found)
 }
 

@@ -4,25 +4,26 @@ ghost use Rattle.std.specs.Prelude.{length, map, filter, take};
 ghost use Rattle.m2m_names.specs.Name.{is_originator};
 ghost use Rattle.tree_model.specs.Tree.{at, has, is_tree};
 ghost use Rattle.addressing.specs.Names.{structured_of};
+ghost use Rattle.known_rights.specs.Known.{IsKnown};
+ghost use Rattle.policy_eval.specs.Rights.{grants, discovery_bit};
 ghost use Rattle.retrieve_discover.specs.Descendants.{below};
 ghost use Rattle.retrieve_discover.specs.Findings as spec;
 
+use crate::asked::Asked;
 use crate::conditions::meets;
 use crate::paths::{address, go_down};
+use known_rights::{Asker, Known, granted_besides};
 use m2m_names::DISCOVERY_BIT;
 use m2m_value::Val;
-use policy_eval::granted_on;
-use primitive_json::FilterParts;
 use std::alloc::{AllocError as OutOfMemory, Global};
-use tree_model::{Home, Resource, Tree, child_at};
+use tree_model::{Resource, Tree, child_at};
 
 /// What a discovery looks for, by whom, in which form, and how many at most.
 #[derive(Drop)]
 pub(crate) struct Wanted<'a, T: Tree> {
     pub tree: &'a T,
-    pub home: &'a Home,
-    pub originator: &'a [u8],
-    pub filter: &'a FilterParts,
+    pub asker: &'a Asker<'a>,
+    pub filter: &'a Asked<'a>,
     pub by_id: bool,
     pub limit: usize,
 }
@@ -35,25 +36,30 @@ pub(crate) fn find_below<T: Tree>(
     parent: u64,
     path: &mut Vec<u8>,
     found: &mut Vec<Val>,
+    known: &mut Known,
 ) -> Result<(), OutOfMemory>
     requires tree { IsTrue (is_tree (T.nodes wanted.now.tree.now)) }
-    requires originator { IsTrue (is_originator wanted.now.originator.now) }
+    requires originator { IsTrue (is_originator wanted.now.asker.now.originator) }
     requires parent { IsTrue (has parent (T.nodes wanted.now.tree.now)) }
     requires path { path.old.items ≡ structured_of parent (T.nodes wanted.now.tree.now) }
     requires utf8 { IsUtf8 path.old.items }
     requires room { length found.old.items ≤ wanted.now.limit }
+    requires known { IsKnown wanted.now.asker.now.home (T.nodes wanted.now.tree.now)
+        wanted.now.asker.now.originator known.old }
     ensures found { OnOk result (found.new.items ≡ take wanted.now.limit
         (found.old.items ++ map (spec.address wanted.now.by_id (T.nodes wanted.now.tree.now))
-        (spec.all_found wanted.now.home.now (T.nodes wanted.now.tree.now) wanted.now.originator.now
+        (spec.all_found wanted.now.asker.now.home (T.nodes wanted.now.tree.now) wanted.now.asker.now.originator
         wanted.now.filter.now parent))) }
     ensures path { OnOk result (path.new.items ≡ path.old.items) }
+    ensures known { OnOk result (IsKnown wanted.now.asker.now.home (T.nodes wanted.now.tree.now)
+        wanted.now.asker.now.originator known.new) }
 {
     for k in 0..wanted.tree.len() {
         if found.len() >= wanted.limit {
             return Ok(());
         }
         match child_at(wanted.tree, parent, k) {
-            Some(child) => visit(alloc, wanted, child, path, found)?,
+            Some(child) => visit(alloc, wanted, child, path, found, known)?,
             None => return Ok(()),
         }
     }
@@ -68,29 +74,34 @@ fn visit<T: Tree>(
     child: &Resource,
     path: &mut Vec<u8>,
     found: &mut Vec<Val>,
+    known: &mut Known,
 ) -> Result<(), OutOfMemory>
     requires tree { IsTrue (is_tree (T.nodes wanted.now.tree.now)) }
-    requires originator { IsTrue (is_originator wanted.now.originator.now) }
+    requires originator { IsTrue (is_originator wanted.now.asker.now.originator) }
     requires child { at child.now.number (T.nodes wanted.now.tree.now) ≡ Some child.now }
     requires parent { IsTrue (has child.now.parent (T.nodes wanted.now.tree.now)) }
     requires path { path.old.items
         ≡ structured_of child.now.parent (T.nodes wanted.now.tree.now) }
     requires utf8 { IsUtf8 path.old.items }
     requires room { length found.old.items < wanted.now.limit }
+    requires known { IsKnown wanted.now.asker.now.home (T.nodes wanted.now.tree.now)
+        wanted.now.asker.now.originator known.old }
     ensures found { OnOk result (found.new.items ≡ take wanted.now.limit
         (found.old.items ++ map (spec.address wanted.now.by_id (T.nodes wanted.now.tree.now))
-        (filter (spec.is_found wanted.now.home.now (T.nodes wanted.now.tree.now)
-        wanted.now.originator.now wanted.now.filter.now)
+        (filter (spec.is_found wanted.now.asker.now.home (T.nodes wanted.now.tree.now)
+        wanted.now.asker.now.originator wanted.now.filter.now)
         (child.now ∷ below child.now.number (T.nodes wanted.now.tree.now))))) }
     ensures path { OnOk result (path.new.items ≡ path.old.items) }
+    ensures known { OnOk result (IsKnown wanted.now.asker.now.home (T.nodes wanted.now.tree.now)
+        wanted.now.asker.now.originator known.new) }
 {
-    add_found(alloc, wanted, child, path, found)?;
+    add_found(alloc, wanted, child, path, found, known)?;
     let Some(_) = wanted.tree.kid(child.number(), 0) else {
         return Ok(());
     };
     let above = path.len();
     go_down(path, child)?;
-    find_below(alloc, wanted, child.number(), path, found)?;
+    find_below(alloc, wanted, child.number(), path, found, known)?;
     path.truncate(above);
     Ok(())
 }
@@ -102,21 +113,26 @@ fn add_found<T: Tree>(
     child: &Resource,
     path: &mut Vec<u8>,
     found: &mut Vec<Val>,
+    known: &mut Known,
 ) -> Result<(), OutOfMemory>
     requires tree { IsTrue (is_tree (T.nodes wanted.now.tree.now)) }
-    requires originator { IsTrue (is_originator wanted.now.originator.now) }
+    requires originator { IsTrue (is_originator wanted.now.asker.now.originator) }
     requires child { at child.now.number (T.nodes wanted.now.tree.now) ≡ Some child.now }
     requires parent { IsTrue (has child.now.parent (T.nodes wanted.now.tree.now)) }
     requires path { path.old.items
         ≡ structured_of child.now.parent (T.nodes wanted.now.tree.now) }
     requires utf8 { IsUtf8 path.old.items }
+    requires known { IsKnown wanted.now.asker.now.home (T.nodes wanted.now.tree.now)
+        wanted.now.asker.now.originator known.old }
     ensures found { OnOk result (found.new.items ≡ found.old.items
         ++ map (spec.address wanted.now.by_id (T.nodes wanted.now.tree.now))
-        (filter (spec.is_found wanted.now.home.now (T.nodes wanted.now.tree.now)
-        wanted.now.originator.now wanted.now.filter.now) (child.now ∷ []))) }
+        (filter (spec.is_found wanted.now.asker.now.home (T.nodes wanted.now.tree.now)
+        wanted.now.asker.now.originator wanted.now.filter.now) (child.now ∷ []))) }
     ensures path { OnOk result (path.new.items ≡ path.old.items) }
+    ensures known { OnOk result (IsKnown wanted.now.asker.now.home (T.nodes wanted.now.tree.now)
+        wanted.now.asker.now.originator known.new) }
 {
-    if !is_found(wanted, child) {
+    if !is_found(wanted, child, known) {
         return Ok(());
     }
     let above = path.len();
@@ -127,13 +143,28 @@ fn add_found<T: Tree>(
 }
 
 // Its filter is tried before the right, which costs more.
-fn is_found<T: Tree>(wanted: &Wanted<T>, resource: &Resource) -> bool
-    requires originator { IsTrue (is_originator wanted.now.originator.now) }
+fn is_found<T: Tree>(wanted: &Wanted<T>, resource: &Resource, known: &mut Known) -> bool
+    requires originator { IsTrue (is_originator wanted.now.asker.now.originator) }
     requires resource { at resource.now.number (T.nodes wanted.now.tree.now) ≡ Some resource.now }
-    ensures { result ≡ spec.is_found wanted.now.home.now (T.nodes wanted.now.tree.now)
-        wanted.now.originator.now wanted.now.filter.now resource.now }
+    requires known { IsKnown wanted.now.asker.now.home (T.nodes wanted.now.tree.now)
+        wanted.now.asker.now.originator known.old }
+    ensures value { result ≡ spec.is_found wanted.now.asker.now.home (T.nodes wanted.now.tree.now)
+        wanted.now.asker.now.originator wanted.now.filter.now resource.now }
+    ensures known { IsKnown wanted.now.asker.now.home (T.nodes wanted.now.tree.now)
+        wanted.now.asker.now.originator known.new }
 {
-    let bit = DISCOVERY_BIT;
-    meets(wanted.tree, wanted.filter, resource)
-        && granted_on(wanted.tree, wanted.home, wanted.originator, bit, resource)
+    meets(wanted.tree, wanted.filter, resource) && may_discover(wanted, resource, known)
+}
+
+fn may_discover<T: Tree>(wanted: &Wanted<T>, resource: &Resource, known: &mut Known) -> bool
+    requires originator { IsTrue (is_originator wanted.now.asker.now.originator) }
+    requires resource { at resource.now.number (T.nodes wanted.now.tree.now) ≡ Some resource.now }
+    requires known { IsKnown wanted.now.asker.now.home (T.nodes wanted.now.tree.now)
+        wanted.now.asker.now.originator known.old }
+    ensures value { result ≡ grants wanted.now.asker.now.home (T.nodes wanted.now.tree.now)
+        wanted.now.asker.now.originator discovery_bit resource.now.number }
+    ensures known { IsKnown wanted.now.asker.now.home (T.nodes wanted.now.tree.now)
+        wanted.now.asker.now.originator known.new }
+{
+    granted_besides(wanted.tree, wanted.asker, DISCOVERY_BIT, resource, known)
 }

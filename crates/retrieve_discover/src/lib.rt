@@ -5,7 +5,11 @@
 //! the conditions of the filter. Each reply is exactly its definition, over the home and the plain
 //! list of resources: what is shown is what the originator may retrieve, with all between it and
 //! the target, and what is found is what it may discover. The code walks down by the children of
-//! one resource after another, and stops at the limits.
+//! one resource after another, and stops at the limits. For one request, the labels and types of a
+//! filter stand in sets (`Asked`), and what policies give the originator is kept (known_rights).
+//!
+//! `poll` answers a Retrieve of the poll point of a polling channel (TS-0001, 9.6.22): it gives the
+//! first item of the outbox that waits for the channel, and removes it.
 //!
 //! Callers owe that the originator is one and that the tree has the target. The laws on what is
 //! shown and found stand in retrieve_laws.
@@ -17,6 +21,7 @@
 //! ```
 #![tactic(auto)]
 
+mod asked;
 mod conditions;
 mod contents;
 mod descendants;
@@ -24,11 +29,14 @@ mod discovering;
 mod finding;
 mod look;
 mod paths;
+mod polling;
 mod references;
 mod replies;
 mod retrieving;
 
+pub use asked::Asked;
 pub use conditions::{holds, meets};
 pub use discovering::discover;
+pub use polling::poll;
 pub use retrieving::retrieve;
 pub use std::alloc::AllocError as OutOfMemory;

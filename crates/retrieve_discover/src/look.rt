@@ -3,32 +3,40 @@ ghost use Rattle.std.specs.Prelude.{◌≡◌, IfOk, IsTrue, Some};
 ghost use Rattle.m2m_names.specs.Name.{is_originator};
 ghost use Rattle.m2m_value.specs.Node.{HaveTextKeys};
 ghost use Rattle.tree_model.specs.Tree.{at};
+ghost use Rattle.known_rights.specs.Known.{IsKnown};
 ghost use Rattle.retrieve_discover.specs.Contents as spec;
 
+use known_rights::{Asker, Known, granted_besides};
 use m2m_names::Op;
 use m2m_value::Members;
-use policy_eval::granted_on;
 use std::alloc::{AllocError as OutOfMemory, Global};
-use tree_model::{Home, Resource, Tree, shown};
+use tree_model::{Resource, Tree, shown};
 
 /// By whom resources are looked at, where, and in which form they are addressed.
 #[derive(Drop)]
 pub(crate) struct Viewer<'a, T: Tree> {
     pub tree: &'a T,
-    pub home: &'a Home,
-    pub originator: &'a [u8],
+    pub asker: &'a Asker<'a>,
     pub by_id: bool,
 }
 
 /// Whether the originator may retrieve the resource.
-pub(crate) fn may_retrieve<T: Tree>(look: &Viewer<T>, resource: &Resource) -> bool
-    requires originator { IsTrue (is_originator look.now.originator.now) }
+pub(crate) fn may_retrieve<T: Tree>(
+    look: &Viewer<T>,
+    resource: &Resource,
+    known: &mut Known,
+) -> bool
+    requires originator { IsTrue (is_originator look.now.asker.now.originator) }
     requires resource { at resource.now.number (T.nodes look.now.tree.now) ≡ Some resource.now }
-    ensures { result ≡ spec.may_retrieve look.now.home.now (T.nodes look.now.tree.now)
-        look.now.originator.now resource.now }
+    requires known { IsKnown look.now.asker.now.home (T.nodes look.now.tree.now)
+        look.now.asker.now.originator known.old }
+    ensures value { result ≡ spec.may_retrieve look.now.asker.now.home (T.nodes look.now.tree.now)
+        look.now.asker.now.originator resource.now }
+    ensures known { IsKnown look.now.asker.now.home (T.nodes look.now.tree.now)
+        look.now.asker.now.originator known.new }
 {
     let bit = Op::Retrieve.bit();
-    granted_on(look.tree, look.home, look.originator, bit, resource)
+    granted_besides(look.tree, look.asker, bit, resource, known)
 }
 
 /// The members of a resource's object: its attributes.
@@ -38,9 +46,9 @@ pub(crate) fn object_members<T: Tree>(
     resource: &Resource,
 ) -> Result<Members, OutOfMemory>
     ensures value { IfOk result (λ m. m
-        ≡ spec.members look.now.home.now (T.nodes look.now.tree.now) resource.now) }
+        ≡ spec.members look.now.asker.now.home (T.nodes look.now.tree.now) resource.now) }
     ensures keys { IfOk result (λ m. HaveTextKeys m) }
 {
-    let attrs = shown(alloc, look.tree, look.home, resource)?;
+    let attrs = shown(alloc, look.tree, look.asker.home(), resource)?;
     tree_model::members_of(alloc, attrs)
 }

@@ -33,8 +33,6 @@ pub fn retrieve<T: Tree>(
     ensures { IfOk result (λ r. r
         ≡ retrieved home.now (T.nodes tree.now) originator.now request.now target) }
 {
-    // That it is a tree is told by its length.
-    let _count = tree.len();
     match tree.get(target) {
         Some(resource) => retrieve_of(alloc, tree, home, originator, request, resource),
         None => refuse(alloc, request, Rsc::NotFound),
@@ -58,7 +56,7 @@ fn retrieve_of<T: Tree>(
     if !granted_on(tree, home, originator, Op::Retrieve.bit(), target) {
         return refuse(alloc, request, Rsc::NoPrivilege);
     }
-    if !meets_any(tree, request.parts().fc.as_ref(), target) {
+    if !meets_any(alloc, tree, request.parts().fc.as_ref(), target)? {
         return refuse(alloc, request, Rsc::NotFound);
     }
     let shown = content_of_reply(alloc, tree, home, originator, request, target)?;

@@ -1,6 +1,5 @@
 pub mod DestinationLemmas
 pub mod KeptLemmas
-pub mod NumberLemmas
 pub mod SpendingLemmas
 pub mod TellingLemmas
 pub mod WatchingLemmas

@@ -30,7 +30,7 @@ count_own n earlier draft own =
 
 -- ---- one taken
 
-same_number : (m n : ℕ) → is_eq (nat_cmp m n) ≡ nat_eq m n
+pub same_number : (m n : ℕ) → is_eq (nat_cmp m n) ≡ nat_eq m n
 same_number m n = elim (cases_Bool (nat_eq m n)) [
   | inl t ↦ ap is_eq (sym (nat_cmp_is m n Equal (eqb-true m n t))) ∙ sym t
   | inr f ↦ elim (cases_Bool (nat_lt m n)) [

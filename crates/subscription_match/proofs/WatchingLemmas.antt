@@ -1,9 +1,9 @@
 -- Two lists of subscriptions as one, in order of creation.
-use Rattle.std.specs.Prelude.{nat_lt, slice_get, filter, drop, option_map, IfSome}
-use Rattle.std.proofs.Common.{◌≡◌, ℕ, zero, suc, ◌+◌, ◌<◌, ◌≤◌, ◌==◌, length, Bor, List, [], ◌∷◌, ◌++◌, Bool, true, false, not, ◌||◌, Option, Some, None, refl, sym, ap, ◌∙◌, subst, inl, inr, arith}
+use Rattle.std.specs.Prelude.{nat_lt, slice_get, filter, drop, option_map, IfSome, MatchOption}
+use Rattle.std.specs.Iterator.{YieldsFirstRef}
+use Rattle.std.proofs.Common.{◌≡◌, ℕ, zero, suc, ◌+◌, ◌<◌, ◌==◌, Bor, List, [], ◌∷◌, ◌++◌, Bool, true, false, not, ◌||◌, Option, Some, None, refl, sym, ap, ◌∙◌, subst, inl, inr, arith}
 use Rattle.std.proofs.lemmas.Bool.{cases_Bool, and_parts, eqb-true, ltb-true, le-ltb, both_ways}
 use Rattle.std.proofs.lemmas.List.Elements.{filter_map-append}
-use Rattle.std.proofs.lemmas.Option.{slice_get_within}
 use Rattle.std.specs.List.{filter_map}
 use Rattle.std.specs.Option.{option_to_list}
 use Rattle.m2m_names.specs.declared.types.Ty.TheVariants.{Subscription}
@@ -57,56 +57,46 @@ front_other s (r ∷ rs) ss o is later =
     let here : comes_next (Some r) (Some s) ≡ false = ap (λ (x : Option ResourceData). comes_next x (Some s)) is ∙ later in
     other_goes_on r s rs ss (not_false (nat_lt s.number r.number) here)
 
-head_dropped : (rs : List ResourceData) (k : ℕ) → slice_get (drop k rs) 0 ≡ slice_get rs k
+-- where nothing is in front, the other list is empty
+no_front : (ss : List ResourceData) → comes_next None (slice_get ss 0) ≡ true → ss ≡ []
+no_front [] first = refl
+no_front (s ∷ ss) first = absurd (both_ways _ refl first)
+
+pub none_left : (rs : List ResourceData) (k : ℕ) (o : Option (Bor ResourceData)) → option_map (λ r. r.now) o ≡ slice_get rs k → o ≡ None → drop k rs ≡ []
+none_left rs k o found none = dropped_none rs k (sym found ∙ ap (option_map (λ r. r.now)) none)
+
+pub some_left : (rs : List ResourceData) (k : ℕ) (o : Option (Bor ResourceData)) (r : Bor ResourceData) → option_map (λ r. r.now) o ≡ slice_get rs k → o ≡ Some r → drop k rs ≡ r.now ∷ drop (k + 1) rs
+some_left rs k o r found some = dropped_some rs k r.now (sym found ∙ ap (option_map (λ r. r.now)) some)
+
+pub head_dropped : (rs : List ResourceData) (k : ℕ) → slice_get (drop k rs) 0 ≡ slice_get rs k
 head_dropped [] zero = refl
 head_dropped [] (suc k) = refl
 head_dropped (r ∷ rs) zero = refl
 head_dropped (r ∷ rs) (suc k) = head_dropped rs k
 
--- the next one is of the one list
-pub next_of_one : (rs ss : List ResourceData) (k j : ℕ) (r : ResourceData) (o : Option ResourceData) → slice_get rs k ≡ Some r → slice_get ss j ≡ o → comes_next (Some r) o ≡ true → by_number (drop k rs) (drop j ss) ≡ r ∷ by_number (drop (k + 1) rs) (drop j ss)
-next_of_one rs ss k j r o found other first =
-    ap (λ (xs : List ResourceData). by_number xs (drop j ss)) (dropped_some rs k r found)
-    ∙ front_one r (drop (k + 1) rs) (drop j ss) o (head_dropped ss j ∙ other) first
+-- what was asked of the first of each
+pub firsts : (rs ss : List ResourceData) (one other : Option ResourceData) (b want : Bool) → one ≡ slice_get rs 0 → other ≡ slice_get ss 0 → b ≡ comes_next one other → b ≡ want → comes_next (slice_get rs 0) (slice_get ss 0) ≡ want
+firsts rs ss one other b want own above asked is =
+    ap (λ (o : Option ResourceData). comes_next o (slice_get ss 0)) (sym own)
+    ∙ ap (comes_next one) (sym above) ∙ sym asked ∙ is
 
--- it is of the other
-pub next_of_other : (rs ss : List ResourceData) (k j : ℕ) (s : ResourceData) (o : Option ResourceData) → slice_get ss j ≡ Some s → slice_get rs k ≡ o → comes_next o (Some s) ≡ false → by_number (drop k rs) (drop j ss) ≡ s ∷ by_number (drop k rs) (drop (j + 1) ss)
-next_of_other rs ss k j s o found one later =
-    ap (λ (xs : List ResourceData). by_number (drop k rs) xs) (dropped_some ss j s found)
-    ∙ front_other s (drop k rs) (drop (j + 1) ss) o (head_dropped rs k ∙ one) later
+-- what the one list gives is the next, where its first comes next
+pub one_gives : (rs ss rest left : List ResourceData) (o : Option (Bor ResourceData)) → by_number rs ss ≡ left → comes_next (slice_get rs 0) (slice_get ss 0) ≡ true → MatchOption o ((rs ≡ []) × (rest ≡ [])) (λ r. rs ≡ r.now ∷ rest) → YieldsFirstRef (λ xs. xs) left o (by_number rest ss)
+one_gives rs ss rest left None view first ends =
+    let empty : ss ≡ [] = no_front ss (subst (λ (xs : List ResourceData). comes_next (slice_get xs 0) (slice_get ss 0) ≡ true) ends.0 first) in
+    (sym view ∙ ap (λ (xs : List ResourceData). by_number xs ss) ends.0 ∙ empty, ap (λ (xs : List ResourceData). by_number xs ss) ends.1 ∙ empty)
+one_gives rs ss rest left (Some r) view first is =
+    let here : comes_next (Some r.now) (slice_get ss 0) ≡ true = subst (λ (xs : List ResourceData). comes_next (slice_get xs 0) (slice_get ss 0) ≡ true) is first in
+    sym view ∙ ap (λ (xs : List ResourceData). by_number xs ss) is ∙ front_one r.now rest ss (slice_get ss 0) refl here
 
--- where the one list has none, and it would come next, nothing is left
-pub none_next : (rs ss : List ResourceData) (k j : ℕ) (o : Option ResourceData) → slice_get rs k ≡ None → slice_get ss j ≡ o → comes_next None o ≡ true → by_number (drop k rs) (drop j ss) ≡ []
-none_next rs ss k j None found other first =
-    ap (λ (xs : List ResourceData). by_number xs (drop j ss)) (dropped_none rs k found) ∙ dropped_none ss j other
-none_next rs ss k j (Some s) found other first = absurd (both_ways _ refl first)
-
--- a step, by what was asked for: the one list has no more
-pub step_none : (rs ss left : List ResourceData) (k j : ℕ) (one other : Option (Bor ResourceData)) → by_number (drop k rs) (drop j ss) ≡ left → option_map (λ r. r.now) one ≡ slice_get rs k → option_map (λ r. r.now) other ≡ slice_get ss j → comes_next (option_map (λ r. r.now) one) (option_map (λ r. r.now) other) ≡ true → one ≡ None → left ≡ []
-step_none rs ss left k j one other view own above first is =
-    sym view
-    ∙ none_next rs ss k j (option_map (λ r. r.now) other)
-    (sym own ∙ ap (option_map (λ r. r.now)) is)
-    (sym above)
-    (ap (λ (o : Option (Bor ResourceData)). comes_next (option_map (λ r. r.now) o) (option_map (λ r. r.now) other)) (sym is) ∙ first)
-
--- it has one
-pub step_one : (rs ss left : List ResourceData) (k j : ℕ) (one other : Option (Bor ResourceData)) (r : Bor ResourceData) → by_number (drop k rs) (drop j ss) ≡ left → option_map (λ r. r.now) one ≡ slice_get rs k → option_map (λ r. r.now) other ≡ slice_get ss j → comes_next (option_map (λ r. r.now) one) (option_map (λ r. r.now) other) ≡ true → one ≡ Some r → left ≡ r.now ∷ by_number (drop (k + 1) rs) (drop j ss)
-step_one rs ss left k j one other r view own above first is =
-    sym view
-    ∙ next_of_one rs ss k j r.now (option_map (λ r. r.now) other)
-    (sym own ∙ ap (option_map (λ r. r.now)) is)
-    (sym above)
-    (ap (λ (o : Option (Bor ResourceData)). comes_next (option_map (λ r. r.now) o) (option_map (λ r. r.now) other)) (sym is) ∙ first)
-
--- the other has one
-pub step_other : (rs ss left : List ResourceData) (k j : ℕ) (one other : Option (Bor ResourceData)) (s : Bor ResourceData) → by_number (drop k rs) (drop j ss) ≡ left → option_map (λ r. r.now) one ≡ slice_get rs k → option_map (λ r. r.now) other ≡ slice_get ss j → comes_next (option_map (λ r. r.now) one) (option_map (λ r. r.now) other) ≡ false → other ≡ Some s → left ≡ s.now ∷ by_number (drop k rs) (drop (j + 1) ss)
-step_other rs ss left k j one other s view own above later is =
-    sym view
-    ∙ next_of_other rs ss k j s.now (option_map (λ r. r.now) one)
-    (sym above ∙ ap (option_map (λ r. r.now)) is)
-    (sym own)
-    (ap (λ (o : Option (Bor ResourceData)). comes_next (option_map (λ r. r.now) one) (option_map (λ r. r.now) o)) (sym is) ∙ later)
+-- what the other gives is the next, where the first of the one doesn't come next
+pub other_gives : (rs ss rest left : List ResourceData) (o : Option (Bor ResourceData)) → by_number rs ss ≡ left → comes_next (slice_get rs 0) (slice_get ss 0) ≡ false → MatchOption o ((ss ≡ []) × (rest ≡ [])) (λ s. ss ≡ s.now ∷ rest) → YieldsFirstRef (λ xs. xs) left o (by_number rs rest)
+other_gives rs ss rest left None view later ends =
+    let here : comes_next (slice_get rs 0) None ≡ false = subst (λ (xs : List ResourceData). comes_next (slice_get rs 0) (slice_get xs 0) ≡ false) ends.0 later in
+    absurd (both_ways _ here refl)
+other_gives rs ss rest left (Some s) view later is =
+    let here : comes_next (slice_get rs 0) (Some s.now) ≡ false = subst (λ (xs : List ResourceData). comes_next (slice_get rs 0) (slice_get xs 0) ≡ false) is later in
+    sym view ∙ ap (by_number rs) is ∙ front_other s.now rs rest (slice_get rs 0) refl here
 
 -- ---- where a subscription stands
 
@@ -120,20 +110,6 @@ no_place o parent nodes k is none =
     ap (option_map (λ r. r.now)) none
     ∙ ap (λ (rs : List ResourceData). slice_get rs k) (sym (none_under nodes))
     ∙ ap (λ (p : Option ℕ). slice_get (subs_under p nodes) k) (sym is)
-
-filter_short : (p : ResourceData → Bool) (rs : List ResourceData) → length (filter p rs) ≤ length rs
-filter_short p [] = omega arith
-filter_short p (r ∷ rs) = elim (cases_Bool (p r)) [
-  | inl t ↦ rw t (omega (arith, filter_short p rs))
-  | inr f ↦ rw f (omega (arith, filter_short p rs))
-]
-
--- a place at which one stands is within the tree
-pub place_within : (o : Option (Bor ResourceData)) (p : ResourceData → Bool) (nodes : List ResourceData) (k : ℕ) → option_map (λ r. r.now) o ≡ slice_get (filter p nodes) k → IfSome o (λ r. k < length nodes)
-place_within None p nodes k is = tt
-place_within (Some r) p nodes k is =
-    let within : k < length (filter p nodes) = slice_get_within (filter p nodes) k r.now (sym is) in
-    omega (arith, within, filter_short p nodes)
 
 -- ---- both lists together
 
@@ -195,10 +171,21 @@ either_same (Some n) (Some m) r = elim (cases_Bool (n == m)) [
     twice false = refl
 
 -- the two lists together are the subscriptions under either resource
-pub watched : (own above : Option ℕ) (nodes : List ResourceData) → is_tree nodes ≡ true → filter (is_sub_of_either own above) nodes ≡ by_number (subs_under own nodes) (subs_under (unless_same own above) nodes)
+watched : (own above : Option ℕ) (nodes : List ResourceData) → is_tree nodes ≡ true → filter (is_sub_of_either own above) nodes ≡ by_number (subs_under own nodes) (subs_under (unless_same own above) nodes)
 watched own above nodes tree =
     sym (merged (is_sub_of own) (is_sub_of (unless_same own above)) (apart own above) nodes (tree_ascends nodes tree)
     ∙ same_filter _ _ (either_same own above) nodes)
+
+none_either : (nodes : List ResourceData) → filter (is_sub_of_either None None) nodes ≡ []
+none_either [] = refl
+none_either (r ∷ nodes) = none_either nodes
+
+-- the same, where a tree is known of only where a resource is given
+pub watched_by : (own above : Option ℕ) (nodes : List ResourceData) → IfSome own (λ _. is_tree nodes ≡ true) → IfSome (unless_same own above) (λ _. is_tree nodes ≡ true) → filter (is_sub_of_either own above) nodes ≡ by_number (subs_under own nodes) (subs_under (unless_same own above) nodes)
+watched_by (Some n) above nodes tree other = watched (Some n) above nodes tree
+watched_by None (Some m) nodes one tree = watched None (Some m) nodes tree
+watched_by None None nodes one other =
+    none_either nodes ∙ sym (ap (λ (rs : List ResourceData). by_number rs (subs_under None nodes)) (none_under nodes) ∙ none_under nodes)
 
 -- ---- what is under neither is told nothing
 

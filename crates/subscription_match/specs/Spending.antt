@@ -1,28 +1,22 @@
 -- Subscriptions that count what they are told, and go when all is spent (TS-0001, 9.6.8:
 -- expirationCounter).
-use Rattle.std.specs.Prelude.{ℕ, ◌-◌, ◌==◌, nat_eq, nat_lt, pos, Bool, true, false, List, [], ◌∷◌}
-use Rattle.std.specs.Prelude.{◌++◌, length, filter, codes, if◌then◌else◌, Option, None}
+use Rattle.std.specs.Prelude.{ℕ, ◌-◌, ◌==◌, nat_eq, nat_lt, Bool, true, false, List, [], ◌∷◌}
+use Rattle.std.specs.Prelude.{◌++◌, length, filter, if◌then◌else◌, Option, None}
 use Rattle.std.specs.Prelude.{option_and_then, option_map, is_some, map, ◌&&◌}
 use Rattle.std.specs.Map.{lookup}
 use Rattle.std.specs.Option.{option_map_or, option_or}
 use Rattle.std.specs.Ordering.{is_eq, nat_cmp}
-use Rattle.m2m_names.specs.Attributes.{attr_of_short}
-use Rattle.m2m_names.specs.declared.attributes.Attr.{Attr}
-use Rattle.m2m_value.specs.Data.{number}
-use Rattle.resource_model.specs.Attributes.{count_at, with_value}
+use Rattle.m2m_names.specs.declared.attributes.Attr.TheVariants.{Exc}
+use Rattle.resource_model.specs.Attributes.{count_at}
 use Rattle.resource_model.specs.Resource.{ResourceData}
 use Rattle.subscription_match.specs.declared.drafts.DraftParts.{DraftParts}
-use Rattle.tree_model.specs.Tree.{at, without}
+use Rattle.tree_model.specs.Tree.{at, recounted, without}
 
 -- ---- what is left to a subscription
 
--- the attribute that counts how many notifications are left
-unfoldable pub counter : Option Attr
-counter = attr_of_short (codes "exc")
-
--- how many are left, where the subscription counts
+-- how many notifications are left, where the subscription counts
 abbrev pub left_to : ResourceData → Option ℕ
-left_to sub = option_and_then (λ a. count_at a sub.attrs) counter
+left_to sub = count_at Exc sub.attrs
 
 -- to that of a number
 abbrev pub left_at : List ResourceData → ℕ → Option ℕ
@@ -87,12 +81,6 @@ left_taken nodes rows taken n =
 
 -- ---- the subscriptions after an operation
 
--- it has so many left
-abbrev pub with_left : ℕ → ResourceData → ResourceData
-with_left left sub =
-    option_map_or (λ a. record sub { attrs = with_value a (number (pos left)) sub.attrs })
-    counter sub
-
 -- what the drafts of an operation leave to a resource, where it counts and is told something
 abbrev pub left_of : List DraftParts → ResourceData → Option ℕ
 left_of drafts r =
@@ -105,7 +93,7 @@ is_spent drafts r = option_map_or (λ left. left == 0) (left_of drafts r) false
 
 -- lowered by as many as are for it; its moment of change and all else stay
 abbrev pub lowered : List DraftParts → ResourceData → ResourceData
-lowered drafts r = option_map_or (λ left. with_left left r) (left_of drafts r) r
+lowered drafts r = option_map_or (λ left. recounted left r) (left_of drafts r) r
 
 -- what the drafts of an operation leave of the resources as the operation has left these: those
 -- that are spent go, and the others that count are lowered

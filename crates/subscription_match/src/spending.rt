@@ -23,18 +23,10 @@ pub struct Spent {
     pub left: Vec<(u64, u64)>,
 }
 
-// The attribute that counts.
-#[tactic(auto, unfolding(crate::specs::Spending::counter))]
-fn counter() -> Option<Attr>
-    ensures { result ≡ spec.counter }
-{
-    Attr::from_short("exc")
-}
-
 fn left_to(sub: &Resource) -> Option<u64>
     ensures { result ≡ spec.left_to sub.now }
 {
-    sub.attrs().count(counter()?)
+    sub.attrs().count(Attr::Exc)
 }
 
 fn left_at<T: Tree>(tree: &T, number: u64) -> Option<u64>

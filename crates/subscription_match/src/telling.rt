@@ -123,28 +123,13 @@ fn is_modified(named: &AttrSet, attr: Attr) -> bool
     is_among(named.entries(), attr) || Attr::Lt.order(attr).is_eq()
 }
 
-fn modified_rows(
-    alloc: Global,
-    named: &AttrSet,
-    attrs: Attrs,
-) -> Result<Vec<(Attr, Val)>, OutOfMemory>
-    ensures { IfOk result (λ v. v.items ≡ filter (spec.is_modified named.now) attrs) }
-{
-    let mut rows = Vec::new(alloc);
-    for (attr, value) in attrs.into_vec() {
-        if is_modified(named, attr) {
-            rows.push((attr, value))?;
-        }
-    }
-    Ok(rows)
-}
-
 // The attributes that an update named, and `lt`.
-#[tactic(auto, using(crate::proofs::TellingLemmas::modified_in_order))]
-fn modified(alloc: Global, named: &AttrSet, attrs: Attrs) -> Result<Attrs, OutOfMemory>
-    ensures { IfOk result (λ a. a ≡ filter (spec.is_modified named.now) attrs) }
+fn modified(named: &AttrSet, attrs: Attrs) -> Attrs
+    ensures { result ≡ filter (spec.is_modified named.now) attrs }
 {
-    Ok(Attrs::of(modified_rows(alloc, named, attrs)?))
+    let mut rows = attrs.into_vec();
+    rows.retain(|row| is_modified(named, row.0));
+    Attrs::of(rows)
 }
 
 fn modified_attributes<T: Tree>(
@@ -158,7 +143,7 @@ fn modified_attributes<T: Tree>(
         named.now resource.now) }
 {
     let all = shown(alloc, tree, home, resource)?;
-    content(alloc, resource.ty(), modified(alloc, named, all)?)
+    content(alloc, resource.ty(), modified(named, all))
 }
 
 // The resource of a change, as it is after a creation or an update and was before a deletion.

@@ -1,50 +1,104 @@
 //! Going over the subscriptions of two resources.
-ghost use Rattle.std.specs.Prelude.{◌≡◌, filter, option_map, slice_get, IfSome, ◌<◌, length};
+ghost use Rattle.std.specs.Prelude.{◌≡◌, ◌∷◌, [], ◌+◌, ◌^◌, ◌<◌, filter, option_map, slice_get};
+ghost use Rattle.std.specs.Prelude.{IfSome, IsTrue, MatchOption};
 ghost use Rattle.std.specs.Iterator.{YieldsFirstRef, item_count};
 ghost use Rattle.subscription_match.specs.Matching.{is_sub_of_either};
 ghost use Rattle.subscription_match.specs.Watching as spec;
+ghost use Rattle.tree_model.specs.Tree.{is_tree};
 
 use std::marker::Model;
 use tree_model::{Resource, Tree, subscription_at};
 
-/// The subscriptions under one of two resources, as far as these are given, in order of creation,
-/// seen as the list of those that are left. The tree finds them, so that nothing else is visited.
+// The subscriptions under a resource, where one is given, seen as the list of those that are left.
 #[derive(Drop)]
-pub struct Watching<'a, T: Tree> {
+struct Under<'a, T: Tree> {
     tree: &'a T,
-    own: Option<u64>,
-    above: Option<u64>,
-    // How many under the one were given, and under the other.
-    own_given: u64,
-    above_given: u64,
+    parent: Option<u64>,
+    // The first of those that are left, and its place.
+    first: Option<&'a Resource>,
+    place: u64,
 }
 
-impl<'a, T: Tree> Model for Watching<'a, T> {
-    ghost use Rattle.std.specs.Prelude.{List, drop};
+impl<'a, T: Tree> Model for Under<'a, T> {
+    ghost use Rattle.std.specs.Prelude.{◌≡◌, ◌+◌, ◌^◌, ◌<◌, List, drop, option_map, slice_get};
+    ghost use Rattle.std.specs.Prelude.{IfSome};
     ghost use Rattle.std.specs.Coded.{coded_list};
     ghost use Rattle.resource_model.specs.Resource.{ResourceData};
     ghost use Rattle.resource_model.specs.Codes.{resource_code};
-    ghost use Rattle.subscription_match.specs.Watching.{by_number, subs_under};
+    ghost use Rattle.subscription_match.specs.Watching.{subs_under};
 
     ghost Value = { List ResourceData };
 
     ghost coded = { coded_list resource_code };
 
-    ghost view = { λ o. by_number (drop o.own_given (subs_under o.own (T.nodes o.tree.now)))
-        (drop o.above_given (subs_under o.above (T.nodes o.tree.now))) };
+    ghost view = { λ o. drop o.place (subs_under o.parent (T.nodes o.tree.now)) };
+
+    ghost invariant = { λ o. (option_map (λ r. r.now) o.first
+        ≡ slice_get (subs_under o.parent (T.nodes o.tree.now)) o.place)
+        × IfSome o.first (λ _. o.place + 1 < 2 ^ 64) };
+}
+
+impl<'a, T: Tree> Under<'a, T> {
+    // All of them.
+    fn of(tree: &'a T, parent: Option<u64>) -> Under<'a, T>
+        ensures all { result ≡ spec.subs_under parent (T.nodes tree.now) }
+        ensures tree { IfSome parent (λ _. IsTrue (is_tree (T.nodes tree.now))) }
+    {
+        Under {
+            tree,
+            parent,
+            first: sub_at(tree, parent, 0),
+            place: 0,
+        }
+    }
+
+    fn first(&self) -> Option<&'a Resource>
+        ensures { option_map (λ r. r.now) result ≡ slice_get self.now 0 }
+    {
+        self.first
+    }
+
+    // Takes the first.
+    fn take(&mut self) -> Option<&'a Resource>
+        ensures { MatchOption result ((self.old ≡ []) × (self.new ≡ []))
+            (λ r. self.old ≡ r.now ∷ self.new) }
+    {
+        let first = self.first?;
+        self.place += 1;
+        self.first = sub_at(self.tree, self.parent, self.place);
+        Some(first)
+    }
+}
+
+/// The subscriptions under one of two resources, as far as these are given, in order of creation,
+/// seen as the list of those that are left. The tree finds them, so that nothing else is visited.
+#[derive(Drop)]
+pub struct Watching<'a, T: Tree> {
+    own: Under<'a, T>,
+    above: Under<'a, T>,
+}
+
+impl<'a, T: Tree> Model for Watching<'a, T> {
+    ghost use Rattle.std.specs.Prelude.{List};
+    ghost use Rattle.std.specs.Coded.{coded_list};
+    ghost use Rattle.resource_model.specs.Resource.{ResourceData};
+    ghost use Rattle.resource_model.specs.Codes.{resource_code};
+    ghost use Rattle.subscription_match.specs.Watching.{by_number};
+
+    ghost Value = { List ResourceData };
+
+    ghost coded = { coded_list resource_code };
+
+    ghost view = { λ o. by_number o.own o.above };
 }
 
 /// Goes over the subscriptions under a resource and under another one, each where it is given.
 pub fn over_watching<T: Tree>(tree: &T, own: Option<u64>, above: Option<u64>) -> Watching<'_, T>
     ensures { result ≡ filter (is_sub_of_either own above) (T.nodes tree.now) }
 {
-    let _count = tree.len();
     Watching {
-        tree,
-        own,
-        above: unless_same(own, above),
-        own_given: 0,
-        above_given: 0,
+        own: Under::of(tree, own),
+        above: Under::of(tree, unless_same(own, above)),
     }
 }
 
@@ -62,7 +116,8 @@ fn unless_same(one: Option<u64>, other: Option<u64>) -> Option<u64>
 fn sub_at<T: Tree>(tree: &T, parent: Option<u64>, k: u64) -> Option<&Resource>
     ensures value { option_map (λ r. r.now) result
         ≡ slice_get (spec.subs_under parent (T.nodes tree.now)) k }
-    ensures within { IfSome result (λ r. k < length (T.nodes tree.now)) }
+    ensures few { IfSome result (λ _. k + 1 < 2 ^ 64) }
+    ensures tree { IfSome parent (λ _. IsTrue (is_tree (T.nodes tree.now))) }
 {
     subscription_at(tree, parent?, k)
 }
@@ -86,17 +141,12 @@ impl<'a, T: Tree> Iterator for Watching<'a, T> {
     ghost remaining = { item_count (λ rest. rest) };
 
     fn next(&mut self) -> Option<&'a Resource> {
-        // The length bounds the places.
-        let _count = self.tree.len();
-        let own = sub_at(self.tree, self.own, self.own_given);
-        let above = sub_at(self.tree, self.above, self.above_given);
+        let own = self.own.first();
+        let above = self.above.first();
         if comes_next(own, above) {
-            let next = own?;
-            self.own_given += 1;
-            return Some(next);
+            self.own.take()
+        } else {
+            self.above.take()
         }
-        let next = above?;
-        self.above_given += 1;
-        Some(next)
     }
 }

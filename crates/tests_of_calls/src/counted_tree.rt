@@ -128,6 +128,11 @@ impl<T: Tree> Tree for CountedTree<T> {
         self.tree.restamp(number, lt, st)
     }
 
+    fn recount(&mut self, number: u64, left: u64) {
+        self.count();
+        self.tree.recount(number, left)
+    }
+
     fn remove_subtree(&mut self, number: u64) {
         self.count();
         self.tree.remove_subtree(number)

@@ -11,7 +11,7 @@ use std::alloc::{AllocError, AllocGlobal, Global};
 use std::process::Abort;
 use std::test::Fail;
 use tree_model::{
-    Attrs, Moments, Resource, Tree, child_named, may_insert, over_instances, stands_in,
+    Attrs, Moments, Resource, Tree, child_named, may_insert, over, over_instances, stands_in,
 };
 
 // Number, type, name and parent, and when it expires.
@@ -106,6 +106,35 @@ const FOUND: &str = "\
 200 0 10 cin_11 => - - -
 200 0 1 dev => 2 2 -
 1000 0 0 base => 1 - -";
+
+// Some that are due alone, two of which one has a child, and more at once than go one by one.
+const DUE: &str = "\
+1 cb base 0 1000
+2 ae dev 1 1000
+3 cnt a 2 300
+4 cnt b 2 100
+5 cnt c 2 150
+6 cin d 5 900
+7 cnt e 2 200
+8 cnt f 2 200
+9 cnt g 2 200
+10 cnt h 2 200
+11 cnt i 2 200
+12 cnt j 2 200";
+
+// Moments one after another: at each are told the numbers of what is overdue, which goes then.
+// Before them a resource is removed. What is left is told last.
+const GOING: &str = "\
+0 99 => / 1 2 3 4 5 6 7 8 9 10 11 12
+0 100 => 4 / 1 2 3 5 6 7 8 9 10 11 12
+4 100 => / 1 2 3 5 6 7 8 9 10 11 12
+0 100 150 => 4 / 5 6 / 1 2 3 7 8 9 10 11 12
+6 150 => 4 5 / 1 2 3 7 8 9 10 11 12
+6 100 150 => 4 / 5 / 1 2 3 7 8 9 10 11 12
+0 149 150 199 200 => 4 / 5 6 / / 7 8 9 10 11 12 / 1 2 3
+0 200 299 300 1000 => 4 5 6 7 8 9 10 11 12 / / 3 / 2 / 1
+8 200 => 4 5 6 7 9 10 11 12 / 1 2 3
+0 999 => 3 4 5 6 7 8 9 10 11 12 / 1 2";
 
 fn number(text: &str) -> u64
     ensures { result < count_bound }
@@ -316,6 +345,53 @@ fn check_found(rt: &(impl Abort + AllocGlobal), line: &str) -> Result<(), Fail> 
 fn both_trees_find_the_same_by_names(rt: HostRuntime) -> Result<(), Fail> {
     for line in FOUND.lines() {
         check_found(&rt, line)?;
+    }
+    Ok(())
+}
+
+fn push_all(alloc: Global, text: &mut String, numbers: &[u64]) -> Result<(), AllocError> {
+    for number in numbers {
+        push(alloc, text, Some(*number))?;
+    }
+    text.push_str("/ ")
+}
+
+fn going<T: Tree>(alloc: Global, tree: T, words: &[&str]) -> Result<String, AllocError> {
+    let mut tree = tree;
+    grow(alloc, &mut tree, DUE)?;
+    let mut told = String::new(alloc);
+    for (k, word) in words.iter().enumerate() {
+        if k == 0 {
+            remove(&mut tree, 0, number(word));
+        } else {
+            let gone = tree.due_numbers(alloc, number(word))?;
+            push_all(alloc, &mut told, gone.entries())?;
+            tree.expire(number(word));
+        }
+    }
+    for resource in over(&tree) {
+        push(alloc, &mut told, Some(resource.number()))?;
+    }
+    Ok(told)
+}
+
+fn check_going(rt: &(impl Abort + AllocGlobal), line: &str) -> Result<(), Fail> {
+    let (asked, want) = line.split_once(" => ").expect(rt, "an arrow");
+    let words: Vec<&str> = asked.split(' ').collect(rt.alloc())?;
+    let plain = going(rt.alloc(), ListTree::new(rt.alloc()), words.as_slice())?;
+    assert!(rt; plain.as_str().trim() == want, "plain: {line}: {plain}");
+    let indexed = going(rt.alloc(), IndexTree::new(rt.alloc()), words.as_slice())?;
+    assert!(rt;
+        indexed.as_str().trim() == want,
+        "indexed: {line}: {indexed}"
+    );
+    Ok(())
+}
+
+#[test]
+fn both_trees_let_go_what_is_due(rt: HostRuntime) -> Result<(), Fail> {
+    for line in GOING.lines() {
+        check_going(&rt, line)?;
     }
     Ok(())
 }

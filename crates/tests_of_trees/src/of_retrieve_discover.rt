@@ -1,5 +1,5 @@
 //! Replies as they are written, to requests as they are written.
-use crate::samples::{parsed, parts, spelled, tree_of};
+use crate::samples::parts;
 use m2m_names::is_originator;
 use plain_tree::ListTree;
 use primitive_json::{FilterUsage, Reply, Request, read_request, write_reply};
@@ -8,6 +8,7 @@ use std::alloc::{AllocGlobal, Global};
 use std::process::Abort;
 use std::test::Fail;
 use tree_model::{Home, stands_in};
+use tree_samples::{parsed, spelled, tree_of};
 
 // A policy that gives RETRIEVE alone, and containers, the last of which it is for.
 const LABELLED: &str = r#"1 cb cse-in 0 CDev 0 0 - {}

@@ -1,14 +1,10 @@
 //! Trees for the tests, from a line for each resource.
-ghost use Rattle.std.specs.Prelude.{◌≤◌, ◌<◌, IfOk, IsUtf8};
-ghost use Rattle.m2m_names.specs.Ids.{count_bound};
-ghost use Rattle.m2m_names.specs.Stamps.{last_moment};
-
-use m2m_names::{Attr, LAST_MOMENT, Ty, read_digits};
-use m2m_value::{Members, OutOfMemory, Text, Val, read, write};
+use m2m_value::{OutOfMemory, Val};
 use plain_tree::ListTree;
 use std::alloc::Global;
 use std::process::Abort;
-use tree_model::{Attrs, Home, Moments, Resource, Tree, attributes, may_insert};
+use tree_model::{Home, Resource, Tree, attributes};
+use tree_samples::{spelled, tree_of, word};
 
 // Number, type, name, parent and owner; when it was created and changed and when it expires; and
 // what it has besides. An application entity that is called like a container, live or not, is one
@@ -40,11 +36,6 @@ pub(crate) fn parts<'a>(rt: &impl Abort, line: &'a str) -> (&'a str, &'a str) {
     line.split_once(" => ").expect(rt, "an arrow")
 }
 
-/// A word of an answer.
-pub(crate) fn word(alloc: Global, word: &str) -> Result<String, OutOfMemory> {
-    String::from_str(alloc, word)
-}
-
 /// The numbers, each with a space behind it.
 pub(crate) fn listed(alloc: Global, numbers: &[u64]) -> Result<String, OutOfMemory> {
     if numbers.is_empty() {
@@ -55,102 +46,6 @@ pub(crate) fn listed(alloc: Global, numbers: &[u64]) -> Result<String, OutOfMemo
         text.push_str(format!(in alloc; "{number} ")?.as_str())?;
     }
     Ok(text)
-}
-
-/// The number that a text is in decimal, or 0.
-pub(crate) fn number(text: &str) -> u64
-    ensures { result < count_bound }
-{
-    read_digits(text.as_bytes()).unwrap_or(0)
-}
-
-// The moment that a text is, or the last.
-fn moment(text: &str) -> u64
-    ensures { result ≤ last_moment }
-{
-    read_digits(text.as_bytes())
-        .unwrap_or(LAST_MOMENT)
-        .min(LAST_MOMENT)
-}
-
-/// The text of these words.
-pub(crate) fn text(alloc: Global, words: &str) -> Result<Text, OutOfMemory>
-    ensures { IfOk result (λ t. IsUtf8 t) }
-{
-    Text::from_slice(alloc, words.as_bytes())
-}
-
-/// The value that a text spells; null where it spells none.
-pub(crate) fn parsed(alloc: Global, json: &str) -> Result<Val, OutOfMemory> {
-    match read(alloc, json.as_bytes()) {
-        Ok(value) => Ok(value),
-        Err(_) => Ok(Val::null()),
-    }
-}
-
-/// The text of a value.
-pub(crate) fn spelled(alloc: Global, value: &Val) -> Result<String, OutOfMemory> {
-    let mut out = Vec::new(alloc);
-    write(value, &mut out)?;
-    String::from_utf8_lossy(alloc, out.as_slice())
-}
-
-fn named(alloc: Global, members: &Members) -> Result<Attrs, OutOfMemory> {
-    let mut attrs = Attrs::new(alloc);
-    for (key, value) in members.entries() {
-        if let Some(attr) = Attr::from_short_bytes(key.entries()) {
-            attrs.set(attr, value.copy(alloc)?)?;
-        }
-    }
-    Ok(attrs)
-}
-
-fn attrs_of(alloc: Global, json: &str) -> Result<Attrs, OutOfMemory> {
-    match parsed(alloc, json)?.as_obj() {
-        Some(members) => named(alloc, members),
-        None => Ok(Attrs::new(alloc)),
-    }
-}
-
-fn made(alloc: Global, words: &[&str]) -> Result<Option<Resource>, OutOfMemory> {
-    match words {
-        [n, ty, name, parent, owner, ct, lt, et, json] => {
-            let moments = Moments {
-                ct: moment(ct),
-                lt: moment(lt),
-                et: moment(et),
-            };
-            let ty = Ty::from_word(ty.as_bytes()).unwrap_or(Ty::CseBase);
-            let (name, owner) = (text(alloc, name)?, text(alloc, owner)?);
-            let attrs = attrs_of(alloc, json)?;
-            let resource = Resource::of(number(n), ty, name, number(parent), owner, moments, attrs);
-            Ok(Some(resource))
-        }
-        _ => Ok(None),
-    }
-}
-
-fn resource(alloc: Global, line: &str) -> Result<Option<Resource>, OutOfMemory> {
-    let words: Vec<&str> = line.split(' ').collect(alloc)?;
-    made(alloc, words.as_slice())
-}
-
-// Puts a resource where it may stand.
-fn put(tree: &mut ListTree, resource: Resource) {
-    if may_insert(&*tree, &resource) {
-        let _put = tree.insert(resource);
-    }
-}
-
-/// The tree of these resources.
-pub(crate) fn tree_of(alloc: Global, lines: &str) -> Result<ListTree, OutOfMemory> {
-    let mut tree = ListTree::new(alloc);
-    for line in lines.lines() {
-        if let Some(resource) = resource(alloc, line)? {
-            put(&mut tree, resource);
-        }
-    }
-    Ok(tree)
 }
 
 /// The tree that most tests look at.

@@ -19,11 +19,11 @@ use Rattle.tree_model.proofs.GrowthLemmas.{IsNext, next_fits, fits_next, grown, 
 
 -- ---- a map that keeps number and standing
 
-list_any-map : (p : ResourceData → Bool) (g : ResourceData → ResourceData) (nodes : List ResourceData) → list_any p (map g nodes) ≡ list_any (λ r. p (g r)) nodes
+pub list_any-map : (p : ResourceData → Bool) (g : ResourceData → ResourceData) (nodes : List ResourceData) → list_any p (map g nodes) ≡ list_any (λ r. p (g r)) nodes
 list_any-map p g [] = refl
 list_any-map p g (r ∷ nodes) = ap (λ b. p (g r) || b) (list_any-map p g nodes)
 
-list_all-map : (p : ResourceData → Bool) (g : ResourceData → ResourceData) (nodes : List ResourceData) → list_all p (map g nodes) ≡ list_all (λ r. p (g r)) nodes
+pub list_all-map : (p : ResourceData → Bool) (g : ResourceData → ResourceData) (nodes : List ResourceData) → list_all p (map g nodes) ≡ list_all (λ r. p (g r)) nodes
 list_all-map p g [] = refl
 list_all-map p g (r ∷ nodes) = ap (λ b. p (g r) && b) (list_all-map p g nodes)
 

@@ -8,7 +8,9 @@ pub mod LiveLemmas
 pub mod FoundLemmas
 pub mod QuietLemmas
 pub mod RowLemmas
+pub mod MarkLemmas
 pub mod StampLemmas
+pub mod RecountLemmas
 pub mod ChangeLemmas
 pub mod ApartLemmas
 pub mod IdLemmas
@@ -17,3 +19,4 @@ pub mod WalkLemmas
 pub mod ManyLemmas
 pub mod StepLemmas
 pub mod OverdueLemmas
+pub mod NumberLemmas

@@ -1,7 +1,7 @@
 -- What is overdue, by the line of each resource.
-use Rattle.std.proofs.Common.{◌≡◌, ◌≢◌, ℕ, ◌+◌, ◌<◌, ◌≤◌, List, [], ◌∷◌, ◌++◌, length, map, drop, Bool, true, false, not, ◌&&◌, ◌||◌, Option, Some, None, option_to_list, refl, sym, ap, ◌∙◌, arith, append_assoc}
+use Rattle.std.proofs.Common.{◌≡◌, ◌≢◌, ℕ, ◌+◌, ◌<◌, List, [], ◌∷◌, ◌++◌, drop, Bool, true, false, not, ◌&&◌, ◌||◌, Some, None, option_to_list, refl, sym, ap, ◌∙◌, arith, append_assoc}
 use Rattle.std.proofs.lemmas.Bool.{and_parts}
-use Rattle.std.proofs.lemmas.List.{append-nil, drop_all, map-append}
+use Rattle.std.proofs.lemmas.List.{map-append}
 use Rattle.std.proofs.lemmas.List.Elements.{filter-append}
 use Rattle.std.specs.List.{filter, list_all, list_any, slice_get}
 use Rattle.resource_model.specs.Resource.{ResourceData}
@@ -56,15 +56,19 @@ module _ (nodes : List ResourceData) (moment : ℕ) (tree : is_tree nodes ≡ tr
   all_there : list_all (λ r. has r.number nodes) nodes ≡ true
   all_there = all_by_number (λ r. has r.number nodes) nodes tree (λ r found. at_has r.number nodes r found)
 
-  -- where nothing is due, nothing is overdue
-  pub none_overdue : (until : ℕ) → are_quiet until nodes ≡ true → moment < until → overdue_numbers moment nodes ≡ []
-  none_overdue until quiet before =
-      ap (λ (left : List ResourceData). numbers_of (filter (λ r. not (has r.number left)) nodes)) (quiet_live nodes until moment tree quiet before)
+  -- where all are live, nothing is overdue
+  pub all_live : live moment nodes ≡ nodes → overdue_numbers moment nodes ≡ []
+  all_live whole =
+      ap (λ (left : List ResourceData). numbers_of (filter (λ r. not (has r.number left)) nodes)) whole
       ∙ ap numbers_of (none_out (λ r. has r.number nodes) nodes all_there)
     where
       none_out : (q : ResourceData → Bool) (rs : List ResourceData) → list_all q rs ≡ true → filter (λ r. not (q r)) rs ≡ []
       none_out q [] all = refl
       none_out q (r ∷ rs) all = let parts = and_parts (q r) (list_all q rs) all in rw parts.0 (none_out q rs parts.1)
+
+  -- and so it is where nothing is due
+  pub none_overdue : (until : ℕ) → are_quiet until nodes ≡ true → moment < until → overdue_numbers moment nodes ≡ []
+  none_overdue until quiet before = all_live (quiet_live nodes until moment tree quiet before)
 
 -- ---- one step along the list
 

@@ -1,12 +1,12 @@
 -- What comes after a number, where numbers ascend.
-use Rattle.std.specs.Prelude.{nat_lt}
-use Rattle.std.proofs.Common.{◌≡◌, ℕ, zero, suc, ◌<◌, ◌≤◌, List, [], ◌∷◌, length, find, Bool, true, false, Option, Some, None, Bor, option_map, inl, inr, refl, sym, ap, ◌∙◌, arith}
-use Rattle.std.proofs.lemmas.Bool.{cases_Bool, ltb-true, ltb-false, lt-ltb, le-ltb}
+use Rattle.std.specs.Prelude.{nat_lt, unwrap_or, IfSome}
+use Rattle.std.proofs.Common.{◌≡◌, ℕ, zero, suc, ◌+◌, ◌<◌, ◌≤◌, List, [], ◌∷◌, length, find, Bool, true, false, Option, Some, None, Bor, option_map, inl, inr, refl, sym, ap, ◌∙◌, arith}
+use Rattle.std.proofs.lemmas.Bool.{and_parts, cases_Bool, ltb-true, ltb-false, lt-ltb, le-ltb}
 use Rattle.std.proofs.lemmas.Option.{same_Some}
 use Rattle.std.specs.Iterator.{YieldsFirstRef, MakesProgress, item_count}
 use Rattle.std.specs.List.{filter, slice_get}
 use Rattle.resource_model.specs.Resource.{ResourceData}
-use Rattle.tree_model.specs.Tree.{at, resource_number, comes_after, all_after, next_after, is_tree, may_stand}
+use Rattle.tree_model.specs.Tree.{at, number_at, resource_number, comes_after, all_after, all_behind, next_after, is_tree, may_stand}
 use Rattle.tree_model.proofs.GrowthLemmas.{growth, next_fits, next_above_parent}
 use Rattle.tree_model.proofs.OrderLemmas.{are_above, ascend, tree_ascends, ascend_filter, above_filter, above_push, number_some, placed_stands, ascend_parts}
 use Rattle.m2m_names.proofs.ListLemmas.{all_weaker, filter_whole}
@@ -110,6 +110,37 @@ all_after_zero nodes tree = sym (above_all 0 nodes (above_zero nodes tree))
 
 pub filtered_after_zero : (p : ResourceData → Bool) (nodes : List ResourceData) → is_tree nodes ≡ true → filter p nodes ≡ all_after 0 (filter p nodes)
 filtered_after_zero p nodes tree = sym (above_all 0 (filter p nodes) (above_filter p 0 nodes (above_zero nodes tree)))
+
+place_above : (m : ℕ) (rs : List ResourceData) (k : ℕ) (r : ResourceData) → ascend rs ≡ true → are_above m rs ≡ true → slice_get rs k ≡ Some r → m + k < r.number
+place_above m [] k r order above got = cc
+place_above m (s ∷ rs) zero r order above got =
+    let parts = and_parts (nat_lt m s.number) (are_above m rs) above in
+    let less : m < s.number = ltb-true m s.number parts.0 in
+    let is : s.number ≡ r.number = ap (λ (x : ResourceData). x.number) (same_Some s r got) in
+    omega arith
+place_above m (s ∷ rs) (suc k) r order above got =
+    let parts = and_parts (nat_lt m s.number) (are_above m rs) above in
+    let less : m < s.number = ltb-true m s.number parts.0 in
+    let later = ascend_parts s rs order in
+    let rest : s.number + k < r.number = place_above s.number rs k r later.rest later.above got in
+    omega arith
+
+-- a place is below the number of what stands there
+pub place_below : (p : ResourceData → Bool) (nodes : List ResourceData) (k n : ℕ) → is_tree nodes ≡ true → Some n ≡ number_at k (filter p nodes) → k < n
+place_below p nodes k n tree is =
+    let there = number_some (slice_get (filter p nodes) k) n is in
+    let below : 0 + k < there.0.number = place_above 0 (filter p nodes) k there.0 (ascend_filter p nodes (tree_ascends nodes tree)) (above_filter p 0 nodes (above_zero nodes tree)) there.1 in
+    let same : there.0.number ≡ n = there.2 in
+    omega arith
+
+pub where_some : {X P : Type 0} (o : Option X) → P → IfSome o (λ _. P)
+where_some None holds = tt
+where_some (Some x) holds = holds
+
+-- what comes behind the last one that was given, where none has a number below 1
+pub behind : (last : Option ℕ) (n : ℕ) (rs left : List ResourceData) → rs ≡ all_after 0 rs → n ≡ unwrap_or last 0 → all_behind last rs ≡ left → all_after n rs ≡ left
+behind None n rs left whole is held = ap (λ (m : ℕ). all_after m rs) is ∙ sym whole ∙ held
+behind (Some m) n rs left whole is held = ap (λ (k : ℕ). all_after k rs) is ∙ held
 
 -- what gives the first of what is left has less left
 pub progress : (can : List ResourceData → Type 0) → ((s : List ResourceData) → can s) → (s t : List ResourceData) (r : Option (Bor ResourceData)) → YieldsFirstRef (λ rest. rest) s r t → MakesProgress can (item_count (λ rest. rest)) s r t

@@ -12,7 +12,7 @@ use Rattle.std.specs.Ordering.{nat_cmp}
 use Rattle.std.specs.Str.{bytes_eq}
 use Rattle.m2m_names.specs.Ids.{id_parts}
 use Rattle.m2m_names.specs.Types.{does_take}
-use Rattle.m2m_names.specs.declared.attributes.Attr.TheVariants.{Mia, Cs, St}
+use Rattle.m2m_names.specs.declared.attributes.Attr.TheVariants.{Mia, Cs, Exc, St}
 use Rattle.m2m_names.specs.declared.types.Ty.{Ty}
 use Rattle.m2m_names.specs.declared.types.Ty.TheVariants.{CseBase, ContentInstance, PollingChannel}
 use Rattle.m2m_names.specs.declared.types.Ty.TheVariants.{Subscription}
@@ -102,6 +102,11 @@ comes_after n r = nat_lt n r.number
 -- The resources whose numbers are greater than this one.
 abbrev pub all_after : ℕ → List ResourceData → List ResourceData
 all_after n rs = filter (comes_after n) rs
+
+-- The resources that come after the last one that was given, where one was.
+abbrev pub all_behind : Option ℕ → List ResourceData → List ResourceData
+all_behind None rs = rs
+all_behind (Some n) rs = all_after n rs
 
 -- The first of the resources whose number is greater than this one.
 abbrev pub next_after : ℕ → List ResourceData → Option ResourceData
@@ -199,6 +204,19 @@ restamped_at n lt st nodes = option_map_or (λ r. replaced (restamped lt st r) n
 -- The resource is there, and has a state tag.
 abbrev pub has_state : ℕ → List ResourceData → Bool
 has_state n nodes = option_map_or (λ r. is_some (value_of St r.attrs)) (at n nodes) false
+
+-- the subscription to which so many notifications are left; its moment of change and all else stay
+-- (TS-0001, 9.6.8: expirationCounter)
+abbrev pub recounted : ℕ → ResourceData → ResourceData
+recounted left r = record r { attrs = with_value Exc (number (pos left)) r.attrs }
+
+-- the resource of a number is so, where it is there
+abbrev pub recounted_at : ℕ → ℕ → List ResourceData → List ResourceData
+recounted_at n left nodes = option_map_or (λ r. replaced (recounted left r) nodes) (at n nodes) nodes
+
+-- The resource is there, and counts how many notifications are left.
+abbrev pub has_counter : ℕ → List ResourceData → Bool
+has_counter n nodes = option_map_or (λ r. is_some (value_of Exc r.attrs)) (at n nodes) false
 
 -- a resource stays where it isn't picked and its parent stayed
 abbrev pub stays : (ResourceData → Bool) → List ResourceData → ResourceData → Bool

@@ -2,12 +2,12 @@
 ghost use Rattle.std.specs.Prelude.{◌≡◌, ◌-◌, ◌↔◌, [], not, nat_lt, ◌&&◌, length, slice_get};
 ghost use Rattle.std.specs.Prelude.{is_some, true, false, IsTrue, Some, option_map};
 ghost use Rattle.std.specs.Option.{option_map_or};
-ghost use Rattle.m2m_names.specs.declared.attributes.Attr.TheVariants.{St};
+ghost use Rattle.m2m_names.specs.declared.attributes.Attr.TheVariants.{Exc, St};
 ghost use Rattle.resource_model.specs.Attributes.{value_of};
 ghost use Rattle.resource_model.specs.Resource.{ResourceData, ae_id, cse_id};
 ghost use Rattle.tree_model.specs.Tree.{at, has, are_below, is_root, is_placed, has_child};
-ghost use Rattle.tree_model.specs.Tree.{has_ae_id, has_cse_id, has_channel, has_state, may_stand};
-ghost use Rattle.tree_model.specs.Tree.{standing};
+ghost use Rattle.tree_model.specs.Tree.{has_ae_id, has_cse_id, has_channel, has_counter, has_state};
+ghost use Rattle.tree_model.specs.Tree.{may_stand, standing};
 
 use crate::steps::child_named;
 use crate::tree::Tree;
@@ -49,6 +49,26 @@ fn has_tag(resource: &Resource) -> bool
     ensures { result ≡ is_some (value_of St resource.now.attrs) }
 {
     match resource.attrs().get(Attr::St) {
+        Some(_) => true,
+        None => false,
+    }
+}
+
+/// Whether the resource of a number may be counted anew: it is there, and counts how many
+/// notifications are left.
+pub fn may_recount<T: Tree>(tree: &T, number: u64) -> bool
+    ensures { result ≡ has_counter number (T.nodes tree.now) }
+{
+    match tree.get(number) {
+        Some(resource) => has_count(resource),
+        None => false,
+    }
+}
+
+fn has_count(resource: &Resource) -> bool
+    ensures { result ≡ is_some (value_of Exc resource.now.attrs) }
+{
+    match resource.attrs().get(Attr::Exc) {
         Some(_) => true,
         None => false,
     }

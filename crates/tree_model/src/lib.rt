@@ -37,7 +37,8 @@ mod typed;
 mod walk;
 
 pub use conditions::{
-    has_ae, has_channel, has_child, has_cse, may_insert, may_replace, may_restamp, stands_in,
+    has_ae, has_channel, has_child, has_cse, may_insert, may_recount, may_replace, may_restamp,
+    stands_in,
 };
 pub use expiry::{due, due_under, earlier, is_due, lowered_age};
 pub use laws::{

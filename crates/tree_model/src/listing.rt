@@ -1,10 +1,10 @@
 //! The changes of a tree, as a list that is gone through.
-ghost use Rattle.std.specs.Prelude.{◌≡◌, [], ◌∷◌, filter, IsTrue, MatchOption};
+ghost use Rattle.std.specs.Prelude.{◌≡◌, [], ◌∷◌, filter, MatchOption};
 ghost use Rattle.std.specs.Iterator.{YieldsFirstBy, item_count};
 ghost use Rattle.std.specs.List.{list_any};
 ghost use Rattle.resource_model.specs.Resource.{has_number};
 ghost use Rattle.tree_model.specs.Changes as spec;
-ghost use Rattle.tree_model.specs.Tree.{is_at_or_below, is_tree, line_of};
+ghost use Rattle.tree_model.specs.Tree.{is_at_or_below, line_of};
 
 use crate::tree::Tree;
 use crate::walk::{Walk, over};
@@ -158,29 +158,14 @@ fn next_below<'a, T: Tree>(tree: &T, target: u64, left: &mut Walk<'a, T>) -> Opt
     None
 }
 
-fn is_at_or_below<T: Tree>(tree: &T, target: u64, number: u64) -> bool
-    ensures { result ≡ list_any (has_number target) (line_of number (T.nodes tree.now)) }
-{
-    tell_tree(tree);
-    is_in_line(tree, target, number)
-}
-
 // Whether a resource is the one of a number, or stands below it.
-fn is_in_line<T: Tree>(tree: &T, target: u64, number: u64) -> bool
-    requires { IsTrue (is_tree (T.nodes tree.now)) }
+fn is_at_or_below<T: Tree>(tree: &T, target: u64, number: u64) -> bool
     ensures { result ≡ list_any (has_number target) (line_of number (T.nodes tree.now)) }
 {
     match tree.get(number) {
         Some(resource) => {
-            resource.number() == target || is_in_line(tree, target, resource.parent())
+            resource.number() == target || is_at_or_below(tree, target, resource.parent())
         }
         None => false,
     }
-}
-
-// That a tree is one, which its length tells.
-fn tell_tree<T: Tree>(tree: &T)
-    ensures { IsTrue (is_tree (T.nodes tree.now)) }
-{
-    let _count = tree.len();
 }

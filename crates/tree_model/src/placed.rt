@@ -1,6 +1,6 @@
 //! The children of a resource, one by one.
-ghost use Rattle.std.specs.Prelude.{◌≡◌, Some, IfSome, option_map, slice_get};
-ghost use Rattle.tree_model.specs.Tree.{at, children_of, subs_of};
+ghost use Rattle.std.specs.Prelude.{◌≡◌, ◌+◌, ◌^◌, ◌<◌, IfSome, IsTrue, Some, option_map, slice_get};
+ghost use Rattle.tree_model.specs.Tree.{at, children_of, is_tree, subs_of};
 
 use crate::tree::Tree;
 use resource_model::Resource;
@@ -11,9 +11,8 @@ pub fn child_at<T: Tree>(tree: &T, parent: u64, k: u64) -> Option<&Resource>
         ≡ slice_get (children_of parent (T.nodes tree.now)) k }
     ensures stands { IfSome result (λ r. at r.now.number (T.nodes tree.now) ≡ Some r.now) }
     ensures under { IfSome result (λ r. r.now.parent ≡ parent) }
+    ensures tree { IsTrue (is_tree (T.nodes tree.now)) }
 {
-    // That it is a tree is told by its length.
-    let _count = tree.len();
     let number = tree.kid(parent, k)?;
     tree.get(number)
 }
@@ -23,8 +22,10 @@ pub fn subscription_at<T: Tree>(tree: &T, parent: u64, k: u64) -> Option<&Resour
     ensures value { option_map (λ r. r.now) result
         ≡ slice_get (subs_of parent (T.nodes tree.now)) k }
     ensures stands { IfSome result (λ r. at r.now.number (T.nodes tree.now) ≡ Some r.now) }
+    // A place is below the number of what stands there.
+    ensures few { IfSome result (λ _. k + 1 < 2 ^ 64) }
+    ensures tree { IsTrue (is_tree (T.nodes tree.now)) }
 {
-    let _count = tree.len();
     let number = tree.sub(parent, k)?;
     tree.get(number)
 }

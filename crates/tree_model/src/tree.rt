@@ -8,6 +8,7 @@ ghost use Rattle.tree_model.specs.Tree.{at, has, child_of, children_of, subs_of,
 ghost use Rattle.tree_model.specs.Tree.{instance_of, instances_of, sizes_of, ae_of, cse_of};
 ghost use Rattle.tree_model.specs.Tree.{channel_of};
 ghost use Rattle.tree_model.specs.Tree.{are_quiet, live, replaced, restamped_at, has_state};
+ghost use Rattle.tree_model.specs.Tree.{recounted_at, has_counter};
 ghost use Rattle.tree_model.specs.Tree.{without, may_stand, is_tree, standing, DoAscend};
 ghost use Rattle.tree_model.specs.Tree.{next_after, overdue_numbers, resource_number, without_all};
 
@@ -39,11 +40,13 @@ pub trait Tree: Drop {
 
     /// The first resource, in order of creation, whose number is greater than this one.
     fn after(&self, number: u64) -> Option<&Resource>
-        ensures { option_map (λ r. r.now) result ≡ next_after number (nodes self.now) };
+        ensures value { option_map (λ r. r.now) result ≡ next_after number (nodes self.now) }
+        ensures tree { IsTrue (is_tree (nodes self.now)) };
 
     /// The resource of a number.
     fn get(&self, number: u64) -> Option<&Resource>
-        ensures { option_map (λ r. r.now) result ≡ at number (nodes self.now) };
+        ensures value { option_map (λ r. r.now) result ≡ at number (nodes self.now) }
+        ensures tree { IsTrue (is_tree (nodes self.now)) };
 
     /// The number of the child of a name.
     fn child<L: Ledger>(&self, parent: u64, name: &[u8], steps: &mut Steps<L>) -> Option<u64>
@@ -53,11 +56,13 @@ pub trait Tree: Drop {
 
     /// The number of the child at place k in order of creation, from 0.
     fn kid(&self, parent: u64, k: u64) -> Option<u64>
-        ensures { result ≡ number_at k (children_of parent (nodes self.now)) };
+        ensures value { result ≡ number_at k (children_of parent (nodes self.now)) }
+        ensures tree { IsTrue (is_tree (nodes self.now)) };
 
     /// The same among its subscriptions.
     fn sub(&self, parent: u64, k: u64) -> Option<u64>
-        ensures { result ≡ number_at k (subs_of parent (nodes self.now)) };
+        ensures value { result ≡ number_at k (subs_of parent (nodes self.now)) }
+        ensures tree { IsTrue (is_tree (nodes self.now)) };
 
     /// The number of the newest or of the oldest instance of a container.
     fn instance(&self, container: u64, newest: bool) -> Option<u64>
@@ -65,8 +70,9 @@ pub trait Tree: Drop {
 
     /// The number of the oldest instance of a container whose number is greater than this one.
     fn instance_after(&self, container: u64, number: u64) -> Option<u64>
-        ensures { result ≡ resource_number
-            (next_after number (instances_of container (nodes self.now))) };
+        ensures value { result ≡ resource_number
+            (next_after number (instances_of container (nodes self.now))) }
+        ensures tree { IsTrue (is_tree (nodes self.now)) };
 
     /// How many instances a container has.
     fn instance_count(&self, container: u64) -> u64
@@ -121,6 +127,12 @@ pub trait Tree: Drop {
         requires lt { lt ≤ last_moment }
         requires st { st < count_bound }
         ensures { nodes self.new ≡ restamped_at number lt st (nodes self.old) };
+
+    /// Sets how many notifications are left to a subscription that counts them, in place.
+    fn recount(&mut self, number: u64, left: u64)
+        requires there { IsTrue (has_counter number (nodes self.old)) }
+        requires left { left < count_bound }
+        ensures { nodes self.new ≡ recounted_at number left (nodes self.old) };
 
     /// Removes a resource with all that stands below it.
     fn remove_subtree(&mut self, number: u64)

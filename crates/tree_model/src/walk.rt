@@ -11,8 +11,8 @@ use std::marker::Model;
 #[derive(Drop)]
 pub struct Walk<'a, T: Tree> {
     tree: &'a T,
-    // The number of the last one that was given, or 0.
-    last: u64,
+    // The number of the last one that was given.
+    last: Option<u64>,
 }
 
 impl<'a, T: Tree> Model for Walk<'a, T> {
@@ -20,22 +20,20 @@ impl<'a, T: Tree> Model for Walk<'a, T> {
     ghost use Rattle.std.specs.Coded.{coded_list};
     ghost use Rattle.resource_model.specs.Resource.{ResourceData};
     ghost use Rattle.resource_model.specs.Codes.{resource_code};
-    ghost use Rattle.tree_model.specs.Tree.{all_after};
+    ghost use Rattle.tree_model.specs.Tree.{all_behind};
 
     ghost Value = { List ResourceData };
 
     ghost coded = { coded_list resource_code };
 
-    ghost view = { λ o. all_after o.last (T.nodes o.tree.now) };
+    ghost view = { λ o. all_behind o.last (T.nodes o.tree.now) };
 }
 
 /// Goes over the resources of a tree in order of creation.
 pub fn over<T: Tree>(tree: &T) -> Walk<'_, T>
     ensures { result ≡ T.nodes tree.now }
 {
-    // That it is a tree is told by its length.
-    let _count = tree.len();
-    Walk { tree, last: 0 }
+    Walk { tree, last: None }
 }
 
 impl<'a, T: Tree> Iterator for Walk<'a, T> {
@@ -46,9 +44,8 @@ impl<'a, T: Tree> Iterator for Walk<'a, T> {
     ghost remaining = { item_count (λ rest. rest) };
 
     fn next(&mut self) -> Option<&'a Resource> {
-        let _count = self.tree.len();
-        let next = self.tree.after(self.last)?;
-        self.last = next.number();
+        let next = self.tree.after(self.last.unwrap_or(0))?;
+        self.last = Some(next.number());
         Some(next)
     }
 }
@@ -58,8 +55,8 @@ impl<'a, T: Tree> Iterator for Walk<'a, T> {
 pub struct Instances<'a, T: Tree> {
     tree: &'a T,
     container: u64,
-    // The number of the last one that was given, or 0.
-    last: u64,
+    // The number of the last one that was given.
+    last: Option<u64>,
 }
 
 impl<'a, T: Tree> Model for Instances<'a, T> {
@@ -67,24 +64,23 @@ impl<'a, T: Tree> Model for Instances<'a, T> {
     ghost use Rattle.std.specs.Coded.{coded_list};
     ghost use Rattle.resource_model.specs.Resource.{ResourceData};
     ghost use Rattle.resource_model.specs.Codes.{resource_code};
-    ghost use Rattle.tree_model.specs.Tree.{all_after, instances_of};
+    ghost use Rattle.tree_model.specs.Tree.{all_behind, instances_of};
 
     ghost Value = { List ResourceData };
 
     ghost coded = { coded_list resource_code };
 
-    ghost view = { λ o. all_after o.last (instances_of o.container (T.nodes o.tree.now)) };
+    ghost view = { λ o. all_behind o.last (instances_of o.container (T.nodes o.tree.now)) };
 }
 
 /// Goes over the instances of a container, oldest first: one look-up for each.
 pub fn over_instances<T: Tree>(tree: &T, container: u64) -> Instances<'_, T>
     ensures { result ≡ instances_of container (T.nodes tree.now) }
 {
-    let _count = tree.len();
     Instances {
         tree,
         container,
-        last: 0,
+        last: None,
     }
 }
 
@@ -96,9 +92,9 @@ impl<'a, T: Tree> Iterator for Instances<'a, T> {
     ghost remaining = { item_count (λ rest. rest) };
 
     fn next(&mut self) -> Option<&'a Resource> {
-        let _count = self.tree.len();
-        let number = self.tree.instance_after(self.container, self.last)?;
-        self.last = number;
+        let last = self.last.unwrap_or(0);
+        let number = self.tree.instance_after(self.container, last)?;
+        self.last = Some(number);
         self.tree.get(number)
     }
 }

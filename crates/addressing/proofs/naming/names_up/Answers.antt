@@ -10,4 +10,4 @@ returns g c =
     let nodes = g.T.Tree.nodes c.args.tree.now in
     line_done nodes c.loop-resource.at (map (λ (t : Bor (List ℕ)). t.now) c.loop-resource.names.items)
     (map (λ (r : ResourceData). r.name) (line_of c.args.number nodes))
-    c.loop-resource.invariant.1 c.in_default.ensures c.loop-resource.invariant.0
+    c.loop-resource.invariant.1 c.in_default.ensures.value c.loop-resource.invariant.0

@@ -11,11 +11,11 @@ returns-in_err-gone-clause-memory g c =
     let nodes = g.T.Tree.nodes c.args.tree.now in
     let rs = instances_of c.args.container nodes in
     let same : numbers_of (going c.count_outside-outside.result c.args.limits.mia c.args.moment rs) ≡ evicted c.args.limits c.args.new_size c.args.moment rs =
-    going_evicted c.args.limits c.args.new_size c.args.moment c.count_outside-outside.result rs (ascend_filter (is_instance c.args.container) nodes (tree_ascends nodes c.len-count.ensures.tree)) c.count_outside-outside.ensures in
+    going_evicted c.args.limits c.args.new_size c.args.moment c.count_outside-outside.result rs (ascend_filter (is_instance c.args.container) nodes (tree_ascends nodes c.is_quiet-quiet.ensures.tree)) c.count_outside-outside.ensures in
     on_err c.from_residual.result _ (λ none. c.in_err-gone.ensures.memory (same ∙ none))
 
 pub returns-clause-value : goal.returns-clause-value
 returns-clause-value g c =
     let nodes = g.T.Tree.nodes c.args.tree.now in
     c.of.ensures ∙ c.in_ok-gone.ensures.value
-    ∙ going_evicted c.args.limits c.args.new_size c.args.moment c.count_outside-outside.result (instances_of c.args.container nodes) (ascend_filter (is_instance c.args.container) nodes (tree_ascends nodes c.len-count.ensures.tree)) c.count_outside-outside.ensures
+    ∙ going_evicted c.args.limits c.args.new_size c.args.moment c.count_outside-outside.result (instances_of c.args.container nodes) (ascend_filter (is_instance c.args.container) nodes (tree_ascends nodes c.is_quiet-quiet.ensures.tree)) c.count_outside-outside.ensures

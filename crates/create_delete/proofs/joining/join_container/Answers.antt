@@ -1,36 +1,35 @@
-use Rattle.std.proofs.Common.{◌≡◌, List, true, Some, sym, ◌∙◌, subst}
+use Rattle.std.proofs.Common.{◌≡◌, List, [], ◌∷◌, ◌++◌, Some, true, sym, ap, ◌∙◌, subst, arith}
 use Rattle.resource_model.specs.Resource.{ResourceData}
-use Rattle.tree_model.specs.Tree.{has_state, instance_size, DoAscend}
+use Rattle.tree_model.specs.Tree.{has_state, instance_size, may_stand, DoAscend}
 use Rattle.tree_model.proofs.GrowthLemmas.{tree_from_well_formed}
 use Rattle.container_limits.specs.Limits.{limits_of}
-use Rattle.entity_model.specs.Entity.{EntityData}
-use Rattle.create_delete.specs.Joining.{MayJoinContainer}
 use Rattle.create_delete.proofs.JoiningLemmas.{filling_after, filling_state, newcomer_fits}
 use Rattle.create_delete.proofs.PushingLemmas.{evicted_ascend}
 use Rattle.create_delete.proofs.joining.join_container.Goals as goal
 
 pub put_last-requires : goal.put_last-requires
 put_last-requires g c =
-    let before : EntityData = record { home = c.entity.inside.home; nodes = g.T.Tree.nodes c.entity.inside.tree; next = c.entity.inside.next; last = c.entity.inside.last } in
-    let may : MayJoinContainer before c.args.resource c.args.update.now = subst (λ (e : EntityData). MayJoinContainer e c.args.resource c.args.update.now) (sym c.entity.view_is) c.requires in
-    newcomer_fits before c.args.resource may.joins.new
+    let e = c.requires.entity in
+    subst (λ (nodes : List ResourceData). may_stand nodes c.args.resource ≡ true) c.requires.stand (newcomer_fits e c.args.resource c.requires.may.joins.new)
 
 pub restamp-requires-clause-there : goal.restamp-requires-clause-there
 restamp-requires-clause-there g c =
-    let before : EntityData = record { home = c.entity.inside.home; nodes = g.T.Tree.nodes c.entity.inside.tree; next = c.entity.inside.next; last = c.entity.inside.last } in
-    let may : MayJoinContainer before c.args.resource c.args.update.now = subst (λ (e : EntityData). MayJoinContainer e c.args.resource c.args.update.now) (sym c.entity.view_is) c.requires in
-    subst (λ (nodes : List ResourceData). has_state c.args.update.now.container nodes ≡ true) (sym c.in_ok-put_last.ensures.ok)
-    (filling_state before c.args.resource c.args.update.now c.entity.invariant may)
+    let e = c.requires.entity in
+    subst (λ (nodes : List ResourceData). has_state c.args.update.now.container nodes ≡ true) (sym (c.in_ok-put_last.ensures.ok ∙ ap (λ (nodes : List ResourceData). nodes ++ c.args.resource ∷ []) (sym c.requires.stand)))
+    (filling_state e c.args.resource c.args.update.now c.requires.sound c.requires.may)
+
+pub restamp-requires-clause-lt : goal.restamp-requires-clause-lt
+restamp-requires-clause-lt g c = omega (arith, c.requires.sound.last, c.requires.last)
+
+pub restamp-requires-clause-st : goal.restamp-requires-clause-st
+restamp-requires-clause-st g c = c.requires.may.joins.small
 
 pub remove_all-requires : goal.remove_all-requires
 remove_all-requires g c =
-    let before : EntityData = record { home = c.entity.inside.home; nodes = g.T.Tree.nodes c.entity.inside.tree; next = c.entity.inside.next; last = c.entity.inside.last } in
-    let may : MayJoinContainer before c.args.resource c.args.update.now = subst (λ (e : EntityData). MayJoinContainer e c.args.resource c.args.update.now) (sym c.entity.view_is) c.requires in
-    subst DoAscend (sym (c.entries.ensures ∙ may.gone))
-    (evicted_ascend (limits_of may.parent) (Some (instance_size c.args.resource)) before.last may.parent.number before.nodes (tree_from_well_formed before.nodes c.entity.invariant.tree))
+    let e = c.requires.entity in
+    subst DoAscend (sym (c.entries.ensures ∙ c.requires.may.gone))
+    (evicted_ascend (limits_of c.requires.may.parent) (Some (instance_size c.args.resource)) e.last c.requires.may.parent.number e.nodes (tree_from_well_formed e.nodes c.requires.sound.tree))
 
-pub invariant_of-entity-2 : goal.invariant_of-entity-2
-invariant_of-entity-2 g c =
-    let before : EntityData = record { home = c.entity.inside.home; nodes = g.T.Tree.nodes c.entity.inside.tree; next = c.entity.inside.next; last = c.entity.inside.last } in
-    let may : MayJoinContainer before c.args.resource c.args.update.now = subst (λ (e : EntityData). MayJoinContainer e c.args.resource c.args.update.now) (sym c.entity.view_is) c.requires in
-    filling_after before c.args.resource c.args.update.now _ _ _ _ c.entity.invariant may c.in_ok-put_last.ensures.ok c.restamp.ensures c.entries.ensures c.remove_all.ensures
+pub returns-clause-ok : goal.returns-clause-ok
+returns-clause-ok g c =
+    filling_after c.args.moment (g.T.Tree.nodes c.args.tree.now) c.args.resource c.args.update.now _ _ _ _ c.in_ok-put_last.ensures.ok c.restamp.ensures c.entries.ensures c.remove_all.ensures

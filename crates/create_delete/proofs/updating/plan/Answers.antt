@@ -9,5 +9,5 @@ pub returns : goal.returns
 returns g c = (
   c.in_ok-update.ensures.0,
   update_prepared c.args.entity.now c.args.originator.now c.args.request.now c.args.target c.in_ok-update.update c.in_ok-update.ensures.0 c.in_ok-update.ensures.1
-      c.in_ok-prepare.field-0 c.in_ok-prepare.ensures.may c.in_ok-prepare.ensures.same c.in_ok-prepare.ensures.gone c.in_ok-prepare.ensures.reply c.in_ok-prepare.ensures.after,
+      c.in_ok-prepare.field-0 c.in_ok-prepare.ensures.may c.in_ok-prepare.ensures.same c.in_ok-prepare.ensures.named c.in_ok-prepare.ensures.gone c.in_ok-prepare.ensures.reply c.in_ok-prepare.ensures.after,
 )

@@ -1,6 +1,6 @@
 use Rattle.std.proofs.Common.{refl}
 use Rattle.entity_model.specs.Opening.{opening}
-use Rattle.primitive_replay.proofs.TurnLemmas.{never_usage, whatever_readings}
+use Rattle.primitive_replay.proofs.ItemLemmas.{never_usage, whatever_readings}
 use Rattle.cse_cli.proofs.replay.replay_lines.Goals as goal
 
 pub returns-clause-runs : goal.returns-clause-runs

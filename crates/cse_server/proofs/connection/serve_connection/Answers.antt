@@ -1,4 +1,4 @@
-use Rattle.std.proofs.Common.{◌+◌, inl, inr, refl, sym, ◌∙◌, arith}
+use Rattle.std.proofs.Common.{◌+◌, inl, inr, refl, ◌∙◌, arith}
 use Rattle.cse_server.specs.declared.connection.Ended.TheVariants.{ReadFault, WriteFault}
 use Rattle.cse_server.proofs.NextLemmas.{nothing_read}
 use Rattle.cse_server.proofs.WayLemmas.{Goes-then, Serves-then}

@@ -1,4 +1,4 @@
-use Rattle.entity_model.proofs.SoundLemmas.{swept_still}
+use Rattle.entity_model.proofs.TellingLemmas.{swept_still}
 use Rattle.entity_model.proofs.laws.nothing_expires_while_no_time_passes.Goals as goal
 
 pub returns : goal.returns

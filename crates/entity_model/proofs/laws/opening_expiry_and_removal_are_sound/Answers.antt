@@ -1,4 +1,5 @@
-use Rattle.entity_model.proofs.SoundLemmas.{sound_opening, sound_swept, sound_removed}
+use Rattle.entity_model.proofs.SoundLemmas.{sound_opening, sound_removed}
+use Rattle.entity_model.proofs.TellingLemmas.{sound_swept}
 use Rattle.entity_model.proofs.laws.opening_expiry_and_removal_are_sound.Goals as goal
 
 pub returns-clause-opened : goal.returns-clause-opened

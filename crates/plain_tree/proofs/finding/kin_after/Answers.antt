@@ -1,6 +1,6 @@
 use Rattle.std.proofs.Common.{◌∙◌}
 use Rattle.tree_model.specs.Tree.{is_kin}
-use Rattle.plain_tree.proofs.AfterLemmas.{next_of}
+use Rattle.resource_list.proofs.AfterLemmas.{next_of}
 use Rattle.plain_tree.proofs.finding.kin_after.Goals as goal
 
 pub returns : goal.returns

@@ -9,10 +9,10 @@ returns-in-Some g t c =
     let nodes = g.T.Tree.nodes c.args.tree.now in
     let some : 0 < c.args.bound = omega (arith, c.if-bound-eq0.false) in
     c.is_less_deep.ensures ∙ ap (λ n. nat_lt (level_of n nodes) (c.args.bound - 1)) c.parent.ensures.value
-    ∙ less_deep_up nodes c.args.number c.args.bound c.in-Some.resource.now c.requires (sym c.in-Some.ensures) some
+    ∙ less_deep_up nodes c.args.number c.args.bound c.in-Some.resource.now c.requires (sym c.in-Some.ensures.value) some
 
 pub returns-in-None : goal.returns-in-None
 returns-in-None g t c =
     let nodes = g.T.Tree.nodes c.args.tree.now in
     let some : 0 < c.args.bound = omega (arith, c.if-bound-eq0.false) in
-    sym (less_deep_nowhere nodes c.args.number c.args.bound c.requires (sym c.in-None.ensures) some)
+    sym (less_deep_nowhere nodes c.args.number c.args.bound c.requires (sym c.in-None.ensures.value) some)

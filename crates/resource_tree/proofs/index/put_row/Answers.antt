@@ -1,4 +1,4 @@
-use Rattle.std.proofs.Common.{List, map, refl, ap, sym, ◌∙◌}
+use Rattle.std.proofs.Common.{map, refl, ap, sym, ◌∙◌}
 use Rattle.tree_model.specs.Tree.{at}
 use Rattle.tree_model.proofs.TreeLemmas.{replaced_missing}
 use Rattle.resource_tree.specs.Index.{row_of}

@@ -1,5 +1,5 @@
 use Rattle.std.specs.Prelude.{nat_eq}
-use Rattle.std.proofs.Common.{Some, ap, sym, ◌∙◌, refl}
+use Rattle.std.proofs.Common.{ap, sym, ◌∙◌, refl}
 use Rattle.std.specs.HashMap.{get}
 use Rattle.resource_tree.specs.Index.{grown_sum}
 use Rattle.resource_tree.proofs.IndexLemmas.{grown_put, put_forgotten}

@@ -12,20 +12,21 @@ pub add_descendants-loop-k-init : goal.add_descendants-loop-k-init
 add_descendants-loop-k-init g t c =
     let look = c.args.look.now in
     let nodes = g.T.Tree.nodes look.tree.now in
-    let show = members look.home.now nodes in
-    let all = sym (forest_of_by_kids (may_retrieve look.home.now nodes look.originator.now) c.args.parent nodes c.requires.tree) in
+    let show = members look.asker.now.home nodes in
+    let all = sym (forest_of_by_kids (may_retrieve look.asker.now.home nodes look.asker.now.originator) c.args.parent nodes c.requires.tree) in
     record {
       shown = ap (λ f. with_forest show (cut_forest f c.args.left.now) c.args.members.now) all;
       left = ap (λ f. c.args.left.now - forest_size f) all;
       keys = λ h. h;
+      known = c.requires.known;
     }
 
 pub add_descendants-loop-k-preserved : goal.add_descendants-loop-k-preserved
 add_descendants-loop-k-preserved g t c =
     let look = c.args.look.now in
     let nodes = g.T.Tree.nodes look.tree.now in
-    let show = members look.home.now nodes in
-    let goes = may_retrieve look.home.now nodes look.originator.now in
+    let show = members look.asker.now.home nodes in
+    let goes = may_retrieve look.asker.now.home nodes look.asker.now.originator in
     let kids = children_of c.args.parent nodes in
     let r = c.in-Some.child.now in
     let kid : slice_get kids c.loop-k.k ≡ Some r = sym c.in-Some.ensures.value in
@@ -34,49 +35,50 @@ add_descendants-loop-k-preserved g t c =
       shown = sym (turned goes show nodes kids c.loop-k.k c.loop-k.left c.add_child.new.left r c.loop-k.members c.add_child.new.members kid some c.in_ok-add_child-in-Some.ensures.left c.in_ok-add_child-in-Some.ensures.members) ∙ c.loop-k.invariant.shown;
       left = sym (sizes goes nodes kids c.loop-k.k c.loop-k.left c.add_child.new.left r kid c.in_ok-add_child-in-Some.ensures.left) ∙ c.loop-k.invariant.left;
       keys = λ h. c.in_ok-add_child-in-Some.ensures.keys (c.loop-k.invariant.keys h);
+      known = c.in_ok-add_child-in-Some.ensures.known;
     }
 
 pub add_descendants-returns-then-left-eq0-clause-members : goal.add_descendants-returns-then-left-eq0-clause-members
 add_descendants-returns-then-left-eq0-clause-members g t c =
     let look = c.args.look.now in
     let nodes = g.T.Tree.nodes look.tree.now in
-    let goes = may_retrieve look.home.now nodes look.originator.now in
+    let goes = may_retrieve look.asker.now.home nodes look.asker.now.originator in
     let left = chain goes nodes (drop c.loop-k.k (children_of c.args.parent nodes)) in
-    (stopped goes (members look.home.now nodes) left c.loop-k.left _ c.loop-k.members _ c.if-left-eq0.true c.loop-k.invariant.shown c.loop-k.invariant.left).0
+    (stopped goes (members look.asker.now.home nodes) left c.loop-k.left _ c.loop-k.members _ c.if-left-eq0.true c.loop-k.invariant.shown c.loop-k.invariant.left).0
 
 pub add_descendants-returns-in-None-clause-members : goal.add_descendants-returns-in-None-clause-members
 add_descendants-returns-in-None-clause-members g t c =
     let look = c.args.look.now in
     let nodes = g.T.Tree.nodes look.tree.now in
-    let goes = may_retrieve look.home.now nodes look.originator.now in
+    let goes = may_retrieve look.asker.now.home nodes look.asker.now.originator in
     let kids = children_of c.args.parent nodes in
-    (ended goes (members look.home.now nodes) nodes kids c.loop-k.k c.loop-k.left _ c.loop-k.members _ (drop_none kids c.loop-k.k (sym c.in-None.ensures.value)) c.loop-k.invariant.shown c.loop-k.invariant.left).0
+    (ended goes (members look.asker.now.home nodes) nodes kids c.loop-k.k c.loop-k.left _ c.loop-k.members _ (drop_none kids c.loop-k.k (sym c.in-None.ensures.value)) c.loop-k.invariant.shown c.loop-k.invariant.left).0
 
 pub add_descendants-returns-in-None-clause-left : goal.add_descendants-returns-in-None-clause-left
 add_descendants-returns-in-None-clause-left g t c =
     let look = c.args.look.now in
     let nodes = g.T.Tree.nodes look.tree.now in
-    let goes = may_retrieve look.home.now nodes look.originator.now in
+    let goes = may_retrieve look.asker.now.home nodes look.asker.now.originator in
     let kids = children_of c.args.parent nodes in
-    (ended goes (members look.home.now nodes) nodes kids c.loop-k.k c.loop-k.left _ c.loop-k.members _ (drop_none kids c.loop-k.k (sym c.in-None.ensures.value)) c.loop-k.invariant.shown c.loop-k.invariant.left).1
+    (ended goes (members look.asker.now.home nodes) nodes kids c.loop-k.k c.loop-k.left _ c.loop-k.members _ (drop_none kids c.loop-k.k (sym c.in-None.ensures.value)) c.loop-k.invariant.shown c.loop-k.invariant.left).1
 
 pub add_descendants-returns-clause-members : goal.add_descendants-returns-clause-members
 add_descendants-returns-clause-members g t c =
     let look = c.args.look.now in
     let nodes = g.T.Tree.nodes look.tree.now in
-    let goes = may_retrieve look.home.now nodes look.originator.now in
+    let goes = may_retrieve look.asker.now.home nodes look.asker.now.originator in
     let kids = children_of c.args.parent nodes in
     let past : length nodes ≤ c.loop-k.k = omega arith in
-    (ended goes (members look.home.now nodes) nodes kids c.loop-k.k c.loop-k.left _ c.loop-k.members _ (kids_past nodes c.args.parent c.loop-k.k past) c.loop-k.invariant.shown c.loop-k.invariant.left).0
+    (ended goes (members look.asker.now.home nodes) nodes kids c.loop-k.k c.loop-k.left _ c.loop-k.members _ (kids_past nodes c.args.parent c.loop-k.k past) c.loop-k.invariant.shown c.loop-k.invariant.left).0
 
 pub add_descendants-returns-clause-left : goal.add_descendants-returns-clause-left
 add_descendants-returns-clause-left g t c =
     let look = c.args.look.now in
     let nodes = g.T.Tree.nodes look.tree.now in
-    let goes = may_retrieve look.home.now nodes look.originator.now in
+    let goes = may_retrieve look.asker.now.home nodes look.asker.now.originator in
     let kids = children_of c.args.parent nodes in
     let past : length nodes ≤ c.loop-k.k = omega arith in
-    (ended goes (members look.home.now nodes) nodes kids c.loop-k.k c.loop-k.left _ c.loop-k.members _ (kids_past nodes c.args.parent c.loop-k.k past) c.loop-k.invariant.shown c.loop-k.invariant.left).1
+    (ended goes (members look.asker.now.home nodes) nodes kids c.loop-k.k c.loop-k.left _ c.loop-k.members _ (kids_past nodes c.args.parent c.loop-k.k past) c.loop-k.invariant.shown c.loop-k.invariant.left).1
 
 pub add_descendants-add_child-requires : goal.add_descendants-add_child-requires
 add_descendants-add_child-requires g t c κs within =

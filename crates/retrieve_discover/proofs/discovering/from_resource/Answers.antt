@@ -19,7 +19,12 @@ pub returns : goal.returns
 returns g c =
     let w = c.args.wanted.now in
     let nodes = g.T.Tree.nodes w.tree.now in
-    let found = λ (n : ℕ). map (address w.by_id nodes) (all_found w.home.now nodes w.originator.now w.filter.now n) in
+    let found = λ (n : ℕ). map (address w.by_id nodes) (all_found w.asker.now.home nodes w.asker.now.originator w.filter.now n) in
     c.in_ok-find_below.ensures.found
     ∙ ap (λ (ds : List Data). take w.limit (ds ++ found c.number.result)) c.new-found.ensures.items
     ∙ ap (λ n. take w.limit (found n)) c.number.ensures.value
+
+pub find_below-requires-clause-known : goal.find_below-requires-clause-known
+find_below-requires-clause-known g c =
+    let w = c.args.wanted.now in
+    c.nothing-known.ensures w.asker.now.home (g.T.Tree.nodes w.tree.now) w.asker.now.originator

@@ -17,9 +17,10 @@ find_below-loop-k-init g t c =
     let w = c.args.wanted.now in
     let nodes = g.T.Tree.nodes w.tree.now in
     record {
-      told = kept_start (address w.by_id nodes) (is_found w.home.now nodes w.originator.now w.filter.now) w.limit nodes c.args.parent c.args.found.now.items c.requires.tree;
+      told = kept_start (address w.by_id nodes) (is_found w.asker.now.home nodes w.asker.now.originator w.filter.now) w.limit nodes c.args.parent c.args.found.now.items c.requires.tree;
       room = c.requires.room;
       path = refl;
+      known = c.requires.known;
     }
 
 pub find_below-loop-k-preserved : goal.find_below-loop-k-preserved
@@ -27,13 +28,14 @@ find_below-loop-k-preserved g t c =
     let w = c.args.wanted.now in
     let nodes = g.T.Tree.nodes w.tree.now in
     let show = address w.by_id nodes in
-    let test = is_found w.home.now nodes w.originator.now w.filter.now in
+    let test = is_found w.asker.now.home nodes w.asker.now.originator w.filter.now in
     let kid : slice_get (children_of c.args.parent nodes) c.loop-k.k ≡ Some c.in-Some.child.now = sym c.in-Some.ensures.value in
     let all : List Data = take w.limit (c.args.found.now.items ++ kept show test (below c.args.parent nodes)) in
     record {
       told = kept_more show test w.limit nodes (children_of c.args.parent nodes) c.loop-k.k c.in-Some.child.now c.loop-k.found.items c.visit.new.found.items all kid c.in_ok-visit-in-Some.ensures.found c.loop-k.invariant.told;
       room = subst (λ (ds : List Data). length ds ≤ w.limit) (sym c.in_ok-visit-in-Some.ensures.found) (take-short w.limit _);
       path = c.in_ok-visit-in-Some.ensures.path ∙ c.loop-k.invariant.path;
+      known = c.in_ok-visit-in-Some.ensures.known;
     }
 
 -- no child is left
@@ -42,7 +44,7 @@ find_below-returns-in-None-clause-found g t c =
     let w = c.args.wanted.now in
     let nodes = g.T.Tree.nodes w.tree.now in
     let show = address w.by_id nodes in
-    let test = is_found w.home.now nodes w.originator.now w.filter.now in
+    let test = is_found w.asker.now.home nodes w.asker.now.originator w.filter.now in
     let kids = children_of c.args.parent nodes in
     kept_all show test w.limit nodes kids c.loop-k.k c.loop-k.found.items _ (drop_none kids c.loop-k.k (sym c.in-None.ensures.value)) c.loop-k.invariant.room c.loop-k.invariant.told
 
@@ -51,7 +53,7 @@ find_below-returns-clause-found g t c =
     let w = c.args.wanted.now in
     let nodes = g.T.Tree.nodes w.tree.now in
     let show = address w.by_id nodes in
-    let test = is_found w.home.now nodes w.originator.now w.filter.now in
+    let test = is_found w.asker.now.home nodes w.asker.now.originator w.filter.now in
     let past : length nodes ≤ c.loop-k.k = omega arith in
     kept_all show test w.limit nodes (children_of c.args.parent nodes) c.loop-k.k c.loop-k.found.items _ (kids_past nodes c.args.parent c.loop-k.k past) c.loop-k.invariant.room c.loop-k.invariant.told
 
@@ -72,7 +74,7 @@ visit-find_below-requires g t c κs within =
     let nodes = g.T.Tree.nodes w.tree.now in
     let r = c.args.child.now in
     let show = address w.by_id nodes in
-    let test = is_found w.home.now nodes w.originator.now w.filter.now in
+    let test = is_found w.asker.now.home nodes w.asker.now.originator w.filter.now in
     let there : has r.number nodes ≡ true = at_has r.number nodes r c.requires.child in
     let above : c.add_found.new.path.items ≡ structured_of r.parent nodes = c.in_ok-add_found.ensures.path ∙ c.requires.path in
     let path : c.go_down.new.path.items ≡ structured_of r.number nodes = path_down nodes r c.add_found.new.path.items c.go_down.new.path.items c.requires.tree c.requires.child c.requires.parent above c.in_ok-go_down.ensures.path in
@@ -87,7 +89,7 @@ visit-returns-clause-found g t c =
     let nodes = g.T.Tree.nodes w.tree.now in
     let r = c.args.child.now in
     let show = address w.by_id nodes in
-    let test = is_found w.home.now nodes w.originator.now w.filter.now in
+    let test = is_found w.asker.now.home nodes w.asker.now.originator w.filter.now in
     let all = c.in_ok-find_below.ensures.found ∙ ap (λ n. take w.limit (c.add_found.new.found.items ++ kept show test (below n nodes))) c.number-2.ensures.value in
     kept_one show test w.limit nodes r c.args.found.now.items c.add_found.new.found.items c.find_below.new.found.items c.in_ok-add_found.ensures.found all
 
@@ -98,7 +100,7 @@ visit-returns-in_default-clause-found g t c =
     let nodes = g.T.Tree.nodes w.tree.now in
     let r = c.args.child.now in
     let show = address w.by_id nodes in
-    let test = is_found w.home.now nodes w.originator.now w.filter.now in
-    let none : number_at 0 (children_of r.number nodes) ≡ None = ap (λ n. number_at 0 (children_of n nodes)) (sym c.number.ensures.value) ∙ sym c.kid.ensures ∙ c.in_default.is in
+    let test = is_found w.asker.now.home nodes w.asker.now.originator w.filter.now in
+    let none : number_at 0 (children_of r.number nodes) ≡ None = ap (λ n. number_at 0 (children_of n nodes)) (sym c.number.ensures.value) ∙ sym c.kid.ensures.value ∙ c.in_default.is in
     let room : length c.add_found.new.found.items ≤ w.limit = one_fits show test w.limit r c.args.found.now.items c.add_found.new.found.items c.requires.room c.in_ok-add_found.ensures.found in
     kept_leaf show test w.limit nodes r c.args.found.now.items c.add_found.new.found.items c.requires.tree none room c.in_ok-add_found.ensures.found

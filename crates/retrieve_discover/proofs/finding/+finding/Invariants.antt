@@ -1,6 +1,7 @@
 use Rattle.std.proofs.Common.{◌≡◌, ◌++◌, ◌≤◌, ◌-◌, ◌^◌, ◌+◌, take, drop, length}
 use Rattle.std.specs.List.{flat_map}
 use Rattle.tree_model.specs.Tree.{children_of}
+use Rattle.known_rights.specs.Known.{IsKnown}
 use Rattle.retrieve_discover.specs.Descendants.{below}
 use Rattle.retrieve_discover.specs.Findings.{address, is_found}
 use Rattle.retrieve_discover.proofs.BelowLemmas.{with_below}
@@ -12,11 +13,12 @@ use Rattle.retrieve_discover.proofs.finding.+finding.Given as goal
 abbrev pub invariant-find_below-loop-k : goal.invariant-find_below-loop-k
 invariant-find_below-loop-k g l =
     let nodes = g.T.Tree.nodes l.wanted.tree.now in
-    let keep = kept (address l.wanted.by_id nodes) (is_found l.wanted.home.now nodes l.wanted.originator.now l.wanted.filter.now) in
+    let keep = kept (address l.wanted.by_id nodes) (is_found l.wanted.asker.now.home nodes l.wanted.asker.now.originator l.wanted.filter.now) in
     record {
       told : take l.wanted.limit (l.found.items ++ keep (flat_map (with_below nodes) (drop l.k (children_of l.parent nodes)))) ≡ take l.wanted.limit (l.fn.found.items ++ keep (below l.parent nodes));
       room : length l.found.items ≤ l.wanted.limit;
       path : l.path.items ≡ l.fn.path.items;
+      known : IsKnown l.wanted.asker.now.home nodes l.wanted.asker.now.originator l.known;
     }
 
 -- numbers grow on the way down; a child comes before what is below it

@@ -2,7 +2,7 @@ use Rattle.std.proofs.Common.{ℕ, ap, sym, ◌∙◌}
 use Rattle.std.specs.Prelude.{nat_eq}
 use Rattle.std.specs.List.{list_any}
 use Rattle.std.specs.Result.{is_ok}
-use Rattle.subscription_match.proofs.NumberLemmas.{among}
+use Rattle.tree_model.proofs.NumberLemmas.{among}
 use Rattle.subscription_match.proofs.criteria.is_going.Goals as goal
 
 pub returns-in-Err : goal.returns-in-Err

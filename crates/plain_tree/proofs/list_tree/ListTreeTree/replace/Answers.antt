@@ -14,7 +14,7 @@ invariant_of-self c =
     let stood : option_map standing (at c.args.resource.number nodes) ≡ Some (standing c.args.resource) = ap (λ (ns : List ResourceData). option_map standing (at c.args.resource.number ns)) c.self.view_is ∙ c.requires in
     let age : c.lowered_age.result ≡ after =
     c.lowered_age.ensures
-    ∙ ap (λ (o : Option ResourceData). lowered_age (age_of o) (count_at Mia c.args.resource.attrs)) (c.look_up-old.ensures ∙ ap (λ n. at n nodes) c.number.ensures.value) in
+    ∙ ap (λ (o : Option ResourceData). lowered_age (age_of o) (count_at Mia c.args.resource.attrs)) (c.look_up-old.ensures.value ∙ ap (λ n. at n nodes) c.number.ensures.value) in
     ap (λ quiet. are_quiet quiet c.replace.new.self)
     (c.earlier-self-inside.ensures
     ∙ ap (λ quiet. lesser quiet c.lowered_age.result) (c.earlier-own.ensures ∙ ap (lesser c.self.inside.quiet) c.due.ensures.value)

@@ -1,4 +1,4 @@
-use Rattle.std.proofs.Common.{◌≡◌, ◌<◌, ◌≤◌, ◌+◌, List, length, length-set, refl, sym, ap, ◌∙◌, arith}
+use Rattle.std.proofs.Common.{◌<◌, ◌≤◌, length, length-set, refl, ◌∙◌, arith}
 use Rattle.resource_tree.proofs.IndexLemmas.{end_at, start_at, turn_go, turn_stay}
 use Rattle.resource_tree.proofs.index.Index.let_go.Goals as goal
 use Rattle.resource_tree.proofs.index.Index.let_go.Goals.{then-is_number_at, else-is_number_at}

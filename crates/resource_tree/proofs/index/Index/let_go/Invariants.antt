@@ -1,7 +1,7 @@
 use Rattle.std.proofs.Common.{◌≡◌, ◌≤◌, List, length}
 use Rattle.resource_model.specs.Resource.{ResourceData}
 use Rattle.resource_tree.specs.Index.{IsIndex, IsLeft}
-use Rattle.resource_tree.specs.Names.{IsNamed}
+use Rattle.resource_names.specs.Names.{IsNamed}
 use Rattle.resource_tree.proofs.IndexLemmas.{IsAt}
 use Rattle.resource_tree.proofs.index.Index.let_go.Given as goal
 

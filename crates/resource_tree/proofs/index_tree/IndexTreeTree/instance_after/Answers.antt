@@ -5,8 +5,8 @@ use Rattle.resource_tree.specs.Queue.{first_after}
 use Rattle.resource_tree.proofs.IndexLemmas.{first-numbers}
 use Rattle.resource_tree.proofs.index_tree.IndexTreeTree.instance_after.Goals as goal
 
-pub returns : goal.returns
-returns c =
+pub returns-clause-value : goal.returns-clause-value
+returns-clause-value c =
     c.kin_after.ensures ∙ ap (first_after c.args.number) (c.self.invariant.queues.kin.types.instances c.args.container)
     ∙ first-numbers c.args.number (instances_of c.args.container c.self.inside.list)
     ∙ ap (λ (ns : List ResourceData). resource_number (next_after c.args.number (instances_of c.args.container ns))) c.self.view_is

@@ -1,0 +1,48 @@
+use Rattle.std.proofs.Common.{◌≤◌, refl, sym, ap, ◌∙◌, subst}
+use Rattle.std.specs.List.{AllByRecursion}
+use Rattle.notify_outbox.specs.declared.item.Item.{Item}
+use Rattle.entity_model.specs.Entity.{EntityData}
+use Rattle.entity_model.specs.Sound.{IsSoundEntity}
+use Rattle.entity_model.proofs.WaitingLemmas.{waiting_each}
+use Rattle.create_delete.specs.Joining.{MayJoin}
+use Rattle.create_delete.specs.Telling.{joined_told}
+use Rattle.create_delete.proofs.CarriedLemmas.{appended, joined_ascend, joined_carried, joined_sound}
+use Rattle.create_delete.proofs.creation.apply.Goals as goal
+
+pub prepare_creation-requires : goal.prepare_creation-requires
+prepare_creation-requires g c =
+    let before : EntityData = record { home = c.entity.inside.home; nodes = g.T.Tree.nodes c.entity.inside.tree; next = c.entity.inside.next; last = c.entity.inside.last; items = c.entity.inside.outbox.items; numbered = c.entity.inside.outbox.count } in
+    let r = c.args.prepared.resource in
+    let f = c.args.prepared.update in
+    let may : MayJoin before r f = subst (λ (e : EntityData). MayJoin e r f) (sym c.entity.view_is) c.requires in
+    joined_ascend before r f c.entity.invariant may
+
+pub put_new_resource-requires : goal.put_new_resource-requires
+put_new_resource-requires g c =
+    let before : EntityData = record { home = c.entity.inside.home; nodes = g.T.Tree.nodes c.entity.inside.tree; next = c.entity.inside.next; last = c.entity.inside.last; items = c.entity.inside.outbox.items; numbered = c.entity.inside.outbox.count } in
+    let r = c.args.prepared.resource in
+    let f = c.args.prepared.update in
+    let may : MayJoin before r f = subst (λ (e : EntityData). MayJoin e r f) (sym c.entity.view_is) c.requires in
+    record { entity = before; stand = refl; last = refl; sound = c.entity.invariant; may = may }
+
+pub tell-requires-clause-order : goal.tell-requires-clause-order
+tell-requires-clause-order g c =
+    subst (AllByRecursion (λ (i : Item). i.since ≤ c.entity.inside.last)) (sym c.prepare_creation.ensures.items) (waiting_each c.entity.inside.last c.entity.inside.outbox.items c.entity.invariant.waiting)
+
+pub invariant_of-entity-2 : goal.invariant_of-entity-2
+invariant_of-entity-2 g c =
+    let before : EntityData = record { home = c.entity.inside.home; nodes = g.T.Tree.nodes c.entity.inside.tree; next = c.entity.inside.next; last = c.entity.inside.last; items = c.entity.inside.outbox.items; numbered = c.entity.inside.outbox.count } in
+    let r = c.args.prepared.resource in
+    let f = c.args.prepared.update in
+    let may : MayJoin before r f = subst (λ (e : EntityData). MayJoin e r f) (sym c.entity.view_is) c.requires in
+    subst IsSoundEntity (sym (joined_carried before r f c.in_ok-told.told c.entity.invariant may c.in_ok-told.ensures.told _ _ _ _ c.in_ok-put_new_resource.ensures.ok c.tell.ensures.nodes (appended before _ _ _ _ _ c.prepare_creation.ensures.items c.prepare_creation.ensures.count c.tell.ensures.items c.tell.ensures.count)))
+    (joined_sound before r f c.entity.invariant may)
+
+pub returns-clause-after : goal.returns-clause-after
+returns-clause-after g c =
+    let before : EntityData = record { home = c.entity.inside.home; nodes = g.T.Tree.nodes c.entity.inside.tree; next = c.entity.inside.next; last = c.entity.inside.last; items = c.entity.inside.outbox.items; numbered = c.entity.inside.outbox.count } in
+    let r = c.args.prepared.resource in
+    let f = c.args.prepared.update in
+    let may : MayJoin before r f = subst (λ (e : EntityData). MayJoin e r f) (sym c.entity.view_is) c.requires in
+    joined_carried before r f c.in_ok-told.told c.entity.invariant may c.in_ok-told.ensures.told _ _ _ _ c.in_ok-put_new_resource.ensures.ok c.tell.ensures.nodes (appended before _ _ _ _ _ c.prepare_creation.ensures.items c.prepare_creation.ensures.count c.tell.ensures.items c.tell.ensures.count)
+    ∙ ap (λ (e : EntityData). joined_told e r f) c.entity.view_is

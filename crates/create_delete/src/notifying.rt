@@ -1,0 +1,216 @@
+//! What an operation tells subscriptions (TS-0001, 9.6.8), before anything is changed.
+ghost use Rattle.std.specs.Prelude.{◌≡◌, ℕ, ◌≤◌, ◌||◌, List, [], length, nat_eq, IfOk, IsTrue, Some};
+ghost use Rattle.std.specs.List.{list_any};
+ghost use Rattle.resource_model.specs.Home.{HomeData};
+ghost use Rattle.resource_model.specs.Resource.{ResourceData, has_number};
+ghost use Rattle.subscription_match.specs.Notices.{notes_of_all};
+ghost use Rattle.tree_model.specs.Changes.{creation_changes, deletion_changes, update_changes};
+ghost use Rattle.tree_model.specs.Tree.{at, children_of, has, is_tree, is_well_formed, number_at, DoAscend};
+ghost use Rattle.entity_model.specs.Telling.{IsTold};
+ghost use Rattle.create_delete.specs.Joining.{gone_by};
+ghost use Rattle.create_delete.specs.Telling as spec;
+
+use crate::joining::ContainerUpdate;
+use entity_model::{Told, prepare_telling};
+use m2m_value::Numbers;
+use notify_outbox::Outbox;
+use std::alloc::{AllocError as OutOfMemory, Global};
+use tree_model::{AttrSet, Changes, Home, Resource, Tree, over};
+
+/// What a creation tells, with room for it in the outbox.
+pub(crate) fn prepare_creation<T: Tree>(
+    alloc: Global,
+    tree: &T,
+    home: &Home,
+    outbox: &mut Outbox,
+    resource: &Resource,
+    update: &Option<ContainerUpdate>,
+) -> Result<Told, OutOfMemory>
+    requires { DoAscend (gone_by update.now) }
+    ensures told { IfOk result (IsTold home.now (T.nodes tree.now)
+        (notes_of_all home.now (T.nodes tree.now) (gone_by update.now)
+        (creation_changes (T.nodes tree.now) resource.now (gone_by update.now)))) }
+    ensures room { IfOk result (λ t. length t.notes.items ≤ outbox.new.room) }
+    ensures items { outbox.new.items ≡ outbox.old.items }
+    ensures count { outbox.new.count ≡ outbox.old.count }
+{
+    let gone: &[u64] = match update {
+        Some(update) => update.gone.entries(),
+        None => &[],
+    };
+    let changes = Changes::of_creation(tree, resource, gone);
+    prepare_telling(alloc, tree, home, outbox, gone, changes)
+}
+
+/// What an Update of these attributes tells that leaves a resource so and pushes out the instances
+/// of these numbers, with room for it in the outbox.
+pub(crate) fn prepare_update<T: Tree>(
+    alloc: Global,
+    tree: &T,
+    home: &Home,
+    outbox: &mut Outbox,
+    resource: &Resource,
+    named: &AttrSet,
+    gone: &[u64],
+) -> Result<Told, OutOfMemory>
+    requires there { IsTrue (has resource.now.number (T.nodes tree.now)) }
+    requires order { DoAscend gone.now }
+    ensures told { (r : ResourceData) → at resource.now.number (T.nodes tree.now) ≡ Some r
+        → IfOk result (IsTold home.now (T.nodes tree.now)
+        (notes_of_all home.now (T.nodes tree.now) gone.now
+        (update_changes (T.nodes tree.now) r resource.now named.now gone.now))) }
+    ensures room { IfOk result (λ t. length t.notes.items ≤ outbox.new.room) }
+    ensures items { outbox.new.items ≡ outbox.old.items }
+    ensures count { outbox.new.count ≡ outbox.old.count }
+{
+    match tree.get(resource.number()) {
+        Some(before) => {
+            let changes = Changes::of_update(tree, before, resource, named, gone);
+            prepare_telling(alloc, tree, home, outbox, gone, changes)
+        }
+        None => unreachable!(),
+    }
+}
+
+/// What the deletion of the resource of a number tells, with room for it in the outbox. Where no
+/// subscription stands beside it or below, nothing is sought and no memory is taken.
+pub(crate) fn prepare_deletion<T: Tree>(
+    alloc: Global,
+    tree: &T,
+    home: &Home,
+    outbox: &mut Outbox,
+    target: u64,
+) -> Result<Told, OutOfMemory>
+    requires there { IsTrue (has target (T.nodes tree.now)) }
+    requires formed { IsTrue (is_well_formed (T.nodes tree.now)) }
+    ensures told { IfOk result (IsTold home.now (T.nodes tree.now)
+        (notes_of_all home.now (T.nodes tree.now) (spec.numbers_below target (T.nodes tree.now))
+        (deletion_changes (T.nodes tree.now) target))) }
+    ensures room { IfOk result (λ t. length t.notes.items ≤ outbox.new.room) }
+    ensures items { outbox.new.items ≡ outbox.old.items }
+    ensures count { outbox.new.count ≡ outbox.old.count }
+{
+    if is_unheard(tree, target) {
+        return Ok(nothing_told(alloc));
+    }
+    let going = numbers_below(alloc, tree, target)?;
+    let changes = Changes::of_removal(tree, going.entries());
+    prepare_telling(alloc, tree, home, outbox, going.entries(), changes)
+}
+
+fn nothing_told(alloc: Global) -> Told
+    ensures told { (home : HomeData) (nodes : List ResourceData) → IsTold home nodes [] result }
+    ensures notes { result.notes.items ≡ [] }
+{
+    Told {
+        notes: Vec::new(alloc),
+        left: Vec::new(alloc),
+    }
+}
+
+// Whether nobody is told of the deletion of the resource of a number.
+fn is_unheard<T: Tree>(tree: &T, target: u64) -> bool
+    requires { IsTrue (is_well_formed (T.nodes tree.now)) }
+    ensures { IsTrue result → (home : HomeData) (going : List ℕ)
+        → notes_of_all home (T.nodes tree.now) going (deletion_changes (T.nodes tree.now) target)
+        ≡ [] }
+{
+    match tree.get(target) {
+        Some(resource) => is_unheard_from(tree, resource),
+        None => false,
+    }
+}
+
+fn is_unheard_from<T: Tree>(tree: &T, resource: &Resource) -> bool
+    requires formed { IsTrue (is_well_formed (T.nodes tree.now)) }
+    requires stands { at resource.now.number (T.nodes tree.now) ≡ Some resource.now }
+    ensures { IsTrue result → (home : HomeData) (going : List ℕ)
+        → notes_of_all home (T.nodes tree.now) going
+        (deletion_changes (T.nodes tree.now) resource.now.number) ≡ [] }
+{
+    match tree.sub(resource.parent(), 0) {
+        Some(_) => false,
+        None => is_silent(tree, resource.number()),
+    }
+}
+
+// Whether it is sure that no subscription stands under the resource of a number, or below.
+#[cycle(silent)]
+fn is_silent<T: Tree>(tree: &T, number: u64) -> bool
+    requires { IsTrue (is_well_formed (T.nodes tree.now)) }
+    ensures { IsTrue result → spec.IsSilent number (T.nodes tree.now) }
+{
+    if let Some(_) = tree.sub(number, 0) {
+        return false;
+    }
+    // More children than instances aren't all instances, under which nothing stands.
+    match tree.kid(number, tree.instance_count(number)) {
+        Some(_) => are_kids_silent(tree, number),
+        None => true,
+    }
+}
+
+#[cycle(silent)]
+fn are_kids_silent<T: Tree>(tree: &T, number: u64) -> bool
+    requires { IsTrue (is_well_formed (T.nodes tree.now)) }
+    ensures { IsTrue result → (k m : ℕ)
+        → Some m ≡ number_at k (children_of number (T.nodes tree.now))
+        → spec.IsSilent m (T.nodes tree.now) }
+{
+    for place in 0..tree.len() {
+        let Some(kid) = tree.kid(number, place) else {
+            return true;
+        };
+        if !is_silent(tree, kid) {
+            return false;
+        }
+    }
+    true
+}
+
+// Whether a number is one of these.
+fn is_among(numbers: &[u64], number: u64) -> bool
+    requires { DoAscend numbers.now }
+    ensures { result ≡ list_any (nat_eq number) numbers.now }
+{
+    match numbers.binary_search(&number) {
+        Ok(_) => true,
+        Err(_) => false,
+    }
+}
+
+// Whether a resource is the one of a number, or stands under one of these.
+fn goes_with(target: u64, numbers: &[u64], resource: &Resource) -> bool
+    requires { DoAscend numbers.now }
+    ensures { result ≡ (has_number target resource.now
+        || list_any (nat_eq resource.now.parent) numbers.now) }
+{
+    resource.number() == target || is_among(numbers, resource.parent())
+}
+
+// The numbers of a resource and of all that stands below it. Of one below which nothing stands no
+// other is looked at.
+fn numbers_below<T: Tree>(alloc: Global, tree: &T, target: u64) -> Result<Numbers, OutOfMemory>
+    requires { IsTrue (has target (T.nodes tree.now)) }
+    ensures tree { IsTrue (is_tree (T.nodes tree.now)) }
+    ensures value { IfOk result (λ n. n ≡ spec.numbers_below target (T.nodes tree.now)) }
+{
+    match tree.kid(target, 0) {
+        Some(_) => numbers_in_line(alloc, tree, target),
+        None => Ok(Numbers::of(vec![in alloc; target]?)),
+    }
+}
+
+// What stands below it comes after it, and after what it stands under.
+fn numbers_in_line<T: Tree>(alloc: Global, tree: &T, target: u64) -> Result<Numbers, OutOfMemory>
+    requires { IsTrue (is_tree (T.nodes tree.now)) }
+    ensures { IfOk result (λ n. n ≡ spec.numbers_below target (T.nodes tree.now)) }
+{
+    let mut numbers = Vec::new(alloc);
+    for resource in over(tree) {
+        if goes_with(target, &numbers, resource) {
+            numbers.push(resource.number())?;
+        }
+    }
+    Ok(Numbers::of(numbers))
+}

@@ -1,0 +1,46 @@
+-- How what is told of an operation is carried out: notes that are ready to be appended, and
+-- subscriptions that are lowered one after another.
+use Rattle.std.specs.Prelude.{◌≡◌, ℕ, ◌==◌, nat_lt, List, [], ◌∷◌, Bool, false}
+use Rattle.std.specs.Prelude.{if◌then◌else◌, Option, Some, None}
+use Rattle.std.specs.List.Sorted.{IsStrictlySortedBy}
+use Rattle.std.specs.Map.{keys_of}
+use Rattle.std.specs.Ordering.{nat_cmp}
+use Rattle.resource_model.specs.Home.{HomeData}
+use Rattle.resource_model.specs.Resource.{ResourceData, has_number}
+use Rattle.subscription_match.specs.Items.{items_of}
+use Rattle.subscription_match.specs.Spending.{count_for, kept, left_at, left_in, left_to, spent}
+use Rattle.subscription_match.specs.declared.drafts.DraftParts.{DraftParts}
+use Rattle.tree_model.specs.Tree.{at, recounted_at, without}
+use Rattle.entity_model.specs.declared.telling.Told.{Told}
+
+-- what comes of drafts, by the resources before the operation: the items of those that are kept,
+-- and what is left to each subscription that counts and is told something
+pub record IsTold (home : HomeData) (before : List ResourceData) (drafts : List DraftParts)
+    (told : Told) : Type 0 where
+  pub notes : told.notes.items ≡ items_of home before (kept before drafts)
+  pub left : (n : ℕ) → left_in told.left.items n ≡ spent before drafts n
+  pub order : IsStrictlySortedBy nat_cmp (keys_of told.left.items)
+
+-- more than so many are left
+abbrev pub has_more : ℕ → Option ℕ → Bool
+has_more left None = false
+has_more left (Some old) = nat_lt left old
+
+-- the subscription of a number, where it counts and has more left, has so many left then; it goes
+-- where that is none
+abbrev pub lowered_to : ℕ → ℕ → List ResourceData → List ResourceData
+lowered_to n left nodes =
+    if has_more left (left_at nodes n)
+    then (if left == 0 then without (has_number n) nodes else recounted_at n left nodes)
+    else nodes
+
+-- and so one after another
+abbrev pub all_lowered_to : List (ℕ × ℕ) → List ResourceData → List ResourceData
+all_lowered_to [] nodes = nodes
+all_lowered_to (row ∷ rows) nodes = all_lowered_to rows (lowered_to row.0 row.1 nodes)
+
+-- an operation lets a subscription that it tells something stand as it was, or takes it
+abbrev pub LeavesWhoIsTold : List ResourceData → List DraftParts → List ResourceData → Type 0
+LeavesWhoIsTold before drafts after =
+    (r : ResourceData) → at r.number after ≡ Some r → (count_for r.number drafts == 0) ≡ false
+    → left_to r ≡ left_at before r.number

@@ -1,0 +1,3 @@
+pub mod AskerLemmas
+pub mod BesidesLemmas
+pub mod KnownLemmas

@@ -1,0 +1,27 @@
+-- Bits by rules, in tables by the numbers of resources.
+use Rattle.std.specs.Prelude.{◌≡◌, ◌⊎◌, ℕ, nat_eq, List, Some, if◌then◌else◌}
+use Rattle.std.specs.HashMap.{HashMap, get}
+use Rattle.m2m_names.specs.declared.attributes.Attr.TheVariants.{Pv}
+use Rattle.resource_model.specs.Attributes.{value_of}
+use Rattle.resource_model.specs.Home.{HomeData}
+use Rattle.resource_model.specs.Resource.{ResourceData}
+use Rattle.tree_model.specs.Tree.{at}
+use Rattle.policy_eval.specs.Rights.{bits_by}
+use Rattle.policy_eval.specs.Rules.{Rule, rules_in}
+
+-- the rules by which a policy gives rights on what names it
+abbrev pub lent_rules : ResourceData → List Rule
+lent_rules policy = rules_in (value_of Pv policy.attrs)
+
+-- what a table has at the number of a resource are the bits that these rules of it give
+abbrev pub AreBits : {S : Type 0} → (ResourceData → List Rule) → HomeData → List ResourceData →
+    List ℕ → HashMap ℕ ℕ S → Type 0
+AreBits rules home nodes originator table =
+    (r : ResourceData) (bits : ℕ) → at r.number nodes ≡ Some r
+    → get nat_eq table r.number ≡ Some bits → bits ≡ bits_by home originator (rules r)
+
+-- a table has these bits at the number besides, or has no room for them and is as it was
+abbrev pub NotesOrStays : {S : Type 0} → HashMap ℕ ℕ S → HashMap ℕ ℕ S → ℕ → ℕ → Type 0
+NotesOrStays old new number bits =
+    (n : ℕ) → (get nat_eq new n ≡ (if nat_eq number n then Some bits else get nat_eq old n))
+    ⊎ (get nat_eq new n ≡ get nat_eq old n)

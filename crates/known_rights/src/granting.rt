@@ -1,0 +1,162 @@
+//! The rights of an asker on many resources.
+ghost use Rattle.std.specs.Prelude.{◌≡◌, IsTrue, Some};
+ghost use Rattle.m2m_names.specs.declared.attributes.Attr.TheVariants.{Pv};
+ghost use Rattle.m2m_names.specs.Name.{is_originator};
+ghost use Rattle.tree_model.specs.Tree.{at};
+ghost use Rattle.policy_eval.specs.Rights as spec;
+ghost use Rattle.policy_eval.specs.Rules as spec_rules;
+ghost use Rattle.known_rights.specs.Known.{IsKnown};
+ghost use Rattle.known_rights.specs.Tables.{lent_rules};
+
+use crate::asker::Asker;
+use crate::known::{Known, bits_at, note_bits};
+use crate::rules::{bits_by_rules, policy_named, rules_in};
+use m2m_names::{ALL_BITS, Attr, Ty};
+use m2m_value::Val;
+use policy_eval::{granted_on, listed_in};
+use tree_model::{Resource, Tree};
+
+// The bits by `pv` of a policy, as its rules are read.
+fn read_bits(asker: &Asker, policy: &Resource) -> u32
+    ensures { result ≡ spec.bits_by asker.now.home asker.now.originator (lent_rules policy.now) }
+{
+    bits_by_rules(asker, rules_in(policy.attrs().get(Attr::Pv)))
+}
+
+// The same, where they aren't known.
+fn lent_bits<T: Tree>(tree: &T, asker: &Asker, policy: &Resource, known: &mut Known) -> u32
+    requires policy { at policy.now.number (T.nodes tree.now) ≡ Some policy.now }
+    requires known { IsKnown asker.now.home (T.nodes tree.now) asker.now.originator known.old }
+    ensures bits { result
+        ≡ spec.bits_by asker.now.home asker.now.originator (lent_rules policy.now) }
+    ensures known { IsKnown asker.now.home (T.nodes tree.now) asker.now.originator known.new }
+{
+    if let Some(bits) = bits_at(&known.policies, policy.number()) {
+        return bits;
+    }
+    let bits = read_bits(asker, policy);
+    note_bits(&mut known.policies, policy.number(), bits);
+    bits
+}
+
+// The bits, and those that a policy gives besides.
+fn with_policy<T: Tree>(
+    tree: &T,
+    asker: &Asker,
+    bits: u32,
+    policy: &Resource,
+    known: &mut Known,
+) -> u32
+    requires policy { at policy.now.number (T.nodes tree.now) ≡ Some policy.now }
+    requires known { IsKnown asker.now.home (T.nodes tree.now) asker.now.originator known.old }
+    ensures bits { result
+        ≡ spec.with_rules asker.now.home asker.now.originator bits (lent_rules policy.now) }
+    ensures known { IsKnown asker.now.home (T.nodes tree.now) asker.now.originator known.new }
+{
+    bits | lent_bits(tree, asker, policy, known)
+}
+
+// The bits that the policies which ids name give by `pv`.
+fn bits_by_ids<T: Tree>(tree: &T, asker: &Asker, ids: &[Val], known: &mut Known) -> u32
+    requires known { IsKnown asker.now.home (T.nodes tree.now) asker.now.originator known.old }
+    ensures bits { result ≡ spec.bits_by asker.now.home asker.now.originator
+        (spec_rules.rules_by Pv (T.nodes tree.now) ids.now) }
+    ensures known { IsKnown asker.now.home (T.nodes tree.now) asker.now.originator known.new }
+{
+    let mut bits = 0;
+    for id in ids {
+        if let Some(policy) = policy_named(tree, id) {
+            bits = with_policy(tree, asker, bits, policy, known);
+        }
+    }
+    bits
+}
+
+// All bits of an owner, and none of anyone else.
+fn bits_of_owner(asker: &Asker, resource: &Resource) -> u32
+    ensures { result ≡ spec.bits_by asker.now.home asker.now.originator
+        (spec_rules.owner_rules resource.now) }
+{
+    if asker.is_same(resource.owner().entries()) {
+        ALL_BITS
+    } else {
+        0
+    }
+}
+
+// By `pv` of the policies that `acpi` names, or the owner's where it is absent or empty.
+fn linked_bits<T: Tree>(tree: &T, asker: &Asker, resource: &Resource, known: &mut Known) -> u32
+    requires known { IsKnown asker.now.home (T.nodes tree.now) asker.now.originator known.old }
+    ensures bits { result ≡ spec.bits_by asker.now.home asker.now.originator
+        (spec_rules.linked_rules Pv (T.nodes tree.now) resource.now) }
+    ensures known { IsKnown asker.now.home (T.nodes tree.now) asker.now.originator known.new }
+{
+    let ids = listed_in(resource.attrs().get(Attr::Acpi));
+    if ids.is_empty() {
+        bits_of_owner(asker, resource)
+    } else {
+        bits_by_ids(tree, asker, ids, known)
+    }
+}
+
+// The same of a container, which is judged for each of its instances.
+fn container_bits<T: Tree>(tree: &T, asker: &Asker, container: &Resource, known: &mut Known) -> u32
+    requires container { at container.now.number (T.nodes tree.now) ≡ Some container.now }
+    requires known { IsKnown asker.now.home (T.nodes tree.now) asker.now.originator known.old }
+    ensures bits { result ≡ spec.bits_by asker.now.home asker.now.originator
+        (spec_rules.linked_rules Pv (T.nodes tree.now) container.now) }
+    ensures known { IsKnown asker.now.home (T.nodes tree.now) asker.now.originator known.new }
+{
+    if let Some(bits) = bits_at(&known.linked, container.number()) {
+        return bits;
+    }
+    let bits = linked_bits(tree, asker, container, known);
+    note_bits(&mut known.linked, container.number(), bits);
+    bits
+}
+
+// What the container of an instance gives.
+fn instance_bits<T: Tree>(tree: &T, asker: &Asker, instance: &Resource, known: &mut Known) -> u32
+    requires known { IsKnown asker.now.home (T.nodes tree.now) asker.now.originator known.old }
+    ensures bits { result ≡ spec.bits_by asker.now.home asker.now.originator
+        (spec_rules.rules_above (spec_rules.linked_rules Pv (T.nodes tree.now)) (T.nodes tree.now)
+        instance.now) }
+    ensures known { IsKnown asker.now.home (T.nodes tree.now) asker.now.originator known.new }
+{
+    match tree.get(instance.parent()) {
+        Some(container) => container_bits(tree, asker, container, known),
+        None => 0,
+    }
+}
+
+fn has_bits(had: u32, wanted: u32) -> bool
+    ensures { result ≡ spec.has_bits had wanted }
+{
+    had & wanted == wanted
+}
+
+/// Whether the asker has all these bits of `acop` on the resource, which the tree has, as
+/// `granted_on` says, by what is known from rights that were asked for before; what is read besides
+/// is known then.
+pub fn granted_besides<T: Tree>(
+    tree: &T,
+    asker: &Asker,
+    bit: u32,
+    resource: &Resource,
+    known: &mut Known,
+) -> bool
+    requires originator { IsTrue (is_originator asker.now.originator) }
+    requires resource { at resource.now.number (T.nodes tree.now) ≡ Some resource.now }
+    requires known { IsKnown asker.now.home (T.nodes tree.now) asker.now.originator known.old }
+    ensures granted { result ≡ spec.grants asker.now.home (T.nodes tree.now) asker.now.originator
+        bit resource.now.number }
+    ensures known { IsKnown asker.now.home (T.nodes tree.now) asker.now.originator known.new }
+{
+    if resource.is(Ty::AccessControlPolicy) || resource.is(Ty::PollingChannel) {
+        return granted_on(tree, asker.home(), asker.originator(), bit, resource);
+    }
+    if resource.is(Ty::ContentInstance) {
+        return has_bits(instance_bits(tree, asker, resource, known), bit);
+    }
+    has_bits(linked_bits(tree, asker, resource, known), bit)
+}

@@ -1,7 +1,0 @@
-use Rattle.std.proofs.Common.{ap, ◌∙◌}
-use Rattle.tree_model.specs.Tree.{is_due, is_tree}
-use Rattle.tree_model.proofs.KeptLemmas.{is_tree-without}
-use Rattle.plain_tree.proofs.nodes.Nodes.expire.Goals as goal
-
-pub invariant_of-self : goal.invariant_of-self
-invariant_of-self c = ap is_tree c.sweep_out.ensures ∙ is_tree-without (is_due c.self.inside.resources.items c.args.moment) c.self.inside.resources.items c.self.invariant

@@ -1,4 +1,0 @@
-use Rattle.plain_tree.proofs.overdue.+is_overdue.Given as goal
-
-abbrev pub decreases-is_overdue : goal.decreases-is_overdue
-decreases-is_overdue l = l.resource.now.number

@@ -1,6 +1,0 @@
-use Rattle.plain_tree.specs.Removal.{picks_of}
-use Rattle.plain_tree.proofs.SweepLemmas.{IsSwept}
-use Rattle.plain_tree.proofs.removing.sweep_out.Given as goal
-
-abbrev pub invariant-loop-at : goal.invariant-loop-at
-invariant-loop-at l = IsSwept (picks_of l.removal l.initial.resources.items) l.initial.resources.items l.resources.items l.stayed l.at

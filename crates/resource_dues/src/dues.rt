@@ -1,0 +1,235 @@
+//! When resources are due.
+ghost use Rattle.std.specs.Prelude.{◌≡◌, ◌≤◌, ◌+◌, ℕ, List, [], Some, None, true, false, nat_eq, OnOk};
+ghost use Rattle.std.specs.Prelude.{IsTrue, slice_get, option_map};
+ghost use Rattle.std.specs.Option.{option_map_or};
+ghost use Rattle.resource_model.specs.Resource.{ResourceData};
+ghost use Rattle.tree_model.specs.Tree as tree;
+ghost use Rattle.tree_model.specs.Tree.{age_of, are_quiet, at, is_tree, replaced, standing};
+ghost use Rattle.resource_dues.specs.Dues.{due_at, is_told, AreTold, AreToldTo, HasDues, TellsAll};
+
+use plain_tree::ListTree;
+use resource_model::Resource;
+use std::alloc::{AllocError as OutOfMemory, Global};
+use std::collections::BTreeSet;
+use tree_model::{Tree, due, lowered_age, stands_in};
+
+// So many entries may stand for nothing before they go.
+const FEW: u64 = 64;
+
+/// Moments with the numbers of the resources that are due then, the earliest first. A resource may
+/// have an entry that is too early, and never one that is too late; that of one that has gone stays
+/// for a while.
+#[derive(Drop)]
+pub struct Dues {
+    pub moments: BTreeSet<(u64, u64)>,
+    // Where memory ran out, or a container lowered the age of its instances, some may be missing.
+    pub whole: bool,
+}
+
+impl Dues {
+    /// Those of no resource; it takes no memory.
+    pub fn new(alloc: Global) -> Dues
+        ensures { HasDues [] result }
+    {
+        Dues {
+            moments: BTreeSet::new(alloc),
+            whole: true,
+        }
+    }
+
+    /// Those of a list. Where memory runs out, some are missing.
+    pub fn of(alloc: Global, list: &ListTree) -> Dues
+        ensures { HasDues list.now result }
+    {
+        let mut dues = Dues::new(alloc);
+        for k in 0..list.len() {
+            dues.note_at(list, k);
+        }
+        dues
+    }
+
+    // With the resource at place k, where there is one.
+    fn note_at(&mut self, list: &ListTree, k: u64)
+        requires { IsTrue (is_tree list.now) }
+        ensures { AreToldTo k list.now self.old → AreToldTo (k + 1) list.now self.new }
+    {
+        if let Some(resource) = list.nth(k) {
+            self.note(due(list, resource), resource.number());
+        }
+    }
+
+    /// With the moment at which the resource of a number is due, if it ever is.
+    pub fn add(&mut self, due: Option<u64>, number: u64) -> Result<(), OutOfMemory>
+        ensures whole { self.new.whole ≡ self.old.whole }
+        ensures kept { TellsAll self.old.moments.keys self.new.moments.keys }
+        ensures ok { (moment : ℕ) → OnOk result (due ≡ Some moment
+            → is_told moment number self.new.moments.keys ≡ true) }
+    {
+        if let Some(moment) = due {
+            self.moments.insert((moment, number))?;
+        }
+        Ok(())
+    }
+
+    /// The same, where it can't fail: some may be missing from then on.
+    pub fn note(&mut self, due: Option<u64>, number: u64)
+        ensures whole { self.new.whole ≡ true → self.old.whole ≡ true }
+        ensures kept { TellsAll self.old.moments.keys self.new.moments.keys }
+        ensures noted { (moment : ℕ) → self.new.whole ≡ true → due ≡ Some moment
+            → is_told moment number self.new.moments.keys ≡ true }
+    {
+        if let Err(_) = self.add(due, number) {
+            self.whole = false;
+        }
+    }
+
+    /// The number of the earliest entry.
+    pub fn first_number(&self) -> Option<u64> {
+        match self.moments.first() {
+            Some(entry) => Some(entry.1),
+            None => None,
+        }
+    }
+
+    /// In this list a resource takes the place of another that stood as it does.
+    pub fn replace(&mut self, list: &ListTree, resource: &Resource)
+        requires tree { IsTrue (is_tree list.now) }
+        requires dues { HasDues list.now self.old }
+        requires stood { option_map standing (at resource.now.number list.now)
+            ≡ Some (standing resource.now) }
+        ensures { HasDues (replaced resource.now list.now) self.new }
+    {
+        if is_as_patient(list, resource) && !self.is_full(list) {
+            self.note(due(list, resource), resource.number());
+        } else {
+            self.whole = false;
+        }
+    }
+
+    /// What a pass has left, which took all that is due at a moment: made anew where some entries
+    /// may be missing.
+    pub fn refresh(&mut self, alloc: Global, list: &ListTree, moment: u64)
+        ensures { HasDues list.now self.old → HasDues list.now self.new }
+    {
+        if !self.whole {
+            *self = Dues::of(alloc, list);
+        }
+        self.note_gone(list);
+        self.renote(list, moment);
+    }
+
+    /// Goes over the entries up to a moment: those of resources that have gone go, and others are
+    /// noted again at the moment at which they are due. It ends at the first that is due by now.
+    pub fn renote(&mut self, list: &ListTree, moment: u64)
+        ensures { HasDues list.now self.old → HasDues list.now self.new }
+    {
+        for _ in 0..self.moments.len() {
+            if !self.renote_first(list, moment) {
+                return;
+            }
+        }
+    }
+
+    fn renote_first(&mut self, list: &ListTree, moment: u64) -> bool
+        ensures { HasDues list.now self.old → HasDues list.now self.new }
+    {
+        let Some((at, number)) = self.first() else {
+            return false;
+        };
+        let due_at = due_of(list, number);
+        if moment < at || has_come(due_at, moment) {
+            return false;
+        }
+        self.pop();
+        self.note(due_at, number);
+        true
+    }
+
+    fn first(&self) -> Option<(u64, u64)>
+        ensures { result ≡ slice_get self.now.moments.keys 0 }
+    {
+        self.moments.first().copied()
+    }
+
+    fn pop(&mut self)
+        ensures whole { self.new.whole ≡ self.old.whole }
+        ensures kept { (moment n : ℕ) (first : ℕ × ℕ) → slice_get self.old.moments.keys 0
+            ≡ Some first → nat_eq first.1 n ≡ false
+            → is_told moment n self.old.moments.keys ≡ true
+            → is_told moment n self.new.moments.keys ≡ true }
+    {
+        let _first = self.moments.pop_first();
+    }
+
+    /// The number of the only entry up to a moment. None where there are more, or none.
+    pub fn sole(&self, moment: u64) -> Option<u64>
+        ensures { (number early n : ℕ) → result ≡ Some number → early ≤ moment
+            → is_told early n self.now.moments.keys ≡ true → number ≡ n }
+    {
+        let mut entries = self.moments.iter();
+        let first = entries.next()?;
+        match entries.next() {
+            Some(second) if second.0 <= moment => None,
+            _ => Some(first.1),
+        }
+    }
+
+    /// A moment before which nothing is due.
+    pub fn quiet(&self) -> u64
+        ensures { (nodes : List ResourceData) → is_tree nodes ≡ true
+            → AreTold nodes self.now.moments.keys → IsTrue (are_quiet result nodes) }
+    {
+        match self.moments.first() {
+            Some(entry) => entry.0,
+            None => u64::MAX,
+        }
+    }
+
+    /// A resource has gone, and this list has those that are left. Where more entries stand for
+    /// nothing than not, and some, these go.
+    pub fn note_gone(&mut self, list: &ListTree)
+        ensures { HasDues list.now self.old → HasDues list.now self.new }
+    {
+        if self.is_full(list) {
+            self.let_go(list);
+        }
+    }
+
+    fn is_full(&self, list: &ListTree) -> bool {
+        self.moments.len() as u64 > list.len().saturating_mul(2).saturating_add(FEW)
+    }
+
+    fn let_go(&mut self, list: &ListTree)
+        ensures { HasDues list.now self.old → HasDues list.now self.new }
+    {
+        self.moments.retain(|entry| stands_in(list, entry.1));
+    }
+}
+
+/// When the resource of a number is due, if it is there and ever is.
+pub fn due_of(list: &ListTree, number: u64) -> Option<u64>
+    ensures { result ≡ due_at number list.now }
+{
+    match list.get(number) {
+        Some(resource) => due(list, resource),
+        None => None,
+    }
+}
+
+/// Whether a moment has come by another.
+pub fn has_come(due: Option<u64>, moment: u64) -> bool
+    ensures { result ≡ option_map_or (tree.has_come moment) due false }
+{
+    match due {
+        Some(at) => at <= moment,
+        None => false,
+    }
+}
+
+// Whether the instances of a resource may get as old as those of the one of its number.
+fn is_as_patient(list: &ListTree, resource: &Resource) -> bool
+    ensures { IsTrue result → tree.lowered_age (age_of (at resource.now.number list.now))
+        (age_of (Some resource.now)) ≡ None }
+{
+    lowered_age(list.get(resource.number()), resource).is_none()
+}

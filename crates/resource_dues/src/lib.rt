@@ -1,0 +1,18 @@
+//! When resources are due, beside the list of a tree.
+//!
+//! `Dues` has moments in order, each with the number of a resource. An entry may be earlier than
+//! the moment at which its resource is due, or may stand for one that has gone; it is never later,
+//! unless the table isn't whole. It isn't once memory ran out where a resource took the place of
+//! another, or a container lowered the age that its instances may reach: then it is made anew
+//! (`refresh`) after the next pass over all.
+//!
+//! ```text
+//! let mut dues = Dues::new(alloc);
+//! dues.add(due(&list, &resource), resource.number())?;
+//! dues.quiet() // before it nothing is due
+//! ```
+#![tactic(auto)]
+
+mod dues;
+
+pub use dues::{Dues, due_of, has_come};

@@ -1,0 +1,7 @@
+use Rattle.std.proofs.Common.{subst, sym}
+use Rattle.tree_model.specs.Tree.{AreAscending}
+use Rattle.tree_model.proofs.GrowthLemmas.{ascending_from_tree}
+use Rattle.resource_list.proofs.nodes.Nodes.quiet.Goals as goal
+
+pub quiet_in-requires : goal.quiet_in-requires
+quiet_in-requires c = subst AreAscending (sym c.deref.ensures.value) (ascending_from_tree c.self.inside.resources.items c.self.invariant)

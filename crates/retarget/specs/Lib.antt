@@ -1,0 +1,4 @@
+pub mod Answers
+pub mod Carries
+pub mod Routes
+pub mod Sending

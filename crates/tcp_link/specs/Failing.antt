@@ -1,0 +1,25 @@
+-- How long a destination that failed is left alone, and when its faults are said.
+use Rattle.std.specs.Prelude.{ℕ, ◌+◌, ◌-◌, ◌*◌, ◌^◌, min, max, Bool, ◌||◌, ◌&&◌, nat_lt, nat_le}
+
+-- a moment so much later, in milliseconds, up to the last one
+abbrev pub later : ℕ → ℕ → ℕ
+later now millis = min (now + millis) (2 ^ 64 - 1)
+
+-- How long a destination is left alone that fails, and was left alone so long before: ten seconds,
+-- and twice as long each time, up to five minutes.
+abbrev pub next_wait : ℕ → ℕ
+next_wait wait = min (max 10000 (2 * wait)) 300000
+
+-- the faults of a destination may be said again after a minute
+abbrev pub silence : ℕ
+silence = 60000
+
+-- there are faults that weren't said, and the moment has come at which they may be
+abbrev pub is_due : ℕ → ℕ → ℕ → Bool
+is_due failed silent_until now = nat_lt 0 failed && nat_le silent_until now
+
+-- Something is still to be known of a destination: that it is left alone, or was before, that it
+-- has faults to be said, or that none may be said yet.
+abbrev pub matters : ℕ → ℕ → ℕ → ℕ → Bool
+matters wait failed silent_until now =
+    nat_lt 0 wait || nat_lt 0 failed || nat_lt now silent_until

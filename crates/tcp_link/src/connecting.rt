@@ -1,0 +1,81 @@
+//! Connections to hosts, as URLs name them.
+ghost use Rattle.std.specs.Prelude.{◌≤◌, ◌<◌};
+
+use crate::answering::PATIENCE;
+use devices::{millis_now, time_left};
+use std::alloc::Global;
+use std::io::ErrorKind;
+use std::net::{Net, SocketAddr, TcpListener, TcpStream, ToSocketAddrs};
+use std::time::{Clock, Duration};
+use std::{io, str};
+
+/// The port of a URL that names none.
+const USUAL_PORT: u16 = 80;
+
+/// At most so many addresses of a host are tried.
+const MOST_TRIED: usize = 4;
+
+/// A host and a port.
+#[derive(Clone, Copy, Debug)]
+pub(crate) struct Place<'a> {
+    pub name: &'a str,
+    pub port: u16,
+}
+
+/// The place that a host stands for, as it stands in a URL, with its port or without.
+pub(crate) fn place_of(host: &[u8]) -> Option<Place<'_>> {
+    let host = str::from_utf8(host).ok()?;
+    match host.rsplit_once(':') {
+        None => Some(Place {
+            name: host,
+            port: USUAL_PORT,
+        }),
+        Some((name, port)) => Some(Place {
+            name,
+            port: port.parse::<u16>().ok()?,
+        }),
+    }
+}
+
+fn unreachable_host() -> io::Error {
+    io::Error::from(ErrorKind::HostUnreachable)
+}
+
+/// The addresses of a place, by the system's resolver.
+fn addresses<R: Net>(rt: &R, alloc: Global, place: Place) -> io::Result<Vec<SocketAddr>> {
+    let mut found = Vec::new(alloc);
+    for address in (place.name, place.port).to_socket_addrs(rt)? {
+        if found.len() < MOST_TRIED {
+            found.push(address)?;
+        }
+    }
+    Ok(found)
+}
+
+/// An equal share of what is left of `PATIENCE` since this moment, for so many tries.
+fn share_of<R: Clock>(rt: &R, begun: u64, tries: usize) -> io::Result<Duration>
+    requires { 0 < tries }
+{
+    match time_left(rt, begun, PATIENCE) {
+        Some(left) => Ok(Duration::from_millis((left.as_millis() as u64 / tries as u64).max(1))),
+        None => Err(io::Error::from(ErrorKind::TimedOut)),
+    }
+}
+
+/// A connection to a place: its addresses are tried in turn.
+pub(crate) fn connected<R>(rt: &R, alloc: Global, place: Place) -> io::Result<TcpStream>
+where
+    R: Net<Listener = TcpListener, Stream = TcpStream> + Clock,
+{
+    let found = addresses(rt, alloc, place)?;
+    let begun = millis_now(rt);
+    let mut last = unreachable_host();
+    for (i, address) in found.iter().enumerate() {
+        let share = share_of(rt, begun, found.len() - i)?;
+        match TcpStream::connect_timeout(rt, address, share) {
+            Ok(stream) => return Ok(stream),
+            Err(error) => last = error,
+        }
+    }
+    Err(last)
+}

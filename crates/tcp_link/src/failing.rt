@@ -1,0 +1,213 @@
+//! Destinations that failed.
+ghost use Rattle.std.specs.Prelude.{◌≡◌, ◌<◌, ◌≤◌, ◌+◌, ◌-◌, ◌^◌, min, nat_lt, true, false, Some};
+ghost use Rattle.std.specs.Prelude.{None, IfSome, vec_len, if◌then◌else◌};
+ghost use Rattle.tcp_link.specs.Failing as spec;
+
+use crate::connecting::Place;
+use std::alloc::{AllocError as OutOfMemory, Global};
+
+/// For so many milliseconds a destination is left alone that failed for the first time,
+const FIRST_WAIT: u64 = 10_000;
+
+/// and for no more than this.
+const LONGEST_WAIT: u64 = 300_000;
+
+/// So many milliseconds pass between two lines on one destination.
+const SILENCE: u64 = 60_000;
+
+/// At most so many destinations are remembered.
+const MOST_DESTINATIONS: usize = 1_024;
+
+/// A destination that failed.
+#[derive(Debug, Drop)]
+pub(crate) struct Destination {
+    name: String,
+    port: u16,
+    /// For how many milliseconds it was left alone last; 0 where it has answered since.
+    wait: u64,
+    /// Until this moment it is left alone.
+    until: u64,
+    /// How many exchanges failed that weren't said yet.
+    failed: u64,
+    /// Before this moment nothing more is said of it.
+    silent_until: u64,
+}
+
+/// How long a destination is left alone that fails, and was left alone so long before.
+fn next_wait(wait: u64) -> u64
+    ensures { result ≡ spec.next_wait wait }
+{
+    wait.saturating_mul(2).max(FIRST_WAIT).min(LONGEST_WAIT)
+}
+
+impl Destination {
+    /// A destination of which nothing is known.
+    fn new(alloc: Global, place: Place) -> Result<Self, OutOfMemory> {
+        Ok(Destination {
+            name: String::from_str(alloc, place.name)?,
+            port: place.port,
+            wait: 0,
+            until: 0,
+            failed: 0,
+            silent_until: 0,
+        })
+    }
+
+    /// The name of its host.
+    pub(crate) fn name(&self) -> &str {
+        self.name.as_str()
+    }
+
+    pub(crate) fn port(&self) -> u16
+        ensures { result ≡ self.now.port }
+    {
+        self.port
+    }
+
+    fn is_at(&self, place: Place) -> bool {
+        self.port == place.port && self.name.as_str().eq_ignore_ascii_case(place.name)
+    }
+
+    /// Whether it is to be left alone at this moment.
+    fn is_left_alone(&self, now: u64) -> bool
+        ensures { result ≡ nat_lt now self.now.until }
+    {
+        now < self.until
+    }
+
+    /// Counts an exchange that failed.
+    fn count(&mut self)
+        ensures { self.new ≡ record self.old { failed = min (self.old.failed + 1) (2 ^ 64 - 1) } }
+    {
+        self.failed = self.failed.saturating_add(1);
+    }
+
+    /// Leaves it alone for a while, since it failed at this moment.
+    fn leave_alone(&mut self, now: u64)
+        ensures { let wait = spec.next_wait self.old.wait in
+            self.new ≡ record self.old { wait = wait; until = spec.later now wait } }
+    {
+        self.wait = next_wait(self.wait);
+        self.until = now.saturating_add(self.wait);
+    }
+
+    /// It has answered.
+    fn welcome(&mut self)
+        ensures { self.new ≡ record self.old { wait = 0; until = 0 } }
+    {
+        self.wait = 0;
+        self.until = 0;
+    }
+
+    /// How many exchanges failed that weren't said, where that may be said at this moment. They
+    /// count as said then.
+    pub(crate) fn due(&mut self, now: u64) -> Option<u64>
+        ensures some { result ≡ (if spec.is_due self.old.failed self.old.silent_until now
+            then Some self.old.failed else None) }
+        ensures said { self.new
+            ≡ (if spec.is_due self.old.failed self.old.silent_until now
+            then record self.old { failed = 0; silent_until = spec.later now spec.silence }
+            else self.old) }
+    {
+        if self.failed == 0 || now < self.silent_until {
+            return None;
+        }
+        let failed = self.failed;
+        self.failed = 0;
+        self.silent_until = now.saturating_add(SILENCE);
+        Some(failed)
+    }
+
+    /// How many exchanges failed that weren't said.
+    pub(crate) fn unsaid(&self) -> u64
+        ensures { result ≡ self.now.failed }
+    {
+        self.failed
+    }
+
+    /// Whether something is still to be known of it.
+    fn matters(&self, now: u64) -> bool
+        ensures { result ≡ spec.matters self.now.wait self.now.failed self.now.silent_until now }
+    {
+        self.wait > 0 || self.failed > 0 || now < self.silent_until
+    }
+}
+
+/// The destinations that failed.
+#[derive(Debug, Drop)]
+pub(crate) struct Failing {
+    list: Vec<Destination>,
+}
+
+impl Failing {
+    /// None failed yet.
+    pub(crate) fn new(alloc: Global) -> Self {
+        Failing {
+            list: Vec::new(alloc),
+        }
+    }
+
+    /// Whether this place is to be left alone at this moment.
+    pub(crate) fn is_left_alone(&self, place: Place, now: u64) -> bool {
+        self.list.iter().any(|destination| destination.is_at(place)
+            && destination.is_left_alone(now))
+    }
+
+    /// An exchange with this place succeeded.
+    pub(crate) fn welcome(&mut self, place: Place) {
+        for destination in &mut self.list {
+            if destination.is_at(place) {
+                destination.welcome();
+            }
+        }
+    }
+
+    /// Counts an exchange with this place that failed without being tried.
+    pub(crate) fn count(&mut self, place: Place) {
+        for destination in &mut self.list {
+            if destination.is_at(place) {
+                destination.count();
+            }
+        }
+    }
+
+    /// Remembers this place, if there is memory. The destination that has to make room for it comes
+    /// back, where there are too many.
+    fn remember(&mut self, alloc: Global, place: Place) -> Option<Destination> {
+        if self.list.iter().any(|destination| destination.is_at(place)) {
+            return None;
+        }
+        let oldest = if self.list.len() < MOST_DESTINATIONS {
+            None
+        } else {
+            Some(self.list.remove(0))
+        };
+        if let Ok(destination) = Destination::new(alloc, place) {
+            let _ = self.list.push(destination);
+        }
+        oldest
+    }
+
+    /// An exchange with this place was tried, and failed at this moment. A destination of which
+    /// nothing more is remembered comes back.
+    pub(crate) fn fail(&mut self, alloc: Global, place: Place, now: u64) -> Option<Destination> {
+        let oldest = self.remember(alloc, place);
+        for destination in &mut self.list {
+            if destination.is_at(place) {
+                destination.count();
+                destination.leave_alone(now);
+            }
+        }
+        oldest
+    }
+
+    /// Forgets the destinations of which nothing is to be known any more.
+    pub(crate) fn tidy(&mut self, now: u64) {
+        self.list.retain(|destination| destination.matters(now));
+    }
+
+    /// The destinations, to say their faults.
+    pub(crate) fn destinations(&mut self) -> &mut [Destination] {
+        &mut self.list
+    }
+}

@@ -1,0 +1,26 @@
+//! A link over TCP: each exchange has a connection of its own, and reads one answer.
+//!
+//! Host names are looked up by the system's resolver; the first addresses are tried, IPv4 and IPv6,
+//! and all of them within `PATIENCE`. An answer ends where its head says so; where the head says
+//! nothing of its length, it ends with the connection. No read waits longer than `PATIENCE`, no
+//! request and answer take longer than `LONGEST`, and an answer has at most `MOST_BYTES` bytes. How
+//! long a look-up takes is the resolver's.
+//!
+//! A destination that failed is left alone for ten seconds: each exchange with it fails at once.
+//! Where it fails again after that, it is left alone for twice as long, up to five minutes, until
+//! an exchange with it succeeds. How many exchanges failed is said for each destination, once a
+//! minute at most, on the log.
+//!
+//! ```text
+//! let mut link = TcpLink::new(log);
+//! link.exchange(alloc, b"127.0.0.1:8081", request, &mut answer)?;
+//! ```
+#![tactic(auto)]
+
+mod answering;
+mod connecting;
+mod failing;
+mod link;
+
+pub use answering::{LONGEST, MOST_BYTES, PATIENCE};
+pub use link::TcpLink;
