@@ -1,3 +1,4 @@
 pub mod BehindLemmas
 pub mod MayLemmas
+pub mod MemberLemmas
 pub mod ServedLemmas

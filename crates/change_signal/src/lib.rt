@@ -3,17 +3,17 @@
 //! Who is to act on changes waits at a `ChangeSignal`, for a tenth of a second at most. Those who
 //! ask an object do so at a `SignallingDesk`, which asks the desk behind it, and signals then: the
 //! wait ends at once behind an event that may change something, as a `Watch` says; any other event
-//! is noted, and is seen when the wait ends. Each of those who ask says when it has ended, and the
-//! last of them ends the wait.
+//! is noted, and is seen when the wait ends. It ends as well when it is said that nobody asks any
+//! more.
 //!
 //! To who asks, the desk is the one behind it: a seat is of both or of neither, and grows alike
 //! (`seats`, `grown`). Nothing is stated of the signal itself, as other threads may change it.
 //!
 //! ```text
-//! let signal = ChangeSignal::new(1); // one asks
+//! let signal = ChangeSignal::new();
 //! let desk = SignallingDesk::new(&behind, &signal, watch);
 //! let outcome = desk.ask(&mut seat, reading, event); // as `behind` answers
-//! signal.leave();
+//! signal.end();
 //! (signal.take(), signal.wait(&rt)) // something was asked, and nobody asks any more
 //! ```
 #![tactic(auto)]

@@ -12,17 +12,17 @@ const LONGEST_WAIT: u64 = 100;
 pub struct ChangeSignal {
     /// Whether something was asked since it was looked at last.
     noted: AtomicU64,
-    /// How many still ask.
-    asking: AtomicU64,
+    /// Whether nobody asks any more.
+    ended: AtomicU64,
     waiting: Parker,
 }
 
 impl ChangeSignal {
-    /// A signal that so many give. Nothing was asked yet.
-    pub fn new(asking: u64) -> ChangeSignal {
+    /// A signal that wasn't given yet.
+    pub fn new() -> ChangeSignal {
         ChangeSignal {
             noted: AtomicU64::new(0),
-            asking: AtomicU64::new(asking),
+            ended: AtomicU64::new(0),
             waiting: Parker::new(),
         }
     }
@@ -32,18 +32,16 @@ impl ChangeSignal {
         self.noted.store(1, Ordering::SeqCst);
     }
 
-    /// Notes that something may have changed, and ends the wait at once. Where that was noted
-    /// already, the wait has ended or is about to.
+    /// Notes that something may have changed, and ends the wait at once.
     pub fn raise(&self) {
         self.note();
         self.waiting.unpark();
     }
 
-    /// One of those who ask has ended. The last of them ends the wait.
-    pub fn leave(&self) {
-        if self.asking.fetch_sub(1, Ordering::SeqCst) <= 1 {
-            self.waiting.unpark();
-        }
+    /// Says that nobody asks any more, and ends the wait at once.
+    pub fn end(&self) {
+        self.ended.store(1, Ordering::SeqCst);
+        self.waiting.unpark();
     }
 
     /// Whether something was asked since this was answered last.
@@ -54,11 +52,11 @@ impl ChangeSignal {
     /// Waits until something may have changed, or nobody asks any more, for a tenth of a second at
     /// most. Tells whether anybody still asks.
     pub fn wait<R: Wait>(&self, rt: &R) -> bool {
-        if self.asking.load(Ordering::SeqCst) == 0 {
+        if self.ended.load(Ordering::SeqCst) > 0 {
             return false;
         }
         self.waiting
             .park_timeout(rt, Duration::from_millis(LONGEST_WAIT));
-        self.asking.load(Ordering::SeqCst) > 0
+        self.ended.load(Ordering::SeqCst) == 0
     }
 }

@@ -17,7 +17,7 @@ use Rattle.clap.specs.Faults.{check_fault, defaults_fault, entered_fault, fault_
 use Rattle.clap.proofs.OnLiterals.{clap_on_literals}
 use Rattle.command_words.specs.Options.{Choice, choices, option_value, are_options}
 use Rattle.command_words.specs.Command as spec
-use Rattle.command_words.specs.Command.{Command, Task, http_word, replay_word, serve_word, command_said, home_options, serving_options, home_said, words_say}
+use Rattle.command_words.specs.Command.{Command, Task, http_word, replay_word, serve_word, command_said, home_options, serving_options, home_said, options_say}
 use Rattle.command_words.specs.Program.{SaysCommand, has_stray, is_stray, program, rows_by}
 use Rattle.command_words.proofs.OptionLemmas.{same_sym, fits, fits_nothing, more, or_false}
 use Rattle.command_words.proofs.WalkLemmas.{Reads, both_false, fault_alone, fault_first, fault_is, leaf, leaf_reads, names_by, plain_bare, plain_long, plain_short, view}
@@ -116,7 +116,7 @@ are_same t u same (o ∷ os) =
 
 -- what a command and its options say, by the options that are read
 pub said_by : (name : List ℕ) (u : List ℕ → Bool) → ((n : List ℕ) → spec.takes name n ≡ u n) → (words : List (List ℕ))
-    → words_say (name ∷ words) ≡ option_and_then (command_said name) (more u [] (choices words))
+    → options_say (name ∷ words) ≡ option_and_then (command_said name) (more u [] (choices words))
 said_by name u same words = all (choices words)
   where
     pick : (os : List Choice) (b : Bool) → (if b then command_said name os else None) ≡ option_and_then (command_said name) (if b then Some os else None)
@@ -140,13 +140,13 @@ decided_by name fault rows None bad = (λ e. absurd (bad e), λ _. refl)
 decided_by name fault rows (Some os) good = (λ e. (os, (good.1, refl)), λ bad. absurd (bad good.0))
 
 decided_at : (name : List ℕ) (longs words : List (List ℕ)) → Enters name (leaf name longs) → ((n : List ℕ) → spec.takes name n ≡ is_one_of (names_by longs) n)
-    → has_stray words ≡ false → Decided (fault_of program (name ∷ words)) (subcommand_of program (name ∷ words)) (words_say (name ∷ words))
+    → has_stray words ≡ false → Decided (fault_of program (name ∷ words)) (subcommand_of program (name ∷ words)) (options_say (name ∷ words))
 decided_at name longs words enter same clean =
     let here = enter words in
     let u = is_one_of (names_by longs) in
     let P : Kinds → Option (List ℕ × List Row) → Option Command → Type 0 = Decided in
-    subst (λ k. P k (subcommand_of program (name ∷ words)) (words_say (name ∷ words))) (sym here.0)
-    (subst (λ s. P (level_fault (leaf name longs) [] nothing_held words false []) s (words_say (name ∷ words))) (sym here.1)
+    subst (λ k. P k (subcommand_of program (name ∷ words)) (options_say (name ∷ words))) (sym here.0)
+    (subst (λ s. P (level_fault (leaf name longs) [] nothing_held words false []) s (options_say (name ∷ words))) (sym here.1)
     (subst (λ c. P (level_fault (leaf name longs) [] nothing_held words false []) (Some (name, rows_after (leaf name longs).rules [] words)) c)
     (sym (said_by name u same words))
     (decided_by name (level_fault (leaf name longs) [] nothing_held words false []) (rows_after (leaf name longs).rules [] words) (more u [] (choices words))
@@ -195,7 +195,7 @@ module _ (name : List ℕ) (h : bytes_eq http_word name ≡ false) (r : bytes_eq
       let s2 : bytes_eq name serve_word ≡ false = same_sym name serve_word ∙ s in
       rw (h2, r2, s2) refl
 
-  pub other_said : (words : List (List ℕ)) → words_say (name ∷ words) ≡ None
+  pub other_said : (words : List (List ℕ)) → options_say (name ∷ words) ≡ None
   other_said words = all (choices words)
     where
       pick : (os : List Choice) (b : Bool) → (if b then command_said name os else None) ≡ None
@@ -206,16 +206,16 @@ module _ (name : List ℕ) (h : bytes_eq http_word name ≡ false) (r : bytes_eq
       all None = refl
       all (Some os) = pick os (are_options (spec.takes name) os)
 
-no_words_read : Decided (fault_of program []) (subcommand_of program []) (words_say [])
+no_words_read : Decided (fault_of program []) (subcommand_of program []) (options_say [])
 unfolding clap_on_literals
 no_words_read = (λ e. refl, λ bad. refl)
 
 -- What `clap` finds in words with no stray dash is what they say.
-pub program_reads : (words : List (List ℕ)) → has_stray words ≡ false → Decided (fault_of program words) (subcommand_of program words) (words_say words)
+pub program_reads : (words : List (List ℕ)) → has_stray words ≡ false → Decided (fault_of program words) (subcommand_of program words) (options_say words)
 program_reads [] clean = no_words_read
 program_reads (name ∷ words) clean =
     let parts = both_false (is_stray name) (has_stray words) clean in
-    let P : List ℕ → Type 0 = λ n. Decided (fault_of program (n ∷ words)) (subcommand_of program (n ∷ words)) (words_say (n ∷ words)) in
+    let P : List ℕ → Type 0 = λ n. Decided (fault_of program (n ∷ words)) (subcommand_of program (n ∷ words)) (options_say (n ∷ words)) in
     let named : (text : List ℕ) → bytes_eq text name ≡ true → P text → P name = λ text e p. subst P ((bytes_eq-Decides text name).0 e) p in
     let Q : Bool → Bool → Bool → Type 0 = λ a b c. bytes_eq http_word name ≡ a → bytes_eq replay_word name ≡ b → bytes_eq serve_word name ≡ c → P name in
     let each : (a b c : Bool) → Q a b c = λ a b c. elim a as (λ a. Q a b c) [
@@ -233,13 +233,13 @@ program_reads (name ∷ words) clean =
 -- ---- what was found says it
 
 pub matches_say : (app : App) (words : List (List ℕ)) (rows : Option (List ℕ × List Row)) → app ≡ program → has_stray words ≡ false
-    → rows ≡ subcommand_of app words → fault_of app words ≡ [] → SaysCommand rows (words_say words)
+    → rows ≡ subcommand_of app words → fault_of app words ≡ [] → SaysCommand rows (options_say words)
 matches_say app words rows is clean same fault =
     let read = program_reads words clean in
-    subst (λ r. SaysCommand r (words_say words)) (sym (same ∙ ap (λ a. subcommand_of a words) is)) (read.0 (ap (λ a. fault_of a words) (sym is) ∙ fault))
+    subst (λ r. SaysCommand r (options_say words)) (sym (same ∙ ap (λ a. subcommand_of a words) is)) (read.0 (ap (λ a. fault_of a words) (sym is) ∙ fault))
 
 pub faults_say : (app : App) (words : List (List ℕ)) (k : ErrorKind) → app ≡ program → has_stray words ≡ false
-    → IsAmong k (fault_of app words) → words_say words ≡ None
+    → IsAmong k (fault_of app words) → options_say words ≡ None
 faults_say app words k is clean among =
     let read = program_reads words clean in
     read.1 (λ none. subst (IsAmong k) (ap (λ a. fault_of a words) is ∙ none) among)

@@ -6,7 +6,7 @@ use Rattle.std.proofs.lemmas.Slice.Eq.{bytes_eq-Decides}
 use Rattle.m2m_names.specs.Name.{is_one_of}
 use Rattle.command_words.specs.Options.{Choice, choice, is_equals, has_dash, in_front, in_two_words, choices}
 use Rattle.command_words.specs.Command as spec
-use Rattle.command_words.specs.Command.{http_word, replay_word, serve_word, command_said, home_options, serving_options, words_say}
+use Rattle.command_words.specs.Command.{http_word, replay_word, serve_word, command_said, home_options, serving_options, options_say}
 use Rattle.command_words.specs.Program.{has_stray, is_stray}
 use Rattle.command_words.proofs.OptionLemmas.{first_unknown, has_equals, has_name, in_one, more, more_front, not_in_one, one_word, same_sym, two_words}
 use Rattle.command_words.proofs.ProgramLemmas.{other_said, said_by}
@@ -122,13 +122,13 @@ stray_texts [] = refl
 stray_texts (word ∷ words) = ap (λ b. is_stray word.now || b) (stray_texts words)
 
 -- words with a stray one say nothing
-pub stray_says : (words : List (List ℕ)) → has_stray words ≡ true → words_say words ≡ None
+pub stray_says : (words : List (List ℕ)) → has_stray words ≡ true → options_say words ≡ None
 stray_says [] e = absurd (true≢false (sym e))
 stray_says (name ∷ words) e = go (is_stray name) refl e
   where
     differs : (text : List ℕ) → is_stray text ≡ false → is_stray name ≡ true → bytes_eq text name ≡ false
     differs text f p = same_sym text name ∙ stray_differs name text p f
 
-    go : (s : Bool) → is_stray name ≡ s → (s || has_stray words) ≡ true → words_say (name ∷ words) ≡ None
+    go : (s : Bool) → is_stray name ≡ s → (s || has_stray words) ≡ true → options_say (name ∷ words) ≡ None
     go true p f = other_said name (differs http_word refl p) (differs replay_word refl p) (differs serve_word refl p) words
     go false p f = said_by name (spec.takes name) (λ n. refl) words ∙ ap (option_and_then (command_said name)) (stray_options name words f [])

@@ -1,7 +1,7 @@
 -- What the words of a command line ask for.
-use Rattle.std.specs.Prelude.{ℕ, nat_le, ◌&&◌, ◌||◌, pos, ℤ, Bool, List, [], ◌∷◌, codes}
+use Rattle.std.specs.Prelude.{ℕ, nat_le, ◌&&◌, ◌||◌, pos, ℤ, Bool, false, List, [], ◌∷◌, codes}
 use Rattle.std.specs.Prelude.{Option, Some, None, is_some, unwrap_or, option_map, option_and_then}
-use Rattle.std.specs.Prelude.{if◌then◌else◌}
+use Rattle.std.specs.Prelude.{drop, if◌then◌else◌}
 use Rattle.std.specs.Str.{bytes_eq}
 use Rattle.m2m_names.specs.Ids.{number_written}
 use Rattle.m2m_names.specs.Name.{is_one_of}
@@ -26,6 +26,9 @@ replay_word = codes "replay"
 
 abbrev pub serve_word : List ℕ
 serve_word = codes "serve"
+
+abbrev pub gen_word : List ℕ
+gen_word = codes "gen"
 
 -- the options: what the entity is called, and who runs it
 abbrev pub id_option : List ℕ
@@ -169,11 +172,12 @@ serving_said os = option_and_then (λ accept. option_and_then (λ workers. optio
 
 -- ---- the command
 
--- what is to be done: one connection, a list of lines, or a server
+-- what is to be done: one connection, a list of lines, a server, or so many made requests
 pub data Task : Type 0 where
   http : Task
   replay : Task
   serve : Serving → Task
+  generate : ℕ → Task
 
 -- the task of this name, with its options
 abbrev pub task_said : List ℕ → List Choice → Option Task
@@ -193,12 +197,33 @@ command_said name os = option_and_then
     (λ task. option_map (λ home. record { task = task; home = home }) (home_said os))
     (task_said name os)
 
--- What words say: a name, and then options that the command of this name takes, in any order and
--- each of them once.
-abbrev pub words_say : List (List ℕ) → Option Command
-words_say [] = None
-words_say (name ∷ words) = option_and_then
+-- What words say with options: a name, and then options that the command of this name takes, in any
+-- order and each of them once.
+abbrev pub options_say : List (List ℕ) → Option Command
+options_say [] = None
+options_say (name ∷ words) = option_and_then
     (λ os. if are_options (takes name) os then command_said name os else None) (choices words)
+
+-- as many requests as can be made
+abbrev pub most_made : ℕ
+most_made = 100_000
+
+-- What the words behind `gen` say: one number, and no option. Its home is the usual one.
+abbrev pub number_says : List (List ℕ) → Option Command
+number_says [] = None
+number_says (text ∷ []) =
+    option_map (λ n. record { task = generate n; home = default_home }) (count_in text most_made)
+number_says (text ∷ next ∷ words) = None
+
+-- The first word is this one.
+abbrev pub begins_with : List ℕ → List (List ℕ) → Bool
+begins_with name [] = false
+begins_with name (word ∷ words) = bytes_eq word name
+
+-- What words say: `gen` and a number, or the name of another command and options.
+abbrev pub words_say : List (List ℕ) → Option Command
+words_say words =
+    if begins_with gen_word words then number_says (drop 1 words) else options_say words
 
 -- the home, where each of its parts is admitted
 abbrev pub admitted : HomeData → Option HomeData
@@ -242,6 +267,7 @@ abbrev pub task_by : declared_task.Task → Task
 task_by declared_tasks.Http = http
 task_by declared_tasks.Replay = replay
 task_by (declared_tasks.Serve serving) = serve (serving_by serving)
+task_by (declared_tasks.Generate count) = generate count
 
 -- the command that was read
 abbrev pub command_by : declared_command.Command → Command

@@ -1,5 +1,6 @@
 //! The command that words name.
-ghost use Rattle.std.specs.Prelude.{◌≡◌, List, Option, IfOk, map, option_map};
+ghost use Rattle.std.specs.Prelude.{◌≡◌, ◌∷◌, [], List, Option, IfOk, map, option_map};
+ghost use Rattle.resource_model.specs.Home.{default_home};
 ghost use Rattle.clap.specs.Words.{found_of, rows_of, subcommand_rows_of};
 ghost use Rattle.command_words.specs.Options.{Choice};
 ghost use Rattle.command_words.specs.Options as choices;
@@ -43,6 +44,8 @@ pub enum Task<'a> {
     Replay,
     /// To serve many connections.
     Serve(Serving<'a>),
+    /// To make so many requests, and to count what they are answered.
+    Generate(u64),
 }
 
 /// A task, and the home of the entity that it is for.
@@ -63,6 +66,9 @@ const USUAL_WORKERS: u64 = 256;
 
 /// As many workers as a server can be told to have.
 const MOST_WORKERS: u64 = 4_096;
+
+/// As many requests as can be made.
+const MOST_MADE: u64 = 100_000;
 
 fn cse_type_said(said: Option<&str>) -> Option<i64>
     ensures { result ≡ spec.cse_type_said (option_map (λ text. text.now) said.entry) }
@@ -201,8 +207,54 @@ fn command_found<'a>(matches: &ArgMatches<'a>) -> Option<Command<'a>>
     command_said(name, options)
 }
 
-/// What the words say: the name of a command, and then options that it takes. An `Err` is want of
-/// memory.
+/// The usual home.
+fn usual_home<'a>() -> HomeWords<'a>
+    ensures { spec.home_by result ≡ default_home }
+{
+    HomeWords {
+        sp: SERVICE_PROVIDER,
+        csi: CSE_ID,
+        base: BASE,
+        cst: CSE_TYPE,
+        admin: ADMIN,
+    }
+}
+
+/// The command that makes as many requests as a text says.
+fn making_said<'a>(text: &str) -> Option<Command<'a>>
+    ensures { option_map spec.command_by result ≡ spec.number_says (text.now ∷ []) }
+{
+    let requests = count_in(text.as_bytes(), MOST_MADE)?;
+    Some(Command {
+        task: Task::Generate(requests),
+        home: usual_home(),
+    })
+}
+
+/// What the words behind `gen` say: one number. `clap` isn't asked, as no option stands there.
+fn number_said<'a>(words: &[&str]) -> Option<Command<'a>>
+    ensures { option_map spec.command_by result
+        ≡ spec.number_says (map (λ word. word.now) words.now) }
+{
+    match words {
+        [text] => making_said(text),
+        _ => None,
+    }
+}
+
+/// What a name and options say.
+fn options_said<'a>(alloc: Global, words: &'a [&'a str]) -> Result<Option<Command<'a>>, OutOfMemory>
+    ensures { IfOk result (λ said. option_map spec.command_by said
+        ≡ spec.options_say (map (λ word. word.now) words.now)) }
+{
+    match matches_of(alloc, words)? {
+        Some(matches) => Ok(command_found(&matches)),
+        None => Ok(None),
+    }
+}
+
+/// What the words say: `gen` and a number, or the name of another command and then options that it
+/// takes. An `Err` is want of memory.
 pub fn read_command<'a>(
     alloc: Global,
     words: &'a [&'a str],
@@ -210,8 +262,8 @@ pub fn read_command<'a>(
     ensures { IfOk result (λ said. option_map spec.command_by said
         ≡ spec.words_say (map (λ word. word.now) words.now)) }
 {
-    match matches_of(alloc, words)? {
-        Some(matches) => Ok(command_found(&matches)),
-        None => Ok(None),
+    match words {
+        [first, rest @ ..] if *first == names::GEN => Ok(number_said(rest)),
+        _ => options_said(alloc, words),
     }
 }

@@ -2,9 +2,10 @@
 //!
 //! `read_command` reads them with `clap`: the name of a command, and then its options in any order,
 //! each at most once, with the value behind an equals sign or in a word of its own that begins with
-//! no dash. What is read has the home of an entity as texts, and `HomeWords::home` makes a `Home`
-//! of them where each of them is admitted. A list of words is a command exactly where both give
-//! something (`command_in` of specs/Command), unless memory runs out.
+//! no dash. `gen` has one number behind it, and `clap` isn't asked. What is read has the home of an
+//! entity as texts, and `HomeWords::home` makes a `Home` of them where each of them is admitted. A
+//! list of words is a command exactly where both give something (`command_in` of specs/Command),
+//! unless memory runs out.
 //!
 //! ```text
 //! let Some(command) = read_command(alloc, words)? else {

@@ -6,6 +6,8 @@ pub(crate) const REPLAY: &str = "replay";
 
 pub(crate) const SERVE: &str = "serve";
 
+pub(crate) const GEN: &str = "gen";
+
 /// The CSE-ID without its slash.
 pub(crate) const ID: &str = "--id";
 /// The name of the CSEBase.

@@ -5,7 +5,7 @@ ghost use Rattle.clap.specs.Words.{app_of, rule_of, subcommand_rows_of};
 ghost use Rattle.clap.specs.declared.builder.command.Command.TheViews.{out-Command as fields_of};
 ghost use Rattle.command_words.specs.Program as spec;
 ghost use Rattle.command_words.specs.Program.{SaysCommand};
-ghost use Rattle.command_words.specs.Command.{words_say};
+ghost use Rattle.command_words.specs.Command.{options_say};
 
 use crate::names;
 use clap::error::ErrorKind;
@@ -122,9 +122,9 @@ pub(crate) fn matches_of<'a>(
     words: &'a [&'a str],
 ) -> Result<Option<ArgMatches<'a>>, OutOfMemory>
     ensures { IfOk result (λ said.
-        MatchOption said (words_say (map (λ word. word.now) words.now) ≡ None)
+        MatchOption said (options_say (map (λ word. word.now) words.now) ≡ None)
         (λ found. SaysCommand (subcommand_rows_of found)
-        (words_say (map (λ word. word.now) words.now)))) }
+        (options_say (map (λ word. word.now) words.now)))) }
 {
     if has_stray(words) {
         return Ok(None);

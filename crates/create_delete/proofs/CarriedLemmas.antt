@@ -8,15 +8,16 @@ use Rattle.resource_model.specs.Resource.{ResourceData, has_number}
 use Rattle.subscription_match.specs.Notices.{notes_of_all}
 use Rattle.tree_model.specs.Changes.{creation_changes, deletion_changes, removal_changes, update_changes}
 use Rattle.tree_model.specs.Tree.{instance_size, is_at_or_below, is_tree, without, DoAscend}
-use Rattle.tree_model.proofs.GrowthLemmas.{tree_from_well_formed}
+use Rattle.tree_model.proofs.GrowthLemmas.{ascending_from_tree, tree_from_well_formed}
+use Rattle.tree_model.proofs.ManyLemmas.{ascending_filter}
 use Rattle.tree_model.proofs.OrderLemmas.{placed_stands}
 use Rattle.entity_model.specs.Entity.{EntityData, items_from, numbered_after}
 use Rattle.entity_model.specs.Sound.{spares_first, IsSoundEntity}
 use Rattle.entity_model.specs.Telling.{all_lowered_to, IsTold}
-use Rattle.entity_model.specs.declared.telling.Told.{Told}
+use Rattle.entity_model.specs.declared.told.Told.{Told}
 use Rattle.entity_model.proofs.ExpiryLemmas.{those_all}
 use Rattle.entity_model.proofs.SoundLemmas.{sound_removed}
-use Rattle.entity_model.proofs.SweepingLemmas.{picked_ascend, told_done}
+use Rattle.entity_model.proofs.SweepingLemmas.{told_done}
 use Rattle.entity_model.proofs.TellingLemmas.{sound_telling}
 use Rattle.create_delete.specs.Changes.{deleted}
 use Rattle.create_delete.specs.Changing.{after_joining, nodes_joined, nodes_updated, pushed_by}
@@ -80,7 +81,7 @@ updated_told_sound e r c named gone sound new = sound_telling e.nodes gone (upda
 
 -- what stands below a resource goes in order of creation
 pub below_ascend : (n : ℕ) (nodes : List ResourceData) → is_tree nodes ≡ true → DoAscend (numbers_below n nodes)
-below_ascend n nodes tree = picked_ascend (is_at_or_below n nodes) nodes tree
+below_ascend n nodes tree = ascending_filter (is_at_or_below n nodes) nodes (ascending_from_tree nodes tree)
 
 -- and its removal is the deletion
 pub below_removed : (n : ℕ) (nodes : List ResourceData) → is_tree nodes ≡ true → removal_changes nodes (numbers_below n nodes) ≡ deletion_changes nodes n

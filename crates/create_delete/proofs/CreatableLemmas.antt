@@ -1,5 +1,6 @@
 -- What holds of a creation that no place refuses.
 use Rattle.std.proofs.Common.{◌≡◌, ℕ, List, true, false, Option, Some, None, sym, ap, ◌∙◌}
+use Rattle.std.proofs.lemmas.Bool.{and_parts}
 use Rattle.std.specs.List.{list_all}
 use Rattle.std.specs.Option.{option_map_or}
 use Rattle.m2m_names.specs.Types.{does_take}
@@ -13,6 +14,7 @@ use Rattle.attribute_rules.specs.declared.table.Writing.TheVariants.{Create as C
 use Rattle.entity_model.specs.Entity.{EntityData}
 use Rattle.entity_model.specs.Places.{Check}
 use Rattle.request_rules.specs.Creation.{creation_of}
+use Rattle.request_rules.specs.Groups.{are_few, membership_new}
 use Rattle.request_rules.specs.Order.{expires_later, fault_on}
 use Rattle.request_rules.specs.Policies.{links_live}
 use Rattle.request_rules.specs.Requests.{child_ty, content_for, is_content_for, named_by, takes_child}
@@ -53,4 +55,5 @@ allowed e o request parent ty es none there child whole =
       live = ap (links_live e) (sym names) ∙ h.live;
       unique = new.unique;
       room = new.room;
+      few = (and_parts (option_map_or are_few (membership_new (creation_of e o ty parent es)) true) _ new.members).0;
     }

@@ -35,6 +35,7 @@ use Rattle.policy_eval.specs.Rules.{listed_in, ids_at}
 use Rattle.entity_model.specs.Entity.{EntityData, last_reading}
 use Rattle.entity_model.specs.Sound.{is_known_id, largest_size, IsSoundEntity}
 use Rattle.request_rules.specs.Creation.{Creation, creator_rows, given_rows, has_room, is_below, is_free_cse_id, is_single, is_small, new_ae_id, new_resource, new_rows, new_size, next_state, takes_instance}
+use Rattle.request_rules.specs.Groups.{MembershipData, member_rows}
 use Rattle.request_rules.specs.Policies.{link_row}
 use Rattle.request_rules.specs.Requests.{named_expiry}
 use Rattle.request_rules.proofs.EditingLemmas.{attributes_admitted}
@@ -43,7 +44,7 @@ use Rattle.create_delete.specs.Changing.{container_update_of, pushed_out}
 use Rattle.create_delete.specs.Joining.{IsAllowed, MayJoin}
 use Rattle.create_delete.specs.NewResource.{IsNewInstance, IsNewResource}
 use Rattle.create_delete.proofs.NewResourceLemmas.{lacks_creator, lacks_given, lacks_link, link_known, new_kinds, new_name_is_free, state_small, wanted_none}
-use Rattle.create_delete.proofs.RowLemmas.{value_unset}
+use Rattle.create_delete.proofs.RowLemmas.{lacks_attr, value_unset}
 use Rattle.tree_model.proofs.QuietLemmas.{due_case, due_never, due_by_age, due_by_expiry}
 
 -- ---- what the limits say
@@ -156,19 +157,19 @@ module _ (c : Creation) (sound : IsSoundEntity c.e) (originator : is_originator 
   -- ---- what it keeps
 
   -- a policy link before it is put in
-  link_before : (a : Attr) → is_attr Cr a ≡ false → is_attr Aei a ≡ false → is_attr St a ≡ false → is_attr Cs a ≡ false → value_of a base ≡ value_of a wanted
-  link_before a cr aei st cs = value_unset a creator (with_rows given wanted) (lacks_creator a c.originator c.named cr) ∙ value_unset a given wanted (lacks_given a c.ty c aei st cs)
+  link_before : (a : Attr) → is_attr Cr a ≡ false → is_attr Aei a ≡ false → is_attr St a ≡ false → is_attr Cs a ≡ false → ((m : MembershipData) → lacks_attr a (member_rows c.e m) ≡ true) → value_of a base ≡ value_of a wanted
+  link_before a cr aei st cs members = value_unset a creator (with_rows given wanted) (lacks_creator a c.originator c.named cr) ∙ value_unset a given wanted (lacks_given a c.ty c aei st cs members)
 
   acpi_known : list_all (is_known_id c.e.next) (ids_at Acpi r) ≡ true
   acpi_known =
       ap (λ (o : Option Data). list_all (is_known_id c.e.next) (listed_in o)) (ap (value_of Acpi) rows_are ∙ value_unset Acpi (link_row c.e c.named Macp) (with_rows (link_row c.e c.named Acpi) base) (lacks_link Acpi Macp c.e c.named refl))
-      ∙ link_known c.e c.named Acpi base sound (λ t. ap (list_all (is_known_id c.e.next)) (ap listed_in (link_before Acpi refl refl refl refl) ∙ wanted_none Acpi c.named sorted t))
+      ∙ link_known c.e c.named Acpi base sound (λ t. ap (list_all (is_known_id c.e.next)) (ap listed_in (link_before Acpi refl refl refl refl (λ m. refl)) ∙ wanted_none Acpi c.named sorted t))
 
   macp_known : list_all (is_known_id c.e.next) (ids_at Macp r) ≡ true
   macp_known =
       ap (λ (o : Option Data). list_all (is_known_id c.e.next) (listed_in o)) (ap (value_of Macp) rows_are)
       ∙ link_known c.e c.named Macp (with_rows (link_row c.e c.named Acpi) base) sound
-      (λ t. ap (list_all (is_known_id c.e.next)) (ap listed_in (value_unset Macp (link_row c.e c.named Acpi) base (lacks_link Macp Acpi c.e c.named refl) ∙ link_before Macp refl refl refl refl) ∙ wanted_none Macp c.named sorted t))
+      (λ t. ap (list_all (is_known_id c.e.next)) (ap listed_in (value_unset Macp (link_row c.e c.named Acpi) base (lacks_link Macp Acpi c.e c.named refl) ∙ link_before Macp refl refl refl refl (λ m. refl)) ∙ wanted_none Macp c.named sorted t))
 
   small_size : is_ty c.ty ContentInstance ≡ true → new_size c ≤ largest_size
   small_size is = (takes_parts c.parent (new_size c) (takes_it c room.small is)).largest
@@ -234,7 +235,7 @@ module _ (c : Creation) (sound : IsSoundEntity c.e) (originator : is_originator 
         name = new_name_is_free c (omega arith) may.admitted;
         ids = list_all-append (is_known_id c.e.next) (ids_at Acpi r) (ids_at Macp r) ∙ and_from _ _ acpi_known macp_known;
         room = room.place;
-        kinds = new_kinds c originator (omega arith) (λ is. let small : new_size c ≤ 1048576 = small_size is in omega arith) may.admitted;
+        kinds = new_kinds c originator (omega arith) (λ is. let small : new_size c ≤ 1048576 = small_size is in omega arith) sorted may.few may.admitted;
         tag = tagged;
         apart = cse_free.1;
         channel = one_channel;

@@ -12,10 +12,12 @@ pub mod JoiningLemmas
 pub mod KeptLemmas
 pub mod KeptToldLemmas
 pub mod LeftLemmas
+pub mod MemberLemmas
 pub mod NewResourceLemmas
 pub mod PlannedLemmas
 pub mod PrunedLemmas
 pub mod PushingLemmas
+pub mod RelayingLemmas
 pub mod RelinkLemmas
 pub mod ReplacedLemmas
 pub mod ReplacementLemmas

@@ -52,16 +52,20 @@ use Rattle.entity_model.specs.Entity.{EntityData}
 use Rattle.entity_model.specs.Sound.{is_known_id, IsSoundEntity}
 use Rattle.request_rules.specs.Creation.{Creation, ae_stem, creator_rows, given_rows, is_ae_id, s_stem, new_ae_id, new_name, new_rows, own_name, new_size, next_state, rows_besides}
 use Rattle.request_rules.specs.Policies.{link_row, listed, policy_addressed, policy_ids, policy_meant, policy_on}
+use Rattle.request_rules.specs.Groups.{MembershipData, are_few, group_rows, member_rows, membership_new}
+use Rattle.create_delete.proofs.MemberLemmas.{new_members_kinds}
 use Rattle.create_delete.proofs.RowLemmas.{lacks_attr}
+use Rattle.create_delete.proofs.UpdatedRowLemmas.{lacks_members}
 
 -- ---- which attributes are put in
 
 -- an attribute that the CSE gives no resource at creation
-pub lacks_given : (a : Attr) (ty : Ty) (c : Creation) → is_attr Aei a ≡ false → is_attr St a ≡ false → is_attr Cs a ≡ false → lacks_attr a (given_rows ty c) ≡ true
-lacks_given a Ae c aei st cs = and_from _ _ (not_from_false _ aei) refl
-lacks_given a Container c aei st cs = and_from _ _ (not_from_false _ st) refl
-lacks_given a ContentInstance c aei st cs = and_from _ _ (not_from_false _ cs) (and_from _ _ (not_from_false _ st) refl)
-lacks_given a _ c aei st cs = refl
+pub lacks_given : (a : Attr) (ty : Ty) (c : Creation) → is_attr Aei a ≡ false → is_attr St a ≡ false → is_attr Cs a ≡ false → ((m : MembershipData) → lacks_attr a (member_rows c.e m) ≡ true) → lacks_attr a (given_rows ty c) ≡ true
+lacks_given a Ae c aei st cs members = and_from _ _ (not_from_false _ aei) refl
+lacks_given a Container c aei st cs members = and_from _ _ (not_from_false _ st) refl
+lacks_given a ContentInstance c aei st cs members = and_from _ _ (not_from_false _ cs) (and_from _ _ (not_from_false _ st) refl)
+lacks_given a Group c aei st cs members = lacks_members a c.e (membership_new c) members
+lacks_given a _ c aei st cs members = refl
 
 pub lacks_creator : (a : Attr) (o : List ℕ) (es : List Entry) → is_attr Cr a ≡ false → lacks_attr a (creator_rows o es) ≡ true
 lacks_creator a o es cr = elim (cases_Bool (is_named Cr es)) [
@@ -270,25 +274,26 @@ new_name_is_free c small admitted =
 count_kind : (n : ℕ) → n < 2 ^ 63 → nat_lt n (2 ^ 63) ≡ true
 count_kind n small = lt-ltb n (2 ^ 63) small
 
-given_kind : (ty : Ty) (c : Creation) → is_originator c.originator ≡ true → c.e.next < 2 ^ 63 → (is_ty ty ContentInstance ≡ true → new_size c < 2 ^ 63) → next_state c.parent < 2 ^ 63 → list_all (is_attr_kind ty) (given_rows ty c) ≡ true
-given_kind Ae c originator few size state = and_from _ _ (ae_id_originator c originator few) refl
-given_kind Container c originator few size state = refl
-given_kind ContentInstance c originator few size state = and_from _ _ (count_kind (new_size c) (size refl)) (and_from _ _ (count_kind (next_state c.parent) state) refl)
-given_kind _ c originator few size state = refl
+given_kind : (ty : Ty) (c : Creation) → is_originator c.originator ≡ true → c.e.next < 2 ^ 63 → (is_ty ty ContentInstance ≡ true → new_size c < 2 ^ 63) → next_state c.parent < 2 ^ 63 → (is_ty ty Group ≡ true → list_all (is_attr_kind Group) (group_rows c.e (membership_new c)) ≡ true) → list_all (is_attr_kind ty) (given_rows ty c) ≡ true
+given_kind Ae c originator few size state members = and_from _ _ (ae_id_originator c originator few) refl
+given_kind Container c originator few size state members = refl
+given_kind ContentInstance c originator few size state members = and_from _ _ (count_kind (new_size c) (size refl)) (and_from _ _ (count_kind (next_state c.parent) state) refl)
+given_kind Group c originator few size state members = members refl
+given_kind _ c originator few size state members = refl
 
 pub state_small : (r : ResourceData) → next_state r < 2 ^ 63
 state_small r = grind arith
 
 -- all that a new resource keeps is of its kinds
-pub new_kinds : (c : Creation) → is_originator c.originator ≡ true → c.e.next < 2 ^ 63 → (is_ty c.ty ContentInstance ≡ true → new_size c < 2 ^ 63) → are_admitted Creating c.ty c.named ≡ true → have_kinds c.ty (new_rows c) ≡ true
-new_kinds c originator few size admitted =
+pub new_kinds : (c : Creation) → is_originator c.originator ≡ true → c.e.next < 2 ^ 63 → (is_ty c.ty ContentInstance ≡ true → new_size c < 2 ^ 63) → AreSorted c.named → option_map_or are_few (membership_new c) true ≡ true → are_admitted Creating c.ty c.named ≡ true → have_kinds c.ty (new_rows c) ≡ true
+new_kinds c originator few size sorted members admitted =
     kinds-with_rows c.ty (rows_besides c) (wanted_in c.named).attrs
     (list_all-append (is_attr_kind c.ty) ((given_rows c.ty c ++ creator_rows c.originator c.named) ++ link_row c.e c.named Acpi) (link_row c.e c.named Macp)
     ∙ and_from _ _
     (list_all-append (is_attr_kind c.ty) (given_rows c.ty c ++ creator_rows c.originator c.named) (link_row c.e c.named Acpi)
     ∙ and_from _ _
     (list_all-append (is_attr_kind c.ty) (given_rows c.ty c) (creator_rows c.originator c.named)
-    ∙ and_from _ _ (given_kind c.ty c originator few size (state_small c.parent)) (creator_kind c.originator c.named c.ty originator (members_keep_creator Creating c.ty c.named admitted)))
+    ∙ and_from _ _ (given_kind c.ty c originator few size (state_small c.parent) (λ group. new_members_kinds c group sorted admitted members)) (creator_kind c.originator c.named c.ty originator (members_keep_creator Creating c.ty c.named admitted)))
     (link_kind c.e c.named Acpi c.ty (members_keep_policies Creating c.ty c.named admitted)))
     (link_kind c.e c.named Macp c.ty (members_keep_fan_policies Creating c.ty c.named admitted)))
     (created_members c.ty c.named admitted)

@@ -8,7 +8,7 @@ use Rattle.m2m_names.specs.Types.{ty_member}
 use Rattle.m2m_names.specs.declared.attributes.Attr.{Attr}
 use Rattle.m2m_names.specs.declared.attributes.Attr.TheVariants.{Acpi, Macp, Mbs, Mia, Mni, St}
 use Rattle.m2m_names.specs.declared.types.Ty.{Ty}
-use Rattle.m2m_names.specs.declared.types.Ty.TheVariants.{Container}
+use Rattle.m2m_names.specs.declared.types.Ty.TheVariants.{Container, Group}
 use Rattle.m2m_value.specs.Data.{Data, Entry}
 use Rattle.m2m_value.specs.Node.{AreSorted}
 use Rattle.m2m_value.specs.View.{as_object, member_of, only_member}
@@ -24,6 +24,7 @@ use Rattle.attribute_rules.proofs.ValueLemmas.{value_edited}
 use Rattle.policy_eval.specs.Rules.{is_attr_in}
 use Rattle.container_limits.specs.Limits.{limits_of}
 use Rattle.entity_model.specs.Entity.{EntityData}
+use Rattle.request_rules.specs.Groups.{MembershipData, group_rows, membership_edited}
 use Rattle.request_rules.specs.Policies.{link_row}
 use Rattle.request_rules.specs.Requests.{content_for}
 use Rattle.request_rules.specs.Rights.{is_link, is_relink, sole}
@@ -31,7 +32,7 @@ use Rattle.create_delete.specs.Changing.{updated_resource}
 use Rattle.create_delete.specs.Guard.{DiffersIn, IsUpdated, link_attrs}
 use Rattle.create_delete.proofs.NewResourceLemmas.{lacks_link}
 use Rattle.create_delete.proofs.RowLemmas.{lacks_attr}
-use Rattle.create_delete.proofs.UpdatedRowLemmas.{as_edited, lacks_state}
+use Rattle.create_delete.proofs.UpdatedRowLemmas.{as_edited, lacks_members, lacks_own}
 use Rattle.attribute_rules.proofs.KindLemmas.{admitted_parts}
 
 -- ---- `acpi` alone
@@ -132,12 +133,19 @@ apart_of ty a none = elim (cases_Bool (is_ty ty Container)) [
       record { acpi = (or_parts (is_attr a Acpi) false one).0; st = λ is. absurd (both_ways _ f is) }
 ]
 
+-- and no members of a group
+names_no_members : (d : Data) (r : ResourceData) → membership_edited r ((attr_short Acpi, d) ∷ []) ≡ None
+names_no_members d r = elim (cases_Bool (is_ty r.ty Group)) [
+  | inl t ↦ rw t refl
+  | inr f ↦ rw f refl
+]
+
 link_value : (e : EntityData) (d : Data) (r : ResourceData) (a : Attr) → is_attr_in (link_attrs r.ty) a ≡ false → value_of a (updated_resource e ((attr_short Acpi, d) ∷ []) r).attrs ≡ value_of a r.attrs
 link_value e d r a none =
     let es : List Entry = (attr_short Acpi, d) ∷ [] in
     let apart = apart_of r.ty a none in
     as_edited e es r a (lacks_link a Acpi e es (apart_to a Acpi apart.acpi)) refl
-    (lacks_state r a (λ is. apart_to a St (apart.st is)))
+    (lacks_own e es r a (λ is. apart_to a St (apart.st is)) (ap (λ (m : Option MembershipData). lacks_attr a (group_rows e m)) (names_no_members d r)))
     ∙ link_edited a d r.attrs (apart_from a Acpi apart.acpi)
 
 -- changes nothing else
@@ -161,7 +169,7 @@ pub links_stay : (e : EntityData) (es : List Entry) (r : ResourceData) → AreSo
 links_stay e es r sorted none = record {
   rest = refl;
   links =
-      as_edited e es r Acpi unlinked (lacks_link Acpi Macp e es refl) (lacks_state r Acpi (λ is. refl))
+      as_edited e es r Acpi unlinked (lacks_link Acpi Macp e es refl) (lacks_own e es r Acpi (λ is. refl) (lacks_members Acpi e (membership_edited r es) (λ x. refl)))
       ∙ value_edited Acpi es r.attrs sorted refl
       ∙ ap (λ (o : Option Data). option_map_or (λ d. if does_clear Acpi d then None else Some d) o (value_of Acpi r.attrs)) unnamed;
 }

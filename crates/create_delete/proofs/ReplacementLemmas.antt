@@ -24,6 +24,7 @@ use Rattle.resource_model.proofs.AttributeLemmas.{value-with_value_same}
 use Rattle.tree_model.specs.Shown.{with_rows}
 use Rattle.tree_model.specs.Tree.{at, is_due, standing}
 use Rattle.tree_model.proofs.QuietLemmas.{number_passes}
+use Rattle.tree_model.proofs.ShownLemmas.{with_rows-append}
 use Rattle.attribute_rules.specs.Contents.{does_clear, edit_in, edited}
 use Rattle.attribute_rules.specs.Kinds.{is_attr_kind, are_kinds}
 use Rattle.attribute_rules.specs.Laws.{may_name}
@@ -35,14 +36,16 @@ use Rattle.policy_eval.specs.Rules.{listed_in, ids_at}
 use Rattle.entity_model.specs.Entity.{EntityData, last_reading}
 use Rattle.entity_model.specs.Sound.{is_known_id, has_known_ids, IsSoundEntity}
 use Rattle.request_rules.specs.Creation.{next_state}
+use Rattle.request_rules.specs.Groups.{MembershipData, group_rows, member_rows, membership_edited}
 use Rattle.request_rules.specs.Policies.{link_row, listed}
-use Rattle.create_delete.specs.Changing.{expiry_after, state_row, updated_resource}
+use Rattle.create_delete.specs.Changing.{expiry_after, own_rows, state_row, updated_resource}
 use Rattle.create_delete.specs.NewResource.{IsReplacement}
 use Rattle.create_delete.specs.Updating.{IsUpdatable}
 use Rattle.create_delete.proofs.GrownLemmas.{none_all}
 use Rattle.create_delete.proofs.NewResourceLemmas.{kinds-with_rows, lacks_link, link_kind, link_known, state_small}
-use Rattle.create_delete.proofs.RowLemmas.{value_unset}
-use Rattle.create_delete.proofs.UpdatedRowLemmas.{as_edited, lacks_state, rows_are}
+use Rattle.create_delete.proofs.RowLemmas.{lacks_attr, value_unset}
+use Rattle.create_delete.proofs.MemberLemmas.{edited_members_kinds}
+use Rattle.create_delete.proofs.UpdatedRowLemmas.{as_edited, lacks_members, lacks_own, rows_are}
 use Rattle.m2m_names.proofs.ListLemmas.{AllOfBoth, append_parts}
 
 -- what is known stays so where nothing else is named
@@ -57,15 +60,18 @@ module _ (e : EntityData) (es : List Entry) (r : ResourceData) (sound : IsSoundE
   abbrev now : ResourceData
   now = updated_resource e es r
 
-  abbrev state : List Row
-  state = state_row r
+  abbrev own : List Row
+  own = own_rows e es r
+
+  lacks_it : (a : Attr) → is_attr St a ≡ false → ((x : MembershipData) → lacks_attr a (member_rows e x) ≡ true) → lacks_attr a own ≡ true
+  lacks_it a st lacks = lacks_own e es r a (λ is. st) (lacks_members a e (membership_edited r es) lacks)
 
   abbrev kept : List Row
   kept = edited (edit_in es) r.attrs
 
   -- an attribute that isn't put in
-  edited_at : (a : Attr) → is_attr Acpi a ≡ false → is_attr Macp a ≡ false → is_attr St a ≡ false → value_of a now.attrs ≡ value_of a kept
-  edited_at a acpi macp st = as_edited e es r a (lacks_link a Acpi e es acpi) (lacks_link a Macp e es macp) (lacks_state r a (λ is. st))
+  edited_at : (a : Attr) → is_attr Acpi a ≡ false → is_attr Macp a ≡ false → is_attr St a ≡ false → ((x : MembershipData) → lacks_attr a (member_rows e x) ≡ true) → value_of a now.attrs ≡ value_of a kept
+  edited_at a acpi macp st lacks = as_edited e es r a (lacks_link a Acpi e es acpi) (lacks_link a Macp e es macp) (lacks_it a st lacks)
 
   -- ---- types
 
@@ -78,7 +84,7 @@ module _ (e : EntityData) (es : List Entry) (r : ResourceData) (sound : IsSoundE
   ae_same = elim (cases_Bool (is_ty r.ty Ae)) [
     | inl is ↦
         let fixed : may_name r.ty Aei ≡ false = ap (λ (t : Ty). may_name t Aei) (same_type r.ty Ae (eqb-true _ _ is)) in
-        rw is (ap (option_and_then as_text) (edited_at Aei refl refl refl ∙ members_leave r.ty es Aei r.attrs may.admitted fixed))
+        rw is (ap (option_and_then as_text) (edited_at Aei refl refl refl (λ x. refl) ∙ members_leave r.ty es Aei r.attrs may.admitted fixed))
     | inr other ↦ rw other refl
   ]
 
@@ -86,7 +92,7 @@ module _ (e : EntityData) (es : List Entry) (r : ResourceData) (sound : IsSoundE
   cse_same = elim (cases_Bool (is_ty r.ty RemoteCse)) [
     | inl is ↦
         let fixed : may_name r.ty Csi ≡ false = ap (λ (t : Ty). may_name t Csi) (same_type r.ty RemoteCse (eqb-true _ _ is)) in
-        rw is (ap (option_and_then as_text) (edited_at Csi refl refl refl ∙ members_leave r.ty es Csi r.attrs may.admitted fixed))
+        rw is (ap (option_and_then as_text) (edited_at Csi refl refl refl (λ x. refl) ∙ members_leave r.ty es Csi r.attrs may.admitted fixed))
     | inr other ↦ rw other refl
   ]
 
@@ -111,19 +117,19 @@ module _ (e : EntityData) (es : List Entry) (r : ResourceData) (sound : IsSoundE
 
   acpi_known : list_all (is_known_id e.next) (ids_at Acpi now) ≡ true
   acpi_known =
-      ap (λ (o : Option Data). list_all (is_known_id e.next) (listed_in o)) (ap (value_of Acpi) (rows_are e es r) ∙ value_unset Acpi (link_row e es Macp) (with_rows (link_row e es Acpi) (with_rows state kept)) (lacks_link Acpi Macp e es refl))
-      ∙ link_known e es Acpi (with_rows state kept) sound
-      (λ t. ap (λ (o : Option Data). list_all (is_known_id e.next) (listed_in o)) (value_unset Acpi state kept (lacks_state r Acpi (λ is. refl))) ∙ edit_known Acpi refl each_known.front t)
+      ap (λ (o : Option Data). list_all (is_known_id e.next) (listed_in o)) (ap (value_of Acpi) (rows_are e es r) ∙ value_unset Acpi (link_row e es Macp) (with_rows (link_row e es Acpi) (with_rows own kept)) (lacks_link Acpi Macp e es refl))
+      ∙ link_known e es Acpi (with_rows own kept) sound
+      (λ t. ap (λ (o : Option Data). list_all (is_known_id e.next) (listed_in o)) (value_unset Acpi own kept (lacks_it Acpi refl (λ x. refl))) ∙ edit_known Acpi refl each_known.front t)
 
   macp_known : list_all (is_known_id e.next) (ids_at Macp now) ≡ true
   macp_known =
       ap (λ (o : Option Data). list_all (is_known_id e.next) (listed_in o)) (ap (value_of Macp) (rows_are e es r))
-      ∙ link_known e es Macp (with_rows (link_row e es Acpi) (with_rows state kept)) sound
-      (λ t. ap (λ (o : Option Data). list_all (is_known_id e.next) (listed_in o)) (value_unset Macp (link_row e es Acpi) (with_rows state kept) (lacks_link Macp Acpi e es refl) ∙ value_unset Macp state kept (lacks_state r Macp (λ is. refl))) ∙ edit_known Macp refl each_known.back t)
+      ∙ link_known e es Macp (with_rows (link_row e es Acpi) (with_rows own kept)) sound
+      (λ t. ap (λ (o : Option Data). list_all (is_known_id e.next) (listed_in o)) (value_unset Macp (link_row e es Acpi) (with_rows own kept) (lacks_link Macp Acpi e es refl) ∙ value_unset Macp own kept (lacks_it Macp refl (λ x. refl))) ∙ edit_known Macp refl each_known.back t)
 
   -- ---- kinds
 
-  state_kinds : list_all (is_attr_kind r.ty) state ≡ true
+  state_kinds : list_all (is_attr_kind r.ty) (state_row r) ≡ true
   state_kinds = elim (cases_Bool (is_ty r.ty Container)) [
     | inl is ↦
         let row : Row = (St, number (pos (next_state r))) in
@@ -132,23 +138,34 @@ module _ (e : EntityData) (es : List Entry) (r : ResourceData) (sound : IsSoundE
     | inr other ↦ rw other refl
   ]
 
+  kept_kinds : are_kinds r ≡ true
+  kept_kinds = number_passes are_kinds r.number e.nodes r sound.kinds may.stands
+
+  own_kinds : list_all (is_attr_kind r.ty) own ≡ true
+  own_kinds =
+      list_all-append (is_attr_kind r.ty) (state_row r) (group_rows e (membership_edited r es))
+      ∙ and_from _ _ state_kinds (edited_members_kinds e es r sorted may.admitted kept_kinds may.few)
+
   kinds : are_kinds now ≡ true
   kinds =
-      kinds-with_rows r.ty ((state ++ link_row e es Acpi) ++ link_row e es Macp) kept
-      (list_all-append (is_attr_kind r.ty) (state ++ link_row e es Acpi) (link_row e es Macp)
+      kinds-with_rows r.ty ((own ++ link_row e es Acpi) ++ link_row e es Macp) kept
+      (list_all-append (is_attr_kind r.ty) (own ++ link_row e es Acpi) (link_row e es Macp)
       ∙ and_from _ _
-      (list_all-append (is_attr_kind r.ty) state (link_row e es Acpi) ∙ and_from _ _ state_kinds (link_kind e es Acpi r.ty (members_keep_policies Updating r.ty es may.admitted)))
+      (list_all-append (is_attr_kind r.ty) own (link_row e es Acpi) ∙ and_from _ _ own_kinds (link_kind e es Acpi r.ty (members_keep_policies Updating r.ty es may.admitted)))
       (link_kind e es Macp r.ty (members_keep_fan_policies Updating r.ty es may.admitted)))
-      (updated_members r.ty es r.attrs may.admitted (number_passes are_kinds r.number e.nodes r sound.kinds may.stands))
+      (updated_members r.ty es r.attrs may.admitted kept_kinds)
 
   tagged : (not (is_ty r.ty Container) || is_some (value_of St now.attrs)) ≡ true
   tagged = elim (cases_Bool (is_ty r.ty Container)) [
     | inl is ↦
-        let put : value_of St (with_rows state kept) ≡ Some (number (pos (next_state r))) = rw is (value-with_value_same St (number (pos (next_state r))) kept) in
+        let state : value_of St (with_rows (state_row r) kept) ≡ Some (number (pos (next_state r))) = rw is (value-with_value_same St (number (pos (next_state r))) kept) in
+        let put : value_of St (with_rows own kept) ≡ Some (number (pos (next_state r))) =
+        ap (value_of St) (with_rows-append (state_row r) (group_rows e (membership_edited r es)) kept)
+        ∙ value_unset St (group_rows e (membership_edited r es)) (with_rows (state_row r) kept) (lacks_members St e (membership_edited r es) (λ x. refl)) ∙ state in
         let value : value_of St now.attrs ≡ Some (number (pos (next_state r))) =
         ap (value_of St) (rows_are e es r)
-        ∙ value_unset St (link_row e es Macp) (with_rows (link_row e es Acpi) (with_rows state kept)) (lacks_link St Macp e es refl)
-        ∙ value_unset St (link_row e es Acpi) (with_rows state kept) (lacks_link St Acpi e es refl) ∙ put in
+        ∙ value_unset St (link_row e es Macp) (with_rows (link_row e es Acpi) (with_rows own kept)) (lacks_link St Macp e es refl)
+        ∙ value_unset St (link_row e es Acpi) (with_rows own kept) (lacks_link St Acpi e es refl) ∙ put in
         or_right _ _ (ap is_some value)
     | inr other ↦ or_left _ _ (not_from_false _ other)
   ]

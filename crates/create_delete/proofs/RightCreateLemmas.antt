@@ -96,7 +96,7 @@ module _ (e : EntityData) (sound : IsSoundEntity e) (r : ResourceData) (new : Is
       alone s.number s (sym split ∙ found)
 
   -- what isn't an instance changes nothing else
-  pub joined_by_right : (o : List ℕ) → is_granted e o (op_row Create).bit r.parent ≡ true → ChangesByRight Create e o r.parent (with_new_resource e r)
+  pub joined_by_right : (o : List ℕ) → is_granted e o (op_row Create).bit r.parent ≡ true → ChangesByRight Create e o r.parent [] (with_new_resource e r)
   joined_by_right o right = record {
     created = λ s fresh. (ap (λ (x : ResourceData). x.parent) (sym (only_new s fresh.0 fresh.1)), right);
     changed = λ a b change.
@@ -201,7 +201,7 @@ module _ (e : EntityData) (sound : IsSoundEntity e) (r c : ResourceData) (st : �
   pub itself : is_instance r.parent r ≡ true
   itself = and_from _ _ (eq-eqb r.parent r.parent refl) filling.instance
 
-  stamped_by_right : (o : List ℕ) → IsChangedByRight e o after c stamped
+  stamped_by_right : (o : List ℕ) → IsChangedByRight e o [] after c stamped
   stamped_by_right o = inr (inr (inl (r, (lacks e sound r filling.new, new_left), ap (λ (m : ℕ). is_instance m r) named ∙ itself, tag_alone)))
 
   -- of what stood there the container alone differs
@@ -216,10 +216,10 @@ module _ (e : EntityData) (sound : IsSoundEntity e) (r c : ResourceData) (st : �
         absurd (change.differs (same_Some b a (sym (stood_grown b.number b other change.is) ∙ older_there e sound r filling.new b.number a was)))
   ]
 
-  changed : (o : List ℕ) (a b : ResourceData) → IsChanged e.nodes nodes_filled a b → IsChangedByRight e o after a b
+  changed : (o : List ℕ) (a b : ResourceData) → IsChanged e.nodes nodes_filled a b → IsChangedByRight e o [] after a b
   changed o a b change =
       let same = changed_is a b change in
-      subst (λ (x : ResourceData). IsChangedByRight e o after x b) same.0 (subst (λ (x : ResourceData). IsChangedByRight e o after c x) same.1 (stamped_by_right o))
+      subst (λ (x : ResourceData). IsChangedByRight e o [] after x b) same.0 (subst (λ (x : ResourceData). IsChangedByRight e o [] after c x) same.1 (stamped_by_right o))
 
   pub removed : (s : ResourceData) → IsGone e.nodes nodes_filled s → is_instance r.parent s ≡ true
   removed s gone = elim (cases_eq s.number c.number) [
@@ -231,7 +231,7 @@ module _ (e : EntityData) (sound : IsSoundEntity e) (r c : ResourceData) (st : �
     | inr other ↦ filled_left.gone s (at-replaced_other s.number stamped all other ∙ older_there e sound r filling.new s.number s gone.0) gone.1
   ]
 
-  pub filled_by_right : (o : List ℕ) → is_granted e o (op_row Create).bit r.parent ≡ true → ChangesByRight Create e o r.parent after
+  pub filled_by_right : (o : List ℕ) → is_granted e o (op_row Create).bit r.parent ≡ true → ChangesByRight Create e o r.parent [] after
   filled_by_right o right = record {
     created = λ s fresh. (created s fresh, right);
     changed = changed o;
@@ -240,10 +240,10 @@ module _ (e : EntityData) (sound : IsSoundEntity e) (r c : ResourceData) (st : �
 
 -- ---- what joins
 
-pub joins_by_right : (e : EntityData) (o : List ℕ) (r : ResourceData) (f : Option ContainerUpdate) → IsSoundEntity e → MayJoin e r f → is_granted e o (op_row Create).bit r.parent ≡ true → ChangesByRight Create e o r.parent (after_joining e r f)
+pub joins_by_right : (e : EntityData) (o : List ℕ) (r : ResourceData) (f : Option ContainerUpdate) → IsSoundEntity e → MayJoin e r f → is_granted e o (op_row Create).bit r.parent ≡ true → ChangesByRight Create e o r.parent [] (after_joining e r f)
 joins_by_right e o r None sound may right = joined_by_right e sound r may.0 o right
 joins_by_right e o r (Some f) sound may right =
-    subst (ChangesByRight Create e o r.parent) (filled_is e r f may) (filled_by_right e sound r may.parent f.state may.joins o right)
+    subst (ChangesByRight Create e o r.parent []) (filled_is e r f may) (filled_by_right e sound r may.parent f.state may.joins o right)
 
 -- an instance joins those that it leaves
 pub newest_filled : (e : EntityData) (r : ResourceData) (f : ContainerUpdate) → IsSoundEntity e → (may : MayJoinContainer e r f) → instances_of r.parent (with_new_instance e r f).nodes ≡ kept (limits_of may.parent) (Some (instance_size r)) e.last (instances_of r.parent e.nodes) ++ r ∷ []
@@ -318,12 +318,12 @@ module _ (e : EntityData) (o : List ℕ) (request : RequestParts) (n : ℕ) (sou
   pub after_is : (effect_at Create e o request n).after ≡ after_joining create.made.e (new_resource create.made) (container_update_of create.made)
   after_is = create.after
 
-  pub create_by_right : ChangesByRight Create e o n (effect_at Create e o request n).after
+  pub create_by_right : ChangesByRight Create e o n [] (effect_at Create e o request n).after
   create_by_right =
-      subst (ChangesByRight Create e o n) (sym after_is)
-      (subst (λ (x : EntityData). ChangesByRight Create x o n (after_joining create.made.e (new_resource create.made) (container_update_of create.made))) create.entity
-      (subst (λ (x : List ℕ). ChangesByRight Create create.made.e x n (after_joining create.made.e (new_resource create.made) (container_update_of create.made))) create.originator
-      (subst (λ (m : ℕ). ChangesByRight Create create.made.e create.made.originator m (after_joining create.made.e (new_resource create.made) (container_update_of create.made))) create.parent
+      subst (ChangesByRight Create e o n []) (sym after_is)
+      (subst (λ (x : EntityData). ChangesByRight Create x o n [] (after_joining create.made.e (new_resource create.made) (container_update_of create.made))) create.entity
+      (subst (λ (x : List ℕ). ChangesByRight Create create.made.e x n [] (after_joining create.made.e (new_resource create.made) (container_update_of create.made))) create.originator
+      (subst (λ (m : ℕ). ChangesByRight Create create.made.e create.made.originator m [] (after_joining create.made.e (new_resource create.made) (container_update_of create.made))) create.parent
       (joins_by_right create.made.e create.made.originator (new_resource create.made) (container_update_of create.made) made_sound joins create.right))))
 
   pub create_sound : IsSoundEntity (effect_at Create e o request n).after

@@ -25,7 +25,7 @@ use Rattle.create_delete.specs.Changes.{changes_by, named_attrs}
 use Rattle.create_delete.specs.Changing.{after_joining, container_update_of, nodes_updated, effect_at, pushed_by, pushed_out, updated_resource, without_all}
 use Rattle.create_delete.specs.Guard.{ChangesByRight, NamesInOrder}
 use Rattle.create_delete.specs.NewResource.{IsReplacement}
-use Rattle.create_delete.specs.Telling.{gone_numbers, told_effect_at}
+use Rattle.create_delete.specs.Telling.{drafts_at, gone_numbers, told_effect_at}
 use Rattle.create_delete.proofs.DeletionLemmas.{deletable, deletable_spared, deletion_keeps, deletion_takes, delete_done}
 use Rattle.create_delete.proofs.LeftLemmas.{instances_left}
 use Rattle.create_delete.proofs.ChangesLemmas.{updating_changes}
@@ -40,8 +40,8 @@ use Rattle.create_delete.proofs.UpdatedLemmas.{pruning}
 
 -- ---- where nothing changes
 
-unchanged : (op : Op) (e : EntityData) (o : List ℕ) (n : ℕ) → ChangesByRight op e o n e
-unchanged op e o n = record {
+unchanged : (op : Op) (e : EntityData) (o : List ℕ) (n : ℕ) (drafts : List DraftParts) → ChangesByRight op e o n drafts e
+unchanged op e o n drafts = record {
   created = λ r fresh. let both : None ≡ Some r = sym fresh.0 ∙ fresh.1 in cc;
   changed = λ r s change. absurd (change.differs (same_Some s r (sym change.is ∙ ap (λ (m : ℕ). at m e.nodes) change.same ∙ change.was)));
   removed = λ r gone. let both : Some r ≡ None = sym gone.0 ∙ gone.1 in cc;
@@ -63,7 +63,7 @@ refused_after op e o request n f is = ap (λ (x : Effect). x.after) (refused_at 
 
 -- ---- a Delete
 
-delete_by_right : (e : EntityData) (o : List ℕ) (request : RequestParts) (n : ℕ) → IsSoundEntity e → ChangesByRight Delete e o n (effect_at Delete e o request n).after
+delete_by_right : (e : EntityData) (o : List ℕ) (request : RequestParts) (n : ℕ) → IsSoundEntity e → ChangesByRight Delete e o n [] (effect_at Delete e o request n).after
 delete_by_right e o request n sound = record {
   created = λ r fresh. let both : None ≡ Some r = sym fresh.0 ∙ deletion_keeps e o request n r sound fresh.1 in cc;
   changed = λ r s change. absurd (change.differs (same_Some s r (sym (deletion_keeps e o request n s sound change.is) ∙ ap (λ (m : ℕ). at m e.nodes) change.same ∙ change.was)));
@@ -78,16 +78,16 @@ delete_sound e o request n sound none =
 -- ---- each operation
 
 module _ (e : EntityData) (o : List ℕ) (request : RequestParts) (n : ℕ) (sound : IsSoundEntity e) (originator : is_originator o ≡ true) (content : NamesInOrder request) where
-  done_by_right : (op : Op) → fault_at op e o request n ≡ None → ChangesByRight op e o n (effect_at op e o request n).after
+  done_by_right : (op : Op) → fault_at op e o request n ≡ None → ChangesByRight op e o n [] (effect_at op e o request n).after
   done_by_right Create none = create_by_right e o request n sound originator content none
-  done_by_right Retrieve none = subst (ChangesByRight Retrieve e o n) (sym (retrieve_same e o request n none)) (unchanged Retrieve e o n)
+  done_by_right Retrieve none = subst (ChangesByRight Retrieve e o n []) (sym (retrieve_same e o request n none)) (unchanged Retrieve e o n [])
   done_by_right Update none = update_by_right e o request n sound content none
   done_by_right Delete none = delete_by_right e o request n sound
-  done_by_right Notify none = subst (ChangesByRight Notify e o n) (sym (notify_same e o request n none)) (unchanged Notify e o n)
+  done_by_right Notify none = subst (ChangesByRight Notify e o n []) (sym (notify_same e o request n none)) (unchanged Notify e o n [])
 
-  by_fault : (op : Op) (x : Option Rsc) → fault_at op e o request n ≡ x → ChangesByRight op e o n (effect_at op e o request n).after
+  by_fault : (op : Op) (x : Option Rsc) → fault_at op e o request n ≡ x → ChangesByRight op e o n [] (effect_at op e o request n).after
   by_fault op None none = done_by_right op none
-  by_fault op (Some f) is = subst (ChangesByRight op e o n) (sym (refused_after op e o request n f is)) (unchanged op e o n)
+  by_fault op (Some f) is = subst (ChangesByRight op e o n []) (sym (refused_after op e o request n f is)) (unchanged op e o n [])
 
   done_sound : (op : Op) → fault_at op e o request n ≡ None → IsSoundEntity (effect_at op e o request n).after
   done_sound Create none = create_sound e o request n sound originator content none
@@ -100,7 +100,7 @@ module _ (e : EntityData) (o : List ℕ) (request : RequestParts) (n : ℕ) (sou
   sound_by_fault op None none = done_sound op none
   sound_by_fault op (Some f) is = subst IsSoundEntity (sym (refused_after op e o request n f is)) sound
 
-pub changes_by_right : (op : Op) (e : EntityData) (o : List ℕ) (request : RequestParts) (n : ℕ) → IsSoundEntity e → is_originator o ≡ true → NamesInOrder request → ChangesByRight op e o n (effect_at op e o request n).after
+pub changes_by_right : (op : Op) (e : EntityData) (o : List ℕ) (request : RequestParts) (n : ℕ) → IsSoundEntity e → is_originator o ≡ true → NamesInOrder request → ChangesByRight op e o n [] (effect_at op e o request n).after
 changes_by_right op e o request n sound originator content = by_fault e o request n sound originator content op (fault_at op e o request n) refl
 
 pub stays_sound : (op : Op) (e : EntityData) (o : List ℕ) (request : RequestParts) (n : ℕ) → IsSoundEntity e → is_originator o ≡ true → NamesInOrder request → IsSoundEntity (effect_at op e o request n).after
@@ -113,7 +113,7 @@ module _ (e : EntityData) (o : List ℕ) (request : RequestParts) (n : ℕ) (sou
   left op = (effect_at op e o request n).after
 
   abbrev drafts : Op → List DraftParts
-  drafts op = notes_of_all (left op).home e.nodes (gone_numbers e (left op)) (changes_by op request n e (left op))
+  drafts op = drafts_at op e o request n
 
   create_keeps : fault_at Create e o request n ≡ None → KeepsTold e.nodes (drafts Create) (left Create).nodes
   create_keeps none =
@@ -164,10 +164,10 @@ module _ (e : EntityData) (o : List ℕ) (request : RequestParts) (n : ℕ) (sou
       let found = found_at op e o request n none in
       told_after op e o request n found.0 (left op) found.1 none refl
 
-  by_right_or_refused : (op : Op) (x : Option Rsc) → fault_at op e o request n ≡ x → ChangesByRight op e o n (told_effect_at op e o request n).after
-  by_right_or_refused op (Some f) is = subst (ChangesByRight op e o n) (sym (ap (λ (x : Effect). x.after) (told_refused_at op e o request n f is))) (unchanged op e o n)
+  by_right_or_refused : (op : Op) (x : Option Rsc) → fault_at op e o request n ≡ x → ChangesByRight op e o n (drafts op) (told_effect_at op e o request n).after
+  by_right_or_refused op (Some f) is = subst (ChangesByRight op e o n (drafts op)) (sym (ap (λ (x : Effect). x.after) (told_refused_at op e o request n f is))) (unchanged op e o n (drafts op))
   by_right_or_refused op None none =
-      subst (ChangesByRight op e o n) (sym (told_is op none))
+      subst (ChangesByRight op e o n (drafts op)) (sym (told_is op none))
       (told_right op e o n (drafts op) (left op) (stays_sound op e o request n sound originator content) (keeps op none) (changes_by_right op e o request n sound originator content))
 
   sound_or_refused : (op : Op) (x : Option Rsc) → fault_at op e o request n ≡ x → IsSoundEntity (told_effect_at op e o request n).after
@@ -176,7 +176,7 @@ module _ (e : EntityData) (o : List ℕ) (request : RequestParts) (n : ℕ) (sou
       subst IsSoundEntity (sym (told_is op none)) (sound_told e.nodes (drafts op) (left op) (stays_sound op e o request n sound originator content))
 
 -- what an operation changes, and what is told of it, it does by right
-pub told_by_right : (op : Op) (e : EntityData) (o : List ℕ) (request : RequestParts) (n : ℕ) → IsSoundEntity e → is_originator o ≡ true → NamesInOrder request → ChangesByRight op e o n (told_effect_at op e o request n).after
+pub told_by_right : (op : Op) (e : EntityData) (o : List ℕ) (request : RequestParts) (n : ℕ) → IsSoundEntity e → is_originator o ≡ true → NamesInOrder request → ChangesByRight op e o n (drafts_at op e o request n) (told_effect_at op e o request n).after
 told_by_right op e o request n sound originator content = by_right_or_refused e o request n sound originator content op (fault_at op e o request n) refl
 
 pub told_stays_sound : (op : Op) (e : EntityData) (o : List ℕ) (request : RequestParts) (n : ℕ) → IsSoundEntity e → is_originator o ≡ true → NamesInOrder request → IsSoundEntity (told_effect_at op e o request n).after

@@ -93,7 +93,7 @@ module _ (e : EntityData) (sound : IsSoundEntity e) (o : List ℕ) (request : Re
 
   -- ---- what differs
 
-  changed_itself : IsChangedByRight e o after old now
+  changed_itself : IsChangedByRight e o [] after old now
   changed_itself = elim (cases_Bool (is_relink request)) [
     | inl link ↦
         let relinks_it : relinks e.home e.nodes o old.number ≡ true = rw link at right in
@@ -103,10 +103,10 @@ module _ (e : EntityData) (sound : IsSoundEntity e) (o : List ℕ) (request : Re
         inl (updates_it, links_stay e es old sorted (names_no_link request old.ty es may.admitted whole other))
   ]
 
-  by_same : (r s : ResourceData) → old ≡ r → now ≡ s → IsChangedByRight e o after r s
-  by_same r s was is = subst (λ (x : ResourceData). IsChangedByRight e o after x s) was (subst (λ (x : ResourceData). IsChangedByRight e o after old x) is changed_itself)
+  by_same : (r s : ResourceData) → old ≡ r → now ≡ s → IsChangedByRight e o [] after r s
+  by_same r s was is = subst (λ (x : ResourceData). IsChangedByRight e o [] after x s) was (subst (λ (x : ResourceData). IsChangedByRight e o [] after old x) is changed_itself)
 
-  changed : (r s : ResourceData) → IsChanged e.nodes after.nodes r s → IsChangedByRight e o after r s
+  changed : (r s : ResourceData) → IsChanged e.nodes after.nodes r s → IsChangedByRight e o [] after r s
   changed r s change = elim (cases_eq s.number now.number) [
     | inl same ↦
         let left : at now.number (replaced now e.nodes) ≡ Some s = ap (λ (m : ℕ). at m (replaced now e.nodes)) (sym same) ∙ (updated_left e sound now new).stood s.number s change.is in
@@ -131,7 +131,7 @@ module _ (e : EntityData) (sound : IsSoundEntity e) (o : List ℕ) (request : Re
     | inr f ↦ rw f refl
   ]
 
-  removed : (r : ResourceData) → IsGone e.nodes after.nodes r → IsRemovedByRight Update e o old.number r
+  removed : (r : ResourceData) → IsGone e.nodes after.nodes r → IsRemovedByRight Update e o old.number [] r
   removed r gone = elim (cases_eq r.number now.number) [
     | inl same ↦
         let none : at now.number after.nodes ≡ None = ap (λ (m : ℕ). at m after.nodes) (sym same) ∙ gone.1 in
@@ -150,7 +150,7 @@ module _ (e : EntityData) (sound : IsSoundEntity e) (o : List ℕ) (request : Re
         ]
   ]
 
-  pub updated_by_right : ChangesByRight Update e o old.number after
+  pub updated_by_right : ChangesByRight Update e o old.number [] after
   updated_by_right = record {
     created = λ r fresh. absurd (none_new r fresh);
     changed = changed;
@@ -202,11 +202,11 @@ module _ (e : EntityData) (o : List ℕ) (request : RequestParts) (n : ℕ) (con
       let found = found_at Update e o request n none in
       by_names found.0 found.1 (nothing_on Update e o request n found.0 found.1 none) (content_for request found.0.ty) refl
 
-pub update_by_right : (e : EntityData) (o : List ℕ) (request : RequestParts) (n : ℕ) → IsSoundEntity e → NamesInOrder request → fault_at Update e o request n ≡ None → ChangesByRight Update e o n (effect_at Update e o request n).after
+pub update_by_right : (e : EntityData) (o : List ℕ) (request : RequestParts) (n : ℕ) → IsSoundEntity e → NamesInOrder request → fault_at Update e o request n ≡ None → ChangesByRight Update e o n [] (effect_at Update e o request n).after
 update_by_right e o request n sound content none =
     let u = is_update e o request n content none in
-    subst (ChangesByRight Update e o n) (sym u.after)
-    (subst (λ (m : ℕ). ChangesByRight Update e o m (updated_in e (updated_resource e u.es u.target))) u.number
+    subst (ChangesByRight Update e o n []) (sym u.after)
+    (subst (λ (m : ℕ). ChangesByRight Update e o m [] (updated_in e (updated_resource e u.es u.target))) u.number
     (updated_by_right e sound o request u.target u.es u.sorted u.may u.whole u.right))
 
 pub update_sound : (e : EntityData) (o : List ℕ) (request : RequestParts) (n : ℕ) → IsSoundEntity e → NamesInOrder request → fault_at Update e o request n ≡ None → IsSoundEntity (effect_at Update e o request n).after

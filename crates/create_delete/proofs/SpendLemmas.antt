@@ -1,7 +1,7 @@
 -- What an operation changes by right, it does also where it is told, and subscriptions that count
 -- are lowered.
 use Rattle.std.specs.Prelude.{◌==◌, ◌⊎◌}
-use Rattle.std.proofs.Common.{◌≡◌, ℕ, ◌-◌, ◌≤◌, List, Bool, true, false, not, cond, Option, Some, None, option_map, inl, inr, refl, sym, ap, ◌∙◌, subst, arith}
+use Rattle.std.proofs.Common.{◌≡◌, ℕ, ◌-◌, ◌<◌, ◌≤◌, List, [], Bool, true, false, not, cond, Option, Some, None, option_map, inl, inr, refl, sym, ap, ◌∙◌, subst, arith}
 use Rattle.std.proofs.lemmas.Bool.{cases_Bool, both_ways, eqb-true, false_from_ne_true}
 use Rattle.std.proofs.lemmas.Bool.Decides.{nat_tests}
 use Rattle.std.proofs.lemmas.Option.{same_Some}
@@ -25,7 +25,7 @@ use Rattle.entity_model.specs.Sound.{IsSoundEntity}
 use Rattle.entity_model.proofs.SpentLemmas.{counts_to, lowered_stands}
 use Rattle.policy_eval.specs.Rights.{create_bit}
 use Rattle.request_rules.specs.Rights.{is_granted}
-use Rattle.create_delete.specs.Guard.{ChangesByRight, IsChanged, IsChangedByRight, IsCounting, IsGone, IsLowered, IsNew, IsRemovedByRight}
+use Rattle.create_delete.specs.Guard.{ChangesByRight, IsChanged, IsChangedByRight, IsGone, IsLowered, IsNew, IsRemovedByRight, IsSpentBy}
 use Rattle.create_delete.proofs.KeptToldLemmas.{KeepsTold}
 use Rattle.create_delete.proofs.LeftLemmas.{at_left, left_stood, AreLeaves}
 
@@ -53,6 +53,7 @@ record IsSpentNow (drafts : List DraftParts) (r : ResourceData) : Type 0 where
   old : ℕ
   counted : left_to r ≡ Some old
   told : (count_for r.number drafts == 0) ≡ false
+  all : old ≤ count_for r.number drafts
 
 spent_now : (drafts : List DraftParts) (r : ResourceData) → is_spent drafts r ≡ true → IsSpentNow drafts r
 spent_now drafts r is = by (left_of drafts r) refl is
@@ -61,12 +62,14 @@ spent_now drafts r is = by (left_of drafts r) refl is
     by None found none = absurd (both_ways _ refl none)
     by (Some left) found some =
         let from = taken_from drafts r left found in
-        record { old = from.old; counted = from.counted; told = from.told }
+        let none : left ≡ 0 = eqb-true left 0 some in
+        let rest : left ≡ from.old - count_for r.number drafts = from.rest in
+        record { old = from.old; counted = from.counted; told = from.told; all = omega (arith, none, rest) }
 
 some_told : (k : ℕ) → (k == 0) ≡ false → 1 ≤ k
 some_told k some = grind (arith, nat_tests)
 
-module _ (op : Op) (e : EntityData) (o : List ℕ) (n : ℕ) (drafts : List DraftParts) (after : EntityData) (sound : IsSoundEntity after) (keeps : KeepsTold e.nodes drafts after.nodes) (right : ChangesByRight op e o n after) where
+module _ (op : Op) (e : EntityData) (o : List ℕ) (n : ℕ) (drafts : List DraftParts) (after : EntityData) (sound : IsSoundEntity after) (keeps : KeepsTold e.nodes drafts after.nodes) (right : ChangesByRight op e o n [] after) where
   abbrev left : List ResourceData
   left = nodes_spent drafts after.nodes
 
@@ -125,36 +128,41 @@ module _ (op : Op) (e : EntityData) (o : List ℕ) (n : ℕ) (drafts : List Draf
     | inr some ↦ (let both : None ≡ Some i = sym lacks ∙ keeps i found some in cc)
   ]
 
-  by_right_told : (r s : ResourceData) → IsChangedByRight e o after r s → IsChangedByRight e o told r s
+  by_right_told : (r s : ResourceData) → IsChangedByRight e o [] after r s → IsChangedByRight e o drafts told r s
   by_right_told r s by = elim by [
     | inl update ↦ inl update
     | inr other ↦ elim other [
       | inl relink ↦ inr (inl relink)
       | inr more ↦ elim more [
         | inl filled ↦ inr (inr (inl (filled.0, (filled.1.0, untold_stays filled.0 filled.1.1 (new_untold filled.0 filled.1.0 filled.1.1)), filled.2, filled.3)))
-        | inr counted ↦ inr (inr (inr counted))
+        | inr counted ↦ absurd (omega (arith, counted.told))
       ]
     ]
   ]
 
   -- one that is told something is lowered, where it counts
-  lowered_as : (x : ResourceData) → at x.number after.nodes ≡ Some x → (count_for x.number drafts == 0) ≡ false → (lowered drafts x ≡ x) ⊎ IsLowered x (lowered drafts x)
-  lowered_as x found some = by (left_to x) refl some
+  lowered_as : (x : ResourceData) → at x.number after.nodes ≡ Some x → (count_for x.number drafts == 0) ≡ false → is_spent drafts x ≡ false → (lowered drafts x ≡ x) ⊎ IsLowered drafts x (lowered drafts x)
+  lowered_as x found some unspent = by (left_to x) refl some
     where
-      by : (l : Option ℕ) → left_to x ≡ l → (count_for x.number drafts == 0) ≡ false → (lowered drafts x ≡ x) ⊎ IsLowered x (lowered drafts x)
+      by : (l : Option ℕ) → left_to x ≡ l → (count_for x.number drafts == 0) ≡ false → (lowered drafts x ≡ x) ⊎ IsLowered drafts x (lowered drafts x)
       by None is some = inl (rw (some, is) refl)
       by (Some old) is some =
           let counts = counts_to x old (kinds x.number x found) is in
-          let low : 1 ≤ old = counts.some in
           let told : 1 ≤ count_for x.number drafts = some_told (count_for x.number drafts) some in
+          let some_left : 1 ≤ old - count_for x.number drafts = some_told (old - count_for x.number drafts) (rw (some, is) at unspent) in
           inr (record {
             kind = counts.subscription;
             old = old;
-            left = old - count_for x.number drafts;
             counted = is;
-            less = omega arith;
+            told = omega arith;
+            more = omega arith;
             rest = rw (some, is) refl;
           })
+
+  -- what stands then isn't spent
+  is_standing : (b : Bool) (x s : ResourceData) → option_map (lowered drafts) (cond (not b) (Some x) None) ≡ Some s → b ≡ false
+  is_standing true x s some = cc
+  is_standing false x s some = refl
 
   created : (r : ResourceData) → IsNew e.nodes left r → (r.parent ≡ n) × (is_granted e o create_bit n ≡ true)
   created r fresh =
@@ -165,7 +173,7 @@ module _ (op : Op) (e : EntityData) (o : List ℕ) (n : ℕ) (drafts : List Draf
       let same : r ≡ stood.0 = stood.2 ∙ untold_same stood.0 zero in
       right.created r (fresh.0, stood.1 ∙ ap Some (sym same))
 
-  changed : (r s : ResourceData) → IsChanged e.nodes left r s → IsChangedByRight e o told r s
+  changed : (r s : ResourceData) → IsChanged e.nodes left r s → IsChangedByRight e o drafts told r s
   changed r s change =
       let stood = told_stood s.number s change.is in
       let x = stood.0 in
@@ -177,9 +185,10 @@ module _ (op : Op) (e : EntityData) (o : List ℕ) (n : ℕ) (drafts : List Draf
             by_right_told r s (right.changed r s (record { same = change.same; was = change.was; is = stood.1 ∙ ap Some (sym same); differs = change.differs }))
         | inr some ↦
             let was : r ≡ x = same_Some r x (sym change.was ∙ ap (λ (m : ℕ). at m e.nodes) (sym (number ∙ change.same)) ∙ keeps x own some) in
-            elim (lowered_as x own some) [
+            let stays : is_spent drafts x ≡ false = is_standing (is_spent drafts x) x s (sym (left_now x own) ∙ ap (λ (m : ℕ). at m left) number ∙ change.is) in
+            elim (lowered_as x own some stays) [
               | inl still ↦ absurd (change.differs (stood.2 ∙ still ∙ sym was))
-              | inr low ↦ inr (inr (inr (subst (λ (y : ResourceData). IsLowered y s) (sym was) (subst (IsLowered x) (sym stood.2) low))))
+              | inr low ↦ inr (inr (inr (subst (λ (y : ResourceData). IsLowered drafts y s) (sym was) (subst (IsLowered drafts x) (sym stood.2) low))))
             ]
       ]
 
@@ -187,11 +196,21 @@ module _ (op : Op) (e : EntityData) (o : List ℕ) (n : ℕ) (drafts : List Draf
   is_gone true x none = refl
   is_gone false x none = cc
 
-  removed : (r : ResourceData) → IsGone e.nodes left r → IsRemovedByRight op e o n r
+  -- what goes by right where nothing is told goes by right
+  gone_by_right : (r : ResourceData) → IsRemovedByRight op e o n [] r → IsRemovedByRight op e o n drafts r
+  gone_by_right r by = elim by [
+    | inl delete ↦ inl delete
+    | inr other ↦ elim other [
+      | inl pushed ↦ inr (inl pushed)
+      | inr spent ↦ absurd (omega (arith, spent.told))
+    ]
+  ]
+
+  removed : (r : ResourceData) → IsGone e.nodes left r → IsRemovedByRight op e o n drafts r
   removed r gone = by (at r.number after.nodes) refl
     where
-      by : (x : Option ResourceData) → at r.number after.nodes ≡ x → IsRemovedByRight op e o n r
-      by None is = right.removed r (gone.0, is)
+      by : (x : Option ResourceData) → at r.number after.nodes ≡ x → IsRemovedByRight op e o n drafts r
+      by None is = gone_by_right r (right.removed r (gone.0, is))
       by (Some x) is =
           let number : x.number ≡ r.number = at_number r.number after.nodes x is in
           let own : at x.number after.nodes ≡ Some x = ap (λ (m : ℕ). at m after.nodes) number ∙ is in
@@ -199,7 +218,9 @@ module _ (op : Op) (e : EntityData) (o : List ℕ) (n : ℕ) (drafts : List Draf
           let spent = spent_now drafts x (is_gone (is_spent drafts x) x none) in
           let was : r ≡ x = same_Some r x (sym gone.0 ∙ ap (λ (m : ℕ). at m e.nodes) (sym number) ∙ keeps x own spent.told) in
           let counts = counts_to x spent.old (kinds x.number x own) spent.counted in
-          inr (inr (subst IsCounting (sym was) (record { kind = counts.subscription; left = spent.old; counted = spent.counted })))
+          let some : 1 ≤ count_for x.number drafts = some_told (count_for x.number drafts) spent.told in
+          let by_drafts : IsSpentBy drafts x = record { kind = counts.subscription; old = spent.old; counted = spent.counted; told = omega arith; all = spent.all } in
+          inr (inr (subst (IsSpentBy drafts) (sym was) by_drafts))
 
-  pub told_right : ChangesByRight op e o n told
+  pub told_right : ChangesByRight op e o n drafts told
   told_right = record { created = created; changed = changed; removed = removed }

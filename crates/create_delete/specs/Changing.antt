@@ -31,6 +31,7 @@ use Rattle.entity_model.specs.Entity.{EntityData}
 use Rattle.request_rules.specs.Order.{creation_by, places}
 use Rattle.entity_model.specs.Places.{Effect, on_found, refused, reply_to, unless_refused}
 use Rattle.entity_model.specs.Places.{wanted_content}
+use Rattle.request_rules.specs.Groups.{group_rows, membership_edited}
 use Rattle.request_rules.specs.Policies.{link_row}
 use Rattle.request_rules.specs.Requests.{child_ty, expiry_for, named_by}
 use Rattle.create_delete.specs.declared.joining.ContainerUpdate.{ContainerUpdate}
@@ -121,13 +122,18 @@ expiry_after es et = if is_named Et es then expiry_for es else et
 abbrev pub state_row : ResourceData → List Row
 state_row r = if is_ty r.ty Container then (St, number (pos (next_state r))) ∷ [] else []
 
+-- what the CSE changes besides: a container counts its changes, and a group keeps the members that
+-- it is to have from now on, with what is known of them (TS-0001, 9.6.13)
+abbrev pub own_rows : EntityData → List Entry → ResourceData → List Row
+own_rows e es r = state_row r ++ group_rows e (membership_edited r es)
+
 -- the resource after an update that names these attributes
 abbrev pub updated_resource : EntityData → List Entry → ResourceData → ResourceData
 updated_resource e es r = record r {
   lt = e.last;
   et = expiry_after es r.et;
   attrs =
-      with_rows (state_row r ++ link_row e es Acpi ++ link_row e es Macp)
+      with_rows (own_rows e es r ++ link_row e es Acpi ++ link_row e es Macp)
       (edited (edit_in es) r.attrs);
 }
 

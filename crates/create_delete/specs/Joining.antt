@@ -1,5 +1,6 @@
 -- When a creation may be done, and what may join an entity.
-use Rattle.std.specs.Prelude.{◌≡◌, ℕ, List, [], false, Option, Some, None, IsTrue}
+use Rattle.std.specs.Prelude.{◌≡◌, ℕ, List, [], true, false, Option, Some, None, IsTrue}
+use Rattle.std.specs.Option.{option_map_or}
 use Rattle.m2m_names.specs.Types.{does_take}
 use Rattle.m2m_names.specs.declared.types.Ty.TheVariants.{ContentInstance}
 use Rattle.resource_model.specs.Resource.{ResourceData, is_ty}
@@ -9,6 +10,7 @@ use Rattle.attribute_rules.specs.declared.table.Writing.TheVariants.{Create}
 use Rattle.entity_model.specs.Entity.{EntityData}
 use Rattle.entity_model.specs.Sound.{IsSoundEntity}
 use Rattle.request_rules.specs.Creation.{Creation, has_room, is_unique}
+use Rattle.request_rules.specs.Groups.{are_few, membership_new}
 use Rattle.request_rules.specs.Order.{expires_later}
 use Rattle.request_rules.specs.Policies.{links_live}
 use Rattle.create_delete.specs.Changing.{pushed_out}
@@ -16,7 +18,8 @@ use Rattle.create_delete.specs.NewResource.{IsNewInstance, IsNewResource}
 use Rattle.create_delete.specs.declared.joining.ContainerUpdate.{ContainerUpdate}
 
 -- What holds of a creation that no place refuses: its parent is there and takes it, what it names
--- is admitted, nothing that it alone may be stands there, and no limit is passed.
+-- is admitted, nothing that it alone may be stands there, no limit is passed, and a group's members
+-- are few.
 pub record IsAllowed (c : Creation) : Type 0 where
   pub parent : at c.parent.number c.e.nodes ≡ Some c.parent
   pub takes : IsTrue (does_take c.parent.ty c.ty)
@@ -25,6 +28,7 @@ pub record IsAllowed (c : Creation) : Type 0 where
   pub live : IsTrue (links_live c.e c.named)
   pub unique : IsTrue (is_unique c)
   pub room : IsTrue (has_room c)
+  pub few : IsTrue (option_map_or are_few (membership_new c) true)
 
 -- The instance may join, and these are its container, the state tag that this has then, and what it
 -- pushes out.

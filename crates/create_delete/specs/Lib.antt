@@ -4,5 +4,6 @@ pub mod Guard
 pub mod Joining
 pub mod NewResource
 pub mod Prepared
-pub mod Updating
+pub mod Relaying
 pub mod Telling
+pub mod Updating

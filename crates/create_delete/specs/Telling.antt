@@ -6,13 +6,15 @@ use Rattle.m2m_names.specs.declared.operations.Op.{Op}
 use Rattle.m2m_names.specs.declared.types.Ty.TheVariants.{Subscription}
 use Rattle.primitive_json.specs.declared.request.RequestParts.{RequestParts}
 use Rattle.resource_model.specs.Resource.{ResourceData, has_number, is_ty}
+use Rattle.subscription_match.specs.Notices.{notes_of_all}
+use Rattle.subscription_match.specs.declared.drafts.DraftParts.{DraftParts}
 use Rattle.tree_model.specs.Changes.{ChangeData, creation_changes, deletion_changes, update_changes}
 use Rattle.tree_model.specs.Tree.{at, is_at_or_below, line_of, numbers_of, without}
 use Rattle.entity_model.specs.Entity.{EntityData, telling}
 use Rattle.entity_model.specs.Places.{Effect, on_found, unless_refused}
 use Rattle.request_rules.specs.Order.{places}
 use Rattle.create_delete.specs.Changes.{changes_by, only_in}
-use Rattle.create_delete.specs.Changing.{after_joining, effect_by, nodes_updated}
+use Rattle.create_delete.specs.Changing.{after_joining, effect_at, effect_by, nodes_updated}
 use Rattle.create_delete.specs.Joining.{gone_by}
 use Rattle.create_delete.specs.declared.joining.ContainerUpdate.{ContainerUpdate}
 
@@ -72,6 +74,17 @@ abbrev pub told_effect_on : Op → EntityData → List ℕ → RequestParts → 
 told_effect_on op e originator request target =
     unless_refused (places op e originator request target) e request
     (told_effect_by op e originator request target)
+
+-- What an operation tells of what it does to the first entity, which leaves the second.
+abbrev pub drafts_between : Op → RequestParts → ℕ → EntityData → EntityData → List DraftParts
+drafts_between op request n before after =
+    notes_of_all after.home before.nodes (gone_numbers before after)
+    (changes_by op request n before after)
+
+-- what it tells on the resource of a number
+abbrev pub drafts_at : Op → EntityData → List ℕ → RequestParts → ℕ → List DraftParts
+drafts_at op e originator request n =
+    drafts_between op request n e (effect_at op e originator request n).after
 
 -- what comes of it on the resource of a number, which is looked up once
 abbrev pub told_effect_at : Op → EntityData → List ℕ → RequestParts → ℕ → Effect

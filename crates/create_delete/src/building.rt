@@ -9,6 +9,7 @@ ghost use Rattle.resource_model.specs.Attributes.{with_value};
 ghost use Rattle.tree_model.specs.Shown.{with_rows};
 ghost use Rattle.attribute_rules.specs.Admission.{attributes_in};
 ghost use Rattle.request_rules.specs.Creation as spec;
+ghost use Rattle.request_rules.specs.Groups.{group_rows, membership_by};
 ghost use Rattle.request_rules.specs.Judged.{creation_for};
 ghost use Rattle.request_rules.specs.Policies as policies;
 ghost use Rattle.create_delete.specs.Joining.{IsAllowed};
@@ -46,6 +47,20 @@ fn set_text(attrs: &mut Attrs, attr: Attr, text: Text) -> Result<(), OutOfMemory
     attrs.set(attr, Val::of_text(text))
 }
 
+/// Puts in what a group keeps of its members.
+pub(crate) fn keep_members(
+    alloc: Global,
+    members: &[(Attr, Val)],
+    attrs: &mut Attrs,
+) -> Result<(), OutOfMemory>
+    ensures { OnOk result (attrs.new ≡ with_rows members.now attrs.old) }
+{
+    for (attr, value) in members {
+        attrs.set(*attr, value.copy(alloc)?)?;
+    }
+    Ok(())
+}
+
 // What the CSE gives a new resource besides.
 fn give<T: Tree>(
     alloc: Global,
@@ -56,6 +71,8 @@ fn give<T: Tree>(
 ) -> Result<(), OutOfMemory>
     requires originator { IsTrue (is_originator originator.now) }
     requires allowed { IsAllowed (creation_for entity.now originator.now create.now) }
+    requires members { create.now.members.items
+        ≡ group_rows entity.now (membership_by create.now.ty create.now.named.now) }
     ensures { OnOk result (attrs.new ≡ with_rows (spec.given_rows create.now.ty
         (creation_for entity.now originator.now create.now)) attrs.old) }
 {
@@ -66,11 +83,13 @@ fn give<T: Tree>(
             set_count(attrs, Attr::Cs, size_named(create.named))?;
             set_count(attrs, Attr::St, next_state(create.parent))
         }
+        Ty::Group => keep_members(alloc, &create.members, attrs),
         _ => Ok(()),
     }
 }
 
-fn originator_text(alloc: Global, originator: &[u8]) -> Result<Text, OutOfMemory>
+/// The originator as a text.
+pub(crate) fn originator_text(alloc: Global, originator: &[u8]) -> Result<Text, OutOfMemory>
     requires { IsTrue (is_originator originator.now) }
     ensures value { IfOk result (λ t. t ≡ originator.now) }
     ensures utf8 { IfOk result (λ t. IsUtf8 t) }
@@ -124,6 +143,8 @@ fn add_besides<T: Tree>(
 ) -> Result<(), OutOfMemory>
     requires originator { IsTrue (is_originator originator.now) }
     requires allowed { IsAllowed (creation_for entity.now originator.now create.now) }
+    requires members { create.now.members.items
+        ≡ group_rows entity.now (membership_by create.now.ty create.now.named.now) }
     ensures { OnOk result (attrs.new ≡ with_rows (spec.rows_besides
         (creation_for entity.now originator.now create.now)) attrs.old) }
 {
@@ -156,6 +177,8 @@ pub(crate) fn new_resource<T: Tree>(
     requires allowed { IsAllowed (creation_for entity.now originator.now create.now) }
     requires named { attributes_in create.now.ty create.now.content.now
         ≡ Some create.now.named.now }
+    requires members { create.now.members.items
+        ≡ group_rows entity.now (membership_by create.now.ty create.now.named.now) }
     ensures { IfOk result (λ r.
         r ≡ spec.new_resource (creation_for entity.now originator.now create.now)) }
 {

@@ -4,6 +4,7 @@ ghost use Rattle.m2m_names.specs.Name.{is_originator};
 ghost use Rattle.m2m_names.specs.declared.operations.Op.TheVariants.{Create};
 ghost use Rattle.attribute_rules.specs.Admission.{attributes_in};
 ghost use Rattle.entity_model.specs.Sound.{IsSoundEntity};
+ghost use Rattle.request_rules.specs.Groups.{group_rows, membership_by};
 ghost use Rattle.request_rules.specs.Judged.{Judges, creation_for};
 ghost use Rattle.request_rules.specs.Order.{fault_at};
 ghost use Rattle.create_delete.specs.Changing.{after_joining, create_effect, container_update_of};
@@ -85,6 +86,8 @@ fn prepare<T: Tree>(
     requires allowed { IsAllowed (creation_for entity.now originator.now create.now) }
     requires named { attributes_in create.now.ty create.now.content.now
         ≡ Some create.now.named.now }
+    requires members { create.now.members.items
+        ≡ group_rows entity.now (membership_by create.now.ty create.now.named.now) }
     ensures may { IfOk result (λ p. MayJoin entity.now p.resource p.update) }
     ensures reply { IfOk result (λ p. p.reply
         ≡ (create_effect request.now (creation_for entity.now originator.now create.now)).reply) }

@@ -7,9 +7,10 @@ ghost use Rattle.attribute_rules.specs.Admission.{attributes_in, is_admitted};
 ghost use Rattle.attribute_rules.specs.Contents as contents;
 ghost use Rattle.attribute_rules.specs.declared.table.Writing.TheVariants.{Update};
 ghost use Rattle.tree_model.specs.Shown.{with_rows};
+ghost use Rattle.request_rules.specs.Groups.{group_rows, membership_edited};
 ghost use Rattle.create_delete.specs.Changing as spec;
 
-use crate::building::{link, next_state, set_count};
+use crate::building::{keep_members, link, next_state, set_count};
 use attribute_rules::{Edit, take_edit};
 use entity_model::Entity;
 use m2m_names::{Attr, LAST_MOMENT, Ty};
@@ -65,7 +66,7 @@ fn count_change(resource: &Resource, attrs: &mut Attrs) -> Result<(), OutOfMemor
 }
 
 // The attributes after an update.
-#[tactic(auto, using(crate::proofs::RowLemmas::edited_in_turn))]
+#[tactic(auto, using(crate::proofs::RowLemmas::given_in_turn))]
 fn updated_attrs<T: Tree>(
     alloc: Global,
     entity: &Entity<T>,
@@ -75,6 +76,8 @@ fn updated_attrs<T: Tree>(
         (is_admitted Update update.now.target.now.ty update.now.content.now) }
     requires named { attributes_in update.now.target.now.ty update.now.content.now
         ≡ Some update.now.named.now }
+    requires members { update.now.members.items ≡ group_rows entity.now
+        (membership_edited update.now.target.now update.now.named.now) }
     ensures { IfOk result (λ a. a ≡ (spec.updated_resource entity.now
         update.now.named.now update.now.target.now).attrs) }
 {
@@ -82,6 +85,7 @@ fn updated_attrs<T: Tree>(
     let content = update.content.copy(alloc)?;
     edit(take_edit(alloc, update.target.ty(), content)?, &mut attrs)?;
     count_change(update.target, &mut attrs)?;
+    keep_members(alloc, &update.members, &mut attrs)?;
     link(alloc, entity, update.named, Attr::Acpi, &mut attrs)?;
     link(alloc, entity, update.named, Attr::Macp, &mut attrs)?;
     Ok(attrs)
@@ -110,6 +114,8 @@ pub(crate) fn updated_resource<T: Tree>(
         (is_admitted Update update.now.target.now.ty update.now.content.now) }
     requires named { attributes_in update.now.target.now.ty update.now.content.now
         ≡ Some update.now.named.now }
+    requires members { update.now.members.items ≡ group_rows entity.now
+        (membership_edited update.now.target.now update.now.named.now) }
     ensures { IfOk result (λ r. r ≡ spec.updated_resource entity.now
         update.now.named.now update.now.target.now) }
 {

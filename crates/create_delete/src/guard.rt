@@ -13,20 +13,22 @@ ghost use Rattle.create_delete.specs.Changing.{with_new_instance, nodes_updated}
 ghost use Rattle.create_delete.specs.Guard.{ChangesByRight, NamesInOrder};
 ghost use Rattle.create_delete.specs.Joining.{MayJoinContainer};
 ghost use Rattle.create_delete.specs.NewResource.{IsReplacement};
-ghost use Rattle.create_delete.specs.Telling.{told_effect_at};
+ghost use Rattle.create_delete.specs.Telling.{drafts_at, told_effect_at};
 ghost use Rattle.create_delete.specs.declared.joining.ContainerUpdate.{ContainerUpdate};
 
 /// Of a sound entity an operation on a resource changes nothing but by a grant to the originator,
 /// judged on the entity before. A resource is new only under the target, with CREATE. It differs
 /// only with UPDATE, and then not in its `acpi`; or in that alone with the right to change it; or
 /// in its state tag alone where a new instance stands in it, but for the moment of its last change;
-/// or it is a subscription that counts, and that was lowered alone. It is gone only at or below a
-/// target with DELETE, or as an instance of a target to which the operation adds with CREATE, or
-/// which it changes with UPDATE, or as a subscription that counts.
+/// or it is a subscription that counts, and was lowered alone, by as many as it was told. It is gone
+/// only at or below a target with DELETE, or as an instance of a target to which the operation adds
+/// with CREATE, or which it changes with UPDATE, or as a subscription that was told all that was left
+/// to it.
 pub fn nothing_is_changed_without_a_grant()
     ensures { (op : Op) (e : EntityData) (originator : List ℕ) (request : RequestParts) (n : ℕ)
         → IsSoundEntity e → IsTrue (is_originator originator) → NamesInOrder request
-        → ChangesByRight op e originator n (told_effect_at op e originator request n).after }
+        → ChangesByRight op e originator n (drafts_at op e originator request n)
+        (told_effect_at op e originator request n).after }
 {}
 
 /// A sound entity stays sound under each operation.

@@ -10,8 +10,12 @@
 //! can't fail but where a resource is put last, which comes first. Where memory runs out nothing has
 //! changed. The crate change_laws says what holds of each operation.
 //!
-//! An originator is passed in its short form. A content for a group is admitted as the table says,
-//! but its members aren't judged: callers refuse groups.
+//! A Notify to an application entity changes no resource: it is handed on by an item of the outbox
+//! (`notify_at` of `specs/Relaying`).
+//!
+//! An originator is passed in its short form. A group keeps what was learned of its members where
+//! they were judged: who they are, without repeats and those that are left out, their type, how many
+//! there are, and whether each names a live resource.
 //!
 //! ```text
 //! let reply = create(alloc, entity, b"CDev", request, 1)?; // below the CSEBase
@@ -30,6 +34,7 @@ mod joining;
 mod listing;
 mod notifying;
 mod pushing;
+mod relaying;
 mod telling;
 mod updating;
 
@@ -44,6 +49,7 @@ pub use guard::{
     nothing_is_changed_without_a_grant,
 };
 pub use listing::named_attrs;
+pub use relaying::{a_notify_changes_no_resource, notify};
 pub use std::alloc::AllocError as OutOfMemory;
 pub use tree_model::Changes;
 pub use updating::update;

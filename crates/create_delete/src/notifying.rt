@@ -11,7 +11,7 @@ ghost use Rattle.create_delete.specs.Joining.{gone_by};
 ghost use Rattle.create_delete.specs.Telling as spec;
 
 use crate::joining::ContainerUpdate;
-use entity_model::{Told, prepare_telling};
+use entity_model::{Told, nothing_told, prepare_telling};
 use m2m_value::Numbers;
 use notify_outbox::Outbox;
 use std::alloc::{AllocError as OutOfMemory, Global};
@@ -96,16 +96,6 @@ pub(crate) fn prepare_deletion<T: Tree>(
     let going = numbers_below(alloc, tree, target)?;
     let changes = Changes::of_removal(tree, going.entries());
     prepare_telling(alloc, tree, home, outbox, going.entries(), changes)
-}
-
-fn nothing_told(alloc: Global) -> Told
-    ensures told { (home : HomeData) (nodes : List ResourceData) → IsTold home nodes [] result }
-    ensures notes { result.notes.items ≡ [] }
-{
-    Told {
-        notes: Vec::new(alloc),
-        left: Vec::new(alloc),
-    }
 }
 
 // Whether nobody is told of the deletion of the resource of a number.

@@ -6,6 +6,7 @@ ghost use Rattle.m2m_names.specs.Name.{is_originator};
 ghost use Rattle.m2m_names.specs.declared.operations.Op.TheVariants.{Update};
 ghost use Rattle.attribute_rules.specs.Admission.{attributes_in};
 ghost use Rattle.entity_model.specs.Sound.{IsSoundEntity};
+ghost use Rattle.request_rules.specs.Groups.{group_rows, membership_edited};
 ghost use Rattle.request_rules.specs.Judged.{Judges};
 ghost use Rattle.request_rules.specs.Order.{fault_at};
 ghost use Rattle.create_delete.specs.Changes.{attrs_of};
@@ -90,6 +91,8 @@ fn prepare<T: Tree>(
     requires allowed { IsUpdatable entity.now update.now.named.now update.now.target.now }
     requires named { attributes_in update.now.target.now.ty update.now.content.now
         ≡ Some update.now.named.now }
+    requires members { update.now.members.items ≡ group_rows entity.now
+        (membership_edited update.now.target.now update.now.named.now) }
     ensures may { IfOk result (λ p. IsReplacement entity.now p.resource) }
     ensures same { IfOk result (λ p. p.resource.number ≡ update.now.target.now.number) }
     ensures named { IfOk result (λ p. p.named ≡ attrs_of update.now.named.now) }

@@ -4,7 +4,7 @@ use denote.Param.Send.{IsSend, sendable}
 use denote.Param.SendFields.{declared_send}
 use Rattle.std.proofs.Crossing.{crosses}
 use Rattle.cse_cli.proofs.OutboxSent.{outbox_send}
-use Rattle.cse_cli.proofs.TreesSent.{home_send, list_tree_send}
+use Rattle.cse_cli.proofs.TreesSent.{home_send, store_send}
 use Rattle.tree_model.specs.declared.tree.Tree.{Ghosts}
 use Rattle.entity_model.specs.contracts.entity.Entity as entity
 use Rattle.entity_model.specs.contracts.entity.Entity.TheInside as entity_inside
@@ -30,4 +30,4 @@ module _ (T : RattleType) (g : Ghosts T.Denot) (t : IsSend T) where
   served_send = record { owned = λ d vs x. (served_inside_send.owned x.0 vs, tt); leaving = λ k d w. tt }
 
 pub served_tree_send : IsSend (served.the_row index_tree.the_row index_tree_impl.ghosts)
-served_tree_send = served_send index_tree.the_row index_tree_impl.ghosts (index_tree_send list_tree_send)
+served_tree_send = served_send index_tree.the_row index_tree_impl.ghosts (index_tree_send store_send)

@@ -3,12 +3,13 @@ use Rattle.std.proofs.Common.{◌≢◌, ℕ, Option, Some, None, refl, inl, inr
 use Rattle.m2m_io.specs.declared.status.Status.{Status}
 use Rattle.m2m_io.specs.declared.status.Status.TheVariants.{Memory}
 use Rattle.resource_model.specs.Home.{HomeData}
-use Rattle.command_words.specs.Command.{Command, Serving, Task, http, replay, serve}
+use Rattle.command_words.specs.Command.{Command, Serving, Task, http, replay, serve, generate}
 use Rattle.cse_server.specs.Outside.{EndsByFault}
 use Rattle.entity_model.specs.Entity.{EntityData}
 use Rattle.entity_model.specs.Opening.{opening}
 use Rattle.primitive_replay.proofs.ItemLemmas.{replays_none}
 use Rattle.primitive_replay.proofs.TurnLemmas.{starved_first}
+use Rattle.cse_server.specs.declared.bench.Bench.{Bench}
 use Rattle.cse_cli.specs.Devices.{Devices}
 use Rattle.cse_cli.specs.Running.{RunsCommand, RunsTask}
 
@@ -16,7 +17,7 @@ use Rattle.cse_cli.specs.Running.{RunsCommand, RunsTask}
 pub no_fault : {fault status : Status} {count : ℕ} → status ≢ fault → EndsByFault fault status count count
 no_fault other = record { count = omega arith; cause = λ e. absurd (other e); steady = λ _. refl }
 
-module _ {S O C L D : Type 0} (served : Serving → EntityData → Type 0) where
+module _ {S O C L D : Type 0} (served : Serving → EntityData → Bench C L → Bench C L → Type 0) where
   -- memory ran out before a task was done
   starved_task : (task : Task) (home : HomeData) (devices : Devices S O C L D) → RunsTask served task home devices devices Memory
   starved_task http home devices = record {
@@ -41,6 +42,13 @@ module _ {S O C L D : Type 0} (served : Serving → EntityData → Type 0) where
     no_usage = λ e. cc;
     input = refl;
     out = refl;
+  }
+  starved_task (generate requests) home devices = record {
+    done = record { generates = refl; left = refl; readings = refl; link = refl };
+    no_usage = λ e. cc;
+    reads = no_fault (λ e. cc);
+    writes = no_fault (λ e. cc);
+    door = refl;
   }
 
   -- memory ran out for reading them

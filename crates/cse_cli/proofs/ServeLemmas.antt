@@ -11,12 +11,10 @@ use Rattle.turn_desk.specs.Seats.{known_to}
 use Rattle.turn_desk.specs.Shared.{Leaves, newcomer, IsWhole, OwnsAll}
 use Rattle.workers.specs.Gate.{DoorTold}
 use Rattle.workers.specs.Shares.{HasPartOf, HasComeBack}
-use Rattle.workers.specs.Shifts.{GainsByAttending}
+use Rattle.workers.specs.Serving.{GainsByServing}
 use Rattle.resource_model.specs.Home.{HomeData}
 use Rattle.entity_model.specs.Entity.{EntityData}
 use Rattle.entity_model.specs.Opening.{opening}
-use Rattle.cse_server.specs.Attending.{SendsWhatIsLeft}
-use Rattle.cse_server.specs.Outside.{LinkTold}
 use Rattle.cse_server.specs.declared.bench.Bench.{Bench}
 use Rattle.cse_cli.specs.Serve.{FailsToOpen, OpensServer, ServesObject, ServesOpen}
 
@@ -32,10 +30,12 @@ whole_again {object = object} {lent = lent} {back = back} came first = whole-par
 
 -- at a desk of this object, of which the first seat was lent and has come back
 pub serves_object : {X E R C B A : Type 0} {step : ℕ → E → X → R → X → Type 0} {desk : TableId}
-    {attends : DeskSeat X E R → C → B → DeskSeat X E R → A → B → Type 0} {benches : List B} {object : X} {lent back : DeskSeat X E R}
-    (left : X) → HasComeBack step desk (known_to lent) back → known_to lent ≡ newcomer object → GainsByAttending attends benches lent back
+    {attends : DeskSeat X E R → C → B → DeskSeat X E R → A → B → Type 0} {does : DeskSeat X E R → B → DeskSeat X E R → B → Type 0}
+    {benches : List B} {old new : B} {object : X} {lent back : DeskSeat X E R}
+    (left : X) → HasComeBack step desk (known_to lent) back → known_to lent ≡ newcomer object
+    → GainsByServing attends does benches old new lent back
     → ((opening : X) → (known_to back).opening ≡ Some opening → Leaves step opening (known_to back).seen left) → OwnsAll (known_to back)
-    → ServesObject step attends benches object
+    → ServesObject step attends does benches object old new
 serves_object {X = X} {E = E} {R = R} {object = object} {lent = lent} {back = back} left came first served leaves all = record {
   lent = lent;
   back = back;
@@ -51,11 +51,11 @@ pub ruleset comes_back = (whole_again, serves_object)
 
 -- ---- the door and the first bench
 
-module _ {C L : Type 0} {served : EntityData → Type 0} {home : HomeData} {clock : C → Option (List ℕ)} {link : L → LinkTold} where
+module _ {C L : Type 0} {served : EntityData → Bench C L → Bench C L → Type 0} {home : HomeData} {clock : C → Option (List ℕ)} where
   -- the clock gave a reading, and memory ran out
   pub opens_starved : {serving : Serving} {before after : C} {carrier : L} {start : DoorTold} (reading : ℕ)
       → Tells (λ given. given ++ reading ∷ []) (clock before) (clock after)
-      → OpensServer served serving home clock link (record { clock = before; link = carrier }) (record { clock = after; link = carrier }) start start Memory
+      → OpensServer served serving home clock (record { clock = before; link = carrier }) (record { clock = after; link = carrier }) start start Memory
   opens_starved {after = after} {carrier = carrier} reading given = record {
     reading = reading;
     between = record { clock = after; link = carrier };
@@ -68,7 +68,7 @@ module _ {C L : Type 0} {served : EntityData → Type 0} {home : HomeData} {cloc
   pub opens_none : {serving : Serving} {before after : C} {carrier : L} {start now : DoorTold} (reading : ℕ)
       → Tells (λ given. given ++ reading ∷ []) (clock before) (clock after)
       → FailsToOpen start now
-      → OpensServer served serving home clock link (record { clock = before; link = carrier }) (record { clock = after; link = carrier }) start now ReadFault
+      → OpensServer served serving home clock (record { clock = before; link = carrier }) (record { clock = after; link = carrier }) start now ReadFault
   opens_none {after = after} {carrier = carrier} reading given fails = record {
     reading = reading;
     between = record { clock = after; link = carrier };
@@ -82,9 +82,9 @@ module _ {C L : Type 0} {served : EntityData → Type 0} {home : HomeData} {cloc
       → Tells (λ given. given ++ reading ∷ []) (clock before) (clock after)
       → Tells (λ _. Some serving.listen) start.opened between.opened → TellsStill start.given between.given
       → TellsStill start.ended between.ended → between.faults ≡ start.faults
-      → ServesOpen (served (opening home reading) × SendsWhatIsLeft clock link (record { clock = after; link = carrier }) left)
+      → ServesOpen (served (opening home reading) (record { clock = after; link = carrier }) left)
       (left ≡ record { clock = after; link = carrier }) serving.accept between now status
-      → OpensServer served serving home clock link (record { clock = before; link = carrier }) left start now status
+      → OpensServer served serving home clock (record { clock = before; link = carrier }) left start now status
   opens_open {after = after} {carrier = carrier} {between = between} reading given opened gave ended steady serves = record {
     reading = reading;
     between = record { clock = after; link = carrier };

@@ -1,7 +1,14 @@
 -- A tree goes from thread to thread, with its resources.
+use denote.Builtin.{u64}
+use denote.Hole.{as_row}
 use denote.Param.Send.{IsSend, sendable}
-use denote.Param.SendFields.{declared_send}
+use denote.Param.SendFields.{as_row_send, declared_send}
+use denote.Struct.Field.{Field, u64-field}
+use Rattle.std.proofs.Common.{List, [], ◌∷◌}
 use Rattle.std.proofs.Crossing.{crosses}
+use Rattle.std.proofs.MapsCrossing as maps
+use Rattle.std.specs.contracts.hash.BuildHasherDefault as built
+use Rattle.std.specs.contracts.hash.FoldHasher as fold
 use Rattle.cse_server.proofs.ValuesSent.{text_send, val_send}
 use Rattle.m2m_names.specs.contracts.attributes.Attr as attr
 use Rattle.m2m_names.specs.contracts.types.Ty as ty
@@ -12,11 +19,8 @@ use Rattle.resource_model.specs.contracts.home.Home.TheInside as home_inside
 use Rattle.resource_model.specs.contracts.resource.Moments as moments
 use Rattle.resource_model.specs.contracts.resource.Resource as resource
 use Rattle.resource_model.specs.contracts.resource.Resource.TheInside as resource_inside
-use Rattle.resource_list.specs.contracts.places.Places as places
-use Rattle.resource_list.specs.contracts.nodes.Nodes as nodes
-use Rattle.resource_list.specs.contracts.nodes.Nodes.TheInside as nodes_inside
-use Rattle.plain_tree.specs.contracts.list_tree.ListTree as list_tree
-use Rattle.plain_tree.specs.contracts.list_tree.ListTree.TheInside as list_tree_inside
+use Rattle.resource_store.specs.contracts.store.Store as store
+use Rattle.resource_store.specs.contracts.store.Store.TheInside as store_inside
 
 attr_send : IsSend attr.the_row
 attr_send = search (sendable, crosses) depth 400 fits 5000
@@ -49,17 +53,24 @@ resource_inside_send = declared_send resource_inside.the_type (
 resource_send : IsSend resource.the_row
 resource_send = record { owned = λ d vs x. (resource_inside_send.owned x.0 vs, tt); leaving = λ k d w. tt }
 
-places_send : IsSend places.the_row
-places_send = search (sendable, crosses) depth 20
+u64_send : IsSend u64
+u64_send = search sendable depth 20
 
-nodes_inside_send : IsSend nodes_inside.the_row
-nodes_inside_send = declared_send nodes_inside.the_type (search (sendable, crosses, resource_send) depth 20, (places_send, tt))
+hasher_send : IsSend (built.the_row fold.the_row)
+hasher_send = search (sendable, crosses) depth 20
 
-nodes_send : IsSend nodes.the_row
-nodes_send = record { owned = λ d vs x. (nodes_inside_send.owned x.0 vs, tt); leaving = λ k d w. tt }
+-- the first of a struct's fields
+abbrev first_part : List Field → Field
+first_part [] = u64-field
+first_part (F ∷ Fs) = F
 
-list_tree_inside_send : IsSend list_tree_inside.the_row
-list_tree_inside_send = declared_send list_tree_inside.the_type (nodes_send, (search (sendable, crosses) depth 20, tt))
+-- a table that a struct with an invariant keeps is sent as its row
+table_send : IsSend (as_row (first_part store_inside.the_type.parts))
+table_send = as_row_send (first_part store_inside.the_type.parts)
+    (maps.HashMap-send u64 resource.the_row (built.the_row fold.the_row) fold.the_row _ _ _ _ u64_send resource_send hasher_send)
 
-pub list_tree_send : IsSend list_tree.the_row
-list_tree_send = record { owned = λ d vs x. (list_tree_inside_send.owned x.0 vs, tt); leaving = λ k d w. tt }
+store_inside_send : IsSend store_inside.the_row
+store_inside_send = declared_send store_inside.the_type (table_send, (search (sendable, crosses) depth 20, (search (sendable, crosses) depth 20, tt)))
+
+pub store_send : IsSend store.the_row
+store_send = record { owned = λ d vs x. (store_inside_send.owned x.0 vs, tt); leaving = λ k d w. tt }

@@ -16,6 +16,7 @@ use Rattle.cse_machine.specs.Step.{Step}
 use Rattle.cse_server.specs.Connection.{Serves}
 use Rattle.cse_server.specs.Sending.{SendsItems}
 use Rattle.primitive_replay.specs.Script.{Replays}
+use Rattle.made_input.specs.Making.{Generates}
 use Rattle.cse_server.specs.declared.connection.Ended.{Ended}
 use Rattle.cse_server.specs.declared.connection.Ended.TheVariants.{Closed, NoFrame}
 use Rattle.cse_server.specs.declared.connection.Ended.TheVariants.{ReadFault as EndedReading}
@@ -89,3 +90,11 @@ RunsHttp home old new status = ServesStreams home old new status ⊎ RanOut old 
 pub record RunsReplay (home : HomeData) (old new : Outside) (status : Status) : Type 0 where
   pub replays : Replays (opening home 0) old new status
   pub still : new.readings ≡ old.readings
+
+-- The command `gen`: so many made requests were put to an entity of their own, and what the output
+-- got is the line on them. Nothing was read or exchanged, and the clock gave nothing.
+pub record RunsGen (requests : ℕ) (old new : Outside) (status : Status) : Type 0 where
+  pub generates : Generates requests status old.out new.out
+  pub left : new.left ≡ old.left
+  pub readings : new.readings ≡ old.readings
+  pub link : new.link ≡ old.link

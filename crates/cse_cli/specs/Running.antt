@@ -3,10 +3,11 @@ use Rattle.std.specs.Prelude.{◌≡◌, ◌≢◌, ◌⊎◌, Option, Some, Non
 use Rattle.m2m_io.specs.declared.status.Status.{Status}
 use Rattle.m2m_io.specs.declared.status.Status.TheVariants.{Usage, ReadFault, WriteFault, Memory}
 use Rattle.resource_model.specs.Home.{HomeData}
-use Rattle.command_words.specs.Command.{Command, Serving, Task, http, replay, serve}
+use Rattle.command_words.specs.Command.{Command, Serving, Task, http, replay, serve, generate}
 use Rattle.cse_server.specs.Outside.{EndsByFault, Outside}
+use Rattle.cse_server.specs.declared.bench.Bench.{Bench}
 use Rattle.cse_cli.specs.Devices.{Devices}
-use Rattle.cse_cli.specs.Run.{RunsHttp, RunsReplay}
+use Rattle.cse_cli.specs.Run.{RunsGen, RunsHttp, RunsReplay}
 use Rattle.entity_model.specs.Entity.{EntityData}
 use Rattle.cse_cli.specs.Serve.{OpensServer}
 
@@ -29,10 +30,10 @@ module _ {S O C L D : Type 0} where
 
   -- A server with this door: it opened its entity and the door, and served its connections, unless
   -- memory ran out before. It reads nothing of the input and writes nothing to the output.
-  pub record RunsServer (served : EntityData → Type 0) (serving : Serving) (home : HomeData)
-      (old new : Devices S O C L D) (status : Status) : Type 0 where
+  pub record RunsServer (served : EntityData → Bench C L → Bench C L → Type 0) (serving : Serving)
+      (home : HomeData) (old new : Devices S O C L D) (status : Status) : Type 0 where
     pub opens : ((status ≡ Memory) × (new ≡ old))
-        ⊎ OpensServer served serving home old.clock_tells old.link_tells
+        ⊎ OpensServer served serving home old.clock_tells
         old.bench new.bench old.door_told new.door_told status
     pub no_usage : status ≢ Usage
     pub input : new.input ≡ old.input
@@ -43,17 +44,20 @@ module _ {S O C L D : Type 0} where
   -- after another, as far as the status says. With `replay` it opens at the reading 0, and the
   -- output gets exactly the script of the lines of the input. With `serve` it opens at the first
   -- reading of the clock, the door is opened where the words say, and its connections are `served`
-  -- by that entity until it gives no more.
-  abbrev pub RunsTask : (Serving → EntityData → Type 0) → Task → HomeData
+  -- by that entity until it gives no more. With `gen` the output gets exactly the line on the made
+  -- requests, which an entity with the default home takes that opens at the reading 0.
+  abbrev pub RunsTask : (Serving → EntityData → Bench C L → Bench C L → Type 0) → Task → HomeData
       → Devices S O C L D → Devices S O C L D → Status → Type 0
   RunsTask served http home old new status = RunsStreams (RunsHttp home) old new status
   RunsTask served replay home old new status = RunsStreams (RunsReplay home) old new status
   RunsTask served (serve serving) home old new status =
       RunsServer (served serving) serving home old new status
+  RunsTask served (generate requests) home old new status =
+      RunsStreams (RunsGen requests) old new status
 
   -- What words ask for was done with these devices, and ended with this status. None is asked for
   -- by words that are no command.
-  abbrev pub RunsCommand : (Serving → EntityData → Type 0) → Option Command
+  abbrev pub RunsCommand : (Serving → EntityData → Bench C L → Bench C L → Type 0) → Option Command
       → Devices S O C L D → Devices S O C L D → Status → Type 0
   RunsCommand served None old new status = RefusesWords old new status
   RunsCommand served (Some command) old new status =

@@ -14,12 +14,10 @@ use Rattle.entity_model.specs.Opening.{opening}
 use Rattle.cse_machine.specs.Step.{Step}
 use Rattle.cse_machine.specs.declared.event.Event.{Event}
 use Rattle.cse_machine.specs.declared.event.Outcome.{Outcome}
-use Rattle.cse_server.specs.Attending.{SendsWhatIsLeft}
-use Rattle.cse_server.specs.Outside.{LinkTold}
 use Rattle.cse_server.specs.declared.bench.Bench.{Bench}
 use Rattle.workers.specs.declared.gate.Ending.TheVariants.{Fault}
 use Rattle.workers.specs.Gate.{DoorTold, TakesConnections, ServesDoor}
-use Rattle.workers.specs.Shifts.{GainsByAttending}
+use Rattle.workers.specs.Serving.{GainsByServing}
 
 -- ---- the door
 
@@ -66,39 +64,40 @@ RunsServe served idle serving start now status =
 -- ---- the entity
 
 -- At a desk of this object connections were attended to, by a worker at each of these benches but
--- the last.
+-- the last, beside an errand at that one, which had one round more with the first bench at the end.
 pub record ServesObject {X E R C B A : Type 0} (step : ℕ → E → X → R → X → Type 0)
     (attends : DeskSeat X E R → C → B → DeskSeat X E R → A → B → Type 0)
-    (benches : List B) (object : X) : Type 0 where
+    (does : DeskSeat X E R → B → DeskSeat X E R → B → Type 0)
+    (benches : List B) (object : X) (old new : B) : Type 0 where
   -- the first seat of the desk was lent, and came back
   pub lent : DeskSeat X E R
   pub back : DeskSeat X E R
   pub first : known_to lent ≡ newcomer object
-  -- what it has gained is what attending gave
-  pub served : GainsByAttending attends benches lent back
+  -- what it has gained is what attending and the errand gave
+  pub served : GainsByServing attends does benches old new lent back
   -- nobody else asked, and by what was asked the object has become this one
   pub all : OwnsAll (known_to back)
   pub left : X
   pub leaves : Leaves step object (known_to back).seen left
 
 -- Connections were attended to by an entity that opened as this one, by as many workers as the
--- words say, where there are benches for so many.
+-- words say, where there are benches for so many, beside an errand.
 abbrev pub ServesEntity : {C B A : Type 0} → (DeskSeat EntityData Event Outcome → C → B
     → DeskSeat EntityData Event Outcome → A → B → Type 0)
-    → List B → Serving → EntityData → Type 0
-ServesEntity attends benches serving opened =
-    ServesObject Step attends (take (max 1 serving.workers + 1) benches) opened
+    → (DeskSeat EntityData Event Outcome → B → DeskSeat EntityData Event Outcome → B → Type 0)
+    → List B → Serving → EntityData → B → B → Type 0
+ServesEntity attends does benches serving opened old new =
+    ServesObject Step attends does (take (max 1 serving.workers + 1) benches) opened old new
 
 -- A server with this first bench, whose clock gives one reading: at it the entity with this home
--- opens, by which the connections of the door are then `served`. Where they were, nothing is sent
--- yet of what is left in the outbox at the end; where nobody was served, the bench stays as it is
--- behind the reading.
-pub record OpensServer {C L : Type 0} (served : EntityData → Type 0) (serving : Serving)
-    (home : HomeData) (clock : C → Option (List ℕ)) (link : L → LinkTold)
+-- opens, by which the connections of the door are then `served`, which changes the bench at its
+-- end. Where nobody was served, the bench stays as it is behind the reading.
+pub record OpensServer {C L : Type 0} (served : EntityData → Bench C L → Bench C L → Type 0)
+    (serving : Serving) (home : HomeData) (clock : C → Option (List ℕ))
     (bench left : Bench C L) (start now : DoorTold) (status : Status) : Type 0 where
   pub reading : ℕ
   pub between : Bench C L
   pub given : Tells (λ given. given ++ reading ∷ []) (clock bench.clock) (clock between.clock)
   pub link_is : between.link ≡ bench.link
-  pub serves : RunsServe (served (opening home reading) × SendsWhatIsLeft clock link between left)
-      (left ≡ between) serving start now status
+  pub serves : RunsServe (served (opening home reading) between left) (left ≡ between)
+      serving start now status

@@ -7,7 +7,7 @@ ghost use Rattle.cse_cli.specs.Devices.{devices_by};
 ghost use Rattle.cse_cli.specs.Running.{RunsCommand};
 ghost use Rattle.cse_cli.specs.Serve.{ServesEntity};
 ghost use Rattle.cse_cli.specs.Words.{command_at};
-ghost use Rattle.cse_server.specs.Attending.{Attends, SeatGrows, conn_tells, link_tells};
+ghost use Rattle.cse_server.specs.Attending.{Attends, SeatGrows, SendsFrom, conn_tells, link_tells};
 ghost use Rattle.workers.specs.Gate.{door_tells};
 
 use crate::http::serve_streams;
@@ -16,6 +16,7 @@ use crate::serve::serve_door;
 use command_words::{Task, read_command};
 use cse_server::Bench;
 use m2m_io::{Clock, Door, Link, Sink, Source, Status};
+use made_input::generate;
 use std::alloc::{AllocError as OutOfMemory, Global};
 use std::sync::Wait;
 use std::thread::Threads;
@@ -63,7 +64,8 @@ where
         let attends = Attends SeatGrows
         (conn_tells D.Conn.left D.Conn.written D.Conn.puts D.Conn.Source.faults
         D.Conn.Sink.faults) C.readings (link_tells L.exchanges L.faults) in
-        RunsCommand (ServesEntity attends benches.items)
+        let sends = SendsFrom SeatGrows C.readings (link_tells L.exchanges L.faults) in
+        RunsCommand (ServesEntity attends sends benches.items)
         (Some (command_at (task_by task.entry) home))
         (devices input.old out.old first.old door)
         (devices input.new out.new first.new result.1) result.0 }
@@ -72,6 +74,7 @@ where
         Task::Http => (serve_streams(alloc, home, input, out, first), door),
         Task::Replay => (replay_lines(alloc, home, input, out, first), door),
         Task::Serve(serving) => serve_door(rt, alloc, home, serving, door, first, benches),
+        Task::Generate(requests) => (generate(alloc, requests, out), door),
     }
 }
 
@@ -96,7 +99,8 @@ where
         let attends = Attends SeatGrows
         (conn_tells D.Conn.left D.Conn.written D.Conn.puts D.Conn.Source.faults
         D.Conn.Sink.faults) C.readings (link_tells L.exchanges L.faults) in
-        RunsCommand (ServesEntity attends benches.items)
+        let sends = SendsFrom SeatGrows C.readings (link_tells L.exchanges L.faults) in
+        RunsCommand (ServesEntity attends sends benches.items)
         (command_in (map (λ word. word.now) words.now))
         (devices input.old out.old first.old door)
         (devices input.new out.new first.new result.1) result.0 }
@@ -114,9 +118,10 @@ where
 /// those behind the program's name. `input` and `out` are the streams of a command that has one
 /// connection or one list of lines; `err` gets the text of the status as a line; `first` is the
 /// bench of such a command, and `benches` are those of the workers. `http` serves `input` and `out`
-/// as one connection, `replay` answers the lines of `input`, and `serve` opens the door and serves
-/// its connections, each by a worker. The options say the home of the entity, and at `serve` where
-/// the door is opened and how many connections are accepted.
+/// as one connection, `replay` answers the lines of `input`, `serve` opens the door and serves its
+/// connections, each by a worker, and `gen` makes so many requests and writes a line on what they
+/// are answered. The options say the home of the entity, and at `serve` where the door is opened
+/// and how many connections are accepted.
 pub fn run<R, S: Source, O: Sink, E: Sink, D: Door + Send, C: Clock + Send, L: Link + Send>(
     rt: &R,
     alloc: Global,
@@ -141,7 +146,8 @@ where
         let attends = Attends SeatGrows
         (conn_tells D.Conn.left D.Conn.written D.Conn.puts D.Conn.Source.faults
         D.Conn.Sink.faults) C.readings (link_tells L.exchanges L.faults) in
-        RunsCommand (ServesEntity attends benches.items)
+        let sends = SendsFrom SeatGrows C.readings (link_tells L.exchanges L.faults) in
+        RunsCommand (ServesEntity attends sends benches.items)
         (command_in (map (λ word. word.now) words.now))
         (devices input.old out.old first.old door)
         (devices input.new out.new first.new result.1) result.0 }

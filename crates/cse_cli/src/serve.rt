@@ -1,8 +1,7 @@
 //! The command `serve`.
 ghost use Rattle.std.specs.Prelude.{◌≡◌, ◌≢◌, ◌≤◌, ◌+◌, max, take, vec_len};
 ghost use Rattle.command_words.specs.Command.{serving_by};
-ghost use Rattle.cse_server.specs.Attending.{Attends, SeatGrows, SendsWhatIsLeft, conn_tells};
-ghost use Rattle.cse_server.specs.Attending.{link_tells};
+ghost use Rattle.cse_server.specs.Attending.{Attends, SeatGrows, SendsFrom, conn_tells, link_tells};
 ghost use Rattle.workers.specs.Gate.{door_tells};
 ghost use Rattle.cse_cli.specs.Serve.{OpensServer, ServesEntity, ServesObject, ServesOpen};
 
@@ -18,7 +17,7 @@ use tree_model::Home;
 use turn_desk::{Object, TurnDesk};
 
 /// Serves the connections of an open door, of which so many are accepted at most, at a desk of this
-/// object. Nothing is sent yet of what is left in the outbox then.
+/// object, and sends what waits in its outbox.
 #[tactic(auto, using(crate::proofs::ServeLemmas::comes_back))]
 fn serve_at_desk<R, O, D, C, L>(
     rt: &R,
@@ -40,8 +39,8 @@ where
     ensures serves { let attends = Attends SeatGrows
         (conn_tells D.Conn.left D.Conn.written D.Conn.puts D.Conn.Source.faults
         D.Conn.Sink.faults) C.readings (link_tells L.exchanges L.faults) in
-        ServesOpen (ServesObject O.step attends benches.items object
-        × SendsWhatIsLeft C.readings (link_tells L.exchanges L.faults) first.old first.new)
+        let sends = SendsFrom SeatGrows C.readings (link_tells L.exchanges L.faults) in
+        ServesOpen (ServesObject O.step attends sends benches.items object first.old first.new)
         (first.new ≡ first.old) accept
         (door_tells D.opened D.given D.ended D.faults door)
         (door_tells D.opened D.given D.ended D.faults result.1) result.0 }
@@ -83,7 +82,7 @@ fn benches_for<C: Clock + Drop, L: Link + Drop>(
 
 /// Opens an entity with this home at the clock's first reading, opens the door where the words say,
 /// and serves its connections, of which as many are accepted at most as they say, by as many
-/// workers as they say.
+/// workers as they say, beside a sender of what waits in its outbox.
 pub(crate) fn serve_door<R, D, C, L>(
     rt: &R,
     alloc: Global,
@@ -102,9 +101,9 @@ where
     ensures opens { let attends = Attends SeatGrows
         (conn_tells D.Conn.left D.Conn.written D.Conn.puts D.Conn.Source.faults
         D.Conn.Sink.faults) C.readings (link_tells L.exchanges L.faults) in
-        OpensServer (ServesEntity attends benches.items (serving_by serving.entry))
-        (serving_by serving.entry) home C.readings (link_tells L.exchanges L.faults)
-        first.old first.new
+        let sends = SendsFrom SeatGrows C.readings (link_tells L.exchanges L.faults) in
+        OpensServer (ServesEntity attends sends benches.items (serving_by serving.entry))
+        (serving_by serving.entry) home C.readings first.old first.new
         (door_tells D.opened D.given D.ended D.faults door)
         (door_tells D.opened D.given D.ended D.faults result.1) result.0 }
     ensures command { result.0 ≢ Status.Usage }

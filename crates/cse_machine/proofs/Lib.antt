@@ -1,2 +1,4 @@
+pub mod AddressLemmas
 pub mod PlaceLemmas
+pub mod RouteLemmas
 pub mod OutcomeLemmas

@@ -1,26 +1,17 @@
 -- Who asks, and what is read.
 use Rattle.std.specs.Prelude.{nat_lt, unwrap_or}
-use Rattle.std.proofs.Common.{◌≡◌, ℕ, List, length, true, false, ◌&&◌, Option, Some, None, is_some, Result, Ok, Err, IfOk, inl, inr, refl, sym, ap, ◌∙◌}
+use Rattle.std.proofs.Common.{◌≡◌, ℕ, List, length, true, ◌&&◌, Option, Some, None, is_some, inl, inr, refl, ap, ◌∙◌}
 use Rattle.std.specs.Option.{option_and_then}
 use Rattle.std.proofs.lemmas.Bool.{cases_Bool, false≢true}
 use Rattle.std.proofs.lemmas.Option.{same_Some}
 use Rattle.m2m_names.specs.Name.{is_originator}
-use Rattle.primitive_json.specs.declared.reply.ReplyParts.{ReplyParts}
 use Rattle.primitive_json.specs.declared.request.RequestParts.{RequestParts}
 use Rattle.resource_model.specs.Home.{HomeData}
 use Rattle.addressing.specs.Short.{short_of, shortened}
 use Rattle.addressing.proofs.ShortLemmas.{short_is_originator}
-use Rattle.entity_model.specs.Entity.{EntityData}
-use Rattle.retrieve_discover.specs.Replies.{discovered, retrieved}
-use Rattle.cse_machine.specs.Answer.{has_originator, is_registration, reading_reply, said_originator}
+use Rattle.cse_machine.specs.Answer.{has_originator, is_registration, said_originator}
 use Rattle.request_rules.specs.Creation.{c_stem}
-use Rattle.request_rules.specs.Rights.{is_discovery}
-use Rattle.cse_machine.specs.Rights.{claimed_originator}
-
--- what is replied is this too, where it is that
-pub replied : {E : Type 0} (result : Result ReplyParts E) (x y : ReplyParts) → y ≡ x → IfOk result (λ r. r ≡ x) → IfOk result (λ r. r ≡ y)
-replied (Ok r) x y same is = is ∙ sym same
-replied (Err e) x y same is = tt
+use Rattle.group_fanout.specs.Rights.{claimed_originator}
 
 -- ---- who asks
 
@@ -52,15 +43,3 @@ claimed_valid home request has = by_short (option_and_then (short_of home) (said
     by_short None is some = absurd (false≢true some)
     by_short (Some o) is some =
         ap is_originator (claimed_is home request o is) ∙ originator_of home (said_originator request) o is
-
--- ---- what is read
-
-pub reading_found : (e : EntityData) (request : RequestParts) (n : ℕ) (o : List ℕ) → claimed_originator e.home request ≡ o → is_discovery request ≡ true → reading_reply e request n ≡ discovered e.home e.nodes o request n
-reading_found e request n o by d =
-    let first : reading_reply e request n ≡ discovered e.home e.nodes (claimed_originator e.home request) request n = rw d refl in
-    first ∙ ap (λ (t : List ℕ). discovered e.home e.nodes t request n) by
-
-pub reading_shown : (e : EntityData) (request : RequestParts) (n : ℕ) (o : List ℕ) → claimed_originator e.home request ≡ o → is_discovery request ≡ false → reading_reply e request n ≡ retrieved e.home e.nodes o request n
-reading_shown e request n o by d =
-    let first : reading_reply e request n ≡ retrieved e.home e.nodes (claimed_originator e.home request) request n = rw d refl in
-    first ∙ ap (λ (t : List ℕ). retrieved e.home e.nodes t request n) by

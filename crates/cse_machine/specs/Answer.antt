@@ -1,10 +1,13 @@
 -- What a CSE answers a request (TS-0001, 10.2; TS-0004, 7.2 and 7.3.3).
 use Rattle.std.specs.Prelude.{◌≡◌, ℕ, nat_lt, Bool, true, false, not, ◌&&◌, List, [], ◌∷◌}
-use Rattle.std.specs.Prelude.{Option, Some, Result, Ok, Err, is_ok, is_some, option_and_then}
+use Rattle.std.specs.Prelude.{Option, Some, None, Result, Ok, Err, is_ok, is_some}
+use Rattle.std.specs.Prelude.{bytes_eq, codes, option_and_then}
 use Rattle.std.specs.Prelude.{if◌then◌else◌}
 use Rattle.std.specs.Option.{option_map_or}
 use Rattle.std.specs.Ordering.{int_eq}
 use Rattle.m2m_names.specs.declared.codes.Rsc.TheVariants.{BadRequest, Internal, NonBlocking}
+use Rattle.m2m_names.specs.declared.codes.Rsc.TheVariants.{NoPrivilege, NotAllowed, NotReachable}
+use Rattle.m2m_names.specs.declared.codes.Rsc.TheVariants.{Ok as Fine}
 use Rattle.m2m_names.specs.declared.codes.Rsc.TheVariants.{RequestTimeout}
 use Rattle.m2m_names.specs.declared.operations.Op.{Op}
 use Rattle.m2m_names.specs.declared.operations.Op.TheVariants.{Create, Retrieve, Update, Delete}
@@ -25,26 +28,31 @@ use Rattle.primitive_json.specs.declared.request.When.{When}
 use Rattle.primitive_json.specs.declared.request.When.TheVariants.{At, Millis}
 use Rattle.resource_model.specs.Home.{HomeData}
 use Rattle.resource_model.specs.Resource.{ResourceData, is_ty}
-use Rattle.tree_model.specs.Tree.{at}
+use Rattle.tree_model.specs.Tree.{at, has}
 use Rattle.addressing.specs.Addresses.{address_of}
 use Rattle.addressing.specs.Laws.{spot_named}
-use Rattle.addressing.specs.Names.{spot_of, spot_resource}
+use Rattle.addressing.specs.Names.{segments_of, spot_of, spot_resource}
 use Rattle.addressing.specs.Short.{short_of}
 use Rattle.addressing.specs.declared.addr.Addr.{Addr}
-use Rattle.addressing.specs.declared.addr.Addr.TheVariants.{Local, Foreign, OtherProvider}
 use Rattle.addressing.specs.declared.addr.AddrFault.{AddrFault}
 use Rattle.addressing.specs.declared.spot.Spot.{Spot}
+use Rattle.addressing.specs.declared.spot.Spot.TheVariants.{Resource, Fan, Poll}
+use Rattle.subscription_match.specs.Destinations.{first_url}
 use Rattle.entity_model.specs.Entity.{EntityData}
-use Rattle.entity_model.specs.Places.{absent, refusal, refused, Effect, reply_alone, on_found}
-use Rattle.entity_model.specs.Places.{Check, first_fault, unless}
-use Rattle.retrieve_discover.specs.Replies.{discovered, retrieved}
+use Rattle.entity_model.specs.Places.{absent, refusal, refused, Effect, reply_alone}
+use Rattle.entity_model.specs.Places.{Check, first_fault, reply_to, unless, unless_refused}
+use Rattle.retarget.specs.Routes.{forwarded, routed}
+use Rattle.retarget.specs.declared.routing.Route.{Route}
+use Rattle.retarget.specs.declared.routing.Route.TheVariants as to
+use Rattle.retrieve_discover.specs.Polling.{polled}
 use Rattle.create_delete.specs.Guard.{NamesInOrder}
-use Rattle.create_delete.specs.Telling.{told_effect_on}
 use Rattle.cse_machine.specs.declared.event.Outcome.{Outcome}
-use Rattle.cse_machine.specs.declared.event.Outcome.TheVariants.{Done}
+use Rattle.cse_machine.specs.declared.event.Outcome.TheVariants.{Done, Forward}
 use Rattle.request_rules.specs.Requests.{child_ty}
-use Rattle.request_rules.specs.Rights.{is_discovery}
-use Rattle.cse_machine.specs.Rights.{asking, claimed_originator}
+use Rattle.request_rules.specs.Rights.{sole}
+use Rattle.group_fanout.specs.Fan.{fan_effect_at, rest_of}
+use Rattle.group_fanout.specs.Operations.{resource_effect}
+use Rattle.group_fanout.specs.Rights.{asking, claimed_originator, has_right}
 
 -- the reply where memory ran out
 abbrev pub starved : RequestParts → ReplyParts
@@ -52,17 +60,17 @@ starved request = refusal request Internal
 
 -- ---- which requests are served
 
--- the types of which a resource may be created so far, one line each: no group, as long as its
--- members aren't served; that nothing takes a CSEBase is judged later
+-- the types of which a resource may be created so far, one line each: no announced one; that nothing
+-- takes a CSEBase is judged later
 abbrev pub is_creatable : Ty → Bool
 is_creatable AccessControlPolicy = true
 is_creatable Ae = true
 is_creatable Container = true
 is_creatable ContentInstance = true
 is_creatable CseBase = true
-is_creatable Group = false
-is_creatable PollingChannel = false
-is_creatable RemoteCse = false
+is_creatable Group = true
+is_creatable PollingChannel = true
+is_creatable RemoteCse = true
 is_creatable Subscription = true
 is_creatable AccessControlPolicyAnnc = false
 is_creatable AeAnnc = false
@@ -80,7 +88,7 @@ does_serve Create request = has_creatable_type request
 does_serve Retrieve request = true
 does_serve Update request = true
 does_serve Delete request = true
-does_serve Notify request = false
+does_serve Notify request = true
 
 -- The request is served so far.
 abbrev pub is_served : RequestParts → Bool
@@ -145,31 +153,6 @@ form_places e request = unless (has_form request) BadRequest ∷ originator_plac
 abbrev pub first_places : EntityData → RequestParts → List Check
 first_places e request = unless (is_served request) BadRequest ∷ form_places e request
 
--- ---- one operation
-
--- what a Retrieve of the resource of a number is answered (TS-0001, 10.2.3 and 10.2.6)
-abbrev pub reading_reply : EntityData → RequestParts → ℕ → ReplyParts
-reading_reply e request n =
-    if is_discovery request
-    then discovered e.home e.nodes (claimed_originator e.home request) request n
-    else retrieved e.home e.nodes (claimed_originator e.home request) request n
-
--- what an operation that may change something gives, for its originator: a refusal by the first
--- place that doesn't hold, or what is done, and its changes told (TS-0001, 9.6.8)
-unfoldable pub change_effect : Op → EntityData → RequestParts → ResourceData → Effect
-change_effect op e request target =
-    told_effect_on op e (claimed_originator e.home request) request target
-
--- what an operation on a resource gives: a Retrieve reads it, and every other may change something
--- (TS-0001, 10.2)
-abbrev pub operation_effect : Op → EntityData → RequestParts → ResourceData → Effect
-operation_effect Create e request target = change_effect Create e request target
-operation_effect Retrieve e request target =
-    reply_alone e (reading_reply e request target.number)
-operation_effect Update e request target = change_effect Update e request target
-operation_effect Delete e request target = change_effect Delete e request target
-operation_effect Notify e request target = change_effect Notify e request target
-
 -- ---- one request to an address here
 
 -- the resource at what an address names
@@ -180,19 +163,49 @@ resource_at nodes spot = option_and_then (λ n. at n nodes) (spot_resource spot)
 abbrev pub addressed : EntityData → List ℕ → Option ResourceData
 addressed e to = option_and_then (resource_at e.nodes) (spot_named e.home to e.nodes)
 
--- what an operation gives on the resource that was found, if one was
-abbrev pub found_effect : Op → EntityData → RequestParts → Option ResourceData → Effect
-found_effect op e request found = on_found e request (operation_effect op e request) found
+-- ---- one request to a poll point
 
--- what a request to a resource gives
-abbrev pub resource_effect : EntityData → RequestParts → Option ResourceData → Effect
-resource_effect e request found = found_effect request.op e request found
+-- what isn't done there: that comes behind the right that the request needs on the channel
+abbrev pub poll_refusal : EntityData → RequestParts → ℕ → Effect
+poll_refusal e request channel =
+    refused e request (if has_right e request channel then NotAllowed else NoPrivilege)
 
--- what a request gives at what its address names here. That this is no resource comes before any
--- right; and so do fan-out points and poll points, as they aren't served yet.
+-- The content of the request is the answer to a request that was polled: an object whose only member
+-- is a response (TS-0001, 9.6.22).
+abbrev pub has_answer : RequestParts → Bool
+has_answer request =
+    option_map_or (λ e. bytes_eq e.0 (codes "m2m:rsp")) (option_and_then sole request.pc) false
+
+-- the places of such an answer: for want of the right, then by its content
+abbrev pub answer_places : EntityData → RequestParts → ℕ → List Check
+answer_places e request channel =
+    unless (has_right e request channel) NoPrivilege ∷ unless (has_answer request) BadRequest ∷ []
+
+-- what comes of it where it isn't refused: it is taken, and isn't kept (the profile's)
+abbrev pub answered_poll : EntityData → RequestParts → ℕ → Effect
+answered_poll e request channel =
+    unless_refused (answer_places e request channel) e request
+    (reply_alone e (reply_to request Fine None))
+
+-- what an operation gives at the poll point of the channel of a number: a Retrieve polls it, a
+-- Notify answers what was polled, and no other is done there (TS-0001, 9.6.22)
+abbrev pub poll_effect : Op → EntityData → RequestParts → ℕ → Effect
+poll_effect Create e request channel = poll_refusal e request channel
+poll_effect Retrieve e request channel =
+    polled e (claimed_originator e.home request) request channel
+poll_effect Update e request channel = poll_refusal e request channel
+poll_effect Delete e request channel = poll_refusal e request channel
+poll_effect Notify e request channel = answered_poll e request channel
+
+-- what a request gives at what its address names here. That this is nothing comes before any right.
 abbrev pub spot_effect : EntityData → RequestParts → Option Spot → Effect
-spot_effect e request spot =
-    resource_effect e request (option_and_then (resource_at e.nodes) spot)
+spot_effect e request None = refused e request absent
+spot_effect e request (Some (Resource n)) = resource_effect e request (at n e.nodes)
+spot_effect e request (Some (Fan group place)) =
+    fan_effect_at e request (rest_of e.home request.to place) group
+spot_effect e request (Some (Poll channel)) =
+    if has channel e.nodes then poll_effect request.op e request channel
+    else refused e request absent
 
 -- ---- one request to any address
 
@@ -205,14 +218,38 @@ pub record EventEffect : Type 0 where
 abbrev pub as_done : Effect → EventEffect
 as_done effect = record { outcome = Done effect.reply; after = effect.after }
 
--- what a request gives by where its address leads, which is judged before anything is looked up: to
--- what it names here; to another CSE, or to another provider; or nowhere, as it is none. No request
--- goes on to another CSE yet, and no other CSE is known, so that such an address names nothing.
-abbrev pub address_effect : EntityData → RequestParts → Result Addr AddrFault → EventEffect
-address_effect e request (Ok (Local segments)) =
+-- the first URL among the points of access of the resource of a number
+abbrev pub point_of : List ResourceData → ℕ → Option (List ℕ)
+point_of nodes n = option_and_then first_url (at n nodes)
+
+-- The request goes on to the CSE at a URL: by its originator in full form, and with nothing said of
+-- how the reply is wanted. It changes nothing, and no right is judged here (TS-0001, 10.2.2).
+abbrev pub goes_on : EntityData → RequestParts → List ℕ → EventEffect
+goes_on e request poa = record {
+  outcome = Forward poa (forwarded e.home (claimed_originator e.home request) request);
+  after = e;
+}
+
+-- What it gives by the point of access of the CSE that it goes on to.
+abbrev pub onward_effect : EntityData → RequestParts → Option (List ℕ) → EventEffect
+onward_effect e request poa =
+    option_map_or (goes_on e request) poa (as_done (refused e request NotReachable))
+
+-- what a request gives by where it goes, which is judged before anything is looked up here: it stays
+-- here; it goes on to a registered CSE; or that isn't known, or isn't reached
+abbrev pub route_effect : EntityData → RequestParts → List (List ℕ) → Route → EventEffect
+route_effect e request segments to.Local =
     as_done (spot_effect e request (spot_of segments e.nodes))
-address_effect e request (Ok (Foreign text)) = as_done (refused e request absent)
-address_effect e request (Ok OtherProvider) = as_done (refused e request absent)
+route_effect e request segments to.Unknown = as_done (refused e request absent)
+route_effect e request segments to.NoHop = as_done (refused e request NotReachable)
+route_effect e request segments to.NoPoint = as_done (refused e request NotReachable)
+route_effect e request segments (to.Forward n) = onward_effect e request (point_of e.nodes n)
+
+-- what it gives by its address, where it is sent to one (TS-0001, 7.2 and 10.2.2)
+abbrev pub address_effect : EntityData → RequestParts → Result Addr AddrFault → EventEffect
+address_effect e request (Ok addr) =
+    route_effect e request (segments_of addr)
+    (routed e.nodes (claimed_originator e.home request) addr)
 address_effect e request (Err fault) = as_done (refused e request BadRequest)
 
 -- what comes of a request by its address, unless one of these places refuses it

@@ -5,7 +5,7 @@ use Rattle.turn_desk.specs.Entries.{Runs}
 use Rattle.entity_model.specs.Entity.{EntityData}
 use Rattle.cse_machine.specs.declared.event.Event.{Event}
 use Rattle.cse_machine.specs.declared.event.Outcome.{Outcome}
-use Rattle.cse_machine.specs.declared.event.Outcome.TheVariants.{Done, Item, Ticked, Starved}
+use Rattle.cse_machine.specs.declared.event.Outcome.TheVariants.{Done, Forward, Item, Ticked, Starved}
 use Rattle.cse_machine.specs.Step.{Step}
 
 -- an event with its reading and its outcome, and a list of them
@@ -19,6 +19,7 @@ HistoryLeaves opening history e = Runs Step opening history e
 -- there was memory for it
 abbrev pub IsDone : Outcome → Type 0
 IsDone (Done reply) = ⊤
+IsDone (Forward poa onward) = ⊤
 IsDone (Item given) = ⊤
 IsDone Ticked = ⊤
 IsDone (Starved done) = ⊥

@@ -1,27 +1,41 @@
 -- One event of a CSE (TS-0001, 10.1; TS-0004, 7.2).
-use Rattle.std.specs.Prelude.{◌≡◌, ◌≤◌, ◌⊎◌, ℕ, IsTrue, length, take}
+use Rattle.std.specs.Prelude.{◌≡◌, ◌⊎◌, ℕ, List, [], IsTrue}
+use Rattle.std.specs.Option.{option_map_or}
 use Rattle.primitive_json.specs.declared.request.RequestParts.{RequestParts}
 use Rattle.addressing.specs.Laws.{spot_named}
 use Rattle.entity_model.specs.Entity.{EntityData, event_moment, next_note, swept, without_next}
 use Rattle.entity_model.specs.Expiry.{is_some_due}
+use Rattle.entity_model.specs.Places.{Check, first_fault}
+use Rattle.create_delete.specs.Guard.{NamesInOrder}
 use Rattle.cse_machine.specs.declared.event.Event.{Event}
 use Rattle.cse_machine.specs.declared.event.Event.TheVariants.{Ask, Take, Tick}
 use Rattle.cse_machine.specs.declared.event.Outcome.{Outcome}
-use Rattle.cse_machine.specs.declared.event.Outcome.TheVariants.{Done, Item, Ticked, Starved}
-use Rattle.cse_machine.specs.Answer.{ComesOf}
-use Rattle.cse_machine.specs.Fan.{after_members, served_members}
+use Rattle.cse_machine.specs.declared.event.Outcome.TheVariants.{Done, Forward, Item, Ticked, Starved}
+use Rattle.cse_machine.specs.Answer.{ComesOf, first_places}
+use Rattle.group_fanout.specs.Fan.{IsCutShortAt, served_members}
+
+-- the requests to members that a request is served by, unless one of these places refuses it
+abbrev pub heard_past : List Check → EntityData → RequestParts → List RequestParts
+heard_past places e request =
+    option_map_or (λ fault. []) (first_fault places)
+    (served_members e request (spot_named e.home request.to e.nodes))
+
+-- Those of a request that is heard.
+abbrev pub heard_members : EntityData → RequestParts → List RequestParts
+heard_members e request = heard_past (first_places e request) e request
 
 -- Memory ran out for a request when so many members of a fan-out had been served: these have taken
--- effect, and nothing else has. Outside a fan-out that is none of them.
+-- effect, and nothing else has. Outside a fan-out that is none of them. What the content of the
+-- request names stands in order, as in each that is heard.
 abbrev pub IsCutShort : EntityData → RequestParts → ℕ → EntityData → Type 0
 IsCutShort e request done after =
-    let members = served_members e request (spot_named e.home request.to e.nodes) in
-    (done ≤ length members) × (after ≡ after_members e (take done members))
+    IsCutShortAt e (heard_members e request) done after × NamesInOrder request
 
 -- What a request may give on an entity from which what is due is gone, and the entity that it may
 -- leave: one function of the two, but for want of memory.
 abbrev pub IsAnswered : EntityData → RequestParts → Outcome → EntityData → Type 0
 IsAnswered e request (Done reply) after = ComesOf e request (Done reply) after
+IsAnswered e request (Forward poa onward) after = ComesOf e request (Forward poa onward) after
 IsAnswered e request (Item given) after = ⊥
 IsAnswered e request Ticked after = ⊥
 IsAnswered e request (Starved done) after = IsCutShort e request done after
@@ -41,16 +55,20 @@ pub record IsUnswept (reading : ℕ) (before : EntityData) (done : ℕ) (after :
 abbrev pub Step : ℕ → Event → EntityData → Outcome → EntityData → Type 0
 Step reading (Ask request) before (Done reply) after =
     ComesOf (swept reading before) request (Done reply) after
+Step reading (Ask request) before (Forward poa onward) after =
+    ComesOf (swept reading before) request (Forward poa onward) after
 Step reading (Ask request) before (Item given) after = ⊥
 Step reading (Ask request) before Ticked after = ⊥
 Step reading (Ask request) before (Starved done) after =
     IsCutShort (swept reading before) request done after ⊎ IsUnswept reading before done after
 Step reading Take before (Done reply) after = ⊥
+Step reading Take before (Forward poa onward) after = ⊥
 Step reading Take before (Item given) after =
     (given ≡ next_note (swept reading before)) × (after ≡ without_next (swept reading before))
 Step reading Take before Ticked after = ⊥
 Step reading Take before (Starved done) after = IsUnswept reading before done after
 Step reading Tick before (Done reply) after = ⊥
+Step reading Tick before (Forward poa onward) after = ⊥
 Step reading Tick before (Item given) after = ⊥
 Step reading Tick before Ticked after = after ≡ swept reading before
 Step reading Tick before (Starved done) after = IsUnswept reading before done after

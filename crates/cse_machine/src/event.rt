@@ -1,5 +1,6 @@
 //! What a CSE is asked, and what comes of it.
 use primitive_json::{Note, Reply, Request};
+use retarget::Url;
 
 /// What a CSE is asked at one moment.
 #[derive(Drop)]
@@ -17,11 +18,13 @@ pub enum Event {
 pub enum Outcome {
     /// The reply to a request.
     Done(Reply),
+    /// The request goes on to the CSE at a URL, and the reply comes from there.
+    Forward { poa: Url, request: Request },
     /// The item that was taken from the outbox; None where each waits for a polling channel.
     Item(Option<Note>),
     /// What was due is gone.
     Ticked,
-    /// Memory ran out. So many members of a fan-out have taken effect, and nothing else: 0, as none
-    /// is served so far.
+    /// Memory ran out. So many members of a fan-out have taken effect, and nothing else; outside a
+    /// fan-out that is 0.
     Starved { done: u32 },
 }

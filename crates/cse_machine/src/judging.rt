@@ -1,5 +1,6 @@
 //! What is told of a request before what its address names.
-ghost use Rattle.std.specs.Prelude.{◌≡◌, false, IfSome, List, Some, option_and_then, option_map};
+ghost use Rattle.std.specs.Prelude.{◌≡◌, bytes_eq, codes, false, IfSome, List, Some};
+ghost use Rattle.std.specs.Prelude.{option_and_then, option_map};
 ghost use Rattle.std.specs.Option.{option_map_or};
 ghost use Rattle.m2m_names.specs.declared.types.Ty.{Ty};
 ghost use Rattle.m2m_names.specs.declared.types.Ty.TheVariants.{Ae};
@@ -14,7 +15,7 @@ ghost use Rattle.cse_machine.specs.Answer as spec;
 
 use entity_model::Entity;
 use m2m_names::{Op, Ty};
-use m2m_value::{Members, Val};
+use m2m_value::{Members, Text, Val};
 use primitive_json::{Request, When, creates};
 use request_rules::child_ty;
 use tree_model::Tree;
@@ -24,8 +25,7 @@ fn is_creatable(ty: Ty) -> bool
 {
     match ty {
         Ty::AccessControlPolicy | Ty::Ae | Ty::Container | Ty::ContentInstance => true,
-        Ty::CseBase | Ty::Subscription => true,
-        Ty::Group | Ty::PollingChannel | Ty::RemoteCse => false,
+        Ty::CseBase | Ty::Group | Ty::PollingChannel | Ty::RemoteCse | Ty::Subscription => true,
         Ty::AccessControlPolicyAnnc | Ty::AeAnnc | Ty::ContainerAnnc => false,
         Ty::ContentInstanceAnnc | Ty::GroupAnnc => false,
     }
@@ -40,15 +40,14 @@ fn has_creatable_type(request: &Request) -> bool
     }
 }
 
-/// Whether the request is one of those that are served so far: all but a Notify, and the creation
-/// of what polls, fans out or comes from another CSE.
+/// Whether the request is one of those that are served so far: all but the creation of an announced
+/// resource.
 pub(crate) fn is_served(request: &Request) -> bool
     ensures { result ≡ spec.is_served request.now }
 {
     match request.parts().op {
         Op::Create => has_creatable_type(request),
-        Op::Retrieve | Op::Update | Op::Delete => true,
-        Op::Notify => false,
+        Op::Retrieve | Op::Update | Op::Delete | Op::Notify => true,
     }
 }
 
@@ -127,6 +126,36 @@ fn inner_members(content: &Val) -> Option<&Members>
             Some(members)
         }
         _ => None,
+    }
+}
+
+// The only member of a content.
+fn sole_member(content: &Val) -> Option<&(Text, Val)>
+    ensures { option_map (λ e. e.now) result ≡ sole content.now }
+{
+    match content.as_obj()?.entries() {
+        [entry] => Some(entry),
+        _ => None,
+    }
+}
+
+fn is_answer(content: &Val) -> bool
+    ensures { result
+        ≡ option_map_or (λ e. bytes_eq e.0 (codes "m2m:rsp")) (sole content.now) false }
+{
+    match sole_member(content) {
+        Some(entry) => entry.0.entries() == b"m2m:rsp".as_slice(),
+        None => false,
+    }
+}
+
+/// Whether its content is the answer to a request that was polled.
+pub(crate) fn has_answer(request: &Request) -> bool
+    ensures { result ≡ spec.has_answer request.now }
+{
+    match &request.parts().pc {
+        Some(content) => is_answer(content),
+        None => false,
     }
 }
 

@@ -1,30 +1,38 @@
 //! One event after another.
-ghost use Rattle.std.specs.Prelude.{◌≡◌, IfOk, IfSome, IsTrue, Ok, OnErr, OnOk, option_map};
-ghost use Rattle.std.specs.Prelude.{option_and_then};
+ghost use Rattle.std.specs.Prelude.{◌≡◌, IfOk, IfSome, IsTrue, Ok, OnErr, OnOk, Some, option_map};
+ghost use Rattle.std.specs.Prelude.{drop, option_and_then, IfErr};
 ghost use Rattle.m2m_names.specs.Name.{is_originator};
-ghost use Rattle.m2m_names.specs.declared.operations.Op.TheVariants.{Retrieve};
-ghost use Rattle.tree_model.specs.Tree.{at, has};
+ghost use Rattle.tree_model.specs.Tree.{has};
 ghost use Rattle.addressing.specs.Addresses.{GivesAddress, address_of};
+ghost use Rattle.addressing.specs.Laws.{spot_named};
+ghost use Rattle.addressing.specs.Names.{segments_of};
 ghost use Rattle.addressing.specs.Short.{short_of};
+ghost use Rattle.addressing.specs.declared.spot.Spot.TheVariants.{Poll};
 ghost use Rattle.entity_model.specs.Places.{refusal};
-ghost use Rattle.cse_machine.specs.Answer.{address_effect, address_places, effect_of};
-ghost use Rattle.cse_machine.specs.Answer.{form_places, found_effect, judged_effect};
-ghost use Rattle.cse_machine.specs.Answer.{reading_reply, resource_effect, spot_effect};
-ghost use Rattle.cse_machine.specs.Answer.{time_places};
+ghost use Rattle.cse_machine.specs.Answer.{address_effect, address_places, answered_poll};
+ghost use Rattle.primitive_json.specs.Notes.{IsSomeUrl};
+ghost use Rattle.group_fanout.specs.Fan.{IsCutShortAt, fan_effect_at, fanned_at, rest_of};
+ghost use Rattle.group_fanout.specs.Fan.{served_members};
+ghost use Rattle.group_fanout.specs.Rights.{claimed_originator};
+ghost use Rattle.group_fanout.specs.Rights as rights;
+ghost use Rattle.cse_machine.specs.Answer.{effect_of, form_places, judged_effect};
+ghost use Rattle.cse_machine.specs.Answer.{goes_on, onward_effect, point_of, poll_effect};
+ghost use Rattle.cse_machine.specs.Answer.{poll_refusal, spot_effect, time_places};
 ghost use Rattle.cse_machine.specs.Answer as spec;
-ghost use Rattle.cse_machine.specs.Rights.{claimed_originator};
-ghost use Rattle.cse_machine.specs.Step.{IsAnswered, Step};
+ghost use Rattle.cse_machine.specs.Step.{IsAnswered, Step, heard_members, heard_past};
 ghost use Rattle.cse_machine.specs.declared.event.Outcome.TheVariants.{Done};
 
 use crate::event::{Event, Outcome};
-use crate::judging::{is_blocking, is_in_time, is_served, said_originator, tell_order};
-use addressing::{Addr, AddrFault, Spot, name_spot, parse, short_fr};
-use create_delete::{create, delete, update};
-use entity_model::{Entity, refuse, sweep, take_next};
+use crate::judging::{has_answer, is_blocking, is_in_time, is_served, said_originator, tell_order};
+use addressing::{Addr, AddrFault, Segments, Spot, name_spot, parse, short_fr};
+use entity_model::{Entity, refuse, reply_to, sweep, take_next};
+use group_fanout::{Starved, fan, operate};
 use m2m_names::{Op, Rsc};
+use m2m_value::Text;
 use primitive_json::{Reply, Request, has_form};
-use request_rules::{find, is_discovery};
-use retrieve_discover::{discover, retrieve};
+use request_rules::{find, may_do};
+use retarget::{Route, Url, first_url, forwarded, route_of};
+use retrieve_discover::poll;
 use std::alloc::{AllocError as OutOfMemory, Global};
 use tree_model::Tree;
 
@@ -52,26 +60,29 @@ fn ask<T: Tree>(alloc: Global, entity: &mut Entity<T>, request: &Request) -> Out
     tell_order(request);
     match answer(alloc, entity, request) {
         Ok(outcome) => outcome,
-        Err(_) => Outcome::Starved { done: 0 },
+        Err(starved) => Outcome::Starved { done: starved.done },
     }
 }
 
 // The outcome of a request that is refused.
-fn turn_down(alloc: Global, request: &Request, fault: Rsc) -> Result<Outcome, OutOfMemory>
-    ensures { IfOk result (λ x. x ≡ Done (refusal request.now fault)) }
+fn turn_down(alloc: Global, request: &Request, fault: Rsc) -> Result<Outcome, Starved>
+    ensures refused { IfOk result (λ x. x ≡ Done (refusal request.now fault)) }
+    ensures none { IfErr result (λ s. s.done ≡ 0) }
 {
     Ok(Outcome::Done(refuse(alloc, request, fault)?))
 }
 
 // What it gives where there is memory for it.
+#[tactic(auto, using(group_fanout::proofs::FanLemmas::none_cut))]
 fn answer<T: Tree>(
     alloc: Global,
     entity: &mut Entity<T>,
     request: &Request,
-) -> Result<Outcome, OutOfMemory>
+) -> Result<Outcome, Starved>
     ensures outcome { IfOk result (λ x. x ≡ (effect_of entity.old request.now).outcome) }
     ensures after { OnOk result (entity.new ≡ (effect_of entity.old request.now).after) }
-    ensures err { OnErr result (entity.new ≡ entity.old) }
+    ensures cut { IfErr result (λ s. IsCutShortAt entity.old
+        (heard_members entity.old request.now) s.done entity.new) }
 {
     if is_served(request) {
         answer_served(alloc, entity, request)
@@ -81,17 +92,18 @@ fn answer<T: Tree>(
 }
 
 // What one gives that is served.
+#[tactic(auto, using(group_fanout::proofs::FanLemmas::none_cut))]
 fn answer_served<T: Tree>(
     alloc: Global,
     entity: &mut Entity<T>,
     request: &Request,
-) -> Result<Outcome, OutOfMemory>
-    requires { IsTrue (spec.is_served request.now) }
+) -> Result<Outcome, Starved>
     ensures outcome { IfOk result (λ x. x ≡ (judged_effect (form_places entity.old request.now)
         entity.old request.now (address_of entity.old.home request.now.to)).outcome) }
     ensures after { OnOk result (entity.new ≡ (judged_effect (form_places entity.old request.now)
         entity.old request.now (address_of entity.old.home request.now.to)).after) }
-    ensures err { OnErr result (entity.new ≡ entity.old) }
+    ensures cut { IfErr result (λ s. IsCutShortAt entity.old
+        (heard_past (form_places entity.old request.now) entity.old request.now) s.done entity.new) }
 {
     if !has_form(request) {
         return turn_down(alloc, request, Rsc::BadRequest);
@@ -122,44 +134,47 @@ fn address<T: Tree>(alloc: Global, entity: &Entity<T>, request: &Request) -> Res
 }
 
 // What the request of this originator gives, by its address.
+#[tactic(auto, using(group_fanout::proofs::FanLemmas::none_cut))]
 fn answer_to<T: Tree>(
     alloc: Global,
     entity: &mut Entity<T>,
     request: &Request,
     originator: &[u8],
-) -> Result<Outcome, OutOfMemory>
-    requires served { IsTrue (spec.is_served request.now) }
+) -> Result<Outcome, Starved>
     requires originator { IsTrue (is_originator originator.now) }
     requires claimed { claimed_originator entity.old.home request.now ≡ originator.now }
     ensures outcome { IfOk result (λ x. x ≡ (judged_effect (address_places entity.old request.now)
         entity.old request.now (address_of entity.old.home request.now.to)).outcome) }
     ensures after { OnOk result (entity.new ≡ (judged_effect (address_places entity.old request.now)
         entity.old request.now (address_of entity.old.home request.now.to)).after) }
-    ensures err { OnErr result (entity.new ≡ entity.old) }
+    ensures cut { IfErr result (λ s. IsCutShortAt entity.old
+        (heard_past (address_places entity.old request.now) entity.old request.now) s.done entity.new) }
 {
     match address(alloc, entity, request) {
         Ok(addr) => answer_at(alloc, entity, request, originator, &addr),
-        Err(AddrFault::OutOfMemory) => Err(OutOfMemory),
+        Err(AddrFault::OutOfMemory) => Err(Starved { done: 0 }),
         Err(_) => turn_down(alloc, request, Rsc::BadRequest),
     }
 }
 
 // What it gives at an address.
+#[tactic(auto, using(group_fanout::proofs::FanLemmas::none_cut))]
 fn answer_at<T: Tree>(
     alloc: Global,
     entity: &mut Entity<T>,
     request: &Request,
     originator: &[u8],
     addr: &Addr,
-) -> Result<Outcome, OutOfMemory>
-    requires served { IsTrue (spec.is_served request.now) }
+) -> Result<Outcome, Starved>
     requires originator { IsTrue (is_originator originator.now) }
     requires claimed { claimed_originator entity.old.home request.now ≡ originator.now }
+    requires addressed { address_of entity.old.home request.now.to ≡ Ok addr.now }
     ensures outcome { IfOk result (λ x. x ≡ (judged_effect (time_places entity.old request.now)
         entity.old request.now (Ok addr.now)).outcome) }
     ensures after { OnOk result (entity.new ≡ (judged_effect (time_places entity.old request.now)
         entity.old request.now (Ok addr.now)).after) }
-    ensures err { OnErr result (entity.new ≡ entity.old) }
+    ensures cut { IfErr result (λ s. IsCutShortAt entity.old
+        (heard_past (time_places entity.old request.now) entity.old request.now) s.done entity.new) }
 {
     if !is_in_time(entity, request) {
         return turn_down(alloc, request, Rsc::RequestTimeout);
@@ -170,115 +185,286 @@ fn answer_at<T: Tree>(
     lead(alloc, entity, request, originator, addr)
 }
 
-// What it gives by where its address leads: here, or elsewhere, where nothing is known yet.
+// What it gives by where it goes: here, or to another CSE.
+#[tactic(auto, using(group_fanout::proofs::FanLemmas::none_cut))]
 fn lead<T: Tree>(
     alloc: Global,
     entity: &mut Entity<T>,
     request: &Request,
     originator: &[u8],
     addr: &Addr,
-) -> Result<Outcome, OutOfMemory>
-    requires served { IsTrue (spec.is_served request.now) }
+) -> Result<Outcome, Starved>
     requires originator { IsTrue (is_originator originator.now) }
     requires claimed { claimed_originator entity.old.home request.now ≡ originator.now }
+    requires addressed { address_of entity.old.home request.now.to ≡ Ok addr.now }
     ensures outcome { IfOk result (λ x. x
         ≡ (address_effect entity.old request.now (Ok addr.now)).outcome) }
     ensures after { OnOk result (entity.new
         ≡ (address_effect entity.old request.now (Ok addr.now)).after) }
-    ensures err { OnErr result (entity.new ≡ entity.old) }
+    ensures cut { IfErr result (λ s. IsCutShortAt entity.old (served_members entity.old request.now
+        (spot_named entity.old.home request.now.to entity.old.nodes)) s.done entity.new) }
 {
-    match addr {
-        Addr::Local(_) => {
+    match route_of(&entity.tree, originator, addr) {
+        Route::Local => {
             let spot = name_spot(&entity.tree, addr);
-            Ok(Outcome::Done(reach(alloc, entity, request, originator, spot)?))
+            Ok(Outcome::Done(reach(alloc, entity, request, originator, addr, spot)?))
         }
-        Addr::Foreign(_) | Addr::OtherProvider => turn_down(alloc, request, Rsc::NotFound),
+        Route::Unknown => turn_down(alloc, request, Rsc::NotFound),
+        Route::NoHop | Route::NoPoint => turn_down(alloc, request, Rsc::NotReachable),
+        Route::Forward(number) => go_on(alloc, entity, request, originator, number),
     }
 }
 
+// What it gives where it goes on to the registered CSE of a number.
+fn go_on<T: Tree>(
+    alloc: Global,
+    entity: &Entity<T>,
+    request: &Request,
+    originator: &[u8],
+    number: u64,
+) -> Result<Outcome, Starved>
+    requires originator { IsTrue (is_originator originator.now) }
+    requires claimed { claimed_originator entity.now.home request.now ≡ originator.now }
+    ensures outcome { IfOk result (λ x. x ≡ (onward_effect entity.now request.now
+        (point_of entity.now.nodes number)).outcome) }
+    ensures none { IfErr result (λ s. s.done ≡ 0) }
+{
+    match point_of(entity, number) {
+        Some(url) => go_on_to(alloc, entity, request, originator, url),
+        None => turn_down(alloc, request, Rsc::NotReachable),
+    }
+}
+
+// The first URL among the points of access of the resource of a number.
+fn point_of<T: Tree>(entity: &Entity<T>, number: u64) -> Option<&Text>
+    ensures value { option_map (λ t. t.now) result ≡ spec.point_of entity.now.nodes number }
+    ensures url { IfSome result (λ t. IsSomeUrl t.now) }
+{
+    match find(entity, number) {
+        Some(cse) => first_url(cse),
+        None => None,
+    }
+}
+
+// The outcome of a request that goes on to the CSE at a URL.
+fn go_on_to<T: Tree>(
+    alloc: Global,
+    entity: &Entity<T>,
+    request: &Request,
+    originator: &[u8],
+    url: &Text,
+) -> Result<Outcome, Starved>
+    requires originator { IsTrue (is_originator originator.now) }
+    requires claimed { claimed_originator entity.now.home request.now ≡ originator.now }
+    requires url { IsSomeUrl url.now }
+    ensures outcome { IfOk result (λ x. x ≡ (goes_on entity.now request.now url.now).outcome) }
+    ensures none { IfErr result (λ s. s.done ≡ 0) }
+{
+    let poa = Url::of(url.copy(alloc)?);
+    let request = forwarded(alloc, &entity.home, originator, request)?;
+    Ok(Outcome::Forward { poa, request })
+}
+
 // What it gives at what its address names.
+#[tactic(auto, using(group_fanout::proofs::FanLemmas::none_cut))]
 fn reach<T: Tree>(
     alloc: Global,
     entity: &mut Entity<T>,
     request: &Request,
     originator: &[u8],
+    addr: &Addr,
     spot: Option<Spot>,
-) -> Result<Reply, OutOfMemory>
-    requires served { IsTrue (spec.is_served request.now) }
+) -> Result<Reply, Starved>
     requires originator { IsTrue (is_originator originator.now) }
     requires claimed { claimed_originator entity.old.home request.now ≡ originator.now }
+    requires addressed { address_of entity.old.home request.now.to ≡ Ok addr.now }
+    requires named { spot ≡ spot_named entity.old.home request.now.to entity.old.nodes }
     ensures reply { IfOk result (λ r. r ≡ (spot_effect entity.old request.now spot).reply) }
     ensures after { OnOk result (entity.new ≡ (spot_effect entity.old request.now spot).after) }
-    ensures err { OnErr result (entity.new ≡ entity.old) }
+    ensures cut { IfErr result (λ s.
+        IsCutShortAt entity.old (served_members entity.old request.now spot) s.done entity.new) }
 {
     match spot {
-        Some(Spot::Resource(number)) => operate(alloc, entity, request, originator, number),
-        Some(Spot::Fan { .. } | Spot::Poll(_)) | None => refuse(alloc, request, Rsc::NotFound),
+        Some(Spot::Resource(number)) => { Ok(operate(alloc, entity, request, originator, number)?) }
+        Some(Spot::Fan { group, rest }) => {
+            reach_members(alloc, entity, request, originator, addr, group, rest)
+        }
+        Some(Spot::Poll(channel)) => {
+            Ok(reach_poll(alloc, entity, request, originator, channel)?)
+        }
+        None => Ok(refuse(alloc, request, Rsc::NotFound)?),
     }
 }
 
-// What it gives on the resource of a number.
-fn operate<T: Tree>(
+// What it gives at the fan-out point of the group of a number, where the rest of its address begins
+// at a place.
+#[tactic(auto, using(group_fanout::proofs::FanLemmas::none_cut))]
+fn reach_members<T: Tree>(
     alloc: Global,
     entity: &mut Entity<T>,
     request: &Request,
     originator: &[u8],
-    number: u64,
+    addr: &Addr,
+    group: u64,
+    place: u64,
+) -> Result<Reply, Starved>
+    requires originator { IsTrue (is_originator originator.now) }
+    requires claimed { claimed_originator entity.old.home request.now ≡ originator.now }
+    requires addressed { address_of entity.old.home request.now.to ≡ Ok addr.now }
+    ensures reply { IfOk result (λ r. r ≡ (fan_effect_at entity.old request.now
+        (rest_of entity.old.home request.now.to place) group).reply) }
+    ensures after { OnOk result (entity.new ≡ (fan_effect_at entity.old request.now
+        (rest_of entity.old.home request.now.to place) group).after) }
+    ensures cut { IfErr result (λ s. IsCutShortAt entity.old (fanned_at entity.old request.now
+        (rest_of entity.old.home request.now.to place) group) s.done entity.new) }
+{
+    let rest = rest_of(alloc, addr, place)?;
+    fan(alloc, entity, originator, request, group, &rest)
+}
+
+// The segments of a local address from a place on.
+fn rest_of(alloc: Global, addr: &Addr, place: u64) -> Result<Segments, OutOfMemory>
+    ensures { IfOk result (λ s. s ≡ drop place (segments_of addr.now)) }
+{
+    match addr {
+        Addr::Local(segments) => copied(alloc, from_place(segments.entries(), place)),
+        Addr::Foreign(_) | Addr::OtherProvider => Ok(Segments::of(Vec::new(alloc))),
+    }
+}
+
+fn from_place(segments: &[Text], place: u64) -> &[Text]
+    ensures { result.now ≡ drop place segments.now }
+{
+    if place < segments.len() as u64 {
+        &segments[place as usize..]
+    } else {
+        &[]
+    }
+}
+
+fn copied(alloc: Global, segments: &[Text]) -> Result<Segments, OutOfMemory>
+    ensures { IfOk result (λ s. s ≡ segments.now) }
+{
+    let mut texts = Vec::with_capacity(alloc, segments.len())?;
+    for segment in segments {
+        texts.push(segment.copy(alloc)?)?;
+    }
+    Ok(Segments::of(texts))
+}
+
+// Whether the resource of a number is there.
+fn is_there<T: Tree>(entity: &Entity<T>, number: u64) -> bool
+    ensures { result ≡ has number entity.now.nodes }
+{
+    match find(entity, number) {
+        Some(_) => true,
+        None => false,
+    }
+}
+
+// What it gives at the poll point of the channel of a number.
+fn reach_poll<T: Tree>(
+    alloc: Global,
+    entity: &mut Entity<T>,
+    request: &Request,
+    originator: &[u8],
+    channel: u64,
 ) -> Result<Reply, OutOfMemory>
-    requires served { IsTrue (spec.is_served request.now) }
     requires originator { IsTrue (is_originator originator.now) }
     requires claimed { claimed_originator entity.old.home request.now ≡ originator.now }
     ensures reply { IfOk result (λ r. r
-        ≡ (resource_effect entity.old request.now (at number entity.old.nodes)).reply) }
+        ≡ (spot_effect entity.old request.now (Some (Poll channel))).reply) }
     ensures after { OnOk result (entity.new
-        ≡ (resource_effect entity.old request.now (at number entity.old.nodes)).after) }
+        ≡ (spot_effect entity.old request.now (Some (Poll channel))).after) }
+    ensures err { OnErr result (entity.new ≡ entity.old) }
+{
+    if is_there(entity, channel) {
+        operate_poll(alloc, entity, request, originator, channel)
+    } else {
+        refuse(alloc, request, Rsc::NotFound)
+    }
+}
+
+// What its operation gives there.
+fn operate_poll<T: Tree>(
+    alloc: Global,
+    entity: &mut Entity<T>,
+    request: &Request,
+    originator: &[u8],
+    channel: u64,
+) -> Result<Reply, OutOfMemory>
+    requires originator { IsTrue (is_originator originator.now) }
+    requires claimed { claimed_originator entity.old.home request.now ≡ originator.now }
+    requires resource { IsTrue (has channel entity.old.nodes) }
+    ensures reply { IfOk result (λ r. r
+        ≡ (poll_effect request.now.op entity.old request.now channel).reply) }
+    ensures after { OnOk result (entity.new
+        ≡ (poll_effect request.now.op entity.old request.now channel).after) }
     ensures err { OnErr result (entity.new ≡ entity.old) }
 {
     match request.parts().op {
-        Op::Create => create(alloc, entity, originator, request, number),
-        Op::Retrieve => read_target(alloc, entity, request, originator, number),
-        Op::Update => update(alloc, entity, originator, request, number),
-        Op::Delete => delete(alloc, entity, originator, request, number),
-        Op::Notify => unreachable!(),
+        Op::Create => refuse_at_poll(alloc, entity, originator, request, channel),
+        Op::Retrieve => poll(alloc, entity, originator, request, channel),
+        Op::Update => refuse_at_poll(alloc, entity, originator, request, channel),
+        Op::Delete => refuse_at_poll(alloc, entity, originator, request, channel),
+        Op::Notify => answer_poll(alloc, entity, originator, request, channel),
     }
 }
 
-// What reading it gives.
-fn read_target<T: Tree>(
-    alloc: Global,
+// Whether the originator has the right that it needs there.
+fn has_right<T: Tree>(
     entity: &Entity<T>,
-    request: &Request,
     originator: &[u8],
-    number: u64,
-) -> Result<Reply, OutOfMemory>
+    request: &Request,
+    channel: u64,
+) -> bool
     requires originator { IsTrue (is_originator originator.now) }
     requires claimed { claimed_originator entity.now.home request.now ≡ originator.now }
-    ensures { IfOk result (λ r. r
-        ≡ (found_effect Retrieve entity.now request.now (at number entity.now.nodes)).reply) }
+    requires resource { IsTrue (has channel entity.now.nodes) }
+    ensures { result ≡ rights.has_right entity.now request.now channel }
 {
-    match find(entity, number) {
-        Some(target) => read_resource(alloc, entity, request, originator, target.number()),
-        None => refuse(alloc, request, Rsc::NotFound),
-    }
+    may_do(request.parts().op, entity, originator, request, channel)
 }
 
-fn read_resource<T: Tree>(
+// What isn't done there.
+fn refuse_at_poll<T: Tree>(
     alloc: Global,
     entity: &Entity<T>,
-    request: &Request,
     originator: &[u8],
-    number: u64,
+    request: &Request,
+    channel: u64,
 ) -> Result<Reply, OutOfMemory>
     requires originator { IsTrue (is_originator originator.now) }
     requires claimed { claimed_originator entity.now.home request.now ≡ originator.now }
-    requires resource { IsTrue (has number entity.now.nodes) }
-    ensures { IfOk result (λ r. r ≡ reading_reply entity.now request.now number) }
+    requires resource { IsTrue (has channel entity.now.nodes) }
+    ensures { IfOk result (λ r. r ≡ (poll_refusal entity.now request.now channel).reply) }
 {
-    let tree = &entity.tree;
-    let home = &entity.home;
-    if is_discovery(request) {
-        discover(alloc, tree, home, originator, request, number)
+    if has_right(entity, originator, request, channel) {
+        refuse(alloc, request, Rsc::NotAllowed)
     } else {
-        retrieve(alloc, tree, home, originator, request, number)
+        refuse(alloc, request, Rsc::NoPrivilege)
+    }
+}
+
+// The answer of who polled, which isn't kept.
+fn answer_poll<T: Tree>(
+    alloc: Global,
+    entity: &Entity<T>,
+    originator: &[u8],
+    request: &Request,
+    channel: u64,
+) -> Result<Reply, OutOfMemory>
+    requires originator { IsTrue (is_originator originator.now) }
+    requires claimed { claimed_originator entity.now.home request.now ≡ originator.now }
+    requires resource { IsTrue (has channel entity.now.nodes) }
+    ensures { IfOk result (λ r. r ≡ (answered_poll entity.now request.now channel).reply) }
+{
+    if !has_right(entity, originator, request, channel) {
+        return refuse(alloc, request, Rsc::NoPrivilege);
+    }
+    if has_answer(request) {
+        reply_to(alloc, request, Rsc::Ok, None)
+    } else {
+        refuse(alloc, request, Rsc::BadRequest)
     }
 }

@@ -1,15 +1,20 @@
 -- Replies that outcomes give, joined and compared.
-use Rattle.std.proofs.Common.{◌≡◌, List, [], ◌∷◌, ◌++◌, length, Some, None, refl, sym, ap, subst, ◌∙◌, arith, append_assoc, append-nil}
-use Rattle.std.proofs.lemmas.List.Elements.{All-tail}
+use Rattle.std.proofs.Common.{◌≡◌, ℕ, true, false, List, [], ◌∷◌, ◌++◌, length, Option, Some, None, Result, Ok, IfOk, inl, inr, refl, sym, ap, subst, ◌∙◌, arith, append_assoc, append-nil}
+use Rattle.std.proofs.lemmas.List.Elements.{All-head, All-tail}
 use Rattle.std.proofs.lemmas.Option.{same_Some}
 use Rattle.m2m_io.specs.Link.{Carrying}
 use Rattle.primitive_json.specs.declared.reply.ReplyParts.{ReplyParts}
 use Rattle.primitive_json.specs.declared.request.RequestParts.{RequestParts}
 use Rattle.cse_machine.specs.Answer.{starved}
 use Rattle.cse_machine.specs.declared.event.Outcome.{Outcome}
-use Rattle.cse_machine.specs.declared.event.Outcome.TheVariants.{Done, Item, Ticked, Starved}
-use Rattle.cse_server.specs.Way.{reply_of}
-use Rattle.cse_server.specs.Replies.{GivesReply, GivesReplies, IsAnsweredHere, WhatIsAnsweredHereIsNotCarried}
+use Rattle.cse_machine.specs.declared.event.Outcome.TheVariants.{Done, Forward, Item, Ticked, Starved}
+use Rattle.retarget.specs.Carries.{LinkTold}
+use Rattle.retarget.specs.Answers.{Carried}
+use Rattle.retarget.specs.Sending.{CarriesOne, answer_of}
+use Rattle.http_client_binding.specs.declared.target.Aim.TheVariants.{Peer}
+use Rattle.cse_server.specs.Way.{RepliesOver, reply_of}
+use Rattle.cse_server.specs.Replies.{GivesReply, GivesReplies, GoesOn, IsAnsweredHere, RepliesOnward, WhatIsAnsweredHereIsNotCarried}
+use Rattle.cse_server.proofs.LinkLemmas.{carries_nothing}
 
 -- one outcome
 pub gives-one : (request : RequestParts) (outcome : Outcome) (reply : ReplyParts) (carried : List Carrying)
@@ -47,52 +52,107 @@ gives-length (x ∷ xs) [] (p ∷ ps) es g = absurd g
 gives-length (x ∷ xs) (o ∷ os) [] es g = absurd g
 gives-length (x ∷ xs) (o ∷ os) (p ∷ ps) es g = let rest = gives-length xs os ps g.1 g.4 in omega (arith, rest)
 
--- an outcome that has no reply gives the one that memory ran out
-pub gives_starved : (request : RequestParts) (outcome : Outcome) → reply_of outcome ≡ None → GivesReply request outcome (starved request) []
-gives_starved request (Done answered) none = cc
-gives_starved request (Item given) none = (refl, refl)
-gives_starved request Ticked none = (refl, refl)
-gives_starved request (Starved done) none = (refl, refl)
+-- ---- one reply over a link
 
--- one that has a reply gives that
-pub gives_done : (request : RequestParts) (outcome : Outcome) (reply : ReplyParts) → reply_of outcome ≡ Some reply → GivesReply request outcome reply []
-gives_done request (Done answered) reply some = (sym (same_Some answered reply some), refl)
-gives_done request (Item given) reply some = cc
-gives_done request Ticked reply some = cc
-gives_done request (Starved done) reply some = cc
+-- the request doesn't go on
+abbrev pub StaysHere : Outcome → Type 0
+StaysHere outcome = (poa : List ℕ) (sent : RequestParts) → outcome ≡ Forward poa sent → ⊥
 
--- one outcome gives one reply, for which one list is carried
-reply_one_way : (request : RequestParts) (outcome : Outcome) (reply other : ReplyParts) (es fs : List Carrying)
-    → GivesReply request outcome reply es → GivesReply request outcome other fs → (reply ≡ other) × (es ≡ fs)
-reply_one_way request (Done answered) reply other es fs g h = (g.0 ∙ sym h.0, g.1 ∙ sym h.1)
-reply_one_way request (Item given) reply other es fs g h = (g.0 ∙ sym h.0, g.1 ∙ sym h.1)
-reply_one_way request Ticked reply other es fs g h = (g.0 ∙ sym h.0, g.1 ∙ sym h.1)
-reply_one_way request (Starved done) reply other es fs g h = (g.0 ∙ sym h.0, g.1 ∙ sym h.1)
+-- what is carried for a request that goes on
+pub onward_goes : (url : List ℕ) (sent : RequestParts) (reply : ReplyParts) (before now : LinkTold) (one : RepliesOnward url sent before now reply)
+    → GoesOn url sent reply (one.carrying ∷ [])
+onward_goes url sent reply before now one = record {
+  carrying = one.carrying;
+  once = refl;
+  made = one.made;
+  replies = one.came;
+}
 
--- the same outcomes of the same requests give the same replies, for which the same is carried
-pub gives_one_way : (xs : List RequestParts) (os : List Outcome) (ps qs : List ReplyParts) (es fs : List Carrying)
-    → GivesReplies xs os ps es → GivesReplies xs os qs fs → (ps ≡ qs) × (es ≡ fs)
-gives_one_way [] [] [] [] es fs g h = (refl, g ∙ sym h)
-gives_one_way [] [] [] (q ∷ qs) es fs g h = absurd h
-gives_one_way [] [] (p ∷ ps) qs es fs g h = absurd g
-gives_one_way [] (o ∷ os) [] qs es fs g h = absurd g
-gives_one_way [] (o ∷ os) (p ∷ ps) qs es fs g h = absurd g
-gives_one_way (x ∷ xs) [] [] qs es fs g h = absurd g
-gives_one_way (x ∷ xs) [] (p ∷ ps) qs es fs g h = absurd g
-gives_one_way (x ∷ xs) (o ∷ os) [] qs es fs g h = absurd g
-gives_one_way (x ∷ xs) (o ∷ os) (p ∷ ps) [] es fs g h = absurd h
-gives_one_way (x ∷ xs) (o ∷ os) (p ∷ ps) (q ∷ qs) es fs g h =
-    let first = reply_one_way x o p q g.0 h.0 g.3 h.3 in
-    let rest = gives_one_way xs os ps qs g.1 h.1 g.4 h.4 in
-    (cc (first.0, rest.0), g.2 ∙ (λ i. first.1 i ++ rest.1 i) ∙ sym h.2)
+-- the exchange of a request that goes on gave its reply
+pub onward_ok : (spelled url : List ℕ) (sent : RequestParts) (reply : ReplyParts) (before now : LinkTold) → spelled ≡ url
+    → CarriesOne sent spelled Peer before now (λ carrying. (carrying.starved ≡ false)
+    × ((answer : Option (List ℕ)) × (answer_of carrying ≡ Some answer) × Carried answer sent.rqi reply))
+    → RepliesOnward url sent before now reply
+onward_ok spelled url sent reply before now same carried =
+    subst (λ (u : List ℕ). RepliesOnward u sent before now reply) same
+    (record {
+      carrying = carried.carrying;
+      made = carried.made;
+      link = carried.link;
+      came = inr (carried.came.0, carried.came.1);
+    })
+
+-- memory ran out as it was carried
+pub onward_starved : (spelled url : List ℕ) (sent : RequestParts) (reply : ReplyParts) (before now : LinkTold) → spelled ≡ url
+    → CarriesOne sent spelled Peer before now (λ carrying. carrying.starved ≡ true) → reply ≡ starved sent
+    → RepliesOnward url sent before now reply
+onward_starved spelled url sent reply before now same carried is =
+    subst (λ (u : List ℕ). RepliesOnward u sent before now reply) same
+    (record {
+      carrying = carried.carrying;
+      made = carried.made;
+      link = carried.link;
+      came = inl (carried.came, is);
+    })
+
+module _ {E : Type 0} where
+  -- an outcome that is a reply
+  pub over_done : (request : RequestParts) (outcome : Outcome) (reply : ReplyParts) (told : LinkTold) → reply_of outcome ≡ Some reply
+      → RepliesOver {E = E} request outcome told told (Ok reply)
+  over_done request outcome reply told some = record {
+    reply = reply;
+    carried = [];
+    gives = gives_done request outcome reply some;
+    link = carries_nothing told;
+    replied = refl;
+  }
+    where
+      gives_done : (request : RequestParts) (outcome : Outcome) (reply : ReplyParts) → reply_of outcome ≡ Some reply → GivesReply request outcome reply []
+      gives_done request (Done answered) reply some = (sym (same_Some answered reply some), refl)
+      gives_done request (Forward poa sent) reply some = cc
+      gives_done request (Item given) reply some = cc
+      gives_done request Ticked reply some = cc
+      gives_done request (Starved done) reply some = cc
+
+  -- one by which the request goes on
+  pub over_forward : (request : RequestParts) (outcome : Outcome) (url : List ℕ) (sent : RequestParts) (reply : ReplyParts) (old new : LinkTold)
+      → outcome ≡ Forward url sent → RepliesOnward url sent old new reply
+      → RepliesOver {E = E} request outcome old new (Ok reply)
+  over_forward request outcome url sent reply old new is one = record {
+    reply = reply;
+    carried = one.carrying ∷ [];
+    gives = subst (λ (o : Outcome). GivesReply request o reply (one.carrying ∷ [])) (sym is) (onward_goes url sent reply old new one);
+    link = one.link;
+    replied = refl;
+  }
+
+  -- one that is no reply, where the request doesn't go on, gives that memory ran out
+  pub over_starved : (request : RequestParts) (outcome : Outcome) (told : LinkTold) (result : Result ReplyParts E)
+      → reply_of outcome ≡ None → StaysHere outcome → IfOk result (λ r. r ≡ starved request) → RepliesOver request outcome told told result
+  over_starved request outcome told result none here says = record {
+    reply = starved request;
+    carried = [];
+    gives = gives_starved request outcome none here;
+    link = carries_nothing told;
+    replied = says;
+  }
+    where
+      gives_starved : (request : RequestParts) (outcome : Outcome) → reply_of outcome ≡ None → StaysHere outcome → GivesReply request outcome (starved request) []
+      gives_starved request (Done answered) none here = cc
+      gives_starved request (Forward poa sent) none here = absurd (here poa sent refl)
+      gives_starved request (Item given) none here = (refl, refl)
+      gives_starved request Ticked none here = (refl, refl)
+      gives_starved request (Starved done) none here = (refl, refl)
 
 -- ---- what the entity itself answers
 
-no_cost : (request : RequestParts) (outcome : Outcome) (reply : ReplyParts) (carried : List Carrying) → GivesReply request outcome reply carried → carried ≡ []
-no_cost request (Done answered) reply carried g = g.1
-no_cost request (Item given) reply carried g = g.1
-no_cost request Ticked reply carried g = g.1
-no_cost request (Starved done) reply carried g = g.1
+no_cost : (request : RequestParts) (outcome : Outcome) (reply : ReplyParts) (carried : List Carrying)
+    → IsAnsweredHere outcome → GivesReply request outcome reply carried → carried ≡ []
+no_cost request (Done answered) reply carried here g = g.1
+no_cost request (Forward poa sent) reply carried here g = absurd here
+no_cost request (Item given) reply carried here g = g.1
+no_cost request Ticked reply carried here g = g.1
+no_cost request (Starved done) reply carried here g = g.1
 
 pub not_carried : WhatIsAnsweredHereIsNotCarried
 not_carried [] [] [] carried g here = g
@@ -101,4 +161,4 @@ not_carried [] (o ∷ os) ps carried g here = absurd g
 not_carried (x ∷ xs) [] ps carried g here = absurd g
 not_carried (x ∷ xs) (o ∷ os) [] carried g here = absurd g
 not_carried (x ∷ xs) (o ∷ os) (p ∷ ps) carried g here =
-    g.2 ∙ (λ i. no_cost x o p g.0 g.3 i ++ not_carried xs os ps g.1 g.4 (All-tail IsAnsweredHere o os here) i)
+    g.2 ∙ (λ i. no_cost x o p g.0 (All-head IsAnsweredHere o os here) g.3 i ++ not_carried xs os ps g.1 g.4 (All-tail IsAnsweredHere o os here) i)

@@ -17,6 +17,8 @@ use Rattle.primitive_json.specs.contracts.request.Request.TheInside as request_i
 use Rattle.primitive_json.specs.contracts.reply.ReplyParts as reply_parts
 use Rattle.primitive_json.specs.contracts.reply.Reply as reply
 use Rattle.primitive_json.specs.contracts.reply.Reply.TheInside as reply_inside
+use Rattle.retarget.specs.contracts.url.Url as url
+use Rattle.retarget.specs.contracts.url.Url.TheInside as url_inside
 use Rattle.cse_machine.specs.contracts.event.Event as event
 use Rattle.cse_machine.specs.contracts.event.Outcome as outcome
 
@@ -129,6 +131,17 @@ note_inside_send = declared_send note_inside.the_type (note_parts_send, tt)
 pub note_send : IsSend note.the_row
 note_send = record { owned = λ d vs x. (note_inside_send.owned x.0 vs, tt); leaving = λ k d w. tt }
 
+url_inside_send : IsSend url_inside.the_row
+url_inside_send = declared_send url_inside.the_type (text_send, tt)
+
+url_send : IsSend url.the_row
+url_send = record { owned = λ d vs x. (url_inside_send.owned x.0 vs, tt); leaving = λ k d w. tt }
+
 pub outcome_send : IsSend outcome.the_row
-outcome_send = variants_send outcome.enum
-    ((reply_send, tt), ((search (sendable, crosses, note_send) depth 20, tt), (tt, ((search (sendable, crosses) depth 20, tt), tt))))
+outcome_send = variants_send outcome.enum (
+  (reply_send, tt),
+  (
+    (url_send, (request_send, tt)),
+    ((search (sendable, crosses, note_send) depth 20, tt), (tt, ((search (sendable, crosses) depth 20, tt), tt))),
+  ),
+)

@@ -1,9 +1,10 @@
--- How a worker attends to a connection, and what is sent when no more connections come.
-use Rattle.std.specs.Prelude.{◌≡◌, ℕ, List, [], ◌∷◌, ◌++◌, Option}
-use Rattle.m2m_io.specs.Link.{Carrying, Exchange}
-use Rattle.cse_server.specs.Outside.{Carries, EndsByFault, LinkTold, SinkTold, link_told, outside}
+-- How a worker attends to a connection, and how the items of the outbox are sent beside it.
+use Rattle.std.specs.Prelude.{ℕ, List, Option}
+use Rattle.std.specs.declared.alloc.AllocError.{AllocError}
+use Rattle.std.specs.declared.result.Result.{Result}
+use Rattle.m2m_io.specs.Link.{Exchange}
+use Rattle.cse_server.specs.Outside.{EndsByFault, LinkTold, SinkTold, link_told, outside}
 use Rattle.cse_server.specs.Outside.{sink_told}
-use Rattle.m2m_io.specs.Told.{Tells}
 use Rattle.turn_desk.specs.Entries.{Marked}
 use Rattle.turn_desk.specs.Seats.{known_to}
 use Rattle.turn_desk.specs.Shared.{Grows}
@@ -14,6 +15,7 @@ use Rattle.cse_server.specs.declared.bench.Bench.{Bench}
 use Rattle.cse_server.specs.declared.connection.Ended.TheVariants.{ReadFault, WriteFault}
 use Rattle.cse_server.specs.declared.serving.Attended.{Attended}
 use Rattle.cse_server.specs.Connection.{Serves}
+use Rattle.cse_server.specs.Sending.{SendsItems}
 
 -- ---- connections
 
@@ -62,26 +64,11 @@ SeatGrows before more after = Grows (known_to before) more (known_to after)
 
 -- ---- items
 
--- an item of the outbox that was sent: the reading at which it was taken, and what was carried
-pub record Sending : Type 0 where
-  pub reading : ℕ
-  pub carried : List Carrying
-
-module _ {C L : Type 0} (clock : C → Option (List ℕ)) (link : L → LinkTold) where
-  -- an item was sent with what lies at a bench
-  pub record Sends (sending : Sending) (bench left : Bench C L) : Type 0 where
-    pub given : Tells (λ given. given ++ sending.reading ∷ [])
-        (clock bench.clock) (clock left.clock)
-    pub carried : Carries sending.carried (link bench.link) (link left.link)
-
-  -- items were sent, one after another, and nothing else was done
-  abbrev pub SendsInTurn : List Sending → Bench C L → Bench C L → Type 0
-  SendsInTurn [] bench left = left ≡ bench
-  SendsInTurn (sending ∷ rest) bench left =
-      (between : Bench C L) × Sends sending bench between × SendsInTurn rest between left
-
-  -- Of the items that were left in the outbox these were sent: none yet.
-  pub record SendsWhatIsLeft (bench left : Bench C L) : Type 0 where
-    pub sent : List Sending
-    pub none_yet : sent ≡ []
-    pub sends : SendsInTurn sent bench left
+-- By one call of `send_notes` the items that waited in an outbox were taken at a seat and sent, with
+-- what lies at a bench, and this came of it.
+pub record SendsFrom {S C L : Type 0} (grown : S → List (Marked Event Outcome) → S → Type 0)
+    (clock : C → Option (List ℕ)) (link : L → LinkTold)
+    (before : S) (bench : Bench C L) (after : S) (left : Bench C L) : Type 0 where
+  pub result : Result ℕ AllocError
+  pub sends : SendsItems grown before after (clock bench.clock) (clock left.clock)
+      (link bench.link) (link left.link) result

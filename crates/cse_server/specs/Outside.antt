@@ -1,12 +1,9 @@
 -- What the objects outside tell at one moment, and how it goes on.
-use Rattle.std.specs.Prelude.{◌≡◌, ◌≢◌, ◌≤◌, ℕ, ◌+◌, Bool, true, false, not, List, Option}
-use Rattle.std.specs.Prelude.{is_some}
-use Rattle.std.specs.List.{list_any}
-use Rattle.std.specs.Option.{option_map_or}
+use Rattle.std.specs.Prelude.{◌≡◌, ◌≢◌, ◌≤◌, ℕ, ◌+◌, List, Option}
 use Rattle.std.specs.Io.KnownBytes.{Appends}
 use Rattle.m2m_io.specs.Counts.{Rose}
-use Rattle.m2m_io.specs.Link.{Carrying, Exchange, TellsCarried}
 use Rattle.m2m_io.specs.Told.{AppendsPrefix, Tells}
+pub use Rattle.retarget.specs.Carries.{Carries, LinkTold, has_failed, link_told}
 
 -- what a sink tells: the bytes that were written, and by how many puts
 pub record SinkTold : Type 0 where
@@ -15,14 +12,6 @@ pub record SinkTold : Type 0 where
 
 abbrev pub sink_told : Option (List ℕ) → Option ℕ → SinkTold
 sink_told written puts = record { written = written; puts = puts }
-
--- what a link tells: the exchanges that it made; and how often it has failed
-pub record LinkTold : Type 0 where
-  pub exchanges : Option (List Exchange)
-  pub faults : ℕ
-
-abbrev pub link_told : Option (List Exchange) → ℕ → LinkTold
-link_told exchanges faults = record { exchanges = exchanges; faults = faults }
 
 -- What is told where a connection is served: the bytes that it has left, those that were written to
 -- it, the readings that the clock gave, and the exchanges that the link made; each where its object
@@ -48,18 +37,6 @@ pub record Puts (text : List ℕ) (count : ℕ) (before now : SinkTold) : Type 0
 pub record PutsPart (text : List ℕ) (before now : SinkTold) : Type 0 where
   pub written : AppendsPrefix before.written now.written text
   pub puts : Tells (λ puts. puts + 1) before.puts now.puts
-
--- the exchange that was made for a request failed: there is no answer
-abbrev pub has_failed : Carrying → Bool
-has_failed carrying = option_map_or (λ exchange. not (is_some exchange.answer)) carrying.made false
-
--- Requests were carried over a link, one after another: it tells the exchanges that were made, and
--- its count of faults didn't fall, and rose where one of them failed, and only there.
-pub record Carries (carried : List Carrying) (before now : LinkTold) : Type 0 where
-  pub told : TellsCarried carried before.exchanges now.exchanges
-  pub count : before.faults ≤ now.faults
-  pub cause : list_any has_failed carried ≡ true → Rose before.faults now.faults
-  pub steady : list_any has_failed carried ≡ false → now.faults ≡ before.faults
 
 -- Something ended so, and a device has failed so often before it and now: its count of faults
 -- didn't fall, and rose where it ended by this fault, and only there.

@@ -1,18 +1,49 @@
--- Which replies the outcomes of requests give, and what they cost.
-use Rattle.std.specs.Prelude.{◌≡◌, List, [], ◌∷◌, ◌++◌, ⊤}
+-- Which replies the outcomes of requests give, and what is carried for them.
+use Rattle.std.specs.Prelude.{◌≡◌, ◌⊎◌, ℕ, true, false, List, [], ◌∷◌, ◌++◌, Option, Some, ⊤}
+use Rattle.std.specs.Prelude.{IfSome}
 use Rattle.std.specs.List.{All}
 use Rattle.m2m_io.specs.Link.{Carrying}
 use Rattle.primitive_json.specs.declared.reply.ReplyParts.{ReplyParts}
 use Rattle.primitive_json.specs.declared.request.RequestParts.{RequestParts}
+use Rattle.http_client_binding.specs.declared.target.Aim.TheVariants.{Peer}
+use Rattle.retarget.specs.Answers.{Carried}
+use Rattle.retarget.specs.Carries.{LinkTold}
+use Rattle.retarget.specs.Sending.{CarriesOne, IsFor, answer_of}
 use Rattle.cse_machine.specs.Answer.{starved}
 use Rattle.cse_machine.specs.declared.event.Outcome.{Outcome}
-use Rattle.cse_machine.specs.declared.event.Outcome.TheVariants.{Done, Item, Ticked, Starved}
+use Rattle.cse_machine.specs.declared.event.Outcome.TheVariants.{Done, Forward, Item, Ticked}
+use Rattle.cse_machine.specs.declared.event.Outcome.TheVariants.{Starved}
 
--- The reply that the outcome of a request gives, and what is carried to neighbours for it: nothing,
--- as no request goes on to another entity yet. Where memory ran out, the reply says that it did; and
--- so it does for an outcome that no request has.
+-- What came of carrying a request gives this reply: the one that its exchange gives (TS-0001,
+-- 10.2.2); or, where memory ran out, that it did.
+abbrev pub RepliesBy : RequestParts → ReplyParts → Carrying → Type 0
+RepliesBy sent reply carrying =
+    ((carrying.starved ≡ true) × (reply ≡ starved sent))
+    ⊎ ((carrying.starved ≡ false)
+    × ((answer : Option (List ℕ)) × (answer_of carrying ≡ Some answer)
+    × Carried answer sent.rqi reply))
+
+-- A request was carried to the CSE at a URL over a link, which told `before` and tells `now`, and
+-- what came of that gives this reply.
+abbrev pub RepliesOnward : List ℕ → RequestParts → LinkTold → LinkTold → ReplyParts → Type 0
+RepliesOnward url sent before now reply =
+    CarriesOne sent url Peer before now (RepliesBy sent reply)
+
+-- A request goes on to the CSE at a URL: it is carried there, and only there, by one exchange, or
+-- by none where memory ran out before it; and what came of that gives this reply.
+pub record GoesOn (url : List ℕ) (sent : RequestParts) (reply : ReplyParts)
+    (carried : List Carrying) : Type 0 where
+  pub carrying : Carrying
+  pub once : carried ≡ carrying ∷ []
+  pub made : IfSome carrying.made (IsFor sent url Peer)
+  pub replies : RepliesBy sent reply carrying
+
+-- The reply that the outcome of a request gives, and what is carried to other CSEs for it: nothing,
+-- unless the request goes on to one. Where memory ran out, the reply says that it did; and so it
+-- does for an outcome that no request has.
 abbrev pub GivesReply : RequestParts → Outcome → ReplyParts → List Carrying → Type 0
 GivesReply request (Done answered) reply carried = (reply ≡ answered) × (carried ≡ [])
+GivesReply request (Forward poa sent) reply carried = GoesOn poa sent reply carried
 GivesReply request (Item given) reply carried = (reply ≡ starved request) × (carried ≡ [])
 GivesReply request Ticked reply carried = (reply ≡ starved request) × (carried ≡ [])
 GivesReply request (Starved done) reply carried = (reply ≡ starved request) × (carried ≡ [])
@@ -27,14 +58,15 @@ GivesReplies (request ∷ requests) (outcome ∷ outcomes) (reply ∷ replies) c
     × GivesReply request outcome reply first × GivesReplies requests outcomes replies later
 GivesReplies requests outcomes replies carried = ⊥
 
--- the entity itself answers, and no request goes on to another one: so it is with each outcome yet
+-- the entity itself answers, and the request doesn't go on to another CSE
 abbrev pub IsAnsweredHere : Outcome → Type 0
 IsAnsweredHere (Done answered) = ⊤
+IsAnsweredHere (Forward poa sent) = ⊥
 IsAnsweredHere (Item given) = ⊤
 IsAnsweredHere Ticked = ⊤
 IsAnsweredHere (Starved done) = ⊤
 
--- Where the entity itself answers each request, nothing is carried to a neighbour.
+-- Where the entity itself answers each request, nothing is carried to another CSE.
 abbrev pub WhatIsAnsweredHereIsNotCarried : Type 0
 WhatIsAnsweredHereIsNotCarried =
     (requests : List RequestParts) (outcomes : List Outcome)

@@ -3,7 +3,7 @@ use Rattle.std.specs.Prelude.{◌≡◌, ◌≢◌, ◌≤◌, ◌⊎◌, ℕ, �
 use Rattle.std.specs.Prelude.{Option, Some, None}
 use Rattle.std.specs.declared.result.Result.{Result}
 use Rattle.std.specs.declared.result.Result.TheVariants.{Ok, Err}
-use Rattle.m2m_io.specs.Link.{Carrying, Exchange}
+use Rattle.m2m_io.specs.Link.{Carrying}
 use Rattle.m2m_io.specs.Told.{Tells}
 use Rattle.primitive_json.specs.declared.note.Dest.{Dest}
 use Rattle.primitive_json.specs.declared.note.Dest.TheVariants.{Direct, Peer, Channel, Nowhere}
@@ -11,8 +11,6 @@ use Rattle.primitive_json.specs.declared.note.NoteParts.{NoteParts}
 use Rattle.primitive_json.specs.declared.request.RequestParts.{RequestParts}
 use Rattle.turn_desk.specs.Entries.{Marked, entry_of}
 use Rattle.turn_desk.specs.Growth.{Asks, AsksAll}
-use Rattle.http_client_binding.specs.Asking.{request_text}
-use Rattle.http_client_binding.specs.TargetWriting.{host_of}
 use Rattle.http_client_binding.specs.declared.target.Aim.{Aim}
 use Rattle.http_client_binding.specs.declared.target.Aim.TheVariants.{Direct as ToTarget}
 use Rattle.http_client_binding.specs.declared.target.Aim.TheVariants.{Peer as ToPeer}
@@ -21,16 +19,9 @@ use Rattle.cse_machine.specs.declared.event.Event.TheVariants.{Take}
 use Rattle.cse_machine.specs.declared.event.Outcome.{Outcome}
 use Rattle.cse_machine.specs.declared.event.Outcome.TheVariants.{Item}
 use Rattle.cse_server.specs.Outside.{Carries, LinkTold}
+use Rattle.retarget.specs.Sending.{exchange_for}
 
 -- ---- one item
-
--- the exchange for a request to a URL: its host is asked, and this is answered, or it failed
-abbrev pub exchange_for : RequestParts → List ℕ → Aim → Option (List ℕ) → Exchange
-exchange_for request url aim answer = record {
-  host = host_of url;
-  request = request_text request url aim;
-  answer = answer;
-}
 
 -- that exchange was made, and there was memory for it
 abbrev pub carried_to : List ℕ → Aim → RequestParts → Option (List ℕ) → List Carrying

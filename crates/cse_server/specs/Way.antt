@@ -12,7 +12,8 @@ use Rattle.http_frames.specs.declared.fault.PutFault.TheVariants.{WriteFault as 
 use Rattle.http_frames.specs.declared.fault.PutFault.TheVariants.{OutOfMemory as PutMemory}
 use Rattle.cse_machine.specs.declared.event.Event.{Event}
 use Rattle.cse_machine.specs.declared.event.Outcome.{Outcome}
-use Rattle.cse_machine.specs.declared.event.Outcome.TheVariants.{Done, Item, Ticked, Starved}
+use Rattle.cse_machine.specs.declared.event.Outcome.TheVariants.{Done, Forward, Item, Ticked}
+use Rattle.cse_machine.specs.declared.event.Outcome.TheVariants.{Starved}
 use Rattle.cse_server.specs.declared.connection.Ended.{Ended}
 use Rattle.cse_server.specs.declared.connection.Ended.TheVariants.{Closed, NoFrame, ReadFault}
 use Rattle.cse_server.specs.declared.connection.Ended.TheVariants.{WriteFault, Memory}
@@ -41,9 +42,10 @@ pub record Goes {S : Type 0} (place next : ℕ) (grown : S → List (Marked Even
   pub stream : Leads old.left heard new.left
   pub said : Puts (reply_texts heard place asks.replies) (length heard) old.out new.out
 
--- the reply that an outcome has
+-- the reply that an outcome is
 abbrev pub reply_of : Outcome → Option ReplyParts
 reply_of (Done reply) = Some reply
+reply_of (Forward poa sent) = None
 reply_of (Item given) = None
 reply_of Ticked = None
 reply_of (Starved done) = None

@@ -226,8 +226,9 @@ where
 /// for it, to one of HTTP/1.0 and to the 10,000th. Where no frame can stand, one last reply says
 /// so. Each reply is written by one call of the connection. Where memory runs out in the event of a
 /// request, its reply says so and the connection goes on; elsewhere it ends the connection, and a
-/// reply for which it ran out isn't begun. The link is for requests that go on to another entity;
-/// none do as yet.
+/// reply for which it ran out isn't begun. A request that goes on to another CSE is carried over
+/// the link once the desk has answered, and its exchange gives its reply; where memory runs out in
+/// carrying it, the reply says so.
 pub fn serve_connection<D, X, C, L>(
     alloc: Global,
     desk: &D,

@@ -32,7 +32,7 @@ mod wire;
 pub use bench::Bench;
 pub use closing::MOST_FRAMES;
 pub use connection::{Ended, serve_connection};
-pub use replying::bare_reply;
+pub use replying::{bare_reply, reply_onward};
 pub use sending::{MOST_ITEMS, send_notes};
 pub use served::Served;
 pub use serving::serve;

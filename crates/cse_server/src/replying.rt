@@ -12,6 +12,7 @@ ghost use Rattle.cse_server.specs.Talk as spec;
 ghost use Rattle.cse_server.specs.Talk.{last_reply};
 ghost use Rattle.cse_server.specs.Way as way;
 ghost use Rattle.cse_server.specs.Way.{RepliesOver};
+ghost use Rattle.cse_server.specs.Replies.{RepliesOnward};
 
 use cse_machine::Outcome;
 use http_binding::{ReplyRoom, echo_id, write_reply_text};
@@ -19,7 +20,8 @@ use http_frames::{Frame, PutFault};
 use m2m_io::{Connection, Link};
 use m2m_names::Rsc;
 use m2m_value::Text;
-use primitive_json::{Reply, ReplyParts};
+use primitive_json::{Reply, ReplyParts, Request, RequestParts};
+use retarget::{Url, carry};
 use std::alloc::{AllocError as OutOfMemory, Global};
 
 /// A reply without content, with the identifier of the request where one is known.
@@ -58,7 +60,7 @@ fn starved_reply(alloc: Global, frame: &Frame) -> Result<Reply, OutOfMemory>
     Ok(bare_reply(Rsc::Internal, rqi))
 }
 
-/// The reply that an outcome has, if it has one.
+/// The reply that an outcome is, if it is one.
 fn reply_of(outcome: Outcome) -> Option<Reply>
     ensures { result ≡ way.reply_of outcome }
 {
@@ -68,8 +70,28 @@ fn reply_of(outcome: Outcome) -> Option<Reply>
     }
 }
 
-/// The reply to the request of a frame by the outcome of its event. The link is for requests that
-/// go on to another entity; none do as yet.
+/// The reply to a request for which memory ran out as it was carried. Takes no memory.
+fn uncarried_reply(request: Request) -> Reply
+    ensures { result ≡ starved request }
+{
+    let RequestParts { rqi, .. } = request.into_parts();
+    bare_reply(Rsc::Internal, Some(rqi))
+}
+
+/// The reply to a request that goes on to the CSE at a URL: the one that its exchange over the link
+/// gives, or that memory ran out.
+pub fn reply_onward<L: Link>(alloc: Global, link: &mut L, poa: &Url, request: Request) -> Reply
+    ensures { RepliesOnward poa.now request (link_told (L.exchanges link.old) (L.faults link.old))
+        (link_told (L.exchanges link.new) (L.faults link.new)) result }
+{
+    match carry(alloc, link, poa.entries(), &request) {
+        Ok(reply) => reply,
+        Err(_) => uncarried_reply(request),
+    }
+}
+
+/// The reply to the request of a frame by the outcome of its event. The link is for a request that
+/// goes on to another CSE.
 pub(crate) fn reply_by<L: Link>(
     alloc: Global,
     link: &mut L,
@@ -80,9 +102,12 @@ pub(crate) fn reply_by<L: Link>(
         → RepliesOver request outcome (link_told (L.exchanges link.old) (L.faults link.old))
         (link_told (L.exchanges link.new) (L.faults link.new)) result }
 {
-    match reply_of(outcome) {
-        Some(reply) => Ok(reply),
-        None => starved_reply(alloc, frame),
+    match outcome {
+        Outcome::Forward { poa, request } => Ok(reply_onward(alloc, link, &poa, request)),
+        other => match reply_of(other) {
+            Some(reply) => Ok(reply),
+            None => starved_reply(alloc, frame),
+        },
     }
 }
 

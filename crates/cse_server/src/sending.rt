@@ -84,7 +84,8 @@ where
     let reading = clock.now();
     match desk.ask(seat, reading, Event::Take) {
         Outcome::Item(note) => Ok(note),
-        Outcome::Done(_) | Outcome::Ticked | Outcome::Starved { .. } => Err(OutOfMemory),
+        Outcome::Done(_) | Outcome::Forward { .. } | Outcome::Ticked | Outcome::Starved { .. } =>
+            Err(OutOfMemory),
     }
 }
 

@@ -1,19 +1,33 @@
 //! A server: many connections, answered out of one object that all share (TS-0009, 6).
-ghost use Rattle.std.specs.Prelude.{◌≡◌, ◌≤◌, vec_len, IfOk, IfErr};
-ghost use Rattle.cse_server.specs.Attending.{Attends, SeatGrows, SendsWhatIsLeft, conn_tells};
-ghost use Rattle.cse_server.specs.Attending.{link_tells};
+ghost use Rattle.std.specs.Prelude.{◌≤◌, vec_len};
+ghost use Rattle.cse_server.specs.Attending.{Attends, SeatGrows, SendsFrom, conn_tells, link_tells};
 ghost use Rattle.turn_desk.specs.Seats.{IsSeated};
 ghost use Rattle.workers.specs.Gate.{door_tells};
 ghost use Rattle.workers.specs.Serving.{EndsServing};
 
-use crate::{Bench, Ended, serve_connection};
+use crate::{Bench, Ended, send_notes, serve_connection};
+use change_signal::{ChangeSignal, SignallingDesk, Watch};
 use cse_machine::{Event, Outcome};
 use m2m_io::{Clock, Connection, Door, Link};
+use primitive_json::retrieves;
 use std::alloc::Global;
 use std::sync::Wait;
 use std::thread::Threads;
 use turn_desk::{Desk, DeskSeat, Object, TurnDesk};
-use workers::{ServeFault, Service, serve_with};
+use workers::{Errand, ServeFault, Service, serve_with};
+
+/// Requests may change what is asked, all but a Retrieve.
+#[derive(Drop)]
+struct OfRequests;
+
+impl Watch<Event> for OfRequests {
+    fn may_change(&self, event: &Event) -> bool {
+        match event {
+            Event::Ask(request) => !retrieves(request.parts().op),
+            Event::Take | Event::Tick => false,
+        }
+    }
+}
 
 /// A connection that was attended to, and how it ended. Attending alone makes one.
 #[derive(Drop)]
@@ -23,13 +37,14 @@ pub(crate) struct Attended<X> {
 }
 
 /// Attends to a connection as HTTP: its frames are answered by what the desk answers their
-/// requests.
+/// requests. Each that may change something gives the signal.
 #[derive(Drop)]
-struct HttpService {
+struct HttpService<'a> {
     alloc: Global,
+    signal: &'a ChangeSignal,
 }
 
-impl<K, X, C, L> Service<K, X, Bench<C, L>, Attended<X>> for HttpService
+impl<K, X, C, L> Service<K, X, Bench<C, L>, Attended<X>> for HttpService<'_>
 where
     K: Desk<Event = Event, Outcome = Outcome>,
     X: Connection + Drop,
@@ -50,17 +65,49 @@ where
         bench: &mut Bench<C, L>,
     ) -> Attended<X> {
         let Bench { clock, link } = bench;
-        let ended = serve_connection(self.alloc, desk, seat, &mut conn, clock, link);
+        let asked = SignallingDesk::new(desk, self.signal, OfRequests);
+        let ended = serve_connection(self.alloc, &asked, seat, &mut conn, clock, link);
         Attended { conn, ended }
+    }
+}
+
+/// Sends what waits in the outbox, when the signal is given.
+#[derive(Drop)]
+struct Sender<'a> {
+    alloc: Global,
+    signal: &'a ChangeSignal,
+}
+
+impl<K, C, L> Errand<K, Bench<C, L>> for Sender<'_>
+where
+    K: Desk<Event = Event, Outcome = Outcome>,
+    C: Clock,
+    L: Link,
+{
+    ghost use Rattle.cse_server.specs.Attending.{SendsFrom, link_tells};
+
+    ghost does = { SendsFrom K.grown C.readings (link_tells L.exchanges L.faults) };
+
+    fn signal(&self) -> &ChangeSignal {
+        self.signal
+    }
+
+    // What couldn't be sent for want of memory waits for the next round.
+    fn run(&self, desk: &K, seat: &mut K::Seat, bench: &mut Bench<C, L>) {
+        let Bench { clock, link } = bench;
+        let _ = send_notes(self.alloc, desk, seat, clock, link);
     }
 }
 
 /// Serves the connections of a door until it gives no more: it gave None, failed, or gave as many
 /// as `accept` says. Each bench but the last is a worker's, with a seat of its own that is split
 /// off this one; it takes a connection under the door's lock, which it holds for that alone, serves
-/// it by `serve_connection`, and takes the next. The last bench is for what is left when they have
-/// ended. A server doesn't send what waits in the outbox yet, so `first` stays as it is. All seats
-/// are joined into the one that comes back, with the door. What a connection ended with doesn't
+/// it by `serve_connection`, and takes the next. The last bench is the sender's, which calls
+/// `send_notes` beside the workers, at a seat of its own: as soon as a request but a Retrieve was
+/// answered, else a tenth of a second behind a Retrieve, and about once a second where nobody asks.
+/// It ends when no worker is left. No worker waits for it, and nothing is sent within a question.
+/// All seats are joined into the one that comes back, with the door, and `send_notes` is called
+/// once more there, with `first`. What a connection or a call of `send_notes` ended with doesn't
 /// change the answer.
 pub fn serve<R, O, D, C, L>(
     rt: &R,
@@ -84,25 +131,26 @@ where
     // Seat and door come back, with the fault where one ended it, as from workers. What the seat
     // has gained is what attending to connections gave: each was answered with exactly the replies
     // that the object of the desk gives the requests of its bytes, one after another, as far as it
-    // ended so.
+    // ended so; and what calls of `send_notes` gave: those at the last bench, and last one with
+    // `first`, which stays as it is where memory ran out before.
     ensures ends { let attends = Attends SeatGrows
         (conn_tells D.Conn.left D.Conn.written D.Conn.puts D.Conn.Source.faults
         D.Conn.Sink.faults) C.readings (link_tells L.exchanges L.faults) in
+        let sends = SendsFrom SeatGrows C.readings (link_tells L.exchanges L.faults) in
         EndsServing O.step desk.now.table.shared.table_id
-        (door_tells D.opened D.given D.ended D.faults) attends accept benches.items seat door
-        result }
-
-    // Nothing is sent yet of what is left in the outbox then, so the first bench stays as it was.
-    ensures first { IfOk result (λ _. SendsWhatIsLeft C.readings (link_tells L.exchanges L.faults)
-        first.old first.new) }
-    ensures first_at_fault { IfErr result (λ e. e.2 ≡ ServeFault.DoorFault
-        → SendsWhatIsLeft C.readings (link_tells L.exchanges L.faults) first.old first.new) }
-    ensures first_at_memory { IfErr result (λ e. e.2 ≡ ServeFault.OutOfMemory
-        → first.new ≡ first.old) }
+        (door_tells D.opened D.given D.ended D.faults) attends sends accept benches.items
+        first.old first.new seat door result }
 {
-    let _ = first;
-    let service = HttpService { alloc };
-    serve_with::<R, O, D, Bench<C, L>, Attended<D::Conn>, HttpService>(
-        rt, alloc, desk, seat, door, accept, benches, &service,
+    let signal = ChangeSignal::new();
+    let service = HttpService {
+        alloc,
+        signal: &signal,
+    };
+    let sender = Sender {
+        alloc,
+        signal: &signal,
+    };
+    serve_with::<R, O, D, Bench<C, L>, Attended<D::Conn>, HttpService<'_>, Sender<'_>>(
+        rt, alloc, desk, seat, door, accept, first, benches, &service, &sender,
     )
 }

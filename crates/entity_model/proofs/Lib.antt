@@ -6,6 +6,7 @@ pub mod ExpiryLemmas
 pub mod WaitingLemmas
 pub mod SpentLemmas
 pub mod LoweringLemmas
+pub mod OnePassLemmas
 pub mod TellingLemmas
 pub mod SweepingLemmas
 pub mod UntoldLemmas

@@ -70,7 +70,7 @@ each_stays P picks stayed (r ∷ nodes) each = elim (cases_Bool (stays picks sta
 ]
 
 -- passes that agree on each
-stays_agree : (p q : ResourceData → Bool) (stayed nodes : List ResourceData) → AllByRecursion (λ r. p r ≡ q r) nodes → staying p stayed nodes ≡ staying q stayed nodes
+pub stays_agree : (p q : ResourceData → Bool) (stayed nodes : List ResourceData) → AllByRecursion (λ r. p r ≡ q r) nodes → staying p stayed nodes ≡ staying q stayed nodes
 stays_agree p q stayed [] each = refl
 stays_agree p q stayed (r ∷ nodes) each =
     let same : stays p stayed r ≡ stays q stayed r = ap (λ b. not b && ((r.parent == 0) || has r.parent stayed)) each.0 in
@@ -79,7 +79,7 @@ stays_agree p q stayed (r ∷ nodes) each =
       | inr f ↦ rw (same ∙ f, f) (stays_agree p q stayed nodes each.1)
     ]
 
-map_agree : (g h : ResourceData → ResourceData) (nodes : List ResourceData) → AllByRecursion (λ r. g r ≡ h r) nodes → map g nodes ≡ map h nodes
+pub map_agree : (g h : ResourceData → ResourceData) (nodes : List ResourceData) → AllByRecursion (λ r. g r ≡ h r) nodes → map g nodes ≡ map h nodes
 map_agree g h [] each = refl
 map_agree g h (r ∷ nodes) each = ap (λ (s : ResourceData). s ∷ map g nodes) each.0 ∙ ap (λ (rs : List ResourceData). h r ∷ rs) (map_agree g h nodes each.1)
 
@@ -117,20 +117,20 @@ recounted_map n left (r ∷ nodes) order =
 
 -- ---- the list by what is left at each number
 
-abbrev by_more : Option ℕ → Option ℕ → Option ℕ
+abbrev pub by_more : Option ℕ → Option ℕ → Option ℕ
 by_more None old = None
 by_more (Some left) old = cond (has_more left old) (Some left) None
 
-abbrev left_by : (ℕ → Option ℕ) → ResourceData → Option ℕ
+abbrev pub left_by : (ℕ → Option ℕ) → ResourceData → Option ℕ
 left_by h r = by_more (h r.number) (left_to r)
 
-abbrev spent_as : Option ℕ → Bool
+abbrev pub spent_as : Option ℕ → Bool
 spent_as o = option_map_or (λ left. left == 0) o false
 
-abbrev turned_as : Option ℕ → ResourceData → ResourceData
+abbrev pub turned_as : Option ℕ → ResourceData → ResourceData
 turned_as o r = option_map_or (λ left. recounted left r) o r
 
-abbrev nodes_by : (ResourceData → Option ℕ) → List ResourceData → List ResourceData
+abbrev pub nodes_by : (ResourceData → Option ℕ) → List ResourceData → List ResourceData
 nodes_by left nodes = map (λ r. turned_as (left r) r) (without (λ r. spent_as (left r)) nodes)
 
 -- where the same is left to each
@@ -141,7 +141,7 @@ nodes_agree left other nodes each =
     (each_weaker (λ r. left r ≡ other r) (λ r. turned_as (left r) r ≡ turned_as (other r) r) (λ r e. ap (λ (o : Option ℕ). turned_as o r) e) (without (λ r. spent_as (other r)) nodes)
     (each_stays (λ r. left r ≡ other r) (λ r. spent_as (other r)) [] nodes each))
 
-each_unpicked : (P : ResourceData → Type 0) (p : ResourceData → Bool) (nodes : List ResourceData) → list_any p nodes ≡ false → ((r : ResourceData) → p r ≡ false → P r) → AllByRecursion P nodes
+pub each_unpicked : (P : ResourceData → Type 0) (p : ResourceData → Bool) (nodes : List ResourceData) → list_any p nodes ≡ false → ((r : ResourceData) → p r ≡ false → P r) → AllByRecursion P nodes
 each_unpicked P p [] none by = tt
 each_unpicked P p (r ∷ nodes) none by = let parts = or_parts (p r) (list_any p nodes) none in (by r parts.0, each_unpicked P p nodes parts.1 by)
 
@@ -262,10 +262,10 @@ tree_lowered n left nodes tree = elim (cases_Bool (has_more left (left_at nodes 
   | inr f ↦ rw f tree
 ]
 
-others_after : (row : ℕ × ℕ) (rows : List (ℕ × ℕ)) (m : ℕ) → nat_eq m row.0 ≡ false → left_in (row ∷ rows) m ≡ left_in rows m
+pub others_after : (row : ℕ × ℕ) (rows : List (ℕ × ℕ)) (m : ℕ) → nat_eq m row.0 ≡ false → left_in (row ∷ rows) m ≡ left_in rows m
 others_after row rows m other = rw (same_number m row.0 ∙ other) refl
 
-own_first : (row : ℕ × ℕ) (rows : List (ℕ × ℕ)) → left_in (row ∷ rows) row.0 ≡ Some row.1
+pub own_first : (row : ℕ × ℕ) (rows : List (ℕ × ℕ)) → left_in (row ∷ rows) row.0 ≡ Some row.1
 own_first row rows = rw (same_number row.0 row.0 ∙ eq-eqb row.0 row.0 refl) refl
 
 nothing_by : (nodes : List ResourceData) → is_tree nodes ≡ true → nodes ≡ nodes_by (left_by (left_in [])) nodes

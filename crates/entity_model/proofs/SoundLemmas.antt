@@ -296,11 +296,10 @@ sound_expired moment e later small sound =
 pub sound_removed : (p : ResourceData → Bool) (e : EntityData) → IsSoundEntity e → spares_first p e.nodes ≡ true → IsSoundEntity (record e { nodes = without p e.nodes })
 sound_removed p e sound spared = sound_left p e e.last e.items sound spared sound.last (none_due_left p e.nodes e.last (tree_from_well_formed e.nodes sound.tree) sound.due) sound.waiting sound.moments
 
--- and so is what is left where an item is taken
-pub sound_taken : (p : Item → Bool) (e : EntityData) → IsSoundEntity e → IsSoundEntity (record e { items = without_first p e.items })
-sound_taken p e sound =
+-- and so is an entity with other items, which are in order and of which none has waited too long
+pub sound_items : (e : EntityData) (items : List Item) (numbered : ℕ) → IsSoundEntity e → list_all (is_waiting e.last) items ≡ true → do_not_fall items ≡ true → IsSoundEntity (record e { items = items; numbered = numbered })
+sound_items e items numbered sound waiting moments =
     let framed = framed_from e sound in
-    let tree = tree_from_well_formed e.nodes sound.tree in
     sound_framed _ (record {
       numbers = framed.numbers;
       next = framed.next;
@@ -317,9 +316,16 @@ sound_taken p e sound =
       channels = framed.channels;
       sizes = framed.sizes;
       last = framed.last;
-      waiting = all_without p (is_waiting e.last) e.items framed.waiting;
-      moments = order_without p e.items framed.moments;
+      waiting = waiting;
+      moments = moments;
     }) sound.limits sound.due
+
+-- such as what is left where an item is taken
+pub sound_taken : (p : Item → Bool) (e : EntityData) → IsSoundEntity e → IsSoundEntity (record e { items = without_first p e.items })
+sound_taken p e sound =
+    sound_items e (without_first p e.items) e.numbered sound
+    (all_without p (is_waiting e.last) e.items sound.waiting)
+    (order_without p e.items sound.moments)
 
 -- where no time passes, nothing is due
 pub expired_still : (reading : ℕ) (e : EntityData) → IsSoundEntity e → cut reading ≤ e.last → expired (event_moment e.last reading) e ≡ e

@@ -1,12 +1,7 @@
 -- What is told, carried out; and what an expiry takes and tells.
-use Rattle.std.proofs.Common.{◌≡◌, ◌≢◌, ℕ, List, [], ◌∷◌, ◌++◌, Bool, true, false, cond, Option, Some, None, inl, inr, refl, sym, ap, ◌∙◌, subst}
-use Rattle.std.proofs.lemmas.Bool.{cases_Bool, lt-ltb}
-use Rattle.std.specs.List.{filter, AllByRecursion}
-use Rattle.std.specs.List.Sorted.{IsStrictlySortedBy}
+use Rattle.std.proofs.Common.{◌≡◌, ◌≢◌, ℕ, List, [], ◌++◌, Bool, true, false, cond, Option, Some, None, inl, inr, sym, ap, ◌∙◌, subst}
+use Rattle.std.proofs.lemmas.Bool.{cases_Bool}
 use Rattle.std.specs.Option.{option_and_then}
-use Rattle.std.specs.Ordering.{nat_cmp}
-use Rattle.std.specs.Prelude.{nat_lt}
-use Rattle.std.specs.declared.cmp.Ordering.TheVariants.{Less}
 use Rattle.notify_outbox.specs.declared.item.Item.{Item}
 use Rattle.attribute_rules.specs.Kinds.{are_kinds}
 use Rattle.primitive_json.specs.declared.note.NoteParts.{NoteParts}
@@ -15,17 +10,16 @@ use Rattle.subscription_match.specs.Spending.{left_to, nodes_spent}
 use Rattle.subscription_match.specs.declared.drafts.DraftParts.{DraftParts}
 use Rattle.subscription_match.specs.Notices.{notes_of_all}
 use Rattle.tree_model.specs.Changes.{removal_changes}
-use Rattle.tree_model.specs.Tree.{at, is_due, is_spared, is_tree, live, numbers_of, overdue_numbers, without, DoAscend}
+use Rattle.tree_model.specs.Tree.{at, is_due, is_spared, is_tree, live, overdue_numbers, without}
 use Rattle.tree_model.proofs.GrowthLemmas.{at-without, tree_from_well_formed}
 use Rattle.tree_model.proofs.LiveLemmas.{without_none}
-use Rattle.tree_model.proofs.OrderLemmas.{above_parts, are_above, ascend, ascend_filter, ascend_parts, tree_ascends}
 use Rattle.tree_model.proofs.OverdueLemmas.{all_live}
 use Rattle.tree_model.proofs.QuietLemmas.{number_passes}
 use Rattle.entity_model.specs.Entity.{EntityData, expired, expired_told, items_from, numbered_after, still_waiting, with_told}
 use Rattle.entity_model.specs.Expiry.{is_some_due}
 use Rattle.entity_model.specs.Sound.{IsSoundEntity}
 use Rattle.entity_model.specs.Telling.{all_lowered_to, IsTold, LeavesWhoIsTold}
-use Rattle.entity_model.specs.declared.telling.Told.{Told}
+use Rattle.entity_model.specs.declared.told.Told.{Told}
 use Rattle.entity_model.proofs.LoweringLemmas.{lowered_is, once_sorted}
 use Rattle.entity_model.proofs.SpentLemmas.{counts_to}
 use Rattle.entity_model.proofs.TellingLemmas.{nothing_told}
@@ -56,23 +50,6 @@ without_leaves picks drafts nodes tree r found some =
     sym (ap (option_and_then left_to) was)
 
 -- ---- what an expiry takes
-
-ascends_above : (n : ℕ) (rs : List ResourceData) → are_above n rs ≡ true → AllByRecursion (λ m. nat_cmp n m ≡ Less) (numbers_of rs)
-ascends_above n [] above = tt
-ascends_above n (r ∷ rs) above =
-    let parts = above_parts n r rs above in
-    let less : nat_lt n r.number ≡ true = lt-ltb n r.number parts.first in
-    (rw less refl, ascends_above n rs parts.rest)
-
-do_ascend : (rs : List ResourceData) → ascend rs ≡ true → DoAscend (numbers_of rs)
-unfolding IsStrictlySortedBy
-do_ascend [] order = tt
-do_ascend (r ∷ rs) order =
-    let parts = ascend_parts r rs order in
-    (ascends_above r.number rs parts.above, do_ascend rs parts.rest)
-
-pub picked_ascend : (picks : ResourceData → Bool) (nodes : List ResourceData) → is_tree nodes ≡ true → DoAscend (numbers_of (filter picks nodes))
-picked_ascend picks nodes tree = do_ascend (filter picks nodes) (ascend_filter picks nodes (tree_ascends nodes tree))
 
 -- what is taken is due
 pub some_due : (moment : ℕ) (nodes : List ResourceData) → is_tree nodes ≡ true → overdue_numbers moment nodes ≢ [] → is_some_due nodes moment ≡ true

@@ -17,33 +17,17 @@ use Rattle.entity_model.specs.Entity.{EntityData, cut, event_moment, expired, sw
 use Rattle.entity_model.specs.Expiry.{expiry_changes}
 use Rattle.entity_model.specs.Sound.{IsSoundEntity}
 use Rattle.entity_model.proofs.SpentLemmas.{sound_spent}
-use Rattle.entity_model.proofs.SoundLemmas.{expired_still, framed_from, moment_small, sound_expired, sound_framed}
+use Rattle.entity_model.proofs.SoundLemmas.{expired_still, moment_small, sound_expired, sound_items}
 use Rattle.entity_model.proofs.WaitingLemmas.{order_noted, waiting_noted}
 
 -- ---- soundness
 
-sound_notes : (notes : List NoteParts) (e : EntityData) → IsSoundEntity e → IsSoundEntity (with_notes notes e)
+-- notes that are appended leave an entity sound
+pub sound_notes : (notes : List NoteParts) (e : EntityData) → IsSoundEntity e → IsSoundEntity (with_notes notes e)
 sound_notes notes e sound =
-    let framed = framed_from e sound in
-    sound_framed _ (record {
-      numbers = framed.numbers;
-      next = framed.next;
-      ids = framed.ids;
-      tree = framed.tree;
-      base = framed.base;
-      names = framed.names;
-      home = framed.home;
-      depth = framed.depth;
-      count = framed.count;
-      kinds = framed.kinds;
-      tags = framed.tags;
-      cses = framed.cses;
-      channels = framed.channels;
-      sizes = framed.sizes;
-      last = framed.last;
-      waiting = waiting_noted notes e.numbered e.last e.items framed.waiting;
-      moments = order_noted notes e.numbered e.last e.items framed.moments framed.waiting;
-    }) sound.limits sound.due
+    sound_items e _ _ sound
+    (waiting_noted notes e.numbered e.last e.items sound.waiting)
+    (order_noted notes e.numbered e.last e.items sound.moments sound.waiting)
 
 pub sound_told : (before : List ResourceData) (drafts : List DraftParts) (e : EntityData) → IsSoundEntity e → IsSoundEntity (with_told before drafts e)
 sound_told before drafts e sound = sound_notes (items_of e.home before (kept before drafts)) _ (sound_spent drafts e sound)

@@ -4,4 +4,5 @@ pub mod Expiry
 pub mod Opening
 pub mod Places
 pub mod Sound
+pub mod Lowering
 pub mod Telling

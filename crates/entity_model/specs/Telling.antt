@@ -1,6 +1,6 @@
 -- How what is told of an operation is carried out: notes that are ready to be appended, and
 -- subscriptions that are lowered one after another.
-use Rattle.std.specs.Prelude.{◌≡◌, ℕ, ◌==◌, nat_lt, List, [], ◌∷◌, Bool, false}
+use Rattle.std.specs.Prelude.{◌≡◌, ℕ, ◌==◌, nat_lt, List, [], ◌∷◌, Bool, false, filter}
 use Rattle.std.specs.Prelude.{if◌then◌else◌, Option, Some, None}
 use Rattle.std.specs.List.Sorted.{IsStrictlySortedBy}
 use Rattle.std.specs.Map.{keys_of}
@@ -11,7 +11,7 @@ use Rattle.subscription_match.specs.Items.{items_of}
 use Rattle.subscription_match.specs.Spending.{count_for, kept, left_at, left_in, left_to, spent}
 use Rattle.subscription_match.specs.declared.drafts.DraftParts.{DraftParts}
 use Rattle.tree_model.specs.Tree.{at, recounted_at, without}
-use Rattle.entity_model.specs.declared.telling.Told.{Told}
+use Rattle.entity_model.specs.declared.told.Told.{Told}
 
 -- what comes of drafts, by the resources before the operation: the items of those that are kept,
 -- and what is left to each subscription that counts and is told something
@@ -38,6 +38,10 @@ lowered_to n left nodes =
 abbrev pub all_lowered_to : List (ℕ × ℕ) → List ResourceData → List ResourceData
 all_lowered_to [] nodes = nodes
 all_lowered_to (row ∷ rows) nodes = all_lowered_to rows (lowered_to row.0 row.1 nodes)
+
+-- of these numbers those that go: to their subscriptions more than none is left now
+abbrev pub numbers_gone : List ℕ → List ResourceData → List ℕ
+numbers_gone numbers nodes = filter (λ n. has_more 0 (left_at nodes n)) numbers
 
 -- an operation lets a subscription that it tells something stand as it was, or takes it
 abbrev pub LeavesWhoIsTold : List ResourceData → List DraftParts → List ResourceData → Type 0

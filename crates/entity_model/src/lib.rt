@@ -33,6 +33,7 @@ mod replying;
 mod sweeping;
 mod taking;
 mod telling;
+mod told;
 
 pub use entity::Entity;
 pub use laws::{
@@ -45,4 +46,5 @@ pub use replying::{refuse, reply_to, wanted_content};
 pub use std::alloc::AllocError as OutOfMemory;
 pub use sweeping::sweep;
 pub use taking::take_next;
-pub use telling::{Told, prepare_telling, tell};
+pub use telling::{nothing_told, prepare_telling, tell};
+pub use told::Told;

@@ -11,7 +11,8 @@ ghost use Rattle.entity_model.specs.Expiry.{is_some_due};
 
 use crate::entity::Entity;
 use crate::moments::event_moment;
-use crate::telling::{Told, prepare_telling, tell};
+use crate::telling::{prepare_telling, tell};
+use crate::told::Told;
 use notify_outbox::Outbox;
 use std::alloc::{AllocError as OutOfMemory, Global};
 use tree_model::{Changes, Home, Tree};

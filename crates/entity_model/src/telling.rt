@@ -1,30 +1,39 @@
 //! What is told of an operation.
-ghost use Rattle.std.specs.Prelude.{◌≡◌, ◌<◌, ◌≤◌, ◌++◌, length, true, IfOk, IfSome};
+ghost use Rattle.std.specs.Prelude.{◌≡◌, ◌<◌, ◌≤◌, ◌==◌, ◌++◌, [], length, true, IfOk};
+ghost use Rattle.std.specs.Prelude.{if◌then◌else◌, List};
 ghost use Rattle.std.specs.List.{AllByRecursion};
+ghost use Rattle.std.specs.List.Sorted.{IsStrictlySortedBy};
+ghost use Rattle.std.specs.Map.{keys_of};
+ghost use Rattle.std.specs.Ordering.{nat_cmp};
 ghost use Rattle.m2m_names.specs.Ids.{count_bound};
 ghost use Rattle.notify_outbox.specs.declared.item.Item.{Item};
+ghost use Rattle.resource_model.specs.Home.{HomeData};
+ghost use Rattle.resource_model.specs.Resource.{ResourceData};
 ghost use Rattle.subscription_match.specs.Notices.{notes_of_all};
 ghost use Rattle.subscription_match.specs.Spending as spending;
-ghost use Rattle.tree_model.specs.Tree.{DoAscend};
+ghost use Rattle.tree_model.specs.Tree.{without_all, DoAscend};
 ghost use Rattle.entity_model.specs.Entity.{items_from, numbered_after};
+ghost use Rattle.entity_model.specs.Lowering.{some_left, spent_numbers};
 ghost use Rattle.entity_model.specs.Telling as spec;
 ghost use Rattle.entity_model.specs.Telling.{IsTold};
 
-use m2m_names::Attr;
+use crate::told::Told;
 use notify_outbox::Outbox;
 use primitive_json::Note;
 use std::alloc::{AllocError as OutOfMemory, Global};
-use subscription_match::{all_notes, items_of, spend};
-use tree_model::{Changes, Home, Resource, Tree};
+use subscription_match::{all_notes, items_of, left_to, spend};
+use tree_model::{Changes, Home, Tree};
 
-/// What an operation tells, for which all memory is taken.
-#[derive(Drop)]
-pub struct Told {
-    /// The notes, in order.
-    pub notes: Vec<Note>,
-    /// The numbers of the subscriptions that count and are told something, in order of creation,
-    /// each with how many notifications are left to it: none where it goes.
-    pub left: Vec<(u64, u64)>,
+/// What an operation tells that tells nothing.
+pub fn nothing_told(alloc: Global) -> Told
+    ensures told { (home : HomeData) (nodes : List ResourceData) → IsTold home nodes [] result }
+    ensures notes { result.notes.items ≡ [] }
+{
+    Told {
+        notes: Vec::new(alloc),
+        left: Vec::new(alloc),
+        spent: Vec::new(alloc),
+    }
 }
 
 /// Prepares what an operation tells of its changes, and reserves room for it in the outbox. The
@@ -45,14 +54,28 @@ pub fn prepare_telling<T: Tree>(
     ensures items { outbox.new.items ≡ outbox.old.items }
     ensures count { outbox.new.count ≡ outbox.old.count }
 {
-    let drafts = all_notes(alloc, tree, home, going, changes)?;
-    let spent = spend(alloc, tree, drafts)?;
-    let notes = items_of(alloc, tree, home, spent.drafts)?;
+    let mut drafts = all_notes(alloc, tree, home, going, changes)?;
+    if drafts.is_empty() {
+        return Ok(nothing_told(alloc));
+    }
+    let left = spend(alloc, tree, &mut drafts)?;
+    let notes = items_of(alloc, tree, home, drafts)?;
+    let spent = numbers_spent(alloc, &left)?;
     outbox.reserve(alloc, notes.len() as u64)?;
-    Ok(Told {
-        notes,
-        left: spent.left,
-    })
+    Ok(Told { notes, left, spent })
+}
+
+// The numbers of the subscriptions to which none is left.
+fn numbers_spent(alloc: Global, rows: &[(u64, u64)]) -> Result<Vec<u64>, OutOfMemory>
+    ensures { IfOk result (λ v. v.items ≡ spent_numbers rows.now) }
+{
+    let mut numbers = Vec::new(alloc);
+    for row in rows {
+        if row.1 == 0 {
+            numbers.push(row.0)?;
+        }
+    }
+    Ok(numbers)
 }
 
 /// Appends notes, for which there is room, at a moment before which each item was appended. No
@@ -69,13 +92,6 @@ pub(crate) fn append_all(outbox: &mut Outbox, moment: u64, notes: Vec<Note>)
     }
 }
 
-fn left_to(sub: &Resource) -> Option<u64>
-    ensures value { result ≡ spending.left_to sub.now }
-    ensures bound { IfSome result (λ n. n < count_bound) }
-{
-    sub.attrs().count(Attr::Exc)
-}
-
 fn has_more<T: Tree>(tree: &T, number: u64, left: u64) -> bool
     ensures value { result ≡ spec.has_more left (spending.left_at (T.nodes tree.now) number) }
     ensures bound { result ≡ true → left < count_bound }
@@ -89,28 +105,70 @@ fn has_more<T: Tree>(tree: &T, number: u64, left: u64) -> bool
     }
 }
 
-// Lowers a subscription; one to which none is left goes.
-#[tactic(auto, using(crate::proofs::LoweringLemmas::more_counts, crate::proofs::LoweringLemmas::more_stands))]
-fn lower<T: Tree>(tree: &mut T, number: u64, left: u64)
-    ensures { T.nodes tree.new ≡ spec.lowered_to number left (T.nodes tree.old) }
+// Counts a subscription anew, where it has more left; one to which none is left stays as it is.
+#[tactic(auto, using(crate::proofs::LoweringLemmas::more_counts))]
+fn count_anew<T: Tree>(tree: &mut T, number: u64, left: u64)
+    ensures { T.nodes tree.new ≡ (if left == 0 then T.nodes tree.old
+        else spec.lowered_to number left (T.nodes tree.old)) }
 {
-    if !has_more(tree, number, left) {
+    if left == 0 {
         return;
     }
-    if left == 0 {
-        tree.remove_subtree(number);
-    } else {
+    if has_more(tree, number, left) {
         tree.recount(number, left);
     }
 }
 
-/// Lowers subscriptions, one after another. No memory is taken.
-pub(crate) fn lower_all<T: Tree>(tree: &mut T, rows: Vec<(u64, u64)>)
-    ensures { T.nodes tree.new ≡ spec.all_lowered_to rows.items (T.nodes tree.old) }
+// Counts subscriptions anew, one after another.
+fn count_all_anew<T: Tree>(tree: &mut T, rows: Vec<(u64, u64)>)
+    ensures { T.nodes tree.new ≡ spec.all_lowered_to (some_left rows.items) (T.nodes tree.old) }
 {
     for row in rows {
-        lower(tree, row.0, row.1);
+        count_anew(tree, row.0, row.1);
     }
+}
+
+// Of these numbers, which ascend, those of subscriptions to which more than none is left.
+fn numbers_gone<T: Tree>(tree: &T, numbers: Vec<u64>) -> Vec<u64>
+    ensures { result.items ≡ spec.numbers_gone numbers.items (T.nodes tree.now) }
+{
+    let mut gone = numbers;
+    gone.retain(|number| has_more(tree, *number, 0));
+    gone
+}
+
+// Removes the subscriptions of these numbers, which ascend, in one pass.
+fn remove_spent<T: Tree>(tree: &mut T, numbers: Vec<u64>)
+    requires { DoAscend numbers.items }
+    ensures { T.nodes tree.new ≡ without_all
+        (spec.numbers_gone numbers.items (T.nodes tree.old)) (T.nodes tree.old) }
+{
+    let gone = numbers_gone(tree, numbers);
+    remove_some(tree, &gone);
+}
+
+// Where there are none, it looks at no resource.
+fn remove_some<T: Tree>(tree: &mut T, numbers: &[u64])
+    requires { DoAscend numbers.now }
+    ensures { T.nodes tree.new ≡ without_all numbers.now (T.nodes tree.old) }
+{
+    let _len = tree.len();
+    if numbers.is_empty() {
+        return;
+    }
+    tree.remove_all(numbers);
+}
+
+/// Lowers subscriptions: those to which some are left one after another, and those to which none
+/// is left, whose numbers these are, go in one pass. No memory is taken.
+pub(crate) fn lower_all<T: Tree>(tree: &mut T, rows: Vec<(u64, u64)>, spent: Vec<u64>)
+    requires order { IsStrictlySortedBy nat_cmp (keys_of rows.items) }
+    requires spent { spent.items ≡ spent_numbers rows.items }
+    ensures { T.nodes tree.new ≡ spec.all_lowered_to rows.items (T.nodes tree.old) }
+{
+    let _len = tree.len();
+    count_all_anew(tree, rows);
+    remove_spent(tree, spent);
 }
 
 /// Appends what is told to the outbox at a moment, and lowers the subscriptions. No memory is
@@ -125,5 +183,5 @@ pub fn tell<T: Tree>(tree: &mut T, outbox: &mut Outbox, moment: u64, told: Told)
     ensures count { outbox.new.count ≡ numbered_after outbox.old.count told.notes.items }
 {
     append_all(outbox, moment, told.notes);
-    lower_all(tree, told.left);
+    lower_all(tree, told.left, told.spent);
 }

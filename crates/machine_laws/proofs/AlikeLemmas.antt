@@ -1,70 +1,133 @@
 -- Entities of which an originator sees the same, one step after another.
-use Rattle.std.proofs.Common.{◌≡◌, ℕ, List, [], ◌∷◌, refl, sym, ap, subst, ◌∙◌}
-use Rattle.std.specs.List.{All}
+use Rattle.std.proofs.Common.{◌≡◌, ℕ, List, [], ◌∷◌, true, refl, sym, ap, subst, ◌∙◌}
+use Rattle.std.specs.List.{All, list_any}
+use Rattle.std.proofs.lemmas.Bool.{or_left, or_right}
 use Rattle.std.proofs.lemmas.List.Elements.{All-head, All-tail}
 use Rattle.turn_desk.specs.Entries.{readings_of, events_of, outcomes_of}
+use Rattle.primitive_json.specs.declared.request.RequestParts.{RequestParts}
 use Rattle.resource_model.specs.Home.{HomeData}
-use Rattle.entity_model.specs.Entity.{EntityData}
+use Rattle.entity_model.specs.Entity.{EntityData, swept}
 use Rattle.entity_model.specs.Sound.{IsSoundEntity}
 use Rattle.cse_machine.specs.declared.event.Event.{Event}
 use Rattle.cse_machine.specs.declared.event.Event.TheVariants.{Ask, Take, Tick}
 use Rattle.cse_machine.specs.declared.event.Outcome.{Outcome}
-use Rattle.cse_machine.specs.declared.event.Outcome.TheVariants.{Done, Item, Ticked, Starved}
+use Rattle.cse_machine.specs.declared.event.Outcome.TheVariants.{Done, Forward, Item, Ticked, Starved}
+use Rattle.cse_machine.specs.Answer.{ComesOf, effect_of}
 use Rattle.cse_machine.specs.History.{History, HistoryLeaves, IsDone}
-use Rattle.machine_laws.specs.Sight.{sight, IsBy}
+use Rattle.machine_laws.specs.Sight.{AreCsesInOrder, FindsUrls, IsBy, IsRequestBy, goes_away, sight}
 use Rattle.cse_machine.specs.Step.{Step}
+use Rattle.create_delete.specs.Guard.{NamesInOrder}
+use Rattle.entity_model.proofs.TellingLemmas.{sound_swept}
+use Rattle.machine_laws.proofs.CseOrderLemmas.{effect_ordered}
 use Rattle.machine_laws.proofs.HistoryLemmas.{none_some, same_entity, same_first, same_rest, sound_step}
+use Rattle.machine_laws.proofs.RouteSightLemmas.{order_swept}
 use Rattle.machine_laws.proofs.SightLemmas.{left-alike, outcomes-alike, passed-alike}
+use Rattle.sight_laws.proofs.ToldLemmas.{sound_counts}
+
+-- what steps of both leave
+record AreStillAlike (o : List ℕ) (one other after left : EntityData) (mine theirs : Outcome) : Type 0 where
+  outcome : mine ≡ theirs
+  seen : sight o after ≡ sight o left
+  sound : IsSoundEntity after
+  sounds : IsSoundEntity left
+  home : one.home ≡ after.home
+  orders : AreCsesInOrder one.nodes → AreCsesInOrder other.nodes → AreCsesInOrder after.nodes × AreCsesInOrder left.nodes
+
+-- the attributes of registered CSEs stay in order through a request
+asked_order : (reading : ℕ) (request : RequestParts) (e after : EntityData) → IsSoundEntity e → NamesInOrder request → after ≡ (effect_of (swept reading e) request).after → AreCsesInOrder e.nodes → AreCsesInOrder after.nodes
+asked_order reading request e after sound names left order =
+    subst (λ (x : EntityData). AreCsesInOrder x.nodes) (sym left)
+    (effect_ordered (swept reading e) request (sound_swept reading e sound) names (order_swept e reading sound.tree (sound_counts e sound) order))
 
 module _ (o : List ℕ) (one other : EntityData) (sound : IsSoundEntity one) (sounds : IsSoundEntity other) (same : sight o one ≡ sight o other) where
+  -- the attributes of registered CSEs stand in order in both, where the event is a request to one
+  abbrev Finds : Event → Type 0
+  Finds event = goes_away one.home event ≡ true → AreCsesInOrder one.nodes × AreCsesInOrder other.nodes
+
+  -- an answered request of both
+  asked_alike : (reading : ℕ) (request : RequestParts) (after left : EntityData) (outcome twin : Outcome) → IsBy one.home o (Ask request) → Finds (Ask request) → ComesOf (swept reading one) request outcome after → ComesOf (swept reading other) request twin left → Step reading (Ask request) one outcome after → Step reading (Ask request) other twin left → AreStillAlike o one other after left outcome twin
+  asked_alike reading request after left outcome twin by finds first second step steps =
+      let home : one.home ≡ other.home = ap (λ (e : EntityData). e.home) same in
+      let away : FindsUrls one request = λ is. (finds is).0 in
+      let aways : FindsUrls other request = λ is. (finds (ap (λ (h : HomeData). goes_away h (Ask request)) home ∙ is)).1 in
+      record {
+        outcome = first.0 ∙ outcomes-alike one other o reading sound sounds same request by first.2 away aways ∙ sym second.0;
+        seen = ap (sight o) first.1 ∙ left-alike one other o reading sound sounds same request by first.2 away aways ∙ sym (ap (sight o) second.1);
+        sound = sound_step reading (Ask request) one after outcome sound step;
+        sounds = sound_step reading (Ask request) other left twin sounds steps;
+        home = sym (same_entity reading (Ask request) outcome one after step).home;
+        orders = λ is are. (
+          asked_order reading request one after sound first.2 first.1 is,
+          asked_order reading request other left sounds second.2 second.1 are,
+        );
+      }
+
   -- a step of both
-  step_alike : (reading : ℕ) (event : Event) (after left : EntityData) (outcome twin : Outcome) → IsBy one.home o event → Step reading event one outcome after → Step reading event other twin left → IsDone outcome → IsDone twin
-      → (outcome ≡ twin) × (sight o after ≡ sight o left) × IsSoundEntity after × IsSoundEntity left × (one.home ≡ after.home)
-  step_alike reading (Ask request) after left (Done reply) (Done replied) by first second done dones = (
-    first.0 ∙ outcomes-alike one other o reading sound sounds same request by ∙ sym second.0,
-    ap (sight o) first.1 ∙ left-alike one other o reading sound sounds same request by ∙ sym (ap (sight o) second.1),
-    sound_step reading (Ask request) one after (Done reply) sound first,
-    sound_step reading (Ask request) other left (Done replied) sounds second,
-    sym (same_entity reading (Ask request) (Done reply) one after first).home,
-  )
-  step_alike reading (Ask request) after left (Done reply) (Starved none) by first second done dones = absurd dones
-  step_alike reading (Ask request) after left (Starved none) twin by first second done dones = absurd done
-  step_alike reading (Ask request) after left (Done reply) (Item given) by first second done dones = absurd second
-  step_alike reading (Ask request) after left (Done reply) Ticked by first second done dones = absurd second
-  step_alike reading (Ask request) after left (Item given) twin by first second done dones = absurd first
-  step_alike reading (Ask request) after left Ticked twin by first second done dones = absurd first
-  step_alike reading Take after left outcome twin by first second done dones = absurd by
-  step_alike reading Tick after left Ticked Ticked by first second done dones = (
-    refl,
-    ap (sight o) first ∙ passed-alike one other o reading sound sounds same ∙ sym (ap (sight o) second),
-    sound_step reading Tick one after Ticked sound first,
-    sound_step reading Tick other left Ticked sounds second,
-    sym (same_entity reading Tick Ticked one after first).home,
-  )
-  step_alike reading Tick after left Ticked (Starved none) by first second done dones = absurd dones
-  step_alike reading Tick after left Ticked (Done reply) by first second done dones = absurd second
-  step_alike reading Tick after left Ticked (Item given) by first second done dones = absurd second
-  step_alike reading Tick after left (Starved none) twin by first second done dones = absurd done
-  step_alike reading Tick after left (Done reply) twin by first second done dones = absurd first
-  step_alike reading Tick after left (Item given) twin by first second done dones = absurd first
+  step_alike : (reading : ℕ) (event : Event) (after left : EntityData) (outcome twin : Outcome) → IsBy one.home o event → Finds event → Step reading event one outcome after → Step reading event other twin left → IsDone outcome → IsDone twin → AreStillAlike o one other after left outcome twin
+  step_alike reading (Ask request) after left (Done reply) (Done again) by finds first second done dones = asked_alike reading request after left (Done reply) (Done again) by finds first second first second
+  step_alike reading (Ask request) after left (Done reply) (Forward way further) by finds first second done dones = asked_alike reading request after left (Done reply) (Forward way further) by finds first second first second
+  step_alike reading (Ask request) after left (Done reply) (Item noted) by finds first second done dones = absurd second
+  step_alike reading (Ask request) after left (Done reply) Ticked by finds first second done dones = absurd second
+  step_alike reading (Ask request) after left (Done reply) (Starved few) by finds first second done dones = absurd dones
+  step_alike reading (Ask request) after left (Forward poa onward) (Done again) by finds first second done dones = asked_alike reading request after left (Forward poa onward) (Done again) by finds first second first second
+  step_alike reading (Ask request) after left (Forward poa onward) (Forward way further) by finds first second done dones = asked_alike reading request after left (Forward poa onward) (Forward way further) by finds first second first second
+  step_alike reading (Ask request) after left (Forward poa onward) (Item noted) by finds first second done dones = absurd second
+  step_alike reading (Ask request) after left (Forward poa onward) Ticked by finds first second done dones = absurd second
+  step_alike reading (Ask request) after left (Forward poa onward) (Starved few) by finds first second done dones = absurd dones
+  step_alike reading (Ask request) after left (Item given) twin by finds first second done dones = absurd first
+  step_alike reading (Ask request) after left Ticked twin by finds first second done dones = absurd first
+  step_alike reading (Ask request) after left (Starved some) twin by finds first second done dones = absurd done
+  step_alike reading Take after left outcome twin by finds first second done dones = absurd by
+  step_alike reading Tick after left (Done reply) twin by finds first second done dones = absurd first
+  step_alike reading Tick after left (Forward poa onward) twin by finds first second done dones = absurd first
+  step_alike reading Tick after left (Item given) twin by finds first second done dones = absurd first
+  step_alike reading Tick after left Ticked (Done again) by finds first second done dones = absurd second
+  step_alike reading Tick after left Ticked (Forward way further) by finds first second done dones = absurd second
+  step_alike reading Tick after left Ticked (Item noted) by finds first second done dones = absurd second
+  step_alike reading Tick after left Ticked Ticked by finds first second done dones = record {
+    outcome = refl;
+    seen = ap (sight o) first ∙ passed-alike one other o reading sound sounds same ∙ sym (ap (sight o) second);
+    sound = sound_step reading Tick one after Ticked sound first;
+    sounds = sound_step reading Tick other left Ticked sounds second;
+    home = sym (same_entity reading Tick Ticked one after first).home;
+    orders = λ is are. (
+      subst (λ (x : EntityData). AreCsesInOrder x.nodes) (sym first) (order_swept one reading sound.tree (sound_counts one sound) is),
+      subst (λ (x : EntityData). AreCsesInOrder x.nodes) (sym second) (order_swept other reading sounds.tree (sound_counts other sounds) are),
+    );
+  }
+  step_alike reading Tick after left Ticked (Starved few) by finds first second done dones = absurd dones
+  step_alike reading Tick after left (Starved some) twin by finds first second done dones = absurd done
 
 pub stay_alike : (history twin : History) (o : List ℕ) (left right after other : EntityData) → IsSoundEntity left → IsSoundEntity right → sight o left ≡ sight o right → HistoryLeaves left history after → HistoryLeaves right twin other
     → readings_of history ≡ readings_of twin → events_of history ≡ events_of twin → All (IsBy left.home o) (events_of history)
+    → (list_any (goes_away left.home) (events_of history) ≡ true → AreCsesInOrder left.nodes × AreCsesInOrder right.nodes)
     → All IsDone (outcomes_of history) → All IsDone (outcomes_of twin) → (outcomes_of history ≡ outcomes_of twin) × (sight o after ≡ sight o other)
-stay_alike [] [] o left right after other sound sounds same first second readings events by done dones =
+stay_alike [] [] o left right after other sound sounds same first second readings events by finds done dones =
     (refl, ap (sight o) first ∙ same ∙ sym (ap (sight o) second))
-stay_alike [] (t ∷ twin) o left right after other sound sounds same first second readings events by done dones = absurd (none_some t.reading (readings_of twin) readings)
-stay_alike (h ∷ history) [] o left right after other sound sounds same first second readings events by done dones = absurd (none_some h.reading (readings_of history) (sym readings))
-stay_alike (h ∷ history) (t ∷ twin) o left right after other sound sounds same first second readings events by done dones =
+stay_alike [] (t ∷ twin) o left right after other sound sounds same first second readings events by finds done dones = absurd (none_some t.reading (readings_of twin) readings)
+stay_alike (h ∷ history) [] o left right after other sound sounds same first second readings events by finds done dones = absurd (none_some h.reading (readings_of history) (sym readings))
+stay_alike (h ∷ history) (t ∷ twin) o left right after other sound sounds same first second readings events by finds done dones =
     let step =
-    step_alike o left right sound sounds same h.reading h.event first.0 second.0 h.outcome t.outcome (All-head (IsBy left.home o) h.event (events_of history) by) first.1
+    step_alike o left right sound sounds same h.reading h.event first.0 second.0 h.outcome t.outcome (All-head (IsBy left.home o) h.event (events_of history) by) (λ is. finds (or_left _ _ is)) first.1
     (subst (λ (n : ℕ). Step n h.event right t.outcome second.0) (sym (same_first h.reading t.reading (readings_of history) (readings_of twin) readings))
     (subst (λ (v : Event). Step t.reading v right t.outcome second.0) (sym (same_first h.event t.event (events_of history) (events_of twin) events)) second.1))
     (All-head IsDone h.outcome (outcomes_of history) done) (All-head IsDone t.outcome (outcomes_of twin) dones) in
+    let later : list_any (goes_away first.0.home) (events_of history) ≡ true → AreCsesInOrder first.0.nodes × AreCsesInOrder second.0.nodes = λ is.
+    let now = finds (or_right _ _ (ap (λ (home : HomeData). list_any (goes_away home) (events_of history)) step.home ∙ is)) in
+    step.orders now.0 now.1 in
     let rest =
-    stay_alike history twin o first.0 second.0 after other step.2 step.3 step.1 first.2 second.2
+    stay_alike history twin o first.0 second.0 after other step.sound step.sounds step.seen first.2 second.2
     (same_rest h.reading t.reading (readings_of history) (readings_of twin) readings)
     (same_rest h.event t.event (events_of history) (events_of twin) events)
-    (subst (λ (home : HomeData). All (IsBy home o) (events_of history)) step.4 (All-tail (IsBy left.home o) h.event (events_of history) by))
+    (subst (λ (home : HomeData). All (IsBy home o) (events_of history)) step.home (All-tail (IsBy left.home o) h.event (events_of history) by))
+    later
     (All-tail IsDone h.outcome (outcomes_of history) done) (All-tail IsDone t.outcome (outcomes_of twin) dones) in
-    (ap (λ (out : Outcome). out ∷ outcomes_of history) step.0 ∙ ap (λ (os : List Outcome). t.outcome ∷ os) rest.0, rest.1)
+    (ap (λ (out : Outcome). out ∷ outcomes_of history) step.outcome ∙ ap (λ (os : List Outcome). t.outcome ∷ os) rest.0, rest.1)
+
+-- one step alone
+pub steps_alike : (reading : ℕ) (request : RequestParts) (o : List ℕ) (left right after other : EntityData) (outcome twin : Outcome) → IsSoundEntity left → IsSoundEntity right → sight o left ≡ sight o right → IsRequestBy left.home o request → (goes_away left.home (Ask request) ≡ true → AreCsesInOrder left.nodes) → (goes_away right.home (Ask request) ≡ true → AreCsesInOrder right.nodes) → Step reading (Ask request) left outcome after → Step reading (Ask request) right twin other → IsDone outcome → IsDone twin → outcome ≡ twin
+steps_alike reading request o left right after other outcome twin sound sounds same by finds find first second done dones =
+    let home : left.home ≡ right.home = ap (λ (e : EntityData). e.home) same in
+    (step_alike o left right sound sounds same reading (Ask request) after other outcome twin by
+    (λ is. (finds is, find (sym (ap (λ (h : HomeData). goes_away h (Ask request)) home) ∙ is)))
+    first second done dones).outcome

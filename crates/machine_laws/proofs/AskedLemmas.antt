@@ -1,7 +1,9 @@
 -- What a request that was served changes.
 use Rattle.std.specs.Prelude.{◌+◌}
 use Rattle.std.proofs.Common.{◌≡◌, ℕ, List, length, true, Some, None, refl, sym, ap, subst, ◌∙◌, arith}
+use Rattle.std.proofs.lemmas.Bool.{true≢false}
 use Rattle.m2m_names.specs.Name.{is_originator}
+use Rattle.m2m_names.specs.declared.codes.Rsc.TheVariants.{Ok as Fine}
 use Rattle.m2m_names.specs.declared.operations.Op.{Op}
 use Rattle.m2m_names.specs.declared.operations.Op.TheVariants.{Create, Retrieve, Update, Delete, Notify}
 use Rattle.primitive_json.specs.declared.reply.ReplyParts.{ReplyParts}
@@ -22,15 +24,17 @@ use Rattle.create_delete.proofs.EffectLemmas.{done_at}
 use Rattle.create_delete.proofs.RightLemmas.{stays_sound}
 use Rattle.create_delete.proofs.ChangesLemmas.{nothing_apart}
 use Rattle.change_laws.proofs.ServedLemmas.{creation_adds_one, next_rises, update_alone}
-use Rattle.cse_machine.specs.Answer.{change_effect, operation_effect, reading_reply}
-use Rattle.cse_machine.proofs.OutcomeLemmas.{changing_at}
+use Rattle.group_fanout.specs.Operations.{change_effect, operation_effect, reading_reply}
+use Rattle.group_fanout.proofs.OperationLemmas.{changing_at}
 use Rattle.machine_laws.specs.Asked.{CreatesAddOne, DeletesTakeTheirTarget, IsServedStep, NumbersRiseByWhatIsNew, UpdatesChangeTheirTarget, told_of}
-use Rattle.machine_laws.specs.Guard.{is_success}
-use Rattle.cse_machine.specs.Rights.{claimed_originator}
+use Rattle.machine_laws.specs.Guard.{is_fan_point, is_success}
+use Rattle.group_fanout.specs.Rights.{claimed_originator}
 use Rattle.machine_laws.proofs.ChangingLemmas.{comes_at, fault_there, told_done, unrefused}
 use Rattle.machine_laws.proofs.GuardLemmas.{Served, comes, performed_is, served_after, served_on, served_reply}
 use Rattle.machine_laws.proofs.HistoryLemmas.{done_holds}
+use Rattle.machine_laws.proofs.RelayLemmas.{relays}
 use Rattle.machine_laws.proofs.RiseLemmas.{as_many_new, untold}
+use Rattle.machine_laws.proofs.WayLemmas.{given_note, taken_answer}
 
 -- what was served on its target, and left so
 served_step : (reading : ℕ) (request : RequestParts) (before after : EntityData) (reply : ReplyParts) (target : ResourceData) → IsServedStep reading request before after reply target → Served (swept reading before) request target
@@ -144,7 +148,8 @@ operation_rises Create e request target = changed_rises Create e request target
 operation_rises Retrieve e request target = λ sound originator names there. still_rises e (reading_reply e request target.number)
 operation_rises Update e request target = changed_rises Update e request target
 operation_rises Delete e request target = changed_rises Delete e request target
-operation_rises Notify e request target = changed_rises Notify e request target
+operation_rises Notify e request target = λ sound originator names there.
+    relays e request target there (Rises e) (λ f other. still_rises e (refusal request f)) (λ none. still_rises e (refusal request Fine))
 
 pub numbers_rise : NumbersRiseByWhatIsNew
 numbers_rise reading request before after reply sound step alone =
@@ -152,5 +157,8 @@ numbers_rise reading request before after reply sound step alone =
     done_holds (Rises e) reading request before after reply
     (comes e request (Rises e)
     (λ fault other. still_rises e (refusal request fault))
-    (λ way. operation_rises request.op e request way.target (sound_swept reading before sound) way.originator step.2 way.there))
+    (λ way. operation_rises request.op e request way.target (sound_swept reading before sound) way.originator step.2 way.there)
+    (λ way. still_rises e (given_note e request way.channel way.note).reply)
+    (λ way. still_rises e (taken_answer e request).reply)
+    (λ way. absurd (true≢false (sym (ap is_fan_point way.spot) ∙ alone))))
     step

@@ -41,10 +41,10 @@ use Rattle.create_delete.specs.Changing.{create_effect, created_content, told_ro
 use Rattle.create_delete.specs.Guard.{ChangesByRight, NamesInOrder}
 use Rattle.create_delete.proofs.EffectLemmas.{told_done_at, told_refused_at}
 use Rattle.create_delete.proofs.RightLemmas.{told_by_right}
-use Rattle.create_delete.specs.Telling.{told_effect, told_effect_at, told_effect_by}
+use Rattle.create_delete.specs.Telling.{drafts_at, told_effect, told_effect_at, told_effect_by}
 use Rattle.cse_machine.specs.Answer.{addressed}
 use Rattle.machine_laws.specs.Guard.{is_success, DoesShow, HasRight, IsGuardedAlone}
-use Rattle.cse_machine.specs.Rights.{claimed_originator}
+use Rattle.group_fanout.specs.Rights.{claimed_originator}
 
 -- ---- a refusal
 
@@ -217,7 +217,7 @@ module _ (e : EntityData) (request : RequestParts) (t : ResourceData) (there : a
         changes = inr (record {
           target = t;
           named = named;
-          right = subst (λ (p : Op). ChangesByRight p e who t.number (told_effect_at op e who request t.number).after) (sym is) by;
+          right = subst (λ (p : Op). ChangesByRight p e who t.number (drafts_at p e who request t.number) (told_effect_at op e who request t.number).after) (sym is) by;
         });
       }
 

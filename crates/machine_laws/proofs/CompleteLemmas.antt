@@ -1,7 +1,7 @@
 -- What nothing speaks against is served.
-use Rattle.std.proofs.Common.{◌≡◌, ℕ, List, [], Bool, true, false, Option, Some, None, Result, Ok, Err, inl, inr, refl, sym, ap, subst, ◌∙◌}
+use Rattle.std.proofs.Common.{◌≡◌, ◌⊎◌, ℕ, List, [], Bool, true, false, Option, Some, None, Result, Ok, Err, inl, inr, refl, sym, ap, subst, ◌∙◌}
 use Rattle.std.specs.Option.{option_and_then, option_map_or}
-use Rattle.std.proofs.lemmas.Bool.{cases_Bool, false≢true}
+use Rattle.std.proofs.lemmas.Bool.{and_parts, cases_Bool, false≢true}
 use Rattle.std.proofs.lemmas.Option.{none-some}
 use Rattle.m2m_names.specs.declared.codes.Rsc.{Rsc}
 use Rattle.m2m_names.specs.declared.codes.Rsc.TheVariants.{NotFound}
@@ -11,10 +11,11 @@ use Rattle.m2m_names.specs.Types.{does_take}
 use Rattle.m2m_names.specs.declared.types.Ty.{Ty}
 use Rattle.primitive_json.specs.declared.request.RequestParts.{RequestParts}
 use Rattle.resource_model.specs.Resource.{ResourceData}
-use Rattle.tree_model.specs.Tree.{at}
+use Rattle.tree_model.specs.Tree.{at, has}
 use Rattle.tree_model.proofs.TreeLemmas.{at_number}
 use Rattle.addressing.specs.Addresses.{address_of}
 use Rattle.addressing.specs.Laws.{named_here}
+use Rattle.addressing.specs.Names.{spot_of}
 use Rattle.addressing.specs.declared.addr.Addr.{Addr}
 use Rattle.addressing.specs.declared.addr.Addr.TheVariants.{Local, Foreign, OtherProvider}
 use Rattle.addressing.specs.declared.addr.AddrFault.{AddrFault}
@@ -22,7 +23,7 @@ use Rattle.addressing.specs.declared.spot.Spot.{Spot}
 use Rattle.addressing.specs.declared.spot.Spot.TheVariants.{Resource, Fan, Poll}
 use Rattle.policy_eval.specs.Rights.{grants}
 use Rattle.entity_model.specs.Entity.{EntityData, swept}
-use Rattle.entity_model.specs.Places.{first_fault, reading_bit, refused, refusal}
+use Rattle.entity_model.specs.Places.{Effect, first_fault, on_found, reading_bit, refused, refusal}
 use Rattle.request_rules.proofs.OrderLemmas.{members_parts}
 use Rattle.request_rules.specs.Groups.{membership_edited, membership_new}
 use Rattle.request_rules.specs.Order.{creation_by, creation_places, fault_on, fault_new, new_places}
@@ -31,13 +32,23 @@ use Rattle.request_rules.specs.Rights.{is_discovery}
 use Rattle.retrieve_discover.specs.Replies.{retrieved_of}
 use Rattle.create_delete.specs.Changing.{effect_by}
 use Rattle.create_delete.specs.Telling.{told_effect_by}
-use Rattle.cse_machine.specs.declared.event.Outcome.TheVariants.{Done, Item, Ticked, Starved}
-use Rattle.cse_machine.specs.Answer.{EventEffect, address_effect, addressed, as_done, change_effect, does_serve, operation_effect, reading_reply, resource_at, resource_effect}
-use Rattle.machine_laws.specs.Complete.{IsSuccess, MayBeDone, WhatMayBeServedIsServed}
+use Rattle.cse_machine.specs.declared.event.Event.TheVariants.{Ask}
+use Rattle.cse_machine.specs.declared.event.Outcome.{Outcome}
+use Rattle.cse_machine.specs.declared.event.Outcome.TheVariants.{Done, Forward, Item, Ticked, Starved}
+use Rattle.cse_machine.specs.Answer.{EventEffect, address_effect, addressed, as_done, does_serve, effect_of, onward_effect, poll_effect, resource_at, route_effect, spot_effect}
+use Rattle.group_fanout.specs.Operations.{change_effect, operation_effect, reading_reply, relay_effect, resource_effect}
+use Rattle.retarget.specs.Routes.{forwarded}
+use Rattle.retarget.specs.declared.routing.Route.{Route}
+use Rattle.retrieve_discover.specs.Polling.{polled}
+use Rattle.cse_machine.specs.Step.{Step}
+use Rattle.cse_machine.proofs.OutcomeLemmas.{poll_there}
+use Rattle.group_fanout.specs.Fan.{fan_effect, may_fan, rest_of}
+use Rattle.machine_laws.specs.Complete.{IsStarved, IsSuccess, MayBeDone, MayBeHeard, WhatIsAnsweredIsTaken, WhatMayBeFannedOutIsFannedOut, WhatMayBeServedIsServed, WhatMayGoOnGoesOn, WhatWaitsIsGiven}
 use Rattle.machine_laws.specs.Guard.{spot_asked}
-use Rattle.cse_machine.specs.Rights.{claimed_originator}
-use Rattle.cse_machine.proofs.PlaceLemmas.{reading_found, reading_shown}
-use Rattle.machine_laws.proofs.WayLemmas.{heard}
+use Rattle.group_fanout.specs.Rights.{claimed_originator}
+use Rattle.group_fanout.proofs.OperationLemmas.{reading_found, reading_shown}
+use Rattle.machine_laws.proofs.RelayLemmas.{relay_unrefused}
+use Rattle.machine_laws.proofs.WayLemmas.{fanned_by, given_note, heard, taken_answer}
 
 -- ---- what no place refuses
 
@@ -45,8 +56,14 @@ use Rattle.machine_laws.proofs.WayLemmas.{heard}
 to_named : (e : EntityData) (request : RequestParts) (target : ResourceData) (a : Result Addr AddrFault) → address_of e.home request.to ≡ a → addressed e request.to ≡ Some target → address_effect e request a ≡ as_done (operation_effect request.op e request target)
 to_named e request target a is named = by_address a (ap (λ (x : Result Addr AddrFault). option_and_then (resource_at e.nodes) (named_here x e.nodes)) (sym is) ∙ named)
   where
+    by_spot : (spot : Option Spot) → option_and_then (resource_at e.nodes) spot ≡ Some target → as_done (spot_effect e request spot) ≡ as_done (operation_effect request.op e request target)
+    by_spot None found = absurd (none-some target found)
+    by_spot (Some (Resource n)) found = ap (λ (r : Option ResourceData). as_done (resource_effect e request r)) found
+    by_spot (Some (Fan group place)) found = absurd (none-some target found)
+    by_spot (Some (Poll channel)) found = absurd (none-some target found)
+
     by_address : (x : Result Addr AddrFault) → option_and_then (resource_at e.nodes) (named_here x e.nodes) ≡ Some target → address_effect e request x ≡ as_done (operation_effect request.op e request target)
-    by_address (Ok (Local segments)) found = ap (λ (r : Option ResourceData). as_done (resource_effect e request r)) found
+    by_address (Ok (Local segments)) found = by_spot (spot_of segments e.nodes) found
     by_address (Ok (Foreign text)) found = absurd (none-some target found)
     by_address (Ok OtherProvider) found = absurd (none-some target found)
     by_address (Err fault) found = absurd (none-some target found)
@@ -77,6 +94,9 @@ module _ (e : EntityData) (request : RequestParts) (r : ResourceData) where
   delete_unrefused : MayBeDone Delete e request r → fault_on Delete e o request r ≡ None
   delete_unrefused may = rw (may.right, may.type) refl
 
+  notify_unrefused : MayBeDone Notify e request r → fault_on Notify e o request r ≡ None
+  notify_unrefused may = rw (may.right, may.type) refl
+
   -- ---- what is answered
 
   created : (ty : Option Ty) → child_ty request ≡ ty → MayBeDone Create e request r → IsSuccess Create e request r (Done (change_effect Create e request r).reply)
@@ -90,6 +110,9 @@ module _ (e : EntityData) (request : RequestParts) (r : ResourceData) where
 
   deleted : MayBeDone Delete e request r → IsSuccess Delete e request r (Done (change_effect Delete e request r).reply)
   deleted may = ap Done (done_unrefused Delete (delete_unrefused may))
+
+  notified : MayBeDone Notify e request r → IsSuccess Notify e request r (Done (relay_effect e request r).reply)
+  notified may = ap (λ (x : Effect). Done x.reply) (relay_unrefused e request r (notify_unrefused may))
 
   read : at r.number e.nodes ≡ Some r → MayBeDone Retrieve e request r → IsSuccess Retrieve e request r (Done (reading_reply e request r.number))
   read there may = elim (cases_Bool (is_discovery request)) [
@@ -109,7 +132,7 @@ module _ (e : EntityData) (request : RequestParts) (r : ResourceData) where
   succeeds Retrieve served there may = read there may
   succeeds Update served there may = updated may
   succeeds Delete served there may = deleted may
-  succeeds Notify served there may = absurd (false≢true served)
+  succeeds Notify served there may = notified may
 
 -- ---- a step
 
@@ -117,17 +140,81 @@ module _ (e : EntityData) (request : RequestParts) (r : ResourceData) where
 there_where_named : (nodes : List ResourceData) (target : ResourceData) (spot : Option Spot) → option_and_then (resource_at nodes) spot ≡ Some target → at target.number nodes ≡ Some target
 there_where_named nodes target None found = absurd (none-some target found)
 there_where_named nodes target (Some (Resource n)) found = ap (λ (m : ℕ). at m nodes) (at_number n nodes target found) ∙ found
-there_where_named nodes target (Some (Fan group rest)) found = absurd (none-some target found)
+there_where_named nodes target (Some (Fan group place)) found = absurd (none-some target found)
 there_where_named nodes target (Some (Poll channel)) found = absurd (none-some target found)
 
+-- a step is answered by what comes of its request where no place refuses it, unless memory runs out
+module _ (reading : ℕ) (request : RequestParts) (before after : EntityData) (P : Outcome → Type 0) (hears : MayBeHeard (swept reading before) request) (holds : P (address_effect (swept reading before) request (address_of (swept reading before).home request.to)).outcome) where
+  by_outcome : (outcome : Outcome) → outcome ≡ (effect_of (swept reading before) request).outcome → P outcome
+  by_outcome outcome is =
+      let heard_so = heard (swept reading before) request hears.served hears.form hears.originator hears.address hears.time hears.blocking in
+      subst P (sym (is ∙ ap (λ (x : EventEffect). x.outcome) heard_so)) holds
+
+  heard_step : (outcome : Outcome) → Step reading (Ask request) before outcome after → P outcome ⊎ IsStarved outcome
+  heard_step (Done reply) step = inl (by_outcome (Done reply) step.0)
+  heard_step (Forward poa onward) step = inl (by_outcome (Forward poa onward) step.0)
+  heard_step (Item given) step = absurd step
+  heard_step Ticked step = absurd step
+  heard_step (Starved done) step = inr tt
+
 pub served_steps : WhatMayBeServedIsServed
-served_steps reading request before after (Done reply) target step hears named may =
+served_steps reading request before after outcome target step hears named may =
     let e = swept reading before in
     let there = there_where_named e.nodes target (spot_asked e request) named in
-    let is =
-    heard e request hears.served hears.form hears.originator hears.address hears.time hears.blocking
-    ∙ to_named e request target (address_of e.home request.to) refl named in
-    inl (subst (IsSuccess request.op e request target) (sym (step.0 ∙ ap (λ (x : EventEffect). x.outcome) is)) (succeeds e request target request.op hears.served there may))
-served_steps reading request before after (Item given) target step hears named may = absurd step
-served_steps reading request before after Ticked target step hears named may = absurd step
-served_steps reading request before after (Starved done) target step hears named may = inr tt
+    let is = to_named e request target (address_of e.home request.to) refl named in
+    heard_step reading request before after (IsSuccess request.op e request target) hears
+    (subst (λ (x : EventEffect). IsSuccess request.op e request target x.outcome) (sym is) (succeeds e request target request.op hears.served there may))
+    outcome step
+
+-- ---- at what isn't a resource
+
+-- an address that names something here leads to it
+to_spot : (e : EntityData) (request : RequestParts) (spot : Spot) (a : Result Addr AddrFault) → named_here a e.nodes ≡ Some spot → address_effect e request a ≡ as_done (spot_effect e request (Some spot))
+to_spot e request spot (Ok (Local segments)) is = ap (λ (s : Option Spot). as_done (spot_effect e request s)) is
+to_spot e request spot (Ok (Foreign text)) is = absurd (none-some spot is)
+to_spot e request spot (Ok OtherProvider) is = absurd (none-some spot is)
+to_spot e request spot (Err fault) is = absurd (none-some spot is)
+
+-- so what it gives there is what it is answered
+at_spot : (reading : ℕ) (request : RequestParts) (before after : EntityData) (outcome : Outcome) (spot : Spot) (effect : Effect) → Step reading (Ask request) before outcome after → MayBeHeard (swept reading before) request → spot_asked (swept reading before) request ≡ Some spot → spot_effect (swept reading before) request (Some spot) ≡ effect → (outcome ≡ Done effect.reply) ⊎ IsStarved outcome
+at_spot reading request before after outcome spot effect step hears is gives =
+    let e = swept reading before in
+    heard_step reading request before after (λ (x : Outcome). x ≡ Done effect.reply) hears
+    (ap (λ (x : EventEffect). x.outcome) (to_spot e request spot (address_of e.home request.to) is) ∙ ap (λ (x : Effect). Done x.reply) gives)
+    outcome step
+
+pub fanned_steps : WhatMayBeFannedOutIsFannedOut
+fanned_steps reading request before after outcome n place group step hears is there right op =
+    let e = swept reading before in
+    let number : group.number ≡ n = at_number n e.nodes group there in
+    let may : may_fan e request group.number ≡ true = ap (may_fan e request) number ∙ right in
+    let gives : fan_effect e request (rest_of e.home request.to place) group ≡ fanned_by e request place group = rw (may, op) refl in
+    at_spot reading request before after outcome (Fan n place) (fanned_by e request place group) step hears is
+    (ap (λ (found : Option ResourceData). on_found e request (fan_effect e request (rest_of e.home request.to place)) found) there ∙ gives)
+
+pub given_steps : WhatWaitsIsGiven
+given_steps reading request before after outcome channel note step hears is op may waits =
+    let e = swept reading before in
+    let parts = and_parts (has channel e.nodes) _ may in
+    let given : polled e (claimed_originator e.home request) request channel ≡ given_note e request channel note = rw (parts.1, waits) refl in
+    at_spot reading request before after outcome (Poll channel) (given_note e request channel note) step hears is
+    (poll_there e request channel parts.0
+    ∙ ap (λ (p : Op). poll_effect p e request channel) op
+    ∙ given)
+
+pub taken_steps : WhatIsAnsweredIsTaken
+taken_steps reading request before after outcome channel step hears is op there right answer =
+    let e = swept reading before in
+    let taken : poll_effect Notify e request channel ≡ taken_answer e request = rw (right, answer) refl in
+    at_spot reading request before after outcome (Poll channel) (taken_answer e request) step hears is
+    (poll_there e request channel there ∙ ap (λ (p : Op). poll_effect p e request channel) op ∙ taken)
+
+pub onward_steps : WhatMayGoOnGoesOn
+onward_steps reading request before after outcome text poa n step hears is goes point =
+    let e = swept reading before in
+    let o = claimed_originator e.home request in
+    heard_step reading request before after (λ (x : Outcome). x ≡ Forward poa (forwarded e.home o request)) hears
+    (ap (λ (a : Result Addr AddrFault). (address_effect e request a).outcome) is
+    ∙ ap (λ (r : Route). (route_effect e request [] r).outcome) goes
+    ∙ ap (λ (p : Option (List ℕ)). (onward_effect e request p).outcome) point)
+    outcome step

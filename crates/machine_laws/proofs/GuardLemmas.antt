@@ -1,146 +1,85 @@
 -- Nothing is shown or changed but by a grant.
-use Rattle.std.proofs.Common.{◌≡◌, ℕ, List, Bool, true, false, cond, Option, Some, None, inl, inr, refl, sym, ap, subst, ◌∙◌}
-use Rattle.std.proofs.lemmas.Bool.{false≢true, true≢false}
-use Rattle.std.proofs.lemmas.Option.{same_Some}
+use Rattle.std.proofs.Common.{◌≡◌, ℕ, List, true, false, Option, Some, None, option_map, inl, inr, refl, sym, ap, subst, ◌∙◌, arith}
+use Rattle.std.specs.Prelude.{⊤}
+use Rattle.std.proofs.lemmas.Bool.{true≢false}
+use Rattle.std.proofs.lemmas.Option.{none-some, same_Some}
+use Rattle.std.specs.Option.{option_and_then}
+use Rattle.m2m_names.specs.Operations.{op_row}
+use Rattle.notify_outbox.specs.Items.{waits_for}
+use Rattle.entity_model.proofs.SoundLemmas.{sound_taken}
 use Rattle.m2m_names.specs.Name.{is_originator}
 use Rattle.m2m_names.specs.declared.codes.Rsc.{Rsc}
+use Rattle.m2m_names.specs.declared.codes.Rsc.TheVariants.{Ok as Fine}
 use Rattle.m2m_names.specs.declared.operations.Op.{Op}
-use Rattle.m2m_names.specs.declared.operations.Op.TheVariants.{Create, Retrieve, Update, Delete, Notify}
+use Rattle.m2m_names.specs.declared.operations.Op.TheVariants.{Retrieve, Notify}
 use Rattle.primitive_json.specs.declared.reply.ReplyParts.{ReplyParts}
 use Rattle.primitive_json.specs.declared.request.RequestParts.{RequestParts}
 use Rattle.resource_model.specs.Resource.{ResourceData}
 use Rattle.tree_model.specs.Tree.{at}
 use Rattle.policy_eval.specs.Rights.{grants}
 use Rattle.entity_model.specs.Entity.{EntityData}
-use Rattle.entity_model.specs.Places.{reading_bit, refusal, refused, Effect}
+use Rattle.entity_model.specs.Places.{Effect, refusal, refused, reply_to}
 use Rattle.entity_model.specs.Sound.{IsSoundEntity}
-use Rattle.request_rules.specs.Rights.{is_discovery, may_do}
-use Rattle.retrieve_discover.specs.Replies.{discovered, retrieved}
-use Rattle.retrieve_laws.proofs.RightLemmas.{discovered_by_right, retrieved_by_right}
+use Rattle.request_rules.specs.Rights.{may_do}
+use Rattle.retrieve_discover.specs.Polling.{handed_on}
 use Rattle.addressing.specs.declared.spot.Spot.{Spot}
 use Rattle.addressing.specs.declared.spot.Spot.TheVariants.{Resource, Fan, Poll}
 use Rattle.create_delete.specs.Guard.{NamesInOrder}
 use Rattle.create_delete.specs.Telling.{told_effect_at}
-use Rattle.create_delete.proofs.RightLemmas.{told_stays_sound}
-use Rattle.cse_machine.specs.declared.event.Outcome.TheVariants.{Done}
-use Rattle.cse_machine.specs.Answer.{EventEffect, addressed, as_done, change_effect, does_serve, operation_effect, reading_reply, effect_of}
-use Rattle.machine_laws.specs.Guard.{is_success, DoesShow, HasRight, IsGuardedAlone, IsGuardedAt, IsGuarded, spot_asked}
-use Rattle.cse_machine.specs.Rights.{claimed_originator, has_right}
-use Rattle.cse_machine.proofs.OutcomeLemmas.{changing_at, same_reply}
-use Rattle.machine_laws.proofs.ChangingLemmas.{IsToldByRight, tells_nothing, shows_none, IsKept, still_kept, change_guarded, create_kept, create_told, delete_kept, delete_told, update_kept, update_told}
-use Rattle.machine_laws.proofs.OwnLemmas.{apart_addresses}
-use Rattle.machine_laws.proofs.WayLemmas.{IsOperated, Reading, refused_read, reading, found_read, shown_read, two_ways}
-
--- ---- where nothing changes
-
--- a reply that leaves the entity as it is
-still : (e : EntityData) (request : RequestParts) (reply : ReplyParts) → (DoesShow reply → HasRight e request) → IsToldByRight e request reply → IsGuardedAlone e request reply e
-still e request reply shown others = record { shown = shown; others = others; changes = inl refl }
+use Rattle.cse_machine.specs.declared.event.Outcome.TheVariants.{Done, Forward}
+use Rattle.cse_machine.specs.Answer.{EventEffect, addressed, as_done, does_serve, effect_of, resource_at}
+use Rattle.group_fanout.specs.Fan.{is_fanned, member_effect, requests_to, sent_to, singles_of}
+use Rattle.group_fanout.specs.Operations.{change_effect, operation_effect}
+use Rattle.machine_laws.specs.Guard.{is_success, IsGuardedAt, IsGuarded, spot_asked}
+use Rattle.group_fanout.specs.Rights.{claimed_originator}
+use Rattle.cse_machine.proofs.OutcomeLemmas.{same_reply}
+use Rattle.group_fanout.proofs.OperationLemmas.{changing_at}
+use Rattle.machine_laws.proofs.ChangingLemmas.{IsKept, shows_none, still_kept}
+use Rattle.machine_laws.proofs.RelayLemmas.{relay_nodes}
+use Rattle.machine_laws.proofs.MemberLemmas.{IsSoundAt, MaySend, members_guarded, members_kept, members_sound, members_still, of_member}
+use Rattle.machine_laws.proofs.OperatedLemmas.{operated_guarded, operated_kept, operated_sound, refused_guarded}
+use Rattle.machine_laws.proofs.WayLemmas.{GoesOn, IsFanned, IsOperated, IsPolled, IsTaken, answers, fanned_by, fans, given_note, leaves, member_addresses, operates, polls, refuses, taken_answer, way_of}
 
 -- ---- what comes of a request
 
-abbrev IsGuardedIn : EntityData → RequestParts → Effect → Type 0
-IsGuardedIn e request effect = IsGuardedAlone e request effect.reply effect.after
+-- what comes of a request is an effect with a reply, of which this holds, or it goes on
+pub data Came (e : EntityData) (request : RequestParts) (P : Effect → Type 0) : Type 0 where
+  replied : (effect : Effect) → effect_of e request ≡ as_done effect → P effect → Came e request P
+  went_on : GoesOn e request (effect_of e request) → Came e request P
 
-refused_guarded : (e : EntityData) (request : RequestParts) (fault : Rsc) → is_success fault ≡ false → IsGuardedIn e request (refused e request fault)
-refused_guarded e request fault other =
-    still e request (refusal request fault) (λ shows. absurd (shows_none request fault other shows)) (tells_nothing e request fault)
-
--- ---- reading
-
-module _ (e : EntityData) (sound : IsSoundEntity e) (request : RequestParts) (r : ResourceData) where
-  abbrev o : List ℕ
-  o = claimed_originator e.home request
-
-  one_of : (b : Bool) (x y : ReplyParts) → IsToldByRight e request x → IsToldByRight e request y → IsToldByRight e request (cond b x y)
-  one_of true x y first second = first
-  one_of false x y first second = second
-
-  -- what it tells of others
-  tells : IsToldByRight e request (reading_reply e request r.number)
-  tells =
-      one_of (is_discovery request) (discovered e.home e.nodes o request r.number) (retrieved e.home e.nodes o request r.number)
-      (discovered_by_right e.home e.nodes o (apart_addresses e sound) request r.number) (retrieved_by_right e.home e.nodes o (apart_addresses e sound) request r.number)
-
-  -- the right that it needs
-  right_is : (discovers : Bool) → request.op ≡ Retrieve → is_discovery request ≡ discovers → grants e.home e.nodes o (reading_bit discovers) r.number ≡ true → has_right e request r.number ≡ true
-  right_is discovers op is right =
-      ap (λ (p : Op). may_do p e o request r.number) op
-      ∙ ap (λ (d : Bool). grants e.home e.nodes o (reading_bit d) r.number) is ∙ right
-
-  -- what it shows, it shows by that right
-  shows_by_right : (reply : ReplyParts) → addressed e request.to ≡ Some r → request.op ≡ Retrieve → Reading e request r reply → DoesShow reply → HasRight e request
-  shows_by_right reply named op (refused_read fault other is) shows = absurd (shows_none request fault other (subst DoesShow is shows))
-  shows_by_right reply named op (found_read d right) shows = record { target = r; named = named; right = right_is true op d right }
-  shows_by_right reply named op (shown_read d right) shows = record { target = r; named = named; right = right_is false op d right }
-
-  pub read_guarded : addressed e request.to ≡ Some r → request.op ≡ Retrieve → at r.number e.nodes ≡ Some r → IsGuardedAlone e request (reading_reply e request r.number) e
-  read_guarded named op there =
-      still e request (reading_reply e request r.number)
-      (shows_by_right (reading_reply e request r.number) named op (reading e request r there)) tells
-
--- ---- a request
-
--- what a served operation on what its address names gives
-module _ (e : EntityData) (request : RequestParts) (r : ResourceData) (there : at r.number e.nodes ≡ Some r) where
-  -- what comes of a change, as what is done on the resource of the number
-  as_changed : (op : Op) (P : Effect → Type 0) → P (told_effect_at op e (claimed_originator e.home request) request r.number) → P (change_effect op e request r)
-  as_changed op P holds = subst P (sym (changing_at op e request r there)) holds
-
-  operated_guarded : (op : Op) → IsSoundEntity e → is_originator (claimed_originator e.home request) ≡ true → NamesInOrder request → does_serve op request ≡ true → request.op ≡ op → addressed e request.to ≡ Some r → IsGuardedIn e request (operation_effect op e request r)
-  operated_guarded Create sound originator names served op named =
-      as_changed Create (IsGuardedIn e request) (change_guarded e request r there Create sound originator names named op (create_told e request r there))
-  operated_guarded Retrieve sound originator names served op named = read_guarded e sound request r named op there
-  operated_guarded Update sound originator names served op named =
-      as_changed Update (IsGuardedIn e request) (change_guarded e request r there Update sound originator names named op (update_told e request r there))
-  operated_guarded Delete sound originator names served op named =
-      as_changed Delete (IsGuardedIn e request) (change_guarded e request r there Delete sound originator names named op (delete_told e request r there))
-  operated_guarded Notify sound originator names served op named = absurd (false≢true served)
-
-  operated_sound : (op : Op) → IsSoundEntity e → is_originator (claimed_originator e.home request) ≡ true → NamesInOrder request → does_serve op request ≡ true → IsSoundEntity (operation_effect op e request r).after
-  operated_sound Create sound originator names served =
-      as_changed Create (λ x. IsSoundEntity x.after) (told_stays_sound Create e (claimed_originator e.home request) request r.number sound originator names)
-  operated_sound Retrieve sound originator names served = sound
-  operated_sound Update sound originator names served =
-      as_changed Update (λ x. IsSoundEntity x.after) (told_stays_sound Update e (claimed_originator e.home request) request r.number sound originator names)
-  operated_sound Delete sound originator names served =
-      as_changed Delete (λ x. IsSoundEntity x.after) (told_stays_sound Delete e (claimed_originator e.home request) request r.number sound originator names)
-  operated_sound Notify sound originator names served = absurd (false≢true served)
-
-  operated_kept : (op : Op) → does_serve op request ≡ true → IsKept e (operation_effect op e request r)
-  operated_kept Create served = as_changed Create (IsKept e) (create_kept e request r there)
-  operated_kept Retrieve served = still_kept e (reading_reply e request r.number)
-  operated_kept Update served = as_changed Update (IsKept e) (update_kept e request r there)
-  operated_kept Delete served = as_changed Delete (IsKept e) (delete_kept e request r there)
-  operated_kept Notify served = absurd (false≢true served)
-
--- ---- what comes of a request
-
--- what comes of a request is the effect with a reply of which this holds
-pub record Comes (e : EntityData) (request : RequestParts) (P : Effect → Type 0) : Type 0 where
-  pub effect : Effect
-  pub is : effect_of e request ≡ as_done effect
-  pub holds : P effect
-
--- where it holds of each refusal, and of what the operation on its target gives
-pub comes : (e : EntityData) (request : RequestParts) (P : Effect → Type 0) → ((fault : Rsc) → is_success fault ≡ false → P (refused e request fault)) → ((way : IsOperated e request (effect_of e request)) → P (operation_effect request.op e request way.target)) → Comes e request P
-comes e request P refuses operates = elim (two_ways e request) [
-  | inl refusal ↦ record { effect = refused e request refusal.0; is = refusal.2; holds = refuses refusal.0 refusal.1 }
-  | inr way ↦ record { effect = operation_effect request.op e request way.target; is = way.is; holds = operates way }
+-- where it holds of each refusal, of what the operation on its target gives, of what a poll gives
+-- that is given a note, of an answer that is taken, and of a fan-out
+pub comes : (e : EntityData) (request : RequestParts) (P : Effect → Type 0) → ((fault : Rsc) → is_success fault ≡ false → P (refused e request fault)) → ((way : IsOperated e request (effect_of e request)) → P (operation_effect request.op e request way.target)) → ((way : IsPolled e request (effect_of e request)) → P (given_note e request way.channel way.note)) → ((way : IsTaken e request (effect_of e request)) → P (taken_answer e request)) → ((way : IsFanned e request (effect_of e request)) → P (fanned_by e request way.place way.group)) → Came e request P
+comes e request P refusal operation poll answer fan = elim (way_of e request) [
+  | refuses way ↦ replied (refused e request way.0) way.2 (refusal way.0 way.1)
+  | operates way ↦ replied (operation_effect request.op e request way.target) way.is (operation way)
+  | polls way ↦ replied (given_note e request way.channel way.note) way.is (poll way)
+  | answers way ↦ replied (taken_answer e request) way.is (answer way)
+  | fans way ↦ replied (fanned_by e request way.place way.group) way.is (fan way)
+  | leaves way ↦ went_on way
 ]
 
 -- and so of the entity after it
-left_by : (e : EntityData) (request : RequestParts) (P : EntityData → Type 0) → Comes e request (λ x. P x.after) → P (effect_of e request).after
-left_by e request P came = subst (λ (x : EventEffect). P x.after) (sym came.is) came.holds
+pub left_by : (e : EntityData) (request : RequestParts) (P : EntityData → Type 0) → P e → Came e request (λ x. P x.after) → P (effect_of e request).after
+left_by e request P holds (replied effect is left) = subst (λ (x : EventEffect). P x.after) (sym is) left
+left_by e request P holds (went_on way) = subst (λ (x : EventEffect). P x.after) (sym way.is) holds
+
+-- a request that is fanned out may be sent to each member
+pub may_send : (e : EntityData) (request : RequestParts) → IsFanned e request (effect_of e request) → NamesInOrder request → MaySend e.home request
+may_send e request way names = record { served = way.served; originator = way.originator; names = names }
 
 -- a refusal is guarded, whatever the address names
 refused_by : (e : EntityData) (request : RequestParts) (fault : Rsc) (spot : Option Spot) → is_success fault ≡ false → IsGuardedAt spot e request (refusal request fault) e
 refused_by e request fault None other = ((λ shows. shows_none request fault other shows), refl)
 refused_by e request fault (Some (Resource n)) other = refused_guarded e request fault other
 refused_by e request fault (Some (Fan group rest)) other = inl ((λ shows. shows_none request fault other shows), refl)
-refused_by e request fault (Some (Poll channel)) other = record { shown = λ shows. absurd (shows_none request fault other shows); kept = refl }
+refused_by e request fault (Some (Poll channel)) other = record {
+  shown = λ shows. absurd (shows_none request fault other shows);
+  own = inl refl;
+  kept = refl;
+}
 
-pub guarded : (e : EntityData) (request : RequestParts) → IsSoundEntity e → NamesInOrder request → Comes e request (λ x. IsGuarded e request x.reply x.after)
+pub guarded : (e : EntityData) (request : RequestParts) → IsSoundEntity e → NamesInOrder request → Came e request (λ x. IsGuarded e request x.reply x.after)
 guarded e request sound names =
     comes e request (λ x. IsGuarded e request x.reply x.after)
     (λ fault other. refused_by e request fault (spot_asked e request) other)
@@ -148,25 +87,87 @@ guarded e request sound names =
     let x = operation_effect request.op e request way.target in
     subst (λ (spot : Option Spot). IsGuardedAt spot e request x.reply x.after) (sym way.spot)
     (operated_guarded e request way.target way.there request.op sound way.originator names way.served refl way.named))
+    (λ way.
+    let x = given_note e request way.channel way.note in
+    subst (λ (spot : Option Spot). IsGuardedAt spot e request x.reply x.after) (sym way.spot)
+    (record {
+      shown = λ shows. ap (λ (p : Op). grants e.home e.nodes (claimed_originator e.home request) (op_row p).bit way.channel) way.op ∙ way.right;
+      own = inr (ap (option_map handed_on) (sym way.first));
+      kept = refl;
+    }))
+    (λ way.
+    let x = taken_answer e request in
+    subst (λ (spot : Option Spot). IsGuardedAt spot e request x.reply x.after) (sym way.spot)
+    (record {
+      shown = λ shows.
+          ap (λ (p : Op). grants e.home e.nodes (claimed_originator e.home request) (op_row p).bit way.channel) way.op
+          ∙ sym (ap (λ (p : Op). may_do p e (claimed_originator e.home request) request way.channel) way.op)
+          ∙ way.right;
+      own = inl refl;
+      kept = refl;
+    }))
+    (λ way.
+    let x = fanned_by e request way.place way.group in
+    let addresses = member_addresses e request way.place way.group in
+    let at_home : IsSoundAt e.home e = record { sound = sound; home_is = refl } in
+    subst (λ (spot : Option Spot). IsGuardedAt spot e request x.reply x.after) (sym way.spot)
+    (inr (record {
+      group = way.group;
+      there = way.there;
+      right = way.right;
+      singles = singles_of e (requests_to request addresses);
+      all = refl;
+      guarded = members_guarded e.home request (may_send e request way names) addresses e at_home;
+      replied = refl;
+    })))
 
 pub sound_effect : (e : EntityData) (request : RequestParts) → IsSoundEntity e → NamesInOrder request → IsSoundEntity (effect_of e request).after
 sound_effect e request sound names =
-    left_by e request IsSoundEntity (comes e request (λ x. IsSoundEntity x.after)
+    left_by e request IsSoundEntity sound (comes e request (λ x. IsSoundEntity x.after)
     (λ fault other. sound)
-    (λ way. operated_sound e request way.target way.there request.op sound way.originator names way.served))
+    (λ way. operated_sound e request way.target way.there request.op sound way.originator names way.served)
+    (λ way. sound_taken (waits_for way.channel) e sound)
+    (λ way. sound)
+    (λ way. (members_sound e.home request (may_send e request way names) (member_addresses e request way.place way.group) e (record { sound = sound; home_is = refl })).sound))
 
-pub kept : (e : EntityData) (request : RequestParts) → Comes e request (IsKept e)
+pub kept : (e : EntityData) (request : RequestParts) → Came e request (IsKept e)
 kept e request =
     comes e request (IsKept e)
     (λ fault other. still_kept e (refusal request fault))
     (λ way. operated_kept e request way.target way.there request.op way.served)
+    (λ way. record { home = refl; last = refl; next = omega arith; unserved = λ none. absurd (true≢false none) })
+    (λ way. still_kept e (reply_to request Fine None))
+    (λ way.
+    let left = members_kept (member_addresses e request way.place way.group) e request way.served in
+    record { home = left.home; last = left.last; next = left.next; unserved = λ none. absurd (true≢false none) })
 
--- a Retrieve changes nothing
-pub retrieved_still : (e : EntityData) (request : RequestParts) → request.op ≡ Retrieve → (effect_of e request).after ≡ e
+-- a Retrieve changes no resource
+member_read : (e : EntityData) (request : RequestParts) → request.op ≡ Retrieve → (member_effect e request).after.nodes ≡ e.nodes
+member_read e request op =
+    of_member e request (λ x. x.after.nodes ≡ e.nodes) (λ fault other. refl)
+    (λ way. ap (λ (p : Op). (operation_effect p e request way.target).after.nodes) op)
+
+pub retrieved_still : (e : EntityData) (request : RequestParts) → request.op ≡ Retrieve → (effect_of e request).after.nodes ≡ e.nodes
 retrieved_still e request op =
-    left_by e request (λ (after : EntityData). after ≡ e) (comes e request (λ x. x.after ≡ e)
+    left_by e request (λ (after : EntityData). after.nodes ≡ e.nodes) refl (comes e request (λ x. x.after.nodes ≡ e.nodes)
     (λ fault other. refl)
-    (λ way. ap (λ (p : Op). (operation_effect p e request way.target).after) op))
+    (λ way. ap (λ (p : Op). (operation_effect p e request way.target).after.nodes) op)
+    (λ way. refl)
+    (λ way. refl)
+    (λ way. members_still request (λ x address. member_read x (sent_to request address) op) (member_addresses e request way.place way.group) e))
+
+-- nor does a Notify, which isn't fanned out
+not_fanned : (op : Op) → op ≡ Notify → is_fanned op ≡ true → ⊥
+not_fanned op is fanned = true≢false (sym fanned ∙ ap is_fanned is)
+
+pub notified_still : (e : EntityData) (request : RequestParts) → request.op ≡ Notify → (effect_of e request).after.nodes ≡ e.nodes
+notified_still e request op =
+    left_by e request (λ (after : EntityData). after.nodes ≡ e.nodes) refl (comes e request (λ x. x.after.nodes ≡ e.nodes)
+    (λ fault other. refl)
+    (λ way. ap (λ (p : Op). (operation_effect p e request way.target).after.nodes) op ∙ relay_nodes e request way.target way.there)
+    (λ way. refl)
+    (λ way. refl)
+    (λ way. absurd (not_fanned request.op op way.op)))
 
 -- ---- a request that was served
 
@@ -182,12 +183,31 @@ served_way e request target named way =
     subst (Served e request) (same_Some way.target target (sym way.named ∙ named))
     (record { there = way.there; originator = way.originator; served = way.served; is = way.is })
 
+done_onward : (reply : ReplyParts) (poa : List ℕ) (onward : RequestParts) → Done reply ≡ Forward poa onward → ⊥
+done_onward reply poa onward same = cc
+
+-- what goes on isn't answered here
+pub answered_here : (e : EntityData) (request : RequestParts) (reply : ReplyParts) → Done reply ≡ (effect_of e request).outcome → GoesOn e request (effect_of e request) → ⊥
+answered_here e request reply is way = done_onward reply way.poa _ (is ∙ ap (λ (x : EventEffect). x.outcome) way.is)
+
+-- and it changes nothing
+pub onward_still : (e : EntityData) (request : RequestParts) (poa : List ℕ) (onward : RequestParts) → Forward poa onward ≡ (effect_of e request).outcome → (effect_of e request).after ≡ e
+onward_still e request poa onward is = by (comes e request (λ x. ⊤) (λ fault other. tt) (λ way. tt) (λ way. tt) (λ way. tt) (λ way. tt))
+  where
+    by : Came e request (λ x. ⊤) → (effect_of e request).after ≡ e
+    by (replied effect done holds) = absurd (done_onward effect.reply poa onward (sym (is ∙ ap (λ (x : EventEffect). x.outcome) done)))
+    by (went_on way) = ap (λ (x : EventEffect). x.after) way.is
+
 pub served_on : (e : EntityData) (request : RequestParts) (target : ResourceData) (reply : ReplyParts) → Done reply ≡ (effect_of e request).outcome → is_success reply.rsc ≡ true → addressed e request.to ≡ Some target → Served e request target
-served_on e request target reply is success named = elim (two_ways e request) [
-  | inl fault ↦
-      let refused : reply ≡ refusal request fault.0 = same_reply reply (refusal request fault.0) (is ∙ ap (λ (x : EventEffect). x.outcome) fault.2) in
-      absurd (true≢false (sym success ∙ ap (λ (r : ReplyParts). is_success r.rsc) refused ∙ fault.1))
-  | inr way ↦ served_way e request target named way
+served_on e request target reply is success named = elim (way_of e request) [
+  | refuses way ↦
+      let refused : reply ≡ refusal request way.0 = same_reply reply (refusal request way.0) (is ∙ ap (λ (x : EventEffect). x.outcome) way.2) in
+      absurd (true≢false (sym success ∙ ap (λ (r : ReplyParts). is_success r.rsc) refused ∙ way.1))
+  | operates way ↦ served_way e request target named way
+  | polls way ↦ absurd (none-some target (sym (ap (option_and_then (resource_at e.nodes)) way.spot) ∙ named))
+  | answers way ↦ absurd (none-some target (sym (ap (option_and_then (resource_at e.nodes)) way.spot) ∙ named))
+  | fans way ↦ absurd (none-some target (sym (ap (option_and_then (resource_at e.nodes)) way.spot) ∙ named))
+  | leaves way ↦ absurd (answered_here e request reply is way)
 ]
 
 -- its reply, and the entity after it

@@ -1,5 +1,5 @@
 -- Steps one after another.
-use Rattle.std.proofs.Common.{◌≡◌, ◌⊎◌, ℕ, List, [], ◌∷◌, ◌++◌, length, get_or, drop, inl, inr, refl, sym, ap, subst, ◌∙◌, arith}
+use Rattle.std.proofs.Common.{◌≡◌, ◌⊎◌, ℕ, List, [], ◌∷◌, ◌++◌, false, length, get_or, drop, take, inl, inr, refl, sym, ap, subst, ◌∙◌, arith}
 use Rattle.std.specs.List.{All}
 use Rattle.std.proofs.lemmas.List.Elements.{All-head, All-tail}
 use Rattle.turn_desk.specs.Entries.{entry_of, readings_of, events_of, outcomes_of}
@@ -15,64 +15,115 @@ use Rattle.entity_model.proofs.TellingLemmas.{sound_swept}
 use Rattle.cse_machine.specs.declared.event.Event.{Event}
 use Rattle.cse_machine.specs.declared.event.Event.TheVariants.{Ask, Take, Tick}
 use Rattle.cse_machine.specs.declared.event.Outcome.{Outcome}
-use Rattle.cse_machine.specs.declared.event.Outcome.TheVariants.{Done, Item, Ticked, Starved}
-use Rattle.machine_laws.specs.Guard.{IsGuarded, IsSameEntity}
+use Rattle.cse_machine.specs.declared.event.Outcome.TheVariants.{Done, Forward, Item, Ticked, Starved}
+use Rattle.group_fanout.specs.Fan.{Single, requests_to, singles_of}
+use Rattle.machine_laws.specs.Guard.{AreGuarded, IsGuarded, IsGuardedShort, IsSameEntity, is_fan_point, spot_asked}
 use Rattle.cse_machine.specs.Answer.{EventEffect}
 use Rattle.cse_machine.specs.History.{History, HistoryLeaves, IsDone}
 use Rattle.cse_machine.specs.Step.{IsUnswept, Step}
-use Rattle.cse_machine.proofs.OutcomeLemmas.{cut_short, same_reply}
+use Rattle.cse_machine.proofs.OutcomeLemmas.{same_reply}
 use Rattle.machine_laws.proofs.ChangingLemmas.{IsKept}
-use Rattle.machine_laws.proofs.GuardLemmas.{Comes, guarded, kept, sound_effect}
+use Rattle.machine_laws.proofs.CutLemmas.{IsLeftShort, alone_undone, first_undone, left_short, short_send, some_done, undone}
+use Rattle.machine_laws.proofs.GuardLemmas.{Came, answered_here, guarded, kept, onward_still, replied, sound_effect, went_on}
+use Rattle.machine_laws.proofs.MemberLemmas.{IsSame, IsSoundAt, members_guarded, members_kept, members_sound, same_still, take_requests, take_singles}
+use Rattle.machine_laws.proofs.WayLemmas.{member_addresses}
 
 -- ---- where memory runs out
 
--- nothing has changed, and no member of a fan-out is done
-unswept_leaves : (reading : ℕ) (before after : EntityData) (done : ℕ) → IsUnswept reading before done after → (done ≡ 0) × ((after ≡ swept reading before) ⊎ IsUnswept reading before 0 after)
-unswept_leaves reading before after done unswept =
-    (unswept.none, inr (record { none = refl; same = unswept.same; due = unswept.due }))
+-- in the expiry, nothing has changed
+unswept_same : (reading : ℕ) (before after : EntityData) (done : ℕ) → IsUnswept reading before done after → IsSameEntity reading before after
+unswept_same reading before after done unswept = record {
+  home = ap (λ (e : EntityData). e.home) unswept.same;
+  last = inr (record { none = refl; same = unswept.same; due = unswept.due });
+  next = omega (arith, ap (λ (e : EntityData). e.next) unswept.same);
+}
 
--- where memory runs out, a step leaves what isn't due of the entity; or all of it, where the expiry
--- ran out of memory
-pub starved_leaves : (reading : ℕ) (event : Event) (before after : EntityData) (done : ℕ) → Step reading event before (Starved done) after → (done ≡ 0) × ((after ≡ swept reading before) ⊎ IsUnswept reading before 0 after)
-starved_leaves reading (Ask request) before after done step = elim step [
-  | inl short ↦ (let is = cut_short (swept reading before) request done after short in (is.0, inl is.1))
-  | inr unswept ↦ unswept_leaves reading before after done unswept
+-- where no member is done, a step leaves what isn't due of the entity; or all of it, where the
+-- expiry ran out of memory
+abbrev pub IsLeftAlone : ℕ → EntityData → EntityData → Type 0
+IsLeftAlone reading before after = (after ≡ swept reading before) ⊎ IsUnswept reading before 0 after
+
+none_unswept : (reading : ℕ) (before after : EntityData) (done : ℕ) → IsUnswept reading before done after → IsLeftAlone reading before after
+none_unswept reading before after done unswept = inr (record { none = refl; same = unswept.same; due = unswept.due })
+
+pub starved_alone : (reading : ℕ) (event : Event) (before after : EntityData) → Step reading event before (Starved 0) after → IsLeftAlone reading before after
+starved_alone reading (Ask request) before after step = elim step [
+  | inl short ↦ (let e = swept reading before in inl (first_undone e request after (left_short e request 0 after short)))
+  | inr unswept ↦ none_unswept reading before after 0 unswept
 ]
-starved_leaves reading Take before after done step = unswept_leaves reading before after done step
-starved_leaves reading Tick before after done step = unswept_leaves reading before after done step
+starved_alone reading Take before after step = none_unswept reading before after 0 step
+starved_alone reading Tick before after step = none_unswept reading before after 0 step
+
+-- and none is but by a fan-out
+pub starved_undone : (reading : ℕ) (request : RequestParts) (done : ℕ) (before after : EntityData) → is_fan_point (spot_asked (swept reading before) request) ≡ false → Step reading (Ask request) before (Starved done) after → done ≡ 0
+starved_undone reading request done before after other step = elim step [
+  | inl short ↦ (let e = swept reading before in alone_undone e request done after other (left_short e request done after short))
+  | inr unswept ↦ unswept.none
+]
 
 -- ---- steps
 
 -- what holds of the effect of a request, holds of its step
-pub done_holds : (P : Effect → Type 0) (reading : ℕ) (request : RequestParts) (before after : EntityData) (reply : ReplyParts) → Comes (swept reading before) request P → Step reading (Ask request) before (Done reply) after → P (record { reply = reply; after = after })
-done_holds P reading request before after reply came step =
-    let is = same_reply reply came.effect.reply (step.0 ∙ ap (λ (x : EventEffect). x.outcome) came.is) in
-    let left = step.1 ∙ ap (λ (x : EventEffect). x.after) came.is in
-    subst (λ (r : ReplyParts). P (record { reply = r; after = after })) (sym is)
-    (subst (λ (e : EntityData). P (record { reply = came.effect.reply; after = e })) (sym left) came.holds)
+pub done_holds : (P : Effect → Type 0) (reading : ℕ) (request : RequestParts) (before after : EntityData) (reply : ReplyParts) → Came (swept reading before) request P → Step reading (Ask request) before (Done reply) after → P (record { reply = reply; after = after })
+done_holds P reading request before after reply came step = by came
+  where
+    e : EntityData
+    e = swept reading before
+
+    by : Came (swept reading before) request P → P (record { reply = reply; after = after })
+    by (replied effect is holds) =
+        let said = same_reply reply effect.reply (step.0 ∙ ap (λ (x : EventEffect). x.outcome) is) in
+        let left = step.1 ∙ ap (λ (x : EventEffect). x.after) is in
+        subst (λ (r : ReplyParts). P (record { reply = r; after = after })) (sym said)
+        (subst (λ (x : EntityData). P (record { reply = effect.reply; after = x })) (sym left) holds)
+    by (went_on way) = absurd (answered_here (swept reading before) request reply step.0 way)
 
 -- what holds of the entity that a request leaves
 pub done_keeps : (reading : ℕ) (request : RequestParts) (before after : EntityData) (reply : ReplyParts) → Step reading (Ask request) before (Done reply) after → IsKept (swept reading before) (record { reply = reply; after = after })
 done_keeps reading request before after reply step =
     done_holds (IsKept (swept reading before)) reading request before after reply (kept (swept reading before) request) step
 
+-- what goes on changes nothing
+pub onward_leaves : (reading : ℕ) (request : RequestParts) (before after : EntityData) (poa : List ℕ) (onward : RequestParts) → Step reading (Ask request) before (Forward poa onward) after → after ≡ swept reading before
+onward_leaves reading request before after poa onward step =
+    step.1 ∙ onward_still (swept reading before) request poa onward step.0
+
+-- an entity is the same one behind the expiry
+swept_same : (reading : ℕ) (before after : EntityData) → IsSame (swept reading before) after → IsSameEntity reading before after
+swept_same reading before after left = record { home = left.home; last = inl left.last; next = left.next }
+
+short_same : (reading : ℕ) (request : RequestParts) (done : ℕ) (before after : EntityData) → IsLeftShort (swept reading before) request done after → IsSameEntity reading before after
+short_same reading request done before after (undone none same) =
+    swept_same reading before after (subst (IsSame (swept reading before)) (sym same) (same_still (swept reading before)))
+short_same reading request done before after (some_done fan names left) =
+    let e = swept reading before in
+    let addresses = take done (member_addresses e request fan.place fan.group) in
+    swept_same reading before after (subst (IsSame e) (sym left) (members_kept addresses e request fan.served))
+
 same_starved : (reading : ℕ) (event : Event) (before after : EntityData) (done : ℕ) → Step reading event before (Starved done) after → IsSameEntity reading before after
-same_starved reading event before after done step = elim (starved_leaves reading event before after done step).1 [
-  | inl left ↦ record { home = ap (λ (e : EntityData). e.home) left; last = inl (ap (λ (e : EntityData). e.last) left); next = omega (arith, ap (λ (e : EntityData). e.next) left) }
-  | inr unswept ↦ record { home = ap (λ (e : EntityData). e.home) unswept.same; last = inr unswept; next = omega (arith, ap (λ (e : EntityData). e.next) unswept.same) }
+same_starved reading (Ask request) before after done step = elim step [
+  | inl short ↦ short_same reading request done before after (left_short (swept reading before) request done after short)
+  | inr unswept ↦ unswept_same reading before after done unswept
 ]
+same_starved reading Take before after done step = unswept_same reading before after done step
+same_starved reading Tick before after done step = unswept_same reading before after done step
 
 -- an entity stays the same one
 pub same_entity : (reading : ℕ) (event : Event) (outcome : Outcome) (before after : EntityData) → Step reading event before outcome after → IsSameEntity reading before after
 same_entity reading (Ask request) (Done reply) before after step =
     let left = done_keeps reading request before after reply step in
     record { home = left.home; last = inl left.last; next = left.next }
+same_entity reading (Ask request) (Forward poa onward) before after step =
+    let left = onward_leaves reading request before after poa onward step in
+    swept_same reading before after (subst (IsSame (swept reading before)) (sym left) (same_still (swept reading before)))
 same_entity reading (Ask request) (Starved done) before after step = same_starved reading (Ask request) before after done step
 same_entity reading (Ask request) (Item given) before after step = absurd step
 same_entity reading (Ask request) Ticked before after step = absurd step
 same_entity reading Take (Done reply) before after step = absurd step
+same_entity reading Take (Forward poa onward) before after step = absurd step
 same_entity reading Take Ticked before after step = absurd step
 same_entity reading Tick (Done reply) before after step = absurd step
+same_entity reading Tick (Forward poa onward) before after step = absurd step
 same_entity reading Tick (Item given) before after step = absurd step
 same_entity reading Take (Item given) before after step = record { home = ap (λ (e : EntityData). e.home) step.1; last = inl (ap (λ (e : EntityData). e.last) step.1); next = omega (arith, ap (λ (e : EntityData). e.next) step.1) }
 same_entity reading Take (Starved done) before after step = same_starved reading Take before after done step
@@ -83,21 +134,37 @@ pub one_more : (opening before after : EntityData) (history : History) (reading 
 one_more opening before after history reading event outcome run step =
     Runs-append Step history (entry_of reading event outcome ∷ []) opening before after run (after, step, refl)
 
+short_sound : (e : EntityData) (request : RequestParts) (done : ℕ) (after : EntityData) → IsSoundEntity e → IsLeftShort e request done after → IsSoundEntity after
+short_sound e request done after sound (undone none same) = subst IsSoundEntity (sym same) sound
+short_sound e request done after sound (some_done fan names left) =
+    let addresses = take done (member_addresses e request fan.place fan.group) in
+    subst IsSoundEntity (sym left)
+    (members_sound e.home request (short_send e request fan names) addresses e (record { sound = sound; home_is = refl })).sound
+
+unswept_sound : (reading : ℕ) (before after : EntityData) (done : ℕ) → IsSoundEntity before → IsUnswept reading before done after → IsSoundEntity after
+unswept_sound reading before after done sound unswept = subst IsSoundEntity (sym unswept.same) sound
+
 sound_starved : (reading : ℕ) (event : Event) (before after : EntityData) (done : ℕ) → IsSoundEntity before → Step reading event before (Starved done) after → IsSoundEntity after
-sound_starved reading event before after done sound step = elim (starved_leaves reading event before after done step).1 [
-  | inl left ↦ subst IsSoundEntity (sym left) (sound_swept reading before sound)
-  | inr unswept ↦ subst IsSoundEntity (sym unswept.same) sound
+sound_starved reading (Ask request) before after done sound step = elim step [
+  | inl short ↦ (let e = swept reading before in short_sound e request done after (sound_swept reading before sound) (left_short e request done after short))
+  | inr unswept ↦ unswept_sound reading before after done sound unswept
 ]
+sound_starved reading Take before after done sound step = unswept_sound reading before after done sound step
+sound_starved reading Tick before after done sound step = unswept_sound reading before after done sound step
 
 pub sound_step : (reading : ℕ) (event : Event) (before after : EntityData) (outcome : Outcome) → IsSoundEntity before → Step reading event before outcome after → IsSoundEntity after
 sound_step reading (Ask request) before after (Done reply) sound step =
+    subst IsSoundEntity (sym step.1) (sound_effect (swept reading before) request (sound_swept reading before sound) step.2)
+sound_step reading (Ask request) before after (Forward poa onward) sound step =
     subst IsSoundEntity (sym step.1) (sound_effect (swept reading before) request (sound_swept reading before sound) step.2)
 sound_step reading (Ask request) before after (Starved done) sound step = sound_starved reading (Ask request) before after done sound step
 sound_step reading (Ask request) before after (Item given) sound step = absurd step
 sound_step reading (Ask request) before after Ticked sound step = absurd step
 sound_step reading Take before after (Done reply) sound step = absurd step
+sound_step reading Take before after (Forward poa onward) sound step = absurd step
 sound_step reading Take before after Ticked sound step = absurd step
 sound_step reading Tick before after (Done reply) sound step = absurd step
+sound_step reading Tick before after (Forward poa onward) sound step = absurd step
 sound_step reading Tick before after (Item given) sound step = absurd step
 sound_step reading Take before after (Item given) sound step =
     subst IsSoundEntity (sym step.1) (sound_taken (is_to_send (swept reading before).nodes) (swept reading before) (sound_swept reading before sound))
@@ -115,6 +182,35 @@ pub step_guarded : (reading : ℕ) (request : RequestParts) (before after : Enti
 step_guarded reading request before after reply sound step =
     let e = swept reading before in
     done_holds (λ x. IsGuarded e request x.reply x.after) reading request before after reply (guarded e request (sound_swept reading before sound) step.2) step
+
+-- and so is what has taken effect where memory ran out
+short_guarded : (e : EntityData) (request : RequestParts) (done : ℕ) (after : EntityData) → IsSoundEntity e → IsLeftShort e request done after → IsGuardedShort e request done after
+short_guarded e request done after sound (undone none same) = inl same
+short_guarded e request done after sound (some_done fan names left) =
+    let addresses = member_addresses e request fan.place fan.group in
+    let singles = singles_of e (requests_to request addresses) in
+    let first = take done addresses in
+    let at_home : IsSoundAt e.home e = record { sound = sound; home_is = refl } in
+    let some : take done singles ≡ singles_of e (requests_to request first) =
+    take_singles done (requests_to request addresses) e ∙ ap (singles_of e) (take_requests done addresses request) in
+    inr (record {
+      group = fan.group;
+      place = fan.place;
+      spot = fan.spot;
+      there = fan.there;
+      right = fan.right;
+      singles = singles;
+      all = refl;
+      guarded = subst (λ (taken : List Single). AreGuarded e taken after) (sym some)
+          (subst (λ (x : EntityData). AreGuarded e (singles_of e (requests_to request first)) x) (sym left)
+          (members_guarded e.home request (short_send e request fan names) first e at_home));
+    })
+
+pub starved_guarded : (reading : ℕ) (request : RequestParts) (before after : EntityData) (done : ℕ) → IsSoundEntity before → Step reading (Ask request) before (Starved done) after → IsGuardedShort (swept reading before) request done after ⊎ IsUnswept reading before done after
+starved_guarded reading request before after done sound step = elim step [
+  | inl short ↦ (let e = swept reading before in inl (short_guarded e request done after (sound_swept reading before sound) (left_short e request done after short)))
+  | inr unswept ↦ inr unswept
+]
 
 -- an entry of a history is the step that it tells
 pub entry_steps : (earlier later : History) (opening e : EntityData) (reading : ℕ) (event : Event) (outcome : Outcome) → IsSoundEntity opening → HistoryLeaves opening (earlier ++ entry_of reading event outcome ∷ later) e
@@ -144,28 +240,41 @@ none_some x xs e = omega (arith, ap length e)
 
 -- a step for which there is memory has one outcome and leaves one entity
 step_one_way : (reading : ℕ) (event : Event) (before after other : EntityData) (outcome twin : Outcome) → Step reading event before outcome after → Step reading event before twin other → IsDone outcome → IsDone twin → (outcome ≡ twin) × (after ≡ other)
-step_one_way reading (Ask request) before after other (Done reply) (Done replied) first second done dones =
+step_one_way reading (Ask request) before after other (Done reply) (Done again) first second done dones =
     (first.0 ∙ sym second.0, first.1 ∙ sym second.1)
-step_one_way reading (Ask request) before after other (Done reply) (Starved none) first second done dones = absurd dones
-step_one_way reading (Ask request) before after other (Starved none) twin first second done dones = absurd done
-step_one_way reading (Ask request) before after other (Done reply) (Item given) first second done dones = absurd second
+step_one_way reading (Ask request) before after other (Done reply) (Forward way further) first second done dones =
+    (first.0 ∙ sym second.0, first.1 ∙ sym second.1)
+step_one_way reading (Ask request) before after other (Done reply) (Item noted) first second done dones = absurd second
 step_one_way reading (Ask request) before after other (Done reply) Ticked first second done dones = absurd second
+step_one_way reading (Ask request) before after other (Done reply) (Starved few) first second done dones = absurd dones
+step_one_way reading (Ask request) before after other (Forward poa onward) (Done again) first second done dones =
+    (first.0 ∙ sym second.0, first.1 ∙ sym second.1)
+step_one_way reading (Ask request) before after other (Forward poa onward) (Forward way further) first second done dones =
+    (first.0 ∙ sym second.0, first.1 ∙ sym second.1)
+step_one_way reading (Ask request) before after other (Forward poa onward) (Item noted) first second done dones = absurd second
+step_one_way reading (Ask request) before after other (Forward poa onward) Ticked first second done dones = absurd second
+step_one_way reading (Ask request) before after other (Forward poa onward) (Starved few) first second done dones = absurd dones
 step_one_way reading (Ask request) before after other (Item given) twin first second done dones = absurd first
 step_one_way reading (Ask request) before after other Ticked twin first second done dones = absurd first
+step_one_way reading (Ask request) before after other (Starved some) twin first second done dones = absurd done
 step_one_way reading Take before after other (Done reply) twin first second done dones = absurd first
-step_one_way reading Take before after other Ticked twin first second done dones = absurd first
-step_one_way reading Take before after other (Item given) (Done reply) first second done dones = absurd second
-step_one_way reading Take before after other (Item given) Ticked first second done dones = absurd second
-step_one_way reading Tick before after other (Done reply) twin first second done dones = absurd first
-step_one_way reading Tick before after other (Item given) twin first second done dones = absurd first
-step_one_way reading Tick before after other Ticked (Done reply) first second done dones = absurd second
-step_one_way reading Tick before after other Ticked (Item given) first second done dones = absurd second
+step_one_way reading Take before after other (Forward poa onward) twin first second done dones = absurd first
+step_one_way reading Take before after other (Item given) (Done again) first second done dones = absurd second
+step_one_way reading Take before after other (Item given) (Forward way further) first second done dones = absurd second
 step_one_way reading Take before after other (Item given) (Item noted) first second done dones = (ap Item (first.0 ∙ sym second.0), first.1 ∙ sym second.1)
-step_one_way reading Take before after other (Item given) (Starved none) first second done dones = absurd dones
-step_one_way reading Take before after other (Starved none) twin first second done dones = absurd done
+step_one_way reading Take before after other (Item given) Ticked first second done dones = absurd second
+step_one_way reading Take before after other (Item given) (Starved few) first second done dones = absurd dones
+step_one_way reading Take before after other Ticked twin first second done dones = absurd first
+step_one_way reading Take before after other (Starved some) twin first second done dones = absurd done
+step_one_way reading Tick before after other (Done reply) twin first second done dones = absurd first
+step_one_way reading Tick before after other (Forward poa onward) twin first second done dones = absurd first
+step_one_way reading Tick before after other (Item given) twin first second done dones = absurd first
+step_one_way reading Tick before after other Ticked (Done again) first second done dones = absurd second
+step_one_way reading Tick before after other Ticked (Forward way further) first second done dones = absurd second
+step_one_way reading Tick before after other Ticked (Item noted) first second done dones = absurd second
 step_one_way reading Tick before after other Ticked Ticked first second done dones = (refl, first ∙ sym second)
-step_one_way reading Tick before after other Ticked (Starved none) first second done dones = absurd dones
-step_one_way reading Tick before after other (Starved none) twin first second done dones = absurd done
+step_one_way reading Tick before after other Ticked (Starved few) first second done dones = absurd dones
+step_one_way reading Tick before after other (Starved some) twin first second done dones = absurd done
 
 pub one_way : (history twin : History) (opening e other : EntityData) → HistoryLeaves opening history e → HistoryLeaves opening twin other
     → readings_of history ≡ readings_of twin → events_of history ≡ events_of twin

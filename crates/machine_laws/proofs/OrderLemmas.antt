@@ -15,10 +15,10 @@ use Rattle.entity_model.specs.Places.{reading_bit, refusal}
 use Rattle.request_rules.specs.Order.{fault_on}
 use Rattle.request_rules.specs.Rights.{is_discovery, may_do}
 use Rattle.retrieve_discover.specs.Replies.{retrieved_of}
-use Rattle.cse_machine.specs.Answer.{reading_reply}
+use Rattle.group_fanout.specs.Operations.{reading_reply}
 use Rattle.machine_laws.specs.Order.{RetrievesAreRefusedInOrder}
-use Rattle.cse_machine.specs.Rights.{claimed_originator}
-use Rattle.cse_machine.proofs.PlaceLemmas.{reading_found, reading_shown}
+use Rattle.group_fanout.specs.Rights.{claimed_originator}
+use Rattle.group_fanout.proofs.OperationLemmas.{reading_found, reading_shown}
 
 module _ (e : EntityData) (request : RequestParts) (r : ResourceData) (there : at r.number e.nodes ≡ Some r) where
   abbrev o : List ℕ

@@ -1,12 +1,12 @@
 -- The outbox holds what was appended, less what was given away or dropped.
-use Rattle.std.proofs.Common.{◌≡◌, ◌⊎◌, ℕ, ◌≤◌, List, [], ◌∷◌, ◌++◌, map, Bool, true, not, ◌&&◌, Option, Some, None, Result, Ok, Err, inl, inr, refl, sym, ap, subst, ◌∙◌, arith}
+use Rattle.std.proofs.Common.{◌≡◌, ℕ, ◌≤◌, List, [], ◌∷◌, ◌++◌, append_assoc, map, find, take, Bool, true, false, cond, not, ◌&&◌, Option, Some, None, is_some, option_map, Result, Ok, Err, inl, inr, refl, sym, ap, subst, ◌∙◌, arith}
 use Rattle.std.proofs.lemmas.Bool.{and_from, and_parts, cases_Bool, or_cases, or_left, or_right}
 use Rattle.std.proofs.lemmas.Bool.Decides.{nat_tests}
 use Rattle.std.proofs.lemmas.List.{append-nil}
 use Rattle.std.specs.List.{list_all}
 use Rattle.std.specs.Option.{option_and_then, option_map_or}
 use Rattle.m2m_names.specs.declared.codes.Rsc.{Rsc}
-use Rattle.m2m_names.specs.declared.codes.Rsc.TheVariants.{BadChild}
+use Rattle.m2m_names.specs.declared.codes.Rsc.TheVariants.{BadChild, BadRequest, NoPrivilege, NotFound, RequestTimeout}
 use Rattle.m2m_names.specs.declared.operations.Op.{Op}
 use Rattle.m2m_names.specs.declared.operations.Op.TheVariants.{Create, Retrieve, Update, Delete, Notify}
 use Rattle.m2m_names.specs.declared.types.Ty.{Ty}
@@ -20,11 +20,15 @@ use Rattle.addressing.specs.Names.{spot_of}
 use Rattle.addressing.specs.declared.addr.Addr.{Addr}
 use Rattle.addressing.specs.declared.addr.Addr.TheVariants.{Local, Foreign, OtherProvider}
 use Rattle.addressing.specs.declared.addr.AddrFault.{AddrFault}
-use Rattle.notify_outbox.specs.Items.{is_to_send, still_waits}
+use Rattle.addressing.specs.declared.spot.Spot.{Spot}
+use Rattle.addressing.specs.declared.spot.Spot.TheVariants.{Resource, Fan, Poll}
+use Rattle.policy_eval.specs.Rights.{grants, retrieve_bit}
+use Rattle.tree_model.specs.Tree.{at, has}
+use Rattle.notify_outbox.specs.Items.{is_to_send, still_waits, waits_for}
 use Rattle.notify_outbox.specs.Outbox.{without_first}
 use Rattle.notify_outbox.specs.declared.item.Item.{Item}
 use Rattle.entity_model.specs.Entity.{EntityData, event_moment, items_from, still_waiting, swept}
-use Rattle.entity_model.specs.Places.{first_fault, refused}
+use Rattle.entity_model.specs.Places.{first_fault, on_found, refused, unless}
 use Rattle.request_rules.specs.Order.{creation_by, fault_on}
 use Rattle.request_rules.specs.Requests.{child_ty}
 use Rattle.create_delete.specs.Changes.{changes_by}
@@ -33,13 +37,21 @@ use Rattle.create_delete.specs.Telling.{gone_numbers, told_effect_by, told_effec
 use Rattle.cse_machine.specs.declared.event.Event.{Event}
 use Rattle.cse_machine.specs.declared.event.Event.TheVariants.{Ask, Take, Tick}
 use Rattle.cse_machine.specs.declared.event.Outcome.{Outcome}
-use Rattle.cse_machine.specs.declared.event.Outcome.TheVariants.{Done, Item as Given, Ticked, Starved}
-use Rattle.cse_machine.specs.Answer.{address_effect, as_done, change_effect, effect_of, first_places, found_effect, operation_effect, resource_at}
+use Rattle.cse_machine.specs.declared.event.Outcome.TheVariants.{Done, Forward, Item as Given, Ticked, Starved}
+use Rattle.cse_machine.specs.Answer.{address_effect, addressed, as_done, effect_of, first_places, has_answer, onward_effect, point_of, poll_effect, resource_at, route_effect, spot_effect}
+use Rattle.group_fanout.specs.Fan.{after_members, fan_effect, fan_places, fanned, fanned_requests, member_effect, member_effect_at, member_effect_by, member_requests, rest_of}
+use Rattle.subscription_match.specs.Destinations.{cse_named, first_url}
+use Rattle.retarget.specs.Routes.{comes_from_cse, routed_to}
+use Rattle.retarget.specs.declared.routing.Route.TheVariants as to
+use Rattle.group_fanout.specs.Operations.{change_effect, found_effect, operation_effect}
 use Rattle.cse_machine.specs.History.{History, HistoryLeaves}
-use Rattle.cse_machine.specs.Rights.{claimed_originator}
-use Rattle.cse_machine.specs.Step.{IsUnswept, Step}
-use Rattle.machine_laws.specs.Outbox.{Account, Accounted, AccountStep, Accounts, OutboxesAreAccounted, Waits, aged, aged_line, does_wait, expired_account, expiry_items, given, is_dropped, is_justly_dropped, is_too_old, noted, done_notes, notes_told, operation_notes, request_items, waiting_of}
-use Rattle.machine_laws.proofs.HistoryLemmas.{done_keeps, starved_leaves}
+use Rattle.group_fanout.specs.Rights.{claimed_originator, has_right}
+use Rattle.cse_machine.specs.Step.{IsCutShort, IsUnswept, Step, heard_members}
+use Rattle.machine_laws.specs.Outbox.{Account, AccountStep, Accounted, Accounts, OutboxesAreAccounted, Waits, aged, aged_line, change_notes, channel_at, channel_polled, does_wait, done_notes, expired_account, expiry_items, found_items, given, is_dropped, is_justly_dropped, is_too_old, member_items, noted, notes_told, operation_notes, polled_by, request_items, requested_account, short_account, spot_items, waiting_of}
+use Rattle.machine_laws.proofs.CutLemmas.{short_last}
+use Rattle.machine_laws.proofs.HistoryLemmas.{done_keeps, onward_leaves}
+use Rattle.machine_laws.proofs.RelayLemmas.{relay_items}
+use Rattle.machine_laws.proofs.WayLemmas.{given_note, taken_answer}
 
 -- ---- what waits
 
@@ -185,7 +197,7 @@ module _ (e : EntityData) (request : RequestParts) where
         ∙ ap (λ (n : ℕ). after.items ++ items_from n e.last (notes_told e.home e.nodes going changes)) none.numbered
         ∙ ap (λ (items : List Item). items ++ items_from e.numbered e.last (notes_told e.home e.nodes going changes)) none.items
 
-    told_items : (op : Op) → (told_effect_on op e o request r).after.items ≡ e.items ++ items_from e.numbered e.last (operation_notes op e request r)
+    told_items : (op : Op) → (told_effect_on op e o request r).after.items ≡ e.items ++ items_from e.numbered e.last (change_notes op e request r)
     told_items op = by (fault_on op e o request r)
       where
         by : (f : Option Rsc) → (option_map_or (refused e request) f (told_effect_by op e o request r)).after.items ≡ e.items ++ items_from e.numbered e.last (option_map_or (λ (fault : Rsc). []) f (done_notes op e request r.number (effect_by op e o request r).after))
@@ -193,14 +205,14 @@ module _ (e : EntityData) (request : RequestParts) where
         by (Some fault) = sym (append-nil e.items)
 
     -- a Retrieve tells nothing
-    read_none : operation_notes Retrieve e request r ≡ []
+    read_none : change_notes Retrieve e request r ≡ []
     read_none = by (fault_on Retrieve e o request r)
       where
         by : (f : Option Rsc) → option_map_or (λ (fault : Rsc). []) f (done_notes Retrieve e request r.number e) ≡ []
         by None = refl
         by (Some fault) = refl
 
-    changed_items : (op : Op) → (change_effect op e request r).after.items ≡ e.items ++ items_from e.numbered e.last (operation_notes op e request r)
+    changed_items : (op : Op) → (change_effect op e request r).after.items ≡ e.items ++ items_from e.numbered e.last (change_notes op e request r)
     unfolding change_effect
     changed_items op = told_items op
 
@@ -210,28 +222,148 @@ module _ (e : EntityData) (request : RequestParts) where
         sym (append-nil e.items) ∙ ap (λ (notes : List NoteParts). e.items ++ items_from e.numbered e.last notes) (sym read_none)
     operated_items Update = changed_items Update
     operated_items Delete = changed_items Delete
-    operated_items Notify = changed_items Notify
+    operated_items Notify = relay_items e request r
 
-  abbrev Appends : List NoteParts → EntityData → Type 0
-  Appends notes after = after.items ≡ e.items ++ items_from e.numbered e.last notes
+  abbrev Appends : List Item → EntityData → Type 0
+  Appends items after = after.items ≡ e.items ++ items
 
-  found_items : (found : Option ResourceData) → Appends (option_map_or (operation_notes request.op e request) found []) (found_effect request.op e request found).after
-  found_items None = sym (append-nil e.items)
-  found_items (Some r) = operated_items r request.op
+  pub nothing_appended : e.items ≡ e.items ++ []
+  nothing_appended = sym (append-nil e.items)
 
-  addressed_items : (a : Result Addr AddrFault) → Appends (option_map_or (operation_notes request.op e request) (option_and_then (resource_at e.nodes) (named_here a e.nodes)) []) (address_effect e request a).after
-  addressed_items (Ok (Local segments)) = found_items (option_and_then (resource_at e.nodes) (spot_of segments e.nodes))
-  addressed_items (Ok (Foreign text)) = sym (append-nil e.items)
-  addressed_items (Ok OtherProvider) = sym (append-nil e.items)
-  addressed_items (Err fault) = sym (append-nil e.items)
+  pub found_appends : (found : Option ResourceData) → (found_effect request.op e request found).after.items ≡ e.items ++ found_items e request found
+  found_appends None = nothing_appended
+  found_appends (Some r) = operated_items r request.op
 
-  judged_items : (f : Option Rsc) (a : Result Addr AddrFault) → Appends (option_map_or (λ (fault : Rsc). []) f (option_map_or (operation_notes request.op e request) (option_and_then (resource_at e.nodes) (named_here a e.nodes)) [])) (option_map_or (λ (fault : Rsc). as_done (refused e request fault)) f (address_effect e request a)).after
+  -- a request to a member appends what it would by itself
+  member_at_appends : (spot : Option Spot) → Appends (found_items e request (option_and_then (resource_at e.nodes) spot)) (member_effect_at e request spot).after
+  member_at_appends None = nothing_appended
+  member_at_appends (Some (Resource n)) = found_appends (at n e.nodes)
+  member_at_appends (Some (Fan group place)) = nothing_appended
+  member_at_appends (Some (Poll channel)) = nothing_appended
+
+  pub member_appends : (member_effect e request).after.items ≡ e.items ++ found_items e request (addressed e request.to)
+  member_appends = by_address (address_of e.home request.to)
+    where
+      by_address : (a : Result Addr AddrFault) → Appends (found_items e request (option_and_then (resource_at e.nodes) (named_here a e.nodes))) (member_effect_by e request a).after
+      by_address (Ok (Local segments)) = member_at_appends (spot_of segments e.nodes)
+      by_address (Ok (Foreign text)) = nothing_appended
+      by_address (Ok OtherProvider) = nothing_appended
+      by_address (Err fault) = nothing_appended
+
+-- and so do they all
+members_append : (requests : List RequestParts) (e : EntityData) → (after_members e requests).items ≡ e.items ++ member_items e requests
+members_append [] e = sym (append-nil e.items)
+members_append (request ∷ requests) e =
+    let after = (member_effect e request).after in
+    members_append requests after
+    ∙ ap (λ (items : List Item). items ++ member_items after requests) (member_appends e request)
+    ∙ append_assoc e.items (found_items e request (addressed e request.to)) (member_items after requests)
+
+module _ (e : EntityData) (request : RequestParts) where
+  -- what is left of the items, where this channel was polled, or these were appended
+  abbrev items_left : Option ℕ → List Item → List Item
+  items_left polled items = option_map_or (λ (c : ℕ). without_first (waits_for c) e.items) polled (e.items ++ items)
+
+  abbrev Leaves : Option ℕ → List Item → EntityData → Type 0
+  Leaves polled items after = after.items ≡ items_left polled items
+
+  still_items : Leaves None [] e
+  still_items = sym (append-nil e.items)
+
+  -- where none waits, nothing is taken
+  none_waits : (channel : ℕ) (items : List Item) → find (waits_for channel) items ≡ None → items ≡ without_first (waits_for channel) items
+  none_waits channel [] none = refl
+  none_waits channel (item ∷ items) none = elim (cases_Bool (waits_for channel item)) [
+    | inl t ↦ (let some : Some item ≡ None = rw t at none in cc)
+    | inr f ↦ (let rest : find (waits_for channel) items ≡ None = rw f at none in rw f (ap (λ (is : List Item). item ∷ is) (none_waits channel items rest)))
+  ]
+
+  given_items : (channel : ℕ) (found : Option Item) → find (waits_for channel) e.items ≡ found → Leaves (Some channel) [] (option_map_or (λ (n : NoteParts). given_note e request channel n) (option_map (λ (i : Item). i.note) found) (refused e request RequestTimeout)).after
+  given_items channel None none = none_waits channel e.items none
+  given_items channel (Some item) some = refl
+
+  polled_items : (channel : ℕ) (op : Op) → has channel e.nodes ≡ true → Leaves (polled_by op e request channel) [] (poll_effect op e request channel).after
+  polled_items channel Create there = still_items
+  polled_items channel Retrieve there = elim (cases_Bool (grants e.home e.nodes (claimed_originator e.home request) retrieve_bit channel)) [
+    | inl t ↦ rw (there, t) (given_items channel (find (waits_for channel) e.items) refl)
+    | inr f ↦ rw (there, f) still_items
+  ]
+  polled_items channel Update there = still_items
+  polled_items channel Delete there = still_items
+  polled_items channel Notify there = answered_items (has_right e request channel) (has_answer request)
+    where
+      answered_items : (right answers : Bool) → Leaves None [] (option_map_or (refused e request) (first_fault (unless right NoPrivilege ∷ unless answers BadRequest ∷ [])) (taken_answer e request)).after
+      answered_items false answers = still_items
+      answered_items true false = still_items
+      answered_items true true = still_items
+
+  -- a fan-out appends what its members do
+  group_items : (rest : List (List ℕ)) (g : ResourceData) (fault : Option Rsc) → Leaves None (member_items e (option_map_or (λ (f : Rsc). []) fault (member_requests request rest g))) (option_map_or (refused e request) fault (fanned e request (member_requests request rest g))).after
+  group_items rest g None = members_append (member_requests request rest g) e
+  group_items rest g (Some fault) = still_items
+
+  fan_items : (rest : List (List ℕ)) (found : Option ResourceData) → Leaves None (member_items e (option_map_or (fanned_requests e request rest) found [])) (on_found e request (fan_effect e request rest) found).after
+  fan_items rest None = still_items
+  fan_items rest (Some g) = group_items rest g (first_fault (fan_places e request g))
+
+  spot_left : (spot : Option Spot) → Leaves (channel_at e request spot) (spot_items e request spot) (spot_effect e request spot).after
+  spot_left None = still_items
+  spot_left (Some (Resource n)) = found_appends e request (at n e.nodes)
+  spot_left (Some (Fan group place)) = fan_items (rest_of e.home request.to place) (at group e.nodes)
+  spot_left (Some (Poll channel)) = elim (cases_Bool (has channel e.nodes)) [
+    | inl t ↦ subst (λ (b : Bool). Leaves (polled_by request.op e request channel) [] (cond b (poll_effect request.op e request channel) (refused e request NotFound)).after) (sym t) (polled_items channel request.op t)
+    | inr f ↦ subst (λ (b : Bool). Leaves (polled_by request.op e request channel) [] (cond b (poll_effect request.op e request channel) (refused e request NotFound)).after) (sym f) (absent_items request.op f)
+  ]
+    where
+      absent_items : (op : Op) → has channel e.nodes ≡ false → Leaves (polled_by op e request channel) [] e
+      absent_items Create none = still_items
+      absent_items Retrieve none = rw none still_items
+      absent_items Update none = still_items
+      absent_items Delete none = still_items
+      absent_items Notify none = still_items
+
+  -- what goes elsewhere appends nothing
+  onward_items : (poa : Option (List ℕ)) → (onward_effect e request poa).after.items ≡ e.items ++ []
+  onward_items None = still_items
+  onward_items (Some poa) = still_items
+
+  cse_items : (cse : ResourceData) (far some : Bool) → (route_effect e request [] (cond far to.NoHop (cond some (to.Forward cse.number) to.NoPoint))).after.items ≡ e.items ++ []
+  cse_items cse true some = still_items
+  cse_items cse false false = still_items
+  cse_items cse false true = onward_items (point_of e.nodes cse.number)
+
+  elsewhere_items : (cse : Option ResourceData) → (route_effect e request [] (option_map_or (routed_to e.nodes (claimed_originator e.home request)) cse to.Unknown)).after.items ≡ e.items ++ []
+  elsewhere_items None = still_items
+  elsewhere_items (Some cse) = cse_items cse (comes_from_cse e.nodes (claimed_originator e.home request)) (is_some (first_url cse))
+
+  addressed_items : (a : Result Addr AddrFault) → Leaves (channel_at e request (named_here a e.nodes)) (spot_items e request (named_here a e.nodes)) (address_effect e request a).after
+  addressed_items (Ok (Local segments)) = spot_left (spot_of segments e.nodes)
+  addressed_items (Ok (Foreign text)) = elsewhere_items (cse_named text e.nodes)
+  addressed_items (Ok OtherProvider) = still_items
+  addressed_items (Err fault) = still_items
+
+  judged_items : (f : Option Rsc) (a : Result Addr AddrFault) → Leaves (option_map_or (λ (fault : Rsc). None) f (channel_at e request (named_here a e.nodes))) (option_map_or (λ (fault : Rsc). []) f (spot_items e request (named_here a e.nodes))) (option_map_or (λ (fault : Rsc). as_done (refused e request fault)) f (address_effect e request a)).after
   judged_items None a = addressed_items a
-  judged_items (Some fault) a = sym (append-nil e.items)
+  judged_items (Some fault) a = still_items
 
-  -- a request appends the items of its notes
-  asked_items : (effect_of e request).after.items ≡ e.items ++ request_items e request
+  -- a request polls, or appends its items
+  asked_items : (effect_of e request).after.items ≡ items_left (channel_polled e request) (request_items e request)
   asked_items = judged_items (first_fault (first_places e request)) (address_of e.home request.to)
+
+  -- and so does its account
+  requested_waits : (account : Account) → e.items ≡ waiting_of account → (effect_of e request).after.items ≡ waiting_of (requested_account e request account)
+  requested_waits account waits = asked_items ∙ by (channel_polled e request)
+    where
+      by : (polled : Option ℕ) → items_left polled (request_items e request) ≡ waiting_of (option_map_or (λ (c : ℕ). given (waits_for c) account) polled (noted (request_items e request) account))
+      by None = ap (λ (items : List Item). items ++ request_items e request) waits ∙ sym (waiting-noted (request_items e request) account)
+      by (Some c) = ap (without_first (waits_for c)) waits ∙ sym (waiting-given (waits_for c) account)
+
+  requested_dropped : (account : Account) → list_all (is_justly_dropped e.last) account ≡ true → list_all (is_justly_dropped e.last) (requested_account e request account) ≡ true
+  requested_dropped account dropped = by (channel_polled e request)
+    where
+      by : (polled : Option ℕ) → list_all (is_justly_dropped e.last) (option_map_or (λ (c : ℕ). given (waits_for c) account) polled (noted (request_items e request) account)) ≡ true
+      by None = justly-noted e.last (request_items e request) account dropped
+      by (Some c) = justly-given e.last (waits_for c) account dropped
 
 -- ---- a step
 
@@ -244,20 +376,24 @@ record Goes (reading : ℕ) (event : Event) (before : EntityData) (outcome : Out
 same_holds : (e after : EntityData) (account : Account) → after ≡ e → Holds e account → Holds after account
 same_holds e after account same holds = subst (λ (x : EntityData). Holds x account) (sym same) holds
 
-starved_goes : (reading : ℕ) (event : Event) (before after : EntityData) (done : ℕ) (account : Account) → Holds before account → (after ≡ swept reading before) ⊎ IsUnswept reading before done after → (next : Account) × (((after ≡ swept reading before) × (next ≡ expired_account reading before account)) ⊎ (IsUnswept reading before done after × (next ≡ account))) × Holds after next
-starved_goes reading event before after done account holds left = elim left [
-  | inl swept_so ↦ (expired_account reading before account, inl (swept_so, refl), same_holds (swept reading before) after (expired_account reading before account) swept_so (expired_holds reading before account holds))
-  | inr unswept ↦ (account, inr (unswept, refl), same_holds before after account unswept.same holds)
-]
+-- where memory ran out in the expiry, nothing is done
+unswept_goes : (reading : ℕ) (before after : EntityData) (done : ℕ) (account : Account) → Holds before account → IsUnswept reading before done after → Holds after account
+unswept_goes reading before after done account holds unswept = same_holds before after account unswept.same holds
 
--- where memory runs out the expiry is done or nothing
-starved_ways : (reading : ℕ) (event : Event) (before after : EntityData) (done : ℕ) → Step reading event before (Starved done) after → (after ≡ swept reading before) ⊎ IsUnswept reading before done after
-starved_ways reading event before after done step =
-    let is = starved_leaves reading event before after done step in
-    elim is.1 [
-      | inl left ↦ inl left
-      | inr unswept ↦ inr (record { none = is.0; same = unswept.same; due = unswept.due })
-    ]
+-- where it ran out in a fan-out, its first members have appended their items
+short_goes : (reading : ℕ) (request : RequestParts) (before after : EntityData) (done : ℕ) (account : Account) → Holds before account → IsCutShort (swept reading before) request done after → Holds after (short_account reading request before done account)
+short_goes reading request before after done account holds short =
+    let e = swept reading before in
+    let some = take done (heard_members e request) in
+    let expired = expired_account reading before account in
+    let swept_holds = expired_holds reading before account holds in
+    record {
+      waits = ap (λ (x : EntityData). x.items) short.0.left ∙ members_append some e
+          ∙ ap (λ (items : List Item). items ++ member_items e some) swept_holds.waits
+          ∙ sym (waiting-noted (member_items e some) expired);
+      dropped = ap (λ (m : ℕ). list_all (is_justly_dropped m) (noted (member_items e some) expired)) (short_last e request done after short)
+          ∙ justly-noted e.last (member_items e some) expired swept_holds.dropped;
+    }
 
 step_goes : (reading : ℕ) (event : Event) (before after : EntityData) (outcome : Outcome) (account : Account) → Holds before account → Step reading event before outcome after → Goes reading event before outcome after account
 step_goes reading (Ask request) before after (Done reply) account holds step =
@@ -266,22 +402,31 @@ step_goes reading (Ask request) before after (Done reply) account holds step =
     let kept = done_keeps reading request before after reply step in
     let swept_holds = expired_holds reading before account holds in
     record {
-      next = noted (request_items e request) expired;
+      next = requested_account e request expired;
       goes = refl;
       holds = record {
-        waits = ap (λ (x : EntityData). x.items) step.1 ∙ asked_items e request
-            ∙ ap (λ (items : List Item). items ++ request_items e request) swept_holds.waits
-            ∙ sym (waiting-noted (request_items e request) expired);
-        dropped = ap (λ (m : ℕ). list_all (is_justly_dropped m) (noted (request_items e request) expired)) kept.last
-            ∙ justly-noted e.last (request_items e request) expired swept_holds.dropped;
+        waits = ap (λ (x : EntityData). x.items) step.1 ∙ requested_waits e request expired swept_holds.waits;
+        dropped = ap (λ (m : ℕ). list_all (is_justly_dropped m) (requested_account e request expired)) kept.last
+            ∙ requested_dropped e request expired swept_holds.dropped;
       };
     }
-step_goes reading (Ask request) before after (Starved done) account holds step =
-    let left = starved_goes reading (Ask request) before after done account holds (starved_ways reading (Ask request) before after done step) in
-    record { next = left.0; goes = left.1; holds = left.2 }
+step_goes reading (Ask request) before after (Forward poa onward) account holds step = record {
+  next = expired_account reading before account;
+  goes = refl;
+  holds = same_holds (swept reading before) after (expired_account reading before account) (onward_leaves reading request before after poa onward step) (expired_holds reading before account holds);
+}
+step_goes reading (Ask request) before after (Starved done) account holds step = elim step [
+  | inl short ↦ record {
+    next = short_account reading request before done account;
+    goes = inl (short, refl);
+    holds = short_goes reading request before after done account holds short;
+  }
+  | inr unswept ↦ record { next = account; goes = inr (unswept, refl); holds = unswept_goes reading before after done account holds unswept }
+]
 step_goes reading (Ask request) before after (Given sent) account holds step = absurd step
 step_goes reading (Ask request) before after Ticked account holds step = absurd step
 step_goes reading Take before after (Done reply) account holds step = absurd step
+step_goes reading Take before after (Forward poa onward) account holds step = absurd step
 step_goes reading Take before after (Given sent) account holds step =
     let e = swept reading before in
     let expired = expired_account reading before account in
@@ -299,9 +444,9 @@ step_goes reading Take before after (Given sent) account holds step =
     }
 step_goes reading Take before after Ticked account holds step = absurd step
 step_goes reading Take before after (Starved done) account holds step =
-    let left = starved_goes reading Take before after done account holds (starved_ways reading Take before after done step) in
-    record { next = left.0; goes = left.1; holds = left.2 }
+    record { next = account; goes = (step, refl); holds = unswept_goes reading before after done account holds step }
 step_goes reading Tick before after (Done reply) account holds step = absurd step
+step_goes reading Tick before after (Forward poa onward) account holds step = absurd step
 step_goes reading Tick before after (Given sent) account holds step = absurd step
 step_goes reading Tick before after Ticked account holds step = record {
   next = expired_account reading before account;
@@ -309,8 +454,7 @@ step_goes reading Tick before after Ticked account holds step = record {
   holds = same_holds (swept reading before) after (expired_account reading before account) step (expired_holds reading before account holds);
 }
 step_goes reading Tick before after (Starved done) account holds step =
-    let left = starved_goes reading Tick before after done account holds (starved_ways reading Tick before after done step) in
-    record { next = left.0; goes = left.1; holds = left.2 }
+    record { next = account; goes = (step, refl); holds = unswept_goes reading before after done account holds step }
 
 -- ---- along a history
 

@@ -28,7 +28,7 @@ use Rattle.subscription_match.specs.declared.drafts.DraftParts.{DraftParts}
 use Rattle.subscription_match.specs.declared.events.EventKind.{EventKind}
 use Rattle.entity_model.proofs.SpentLemmas.{counts_to, lowered_stands}
 use Rattle.create_delete.specs.Changes.{only_in}
-use Rattle.machine_laws.proofs.ToldLemmas.{count_whom, numbers_told, numbers_told_all, times, whom_all}
+use Rattle.sight_laws.proofs.ToldLemmas.{count_whom, numbers_told, numbers_told_all, times, whom_all}
 
 -- ---- a removal of subscriptions takes nothing else
 

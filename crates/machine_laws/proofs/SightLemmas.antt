@@ -1,9 +1,9 @@
 -- An originator is answered the same on what it sees, and sees the same of what is left.
-use Rattle.std.proofs.Common.{◌≡◌, ℕ, List, [], ◌∷◌, map, Bool, true, false, cond, Option, Some, None, Result, Ok, Err, option_map, inl, inr, refl, sym, ap, ap₂, subst, ◌∙◌}
+use Rattle.std.proofs.Common.{◌≡◌, ◌⊎◌, ◌||◌, ℕ, List, [], ◌∷◌, map, Bool, true, false, cond, Option, Some, None, option_map, inl, inr, refl, sym, ap, ap₂, subst, ◌∙◌}
 use Rattle.std.specs.Option.{option_map_or}
 use Rattle.std.specs.Prelude.{not}
 use Rattle.std.specs.List.{list_any}
-use Rattle.std.proofs.lemmas.Bool.{both_ways, cases_Bool, false≢true, not-true, or_cases}
+use Rattle.std.proofs.lemmas.Bool.{both_ways, cases_Bool, false≢true, not-true, or_cases, or_left}
 use Rattle.m2m_names.specs.Operations.{op_row}
 use Rattle.m2m_names.specs.declared.codes.Rsc.{Rsc}
 use Rattle.m2m_names.specs.declared.codes.Rsc.TheVariants.{BadRequest, NoPrivilege, NotAllowed}
@@ -18,23 +18,16 @@ use Rattle.tree_model.proofs.GrowthLemmas.{tree_from_well_formed}
 use Rattle.tree_model.proofs.KeptLemmas.{KeepsStanding, is_well_formed-map, is_well_formed-without}
 use Rattle.tree_model.proofs.LiveLemmas.{without_none}
 use Rattle.addressing.specs.Addresses.{address_of}
-use Rattle.addressing.specs.Names.{spot_of}
-use Rattle.addressing.specs.declared.addr.Addr.{Addr}
-use Rattle.addressing.specs.declared.addr.Addr.TheVariants.{Local, Foreign, OtherProvider}
-use Rattle.addressing.specs.declared.addr.AddrFault.{AddrFault}
-use Rattle.addressing.specs.declared.spot.Spot.{Spot}
-use Rattle.addressing.specs.declared.spot.Spot.TheVariants.{Resource, Fan, Poll}
-use Rattle.retrieve_laws.proofs.SpotLemmas.{spot_of-seen}
+use Rattle.group_fanout.specs.Fan.{fanned, member_effect, sent_to}
 use Rattle.policy_laws.specs.Seen.{seen, seen_list}
 use Rattle.policy_laws.proofs.SeenLemmas.{ae_id-seen, at-seen, cse_id-seen, grants-seen}
 use Rattle.policy_laws.proofs.ShapeLemmas.{sight_shape}
 use Rattle.policy_laws.proofs.TwiceLemmas.{left-seen, live-same, seen_list-twice}
 use Rattle.subscription_match.specs.Notices.{notes_of_all}
-use Rattle.subscription_match.specs.Spending.{nodes_spent}
 use Rattle.subscription_match.specs.declared.drafts.DraftParts.{DraftParts}
 use Rattle.entity_model.specs.Entity.{EntityData, event_moment, expired, expired_told, swept}
 use Rattle.entity_model.specs.Expiry.{expiry_changes}
-use Rattle.entity_model.specs.Places.{Effect, first_fault, refused}
+use Rattle.entity_model.specs.Places.{refused}
 use Rattle.entity_model.specs.Sound.{IsSoundEntity}
 use Rattle.request_rules.specs.Order.{fault_on}
 use Rattle.request_rules.specs.Requests.{is_for}
@@ -43,13 +36,26 @@ use Rattle.retrieve_laws.proofs.AnswerLemmas.{retrieved-seen}
 use Rattle.retrieve_laws.proofs.SightLemmas.{discovered-seen}
 use Rattle.create_delete.specs.Changes.{only_in}
 use Rattle.create_delete.specs.Changing.{delete_effect}
+use Rattle.create_delete.specs.Relaying.{notify_effect, notify_on}
 use Rattle.create_delete.specs.Telling.{told_effect_by, told_effect_on}
-use Rattle.cse_machine.specs.declared.event.Outcome.TheVariants.{Done}
-use Rattle.cse_machine.specs.Answer.{EventEffect, address_effect, as_done, is_served, first_places, change_effect, operation_effect, found_effect, reading_reply, resource_effect, spot_effect, effect_of}
+use Rattle.cse_machine.specs.Answer.{EventEffect, address_effect, as_done, first_places, does_serve, is_served, effect_of}
+use Rattle.group_fanout.specs.Operations.{change_effect, operation_effect, found_effect, reading_reply, relay_effect, resource_effect}
 use Rattle.request_rules.specs.Rights.{is_discovery}
-use Rattle.cse_machine.specs.Rights.{claimed_originator}
-use Rattle.machine_laws.specs.Sight.{sight, shape, does_cover, IsRequestBy, SightHasItsShape, EqualSightsHaveOneShape}
-use Rattle.machine_laws.proofs.ToldLemmas.{OnlySubsCount, expiry_seen, for_whom, numbers_seen, numbers_told_all, only_seen, removal_seen, sight_counts, sound_counts, spent-same, spent_counts, spent_well, whom_all, without_counts}
+use Rattle.group_fanout.specs.Rights.{claimed_originator}
+use Rattle.machine_laws.proofs.MemberLemmas.{MaySend, member_kept, of_member, served_sent}
+use Rattle.machine_laws.proofs.RelayLemmas.{relay_nodes}
+use Rattle.sight_laws.proofs.SeenAlikeLemmas.{AreSeenAlike, by_fault, same_home, same_last, same_seen, spent_alike, through_sight}
+use Rattle.machine_laws.proofs.AddressAlikeLemmas.{AreAnsweredAlike, effect_alike}
+use Rattle.machine_laws.proofs.ChangeAlikeLemmas.{create_alike, update_alike}
+use Rattle.machine_laws.proofs.CutLemmas.{heard_facts}
+use Rattle.cse_machine.proofs.PlaceLemmas.{claimed_valid}
+use Rattle.create_delete.specs.Guard.{NamesInOrder}
+use Rattle.entity_model.proofs.TellingLemmas.{sound_swept}
+use Rattle.entity_model.specs.Places.{first_fault}
+use Rattle.retarget.specs.declared.routing.Route.TheVariants as to
+use Rattle.machine_laws.proofs.RouteSightLemmas.{order_seen, order_swept}
+use Rattle.machine_laws.specs.Sight.{sight, shape, asks_sight_alone, is_polling, leads_away, AreCsesInOrder, FindsUrls, IsRequestBy, SightHasItsShape, EqualSightsHaveOneShape}
+use Rattle.sight_laws.proofs.ToldLemmas.{OnlySubsCount, expiry_seen, for_whom, numbers_seen, numbers_told_all, only_seen, removal_seen, sight_counts, sound_counts, spent_counts, spent_well, whom_all, without_counts}
 
 -- ---- what is seen of a well-formed list is one
 
@@ -69,28 +75,6 @@ module _ (home : HomeData) (nodes : List ResourceData) (o : List ℕ) where
 
 -- ---- what is seen of what comes of a request
 
--- two effects that the originator sees alike
-pub record AreSeenAlike (o : List ℕ) (x y : Effect) : Type 0 where
-  pub reply : x.reply ≡ y.reply
-  pub after : sight o x.after ≡ sight o y.after
-
--- where the same place refuses a request, or what else comes of it is seen alike
-by_fault : (e other : EntityData) (o : List ℕ) (request : RequestParts) (f : Option Rsc) (x y : Effect) → sight o e ≡ sight o other → AreSeenAlike o x y → AreSeenAlike o (option_map_or (refused e request) f x) (option_map_or (refused other request) f y)
-by_fault e other o request None x y same alike = alike
-by_fault e other o request (Some fault) x y same alike = record { reply = refl; after = same }
-
--- two effects of events that the originator sees alike
-pub record AreAnsweredAlike (o : List ℕ) (x y : EventEffect) : Type 0 where
-  pub outcome : x.outcome ≡ y.outcome
-  pub after : sight o x.after ≡ sight o y.after
-
-done_alike : (o : List ℕ) (x y : Effect) → AreSeenAlike o x y → AreAnsweredAlike o (as_done x) (as_done y)
-done_alike o x y alike = record { outcome = ap Done alike.reply; after = alike.after }
-
-by_place : (e other : EntityData) (o : List ℕ) (request : RequestParts) (f : Option Rsc) (x y : EventEffect) → sight o e ≡ sight o other → AreAnsweredAlike o x y → AreAnsweredAlike o (option_map_or (λ (fault : Rsc). as_done (refused e request fault)) f x) (option_map_or (λ (fault : Rsc). as_done (refused other request fault)) f y)
-by_place e other o request None x y same alike = alike
-by_place e other o request (Some fault) x y same alike = record { outcome = refl; after = same }
-
 -- what isn't served is refused alike
 unserved_alike : (e other : EntityData) (o : List ℕ) (request : RequestParts) → sight o e ≡ sight o other → is_served request ≡ false → AreAnsweredAlike o (effect_of e request) (effect_of other request)
 unserved_alike e other o request same f =
@@ -106,30 +90,10 @@ none_any (r ∷ nodes) = none_any nodes
 -- ---- what comes of a Delete, told
 
 -- what is told of what is taken
-abbrev notes_taken : EntityData → ResourceData → List DraftParts
+abbrev pub notes_taken : EntityData → ResourceData → List DraftParts
 notes_taken e r =
     let taken = only_in e.nodes (without (has_number r.number) e.nodes) in
     notes_of_all e.home e.nodes (numbers_of taken) (map deleted taken)
-
--- ---- what is told leaves alike what is seen alike
-
-module _ (o : List ℕ) (one other : EntityData) (same : sight o one ≡ sight o other) where
-  pub same_home : one.home ≡ other.home
-  same_home = ap (λ (e : EntityData). e.home) same
-
-  pub same_last : one.last ≡ other.last
-  same_last = ap (λ (e : EntityData). e.last) same
-
-  pub same_seen : seen_list one.home one.nodes o ≡ seen_list one.home other.nodes o
-  same_seen = ap (λ (e : EntityData). e.nodes) same ∙ ap (λ (h : HomeData). seen_list h other.nodes o) (sym same_home)
-
-  -- where drafts are for the same
-  spent_alike : (drafts others : List DraftParts) → is_well_formed one.nodes ≡ true → is_well_formed other.nodes ≡ true → OnlySubsCount one.nodes → OnlySubsCount other.nodes → for_whom drafts ≡ for_whom others → sight o (record one { nodes = nodes_spent drafts one.nodes }) ≡ sight o (record other { nodes = nodes_spent others other.nodes })
-  spent_alike drafts others well wells counts count whom =
-      ap (λ (ns : List ResourceData). record (sight o one) { nodes = ns })
-      (spent-same one.home o one.nodes other.nodes drafts others well wells counts count same_seen whom
-      ∙ ap (λ (h : HomeData). seen_list h (nodes_spent others other.nodes) o) same_home)
-      ∙ ap (λ (e : EntityData). record e { nodes = seen_list other.home (nodes_spent others other.nodes) o }) same
 
 module _ (e : EntityData) (o : List ℕ) (well : is_well_formed e.nodes ≡ true) (counts : OnlySubsCount e.nodes) where
   abbrev seeing : EntityData
@@ -149,7 +113,7 @@ module _ (e : EntityData) (o : List ℕ) (well : is_well_formed e.nodes ≡ true
       ∙ seen_list-twice e.home e.nodes o well no_one no_one (λ r found. refl)
       ∙ ap (λ (rs : List ResourceData). seen_list e.home rs o) (without_none no_one e.nodes (tree_from_well_formed e.nodes well) (none_any e.nodes))
 
-  sight_twice : sight o seeing ≡ sight o e
+  pub sight_twice : sight o seeing ≡ sight o e
   sight_twice = ap (λ (ns : List ResourceData). record seeing { nodes = ns }) seen_twice
 
   -- what is read is the same, where the originator asks
@@ -209,56 +173,120 @@ module _ (e : EntityData) (o : List ℕ) (well : is_well_formed e.nodes ≡ true
   delete_seen request r by =
       subst (λ (t : List ℕ). AreSeenAlike o (told_effect_on Delete seeing t request (see r)) (told_effect_on Delete e t request r)) (sym by) (performed_seen request r)
 
+  -- what refuses a Notify is the same, and what is handed on isn't seen
+  notify_refused : (request : RequestParts) (r : ResourceData) → fault_on Notify seeing o request (see r) ≡ fault_on Notify e o request r
+  notify_refused request r =
+      ap (λ (b : Bool). cond b (cond (is_for Notify r.ty) None (Some NotAllowed)) (Some NoPrivilege)) (grants-seen e.home e.nodes o (op_row Notify).bit r.number)
+
+  notify_seen : (request : RequestParts) (r : ResourceData) → AreSeenAlike o (notify_on seeing o request (see r)) (notify_on e o request r)
+  notify_seen request r =
+      subst (λ (f : Option Rsc). AreSeenAlike o (option_map_or (refused seeing request) f (notify_effect seeing o request)) (notify_on e o request r)) (sym (notify_refused request r))
+      (by_fault seeing e o request (fault_on Notify e o request r) (notify_effect seeing o request) (notify_effect e o request) sight_twice (record { reply = refl; after = sight_twice }))
+
+  relay_seen : (request : RequestParts) (r : ResourceData) → claimed_originator e.home request ≡ o → AreSeenAlike o (relay_effect seeing request (see r)) (relay_effect e request r)
+  unfolding relay_effect
+  relay_seen request r by =
+      subst (λ (t : List ℕ). AreSeenAlike o (notify_on seeing t request (see r)) (notify_on e t request r)) (sym by) (notify_seen request r)
+
   -- an operation that is covered gives what is seen alike
-  operated_seen : (op : Op) (request : RequestParts) (r : ResourceData) → does_cover op ≡ true → claimed_originator e.home request ≡ o → AreSeenAlike o (operation_effect op seeing request (see r)) (operation_effect op e request r)
+  operated_seen : (op : Op) (request : RequestParts) (r : ResourceData) → asks_sight_alone op ≡ true → claimed_originator e.home request ≡ o → AreSeenAlike o (operation_effect op seeing request (see r)) (operation_effect op e request r)
   operated_seen Create request r covered by = absurd (false≢true covered)
   operated_seen Retrieve request r covered by = record { reply = reading_seen request r.number by; after = sight_twice }
   operated_seen Update request r covered by = absurd (false≢true covered)
   operated_seen Delete request r covered by = delete_seen request r by
-  operated_seen Notify request r covered by = absurd (false≢true covered)
+  operated_seen Notify request r covered by = relay_seen request r by
 
-  found_seen : (op : Op) (request : RequestParts) (found : Option ResourceData) → does_cover op ≡ true → claimed_originator e.home request ≡ o → AreSeenAlike o (found_effect op seeing request (option_map see found)) (found_effect op e request found)
+  pub found_seen : (op : Op) (request : RequestParts) (found : Option ResourceData) → asks_sight_alone op ≡ true → claimed_originator e.home request ≡ o → AreSeenAlike o (found_effect op seeing request (option_map see found)) (found_effect op e request found)
   found_seen op request None covered by = record { reply = refl; after = sight_twice }
   found_seen op request (Some r) covered by = operated_seen op request r covered by
 
-  spot_seen : (request : RequestParts) (spot : Option Spot) → does_cover request.op ≡ true → claimed_originator e.home request ≡ o → AreSeenAlike o (spot_effect seeing request spot) (spot_effect e request spot)
-  spot_seen request None covered by = record { reply = refl; after = sight_twice }
-  spot_seen request (Some (Resource n)) covered by =
-      subst (λ (r : Option ResourceData). AreSeenAlike o (resource_effect seeing request r) (resource_effect e request (at n e.nodes))) (sym (at-seen e.home e.nodes o n))
-      (found_seen request.op request (at n e.nodes) covered by)
-  spot_seen request (Some (Fan group rest)) covered by = record { reply = refl; after = sight_twice }
-  spot_seen request (Some (Poll channel)) covered by = record { reply = refl; after = sight_twice }
+-- ---- what a covered operation leaves
 
-  -- and so does what its address leads to
-  address_seen : (request : RequestParts) (address : Result Addr AddrFault) → does_cover request.op ≡ true → claimed_originator e.home request ≡ o → AreAnsweredAlike o (address_effect seeing request address) (address_effect e request address)
-  address_seen request (Ok (Local segments)) covered by =
-      done_alike o (spot_effect seeing request (spot_of segments seeing.nodes)) (spot_effect e request (spot_of segments e.nodes))
-      (subst (λ (s : Option Spot). AreSeenAlike o (spot_effect seeing request s) (spot_effect e request (spot_of segments e.nodes))) (sym (spot_of-seen e.home e.nodes o segments))
-      (spot_seen request (spot_of segments e.nodes) covered by))
-  address_seen request (Ok (Foreign text)) covered by = record { outcome = refl; after = sight_twice }
-  address_seen request (Ok OtherProvider) covered by = record { outcome = refl; after = sight_twice }
-  address_seen request (Err fault) covered by = record { outcome = refl; after = sight_twice }
+-- an entity through which a request of the originator is fanned out
+record IsThrough (o : List ℕ) (request : RequestParts) (e : EntityData) : Type 0 where
+  well : is_well_formed e.nodes ≡ true
+  counts : OnlySubsCount e.nodes
+  by : claimed_originator e.home request ≡ o
 
-  covered_seen : (request : RequestParts) → does_cover request.op ≡ true → claimed_originator e.home request ≡ o → AreAnsweredAlike o (effect_of seeing request) (effect_of e request)
-  covered_seen request covered by =
-      let address = address_of e.home request.to in
-      by_place seeing e o request (first_fault (first_places e request))
-      (address_effect seeing request address) (address_effect e request address)
-      sight_twice (address_seen request address covered by)
+-- a list is well-formed, and of its resources only subscriptions count
+pub record IsShaped (nodes : List ResourceData) : Type 0 where
+  pub well : is_well_formed nodes ≡ true
+  pub counts : OnlySubsCount nodes
 
-  -- what comes of a request to what the originator sees of an entity is seen as what comes of it
-  -- there
-  pub effect_seen : (request : RequestParts) → IsRequestBy e.home o request → AreAnsweredAlike o (effect_of seeing request) (effect_of e request)
-  effect_seen request by = elim (cases_Bool (is_served request)) [
-    | inr f ↦ unserved_alike seeing e o request sight_twice f
-    | inl t ↦ elim (or_cases (does_cover request.op) (not (is_served request)) by.0) [
-      | inl covered ↦ elim by.1 [
-        | inl own ↦ covered_seen request covered own
-        | inr other ↦ absurd (both_ways _ other t)
-      ]
-      | inr other ↦ absurd (both_ways _ (not-true _ other) t)
-    ]
-  ]
+-- what is covered is served
+covered_served : (op : Op) (request : RequestParts) → asks_sight_alone op ≡ true → does_serve op request ≡ true
+covered_served Create request covered = absurd (false≢true covered)
+covered_served Retrieve request covered = refl
+covered_served Update request covered = absurd (false≢true covered)
+covered_served Delete request covered = refl
+covered_served Notify request covered = refl
+
+module _ (e : EntityData) (request : RequestParts) (r : ResourceData) (shaped : IsShaped e.nodes) where
+  delete_shaped : IsShaped (change_effect Delete e request r).after.nodes
+  unfolding change_effect
+  delete_shaped = by (fault_on Delete e (claimed_originator e.home request) request r)
+    where
+      by : (fault : Option Rsc) → IsShaped (option_map_or (refused e request) fault (told_effect_by Delete e (claimed_originator e.home request) request r)).after.nodes
+      by None =
+          let left = without (has_number r.number) e.nodes in
+          record {
+            well = spent_well (notes_taken e r) left (is_well_formed-without (has_number r.number) e.nodes shaped.well);
+            counts = spent_counts (notes_taken e r) left (without_counts (has_number r.number) e.nodes shaped.counts);
+          }
+      by (Some fault) = shaped
+
+  pub operated_shaped : (op : Op) → asks_sight_alone op ≡ true → at r.number e.nodes ≡ Some r → IsShaped (operation_effect op e request r).after.nodes
+  operated_shaped Create covered there = absurd (false≢true covered)
+  operated_shaped Retrieve covered there = shaped
+  operated_shaped Update covered there = absurd (false≢true covered)
+  operated_shaped Delete covered there = delete_shaped
+  operated_shaped Notify covered there = subst IsShaped (sym (relay_nodes e request r there)) shaped
+
+module _ (o : List ℕ) (request : RequestParts) (covered : asks_sight_alone request.op ≡ true) where
+  member_through : (e : EntityData) (address : List ℕ) → IsThrough o request e → IsThrough o request (member_effect e (sent_to request address)).after
+  member_through e address is =
+      let one = sent_to request address in
+      let shaped : IsShaped e.nodes = record { well = is.well; counts = is.counts } in
+      let left =
+      of_member e one (λ x. IsShaped x.after.nodes) (λ fault other. shaped)
+      (λ way. operated_shaped e one way.target shaped request.op covered way.there) in
+      record {
+        well = left.well;
+        counts = left.counts;
+        by = ap (λ (h : HomeData). claimed_originator h request) (member_kept e one (served_sent request.op request address ∙ covered_served request.op request covered)).home ∙ is.by;
+      }
+
+  -- an operation on a resource that is covered gives what is seen alike
+  on_resource : (e : EntityData) (address : List ℕ) (n : ℕ) → IsThrough o request e → AreSeenAlike o (resource_effect (sight o e) (sent_to request address) (at n (sight o e).nodes)) (resource_effect e (sent_to request address) (at n e.nodes))
+  on_resource e address n is =
+      subst (λ (r : Option ResourceData). AreSeenAlike o (resource_effect (sight o e) (sent_to request address) r) (resource_effect e (sent_to request address) (at n e.nodes))) (sym (at-seen e.home e.nodes o n))
+      (found_seen e o is.well is.counts request.op (sent_to request address) (at n e.nodes) covered is.by)
+
+  resource_alike : (one other : EntityData) (address : List ℕ) (n : ℕ) → IsThrough o request one → IsThrough o request other → sight o one ≡ sight o other → AreSeenAlike o (resource_effect one (sent_to request address) (at n one.nodes)) (resource_effect other (sent_to request address) (at n other.nodes))
+  resource_alike one other address n is are same =
+      through_sight o (λ (x : EntityData). resource_effect x (sent_to request address) (at n x.nodes)) one other same
+      (on_resource one address n is) (on_resource other address n are)
+
+  covered_alike : (one other : EntityData) → IsThrough o request one → IsThrough o request other → sight o one ≡ sight o other → is_polling one.home request ≡ false → (leads_away (address_of one.home request.to) ≡ true → AreCsesInOrder one.nodes × AreCsesInOrder other.nodes) → AreAnsweredAlike o (effect_of one request) (effect_of other request)
+  covered_alike = effect_alike o request (IsThrough o request) (λ e is. is.by) (λ e is. is.well) resource_alike member_through
+
+-- where a request leads to another CSE
+finds_both : (one other : EntityData) (o : List ℕ) (request : RequestParts) → sight o one ≡ sight o other → FindsUrls one request → FindsUrls other request → leads_away (address_of one.home request.to) ≡ true → AreCsesInOrder one.nodes × AreCsesInOrder other.nodes
+finds_both one other o request same finds find away =
+    (finds away, find (ap (λ (h : HomeData). leads_away (address_of h request.to)) (sym (same_home o one other same)) ∙ away))
+
+-- an operation asks what is seen alone, or is a Create or an Update
+data WayOfSight (op : Op) : Type 0 where
+  asks_alone : asks_sight_alone op ≡ true → WayOfSight op
+  creates : op ≡ Create → WayOfSight op
+  updates : op ≡ Update → WayOfSight op
+
+way_of_sight : (op : Op) → WayOfSight op
+way_of_sight Create = creates refl
+way_of_sight Retrieve = asks_alone refl
+way_of_sight Update = updates refl
+way_of_sight Delete = asks_alone refl
+way_of_sight Notify = asks_alone refl
 
 -- ---- what is left of an entity at a moment
 
@@ -269,12 +297,12 @@ well_live nodes m well = is_well_formed-without (is_due nodes m) nodes well
 abbrev expiry_drafts : ℕ → EntityData → List DraftParts
 expiry_drafts m e = notes_of_all e.home e.nodes (overdue_numbers m e.nodes) (expiry_changes m e.nodes)
 
-well_swept : (e : EntityData) (reading : ℕ) → is_well_formed e.nodes ≡ true → is_well_formed (swept reading e).nodes ≡ true
+pub well_swept : (e : EntityData) (reading : ℕ) → is_well_formed e.nodes ≡ true → is_well_formed (swept reading e).nodes ≡ true
 well_swept e reading well =
     let m = event_moment e.last reading in
     spent_well (expiry_drafts m e) (live m e.nodes) (well_live e.nodes m well)
 
-counts_swept : (e : EntityData) (reading : ℕ) → OnlySubsCount e.nodes → OnlySubsCount (swept reading e).nodes
+pub counts_swept : (e : EntityData) (reading : ℕ) → OnlySubsCount e.nodes → OnlySubsCount (swept reading e).nodes
 counts_swept e reading counts =
     let m = event_moment e.last reading in
     spent_counts (expiry_drafts m e) (live m e.nodes) (without_counts (is_due e.nodes m) e.nodes counts)
@@ -317,29 +345,76 @@ module _ (o : List ℕ) (one other : EntityData) (well : is_well_formed one.node
       ∙ ap (λ (n : ℕ). sight o (expired_told (event_moment n reading) other)) (same_last o one other same)
 
 -- what comes of a request to two entities of which the originator sees the same, it sees alike
-alike : (one other : EntityData) (o : List ℕ) (request : RequestParts) → is_well_formed one.nodes ≡ true → is_well_formed other.nodes ≡ true → OnlySubsCount one.nodes → OnlySubsCount other.nodes → sight o one ≡ sight o other → IsRequestBy one.home o request → AreAnsweredAlike o (effect_of one request) (effect_of other request)
-alike one other o request well wells counts count same by =
-    let mine = effect_seen one o well counts request by in
-    let theirs = effect_seen other o wells count request (subst (λ (h : HomeData). IsRequestBy h o request) (ap (λ (e : EntityData). e.home) same) by) in
-    record {
-      outcome = sym mine.outcome ∙ ap (λ (e : EntityData). (effect_of e request).outcome) same ∙ theirs.outcome;
-      after = sym mine.after ∙ ap (λ (e : EntityData). sight o (effect_of e request).after) same ∙ theirs.after;
-    }
+alike : (one other : EntityData) (o : List ℕ) (request : RequestParts) → is_well_formed one.nodes ≡ true → is_well_formed other.nodes ≡ true → OnlySubsCount one.nodes → OnlySubsCount other.nodes → sight o one ≡ sight o other → IsRequestBy one.home o request → (asks_sight_alone request.op || not (is_served request)) ≡ true → FindsUrls one request → FindsUrls other request → AreAnsweredAlike o (effect_of one request) (effect_of other request)
+alike one other o request well wells counts count same by alone finds find = elim (cases_Bool (is_served request)) [
+  | inr f ↦ unserved_alike one other o request same f
+  | inl t ↦ elim (or_cases (asks_sight_alone request.op) (not (is_served request)) alone) [
+    | inl covered ↦ elim by.1 [
+      | inl own ↦
+          let home : one.home ≡ other.home = same_home o one other same in
+          covered_alike o request covered one other
+          (record { well = well; counts = counts; by = own.0 })
+          (record { well = wells; counts = count; by = ap (λ (h : HomeData). claimed_originator h request) (sym home) ∙ own.0 })
+          same own.1 (finds_both one other o request same finds find)
+      | inr other_one ↦ absurd (both_ways _ other_one t)
+    ]
+    | inr unserved ↦ absurd (both_ways _ (not-true _ unserved) t)
+  ]
+]
 
-swept_alike : (one other : EntityData) (o : List ℕ) (reading : ℕ) (request : RequestParts) → is_well_formed one.nodes ≡ true → is_well_formed other.nodes ≡ true → OnlySubsCount one.nodes → OnlySubsCount other.nodes → sight o one ≡ sight o other → IsRequestBy one.home o request → AreAnsweredAlike o (effect_of (swept reading one) request) (effect_of (swept reading other) request)
-swept_alike one other o reading request well wells counts count same by =
-    alike (swept reading one) (swept reading other) o request (well_swept one reading well) (well_swept other reading wells)
-    (counts_swept one reading counts) (counts_swept other reading count)
-    (swept-alike o one other well wells counts count same reading) by
+-- and so does what comes of it where it is heard, of two that are sound
+heard_alike : (one other : EntityData) (o : List ℕ) (request : RequestParts) → IsSoundEntity one → IsSoundEntity other → sight o one ≡ sight o other → IsRequestBy one.home o request → NamesInOrder request → FindsUrls one request → FindsUrls other request → AreAnsweredAlike o (effect_of one request) (effect_of other request)
+heard_alike one other o request sound sounds same by names finds find =
+    by_place_first (first_fault (first_places one request)) refl
+  where
+    home : one.home ≡ other.home
+    home = same_home o one other same
+
+    by_place_first : (fault : Option Rsc) → first_fault (first_places one request) ≡ fault → AreAnsweredAlike o (effect_of one request) (effect_of other request)
+    by_place_first (Some fault) is =
+        let too : first_fault (first_places other request) ≡ Some fault = sym (ap (λ (e : EntityData). first_fault (first_places e request)) same) ∙ is in
+        let mine : effect_of one request ≡ as_done (refused one request fault) = ap (λ (f : Option Rsc). option_map_or (λ (x : Rsc). as_done (refused one request x)) f (address_effect one request (address_of one.home request.to))) is in
+        let theirs : effect_of other request ≡ as_done (refused other request fault) = ap (λ (f : Option Rsc). option_map_or (λ (x : Rsc). as_done (refused other request x)) f (address_effect other request (address_of other.home request.to))) too in
+        subst (λ (x : EventEffect). AreAnsweredAlike o x (effect_of other request)) (sym mine)
+        (subst (AreAnsweredAlike o (as_done (refused one request fault))) (sym theirs) (record { outcome = refl; after = same }))
+    by_place_first None is =
+        let heard = heard_facts one request is in
+        by_way heard.served
+        (record { served = heard.served; originator = claimed_valid one.home request heard.originator; names = names })
+        (way_of_sight request.op)
+      where
+        by_way : is_served request ≡ true → MaySend one.home request → WayOfSight request.op → AreAnsweredAlike o (effect_of one request) (effect_of other request)
+        by_way served may (asks_alone alone) =
+            alike one other o request sound.tree sounds.tree (sound_counts one sound) (sound_counts other sounds) same by (or_left _ _ alone) finds find
+        by_way served may (creates op) = elim by.1 [
+          | inl own ↦
+              create_alike one.home o request own.0 may op one other (record { sound = sound; home_is = refl }) (record { sound = sounds; home_is = sym (same_home o one other same) })
+              same own.1 (finds_both one other o request same finds find)
+          | inr unserved ↦ absurd (both_ways _ unserved served)
+        ]
+        by_way served may (updates op) = elim by.1 [
+          | inl own ↦
+              update_alike one.home o request own.0 may op (by.0 served op) one other (record { sound = sound; home_is = refl }) (record { sound = sounds; home_is = sym (same_home o one other same) })
+              same own.1 (finds_both one other o request same finds find)
+          | inr unserved ↦ absurd (both_ways _ unserved served)
+        ]
+
+finds_swept : (e : EntityData) (reading : ℕ) (request : RequestParts) → is_well_formed e.nodes ≡ true → OnlySubsCount e.nodes → FindsUrls e request → FindsUrls (swept reading e) request
+finds_swept e reading request well counts finds away = order_swept e reading well counts (finds away)
+
+finds_seen : (e : EntityData) (o : List ℕ) (request : RequestParts) → FindsUrls e request → FindsUrls (sight o e) request
+finds_seen e o request finds away = order_seen e.home e.nodes o (finds away)
 
 module _ (one other : EntityData) (o : List ℕ) (reading : ℕ) (sound : IsSoundEntity one) (sounds : IsSoundEntity other) (same : sight o one ≡ sight o other) where
   -- time passes alike
   pub passed-alike : sight o (swept reading one) ≡ sight o (swept reading other)
   passed-alike = swept-alike o one other sound.tree sounds.tree (sound_counts one sound) (sound_counts other sounds) same reading
 
-  module _ (request : RequestParts) (by : IsRequestBy one.home o request) where
+  module _ (request : RequestParts) (by : IsRequestBy one.home o request) (names : NamesInOrder request) (finds : FindsUrls one request) (find : FindsUrls other request) where
     answered_alike : AreAnsweredAlike o (effect_of (swept reading one) request) (effect_of (swept reading other) request)
-    answered_alike = swept_alike one other o reading request sound.tree sounds.tree (sound_counts one sound) (sound_counts other sounds) same by
+    answered_alike =
+        heard_alike (swept reading one) (swept reading other) o request (sound_swept reading one sound) (sound_swept reading other sounds) passed-alike by names
+        (finds_swept one reading request sound.tree (sound_counts one sound) finds) (finds_swept other reading request sounds.tree (sound_counts other sounds) find)
 
     pub outcomes-alike : (effect_of (swept reading one) request).outcome ≡ (effect_of (swept reading other) request).outcome
     outcomes-alike = answered_alike.outcome
@@ -348,11 +423,17 @@ module _ (one other : EntityData) (o : List ℕ) (reading : ℕ) (sound : IsSoun
     left-alike = answered_alike.after
 
 -- on what it sees of an entity it is answered as by the entity
-pub outcome-seen : (e : EntityData) (o : List ℕ) (reading : ℕ) (request : RequestParts) → IsSoundEntity e → IsRequestBy e.home o request → (effect_of (swept reading (sight o e)) request).outcome ≡ (effect_of (swept reading e) request).outcome
-outcome-seen e o reading request sound by =
+pub outcome-seen : (e : EntityData) (o : List ℕ) (reading : ℕ) (request : RequestParts) → IsSoundEntity e → IsRequestBy e.home o request → (asks_sight_alone request.op || not (is_served request)) ≡ true → FindsUrls e request → (effect_of (swept reading (sight o e)) request).outcome ≡ (effect_of (swept reading e) request).outcome
+outcome-seen e o reading request sound by alone finds =
     let counts = sound_counts e sound in
-    (swept_alike (sight o e) e o reading request (well_seen e.home e.nodes o sound.tree) sound.tree
-    (sight_counts e.home e.nodes o counts) counts (sight_twice e o sound.tree counts) by).outcome
+    let seen_well = well_seen e.home e.nodes o sound.tree in
+    let seen_counts = sight_counts e.home e.nodes o counts in
+    let same = sight_twice e o sound.tree counts in
+    (alike (swept reading (sight o e)) (swept reading e) o request (well_swept (sight o e) reading seen_well) (well_swept e reading sound.tree)
+    (counts_swept (sight o e) reading seen_counts) (counts_swept e reading counts)
+    (swept-alike o (sight o e) e seen_well sound.tree seen_counts counts same reading) by alone
+    (finds_swept (sight o e) reading request seen_well seen_counts (finds_seen e o request finds))
+    (finds_swept e reading request sound.tree counts finds)).outcome
 
 -- ---- the shape
 

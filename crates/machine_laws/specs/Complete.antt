@@ -1,5 +1,6 @@
 -- That a request is served which nothing speaks against (TS-0001, 10.2; TS-0004, 7.2 and 7.3.3).
-use Rattle.std.specs.Prelude.{◌≡◌, ◌⊎◌, ℕ, false, Option, Some, None, IsTrue, if◌then◌else◌}
+use Rattle.std.specs.Prelude.{◌≡◌, ◌⊎◌, ℕ, false, List, Option, Some, None, Ok, IsTrue}
+use Rattle.std.specs.Prelude.{if◌then◌else◌}
 use Rattle.std.specs.Option.{option_map_or}
 use Rattle.m2m_names.specs.declared.codes.Rsc.TheVariants.{Created, Deleted, Ok as Fine, Updated}
 use Rattle.m2m_names.specs.declared.operations.Op.{Op}
@@ -8,8 +9,13 @@ use Rattle.m2m_names.specs.declared.operations.Op.TheVariants.{Notify}
 use Rattle.m2m_names.specs.declared.types.Ty.{Ty}
 use Rattle.m2m_value.specs.Data.{Data}
 use Rattle.primitive_json.specs.Form.{has_form}
+use Rattle.primitive_json.specs.declared.note.NoteParts.{NoteParts}
 use Rattle.primitive_json.specs.declared.request.RequestParts.{RequestParts}
 use Rattle.resource_model.specs.Resource.{ResourceData}
+use Rattle.tree_model.specs.Tree.{at, has}
+use Rattle.addressing.specs.Addresses.{address_of}
+use Rattle.addressing.specs.declared.addr.Addr.TheVariants.{Foreign}
+use Rattle.addressing.specs.declared.spot.Spot.TheVariants.{Fan, Poll}
 use Rattle.entity_model.specs.Entity.{EntityData, swept}
 use Rattle.entity_model.specs.Places.{reply_to, wanted_content}
 use Rattle.request_rules.specs.Creation.{Creation, has_room, is_unique, new_resource}
@@ -21,15 +27,24 @@ use Rattle.request_rules.specs.Rights.{is_discovery, may_do}
 use Rattle.retrieve_discover.specs.Conditions.{meets_any}
 use Rattle.retrieve_discover.specs.Contents.{content}
 use Rattle.retrieve_discover.specs.Findings.{address_list, found_addresses}
+use Rattle.retrieve_discover.specs.Polling.{first_waiting, handed_on}
 use Rattle.retrieve_discover.specs.Replies.{is_by_id}
+use Rattle.retarget.specs.Routes.{forwarded, routed}
+use Rattle.retarget.specs.declared.routing.Route.TheVariants as to
 use Rattle.create_delete.specs.Changing.{created_content, updated_content, updated_resource}
 use Rattle.cse_machine.specs.declared.event.Event.TheVariants.{Ask}
 use Rattle.cse_machine.specs.declared.event.Outcome.{Outcome}
-use Rattle.cse_machine.specs.declared.event.Outcome.TheVariants.{Done, Item, Ticked, Starved}
-use Rattle.cse_machine.specs.Answer.{addressed, has_address, has_originator, is_blocking}
+use Rattle.cse_machine.specs.declared.event.Outcome.TheVariants.{Done, Forward, Item, Ticked}
+use Rattle.cse_machine.specs.declared.event.Outcome.TheVariants.{Starved}
+use Rattle.cse_machine.specs.Answer.{addressed, has_address, has_answer, has_originator}
+use Rattle.cse_machine.specs.Answer.{is_blocking, point_of}
 use Rattle.cse_machine.specs.Answer.{is_in_time, is_served}
-use Rattle.cse_machine.specs.Rights.{claimed_originator}
+use Rattle.group_fanout.specs.Fan.{gathered, is_fanned, may_fan, member_requests, rest_of}
+use Rattle.group_fanout.specs.Fan.{singles_of}
+use Rattle.group_fanout.specs.Rights.{claimed_originator, has_right}
 use Rattle.cse_machine.specs.Step.{Step}
+use Rattle.machine_laws.specs.Guard.{spot_asked}
+use Rattle.machine_laws.specs.Outbox.{may_poll}
 
 -- ---- what speaks against a request
 
@@ -118,11 +133,12 @@ IsSuccess Retrieve e request target outcome =
 IsSuccess Update e request target outcome =
     outcome ≡ Done (reply_to request Updated (content_updated e request target))
 IsSuccess Delete e request target outcome = outcome ≡ Done (reply_to request Deleted None)
-IsSuccess Notify e request target outcome = ⊥
+IsSuccess Notify e request target outcome = outcome ≡ Done (reply_to request Fine None)
 
 -- memory ran out
 abbrev pub IsStarved : Outcome → Type 0
 IsStarved (Done reply) = ⊥
+IsStarved (Forward poa onward) = ⊥
 IsStarved (Item given) = ⊥
 IsStarved Ticked = ⊥
 IsStarved (Starved done) = Unit {0}
@@ -138,3 +154,56 @@ WhatMayBeServedIsServed =
     → addressed (swept reading before) request.to ≡ Some target
     → MayBeDone request.op (swept reading before) request target
     → IsSuccess request.op (swept reading before) request target outcome ⊎ IsStarved outcome
+
+-- ---- at what isn't a resource
+
+-- So is a fan-out, by the replies of the operations on the members of its group, one after another.
+abbrev pub WhatMayBeFannedOutIsFannedOut : Type 0
+WhatMayBeFannedOutIsFannedOut =
+    (reading : ℕ) (request : RequestParts) (before after : EntityData) (outcome : Outcome)
+    (n place : ℕ) (group : ResourceData) → Step reading (Ask request) before outcome after
+    → MayBeHeard (swept reading before) request
+    → spot_asked (swept reading before) request ≡ Some (Fan n place)
+    → at n (swept reading before).nodes ≡ Some group
+    → IsTrue (may_fan (swept reading before) request n) → IsTrue (is_fanned request.op)
+    → (outcome ≡ Done (reply_to request Fine (Some (gathered
+    (singles_of (swept reading before)
+    (member_requests request (rest_of (swept reading before).home request.to place) group))))))
+    ⊎ IsStarved outcome
+
+-- So is a poll of a channel for which an item waits, by the first of them.
+abbrev pub WhatWaitsIsGiven : Type 0
+WhatWaitsIsGiven =
+    (reading : ℕ) (request : RequestParts) (before after : EntityData) (outcome : Outcome)
+    (channel : ℕ) (note : NoteParts) → Step reading (Ask request) before outcome after
+    → MayBeHeard (swept reading before) request
+    → spot_asked (swept reading before) request ≡ Some (Poll channel) → request.op ≡ Retrieve
+    → IsTrue (may_poll (swept reading before) request channel)
+    → first_waiting channel (swept reading before) ≡ Some note
+    → (outcome ≡ Done (reply_to request Fine (Some (handed_on note)))) ⊎ IsStarved outcome
+
+-- So is an answer to what was polled.
+abbrev pub WhatIsAnsweredIsTaken : Type 0
+WhatIsAnsweredIsTaken =
+    (reading : ℕ) (request : RequestParts) (before after : EntityData) (outcome : Outcome)
+    (channel : ℕ) → Step reading (Ask request) before outcome after
+    → MayBeHeard (swept reading before) request
+    → spot_asked (swept reading before) request ≡ Some (Poll channel) → request.op ≡ Notify
+    → IsTrue (has channel (swept reading before).nodes)
+    → IsTrue (has_right (swept reading before) request channel) → IsTrue (has_answer request)
+    → (outcome ≡ Done (reply_to request Fine None)) ⊎ IsStarved outcome
+
+-- A request to another CSE goes on to it where that is registered and has a URL, unless the
+-- originator comes from a registered CSE itself, or memory runs out (TS-0001, 10.2.2).
+abbrev pub WhatMayGoOnGoesOn : Type 0
+WhatMayGoOnGoesOn =
+    (reading : ℕ) (request : RequestParts) (before after : EntityData) (outcome : Outcome)
+    (text poa : List ℕ) (n : ℕ) → Step reading (Ask request) before outcome after
+    → MayBeHeard (swept reading before) request
+    → address_of (swept reading before).home request.to ≡ Ok (Foreign text)
+    → routed (swept reading before).nodes
+    (claimed_originator (swept reading before).home request) (Foreign text) ≡ to.Forward n
+    → point_of (swept reading before).nodes n ≡ Some poa
+    → (outcome ≡ Forward poa (forwarded (swept reading before).home
+    (claimed_originator (swept reading before).home request) request))
+    ⊎ IsStarved outcome

@@ -1,14 +1,15 @@
 -- What a request may show, and what it may change.
 use Rattle.std.specs.Prelude.{◌≡◌, ◌≢◌, ◌⊎◌, ℕ, ◌≤◌, Bool, true, false, List, [], ◌∷◌, ◌++◌}
-use Rattle.std.specs.Prelude.{Option, Some, None, IsTrue}
+use Rattle.std.specs.Prelude.{Option, Some, None, option_map, take, IsTrue}
 use Rattle.m2m_names.specs.Operations.{op_row}
 pub use Rattle.m2m_names.specs.StatusCodes.{is_success}
 use Rattle.m2m_names.specs.declared.codes.Rsc.TheVariants.{Ok as Fine}
-use Rattle.m2m_names.specs.declared.operations.Op.TheVariants.{Retrieve}
+use Rattle.m2m_names.specs.declared.operations.Op.TheVariants.{Notify, Retrieve}
 use Rattle.primitive_json.specs.declared.reply.ReplyParts.{ReplyParts}
 use Rattle.primitive_json.specs.declared.request.RequestParts.{RequestParts}
 use Rattle.resource_model.specs.Resource.{ResourceData}
 use Rattle.turn_desk.specs.Entries.{entry_of}
+use Rattle.tree_model.specs.Tree.{at}
 use Rattle.policy_eval.specs.Rights.{fan_grants, grants}
 use Rattle.addressing.specs.Laws.{spot_named}
 use Rattle.addressing.specs.declared.spot.Spot.{Spot}
@@ -16,16 +17,18 @@ use Rattle.addressing.specs.declared.spot.Spot.TheVariants.{Resource, Fan, Poll}
 use Rattle.entity_model.specs.Entity.{EntityData, event_moment, swept}
 use Rattle.entity_model.specs.Places.{reply_to}
 use Rattle.entity_model.specs.Sound.{IsSoundEntity}
+use Rattle.retrieve_discover.specs.Polling.{first_waiting, handed_on}
 use Rattle.retrieve_laws.specs.Guard.{OthersAreShownByRight}
 use Rattle.create_delete.specs.Guard.{ChangesByRight}
+use Rattle.create_delete.specs.Telling.{drafts_at}
 use Rattle.cse_machine.specs.declared.event.Event.{Event}
 use Rattle.cse_machine.specs.declared.event.Event.TheVariants.{Ask}
 use Rattle.cse_machine.specs.declared.event.Outcome.{Outcome}
-use Rattle.cse_machine.specs.declared.event.Outcome.TheVariants.{Done, Starved}
+use Rattle.cse_machine.specs.declared.event.Outcome.TheVariants.{Done, Forward, Starved}
 use Rattle.cse_machine.specs.Answer.{addressed}
-use Rattle.cse_machine.specs.Fan.{Single, gathered, member_requests, singles_of}
+use Rattle.group_fanout.specs.Fan.{Single, gathered, member_requests, rest_of, singles_of}
 use Rattle.cse_machine.specs.History.{History, HistoryLeaves}
-use Rattle.cse_machine.specs.Rights.{claimed_originator, has_right}
+use Rattle.group_fanout.specs.Rights.{claimed_originator, has_right}
 use Rattle.cse_machine.specs.Step.{IsUnswept, Step}
 
 -- ---- what is shown
@@ -54,7 +57,9 @@ pub record ChangesAsAddressed (before : EntityData) (request : RequestParts)
   pub target : ResourceData
   pub named : addressed before request.to ≡ Some target
   pub right : ChangesByRight request.op before (claimed_originator before.home request)
-      target.number after
+      target.number
+      (drafts_at request.op before (claimed_originator before.home request) request target.number)
+      after
 
 -- ---- at a resource
 
@@ -79,24 +84,30 @@ AreGuarded before (single ∷ singles) after =
 
 -- A fan-out is done by a grant through the group of the number, and shows and changes what the
 -- operations on its members do, each of which is guarded by itself: one on each member that the
--- group has before, in their order.
-pub record IsGuardedFan (group rest : ℕ) (before : EntityData) (request : RequestParts)
+-- `mid` of the group lists before, in their order, with what stands behind the fan-out point.
+pub record IsGuardedFan (n place : ℕ) (before : EntityData) (request : RequestParts)
     (reply : ReplyParts) (after : EntityData) : Type 0 where
+  pub group : ResourceData
+  pub there : at n before.nodes ≡ Some group
   pub right : IsTrue (fan_grants before.home before.nodes
-      (claimed_originator before.home request) (op_row request.op).bit group)
+      (claimed_originator before.home request) (op_row request.op).bit n)
   pub singles : List Single
-  pub all : singles ≡ singles_of before (member_requests before request group rest)
+  pub all : singles
+      ≡ singles_of before
+      (member_requests request (rest_of before.home request.to place) group)
   pub guarded : AreGuarded before singles after
   pub replied : reply ≡ reply_to request Fine (Some (gathered singles))
 
 -- ---- at a poll point
 
 -- A request to the poll point of a channel shows something only by the right that its operation
--- needs on the channel, and changes no resource.
+-- needs on the channel, which the channel's rule gives to its owner alone; what it shows is the
+-- first item that waits for this channel; and it changes no resource.
 pub record IsGuardedPoll (channel : ℕ) (before : EntityData) (request : RequestParts)
     (reply : ReplyParts) (after : EntityData) : Type 0 where
   pub shown : DoesShow reply → IsTrue (grants before.home before.nodes
       (claimed_originator before.home request) (op_row request.op).bit channel)
+  pub own : (reply.pc ≡ None) ⊎ (reply.pc ≡ option_map handed_on (first_waiting channel before))
   pub kept : after.nodes ≡ before.nodes
 
 -- ---- a request
@@ -109,8 +120,8 @@ abbrev pub IsGuardedAt :
 IsGuardedAt None before request reply after = IsWithoutEffect before reply after
 IsGuardedAt (Some (Resource n)) before request reply after =
     IsGuardedAlone before request reply after
-IsGuardedAt (Some (Fan group rest)) before request reply after =
-    IsWithoutEffect before reply after ⊎ IsGuardedFan group rest before request reply after
+IsGuardedAt (Some (Fan group place)) before request reply after =
+    IsWithoutEffect before reply after ⊎ IsGuardedFan group place before request reply after
 IsGuardedAt (Some (Poll channel)) before request reply after =
     IsGuardedPoll channel before request reply after
 
@@ -143,7 +154,45 @@ HistoriesAreGuarded =
     × HistoryLeaves opening (earlier ++ entry_of reading (Ask request) (Done reply) ∷ []) after
     × IsGuarded (swept reading before) request reply after
 
+-- ---- where memory runs out
+
+-- So many operations of a fan-out were done, the first ones, each guarded by itself; the fan-out
+-- was done by a grant through its group.
+pub record IsGuardedCut (before : EntityData) (request : RequestParts) (done : ℕ)
+    (after : EntityData) : Type 0 where
+  pub group : ResourceData
+  pub place : ℕ
+  pub spot : spot_asked before request ≡ Some (Fan group.number place)
+  pub there : at group.number before.nodes ≡ Some group
+  pub right : IsTrue (fan_grants before.home before.nodes
+      (claimed_originator before.home request) (op_row request.op).bit group.number)
+  pub singles : List Single
+  pub all : singles
+      ≡ singles_of before
+      (member_requests request (rest_of before.home request.to place) group)
+  pub guarded : AreGuarded before (take done singles) after
+
+-- What has taken effect where memory ran out for a request: nothing, or these.
+abbrev pub IsGuardedShort : EntityData → RequestParts → ℕ → EntityData → Type 0
+IsGuardedShort before request done after =
+    (after ≡ before) ⊎ IsGuardedCut before request done after
+
+-- A step of a sound entity for which memory ran out has changed nothing but by a grant, in the
+-- entity from which what is due is gone; or nothing at all, where it ran out in the expiry.
+abbrev pub CutStepsAreGuarded : Type 0
+CutStepsAreGuarded =
+    (reading : ℕ) (request : RequestParts) (before after : EntityData) (done : ℕ)
+    → IsSoundEntity before → Step reading (Ask request) before (Starved done) after
+    → IsGuardedShort (swept reading before) request done after ⊎ IsUnswept reading before done after
+
 -- ---- what changes nothing
+
+-- A request that goes on to another CSE changes nothing but that what is due goes, with what stands
+-- below it.
+abbrev pub OnwardsChangeNothing : Type 0
+OnwardsChangeNothing =
+    (reading : ℕ) (request onward : RequestParts) (before after : EntityData) (poa : List ℕ)
+    → Step reading (Ask request) before (Forward poa onward) after → after ≡ swept reading before
 
 -- A refused request changes nothing but that what is due goes, with what stands below it.
 abbrev pub RefusalsChangeNothing : Type 0
@@ -157,6 +206,13 @@ abbrev pub RetrievesChangeNoResource : Type 0
 RetrievesChangeNoResource =
     (reading : ℕ) (request : RequestParts) (before after : EntityData) (reply : ReplyParts)
     → request.op ≡ Retrieve → Step reading (Ask request) before (Done reply) after
+    → after.nodes ≡ (swept reading before).nodes
+
+-- Nor does a Notify, whatever it is sent to.
+abbrev pub NotifiesChangeNoResource : Type 0
+NotifiesChangeNoResource =
+    (reading : ℕ) (request : RequestParts) (before after : EntityData) (reply : ReplyParts)
+    → request.op ≡ Notify → Step reading (Ask request) before (Done reply) after
     → after.nodes ≡ (swept reading before).nodes
 
 -- Whatever happens, an entity keeps its home; its moment is that of the event, or all stays where
@@ -184,7 +240,7 @@ WantOfMemoryChangesNothing =
 abbrev pub is_fan_point : Option Spot → Bool
 is_fan_point None = false
 is_fan_point (Some (Resource n)) = false
-is_fan_point (Some (Fan group rest)) = true
+is_fan_point (Some (Fan group place)) = true
 is_fan_point (Some (Poll channel)) = false
 
 -- No member is told as done but by a fan-out.

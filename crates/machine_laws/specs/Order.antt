@@ -10,8 +10,8 @@ use Rattle.tree_model.specs.Tree.{at}
 use Rattle.entity_model.specs.Entity.{EntityData}
 use Rattle.entity_model.specs.Places.{refusal}
 use Rattle.request_rules.specs.Order.{fault_on}
-use Rattle.cse_machine.specs.Answer.{reading_reply}
-use Rattle.cse_machine.specs.Rights.{claimed_originator}
+use Rattle.group_fanout.specs.Operations.{reading_reply}
+use Rattle.group_fanout.specs.Rights.{claimed_originator}
 
 -- A request of its kinds isn't refused for its form; so is each of them that is read from a value
 -- or from a frame.

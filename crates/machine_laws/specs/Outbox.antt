@@ -1,17 +1,23 @@
 -- What becomes of each item of the outbox (TS-0001, 9.6.8 and 10.2.10).
 use Rattle.std.specs.Prelude.{◌≡◌, ◌⊎◌, ℕ, Bool, true, false, not, ◌&&◌, ◌||◌, List, [], ◌∷◌, ◌++◌}
-use Rattle.std.specs.Prelude.{map}
-use Rattle.std.specs.Prelude.{filter, IsTrue, if◌then◌else◌}
+use Rattle.std.specs.Prelude.{map, take}
+use Rattle.std.specs.Prelude.{filter, IsTrue, if◌then◌else◌, Option, Some, None}
 use Rattle.std.specs.List.{list_all}
 use Rattle.std.specs.Option.{option_map_or}
 use Rattle.m2m_names.specs.declared.operations.Op.{Op}
+use Rattle.m2m_names.specs.declared.operations.Op.TheVariants.{Create, Retrieve, Update, Delete}
+use Rattle.m2m_names.specs.declared.operations.Op.TheVariants.{Notify}
 use Rattle.primitive_json.specs.declared.note.NoteParts.{NoteParts}
 use Rattle.primitive_json.specs.declared.request.RequestParts.{RequestParts}
 use Rattle.resource_model.specs.Home.{HomeData}
 use Rattle.resource_model.specs.Resource.{ResourceData}
 use Rattle.tree_model.specs.Changes.{ChangeData}
-use Rattle.tree_model.specs.Tree.{overdue_numbers}
-use Rattle.notify_outbox.specs.Items.{is_to_send, still_waits}
+use Rattle.tree_model.specs.Tree.{at, has, overdue_numbers}
+use Rattle.addressing.specs.Laws.{spot_named}
+use Rattle.addressing.specs.declared.spot.Spot.{Spot}
+use Rattle.addressing.specs.declared.spot.Spot.TheVariants.{Resource, Fan, Poll}
+use Rattle.policy_eval.specs.Rights.{grants, retrieve_bit}
+use Rattle.notify_outbox.specs.Items.{is_to_send, still_waits, waits_for}
 use Rattle.notify_outbox.specs.declared.item.Item.{Item}
 use Rattle.subscription_match.specs.Items.{items_of}
 use Rattle.subscription_match.specs.Notices.{notes_of_all}
@@ -22,16 +28,18 @@ use Rattle.entity_model.specs.Places.{first_fault}
 use Rattle.request_rules.specs.Order.{fault_on}
 use Rattle.create_delete.specs.Changes.{changes_by}
 use Rattle.create_delete.specs.Changing.{effect_by}
+use Rattle.create_delete.specs.Relaying.{relayed}
 use Rattle.create_delete.specs.Telling.{gone_numbers}
 use Rattle.cse_machine.specs.declared.event.Event.{Event}
 use Rattle.cse_machine.specs.declared.event.Event.TheVariants.{Ask, Take, Tick}
 use Rattle.cse_machine.specs.declared.event.Outcome.{Outcome}
-use Rattle.cse_machine.specs.declared.event.Outcome.TheVariants.{Done, Item as Given, Ticked}
-use Rattle.cse_machine.specs.declared.event.Outcome.TheVariants.{Starved}
+use Rattle.cse_machine.specs.declared.event.Outcome.TheVariants.{Done, Forward, Item as Given}
+use Rattle.cse_machine.specs.declared.event.Outcome.TheVariants.{Starved, Ticked}
 use Rattle.cse_machine.specs.Answer.{addressed, first_places}
 use Rattle.cse_machine.specs.History.{History, HistoryLeaves}
-use Rattle.cse_machine.specs.Rights.{claimed_originator}
-use Rattle.cse_machine.specs.Step.{IsUnswept, Step}
+use Rattle.group_fanout.specs.Rights.{claimed_originator}
+use Rattle.cse_machine.specs.Step.{IsCutShort, IsUnswept, Step, heard_members}
+use Rattle.group_fanout.specs.Fan.{fanned_at, member_effect, rest_of}
 
 -- ---- what is appended
 
@@ -53,27 +61,93 @@ abbrev pub done_notes : Op → EntityData → RequestParts → ℕ → EntityDat
 done_notes op e request n done =
     notes_told e.home e.nodes (gone_numbers e done) (changes_by op request n e done)
 
--- the notes of an operation on a resource; one that is refused has none
-abbrev pub operation_notes : Op → EntityData → RequestParts → ResourceData → List NoteParts
-operation_notes op e request target =
+-- the notes of an operation on a resource that may change something; one that is refused has none
+abbrev pub change_notes : Op → EntityData → RequestParts → ResourceData → List NoteParts
+change_notes op e request target =
     let originator = claimed_originator e.home request in
     option_map_or (λ fault. []) (fault_on op e originator request target)
     (done_notes op e request target.number (effect_by op e originator request target).after)
 
--- the notes of a request to an entity from which what is due is gone
-abbrev pub request_notes : EntityData → RequestParts → List NoteParts
-request_notes e request =
-    option_map_or (λ fault. [])
-    (first_fault (first_places e request))
-    (option_map_or (operation_notes request.op e request) (addressed e request.to) [])
+-- the note of a Notify to a resource, which is handed on; one that is refused has none
+abbrev pub relay_notes : EntityData → RequestParts → ResourceData → List NoteParts
+relay_notes e request target =
+    let originator = claimed_originator e.home request in
+    option_map_or (λ fault. []) (fault_on Notify e originator request target)
+    (relayed e originator request ∷ [])
 
--- the items that an expiry appends, and those that a request appends behind them
+-- the notes of any operation on a resource
+abbrev pub operation_notes : Op → EntityData → RequestParts → ResourceData → List NoteParts
+operation_notes Create e request target = change_notes Create e request target
+operation_notes Retrieve e request target = change_notes Retrieve e request target
+operation_notes Update e request target = change_notes Update e request target
+operation_notes Delete e request target = change_notes Delete e request target
+operation_notes Notify e request target = relay_notes e request target
+
+-- those of a request on the resource that was found, if one was
+abbrev pub found_notes : EntityData → RequestParts → Option ResourceData → List NoteParts
+found_notes e request found = option_map_or (operation_notes request.op e request) found []
+
+-- the items of a request to a resource; those of each are numbered and dated by the entity
+abbrev pub found_items : EntityData → RequestParts → Option ResourceData → List Item
+found_items e request found = items_from e.numbered e.last (found_notes e request found)
+
+-- the items of requests to members of a group, one after another: those of each as of one request
+-- to the entity that the one before it left
+abbrev pub member_items : EntityData → List RequestParts → List Item
+member_items e [] = []
+member_items e (request ∷ requests) =
+    found_items e request (addressed e request.to)
+    ++ member_items (member_effect e request).after requests
+
+-- the items of a request at what its address names here
+abbrev pub spot_items : EntityData → RequestParts → Option Spot → List Item
+spot_items e request None = []
+spot_items e request (Some (Resource n)) = found_items e request (at n e.nodes)
+spot_items e request (Some (Fan group place)) =
+    member_items e (fanned_at e request (rest_of e.home request.to place) group)
+spot_items e request (Some (Poll channel)) = []
+
+-- the items that an expiry appends
 abbrev pub expiry_items : ℕ → EntityData → List Item
 expiry_items reading e =
     items_from e.numbered (event_moment e.last reading) (expiry_notes reading e)
 
+-- those that a request to an entity appends from which what is due is gone; one that is refused has
+-- none
 abbrev pub request_items : EntityData → RequestParts → List Item
-request_items e request = items_from e.numbered e.last (request_notes e request)
+request_items e request =
+    option_map_or (λ fault. []) (first_fault (first_places e request))
+    (spot_items e request (spot_named e.home request.to e.nodes))
+
+-- ---- what a poll takes
+
+-- the originator of a request may poll the channel of the number (TS-0001, 9.6.22)
+abbrev pub may_poll : EntityData → RequestParts → ℕ → Bool
+may_poll e request channel =
+    has channel e.nodes
+    && grants e.home e.nodes (claimed_originator e.home request) retrieve_bit channel
+
+-- the channel that an operation polls, where it does and the originator may
+abbrev pub polled_by : Op → EntityData → RequestParts → ℕ → Option ℕ
+polled_by Create e request channel = None
+polled_by Retrieve e request channel =
+    if may_poll e request channel then Some channel else None
+polled_by Update e request channel = None
+polled_by Delete e request channel = None
+polled_by Notify e request channel = None
+
+-- that of a request at what its address names
+abbrev pub channel_at : EntityData → RequestParts → Option Spot → Option ℕ
+channel_at e request None = None
+channel_at e request (Some (Resource n)) = None
+channel_at e request (Some (Fan group place)) = None
+channel_at e request (Some (Poll channel)) = polled_by request.op e request channel
+
+-- the channel that a request polls, unless a place refuses it
+abbrev pub channel_polled : EntityData → RequestParts → Option ℕ
+channel_polled e request =
+    option_map_or (λ fault. None) (first_fault (first_places e request))
+    (channel_at e request (spot_named e.home request.to e.nodes))
 
 -- ---- the account of all items
 
@@ -138,25 +212,50 @@ abbrev pub expired_account : ℕ → EntityData → Account → Account
 expired_account reading e account =
     noted (expiry_items reading e) (aged (event_moment e.last reading) account)
 
--- What a step makes of it. A request appends its items behind those of the expiry; the first item
--- that waits for no polling channel is given away; and where memory runs out, nothing is appended
--- but by the expiry, and not even that where it ran out there.
+-- what a request makes of it behind the expiry: a poll is given the first item that waits for its
+-- channel, and every other request appends its items
+abbrev pub requested_account : EntityData → RequestParts → Account → Account
+requested_account e request account =
+    option_map_or (λ channel. given (waits_for channel) account) (channel_polled e request)
+    (noted (request_items e request) account)
+
+-- What it makes of it where memory ran out: the first so many members of a fan-out have appended
+-- theirs; or nothing is done, not even by the expiry, where memory ran out there.
+abbrev pub short_account : ℕ → RequestParts → EntityData → ℕ → Account → Account
+short_account reading request before done account =
+    let e = swept reading before in
+    noted (member_items e (take done (heard_members e request)))
+    (expired_account reading before account)
+
+-- What a step makes of it: a request polls, or appends its items behind those of the expiry, or
+-- goes on; the first item that waits for no polling channel is given away; and where memory runs out,
+-- nothing is done but by the expiry and by so many members of a fan-out, and not even that where it
+-- ran out in the expiry.
 abbrev pub AccountStep : ℕ → Event → EntityData → Outcome → EntityData → Account → Account → Type 0
 AccountStep reading (Ask request) before (Done reply) after account next =
-    next ≡ noted (request_items (swept reading before) request)
+    next ≡ requested_account (swept reading before) request
     (expired_account reading before account)
+AccountStep reading (Ask request) before (Forward poa onward) after account next =
+    next ≡ expired_account reading before account
 AccountStep reading Take before (Given sent) after account next =
     next ≡ given (is_to_send (swept reading before).nodes) (expired_account reading before account)
 AccountStep reading Tick before Ticked after account next =
     next ≡ expired_account reading before account
-AccountStep reading event before (Starved done) after account next =
-    ((after ≡ swept reading before) × (next ≡ expired_account reading before account))
+AccountStep reading (Ask request) before (Starved done) after account next =
+    (IsCutShort (swept reading before) request done after
+    × (next ≡ short_account reading request before done account))
     ⊎ (IsUnswept reading before done after × (next ≡ account))
+AccountStep reading Take before (Starved done) after account next =
+    IsUnswept reading before done after × (next ≡ account)
+AccountStep reading Tick before (Starved done) after account next =
+    IsUnswept reading before done after × (next ≡ account)
 AccountStep reading (Ask request) before (Given sent) after account next = ⊥
 AccountStep reading (Ask request) before Ticked after account next = ⊥
 AccountStep reading Take before (Done reply) after account next = ⊥
+AccountStep reading Take before (Forward poa onward) after account next = ⊥
 AccountStep reading Take before Ticked after account next = ⊥
 AccountStep reading Tick before (Done reply) after account next = ⊥
+AccountStep reading Tick before (Forward poa onward) after account next = ⊥
 AccountStep reading Tick before (Given sent) after account next = ⊥
 
 -- the steps one after another, from an entity and the account of its items to others

@@ -2,28 +2,32 @@
 ghost use Rattle.machine_laws.specs.Asked.{CreatesAddOne, DeletesTakeTheirTarget};
 ghost use Rattle.machine_laws.specs.Asked.{EntriesAreSteps, NumbersRiseByWhatIsNew};
 ghost use Rattle.machine_laws.specs.Asked.{UpdatesChangeTheirTarget};
-ghost use Rattle.machine_laws.specs.Complete.{WhatMayBeServedIsServed};
+ghost use Rattle.machine_laws.specs.Complete.{WhatIsAnsweredIsTaken, WhatMayBeFannedOutIsFannedOut};
+ghost use Rattle.machine_laws.specs.Complete.{WhatMayBeServedIsServed, WhatMayGoOnGoesOn};
+ghost use Rattle.machine_laws.specs.Complete.{WhatWaitsIsGiven};
 ghost use Rattle.machine_laws.specs.Order.{KindsHaveTheForm, RetrievesAreRefusedInOrder};
 ghost use Rattle.machine_laws.specs.Outbox.{OutboxesAreAccounted};
-ghost use Rattle.machine_laws.specs.Guard.{StepsAreGuarded, HistoriesAreGuarded};
+ghost use Rattle.machine_laws.specs.Guard.{CutStepsAreGuarded, HistoriesAreGuarded};
+ghost use Rattle.machine_laws.specs.Guard.{OnwardsChangeNothing, StepsAreGuarded};
 ghost use Rattle.machine_laws.specs.Guard.{RefusalsChangeNothing, RetrievesChangeNoResource};
 ghost use Rattle.machine_laws.specs.Guard.{FanOutsAloneAreCutShort, WantOfMemoryChangesNothing};
-ghost use Rattle.machine_laws.specs.Guard.{StepsKeepTheEntity};
+ghost use Rattle.machine_laws.specs.Guard.{NotifiesChangeNoResource, StepsKeepTheEntity};
 ghost use Rattle.machine_laws.specs.Legal.{BeginsLegal, StaysLegal, StaysSound, GoesOneWay};
 ghost use Rattle.machine_laws.specs.Sight.{IsAnsweredBySight, EqualSightsAnswerAlike};
 ghost use Rattle.machine_laws.specs.Sight.{EqualSightsHaveOneShape, EqualSightsStayAlike};
 ghost use Rattle.machine_laws.specs.Sight.{SightHasItsShape};
 
-/// The outcome of a request that is covered is a function of what its originator sees of the
-/// entity, of the reading and of the request.
+/// The outcome of a covered request, but of a Create or an Update, is a function of what its
+/// originator sees of the entity, of the reading and of the request.
 pub fn an_originator_is_answered_by_what_it_sees()
     ensures { IsAnsweredBySight }
 {}
 
-/// Two sound entities of which an originator sees the same give it the same reply to the same
-/// covered request at the same reading: at a step, and so all along a history in which it alone
-/// asks and time passes. Who is told of what it does, how often, and which subscriptions go then,
-/// is the same for both; what they are told needn't be.
+/// Two sound entities of which an originator sees the same answer the same covered request at the
+/// same reading alike, by a reply or by sending it on to another CSE: at a step, and so all along a
+/// history in which it alone asks and time passes. So they do where the request is fanned out. Who
+/// is told of what it does, how often, and which subscriptions go then, is the same for both; what
+/// they are told needn't be.
 pub fn equal_sights_are_answered_alike()
     ensures steps { EqualSightsAnswerAlike }
     ensures histories { EqualSightsStayAlike }
@@ -45,26 +49,40 @@ pub fn a_sight_has_the_shape_of_its_entity()
 /// state tag alone where a new instance stands in it, but for the moment of its last change; or it
 /// is a subscription with fewer notifications left, and else as it was. It is gone only at or below
 /// a target with DELETE, or as an instance of a container that the operation adds to or changes by
-/// right, or as a subscription with no notification left.
+/// right, or as a subscription with no notification left. What a poll shows is the first item that
+/// waits for its channel, to whom the channel's rule gives RETRIEVE. A fan-out is gathered, by a
+/// right on its group, from what comes of one request to each of the group's members, one after
+/// another, and each of these is guarded so, in the entity that those before it left; also where
+/// memory runs out after some of them.
 pub fn nothing_is_shown_or_changed_without_a_grant()
     ensures steps { StepsAreGuarded }
+    ensures short { CutStepsAreGuarded }
     ensures histories { HistoriesAreGuarded }
 {}
 
 /// A refused request and want of memory leave the entity as it was, but that what is due is gone;
-/// and not even that where the expiry ran out of memory. A Retrieve changes no resource. No member
-/// is told as done but by a fan-out.
+/// and not even that where the expiry ran out of memory. Neither a Retrieve nor a Notify changes a
+/// resource, nor does a request that goes on to another CSE. No member is told as done but by a
+/// fan-out.
 pub fn what_is_refused_or_read_changes_nothing()
     ensures refused { RefusalsChangeNothing }
     ensures retrieved { RetrievesChangeNoResource }
+    ensures notified { NotifiesChangeNoResource }
+    ensures onward { OnwardsChangeNothing }
     ensures starved { WantOfMemoryChangesNothing }
     ensures members { FanOutsAloneAreCutShort }
 {}
 
 /// A request is served which nothing speaks against, unless memory runs out: it is answered by the
-/// success of its operation, with the content that is asked for.
+/// success of its operation, with the content that is asked for. So is a fan-out, by what comes of
+/// its members; a poll, by the first item that waits for its channel; and the answer to a request
+/// that a poll gave away. One to another CSE goes on to that one's first URL.
 pub fn what_may_be_served_is_served()
-    ensures { WhatMayBeServedIsServed }
+    ensures served { WhatMayBeServedIsServed }
+    ensures fanned { WhatMayBeFannedOutIsFannedOut }
+    ensures polled { WhatWaitsIsGiven }
+    ensures taken { WhatIsAnsweredIsTaken }
+    ensures onward { WhatMayGoOnGoesOn }
 {}
 
 /// A step keeps the home and the moment of the event, and the next number rises by just as many as
@@ -97,8 +115,10 @@ pub fn the_entries_of_a_history_are_its_steps()
 /// After every history from an empty outbox, the outbox is the list of all items that were
 /// appended, in order, less those that were given away and those that were dropped. Each step
 /// appends the items of its expiry, and then those of its request: one for each change and each
-/// subscription that looks for it, as long as it has notifications left, and one for each deletion
-/// notice. Only what waited the keeping time is dropped.
+/// subscription that looks for it, as long as it has notifications left, one for each deletion
+/// notice, and one for a Notify that is handed on; of a fan-out those of each of its members, one
+/// after another, as far as memory lasts. A poll is given the first item that waits for its
+/// channel. Only what waited the keeping time is dropped.
 pub fn the_outbox_holds_what_was_appended()
     ensures { OutboxesAreAccounted }
 {}

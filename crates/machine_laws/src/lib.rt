@@ -3,7 +3,7 @@
 //! No program stands on them. Each is the clause of a function without a body. What is shown or
 //! changed is so by a grant to the originator. A request changes what it asks for and nothing else.
 //! One that nothing speaks against is served, unless memory runs out. An originator is answered by
-//! no more than it sees, in the requests that `is_covered` of `specs/Sight` names. Each entry of a
+//! no more than it sees, in the requests that `IsCovered` of `specs/Sight` names. Each entry of a
 //! legal history is such a step, and after each the outbox holds what was appended, less what was
 //! given away or dropped.
 #![tactic(auto)]

@@ -1,7 +1,5 @@
 //! The plain tree.
-ghost use Rattle.std.specs.Prelude.{◌≡◌, [], MatchOption, None};
-ghost use Rattle.resource_model.specs.Resource.{has_number};
-ghost use Rattle.tree_model.specs.Tree.{at, children_of, without, StandsAt};
+ghost use Rattle.std.specs.Prelude.{◌≡◌, []};
 
 use crate::finding::{
     ae_in, channel_in, child_in, count_of_instances, cse_in, kid_in, kin_after, kin_in,
@@ -50,21 +48,6 @@ impl ListTree {
             nodes: Nodes::new(alloc),
             quiet: u64::MAX,
         }
-    }
-
-    /// Where the resource of a number stands in the order of creation, from 0.
-    pub fn place(&self, number: u64) -> Option<usize>
-        ensures { MatchOption result (at number self.now ≡ None) (StandsAt number self.now) }
-    {
-        self.nodes.place(number)
-    }
-
-    /// Removes a resource below which none stands: it walks over none.
-    pub fn remove_leaf(&mut self, number: u64)
-        requires { children_of number self.old ≡ [] }
-        ensures { self.new ≡ without (has_number number) self.old }
-    {
-        self.nodes.remove_leaf(number)
     }
 }
 

@@ -6,4 +6,5 @@ pub mod NextLemmas
 pub mod WayLemmas
 pub mod TurnLemmas
 pub mod ItemLemmas
+pub mod RequestLemmas
 pub mod LawLemmas

@@ -86,20 +86,20 @@ one_line (Some WriteFault) reply old new said = record {
 one_line (Some Memory) reply old new said = record { whole = []; last = reply; replies_are = refl; said = puts_nothing old new said }
 one_line (Some BadStream) reply old new said = said
 
-pub takes_request : (reading : ℕ) (before after : EntityData) (told : LinkTold) (old new : SinkTold)
+pub takes_request : (reading : ℕ) (before after : EntityData) (told more : LinkTold) (old new : SinkTold)
     (request : RequestParts) (reply : ReplyParts) (status : Option Status)
-    → RepliesTo reading before request reply after → WritesText status (reply_line reply) old new
-    → TakesLine reading reading before after told told old new (Ask request) status
-takes_request reading before after told old new request reply status a said = record {
+    → RepliesTo reading before request reply after told more → WritesText status (reply_line reply) old new
+    → TakesLine reading reading before after told more old new (Ask request) status
+takes_request reading before after told more old new request reply status a said = record {
   asks = record {
     history = entry_of reading (AskEvent request) a.outcome ∷ [];
     replies = reply ∷ [];
-    carried = [];
+    carried = a.carried;
     leaves = (after, a.step, refl);
     readings_are = refl;
     events_are = refl;
-    gives = gives-one request a.outcome reply [] a.gives;
-    link = carries_nothing told;
+    gives = gives-one request a.outcome reply a.carried a.gives;
+    link = a.link;
   };
   reads = refl;
   said = one_line status reply old new said;

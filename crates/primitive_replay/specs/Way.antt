@@ -1,7 +1,8 @@
 -- Lines on their way: what its calls say of the lines so far.
 use Rattle.std.specs.Prelude.{◌≡◌, ℕ, ◌+◌, List, [], ◌∷◌, ◌++◌, length, Option, Some, None}
 use Rattle.std.specs.Prelude.{IfSome}
-use Rattle.cse_server.specs.Outside.{LinkTold, Outside, Puts, PutsPart, SinkTold}
+use Rattle.m2m_io.specs.Link.{Carrying}
+use Rattle.cse_server.specs.Outside.{Carries, LinkTold, Outside, Puts, PutsPart, SinkTold}
 use Rattle.m2m_io.specs.declared.status.Status.{Status}
 use Rattle.m2m_io.specs.declared.status.Status.TheVariants.{Done, Usage, BadLine, ReadFault}
 use Rattle.m2m_io.specs.declared.status.Status.TheVariants.{WriteFault, Memory, BadStream}
@@ -29,13 +30,15 @@ fault_status Bad place = BadLine place
 fault_status Unread place = ReadFault
 fault_status Starved place = Memory
 
--- The machine took a request at a reading, and its outcome gave this reply, for which nothing was
--- carried to a neighbour.
+-- The machine took a request at a reading, and its outcome gave this reply, for which this was
+-- carried over a link, which told that before and tells this now.
 pub record RepliesTo (reading : ℕ) (before : EntityData) (request : RequestParts)
-    (reply : ReplyParts) (after : EntityData) : Type 0 where
+    (reply : ReplyParts) (after : EntityData) (told more : LinkTold) : Type 0 where
   pub outcome : Outcome
+  pub carried : List Carrying
   pub step : Step reading (AskEvent request) before outcome after
-  pub gives : GivesReply request outcome reply []
+  pub gives : GivesReply request outcome reply carried
+  pub link : Carries carried told more
 
 -- what was written of a text: all of it by one put, and else a part of it, or nothing where memory
 -- ran out

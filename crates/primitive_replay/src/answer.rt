@@ -1,15 +1,15 @@
 //! What a request on a line is answered, and its way to the sink.
 ghost use Rattle.std.specs.Prelude.{◌≡◌, Some, IfOk};
-ghost use Rattle.cse_server.specs.Outside.{EndsByFault, sink_told};
+ghost use Rattle.cse_server.specs.Outside.{EndsByFault, link_told, sink_told};
 ghost use Rattle.primitive_json.specs.declared.request.RequestParts.{RequestParts};
 ghost use Rattle.cse_machine.specs.Answer.{starved};
 ghost use Rattle.primitive_replay.specs.Script.{reply_line};
 ghost use Rattle.primitive_replay.specs.Way.{RepliesTo, WritesText};
 
 use cse_machine::{Event, Outcome, step};
-use cse_server::bare_reply;
+use cse_server::{bare_reply, reply_onward};
 use entity_model::Entity;
-use m2m_io::{Sink, Status};
+use m2m_io::{Link, Sink, Status};
 use m2m_names::Rsc;
 use m2m_value::write;
 use primitive_json::{Reply, Request, RequestParts, reply_into};
@@ -32,18 +32,23 @@ fn starved_reply(event: Event) -> Reply
     }
 }
 
-/// Puts a request to an entity at a reading of the clock, and gives the reply.
-pub(crate) fn put_request<T: Tree>(
+/// Puts a request to an entity at a reading of the clock, and gives the reply. The link is for a
+/// request that goes on to another CSE.
+pub(crate) fn put_request<T: Tree, L: Link>(
     alloc: Global,
     entity: &mut Entity<T>,
+    link: &mut L,
     reading: u64,
     request: Request,
 ) -> Reply
-    ensures { RepliesTo reading entity.old request result entity.new }
+    ensures { RepliesTo reading entity.old request result entity.new
+        (link_told (L.exchanges link.old) (L.faults link.old))
+        (link_told (L.exchanges link.new) (L.faults link.new)) }
 {
     let event = Event::Ask(request);
     match step(alloc, entity, reading, &event) {
         Outcome::Done(reply) => reply,
+        Outcome::Forward { poa, request } => reply_onward(alloc, link, &poa, request),
         Outcome::Item(_) | Outcome::Ticked => unreachable!(),
         Outcome::Starved { .. } => starved_reply(event),
     }

@@ -5,11 +5,12 @@ ghost use Rattle.primitive_replay.specs.Script.{WritesScript, dest_words, note_l
 ghost use Rattle.primitive_replay.specs.Way.{WritesText};
 
 use crate::answer::put_line;
+use crate::request_text::push_request;
 use m2m_io::{Sink, Status};
 use m2m_names::Ty;
-use m2m_value::{Text, write};
+use m2m_value::Text;
 use notify_outbox::Outbox;
-use primitive_json::{Dest, Note, write_request};
+use primitive_json::{Dest, Note};
 use resource_model::id_text;
 use std::alloc::{AllocError as OutOfMemory, Global};
 
@@ -39,25 +40,17 @@ fn push_dest(alloc: Global, text: &mut Vec<u8>, dest: &Dest) -> Result<(), OutOf
     }
 }
 
-/// The item as a line.
-fn note_text(alloc: Global, note: &Note) -> Result<Vec<u8>, OutOfMemory>
-    ensures { IfOk result (λ text. text.items ≡ note_line note.now) }
+/// The item as a line; the item is let go.
+fn note_text(alloc: Global, note: Note) -> Result<Vec<u8>, OutOfMemory>
+    ensures { IfOk result (λ text. text.items ≡ note_line note) }
 {
-    let parts = note.parts();
-    let value = write_request(alloc, &parts.request)?;
+    let parts = note.into_parts();
     let mut text = Vec::with_capacity(alloc, ITEM_ROOM)?;
     push_dest(alloc, &mut text, &parts.dest)?;
     text.push(b' ')?;
-    write(&value, &mut text)?;
+    push_request(alloc, &mut text, parts.request)?;
     text.push(b'\n')?;
     Ok(text)
-}
-
-/// The item as a line; the item is let go.
-fn into_text(alloc: Global, note: Note) -> Result<Vec<u8>, OutOfMemory>
-    ensures { IfOk result (λ text. text.items ≡ note_line note) }
-{
-    note_text(alloc, &note)
 }
 
 /// Writes the item as a line, by one call of the sink. None where it was written. Where memory runs
@@ -69,7 +62,7 @@ fn put_note<O: Sink>(alloc: Global, out: &mut O, note: Note) -> Option<Status>
     ensures writes { EndsByFault (Some Status.WriteFault) result
         (O.faults out.old) (O.faults out.new) }
 {
-    let Ok(text) = into_text(alloc, note) else {
+    let Ok(text) = note_text(alloc, note) else {
         return Some(Status::Memory);
     };
     put_line(out, &text)

@@ -22,6 +22,7 @@ mod line;
 mod line_buffer;
 mod next;
 mod replaying;
+mod request_text;
 
 pub use laws::a_stream_has_its_lines_in_one_way;
 pub use line::{LINE_LIMIT, MOST_LINES};

@@ -47,7 +47,7 @@ fn take_line<T: Tree, O: Sink, L: Link>(
             None
         }
         Line::Ask(request) => {
-            let reply = put_request(alloc, entity, *reading, request);
+            let reply = put_request(alloc, entity, link, *reading, request);
             put_reply(alloc, out, reply)
         }
     }
@@ -166,8 +166,8 @@ fn replay_lines<T: Tree, S: Source, O: Sink, L: Link>(
 /// written. Behind the last line the items that are left in the outbox are written, in order, a line
 /// each: where the item is to go (`direct` or `peer` and the URL, `channel` and its id, `nowhere`),
 /// a blank, and its request in JSON. Each line is written by one call of the sink, and one for which
-/// memory ran out isn't begun. The link is for requests that go on to another entity; none do as
-/// yet.
+/// memory ran out isn't begun. A request that goes on to another CSE is carried over the link, and
+/// its exchange gives its reply.
 ///
 /// A line is answered in time linear in it beside its event, and the bytes held and the room for
 /// reading one, which is kept from line to line, are at most some multiple of the longest line.

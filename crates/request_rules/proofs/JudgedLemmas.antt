@@ -1,5 +1,5 @@
 -- What judging gives, by equal names.
-use Rattle.std.proofs.Common.{◌≡◌, ◌++◌, ℕ, List, Option, Some, None, Result, sym, ap, subst}
+use Rattle.std.proofs.Common.{◌≡◌, ◌++◌, ℕ, List, Option, Some, None, Result, Err, sym, ap, ◌∙◌, subst}
 use Rattle.std.specs.Option.{option_map_or}
 use Rattle.m2m_names.specs.declared.codes.Rsc.{Rsc}
 use Rattle.m2m_names.specs.declared.codes.Rsc.TheVariants.{NotFound}
@@ -13,6 +13,7 @@ use Rattle.entity_model.specs.Places.{Check, first_fault}
 use Rattle.request_rules.specs.Judged.{Judges}
 use Rattle.request_rules.specs.Order.{fault_at, fault_on}
 use Rattle.request_rules.specs.declared.judging.Refusal.{Refusal}
+use Rattle.request_rules.specs.declared.judging.Refusal.TheVariants.{Fault, OutOfMemory}
 use Rattle.request_rules.proofs.OrderLemmas.{rest_decides}
 
 -- by the places behind those that hold
@@ -24,3 +25,12 @@ pub judges_at : {X : Type 0} (r : Result X Refusal) (op : Op) (e : EntityData) (
 judges_at r op e o request n t P found judged =
     subst (λ (m : ℕ). Judges r (fault_at op e o request n) (P m)) (at_number n e.nodes t found)
     (subst (λ (f : Option Rsc). Judges r f (P t.number)) (sym (ap (λ (x : Option ResourceData). option_map_or (fault_on op e o request) x (Some NotFound)) found)) judged)
+
+-- by an equal name of the fault
+pub judges_as : {X : Type 0} (r : Result X Refusal) (f g : Option Rsc) (P : X → Type 0) → f ≡ g → Judges r f P → Judges r g P
+judges_as r f g P same judged = subst (λ (x : Option Rsc). Judges r x P) same judged
+
+-- where it is refused, by the fault alone
+pub judges_refused : {X Y : Type 0} (why : Refusal) (f g : Option Rsc) (P : X → Type 0) (Q : Y → Type 0) → g ≡ f → Judges {X = X} (Err why) f P → Judges {X = Y} (Err why) g Q
+judges_refused (Fault r) f g P Q same judged = same ∙ judged
+judges_refused OutOfMemory f g P Q same judged = tt

@@ -13,7 +13,7 @@ use Rattle.m2m_names.specs.declared.attributes.Attr.TheVariants.{Acpi, Aei, Con,
 use Rattle.m2m_names.specs.declared.attributes.Attr.TheVariants.{Rn, St}
 use Rattle.m2m_names.specs.declared.types.Ty.{Ty}
 use Rattle.m2m_names.specs.declared.types.Ty.TheVariants.{Ae, Container, ContentInstance}
-use Rattle.m2m_names.specs.declared.types.Ty.TheVariants.{PollingChannel, RemoteCse}
+use Rattle.m2m_names.specs.declared.types.Ty.TheVariants.{Group, PollingChannel, RemoteCse}
 use Rattle.m2m_value.specs.Data.{Entry, number, text}
 use Rattle.m2m_value.specs.Shapes.{largest_count}
 use Rattle.m2m_value.specs.Spelling.{capped, size_of}
@@ -26,23 +26,11 @@ use Rattle.attribute_rules.specs.Admission.{is_named}
 use Rattle.attribute_rules.specs.Contents.{named_text, wanted_in}
 use Rattle.container_limits.specs.Limits.{is_within, limits_of}
 use Rattle.entity_model.specs.Entity.{EntityData}
+pub use Rattle.request_rules.specs.Asked.{Creation, creation_of}
+use Rattle.request_rules.specs.Groups.{group_rows, membership_new}
 use Rattle.request_rules.specs.Policies.{link_row}
 use Rattle.request_rules.specs.Requests.{expiry_for}
 use Rattle.entity_model.specs.Sound.{largest_size, greatest_depth, greatest_count}
-
--- A creation: in which entity, by whom, of which type, under which parent, and the attributes that
--- the content names. The number is the entity's next one.
-pub record Creation : Type 0 where
-  pub e : EntityData
-  pub originator : List ℕ
-  pub ty : Ty
-  pub parent : ResourceData
-  pub named : List Entry
-
--- The creation that has these parts.
-abbrev pub creation_of : EntityData → List ℕ → Ty → ResourceData → List Entry → Creation
-creation_of e originator ty parent named =
-    record { e = e; originator = originator; ty = ty; parent = parent; named = named }
 
 -- ---- names and identifiers
 
@@ -158,12 +146,14 @@ abbrev pub next_state : ResourceData → ℕ
 next_state r = min (unwrap_or (count_at St r.attrs) 0 + 1) largest_count
 
 -- what the CSE gives the resource besides: an application entity its AE-ID; a container the state
--- tag that it begins with; an instance its size, and the state tag that its container has then
+-- tag that it begins with; an instance its size, and the state tag that its container has then; a
+-- group its members, with what is known of them (TS-0001, 9.6.13)
 abbrev pub given_rows : Ty → Creation → List Row
 given_rows Ae c = (Aei, text (new_ae_id c)) ∷ []
 given_rows Container c = (St, number (pos 0)) ∷ []
 given_rows ContentInstance c =
     (Cs, number (pos (new_size c))) ∷ (St, number (pos (next_state c.parent))) ∷ []
+given_rows Group c = group_rows c.e (membership_new c)
 given_rows _ c = []
 
 -- the originator, where `cr` asks for it

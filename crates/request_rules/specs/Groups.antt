@@ -9,6 +9,7 @@ use Rattle.m2m_names.specs.Attributes.{attr_short}
 use Rattle.m2m_names.specs.Types.{ty_row}
 use Rattle.m2m_names.specs.declared.attributes.Attr.{Attr}
 use Rattle.m2m_names.specs.declared.attributes.Attr.TheVariants.{Cnm, Csy, Mid, Mnm, Mt, Mtv}
+use Rattle.m2m_names.specs.declared.types.Ty.{Ty}
 use Rattle.m2m_names.specs.declared.types.Ty.TheVariants.{Group}
 use Rattle.m2m_value.specs.Data.{Data, Entry, boolean, elements_of, list, number, text}
 use Rattle.m2m_value.specs.Shapes.{as_count, is_text_of}
@@ -26,9 +27,9 @@ use Rattle.addressing.specs.declared.addr.AddrFault.{AddrFault}
 use Rattle.attribute_rules.specs.Admission.{is_named}
 use Rattle.policy_eval.specs.Rules.{listed_in, texts_of}
 use Rattle.entity_model.specs.Entity.{EntityData}
-use Rattle.request_rules.specs.Creation.{Creation}
+use Rattle.request_rules.specs.Asked.{Creation}
 use Rattle.request_rules.specs.Policies.{listed}
-use Rattle.request_rules.specs.declared.groups.Membership.{Membership}
+use Rattle.request_rules.specs.declared.membership.Membership.{Membership}
 
 -- ---- what is asked for
 
@@ -87,8 +88,12 @@ members_edited group es = record {
 }
 
 -- a Create asks for members where it is that of a group
+abbrev pub membership_by : Ty → List Entry → Option MembershipData
+membership_by ty es = if is_ty ty Group then Some (members_wanted es) else None
+
+-- The members that a creation asks for.
 abbrev pub membership_new : Creation → Option MembershipData
-membership_new c = if is_ty c.ty Group then Some (members_wanted c.named) else None
+membership_new c = membership_by c.ty c.named
 
 -- and an Update of a group where it names them, or how many there may be
 abbrev pub does_edit_members : ResourceData → List Entry → Bool
@@ -177,23 +182,31 @@ admits_members e m =
 
 -- ---- what the group keeps
 
--- its members: those of another type are left out, where they are to be
+-- the member is left out: it names a live resource of another type, and such members are left out
+abbrev pub is_left_out : EntityData → MembershipData → List ℕ → Bool
+is_left_out e m address =
+    (m.strategy == abandon_member) && is_of_other_type e m.of_type address
+
+-- those of these addresses that stay
+abbrev pub kept_among : EntityData → MembershipData → List (List ℕ) → List (List ℕ)
+kept_among e m texts = filter (λ (address : List ℕ). not (is_left_out e m address)) texts
+
+-- its members
 abbrev pub members_kept : EntityData → MembershipData → List (List ℕ)
-members_kept e m =
-    if m.strategy == abandon_member
-    then filter (λ (address : List ℕ). not (is_of_other_type e m.of_type address))
-    (distinct_texts m.values)
-    else distinct_texts m.values
+members_kept e m = kept_among e m (distinct_texts m.values)
 
 -- the number of their type: any, where one of another type makes the group one of any
 abbrev pub type_kept : EntityData → MembershipData → ℕ
 type_kept e m =
     if (m.strategy == set_mixed) && has_other_type e m then any_type else m.of_type
 
--- each of its members names a live resource, so their types are known
+-- the member names a live resource
+abbrev pub is_live_member : EntityData → List ℕ → Bool
+is_live_member e address = is_some (member_named e address)
+
+-- each of its members does, so their types are known
 abbrev pub are_validated : EntityData → MembershipData → Bool
-are_validated e m =
-    list_all (λ (address : List ℕ). is_some (member_named e address)) (members_kept e m)
+are_validated e m = list_all (is_live_member e) (members_kept e m)
 
 -- the attributes in which it keeps them
 abbrev pub member_rows : EntityData → MembershipData → List Row
@@ -204,3 +217,7 @@ member_rows e m =
     ∷ (Cnm, number (pos (length (members_kept e m))))
     ∷ (Mtv, boolean (are_validated e m))
     ∷ []
+
+-- where members are asked for; else there are none of these attributes to keep
+abbrev pub group_rows : EntityData → Option MembershipData → List Row
+group_rows e m = option_map_or (member_rows e) m []

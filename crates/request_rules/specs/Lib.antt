@@ -1,3 +1,4 @@
+pub mod Asked
 pub mod Creation
 pub mod Groups
 pub mod Judged

@@ -1,25 +1,31 @@
 //! The members that a group is to have.
-ghost use Rattle.std.specs.Prelude.{◌≡◌, ◌∷◌, ◌++◌, [], bytes_eq, length, nat_le, IfOk, OnOk, None};
-ghost use Rattle.std.specs.Prelude.{Some, ℕ, List, false, option_map, if◌then◌else◌};
-ghost use Rattle.std.specs.List.{list_any};
+ghost use Rattle.std.specs.Prelude.{◌≡◌, ◌==◌, ◌<◌, ◌&&◌, ◌||◌, ◌∷◌, ◌++◌, [], bytes_eq, length};
+ghost use Rattle.std.specs.Prelude.{map, nat_le, pos, IfOk, IfSome, IsUtf8, OnOk, None, Some, ℕ, List};
+ghost use Rattle.std.specs.Prelude.{false, option_map, if◌then◌else◌};
+ghost use Rattle.std.specs.List.{AllByRecursion, list_all, list_any};
 ghost use Rattle.std.specs.Option.{option_map_or};
+ghost use Rattle.m2m_names.specs.Ids.{count_bound};
+ghost use Rattle.m2m_names.specs.declared.attributes.Attr.TheVariants.{Cnm, Csy, Mid, Mt, Mtv};
+ghost use Rattle.m2m_value.specs.Data.{boolean, elements_of, list, number, text};
 ghost use Rattle.m2m_value.specs.Shapes.{is_text_of};
 ghost use Rattle.resource_model.specs.Resource.{ResourceData};
 ghost use Rattle.attribute_rules.specs.Admission as attributes;
 ghost use Rattle.entity_model.specs.Entity.{EntityData};
 ghost use Rattle.entity_model.specs.Places.{first_fault};
 ghost use Rattle.policy_eval.specs.Rules.{texts_of};
-ghost use Rattle.request_rules.specs.Creation.{creation_of};
 ghost use Rattle.request_rules.specs.Groups as spec;
 ghost use Rattle.request_rules.specs.Groups.{membership_of};
+ghost use Rattle.request_rules.specs.Judged.{Judges};
 ghost use Rattle.request_rules.specs.Order as order;
 
 use crate::asking::is_ty;
+use crate::judging::Refusal;
+use crate::membership::Membership;
 use crate::policies::{listed, spot_named};
 use addressing::{Addr, AddrFault, Spot, parse};
 use entity_model::Entity;
 use m2m_names::{Attr, Rsc, Ty};
-use m2m_value::{Members, Text, Val};
+use m2m_value::{Items, Members, Text, Val};
 use policy_eval::listed_in;
 use std::alloc::{AllocError as OutOfMemory, Global};
 use tree_model::{Home, Resource, Tree};
@@ -27,32 +33,25 @@ use tree_model::{Home, Resource, Tree};
 /// The number that stands for any type of member.
 const ANY_TYPE: u64 = 0;
 
-/// What becomes of members of another type: they are left out, or the group is refused.
+/// What becomes of members of another type: they are left out, the group is refused, or it is one
+/// of any type.
 const ABANDON_MEMBER: u64 = 1;
 
 const ABANDON_GROUP: u64 = 2;
 
+const SET_MIXED: u64 = 3;
+
 /// How many members a group has at most.
 const GREATEST_MEMBERS: u64 = 64;
 
-/// The members that an operation asks a group to have.
-#[derive(Clone, Copy)]
-pub struct Membership<'a> {
-    /// The values that name them.
-    pub values: &'a [Val],
-    /// How many there may be.
-    pub most: u64,
-    /// The number of their type, 0 for any.
-    pub of_type: u64,
-    /// What becomes of those of another type: 1 where they are left out, 2 where the group is
-    /// refused, 3 where it is then one of any type.
-    pub strategy: u64,
-}
+/// In how many attributes a group keeps them.
+const KEPT_ATTRS: usize = 5;
 
 // ---- what is asked for
 
 fn count_named(attr: Attr, named: &Members) -> Option<u64>
-    ensures { result ≡ spec.count_named attr named.now }
+    ensures value { result ≡ spec.count_named attr named.now }
+    ensures bound { IfSome result (λ n. n < count_bound) }
 {
     named.get(attr.short().as_bytes())?.as_count()
 }
@@ -109,9 +108,7 @@ fn members_edited<'a>(group: &'a Resource, named: &'a Members) -> Membership<'a>
 /// The members that a Create of this type asks for by these attributes, where it is that of a
 /// group.
 pub fn membership_new(ty: Ty, named: &Members) -> Option<Membership<'_>>
-    ensures { (e : EntityData) (originator : List ℕ) (parent : ResourceData) →
-        option_map membership_of result
-        ≡ spec.membership_new (creation_of e originator ty parent named.now) }
+    ensures { option_map membership_of result ≡ spec.membership_by ty named.now }
 {
     if is_ty(ty, Ty::Group) {
         Some(members_wanted(named))
@@ -198,8 +195,10 @@ fn has_text(texts: &[Text], text: &Text) -> bool
 
 // Puts the text of a value behind others, unless it stands there already.
 fn add_text(alloc: Global, texts: &mut Vec<Text>, value: &Val) -> Result<(), OutOfMemory>
-    ensures { OnOk result (texts.new.items ≡ texts.old.items
+    ensures items { OnOk result (texts.new.items ≡ texts.old.items
         ++ spec.new_after texts.old.items (texts_of (value.now ∷ []))) }
+    ensures utf8 { OnOk result (AllByRecursion IsUtf8 texts.old.items
+        → AllByRecursion IsUtf8 texts.new.items) }
 {
     if let Some(text) = value.as_text() {
         if !has_text(texts, text) {
@@ -211,9 +210,11 @@ fn add_text(alloc: Global, texts: &mut Vec<Text>, value: &Val) -> Result<(), Out
 
 // The texts among values, without repeats, unless they are more than so many.
 fn few_texts(alloc: Global, values: &[Val], most: u64) -> Result<Option<Vec<Text>>, OutOfMemory>
-    ensures { IfOk result (λ found. option_map (λ v. v.items) found
+    ensures found { IfOk result (λ found. option_map (λ v. v.items) found
         ≡ (if nat_le (length (spec.distinct_texts values.now)) most
         then Some (spec.distinct_texts values.now) else None)) }
+    ensures utf8 { IfOk result (λ found.
+        IfSome found (λ texts. AllByRecursion IsUtf8 texts.items)) }
 {
     let mut texts = Vec::new(alloc);
     for value in values {
@@ -252,52 +253,155 @@ fn differs_from(of_type: u64, resource: Option<&Resource>) -> bool
     }
 }
 
-fn is_of_other_type<T: Tree>(
-    alloc: Global,
-    entity: &Entity<T>,
-    of_type: u64,
-    address: &[u8],
-) -> Result<bool, OutOfMemory>
-    ensures { IfOk result (λ b. b ≡ spec.is_of_other_type entity.now of_type address.now) }
+fn is_of_other_type(of_type: u64, resource: Option<&Resource>) -> bool
+    ensures { (e : EntityData) (address : List ℕ) →
+        option_map (λ r. r.now) resource.entry ≡ spec.member_named e address
+        → result ≡ spec.is_of_other_type e of_type address }
 {
-    if of_type == ANY_TYPE {
-        return Ok(false);
-    }
-    let named = member_named(alloc, entity, address)?;
-    Ok(differs_from(of_type, named))
+    of_type != ANY_TYPE && differs_from(of_type, resource)
 }
 
-fn has_other_type<T: Tree>(
-    alloc: Global,
-    entity: &Entity<T>,
-    of_type: u64,
-    texts: &[Text],
-) -> Result<bool, OutOfMemory>
-    ensures { IfOk result (λ b. b
-        ≡ list_any (spec.is_of_other_type entity.now of_type) texts.now) }
-{
-    for text in texts {
-        if is_of_other_type(alloc, entity, of_type, text.entries())? {
-            return Ok(true);
-        }
-    }
-    Ok(false)
+// ---- what is known of them
+
+/// What is known of some members: those that the group keeps, whether one is of another type, and
+/// whether each that is kept names a live resource.
+#[derive(Drop)]
+struct Known {
+    kept: Vec<Val>,
+    has_other: bool,
+    are_live: bool,
 }
 
-fn is_consistent<T: Tree>(
+// Looks at one more.
+fn learn_member<T: Tree>(
     alloc: Global,
     entity: &Entity<T>,
     members: Membership<'_>,
-    texts: &[Text],
-) -> Result<bool, OutOfMemory>
-    requires { texts.now ≡ spec.distinct_texts members.values.now }
-    ensures { IfOk result (λ b. b ≡ spec.is_consistent entity.now (membership_of members.entry)) }
+    address: Text,
+    known: &mut Known,
+) -> Result<(), OutOfMemory>
+    requires { IsUtf8 address }
+    ensures kept { OnOk result (known.new.kept.items ≡ known.old.kept.items ++ map text
+        (spec.kept_among entity.now (membership_of members.entry) (address ∷ []))) }
+    ensures other { OnOk result (known.new.has_other ≡ (known.old.has_other
+        || spec.is_of_other_type entity.now members.entry.of_type address)) }
+    ensures live { OnOk result (known.new.are_live ≡ (known.old.are_live
+        && list_all (spec.is_live_member entity.now)
+        (spec.kept_among entity.now (membership_of members.entry) (address ∷ [])))) }
 {
-    if members.strategy != ABANDON_GROUP {
-        return Ok(true);
+    let named = member_named(alloc, entity, address.entries())?;
+    let is_live = named.is_some();
+    let is_other = is_of_other_type(members.of_type, named);
+    known.has_other = known.has_other || is_other;
+    if members.strategy != ABANDON_MEMBER || !is_other {
+        known.are_live = known.are_live && is_live;
+        known.kept.push(Val::of_text(address))?;
     }
-    let other = has_other_type(alloc, entity, members.of_type, texts)?;
-    Ok(!other)
+    Ok(())
+}
+
+fn learn_members<T: Tree>(
+    alloc: Global,
+    entity: &Entity<T>,
+    members: Membership<'_>,
+    texts: Vec<Text>,
+) -> Result<Known, OutOfMemory>
+    requires { AllByRecursion IsUtf8 texts.items }
+    ensures kept { IfOk result (λ k. k.kept.items
+        ≡ map text (spec.kept_among entity.now (membership_of members.entry) texts.items)) }
+    ensures other { IfOk result (λ k. k.has_other
+        ≡ list_any (spec.is_of_other_type entity.now members.entry.of_type) texts.items) }
+    ensures live { IfOk result (λ k. k.are_live ≡ list_all (spec.is_live_member entity.now)
+        (spec.kept_among entity.now (membership_of members.entry) texts.items)) }
+{
+    let mut known = Known {
+        kept: Vec::with_capacity(alloc, texts.len())?,
+        has_other: false,
+        are_live: true,
+    };
+    for address in texts {
+        learn_member(alloc, entity, members, address, &mut known)?;
+    }
+    Ok(known)
+}
+
+// ---- what the group keeps
+
+fn number_of(n: u64) -> Val
+    requires { n < count_bound }
+    ensures { result ≡ number (pos n) }
+{
+    Val::of_num(n as i64)
+}
+
+fn type_kept(members: Membership<'_>, has_other: bool) -> u64
+    ensures value { result ≡ (if (members.entry.strategy == spec.set_mixed) && has_other
+        then spec.any_type else members.entry.of_type) }
+    ensures bound { result < count_bound }
+{
+    if members.strategy == SET_MIXED && has_other {
+        ANY_TYPE
+    } else {
+        members.of_type
+    }
+}
+
+// The attributes that say who its members are, and of which type.
+fn push_members(
+    members: Membership<'_>,
+    kept: Vec<Val>,
+    has_other: bool,
+    rows: &mut Vec<(Attr, Val)>,
+) -> Result<(), OutOfMemory>
+    ensures { OnOk result (rows.new.items ≡ rows.old.items
+        ++ (Mid, list (elements_of kept.items)) ∷ (
+          Mt,
+          number (pos
+              (if (members.entry.strategy == spec.set_mixed) && has_other
+              then spec.any_type else members.entry.of_type)),
+        ) ∷ []) }
+{
+    rows.push((Attr::Mid, Val::of_list(Items::of(kept))))?;
+    rows.push((Attr::Mt, number_of(type_kept(members, has_other))))?;
+    Ok(())
+}
+
+// Those that say what becomes of members of another type, how many they are, and whether they are
+// known.
+fn push_counts(
+    strategy: u64,
+    count: u64,
+    are_live: bool,
+    rows: &mut Vec<(Attr, Val)>,
+) -> Result<(), OutOfMemory>
+    requires strategy { strategy < count_bound }
+    requires count { count < count_bound }
+    ensures { OnOk result (rows.new.items ≡ rows.old.items
+        ++ (Csy, number (pos strategy)) ∷ (Cnm, number (pos count)) ∷ (Mtv, boolean are_live) ∷ []) }
+{
+    rows.push((Attr::Csy, number_of(strategy)))?;
+    rows.push((Attr::Cnm, number_of(count)))?;
+    rows.push((Attr::Mtv, Val::of_bool(are_live)))?;
+    Ok(())
+}
+
+// The attributes in which a group keeps what is known of all its members.
+fn member_rows(
+    alloc: Global,
+    members: Membership<'_>,
+    known: Known,
+) -> Result<Vec<(Attr, Val)>, OutOfMemory>
+    ensures { (e : EntityData) →
+        known.kept.items ≡ map text (spec.members_kept e (membership_of members.entry))
+        → known.has_other ≡ spec.has_other_type e (membership_of members.entry)
+        → known.are_live ≡ spec.are_validated e (membership_of members.entry)
+        → IfOk result (λ rows. rows.items ≡ spec.member_rows e (membership_of members.entry)) }
+{
+    let count = known.kept.len() as u64;
+    let mut rows = Vec::with_capacity(alloc, KEPT_ATTRS)?;
+    push_members(members, known.kept, known.has_other, &mut rows)?;
+    push_counts(members.strategy, count, known.are_live, &mut rows)?;
+    Ok(rows)
 }
 
 // ---- what refuses them
@@ -306,31 +410,36 @@ fn judge_members<T: Tree>(
     alloc: Global,
     entity: &Entity<T>,
     members: Membership<'_>,
-) -> Result<Option<Rsc>, OutOfMemory>
-    ensures { IfOk result (λ f.
-        f ≡ first_fault (order.member_places entity.now (Some (membership_of members.entry)))) }
+) -> Result<Vec<(Attr, Val)>, Refusal>
+    ensures { Judges result
+        (first_fault (order.member_places entity.now (Some (membership_of members.entry))))
+        (λ rows. rows.items ≡ spec.member_rows entity.now (membership_of members.entry)) }
 {
     let limit = members.most.min(GREATEST_MEMBERS);
     let Some(texts) = few_texts(alloc, members.values, limit)? else {
-        return Ok(Some(Rsc::TooManyMembers));
+        return Err(Refusal::Fault(Rsc::TooManyMembers));
     };
-    if !is_consistent(alloc, entity, members, &texts)? {
-        return Ok(Some(Rsc::WrongMember));
+    let known = learn_members(alloc, entity, members, texts)?;
+    if known.has_other && members.strategy == ABANDON_GROUP {
+        return Err(Refusal::Fault(Rsc::WrongMember));
     }
-    Ok(None)
+    Ok(member_rows(alloc, members, known)?)
 }
 
-/// The status with which the number of a group's members, or their types, refuse an operation.
+/// Judges the members that a group is to have by their number and their types. What isn't refused
+/// gives the attributes in which the group keeps them, and none where no members are asked for.
 pub(crate) fn judge_group<T: Tree>(
     alloc: Global,
     entity: &Entity<T>,
     group: Option<Membership<'_>>,
-) -> Result<Option<Rsc>, OutOfMemory>
-    ensures { IfOk result (λ f.
-        f ≡ first_fault (order.member_places entity.now (option_map membership_of group.entry))) }
+) -> Result<Vec<(Attr, Val)>, Refusal>
+    ensures { Judges result
+        (first_fault (order.member_places entity.now (option_map membership_of group.entry)))
+        (λ rows. rows.items
+        ≡ spec.group_rows entity.now (option_map membership_of group.entry)) }
 {
     match group {
         Some(members) => judge_members(alloc, entity, members),
-        None => Ok(None),
+        None => Ok(Vec::new(alloc)),
     }
 }

@@ -7,7 +7,8 @@ ghost use Rattle.tree_model.specs.Tree.{at, has};
 ghost use Rattle.attribute_rules.specs.Admission.{attributes_in};
 ghost use Rattle.entity_model.specs.Places.{first_fault};
 ghost use Rattle.entity_model.specs.Sound.{IsSoundEntity};
-ghost use Rattle.request_rules.specs.Creation.{creation_of};
+ghost use Rattle.request_rules.specs.Asked.{creation_of};
+ghost use Rattle.request_rules.specs.Groups.{group_rows, membership_by, membership_edited};
 ghost use Rattle.request_rules.specs.Judged.{IsCreateOf, IsUpdateOf, Judges};
 ghost use Rattle.request_rules.specs.Order as spec;
 ghost use Rattle.request_rules.specs.Requests as requests;
@@ -17,7 +18,7 @@ use crate::refusing::{judge_content, judge_creation, judge_edition};
 use crate::rights::{is_subscribing, may_do};
 use attribute_rules::{Writing, attributes_in};
 use entity_model::Entity;
-use m2m_names::{Op, Rsc, Ty};
+use m2m_names::{Attr, Op, Rsc, Ty};
 use m2m_value::{Members, Val};
 use primitive_json::Request;
 use std::alloc::{AllocError as OutOfMemory, Global};
@@ -42,22 +43,25 @@ impl From<OutOfMemory> for Refusal {
     }
 }
 
-/// A Create that no place refuses: the parent of the new resource, its type, the content, and the
-/// attributes that this names.
-#[derive(Clone, Copy)]
+/// A Create that no place refuses: the parent of the new resource, its type, the content, the
+/// attributes that this names, and those in which a group keeps its members.
+#[derive(Drop)]
 pub struct AllowedCreate<'a> {
     pub parent: &'a Resource,
     pub ty: Ty,
     pub content: &'a Val,
     pub named: &'a Members,
+    pub members: Vec<(Attr, Val)>,
 }
 
-/// An Update that no place refuses: the resource, the content, and the attributes that this names.
-#[derive(Clone, Copy)]
+/// An Update that no place refuses: the resource, the content, the attributes that this names, and
+/// those in which a group keeps the members that it is to have from now on.
+#[derive(Drop)]
 pub struct AllowedUpdate<'a> {
     pub target: &'a Resource,
     pub content: &'a Val,
     pub named: &'a Members,
+    pub members: Vec<(Attr, Val)>,
 }
 
 // ---- the target
@@ -199,19 +203,20 @@ fn judge_child<'a, T: Tree>(
     let Some((content, named)) = content_for(request, ty) else {
         return Err(Refusal::Fault(Rsc::BadRequest));
     };
-    match judge_members(alloc, entity, originator, parent, ty, content, named)? {
-        Some(fault) => Err(Refusal::Fault(fault)),
-        None => Ok(AllowedCreate {
+    match judge_named(alloc, entity, originator, parent, ty, content, named) {
+        Ok(members) => Ok(AllowedCreate {
             parent,
             ty,
             content,
             named,
+            members,
         }),
+        Err(refusal) => Err(refusal),
     }
 }
 
 // By the attributes that it names, and by what would be created.
-fn judge_members<T: Tree>(
+fn judge_named<T: Tree>(
     alloc: Global,
     entity: &Entity<T>,
     originator: &[u8],
@@ -219,14 +224,15 @@ fn judge_members<T: Tree>(
     ty: Ty,
     content: &Val,
     named: &Members,
-) -> Result<Option<Rsc>, OutOfMemory>
+) -> Result<Vec<(Attr, Val)>, Refusal>
     requires originator { IsTrue (is_originator originator.now) }
     requires named { attributes_in ty content.now ≡ Some named.now }
-    ensures { IfOk result (λ f.
-        f ≡ spec.fault_creation (creation_of entity.now originator.now ty parent.now named.now)) }
+    ensures { Judges result
+        (spec.fault_creation (creation_of entity.now originator.now ty parent.now named.now))
+        (λ rows. rows.items ≡ group_rows entity.now (membership_by ty named.now)) }
 {
     if let Some(fault) = judge_content(alloc, entity, Writing::Create, ty, content, named)? {
-        return Ok(Some(fault));
+        return Err(Refusal::Fault(fault));
     }
     judge_creation(alloc, entity, originator, ty, parent, named)
 }
@@ -290,13 +296,14 @@ fn judge_edit<'a, T: Tree>(
     let Some((content, named)) = content_for(request, target.ty()) else {
         return Err(Refusal::Fault(Rsc::BadRequest));
     };
-    match judge_edits(alloc, entity, target, content, named)? {
-        Some(fault) => Err(Refusal::Fault(fault)),
-        None => Ok(AllowedUpdate {
+    match judge_edits(alloc, entity, target, content, named) {
+        Ok(members) => Ok(AllowedUpdate {
             target,
             content,
             named,
+            members,
         }),
+        Err(refusal) => Err(refusal),
     }
 }
 
@@ -307,13 +314,14 @@ fn judge_edits<T: Tree>(
     target: &Resource,
     content: &Val,
     named: &Members,
-) -> Result<Option<Rsc>, OutOfMemory>
+) -> Result<Vec<(Attr, Val)>, Refusal>
     requires { attributes_in target.now.ty content.now ≡ Some named.now }
-    ensures { IfOk result (λ f. f ≡ spec.fault_edit entity.now target.now named.now) }
+    ensures { Judges result (spec.fault_edit entity.now target.now named.now)
+        (λ rows. rows.items ≡ group_rows entity.now (membership_edited target.now named.now)) }
 {
     let ty = target.ty();
     if let Some(fault) = judge_content(alloc, entity, Writing::Update, ty, content, named)? {
-        return Ok(Some(fault));
+        return Err(Refusal::Fault(fault));
     }
     judge_edition(alloc, entity, target, named)
 }

@@ -24,6 +24,7 @@ mod contents;
 mod groups;
 mod judging;
 mod limiting;
+mod membership;
 mod naming;
 mod policies;
 mod refusing;
@@ -32,11 +33,12 @@ mod uniqueness;
 
 pub use asking::{child_ty, find};
 pub use contents::named_expiry;
-pub use groups::{Membership, member_named, membership_edited, membership_new};
+pub use groups::{member_named, membership_edited, membership_new};
 pub use judging::{
     AllowedCreate, AllowedUpdate, Refusal, judge_create, judge_target, judge_update,
 };
 pub use limiting::size_named;
+pub use membership::Membership;
 pub use naming::{new_ae_id, new_name, new_owner};
 pub use policies::{listed, policy_ids};
 pub use rights::{is_discovery, may_do};

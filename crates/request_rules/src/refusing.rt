@@ -3,17 +3,20 @@ ghost use Rattle.std.specs.Prelude.{◌≡◌, IfOk, IsTrue, Some};
 ghost use Rattle.m2m_names.specs.Name.{is_originator};
 ghost use Rattle.attribute_rules.specs.Admission.{attributes_in};
 ghost use Rattle.entity_model.specs.Places.{first_fault};
-ghost use Rattle.request_rules.specs.Creation.{creation_of};
+ghost use Rattle.request_rules.specs.Asked.{creation_of};
+ghost use Rattle.request_rules.specs.Groups.{group_rows, membership_by, membership_edited};
+ghost use Rattle.request_rules.specs.Judged.{Judges};
 ghost use Rattle.request_rules.specs.Order as spec;
 
 use crate::contents::{admits, named_expiry};
 use crate::groups::{have_addresses, judge_group, membership_edited, membership_new};
+use crate::judging::Refusal;
 use crate::limiting::has_room;
 use crate::policies::links_live;
 use crate::uniqueness::is_unique;
 use attribute_rules::Writing;
 use entity_model::Entity;
-use m2m_names::{Rsc, Ty};
+use m2m_names::{Attr, Rsc, Ty};
 use m2m_value::{Members, Val};
 use std::alloc::{AllocError as OutOfMemory, Global};
 use tree_model::{Resource, Tree};
@@ -63,8 +66,8 @@ pub(crate) fn judge_content<T: Tree>(
     judge_named(alloc, entity, named)
 }
 
-/// The status with which the members that a group is to have, what stands there, or a limit refuse
-/// a creation.
+/// Judges a creation by the members that a group is to have, by what stands there, and by limits.
+/// What isn't refused gives the attributes in which a group keeps its members.
 pub(crate) fn judge_creation<T: Tree>(
     alloc: Global,
     entity: &Entity<T>,
@@ -72,37 +75,39 @@ pub(crate) fn judge_creation<T: Tree>(
     ty: Ty,
     parent: &Resource,
     members: &Members,
-) -> Result<Option<Rsc>, OutOfMemory>
+) -> Result<Vec<(Attr, Val)>, Refusal>
     requires { IsTrue (is_originator originator.now) }
-    ensures { IfOk result (λ f.
-        f ≡ spec.fault_new (creation_of entity.now originator.now ty parent.now members.now)) }
+    ensures { Judges result
+        (spec.fault_new (creation_of entity.now originator.now ty parent.now members.now))
+        (λ rows. rows.items ≡ group_rows entity.now (membership_by ty members.now)) }
 {
     let group = membership_new(ty, members);
     if !have_addresses(alloc, &entity.home, group)? {
-        return Ok(Some(Rsc::BadRequest));
+        return Err(Refusal::Fault(Rsc::BadRequest));
     }
     if !is_unique(alloc, entity, originator, ty, parent, members)? {
-        return Ok(Some(Rsc::Conflict));
+        return Err(Refusal::Fault(Rsc::Conflict));
     }
     if !has_room(entity, ty, parent, members) {
-        return Ok(Some(Rsc::NotAcceptable));
+        return Err(Refusal::Fault(Rsc::NotAcceptable));
     }
     judge_group(alloc, entity, group)
 }
 
-/// The status with which the members that a group is to have refuse an Update.
+/// Judges an Update by the members that a group is to have. What isn't refused gives the attributes
+/// in which the group keeps them.
 pub(crate) fn judge_edition<T: Tree>(
     alloc: Global,
     entity: &Entity<T>,
     target: &Resource,
     members: &Members,
-) -> Result<Option<Rsc>, OutOfMemory>
-    ensures { IfOk result (λ f.
-        f ≡ first_fault (spec.edit_places entity.now target.now members.now)) }
+) -> Result<Vec<(Attr, Val)>, Refusal>
+    ensures { Judges result (first_fault (spec.edit_places entity.now target.now members.now))
+        (λ rows. rows.items ≡ group_rows entity.now (membership_edited target.now members.now)) }
 {
     let group = membership_edited(target, members);
     if !have_addresses(alloc, &entity.home, group)? {
-        return Ok(Some(Rsc::BadRequest));
+        return Err(Refusal::Fault(Rsc::BadRequest));
     }
     judge_group(alloc, entity, group)
 }

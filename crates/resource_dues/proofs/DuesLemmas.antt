@@ -19,7 +19,7 @@ use Rattle.m2m_value.specs.Data.{Data, number as whole_number}
 use Rattle.m2m_value.specs.Shapes.{as_count}
 use Rattle.m2m_names.specs.declared.types.Ty.TheVariants.{ContentInstance, CseBase}
 use Rattle.resource_model.specs.Resource.{ResourceData, has_number, is_ty}
-use Rattle.tree_model.specs.Tree.{age_of, at, has, has_come, due, due_under, end_by, are_quiet, is_quiet, is_due, is_tree, live, may_stand, is_spared, lowered_age, numbers_of, overdue_numbers, recounted, recounted_at, replaced, restamped, restamped_at, standing, without}
+use Rattle.tree_model.specs.Tree.{age_of, at, has, has_come, due, due_under, end_by, are_quiet, is_quiet, is_due, is_tree, live, may_stand, is_spared, lowered_age, next_after, numbers_of, overdue_numbers, recounted, recounted_at, replaced, restamped, restamped_at, standing, without}
 use Rattle.tree_model.proofs.GrowthLemmas.{IsNext, growth, next_above_parent, next_fits, below_has, below_lacks, at-without, has-filter, stands}
 use Rattle.tree_model.proofs.KeptLemmas.{is_tree-without, without-snoc}
 use Rattle.tree_model.proofs.LiveLemmas.{due-without}
@@ -28,7 +28,8 @@ use Rattle.tree_model.proofs.NumberLemmas.{equal_is}
 use Rattle.tree_model.proofs.OrderLemmas.{above_lacks, are_above, ascend, at_place, tree_ascends}
 use Rattle.tree_model.proofs.QuietLemmas.{all_by_number, due-append, due-replaced_other, due_case, due_never, due_by_age, due_by_expiry, due_plain}
 use Rattle.tree_model.proofs.TreeLemmas.{at-append, at-replaced, at-replaced_other, at_has, at_none, at_number, filter_among, has-append, staying_wider}
-use Rattle.resource_list.proofs.LeafLemmas.{leaf_without, others}
+use Rattle.resource_store.proofs.LeafLemmas.{leaf_without, others}
+use Rattle.resource_store.proofs.NextLemmas.{until_end, until_next, until_zero}
 use Rattle.resource_dues.specs.Dues.{due_at, is_told, tells, AreTold, AreToldTo, HasDues, IsDueLeaf, TellsAll}
 use Rattle.resource_dues.specs.declared.dues.Dues.{Dues}
 
@@ -307,49 +308,38 @@ told_anew nodes before between after first when read is same rest whole_before k
   | inr f ↦ keeps moment r.number (rest moment r.number first read f (told (sym same ∙ whole_before whole) r moment found due_then))
 ]
 
--- what is due goes, where nothing stands below it
-pub leaf_due : (nodes : List ResourceData) (n moment : ℕ) → is_tree nodes ≡ true → IsDueLeaf n moment nodes → live moment (without (has_number n) nodes) ≡ live moment nodes
-leaf_due nodes n moment tree is = by (at n nodes) refl
+-- what is due goes
+pub due_goes : (nodes : List ResourceData) (n moment : ℕ) → is_tree nodes ≡ true → option_map_or (has_come moment) (due_at n nodes) false ≡ true → live moment (without (has_number n) nodes) ≡ live moment nodes
+due_goes nodes n moment tree come = by (at n nodes) refl
   where
     by : (o : Option ResourceData) → at n nodes ≡ o → live moment (without (has_number n) nodes) ≡ live moment nodes
-    by None none = absurd (both_ways _ refl (sym (ap (λ o. option_map_or (has_come moment) (option_and_then (λ (r : ResourceData). due nodes r) o) false) none) ∙ is.due))
-    by (Some r) some = live_less nodes n moment r tree some (sym (ap (λ o. option_map_or (has_come moment) (option_and_then (λ (s : ResourceData). due nodes s) o) false) some) ∙ is.due)
+    by None none = absurd (both_ways _ refl (sym (ap (λ o. option_map_or (has_come moment) (option_and_then (λ (r : ResourceData). due nodes r) o) false) none) ∙ come))
+    by (Some r) some = live_less nodes n moment r tree some (sym (ap (λ o. option_map_or (has_come moment) (option_and_then (λ (s : ResourceData). due nodes s) o) false) some) ∙ come)
+
+-- it stands there
+pub due_there : (nodes : List ResourceData) (n moment : ℕ) → option_map_or (has_come moment) (due_at n nodes) false ≡ true → has n nodes ≡ true
+due_there nodes n moment come = by (at n nodes) refl
+  where
+    by : (o : Option ResourceData) → at n nodes ≡ o → has n nodes ≡ true
+    by None none = absurd (both_ways _ refl (sym (ap (λ o. option_map_or (has_come moment) (option_and_then (λ (r : ResourceData). due nodes r) o) false) none) ∙ come))
+    by (Some r) some = at_has n nodes r some
 
 -- ---- a list gone over
 
-take_next : (xs : List ResourceData) (i : ℕ) (y : ResourceData) → slice_get xs i ≡ Some y → take (suc i) xs ≡ take i xs ++ y ∷ []
-take_next [] i y e = cc
-take_next (z ∷ xs) zero y e = ap (λ (w : ResourceData). w ∷ []) (same_Some z y e)
-take_next (z ∷ xs) (suc i) y e = ap (λ ws. z ∷ ws) (take_next xs i y e)
-
-take_past : (xs : List ResourceData) (i : ℕ) → slice_get xs i ≡ None → take (suc i) xs ≡ take i xs
-take_past [] zero e = refl
-take_past [] (suc i) e = refl
-take_past (z ∷ xs) zero e = absurd (some_none z (sym e))
-take_past (z ∷ xs) (suc i) e = ap (λ ws. z ∷ ws) (take_past xs i e)
-
-pub told_turn : (nodes : List ResourceData) (k : ℕ) (x : ResourceData) (before after : Dues) (number : ℕ) (when : Option ℕ) → is_tree nodes ≡ true → slice_get nodes k ≡ Some x → (after.whole ≡ true → before.whole ≡ true) → TellsAll before.moments.keys after.moments.keys → number ≡ x.number → when ≡ due nodes x → ((moment : ℕ) → after.whole ≡ true → when ≡ Some moment → is_told moment number after.moments.keys ≡ true) → AreToldTo k nodes before → AreToldTo (k + 1) nodes after
-told_turn nodes k x before after number when tree read whole_before keeps is_number is_when noted told whole r moment there found due_then =
-    let more : take (k + 1) nodes ≡ take k nodes ++ x ∷ [] = ap (λ j. take j nodes) (sym (suc-eq-add-one k)) ∙ take_next nodes k x read in
-    elim (or_cases (has r.number (take k nodes)) _ (sym (has-append r.number (take k nodes) (x ∷ [])) ∙ ap (has r.number) (sym more) ∙ there)) [
+pub told_turn : (nodes : List ResourceData) (last : ℕ) (x : ResourceData) (before after : Dues) (number : ℕ) (when : Option ℕ) → is_tree nodes ≡ true → next_after last nodes ≡ Some x → (after.whole ≡ true → before.whole ≡ true) → TellsAll before.moments.keys after.moments.keys → number ≡ x.number → when ≡ due nodes x → ((moment : ℕ) → after.whole ≡ true → when ≡ Some moment → is_told moment number after.moments.keys ≡ true) → AreToldTo last nodes before → AreToldTo number nodes after
+told_turn nodes last x before after number when tree found_next whole_before keeps is_number is_when noted told whole r moment low found due_then =
+    elim (until_next last nodes x r tree found_next found (let same : number ≡ x.number = is_number in omega arith)) [
       | inl old ↦ keeps moment r.number (told (whole_before whole) r moment old found due_then)
-      | inr new ↦ elim (or_cases (has_number r.number x) false new) [
-        | inl same ↦
-            let it : x.number ≡ r.number = eqb-true x.number r.number same in
-            let stands_there : at x.number nodes ≡ Some x = at_place nodes k x (tree_ascends nodes tree) read in
-            let is : r ≡ x = same_Some r x (sym found ∙ ap (λ n. at n nodes) (sym it) ∙ stands_there) in
-            ap (λ n. is_told moment n after.moments.keys) (sym (is_number ∙ it)) ∙ noted moment whole (is_when ∙ ap (due nodes) (sym is) ∙ due_then)
-        | inr never ↦ absurd (both_ways _ refl never)
-      ]
+      | inr is ↦ ap (λ n. is_told moment n after.moments.keys) (ap (λ (y : ResourceData). y.number) is ∙ sym is_number) ∙ noted moment whole (is_when ∙ ap (due nodes) (sym is) ∙ due_then)
     ]
 
-pub told_past : (nodes : List ResourceData) (k : ℕ) (dues : Dues) → slice_get nodes k ≡ None → AreToldTo k nodes dues → AreToldTo (k + 1) nodes dues
-told_past nodes k dues past told whole r moment there found due_then =
-    let same : take (k + 1) nodes ≡ take k nodes = ap (λ j. take j nodes) (sym (suc-eq-add-one k)) ∙ take_past nodes k past in
-    told whole r moment (ap (has r.number) (sym same) ∙ there) found due_then
+-- nothing stands until 0
+pub told_start : (nodes : List ResourceData) (dues : Dues) → is_tree nodes ≡ true → AreToldTo 0 nodes dues
+told_start nodes dues tree whole r moment low found due_then = absurd (let above : 0 < r.number = until_zero nodes r tree found in omega arith)
 
-pub told_end : (nodes : List ResourceData) (k : ℕ) (dues : Dues) → length nodes ≤ k → AreToldTo k nodes dues → HasDues nodes dues
-told_end nodes k dues past told whole r moment found due_then = told whole r moment (ap (has r.number) (take_all k nodes past) ∙ at_has r.number nodes r found) found due_then
+-- and all until the last number
+pub told_end : (nodes : List ResourceData) (last : ℕ) (dues : Dues) → next_after last nodes ≡ None → AreToldTo last nodes dues → HasDues nodes dues
+told_end nodes last dues none told whole r moment found due_then = told whole r moment (until_end last nodes r none found) found due_then
 
 pub nothing_told : (moment n : ℕ) (entries : List (ℕ × ℕ)) → (0 < length entries → ⊥) → is_told moment n entries ≡ true → ⊥
 nothing_told moment n [] none told = both_ways _ refl told

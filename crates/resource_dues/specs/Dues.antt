@@ -1,9 +1,9 @@
 -- Moments at which resources are due, with their numbers.
-use Rattle.std.specs.Prelude.{◌≡◌, ◌&&◌, ℕ, nat_eq, nat_le, List, [], Bool, true, false, Option, Some, option_and_then, take}
+use Rattle.std.specs.Prelude.{◌≡◌, ◌≤◌, ◌&&◌, ℕ, nat_eq, nat_le, List, [], Bool, true, false, Option, Some, option_and_then}
 use Rattle.std.specs.Option.{option_map_or}
 use Rattle.std.specs.List.{list_any}
 use Rattle.resource_model.specs.Resource.{ResourceData}
-use Rattle.tree_model.specs.Tree.{at, children_of, due, has, has_come}
+use Rattle.tree_model.specs.Tree.{at, children_of, due, has_come}
 use Rattle.resource_dues.specs.declared.dues.Dues.{Dues}
 
 -- the entry tells of the number, and its moment isn't later than this one
@@ -27,10 +27,10 @@ TellsAll before after = (moment n : ℕ) → is_told moment n before ≡ true �
 abbrev pub HasDues : List ResourceData → Dues → Type 0
 HasDues nodes dues = dues.whole ≡ true → AreTold nodes dues.moments.keys
 
--- so does one that was made so far, of those at the first places
+-- so does one that was made so far, of those until a number
 abbrev pub AreToldTo : ℕ → List ResourceData → Dues → Type 0
-AreToldTo k nodes dues = dues.whole ≡ true → (r : ResourceData) (moment : ℕ)
-    → has r.number (take k nodes) ≡ true → at r.number nodes ≡ Some r
+AreToldTo last nodes dues = dues.whole ≡ true → (r : ResourceData) (moment : ℕ)
+    → r.number ≤ last → at r.number nodes ≡ Some r
     → due nodes r ≡ Some moment → is_told moment r.number dues.moments.keys ≡ true
 
 -- when the resource of a number is due

@@ -1,17 +1,17 @@
 //! When resources are due.
-ghost use Rattle.std.specs.Prelude.{◌≡◌, ◌≤◌, ◌+◌, ℕ, List, [], Some, None, true, false, nat_eq, OnOk};
+ghost use Rattle.std.specs.Prelude.{◌≡◌, ◌≤◌, ℕ, List, [], Some, None, true, false, nat_eq, OnOk};
 ghost use Rattle.std.specs.Prelude.{IsTrue, slice_get, option_map};
 ghost use Rattle.std.specs.Option.{option_map_or};
 ghost use Rattle.resource_model.specs.Resource.{ResourceData};
 ghost use Rattle.tree_model.specs.Tree as tree;
 ghost use Rattle.tree_model.specs.Tree.{age_of, are_quiet, at, is_tree, replaced, standing};
-ghost use Rattle.resource_dues.specs.Dues.{due_at, is_told, AreTold, AreToldTo, HasDues, TellsAll};
+ghost use Rattle.resource_dues.specs.Dues.{due_at, is_told, AreTold, HasDues, TellsAll};
 
-use plain_tree::ListTree;
 use resource_model::Resource;
+use resource_store::Store;
 use std::alloc::{AllocError as OutOfMemory, Global};
 use std::collections::BTreeSet;
-use tree_model::{Tree, due, lowered_age, stands_in};
+use tree_model::lowered_age;
 
 // So many entries may stand for nothing before they go.
 const FEW: u64 = 64;
@@ -38,24 +38,16 @@ impl Dues {
     }
 
     /// Those of a list. Where memory runs out, some are missing.
-    pub fn of(alloc: Global, list: &ListTree) -> Dues
+    pub fn of(alloc: Global, list: &Store) -> Dues
         ensures { HasDues list.now result }
     {
         let mut dues = Dues::new(alloc);
-        for k in 0..list.len() {
-            dues.note_at(list, k);
+        let mut last = 0;
+        while let Some(resource) = list.after(last) {
+            last = resource.number();
+            dues.note(list.due(resource), last);
         }
         dues
-    }
-
-    // With the resource at place k, where there is one.
-    fn note_at(&mut self, list: &ListTree, k: u64)
-        requires { IsTrue (is_tree list.now) }
-        ensures { AreToldTo k list.now self.old → AreToldTo (k + 1) list.now self.new }
-    {
-        if let Some(resource) = list.nth(k) {
-            self.note(due(list, resource), resource.number());
-        }
     }
 
     /// With the moment at which the resource of a number is due, if it ever is.
@@ -92,7 +84,7 @@ impl Dues {
     }
 
     /// In this list a resource takes the place of another that stood as it does.
-    pub fn replace(&mut self, list: &ListTree, resource: &Resource)
+    pub fn replace(&mut self, list: &Store, resource: &Resource)
         requires tree { IsTrue (is_tree list.now) }
         requires dues { HasDues list.now self.old }
         requires stood { option_map standing (at resource.now.number list.now)
@@ -100,7 +92,7 @@ impl Dues {
         ensures { HasDues (replaced resource.now list.now) self.new }
     {
         if is_as_patient(list, resource) && !self.is_full(list) {
-            self.note(due(list, resource), resource.number());
+            self.note(list.due(resource), resource.number());
         } else {
             self.whole = false;
         }
@@ -108,7 +100,7 @@ impl Dues {
 
     /// What a pass has left, which took all that is due at a moment: made anew where some entries
     /// may be missing.
-    pub fn refresh(&mut self, alloc: Global, list: &ListTree, moment: u64)
+    pub fn refresh(&mut self, alloc: Global, list: &Store, moment: u64)
         ensures { HasDues list.now self.old → HasDues list.now self.new }
     {
         if !self.whole {
@@ -120,7 +112,7 @@ impl Dues {
 
     /// Goes over the entries up to a moment: those of resources that have gone go, and others are
     /// noted again at the moment at which they are due. It ends at the first that is due by now.
-    pub fn renote(&mut self, list: &ListTree, moment: u64)
+    pub fn renote(&mut self, list: &Store, moment: u64)
         ensures { HasDues list.now self.old → HasDues list.now self.new }
     {
         for _ in 0..self.moments.len() {
@@ -130,7 +122,7 @@ impl Dues {
         }
     }
 
-    fn renote_first(&mut self, list: &ListTree, moment: u64) -> bool
+    fn renote_first(&mut self, list: &Store, moment: u64) -> bool
         ensures { HasDues list.now self.old → HasDues list.now self.new }
     {
         let Some((at, number)) = self.first() else {
@@ -187,7 +179,7 @@ impl Dues {
 
     /// A resource has gone, and this list has those that are left. Where more entries stand for
     /// nothing than not, and some, these go.
-    pub fn note_gone(&mut self, list: &ListTree)
+    pub fn note_gone(&mut self, list: &Store)
         ensures { HasDues list.now self.old → HasDues list.now self.new }
     {
         if self.is_full(list) {
@@ -195,23 +187,23 @@ impl Dues {
         }
     }
 
-    fn is_full(&self, list: &ListTree) -> bool {
+    fn is_full(&self, list: &Store) -> bool {
         self.moments.len() as u64 > list.len().saturating_mul(2).saturating_add(FEW)
     }
 
-    fn let_go(&mut self, list: &ListTree)
+    fn let_go(&mut self, list: &Store)
         ensures { HasDues list.now self.old → HasDues list.now self.new }
     {
-        self.moments.retain(|entry| stands_in(list, entry.1));
+        self.moments.retain(|entry| list.has(entry.1));
     }
 }
 
 /// When the resource of a number is due, if it is there and ever is.
-pub fn due_of(list: &ListTree, number: u64) -> Option<u64>
+pub fn due_of(list: &Store, number: u64) -> Option<u64>
     ensures { result ≡ due_at number list.now }
 {
     match list.get(number) {
-        Some(resource) => due(list, resource),
+        Some(resource) => list.due(resource),
         None => None,
     }
 }
@@ -227,7 +219,7 @@ pub fn has_come(due: Option<u64>, moment: u64) -> bool
 }
 
 // Whether the instances of a resource may get as old as those of the one of its number.
-fn is_as_patient(list: &ListTree, resource: &Resource) -> bool
+fn is_as_patient(list: &Store, resource: &Resource) -> bool
     ensures { IsTrue result → tree.lowered_age (age_of (at resource.now.number list.now))
         (age_of (Some resource.now)) ≡ None }
 {

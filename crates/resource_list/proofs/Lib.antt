@@ -2,4 +2,3 @@ pub mod PlaceLemmas
 pub mod SweepLemmas
 pub mod RemovalLemmas
 pub mod AfterLemmas
-pub mod LeafLemmas

@@ -1,7 +1,6 @@
 //! The list of resources that every tree keeps.
 ghost use Rattle.std.specs.Prelude.{◌≡◌, ◌≢◌, ◌<◌, ◌≤◌, IsSome, List, [], ◌∷◌, ◌++◌, length};
 ghost use Rattle.std.specs.Prelude.{slice_get, IsTrue, IfOk, OnOk, OnErr, IfErr, Some, option_map};
-ghost use Rattle.std.specs.Prelude.{MatchOption, None};
 ghost use Rattle.m2m_names.specs.Ids.{count_bound};
 ghost use Rattle.m2m_names.specs.Stamps.{last_moment};
 ghost use Rattle.m2m_names.specs.declared.attributes.Attr.TheVariants.{Exc, St};
@@ -10,13 +9,13 @@ ghost use Rattle.resource_model.specs.Resource.{ResourceData, has_number};
 ghost use Rattle.tree_model.specs.Tree.{at, due, are_quiet, live, replaced, restamped, may_stand};
 ghost use Rattle.tree_model.specs.Tree.{restamped_at, has_state, without, is_tree, standing};
 ghost use Rattle.tree_model.specs.Tree.{AreAscending, DoAscend, next_after};
-ghost use Rattle.tree_model.specs.Tree.{overdue_numbers, without_all, StandsAt};
-ghost use Rattle.tree_model.specs.Tree.{children_of, has_counter, recounted, recounted_at};
+ghost use Rattle.tree_model.specs.Tree.{overdue_numbers, without_all};
+ghost use Rattle.tree_model.specs.Tree.{has_counter, recounted, recounted_at};
 
 use crate::overdue::overdue_in;
 use crate::places::Places;
 use crate::placing::{due_in, found, found_after, place};
-use crate::removing::{Removal, quiet_in, sweep_out, sweep_out_all, take_out};
+use crate::removing::{Removal, quiet_in, sweep_out, sweep_out_all};
 use m2m_names::Attr;
 use m2m_value::Val;
 use resource_model::Resource;
@@ -79,16 +78,6 @@ impl Nodes {
         ensures tree { IsTrue (is_tree self.now) }
     {
         &self.resources
-    }
-
-    /// Where the resource of a number stands in the order of creation, from 0.
-    pub fn place(&self, number: u64) -> Option<usize>
-        ensures { MatchOption result (at number self.now ≡ None) (StandsAt number self.now) }
-    {
-        match place(&self.resources, number) {
-            Ok(at) => Some(at),
-            Err(_) => None,
-        }
     }
 
     /// The resource of a number.
@@ -189,15 +178,6 @@ impl Nodes {
         ensures tree { IsTrue (is_tree self.old) }
     {
         sweep_out(&mut self.resources, &mut self.places, Removal::Of(number))
-    }
-
-    /// Removes a resource below which none stands.
-    pub fn remove_leaf(&mut self, number: u64)
-        requires { children_of number self.old ≡ [] }
-        ensures value { self.new ≡ without (has_number number) self.old }
-        ensures tree { IsTrue (is_tree self.old) }
-    {
-        take_out(&mut self.resources, &mut self.places, number)
     }
 
     /// Removes the resources of these numbers, which ascend, with all that stands below them.

@@ -64,14 +64,6 @@ impl Places {
         }
     }
 
-    /// The resource at a place is taken out. Where the parent of another stood behind it, that is
-    /// searched for from now on.
-    pub(crate) fn take_out(&mut self, at: usize) {
-        if at < self.places.len() {
-            let _gone = self.places.remove(at);
-        }
-    }
-
     /// So many are left.
     pub(crate) fn truncate(&mut self, len: usize) {
         self.places.truncate(len);

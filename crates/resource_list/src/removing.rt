@@ -7,10 +7,10 @@ ghost use Rattle.resource_model.specs.Resource.{ResourceData, has_number};
 ghost use Rattle.resource_list.specs.Removal.{picks_of, picks_under, IsInOrder};
 ghost use Rattle.tree_model.specs.Tree as spec;
 ghost use Rattle.tree_model.specs.Tree.{stays, without, is_tree, are_quiet, AreAscending};
-ghost use Rattle.tree_model.specs.Tree.{children_of, without_all, DoAscend};
+ghost use Rattle.tree_model.specs.Tree.{without_all, DoAscend};
 
 use crate::places::Places;
-use crate::placing::{due_near, found_near, place};
+use crate::placing::{due_near, found_near};
 use resource_model::Resource;
 use tree_model::{due_under, earlier};
 
@@ -99,18 +99,6 @@ pub(crate) fn sweep_out(resources: &mut Vec<Resource>, places: &mut Places, remo
     }
     resources.truncate(stayed);
     places.truncate(stayed);
-}
-
-/// Takes the resource of a number out, below which none stands: those behind it move up.
-pub(crate) fn take_out(resources: &mut Vec<Resource>, places: &mut Places, number: u64)
-    requires tree { IsTrue (is_tree resources.old.items) }
-    requires leaf { children_of number resources.old.items ≡ [] }
-    ensures { resources.new.items ≡ without (has_number number) resources.old.items }
-{
-    if let Ok(at) = place(resources, number) {
-        let _gone = resources.remove(at);
-        places.take_out(at);
-    }
 }
 
 /// Removes the resources of these numbers, with all that stands below them: of none it looks at

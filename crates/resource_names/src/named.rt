@@ -15,11 +15,11 @@ ghost use Rattle.resource_names.specs.Names.{tells_itself};
 use crate::names::Names;
 use m2m_names::read_digits;
 use m2m_value::Text;
-use plain_tree::{ListTree, is_ae, is_child, is_cse};
+use plain_tree::{is_ae, is_child, is_cse};
 use resource_model::Resource;
+use resource_store::Store;
 use std::alloc::{AllocError as OutOfMemory, Global};
 use std::collections::HashMap;
-use tree_model::Tree;
 
 // Most resources that go have no such id.
 const FEW: usize = 64;
@@ -49,7 +49,7 @@ impl Named {
     pub fn add(
         &mut self,
         alloc: Global,
-        list: &ListTree,
+        list: &Store,
         resource: &Resource,
     ) -> Result<(), OutOfMemory>
         requires named { IsNamed list.now self.old }
@@ -63,7 +63,7 @@ impl Named {
     }
 
     /// A resource has gone, and this list has those that are left.
-    pub fn note_gone(&mut self, list: &ListTree, number: u64, parent: u64)
+    pub fn note_gone(&mut self, list: &Store, number: u64, parent: u64)
         ensures { IsNamed list.now self.old → IsNamed list.now self.new }
     {
         let_go_children(&mut self.children, list, number);
@@ -73,7 +73,7 @@ impl Named {
     }
 
     /// The child of a name.
-    pub fn child(&self, list: &ListTree, parent: u64, name: &[u8]) -> Option<u64>
+    pub fn child(&self, list: &Store, parent: u64, name: &[u8]) -> Option<u64>
         requires tree { IsTrue (is_tree list.now) }
         requires named { IsNamed list.now self.now }
         ensures { result ≡ tree.child_of parent name.now list.now }
@@ -85,7 +85,7 @@ impl Named {
     }
 
     /// The application entity of an AE-ID.
-    pub fn ae(&self, list: &ListTree, aei: &[u8]) -> Option<u64>
+    pub fn ae(&self, list: &Store, aei: &[u8]) -> Option<u64>
         requires tree { IsTrue (is_tree list.now) }
         requires named { IsNamed list.now self.now }
         ensures { result ≡ tree.ae_of aei.now list.now }
@@ -94,7 +94,7 @@ impl Named {
     }
 
     /// The remote CSE of a CSE-ID.
-    pub fn cse(&self, list: &ListTree, csi: &[u8]) -> Option<u64>
+    pub fn cse(&self, list: &Store, csi: &[u8]) -> Option<u64>
         requires tree { IsTrue (is_tree list.now) }
         requires named { IsNamed list.now self.now }
         ensures { result ≡ tree.cse_of csi.now list.now }
@@ -139,7 +139,7 @@ fn find_child(children: &HashMap<u64, Names>, parent: u64, name: &[u8]) -> Optio
 }
 
 // The number, where the resource that has it is that child.
-fn checked_child(list: &ListTree, number: Option<u64>, parent: u64, name: &[u8]) -> Option<u64>
+fn checked_child(list: &Store, number: Option<u64>, parent: u64, name: &[u8]) -> Option<u64>
     ensures { result ≡ checked (tree.is_child parent name.now) list.now number }
 {
     let number = number?;
@@ -149,7 +149,7 @@ fn checked_child(list: &ListTree, number: Option<u64>, parent: u64, name: &[u8])
     }
 }
 
-fn checked_ae(list: &ListTree, number: Option<u64>, aei: &[u8]) -> Option<u64>
+fn checked_ae(list: &Store, number: Option<u64>, aei: &[u8]) -> Option<u64>
     ensures { result ≡ checked (tree.is_ae aei.now) list.now number }
 {
     let number = number?;
@@ -159,7 +159,7 @@ fn checked_ae(list: &ListTree, number: Option<u64>, aei: &[u8]) -> Option<u64>
     }
 }
 
-fn checked_cse(list: &ListTree, number: Option<u64>, csi: &[u8]) -> Option<u64>
+fn checked_cse(list: &Store, number: Option<u64>, csi: &[u8]) -> Option<u64>
     ensures { result ≡ checked (tree.is_cse csi.now) list.now number }
 {
     let number = number?;
@@ -230,7 +230,7 @@ fn add_id(alloc: Global, ids: &mut Names, id: Option<&Text>, number: u64) -> Res
 }
 
 // Of the children of a parent those are found still that are in the list.
-fn let_go_children(children: &mut HashMap<u64, Names>, list: &ListTree, parent: u64)
+fn let_go_children(children: &mut HashMap<u64, Names>, list: &Store, parent: u64)
     ensures { (p : ℕ) (name : List ℕ) (n : ℕ) → named_at children.old p name ≡ Some n
         → has n list.now ≡ true → named_at children.new p name ≡ Some n }
 {
@@ -240,7 +240,7 @@ fn let_go_children(children: &mut HashMap<u64, Names>, list: &ListTree, parent: 
     forget_empty(children, parent);
 }
 
-fn note_gone_child(children: &mut HashMap<u64, Names>, list: &ListTree, parent: u64)
+fn note_gone_child(children: &mut HashMap<u64, Names>, list: &Store, parent: u64)
     ensures { (p : ℕ) (name : List ℕ) (n : ℕ) → named_at children.old p name ≡ Some n
         → has n list.now ≡ true → named_at children.new p name ≡ Some n }
 {

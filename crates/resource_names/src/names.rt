@@ -4,10 +4,9 @@ ghost use Rattle.std.specs.Str.{bytes_eq};
 ghost use Rattle.tree_model.specs.Tree.{has};
 ghost use Rattle.resource_names.specs.Names.{number_by};
 
-use plain_tree::ListTree;
+use resource_store::Store;
 use std::alloc::{AllocError as OutOfMemory, Global};
 use std::collections::BTreeMap;
-use tree_model::stands_in;
 
 /// Numbers by names, in the order of the names: whichever names a client chooses, a look-up
 /// compares a name with few others. A name whose resource has gone may stay for a while.
@@ -50,7 +49,7 @@ impl Names {
 
     /// A resource that may have had a name has gone, and this list has those that are left. Once
     /// more have gone than half the names and some, the names of those that have gone are let go.
-    pub(crate) fn note_gone(&mut self, list: &ListTree, some: usize)
+    pub(crate) fn note_gone(&mut self, list: &Store, some: usize)
         ensures { (name : List ℕ) (n : ℕ) → number_by name self.old ≡ Some n
             → has n list.now ≡ true → number_by name self.new ≡ Some n }
     {
@@ -62,11 +61,11 @@ impl Names {
     }
 
     /// Without the names of what isn't in this list.
-    pub(crate) fn let_go(&mut self, list: &ListTree)
+    pub(crate) fn let_go(&mut self, list: &Store)
         ensures { (name : List ℕ) (n : ℕ) → number_by name self.old ≡ Some n
             → has n list.now ≡ true → number_by name self.new ≡ Some n }
     {
-        self.numbers.retain(|_, number| stands_in(list, *number));
+        self.numbers.retain(|_, number| list.has(*number));
     }
 
     /// Whether there is no name.

@@ -2,4 +2,4 @@ pub mod QueueLemmas
 pub mod IndexLemmas
 pub mod KinLemmas
 pub mod Sent
-pub mod IndexedLemmas
+pub mod RemovalLemmas

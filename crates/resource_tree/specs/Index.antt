@@ -1,14 +1,13 @@
--- What an index tells of a list of resources.
-use Rattle.std.specs.Prelude.{◌≡◌, ◌+◌, ℕ, List, Bool, true, map, filter, if◌then◌else◌}
+-- What queues and sums tell of a list of resources.
+use Rattle.std.specs.Prelude.{◌≡◌, ◌+◌, ℕ, List, Bool, filter, if◌then◌else◌}
 use Rattle.std.specs.Prelude.{Option, Some, None, nat_eq}
 use Rattle.std.specs.HashMap.{HashMap, get}
 use Rattle.std.specs.Option.{option_map_or}
 use Rattle.m2m_names.specs.declared.types.Ty.TheVariants.{ContentInstance, PollingChannel}
 use Rattle.m2m_names.specs.declared.types.Ty.TheVariants.{Subscription}
 use Rattle.resource_model.specs.Resource.{ResourceData, is_ty}
-use Rattle.tree_model.specs.Tree.{has, instance_size, is_kin, is_tree, is_under, numbers_of}
+use Rattle.tree_model.specs.Tree.{instance_size, is_kin, is_under, numbers_of}
 use Rattle.tree_model.specs.Tree.{sizes_of}
-use Rattle.resource_tree.specs.declared.index.Index.{Index}
 use Rattle.resource_tree.specs.declared.kin.Kin.{Kin}
 use Rattle.resource_tree.specs.declared.kin.Row.{Row}
 use Rattle.resource_tree.specs.Queue.{queue_at}
@@ -48,13 +47,3 @@ pub record HasKin (nodes : List ResourceData) (kin : Kin) : Type 0 where
   pub children : HasNumbers is_under nodes kin.children
   pub types : HasTypes nodes kin
   pub sums : HasSums nodes kin.sums
-
--- the index is that of the list
-pub record IsIndex (nodes : List ResourceData) (index : Index) : Type 0 where
-  pub rows : index.rows.items ≡ map row_of nodes
-  pub kin : HasKin nodes index.kin
-
--- the second is what stays of the first, which is a tree
-pub record IsLeft (nodes left : List ResourceData) : Type 0 where
-  pub tree : is_tree nodes ≡ true
-  pub kept : left ≡ filter (λ r. has r.number left) nodes

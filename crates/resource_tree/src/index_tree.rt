@@ -1,29 +1,25 @@
 //! The tree with an index.
 ghost use Rattle.std.specs.Prelude.{◌≡◌, [], ◌∷◌, IfOk};
 
-use crate::index::Index;
-use crate::kin::{count_of_kin, kin_after, kin_at};
+use crate::kin::{Kin, count_of_kin, kin_after, kin_at, kin_last};
 use crate::sums::known_sum;
 use m2m_value::Numbers;
-use plain_tree::ListTree;
 use resource_dues::{Dues, due_of, has_come};
 use resource_model::Resource;
 use resource_names::Named;
+use resource_store::{Store, instance_sizes, overdue_numbers};
 use std::alloc::{AllocError as OutOfMemory, Global};
 use std::marker::Model;
 use std::sync::ledger::Ledger;
-use tree_model::{Steps, Tree, due};
-
-// So many that are due at once go one by one; where more are, one pass takes all.
-const FEW: u64 = 4;
+use tree_model::{Steps, Tree};
 
 /// A tree that knows the children of each resource, those of three types, their names, and what the
 /// sizes of instances add up to, so that none is sought.
 #[derive(Drop)]
 pub struct IndexTree {
     alloc: Global,
-    list: ListTree,
-    index: Index,
+    list: Store,
+    kin: Kin,
     named: Named,
     dues: Dues,
 }
@@ -41,7 +37,7 @@ impl Model for IndexTree {
 
     ghost view = { λ t. t.list };
 
-    ghost invariant = { λ t. IsIndexed t.list t.index t.named t.dues };
+    ghost invariant = { λ t. IsIndexed t.list t.kin t.named t.dues };
 }
 
 impl IndexTree {
@@ -51,8 +47,8 @@ impl IndexTree {
     {
         IndexTree {
             alloc,
-            list: ListTree::new(alloc),
-            index: Index::new(alloc),
+            list: Store::new(alloc),
+            kin: Kin::new(alloc),
             named: Named::new(alloc),
             dues: Dues::new(alloc),
         }
@@ -61,18 +57,63 @@ impl IndexTree {
 
 // Removals.
 impl IndexTree {
-    ghost use Rattle.resource_model.specs.Resource.{has_number};
-    ghost use Rattle.tree_model.specs.Tree.{children_of, without, without_all, DoAscend};
+    ghost use Rattle.std.specs.Prelude.{◌≡◌, [], ◌<◌, ◌^◌, IsTrue, IfSome, false, Bool};
+    ghost use Rattle.std.specs.Option.{option_map_or};
+    ghost use Rattle.resource_model.specs.Resource.{ResourceData, has_number};
+    ghost use Rattle.tree_model.specs.Tree.{at, children_of, has, is_tree, last_number, without};
+    ghost use Rattle.tree_model.specs.Tree.{without_all};
 
-    // Removes a resource with all that stands below it: where that is nothing, no other is looked
-    // at.
+    // Removes a resource with all that stands below it, the newest first.
     fn remove_one(&mut self, number: u64)
-        ensures { self.new ≡ without (has_number number) self.old }
+        ensures value { self.new ≡ without (has_number number) self.old }
+        ensures tree { IsTrue (is_tree self.old) }
     {
-        if count_of_kin(&self.index.kin.children, number) == 0 {
-            self.remove_leaf(number);
-        } else {
-            self.remove_several(&[number]);
+        if !self.list.has(number) {
+            return;
+        }
+        let mut leaf = self.newest_below(number);
+        while leaf != number {
+            let parent = self.parent_of(leaf);
+            self.remove_leaf(leaf);
+            leaf = self.newest_below(parent);
+        }
+        self.remove_leaf(number);
+    }
+
+    // The newest child of a resource, its newest child, and so on: the last of them. Whatever takes
+    // the resource takes that too.
+    fn newest_below(&self, number: u64) -> u64
+        requires { IsTrue (has number self.now) }
+        ensures alone { children_of result self.now ≡ [] }
+        ensures there { IsTrue (has result self.now) }
+        ensures goes { (picks : ResourceData → Bool) → has number (without picks self.now) ≡ false
+            → has result (without picks self.now) ≡ false }
+        ensures tree { IsTrue (is_tree self.now) }
+    {
+        let mut at = number;
+        while let Some(child) = self.newest_child(at) {
+            at = child;
+        }
+        at
+    }
+
+    fn newest_child(&self, parent: u64) -> Option<u64>
+        ensures value { result ≡ last_number (children_of parent self.now) }
+        ensures bound { IfSome result (λ n. n < 2 ^ 64) }
+        ensures tree { IsTrue (is_tree self.now) }
+    {
+        kin_last(&self.kin.children, parent)
+    }
+
+    // The number of the parent of a resource, or 0.
+    fn parent_of(&self, number: u64) -> u64
+        ensures value { result
+            ≡ option_map_or (λ (r : ResourceData). r.parent) (at number self.now) 0 }
+        ensures tree { IsTrue (is_tree self.now) }
+    {
+        match self.list.get(number) {
+            Some(resource) => resource.parent(),
+            None => 0,
         }
     }
 
@@ -80,64 +121,96 @@ impl IndexTree {
         requires { children_of number self.old ≡ [] }
         ensures { self.new ≡ without (has_number number) self.old }
     {
-        let parent = parent_of(&self.list, number);
-        self.index.remove(&self.list, number);
+        let parent = self.kin.remove(&self.list, number);
         self.list.remove_leaf(number);
         self.named.note_gone(&self.list, number, parent);
-        self.dues.note_gone(&self.list);
+    }
+
+    // Where most moments stand for resources that have gone, these moments go.
+    fn let_moments_go(&mut self)
+        ensures { self.new ≡ self.old }
+    {
+        self.dues.note_gone(&self.list)
     }
 
     fn remove_several(&mut self, numbers: &[u64])
-        requires { DoAscend numbers.now }
         ensures { self.new ≡ without_all numbers.now self.old }
     {
-        self.list.remove_all(numbers);
-        if numbers.is_empty() {
+        if self.len() == 0 {
             return;
         }
-        self.index.let_go(&self.list, &mut self.named);
-        self.dues.note_gone(&self.list);
+        for number in numbers {
+            self.remove_one(*number);
+        }
     }
 }
 
 // What is due.
 impl IndexTree {
-    ghost use Rattle.std.specs.Prelude.{IsTrue, ℕ, Some};
-    ghost use Rattle.tree_model.specs.Tree.{live, overdue_numbers};
-    ghost use Rattle.resource_dues.specs.Dues.{IsDueLeaf};
+    ghost use Rattle.std.specs.Prelude.{◌≡◌, ◌<◌, ◌^◌, [], ◌∷◌, IsTrue, IfSome, ℕ, Some};
+    ghost use Rattle.std.specs.Prelude.{false, length};
+    ghost use Rattle.std.specs.Option.{option_map_or};
+    ghost use Rattle.tree_model.specs.Tree.{is_tree, live, next_after, overdue_numbers};
+    ghost use Rattle.tree_model.specs.Tree.{resource_number};
+    ghost use Rattle.tree_model.specs.Tree as tree;
+    ghost use Rattle.resource_dues.specs.Dues.{due_at, IsDueLeaf};
 
-    // Removes what is due at a moment, where that is little and nothing stands below it: each of
-    // it alone.
-    fn expire_few(&mut self, moment: u64)
+    // Removes what is due at a moment by the entries.
+    fn expire_told(&mut self, moment: u64)
         ensures { live moment self.new ≡ live moment self.old }
     {
-        for _ in 0..FEW {
-            self.renote(moment);
-            if !self.expire_first(moment) {
-                return;
-            }
-        }
-        self.renote(moment)
+        while self.expire_first(moment) {}
     }
 
-    // Removes the resource of the first entry, where that is due and nothing stands below it.
+    // Removes the resource of the first entry, where that is due, with all that stands below it.
     fn expire_first(&mut self, moment: u64) -> bool
-        ensures { live moment self.new ≡ live moment self.old }
+        ensures live { live moment self.new ≡ live moment self.old }
+        ensures less { IsTrue result → length self.new < length self.old }
     {
+        self.renote(moment);
         let Some(number) = self.dues.first_number() else {
             return false;
         };
-        if !self.is_due_leaf(number, moment) {
+        if !self.is_due(number, moment) {
             return false;
         }
-        self.remove_leaf(number);
+        self.remove_one(number);
         true
+    }
+
+    // Removes what is due at a moment: it looks at each resource.
+    fn expire_each(&mut self, moment: u64)
+        ensures { self.new ≡ live moment self.old }
+    {
+        let mut last = 0;
+        while let Some(number) = self.number_after(last) {
+            if self.is_due(number, moment) {
+                self.remove_one(number);
+            }
+            last = number;
+        }
+    }
+
+    // The first number of a resource that is greater than this one.
+    fn number_after(&self, number: u64) -> Option<u64>
+        ensures value { result ≡ resource_number (next_after number self.now) }
+        ensures bound { IfSome result (λ n. n < 2 ^ 64) }
+        ensures tree { IsTrue (is_tree self.now) }
+    {
+        let resource = self.list.after(number)?;
+        Some(resource.number())
+    }
+
+    fn is_due(&self, number: u64, moment: u64) -> bool
+        ensures { result ≡ option_map_or (tree.has_come moment) (due_at number self.now) false }
+    {
+        has_come(due_of(&self.list, number), moment)
     }
 
     fn is_due_leaf(&self, number: u64, moment: u64) -> bool
         ensures { IsTrue result → IsDueLeaf number moment self.now }
     {
-        count_of_kin(&self.index.kin.children, number) == 0
+        count_of_kin(&self.kin.children, number) == 0
             && has_come(due_of(&self.list, number), moment)
     }
 
@@ -171,13 +244,11 @@ impl IndexTree {
         self.dues.whole && moment < self.dues.quiet()
     }
 
-    // Removes what is due at a moment in one pass.
-    fn sweep(&mut self, moment: u64)
-        ensures { self.new ≡ live moment self.old }
+    // Where some entries may be missing, they are made anew.
+    fn refresh(&mut self, moment: u64)
+        ensures { self.new ≡ self.old }
     {
-        self.list.expire(moment);
-        self.index.let_go(&self.list, &mut self.named);
-        self.dues.refresh(self.alloc, &self.list, moment);
+        self.dues.refresh(self.alloc, &self.list, moment)
     }
 }
 
@@ -187,14 +258,6 @@ fn one_number(alloc: Global, number: u64) -> Result<Numbers, OutOfMemory>
     let mut numbers = Vec::new(alloc);
     numbers.push(number)?;
     Ok(Numbers::of(numbers))
-}
-
-// The number of the parent of a resource, or 0.
-fn parent_of(list: &ListTree, number: u64) -> u64 {
-    match list.get(number) {
-        Some(resource) => resource.parent(),
-        None => 0,
-    }
 }
 
 impl Tree for IndexTree {
@@ -225,42 +288,37 @@ impl Tree for IndexTree {
     }
 
     fn kid(&self, parent: u64, k: u64) -> Option<u64> {
-        kin_at(&self.index.kin.children, parent, k)
+        kin_at(&self.kin.children, parent, k)
     }
 
     fn sub(&self, parent: u64, k: u64) -> Option<u64> {
-        kin_at(&self.index.kin.subs, parent, k)
+        kin_at(&self.kin.subs, parent, k)
     }
 
     fn instance(&self, container: u64, newest: bool) -> Option<u64> {
         if newest {
-            let count = count_of_kin(&self.index.kin.instances, container);
-            kin_at(
-                &self.index.kin.instances,
-                container,
-                count.saturating_sub(1),
-            )
+            kin_last(&self.kin.instances, container)
         } else {
-            kin_at(&self.index.kin.instances, container, 0)
+            kin_at(&self.kin.instances, container, 0)
         }
     }
 
     fn instance_after(&self, container: u64, number: u64) -> Option<u64> {
-        kin_after(&self.index.kin.instances, container, number)
+        kin_after(&self.kin.instances, container, number)
     }
 
     fn instance_count(&self, container: u64) -> u64 {
-        count_of_kin(&self.index.kin.instances, container)
+        count_of_kin(&self.kin.instances, container)
     }
 
     fn instance_sizes(&self, container: u64) -> u128 {
-        if let Some(sum) = known_sum(&self.index.kin.sums, container) {
+        if let Some(sum) = known_sum(&self.kin.sums, container) {
             return sum;
         }
-        if count_of_kin(&self.index.kin.instances, container) == 0 {
+        if count_of_kin(&self.kin.instances, container) == 0 {
             return 0;
         }
-        self.list.instance_sizes(container)
+        instance_sizes(&self.list, container)
     }
 
     fn ae(&self, aei: &[u8]) -> Option<u64> {
@@ -272,14 +330,15 @@ impl Tree for IndexTree {
     }
 
     fn channel(&self, parent: u64) -> Option<u64> {
-        kin_at(&self.index.kin.channels, parent, 0)
+        kin_at(&self.kin.channels, parent, 0)
     }
 
     fn quiet_until(&self) -> u64 {
         if self.dues.whole {
-            return self.dues.quiet();
+            self.dues.quiet()
+        } else {
+            0
         }
-        self.list.quiet_until()
     }
 
     fn due_numbers(&self, alloc: Global, moment: u64) -> Result<Numbers, OutOfMemory> {
@@ -289,31 +348,31 @@ impl Tree for IndexTree {
         if let Some(number) = self.only_overdue(moment) {
             return one_number(alloc, number);
         }
-        self.list.due_numbers(alloc, moment)
+        Ok(Numbers::of(overdue_numbers(alloc, &self.list, moment)?))
     }
 
     fn insert(&mut self, resource: Resource) -> Result<(), (Resource, OutOfMemory)> {
         if let Err(_) = self.named.add(self.alloc, &self.list, &resource) {
             return Err((resource, OutOfMemory));
         }
-        let moment = due(&self.list, &resource);
+        let moment = self.list.due(&resource);
         if let Err(_) = self.dues.add(moment, resource.number()) {
             return Err((resource, OutOfMemory));
         }
-        if let Err(_) = self.index.add(self.alloc, &self.list, &resource) {
+        if let Err(_) = self.kin.add(self.alloc, &self.list, &resource) {
             return Err((resource, OutOfMemory));
         }
-        match self.list.insert(resource) {
+        match self.list.push(resource) {
             Ok(()) => Ok(()),
             Err((resource, fault)) => {
-                self.index.take_back(&self.list, &resource);
+                self.kin.take_back(&self.list, &resource);
                 Err((resource, fault))
             }
         }
     }
 
     fn replace(&mut self, resource: Resource) {
-        self.index.replace(&self.list, &resource);
+        self.kin.replace(&self.list, &resource);
         self.dues.replace(&self.list, &resource);
         self.list.replace(resource)
     }
@@ -327,20 +386,21 @@ impl Tree for IndexTree {
     }
 
     fn remove_subtree(&mut self, number: u64) {
-        self.remove_one(number)
+        self.remove_one(number);
+        self.let_moments_go()
     }
 
     fn remove_all(&mut self, numbers: &[u64]) {
-        match numbers {
-            [number] => self.remove_one(*number),
-            _ => self.remove_several(numbers),
-        }
+        self.remove_several(numbers);
+        self.let_moments_go()
     }
 
     fn expire(&mut self, moment: u64) {
-        self.expire_few(moment);
+        self.refresh(moment);
+        self.expire_told(moment);
+        self.let_moments_go();
         if !self.is_quiet_at(moment) {
-            self.sweep(moment);
+            self.expire_each(moment);
         }
     }
 }

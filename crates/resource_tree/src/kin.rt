@@ -1,12 +1,12 @@
 //! The children of each parent.
 ghost use Rattle.std.specs.Prelude.{◌≡◌, ℕ, ◌++◌, ◌-◌, [], ◌∷◌, OnOk, OnErr, length, nat_lt};
 ghost use Rattle.std.specs.Prelude.{IsTrue, nat_eq, slice_get, ◌&&◌, if◌then◌else◌, None, Some};
-ghost use Rattle.std.specs.Prelude.{option_map};
+ghost use Rattle.std.specs.Prelude.{filter, not, option_map};
 ghost use Rattle.std.specs.HashMap.{get};
 ghost use Rattle.std.specs.List.{list_all};
-ghost use Rattle.resource_model.specs.Resource.{is_ty};
+ghost use Rattle.resource_model.specs.Resource.{has_number, is_ty};
 ghost use Rattle.m2m_names.specs.declared.types.Ty.TheVariants.{ContentInstance};
-ghost use Rattle.tree_model.specs.Tree.{instance_size, may_stand};
+ghost use Rattle.tree_model.specs.Tree.{at, instance_size, is_tree, may_stand, replaced, standing};
 ghost use Rattle.resource_tree.specs.Index as spec;
 ghost use Rattle.resource_tree.specs.Index.{HasTypes, HasKin};
 ghost use Rattle.resource_tree.specs.Queue.{first_after, queue_at, without_number};
@@ -14,8 +14,8 @@ ghost use Rattle.resource_tree.specs.Queue.{first_after, queue_at, without_numbe
 use crate::queue::Queue;
 use crate::sums::{add_sum, forget_sum, take_sum};
 use m2m_names::{Attr, Ty};
-use plain_tree::ListTree;
 use resource_model::Resource;
+use resource_store::Store;
 use std::alloc::{AllocError as OutOfMemory, Global};
 use std::collections::HashMap;
 
@@ -84,7 +84,7 @@ impl Kin {
     pub(crate) fn add(
         &mut self,
         alloc: Global,
-        list: &ListTree,
+        list: &Store,
         resource: &Resource,
     ) -> Result<(), OutOfMemory>
         requires kin { HasKin list.now self.old }
@@ -129,7 +129,7 @@ impl Kin {
     fn add_by_type(
         &mut self,
         alloc: Global,
-        list: &ListTree,
+        list: &Store,
         resource: &Resource,
     ) -> Result<(), OutOfMemory>
         requires types { HasTypes list.now self.old }
@@ -155,6 +155,45 @@ impl Kin {
             return Err(OutOfMemory);
         }
         Ok(())
+    }
+
+    /// Without the resource that came last behind this list.
+    pub(crate) fn take_back(&mut self, list: &Store, resource: &Resource)
+        requires kin { HasKin (list.now ++ resource.now ∷ []) self.old }
+        requires next { IsTrue (may_stand list.now resource.now) }
+        ensures { HasKin list.now self.new }
+    {
+        self.take(row_of(resource));
+    }
+
+    /// In this list a resource takes the place of another that stood as it does. The sizes of a
+    /// container's instances are added up anew, when they are asked for, where it is an instance.
+    pub(crate) fn replace(&mut self, list: &Store, resource: &Resource)
+        requires kin { HasKin list.now self.old }
+        requires stood { option_map standing (at resource.now.number list.now)
+            ≡ Some (standing resource.now) }
+        ensures { HasKin (replaced resource.now list.now) self.new }
+    {
+        if resource.is(Ty::ContentInstance) {
+            forget_sum(&mut self.sums, resource.parent());
+        }
+    }
+
+    /// Without the resource of a number, which goes alone. The list has it still. Its parent is
+    /// told, where it is there.
+    pub(crate) fn remove(&mut self, list: &Store, number: u64) -> u64
+        requires tree { IsTrue (is_tree list.now) }
+        requires kin { HasKin list.now self.old }
+        ensures { HasKin (filter (λ r. not (has_number number r)) list.now) self.new }
+    {
+        match list.get(number) {
+            Some(resource) => {
+                let row = row_of(resource);
+                self.take(row);
+                row.parent
+            }
+            None => 0,
+        }
     }
 
     /// Takes a resource from its parent.
@@ -192,6 +231,17 @@ pub(crate) fn kin_at(kin: &HashMap<u64, Queue>, parent: u64, k: u64) -> Option<u
 {
     match kin.get(&parent) {
         Some(queue) => queue.get(k),
+        None => None,
+    }
+}
+
+/// The number of the last child of a parent.
+pub(crate) fn kin_last(kin: &HashMap<u64, Queue>, parent: u64) -> Option<u64>
+    ensures { result
+        ≡ slice_get (queue_at kin.now parent) (length (queue_at kin.now parent) - 1) }
+{
+    match kin.get(&parent) {
+        Some(queue) => queue.get(queue.len().saturating_sub(1)),
         None => None,
     }
 }
@@ -262,24 +312,23 @@ pub(crate) fn take_kin(kin: &mut HashMap<u64, Queue>, parent: u64, number: u64)
         ≡ if nat_eq parent p then without_number number (queue_at kin.old p)
         else queue_at kin.old p }
 {
-    take_from(kin, parent, number);
-    forget_empty(kin, parent);
-}
-
-fn take_from(kin: &mut HashMap<u64, Queue>, parent: u64, number: u64)
-    ensures { (p : ℕ) → queue_at kin.new p
-        ≡ if nat_eq parent p then without_number number (queue_at kin.old p)
-        else queue_at kin.old p }
-{
-    if let Some(queue) = kin.get_mut(&parent) {
-        queue.remove(number);
+    if take_from(kin, parent, number) {
+        let _empty = kin.remove(&parent);
     }
 }
 
-fn forget_empty(kin: &mut HashMap<u64, Queue>, parent: u64)
-    ensures { (p : ℕ) → queue_at kin.new p ≡ queue_at kin.old p }
+// Whether none is left then.
+fn take_from(kin: &mut HashMap<u64, Queue>, parent: u64, number: u64) -> bool
+    ensures queues { (p : ℕ) → queue_at kin.new p
+        ≡ if nat_eq parent p then without_number number (queue_at kin.old p)
+        else queue_at kin.old p }
+    ensures none { IsTrue result → length (queue_at kin.new parent) ≡ 0 }
 {
-    if count_of_kin(kin, parent) == 0 {
-        let _empty = kin.remove(&parent);
+    match kin.get_mut(&parent) {
+        Some(queue) => {
+            queue.remove(number);
+            queue.len() == 0
+        }
+        None => false,
     }
 }

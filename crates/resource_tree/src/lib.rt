@@ -3,17 +3,16 @@
 //! sizes of its instances add up to, and the names, AE-IDs and CSE-IDs of all, so that what is
 //! asked for costs a look-up and not a walk over all resources.
 //!
-//! `IndexTree` keeps the list of the plain tree. Beside it stands a row for each resource, and for
-//! each parent a queue of the numbers of its children, and of those of three types (`Queue`, which
-//! only grows at its end), with the sum of the sizes of its instances. `kid`, `sub`, `channel`,
+//! `IndexTree` keeps the resources by their numbers (`resource_store`). Beside them stands for each
+//! parent a queue of the numbers of its children, and of those of three types (`Queue`, which only
+//! grows at its end), with the sum of the sizes of its instances. `kid`, `sub`, `channel`,
 //! `instance`, `instance_after`, `instance_count` and `instance_sizes` ask these. `child`, `ae` and
 //! `cse` ask tables of names (`resource_names`). `quiet_until`, `due_numbers` and `expire` ask
-//! moments in order (`resource_dues`): a resource that is due alone, or one of few, goes without a
-//! walk where nothing stands below it. All else is asked of the list. A resource below which none
-//! stands is removed without a walk; another removal, and an expiry of many, is the list's, and one
-//! pass more over the rows. The invariant says that the list is a tree, that rows, queues and sums
-//! are what the definitions say of it (`IsIndex` of `specs/Index`), that the names find its
-//! resources, and that of each is told when it is due (`IsIndexed` of `specs/Indexed`).
+//! moments in order (`resource_dues`). What goes, goes one by one, each resource after all that
+//! stands below it, so that a removal looks at no other than those that go. The invariant says that
+//! the list is a tree, that queues and sums are what the definitions say of it (`HasKin` of
+//! `specs/Index`), that the names find its resources, and that of each is told when it is due
+//! (`IsIndexed` of `specs/Indexed`).
 //!
 //! ```text
 //! let mut tree = IndexTree::new(alloc);
@@ -22,7 +21,6 @@
 //! ```
 #![tactic(auto)]
 
-mod index;
 mod index_tree;
 mod kin;
 mod queue;

@@ -1,3 +1,3 @@
-mod AnswerLemmas
+pub mod AnswerLemmas
 mod CarryLemmas
 mod RouteLemmas

@@ -1,12 +1,22 @@
--- Originators in full.
-use Rattle.std.proofs.Common.{◌≡◌, ℕ, true, List, ◌++◌, codes, Result, Ok, Err, IfOk, subst, sym}
-use Rattle.std.proofs.lemmas.Str.{IsUtf8-append}
+-- Originators in full, and the CSEs that they come from.
+use Rattle.std.proofs.Common.{◌≡◌, ℕ, ◌+◌, Bool, true, false, List, [], ◌∷◌, ◌++◌, length, take, codes, Option, None, Result, Ok, Err, IfOk, is_some, refl, sym, ap, subst, ◌∙◌, append_assoc, arith, nat_eq}
+use Rattle.std.specs.List.{All, position_or_len, starts_with}
 use Rattle.std.specs.Str.{IsUtf8}
-use Rattle.m2m_names.specs.Name.{is_originator, originator_limit}
+use Rattle.std.proofs.Math.Seq.{take-append_seam}
+use Rattle.std.proofs.lemmas.List.Elements.{All-head, All-tail}
+use Rattle.std.proofs.lemmas.Str.{IsUtf8-append}
+use Rattle.m2m_names.specs.Name.{is_name, is_originator, originator_limit}
 use Rattle.m2m_names.proofs.NameLemmas.{printable_is_utf8}
 use Rattle.resource_model.specs.Home.{HomeData}
+use Rattle.resource_model.specs.Resource.{ResourceData}
+use Rattle.tree_model.specs.Shown.{own_cse_id}
+use Rattle.tree_model.specs.Tree.{cse_of}
 use Rattle.tree_model.proofs.ShownLemmas.{slash_utf8}
-use Rattle.policy_eval.specs.Originators.{own_lead}
+use Rattle.policy_eval.specs.Originators.{full_form, own_lead}
+use Rattle.addressing.specs.Addresses.{is_slash}
+use Rattle.addressing.proofs.PartLemmas.{name_has_no_slash}
+use Rattle.subscription_match.specs.Destinations.{leading_cse_id}
+use Rattle.retarget.specs.Routes.{FullFormTellsTheCse, comes_from_cse}
 
 -- what stands behind own CSE-ID is a text
 pub behind_own_utf8 : (home : HomeData) (originator : List ℕ) → IsUtf8 home.csi → is_originator originator ≡ true
@@ -21,3 +31,36 @@ pub originator_utf8 : {E : Type 0} (originator : List ℕ) (result : Result (Lis
     → is_originator originator ≡ true → IfOk result (λ t. IsUtf8 t)
 originator_utf8 originator (Ok t) same is = subst (λ (v : List ℕ). IsUtf8 v) (sym same) (printable_is_utf8 originator_limit originator is)
 originator_utf8 originator (Err e) same is = tt
+
+-- ---- the CSE of an originator
+
+-- a name stands before the first slash behind it
+at_slash : (name rest : List ℕ) → All (λ b. is_slash b ≡ false) name
+    → position_or_len is_slash ((name ++ codes "/") ++ rest) ≡ length name
+at_slash [] rest plain = refl
+at_slash (b ∷ name) rest plain =
+    let here : is_slash b ≡ false = All-head (λ b. is_slash b ≡ false) b name plain in
+    let later = at_slash name rest (All-tail (λ b. is_slash b ≡ false) b name plain) in
+    rw here (omega (arith, later))
+
+-- the full form of an originator of own begins with own CSE-ID
+leads_own : (home : HomeData) (originator : List ℕ) → is_name home.csi ≡ true
+    → leading_cse_id (codes "/" ++ (own_lead home ++ originator)) ≡ own_cse_id home
+leads_own home originator named =
+    let place = at_slash home.csi originator (name_has_no_slash home.csi named) in
+    let text : codes "/" ++ (own_lead home ++ originator) ≡ own_cse_id home ++ (codes "/" ++ originator) =
+    ap (λ (v : List ℕ). 47 ∷ v) (append_assoc home.csi (codes "/") originator) in
+    let count : position_or_len is_slash (own_lead home ++ originator) + 1 ≡ length (own_cse_id home) =
+    omega (arith, place) in
+    (λ i. take (count i) (text i)) ∙ take-append_seam (own_cse_id home) (codes "/" ++ originator)
+
+told_by_front : (home : HomeData) (nodes : List ResourceData) (originator : List ℕ) → is_name home.csi ≡ true
+    → cse_of (own_cse_id home) nodes ≡ None → (front : Bool) → starts_with nat_eq originator (codes "/") ≡ front
+    → comes_from_cse nodes originator ≡ is_some (cse_of (leading_cse_id (full_form home originator)) nodes)
+told_by_front home nodes originator named none true e = rw e refl
+told_by_front home nodes originator named none false e =
+    rw e (sym (ap is_some (ap (λ (v : List ℕ). cse_of v nodes) (leads_own home originator named) ∙ none)))
+
+pub full_form_tells : FullFormTellsTheCse
+full_form_tells home nodes originator named none =
+    told_by_front home nodes originator named none (starts_with nat_eq originator (codes "/")) refl

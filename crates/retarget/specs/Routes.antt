@@ -1,11 +1,13 @@
 -- Where a request goes by its address (TS-0001, 7.2 and 10.2.2; that it goes one hop is the
 -- profile's).
-use Rattle.std.specs.Prelude.{ℕ, nat_eq, Bool, ◌&&◌, List, codes, Some, None, is_some}
+use Rattle.std.specs.Prelude.{◌≡◌, ℕ, nat_eq, Bool, true, ◌&&◌, List, codes, Some, None, is_some}
 use Rattle.std.specs.Prelude.{if◌then◌else◌}
 use Rattle.std.specs.List.{starts_with}
 use Rattle.std.specs.Option.{option_map_or}
+use Rattle.m2m_names.specs.Name.{is_name}
 use Rattle.resource_model.specs.Home.{HomeData}
 use Rattle.resource_model.specs.Resource.{ResourceData}
+use Rattle.tree_model.specs.Shown.{own_cse_id}
 use Rattle.tree_model.specs.Tree.{cse_of}
 use Rattle.policy_eval.specs.Originators.{full_form}
 use Rattle.primitive_json.specs.declared.request.RequestParts.{RequestParts}
@@ -40,3 +42,14 @@ routed nodes originator OtherProvider = to.Unknown
 abbrev pub forwarded : HomeData → List ℕ → RequestParts → RequestParts
 forwarded home originator request =
     record request { fr = Some (full_form home originator); rt = None }
+
+-- ---- law
+
+-- Where own CSE-ID isn't that of a registered CSE, an originator comes from one where the CSE-ID at
+-- the front of its full form is registered.
+abbrev pub FullFormTellsTheCse : Type 0
+FullFormTellsTheCse =
+    (home : HomeData) (nodes : List ResourceData) (originator : List ℕ)
+    → is_name home.csi ≡ true → cse_of (own_cse_id home) nodes ≡ None
+    → comes_from_cse nodes originator
+    ≡ is_some (cse_of (leading_cse_id (full_form home originator)) nodes)

@@ -9,7 +9,7 @@
 //! the reply that the caller gets: the other's status and content, with the identifier of the
 //! request; or TARGET_NOT_REACHABLE, where the exchange failed or its answer isn't one reply and
 //! nothing else. Callers owe a URL, as `m2m_names::read_url` tells one. They see what was exchanged
-//! as a `Carrying`, which is marked where memory ran out.
+//! as a `Carrying`, which is marked where memory ran out. A `Url` is a text that is one.
 //!
 //! ```text
 //! let route = route_of(tree, b"CAdmin", &addr); // Route::Forward(number)
@@ -24,9 +24,11 @@ mod forwarding;
 mod laws;
 mod routing;
 mod sending;
+mod url;
 
 pub use carrying::carry;
 pub use forwarding::forwarded;
-pub use laws::{an_answer_gives_one_reply, what_is_told_is_carried};
+pub use laws::{an_answer_gives_one_reply, the_full_form_tells_the_cse, what_is_told_is_carried};
 pub use routing::{Route, first_url, route_of};
 pub use std::alloc::AllocError as OutOfMemory;
+pub use url::Url;

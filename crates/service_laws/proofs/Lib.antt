@@ -1,3 +1,5 @@
 pub mod LawLemmas
 pub mod GuardedLemmas
+pub mod CarriedLemmas
 pub mod OneWayLemmas
+pub mod PeerLemmas

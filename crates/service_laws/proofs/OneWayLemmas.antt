@@ -1,6 +1,6 @@
 -- A stream is answered in one way.
 use Rattle.std.proofs.Common.{◌≡◌, ◌≢◌, ℕ, ◌+◌, Bool, true, false, List, [], ◌∷◌, ◌++◌, map, Option, Some, IsTrue, inl, inr, refl, sym, ap, subst, ◌∙◌, arith}
-use Rattle.std.specs.List.{All}
+use Rattle.std.specs.List.{All, list_any}
 use Rattle.std.proofs.lemmas.Bool.{cases_Bool, true≢false, false≢true}
 use Rattle.std.proofs.lemmas.List.{append_cancel_left}
 use Rattle.std.proofs.lemmas.List.Elements.{All-map}
@@ -20,7 +20,7 @@ use Rattle.cse_machine.specs.declared.event.Event.{Event}
 use Rattle.cse_machine.specs.declared.event.Event.TheVariants.{Ask}
 use Rattle.cse_machine.specs.declared.event.Outcome.{Outcome}
 use Rattle.cse_machine.specs.History.{History, IsDone}
-use Rattle.machine_laws.specs.Sight.{IsBy}
+use Rattle.machine_laws.specs.Sight.{IsBy, goes_away}
 use Rattle.cse_machine.specs.Step.{Step}
 use Rattle.machine_laws.proofs.AlikeLemmas.{stay_alike}
 use Rattle.machine_laws.proofs.HistoryLemmas.{one_way}
@@ -31,7 +31,7 @@ use Rattle.cse_server.specs.Talk.{requests_in, talk, some_closes, ends_at_close}
 use Rattle.cse_server.specs.Connection.{RefusesRightly, EndsRightly, Says, AsksFrames}
 use Rattle.cse_server.specs.Replies.{GivesReplies}
 use Rattle.service_laws.specs.Laws.{IsFaultless, ServesBoth, AreServedAlike, IsAnsweredInOneWay, EqualSightsAreServedAlike}
-use Rattle.cse_server.proofs.RepliesLemmas.{gives_one_way}
+use Rattle.service_laws.proofs.CarriedLemmas.{replies_alike}
 
 -- ---- where a stream ends
 
@@ -44,7 +44,7 @@ pub record Settles (place : ℕ) (ended : Ended) (refused : Bool) (heard : List 
   pub closed : refused ≡ false → (ended ≡ Closed) × (some_closes heard place ≡ false → rest ≡ [])
   pub refusal : refused ≡ true → (ended ≡ NoFrame) × (some_closes heard place ≡ false) × (rest ≢ []) × HasNoFrame Request rest
 
-settles : (place : ℕ) (ended : Ended) (refused : Bool) (heard : List Frame) (rest : List ℕ) (now : Option (List ℕ))
+pub settles : (place : ℕ) (ended : Ended) (refused : Bool) (heard : List Frame) (rest : List ℕ) (now : Option (List ℕ))
     → IsFaultless ended → RefusesRightly place refused heard rest → EndsRightly place ended refused heard rest now
     → Settles place ended refused heard rest
 settles place Closed refused heard rest now whole right ends = record {
@@ -137,7 +137,7 @@ heard_one_way (x ∷ xs) (y ∷ ys) place ended end refused denied stream rest o
 -- ---- what is said
 
 -- where it ends whole, all of its talk is written
-said_whole : (ended : Ended) (old new before text : List ℕ) (count : ℕ) (puts now : Option ℕ) → IsFaultless ended
+pub said_whole : (ended : Ended) (old new before text : List ℕ) (count : ℕ) (puts now : Option ℕ) → IsFaultless ended
     → Says ended before text count (sink_told (Some old) puts) (sink_told (Some new) now) → new ≡ old ++ text
 said_whole Closed old new before text count puts now whole said = said.written
 said_whole NoFrame old new before text count puts now whole said = said.written
@@ -180,10 +180,10 @@ module _ (left right after other : EntityData) (both : ServesBoth left right aft
   same_replies : outcomes_of one.asked.mine ≡ outcomes_of two.asked.mine → (one.replies ≡ two.replies) × (one.carried ≡ two.carried)
   same_replies outcomes =
       let os : one.outcomes ≡ two.outcomes = sym one.asked.outcomes_are ∙ outcomes ∙ two.asked.outcomes_are in
-      gives_one_way (requests_in both.second.heard) two.outcomes one.replies two.replies one.carried two.carried
+      replies_alike (requests_in both.second.heard) two.outcomes one.replies two.replies one.carried two.carried
       (subst (λ (v : List Outcome). GivesReplies (requests_in both.second.heard) v one.replies one.carried) os
       (subst (λ (fs : List Frame). GivesReplies (requests_in fs) one.outcomes one.replies one.carried) both_heard.0 one.gives))
-      two.gives
+      two.gives both.carried both.carries both.links
 
   -- and what is written
   same_bytes : outcomes_of one.asked.mine ≡ outcomes_of two.asked.mine → both.new ≡ both.twin
@@ -215,12 +215,13 @@ answered_in_one_way opening after other both =
 -- ---- by one originator
 
 pub served_alike : EqualSightsAreServedAlike
-served_alike left right after other o both sound sounds same by =
+served_alike left right after other o both sound sounds same by finds =
     let one = both.first.asks.asked in
     let two = both.second.asks.asked in
     let way =
     stay_alike one.mine two.mine o left right after other sound sounds same (Grew-runs Step one.grew) (Grew-runs Step two.grew)
     (same_readings left right after other both) (same_events left right after other both)
     (subst (λ (es : List Event). All (IsBy left.home o) es) (sym one.events_are) (All-map (IsBy left.home o) Ask (requests_in both.first.heard) by))
+    (λ away. finds (sym (ap (list_any (goes_away left.home)) one.events_are) ∙ away))
     (all_first left right after other both) (all_second left right after other both) in
     (served_same left right after other both way.0, way.1)

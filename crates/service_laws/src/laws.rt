@@ -1,6 +1,7 @@
 //! Laws of the definitions.
 ghost use Rattle.service_laws.specs.Laws.{EqualSightsAreServedAlike, IsAnsweredInOneWay};
 ghost use Rattle.service_laws.specs.Laws.{NothingIsAnsweredBehindClose, ServesGuarded};
+ghost use Rattle.service_laws.specs.Peers.{AnAnswerIsThePeers, TheRequestIsAnsweredThere};
 ghost use Rattle.cse_server.specs.Replies.{WhatIsAnsweredHereIsNotCarried};
 
 /// Once a frame closes the connection, what is behind it is not answered.
@@ -8,7 +9,7 @@ pub fn what_is_behind_a_closing_frame_is_not_answered()
     ensures { NothingIsAnsweredBehindClose }
 {}
 
-/// Where no request goes on to another entity, nothing is carried to a neighbour; so no exchange
+/// Where the entity answers each request itself, nothing is carried to another CSE; so no exchange
 /// fails, and the link's count of faults stays.
 pub fn what_is_answered_here_is_not_carried()
     ensures { WhatIsAnsweredHereIsNotCarried }
@@ -18,6 +19,18 @@ pub fn what_is_answered_here_is_not_carried()
 /// the request.
 pub fn a_connection_shows_and_changes_by_grant_alone()
     ensures { ServesGuarded }
+{}
+
+/// The answer of a link that is the talk of another CSE with the bytes of a request is what the
+/// machine of that CSE gives to what these bytes are bound to.
+pub fn an_answer_is_the_peers()
+    ensures { AnAnswerIsThePeers }
+{}
+
+/// The request that goes on is the one that the machine of the other CSE answers, where its frame
+/// says all of it.
+pub fn the_request_is_answered_there()
+    ensures { TheRequestIsAnsweredThere }
 {}
 
 /// The replies to a stream are settled by the entity, the stream and the readings.

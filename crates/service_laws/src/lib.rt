@@ -2,13 +2,14 @@
 //!
 //! No program stands on them. Each is the clause of a function without a body. What a connection
 //! shows and changes, it does by a grant to the originator of the request. A stream is answered in
-//! one way, and two entities of which an originator sees the same answer its stream alike.
+//! one way, and two entities of which an originator sees the same answer its stream alike. The
+//! answer of another CSE to a request that goes on is what its machine gives.
 #![tactic(auto)]
 
 mod laws;
 
 pub use laws::{
     a_connection_shows_and_changes_by_grant_alone, a_stream_is_answered_in_one_way,
-    equal_sights_are_served_alike, what_is_answered_here_is_not_carried,
-    what_is_behind_a_closing_frame_is_not_answered,
+    an_answer_is_the_peers, equal_sights_are_served_alike, the_request_is_answered_there,
+    what_is_answered_here_is_not_carried, what_is_behind_a_closing_frame_is_not_answered,
 };

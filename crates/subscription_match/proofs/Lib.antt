@@ -3,3 +3,5 @@ pub mod KeptLemmas
 pub mod SpendingLemmas
 pub mod TellingLemmas
 pub mod WatchingLemmas
+pub mod HeardLemmas
+pub mod MarkLemmas

@@ -4,7 +4,7 @@ use Rattle.std.specs.Iterator.{YieldsFirstRef}
 use Rattle.std.proofs.Common.{◌≡◌, ℕ, zero, suc, ◌+◌, ◌<◌, ◌==◌, Bor, List, [], ◌∷◌, ◌++◌, Bool, true, false, not, ◌||◌, Option, Some, None, refl, sym, ap, ◌∙◌, subst, inl, inr, arith}
 use Rattle.std.proofs.lemmas.Bool.{cases_Bool, and_parts, eqb-true, ltb-true, le-ltb, both_ways}
 use Rattle.std.proofs.lemmas.List.Elements.{filter_map-append}
-use Rattle.std.specs.List.{filter_map}
+use Rattle.std.specs.List.{filter_map, list_any, AllByRecursion}
 use Rattle.std.specs.Option.{option_to_list}
 use Rattle.m2m_names.specs.declared.types.Ty.TheVariants.{Subscription}
 use Rattle.resource_model.specs.Resource.{ResourceData, is_ty}
@@ -13,7 +13,7 @@ use Rattle.tree_model.proofs.OrderLemmas.{are_above, ascend, tree_ascends, above
 use Rattle.tree_model.proofs.StepLemmas.{drop_step}
 use Rattle.tree_model.specs.Changes.{ChangeData, created, updated, deleted}
 use Rattle.resource_model.specs.Home.{HomeData}
-use Rattle.subscription_match.specs.Matching.{above_of, event_for, is_sub_of, is_sub_of_either, own_of}
+use Rattle.subscription_match.specs.Matching.{above_of, does_hear, event_for, heard_above, is_heard, is_sub_of, is_sub_of_either, own_of}
 use Rattle.subscription_match.specs.Notices.{told, told_as, told_to_all}
 use Rattle.subscription_match.specs.Watching.{by_number, comes_next, subs_under, unless_same}
 
@@ -222,3 +222,60 @@ told_there home nodes rs going change is =
     ap (filter_map (told home nodes going change)) is
     ∙ narrowed (told home nodes going change) (is_sub_of_either (own_of change) (above_of change))
     (λ r elsewhere. ap (option_map (told_as home nodes change r)) (event_elsewhere going change r elsewhere)) nodes
+
+-- what gives nothing of those of a list that fail a test gives the same of those that pass it
+narrowed_each : {Y : Type 0} (h : ResourceData → Option Y) (p : ResourceData → Bool) (rs : List ResourceData) → AllByRecursion (λ r. p r ≡ false → h r ≡ None) rs → filter_map h (filter p rs) ≡ filter_map h rs
+narrowed_each h p [] each = refl
+narrowed_each {Y = Y} h p (r ∷ rs) each =
+    let split : filter_map h (r ∷ rs) ≡ filter_map h (r ∷ []) ++ filter_map h rs = filter_map-append h (r ∷ []) rs in
+    elim (cases_Bool (p r)) [
+      | inl t ↦ rw t (filter_map-append h (r ∷ []) (filter p rs) ∙ ap (λ (ys : List Y). filter_map h (r ∷ []) ++ ys) (narrowed_each h p rs each.1) ∙ sym split)
+      | inr f ↦ rw f (narrowed_each h p rs each.1 ∙ sym (rw (each.0 f) refl))
+    ]
+
+-- one under a resource of whose children's deletions nobody is told, and not under the child, is
+-- told nothing
+module _ (home : HomeData) (nodes : List ResourceData) (going : List ℕ) (gone : ResourceData) where
+  no_event : (r : ResourceData) → is_sub_of (Some gone.number) r ≡ false → is_sub_of (Some gone.parent) r ≡ true → does_hear going r ≡ false → event_for going (deleted gone) r ≡ None
+  no_event r own under deaf = rw (own, under, deaf) refl
+
+  apart_from : (r : ResourceData) → is_sub_of (Some gone.number) r ≡ false → is_sub_of (Some gone.parent) r ≡ false → event_for going (deleted gone) r ≡ None
+  apart_from r own above = rw (own, above) refl
+
+  unheard : (r : ResourceData) → is_sub_of (Some gone.parent) r ≡ true → does_hear going r ≡ false → is_sub_of_either (Some gone.number) None r ≡ false → told home nodes going (deleted gone) r ≡ None
+  unheard r under deaf elsewhere =
+      let own : is_sub_of (Some gone.number) r ≡ false = (neither (is_sub_of (Some gone.number) r) (is_sub_of None r) elsewhere).0 in
+      ap (option_map (told_as home nodes (deleted gone) r)) (no_event r own under deaf)
+
+  unheard_each : (rs : List ResourceData) → list_any (does_hear going) (filter (is_sub_of (Some gone.parent)) rs) ≡ false → AllByRecursion (λ r. is_sub_of_either (Some gone.number) None r ≡ false → told home nodes going (deleted gone) r ≡ None) rs
+  unheard_each [] none = tt
+  unheard_each (r ∷ rs) none = elim (cases_Bool (is_sub_of (Some gone.parent) r)) [
+    | inl t ↦
+        let parts = neither (does_hear going r) (list_any (does_hear going) (filter (is_sub_of (Some gone.parent)) rs)) (rw t at none) in
+        (unheard r t parts.0, unheard_each rs parts.1)
+    | inr f ↦ (unlike r f, unheard_each rs (rw f at none))
+  ]
+    where
+      unlike : (s : ResourceData) → is_sub_of (Some gone.parent) s ≡ false → is_sub_of_either (Some gone.number) None s ≡ false → told home nodes going (deleted gone) s ≡ None
+      unlike s f elsewhere =
+          let own : is_sub_of (Some gone.number) s ≡ false = (neither (is_sub_of (Some gone.number) s) (is_sub_of None s) elsewhere).0 in
+          ap (option_map (told_as home nodes (deleted gone) s)) (apart_from s own f)
+
+-- those under the changed resource, and those under its parent where one of them may be told so, are
+-- told all that is told of a change
+pub told_heard : (home : HomeData) (nodes rs : List ResourceData) (going : List ℕ) (change : ChangeData) → rs ≡ filter (is_sub_of_either (own_of change) (heard_above going nodes change)) nodes → filter_map (told home nodes going change) rs ≡ told_to_all home nodes going change
+told_heard home nodes rs going (created new) is = told_there home nodes rs going (created new) is
+told_heard home nodes rs going (updated before after named) is = told_there home nodes rs going (updated before after named) is
+told_heard home nodes rs going (deleted gone) is = elim (cases_Bool (is_heard going nodes gone.parent)) [
+  | inl t ↦ told_there home nodes rs going (deleted gone) (is ∙ ap (λ (o : Option ℕ). filter (is_sub_of_either (Some gone.number) o) nodes) (heard_so t))
+  | inr f ↦
+      let alone : rs ≡ filter (is_sub_of_either (Some gone.number) None) nodes = is ∙ ap (λ (o : Option ℕ). filter (is_sub_of_either (Some gone.number) o) nodes) (unheard_so f) in
+      ap (filter_map (told home nodes going (deleted gone))) alone
+      ∙ narrowed_each (told home nodes going (deleted gone)) (is_sub_of_either (Some gone.number) None) nodes (unheard_each home nodes going gone nodes f)
+]
+  where
+    heard_so : is_heard going nodes gone.parent ≡ true → heard_above going nodes (deleted gone) ≡ Some gone.parent
+    heard_so t = rw t refl
+
+    unheard_so : is_heard going nodes gone.parent ≡ false → heard_above going nodes (deleted gone) ≡ None
+    unheard_so f = rw f refl

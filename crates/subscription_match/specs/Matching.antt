@@ -1,8 +1,10 @@
 -- Which subscriptions are told of which changes (TS-0001, 9.6.8 and 10.2.10).
-use Rattle.std.specs.Prelude.{ℕ, nat_eq, Bool, true, false, not, ◌&&◌, ◌||◌, List, filter, codes}
+use Rattle.std.specs.Prelude.{◌≡◌, ℕ, nat_eq, Bool, true, false, not, ◌&&◌, ◌||◌, List, filter, codes}
 use Rattle.std.specs.Prelude.{if◌then◌else◌, Option, Some, None, is_some, option_and_then}
 use Rattle.std.specs.List.{list_any}
+use Rattle.std.specs.Map.{lookup}
 use Rattle.std.specs.Option.{option_map_or, option_or}
+use Rattle.std.specs.Ordering.{is_eq, nat_cmp}
 use Rattle.std.specs.Str.{bytes_eq}
 use Rattle.m2m_names.specs.Attributes.{attr_short}
 use Rattle.m2m_names.specs.declared.attributes.Attr.{Attr}
@@ -100,6 +102,29 @@ event_for going (deleted r) sub =
     option_or (event_where (is_sub_of (Some r.number) sub) DeleteOfResource sub)
     (event_where (is_sub_of (Some r.parent) sub && not (is_numbered_in going sub))
     DeleteOfChild sub)
+
+-- a subscription stays, and looks for the deletion of children of the resource that it stands under
+abbrev pub does_hear : List ℕ → ResourceData → Bool
+does_hear going sub = not (is_numbered_in going sub) && looks_for DeleteOfChild sub
+
+-- one under the resource of this number does
+abbrev pub is_heard : List ℕ → List ResourceData → ℕ → Bool
+is_heard going nodes parent = list_any (does_hear going) (filter (is_sub_of (Some parent)) nodes)
+
+-- the resource that gets or loses a child by the change, where one under it may be told so
+abbrev pub heard_above : List ℕ → List ResourceData → ChangeData → Option ℕ
+heard_above going nodes (created r) = Some r.parent
+heard_above going nodes (updated r s named) = None
+heard_above going nodes (deleted r) = if is_heard going nodes r.parent then Some r.parent else None
+
+-- what is noted at the number of a resource
+abbrev pub noted_at : List (ℕ × Bool) → ℕ → Option Bool
+noted_at rows n = lookup (λ m. is_eq (nat_cmp n m)) rows
+
+-- what is noted at the numbers of resources is so
+pub record AreHeard (going : List ℕ) (nodes : List ResourceData)
+    (rows : List (ℕ × Bool)) : Type 0 where
+  pub says : (n : ℕ) (b : Bool) → noted_at rows n ≡ Some b → b ≡ is_heard going nodes n
 
 -- the subscriptions that are told of a change, in order of creation
 abbrev pub matching : List ResourceData → List ℕ → ChangeData → List ResourceData

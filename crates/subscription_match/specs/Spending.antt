@@ -53,6 +53,12 @@ kept_after nodes earlier (draft ∷ drafts) =
 abbrev pub kept : List ResourceData → List DraftParts → List DraftParts
 kept nodes drafts = kept_after nodes [] drafts
 
+-- which of them are
+abbrev pub marks_after : List ResourceData → List DraftParts → List DraftParts → List Bool
+marks_after nodes earlier [] = []
+marks_after nodes earlier (draft ∷ drafts) =
+    is_kept nodes earlier draft ∷ marks_after nodes (earlier ++ draft ∷ []) drafts
+
 -- ---- what is left then
 
 -- what is left after these to the subscription of a number that counts: not below nothing

@@ -101,6 +101,15 @@ fn is_going(sub: &Resource, going: &[u64]) -> bool
     }
 }
 
+/// Whether a subscription stays where the resources of these numbers go, and looks for the deletion
+/// of children of the resource that it stands under.
+pub(crate) fn does_hear(going: &[u64], sub: &Resource) -> bool
+    requires { DoAscend going.now }
+    ensures { result ≡ spec.does_hear going.now sub.now }
+{
+    !is_going(sub, going) && looks_for(sub, EventKind::DeleteOfChild)
+}
+
 fn event_where(is: bool, kind: EventKind, sub: &Resource) -> Option<EventKind>
     ensures { result ≡ spec.event_where is kind sub.now }
 {

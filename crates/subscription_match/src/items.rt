@@ -15,7 +15,7 @@ fn request_of(alloc: Global, home: &Home, draft: DraftParts) -> Result<Request, 
     requires { IsUtf8 draft.target }
     ensures { IfOk result (λ r. r ≡ spec.request_of home.now draft) }
 {
-    let fr = own_cse_id(alloc, home)?;
+    let fr = own_cse_id(alloc, home, 0)?;
     Ok(Request::of(RequestParts {
         op: Op::Notify,
         to: draft.target,

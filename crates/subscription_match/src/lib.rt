@@ -15,9 +15,9 @@
 //!
 //! ```text
 //! let changes = Changes::of_creation(tree, resource, pushed.entries());
-//! let drafts = all_notes(alloc, tree, home, pushed.entries(), changes)?;
-//! let spent = spend(alloc, tree, drafts)?;
-//! let dest = aim(alloc, tree, home, spent.drafts[0].target.entries())?;
+//! let mut drafts = all_notes(alloc, tree, home, pushed.entries(), changes)?;
+//! let left = spend(alloc, tree, &mut drafts)?;
+//! let dest = aim(alloc, tree, home, drafts[0].parts().target.entries())?;
 //! ```
 #![tactic(auto)]
 
@@ -39,6 +39,6 @@ pub use events::EventKind;
 pub use items::items_of;
 pub use laws::{each_that_matches_is_told_once, what_is_kept_and_what_is_left_add_up};
 pub use noting::{all_notes, notes};
-pub use spending::{Spent, spend};
+pub use spending::{left_to, spend};
 pub use std::alloc::AllocError as OutOfMemory;
 pub use watching::{Watching, over_watching};

@@ -7,13 +7,14 @@ use m2m_value::Text;
 use std::alloc::{AllocError as OutOfMemory, Global};
 use tree_model::{Home, Resource};
 
-/// Own CSE-ID, with its slash.
-pub(crate) fn own_cse_id(alloc: Global, home: &Home) -> Result<Text, OutOfMemory>
+/// Own CSE-ID, with its slash, with room for so many bytes behind it.
+pub(crate) fn own_cse_id(alloc: Global, home: &Home, room: usize) -> Result<Text, OutOfMemory>
     ensures value { IfOk result (λ t. t ≡ own_cse_id home.now) }
     ensures utf8 { IfOk result (λ t. IsUtf8 t) }
 {
     let csi = home.csi().entries();
-    let mut bytes = Vec::with_capacity(alloc, csi.len().saturating_add(1))?;
+    let own = csi.len().saturating_add(1);
+    let mut bytes = Vec::with_capacity(alloc, own.saturating_add(room))?;
     bytes.push(b'/')?;
     bytes.extend_from_slice(csi)?;
     Ok(Text::of(bytes))
@@ -25,7 +26,8 @@ pub(crate) fn reference_of(alloc: Global, home: &Home, sub: &Resource) -> Result
     ensures utf8 { IfOk result (λ t. IsUtf8 t) }
 {
     let id = sub.id(alloc)?;
-    let mut bytes = own_cse_id(alloc, home)?.into_vec();
+    let room = id.entries().len().saturating_add(1);
+    let mut bytes = own_cse_id(alloc, home, room)?.into_vec();
     bytes.push(b'/')?;
     bytes.extend_from_slice(id.entries())?;
     Ok(Text::of(bytes))

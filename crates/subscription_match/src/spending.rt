@@ -1,9 +1,12 @@
 //! Subscriptions that count what they are told.
-ghost use Rattle.std.specs.Prelude.{◌≡◌, ℕ, nat_lt, true, IfOk, OnOk};
+ghost use Rattle.std.specs.Prelude.{◌≡◌, ◌<◌, ◌≤◌, ℕ, [], nat_lt, length, true, vec_capacity};
+ghost use Rattle.std.specs.Prelude.{IfOk, IfSome, OnOk, OnErr};
+ghost use Rattle.std.specs.List.{items_where_true};
 ghost use Rattle.std.specs.List.Sorted.{IsStrictlySortedBy};
 ghost use Rattle.std.specs.Map.{keys_of};
 ghost use Rattle.std.specs.Option.{option_map_or};
 ghost use Rattle.std.specs.Ordering.{nat_cmp};
+ghost use Rattle.m2m_names.specs.Ids.{count_bound};
 ghost use Rattle.subscription_match.specs.Spending as spec;
 ghost use Rattle.subscription_match.specs.Spending.{left_in};
 
@@ -11,28 +14,15 @@ use crate::drafts::Draft;
 use m2m_names::Attr;
 use std::alloc::{AllocError as OutOfMemory, Global};
 use std::collections::BTreeMap;
+use std::mem::replace;
 use tree_model::{Resource, Tree};
 
-/// What comes of an operation's drafts.
-#[derive(Drop)]
-pub struct Spent {
-    /// Those that are kept, in their order.
-    pub drafts: Vec<Draft>,
-    /// The numbers of the subscriptions that count and are told something, in order of creation,
-    /// each with how many notifications are left to it: none where it goes.
-    pub left: Vec<(u64, u64)>,
-}
-
-fn left_to(sub: &Resource) -> Option<u64>
-    ensures { result ≡ spec.left_to sub.now }
+/// How many notifications are left to a subscription, where it counts them.
+pub fn left_to(sub: &Resource) -> Option<u64>
+    ensures value { result ≡ spec.left_to sub.now }
+    ensures bound { IfSome result (λ n. n < count_bound) }
 {
     sub.attrs().count(Attr::Exc)
-}
-
-fn left_at<T: Tree>(tree: &T, number: u64) -> Option<u64>
-    ensures { result ≡ spec.left_at (T.nodes tree.now) number }
-{
-    left_to(tree.get(number)?)
 }
 
 fn left_now<T: Tree>(tree: &T, left: &BTreeMap<u64, u64>, number: u64) -> Option<u64>
@@ -40,7 +30,7 @@ fn left_now<T: Tree>(tree: &T, left: &BTreeMap<u64, u64>, number: u64) -> Option
 {
     match left.get(&number) {
         Some(count) => Some(*count),
-        None => left_at(tree, number),
+        None => left_to(tree.get(number)?),
     }
 }
 
@@ -92,23 +82,63 @@ fn rows_of(alloc: Global, left: BTreeMap<u64, u64>) -> Result<Vec<(u64, u64)>, O
     Ok(rows)
 }
 
-/// Of an operation's drafts, in their order, those that are kept, and what is left to each
-/// subscription that counts. The tree is the one before the operation.
-pub fn spend<T: Tree>(alloc: Global, tree: &T, drafts: Vec<Draft>) -> Result<Spent, OutOfMemory>
-    ensures kept { IfOk result (λ s. s.drafts.items ≡ spec.kept (T.nodes tree.now) drafts.items) }
-    ensures left { IfOk result (λ s. (n : ℕ) → left_in s.left.items n
-        ≡ spec.spent (T.nodes tree.now) drafts.items n) }
-    ensures order { IfOk result (λ s. IsStrictlySortedBy nat_cmp (keys_of s.left.items)) }
+// Whether each of the drafts is kept, and what is left then to each subscription that counts and is
+// told something.
+fn count<T: Tree>(
+    alloc: Global,
+    tree: &T,
+    left: &mut BTreeMap<u64, u64>,
+    drafts: &[Draft],
+) -> Result<Vec<bool>, OutOfMemory>
+    requires { left.old.entries ≡ [] }
+    ensures marks { IfOk result (λ v. v.items ≡ spec.marks_after (T.nodes tree.now) [] drafts.now) }
+    ensures left { (n : ℕ) → OnOk result (left_in left.new.entries n
+        ≡ spec.spent (T.nodes tree.now) drafts.now n) }
+{
+    let mut marks = Vec::with_capacity(alloc, drafts.len())?;
+    for draft in drafts {
+        marks.push(is_kept(tree, left, draft)?)?;
+    }
+    Ok(marks)
+}
+
+// Puts those that are marked into an empty list that has room for all of them. No memory is taken.
+fn put_marked(kept: &mut Vec<Draft>, drafts: Vec<Draft>, marks: &[bool])
+    requires none { kept.old.items ≡ [] }
+    requires room { length drafts.items ≤ vec_capacity kept.old }
+    requires each { length marks.now ≡ length drafts.items }
+    ensures { kept.new.items ≡ items_where_true marks.now drafts.items }
+{
+    let mut place = 0usize;
+    for draft in drafts {
+        if marks[place] {
+            kept.push_reserved(draft);
+        }
+        place += 1;
+    }
+}
+
+/// Keeps of an operation's drafts, in their order, those that are to be kept, and gives what is left
+/// to each subscription that counts and is told something: the numbers of these, in order of
+/// creation, each with how many notifications are left to it, none where it goes. The tree is the
+/// one before the operation. Where memory runs out, the drafts are as they were.
+pub fn spend<T: Tree>(
+    alloc: Global,
+    tree: &T,
+    drafts: &mut Vec<Draft>,
+) -> Result<Vec<(u64, u64)>, OutOfMemory>
+    ensures kept { OnOk result (drafts.new.items
+        ≡ spec.kept (T.nodes tree.now) drafts.old.items) }
+    ensures left { IfOk result (λ v. (n : ℕ) → left_in v.items n
+        ≡ spec.spent (T.nodes tree.now) drafts.old.items n) }
+    ensures order { IfOk result (λ v. IsStrictlySortedBy nat_cmp (keys_of v.items)) }
+    ensures err { OnErr result (drafts.new.items ≡ drafts.old.items) }
 {
     let mut left = BTreeMap::new(alloc);
-    let mut kept = Vec::with_capacity(alloc, drafts.len())?;
-    for draft in drafts {
-        if is_kept(tree, &mut left, &draft)? {
-            kept.push(draft)?;
-        }
-    }
-    Ok(Spent {
-        drafts: kept,
-        left: rows_of(alloc, left)?,
-    })
+    let marks = count(alloc, tree, &mut left, drafts)?;
+    let rows = rows_of(alloc, left)?;
+    let room = Vec::with_capacity(alloc, drafts.len())?;
+    let all = replace(drafts, room);
+    put_marked(drafts, all, &marks);
+    Ok(rows)
 }

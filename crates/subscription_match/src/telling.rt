@@ -96,13 +96,6 @@ fn text_or_empty(alloc: Global, value: &Val) -> Result<Text, OutOfMemory>
     }
 }
 
-// What it wants to be shown.
-fn content_wanted(sub: &Resource) -> u64
-    ensures { result ≡ spec.content_wanted sub.now }
-{
-    sub.attrs().count(Attr::Nct).unwrap_or(1)
-}
-
 // ---- the resource that was changed
 
 fn id_alone(alloc: Global, resource: &Resource) -> Result<Val, OutOfMemory>
@@ -211,7 +204,9 @@ pub(crate) fn told_as<T: Tree>(
     ensures { IfOk result (λ d. d ≡ spec.told_as home.now (T.nodes tree.now)
         (change_of change.entry) sub.now kind) }
 {
-    let shown = representation(alloc, tree, home, change, kind, content_wanted(sub))?;
+    // It is shown all where it doesn't say what it wants.
+    let wanted = sub.attrs().count(Attr::Nct).unwrap_or(1);
+    let shown = representation(alloc, tree, home, change, kind, wanted)?;
     let event = event_told(alloc, kind, shown)?;
     let content = framed_event(alloc, event, reference_of(alloc, home, sub)?)?;
     Ok(Draft::of(DraftParts {

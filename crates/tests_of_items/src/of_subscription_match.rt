@@ -188,10 +188,10 @@ fn check_told(
     want: &str,
 ) -> Result<(), Fail> {
     let words: Vec<&str> = asked.split(' ').collect(rt.alloc())?;
-    let drafts = told(rt.alloc(), trees, words.as_slice())?;
-    let spent = spend(rt.alloc(), trees.0, drafts)?;
-    let told = drafts_text(rt.alloc(), spent.drafts.as_slice())?;
-    assert!(rt; spent.left.is_empty());
+    let mut drafts = told(rt.alloc(), trees, words.as_slice())?;
+    let left = spend(rt.alloc(), trees.0, &mut drafts)?;
+    let told = drafts_text(rt.alloc(), drafts.as_slice())?;
+    assert!(rt; left.is_empty());
     assert!(rt; told.as_str().trim() == want, "{asked}: {told}");
     Ok(())
 }
@@ -291,10 +291,10 @@ fn a_subscription_that_counts_is_told_no_more_than_is_left(rt: HostRuntime) -> R
     let after = tree_of(rt.alloc(), AFTER)?;
     for (exc, kept, left) in COUNTED {
         let before = counting_tree(rt.alloc(), exc)?;
-        let drafts = told(rt.alloc(), (&before, &after), &["create", "16", "5"])?;
-        let spent = spend(rt.alloc(), &before, drafts)?;
-        assert_eq!(rt; spent.drafts.len(), kept, "{exc}");
-        assert_eq!(rt; spent.left.as_slice(), [(6, left)].as_slice(), "{exc}");
+        let mut drafts = told(rt.alloc(), (&before, &after), &["create", "16", "5"])?;
+        let left_to = spend(rt.alloc(), &before, &mut drafts)?;
+        assert_eq!(rt; drafts.len(), kept, "{exc}");
+        assert_eq!(rt; left_to.as_slice(), [(6, left)].as_slice(), "{exc}");
     }
     Ok(())
 }

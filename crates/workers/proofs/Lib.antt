@@ -4,3 +4,4 @@ mod JobsLemmas
 mod ServingLemmas
 mod ShiftsLemmas
 mod Sent
+pub mod RoundsLemmas

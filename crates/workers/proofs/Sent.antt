@@ -4,8 +4,13 @@ use denote.Ref.{ShrRef}
 use denote.RattleType.{RattleType}
 use denote.Struct.Declared.{shape}
 use denote.Param.Send.{IsSend, IsSync, sendable, struct_send, struct_sync, recorded_send}
-use denote.Param.Send.{recorded_sync, shr_sync}
-use mir.Syntax.{Lifetime, given}
+use denote.Param.{arg, param}
+use denote.Param.Send.{arg_send, param_send, recorded_sync, shr_send, shr_sync}
+use denote.Exit.{no}
+use denote.Struct.Struct.{Struct}
+use denote.Struct.Tuple.{TupleAt, type_at}
+use mir.Syntax.{Lifetime, Sym, Ty, given}
+use Rattle.std.proofs.Common.{◌∷◌, []}
 use Rattle.std.proofs.Crossing.{crosses, frees, send, sync}
 use Rattle.std.specs.contracts.alloc.Global as global
 use Rattle.std.specs.contracts.snapshot.Snapshot as snapshot
@@ -20,6 +25,18 @@ use Rattle.turn_desk.specs.contracts.view.Held as held
 use Rattle.turn_desk.specs.contracts.view.View as view
 use Rattle.turn_desk.specs.declared.object.Object.{Ghosts}
 use Rattle.workers.specs.contracts.sharing.Job as job
+
+-- a closure that is moved into a call goes where the four may that it holds
+pub closure_send : (δ : Ty) (ν : Sym) (A B C D : RattleType) → IsSend A → IsSend B → IsSend C → IsSend D
+    → IsSend (param 1 (arg δ no (TupleAt ν (A ∷ B ∷ C ∷ D ∷ []))))
+closure_send δ ν A B C D a b c d =
+    let T = type_at ν (A ∷ B ∷ C ∷ D ∷ []) in
+    param_send 1 _ (arg_send δ no _
+    (recorded_send (Struct (shape T)) _ _ T.to_one (struct_send (shape T) (a, (b, (c, (d, tt)))))))
+
+-- and so does what it gives
+pub result_send : (δ : Ty) (R : RattleType) → IsSend R → IsSend (param 3 (arg δ no R))
+result_send δ R s = param_send 3 _ (arg_send δ no R s)
 
 module _ (X E R : RattleType) (x : IsSend X) (e : IsSend E) (r : IsSend R) where
   -- what lies in a desk's slot
@@ -49,7 +66,11 @@ module _ (X E R : RattleType) (x : IsSend X) (e : IsSend E) (r : IsSend R) where
         (struct_sync (shape (turn_desk.the_type X T E R g))
         (tables, (search (sendable, crosses) depth 20, (t, tt))))
 
-    -- and so they do a reference to it
+    -- and so they do a reference to it, which also goes from one to another
+    pub desk_goes : IsSync T → (ℓ : Lifetime) (κ : Lft)
+        → IsSend (ShrRef ℓ κ (turn_desk.the_row X T E R g))
+    desk_goes t ℓ κ = shr_send ℓ κ _ (desk_sync t)
+
     pub desk_lent : IsSync T → (ℓ : Lifetime) (κ : Lft)
         → IsSync (ShrRef ℓ κ (turn_desk.the_row X T E R g))
     desk_lent t ℓ κ = shr_sync ℓ κ _ (desk_sync t)

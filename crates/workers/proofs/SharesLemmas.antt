@@ -4,7 +4,7 @@ use Rattle.std.proofs.Math.Nat.{mul-div_cancel}
 use Rattle.std.proofs.lemmas.Bool.{le-ltb, ltb-false}
 use Rattle.std.proofs.lemmas.List.{map-append}
 use Rattle.std.specs.List.{All}
-use Rattle.std.proofs.lemmas.List.Elements.{All-head, All-tail, All-nil, All-cons}
+use Rattle.std.proofs.lemmas.List.Elements.{All-head, All-tail, All-nil, All-cons, All-push}
 use Rattle.turn_desk.specs.declared.entry.Entry.{Entry}
 use Rattle.turn_desk.specs.Entries.{Marked, all_entries}
 use Rattle.atomic_table.specs.Seated.{TableId}
@@ -138,6 +138,25 @@ module _ {X E R : Type 0} where
       → v.own ++ all_own (w ∷ left) ≡ own → both.own ++ all_own left ≡ own
   own_joined {v} {w} {both} left j e = ap (λ l. l ++ all_own left) j.own ∙ append_assoc v.own w.own (all_own left) ∙ e
 
+  -- what one seat more has seen
+  pub seen_joined : {v w both : View X E R} (views : List (View X E R)) → AreJoined v w both → HasSeenAll v views
+      → HasSeenAll both (views ++ w ∷ [])
+  seen_joined {v} {w} {both} views j seen =
+      All-push (λ u. Begins both.seen u.seen) views w
+      (seen_on v both views (subst (λ l. Begins l v.seen) (sym j.seen) (begins-joined v.seen w.seen j.line)) seen)
+      (subst (λ l. Begins l w.seen) (sym j.seen) (begins-other v.seen w.seen j.line))
+
+  all_own-snoc : (views : List (View X E R)) (w : View X E R) → all_own (views ++ w ∷ []) ≡ all_own views ++ w.own
+  all_own-snoc [] w = append-nil w.own
+  all_own-snoc (v ∷ views) w = ap (λ l. v.own ++ l) (all_own-snoc views w) ∙ sym (append_assoc v.own (all_own views) w.own)
+
+  -- and its entries
+  pub owns_joined : {v w both : View X E R} (views : List (View X E R)) (own : List ℕ) → AreJoined v w both
+      → v.own ≡ own ++ all_own views → both.own ≡ own ++ all_own (views ++ w ∷ [])
+  owns_joined {v} {w} {both} views own j e =
+      j.own ∙ ap (λ l. l ++ w.own) e ∙ append_assoc own (all_own views) w.own
+      ∙ ap (λ l. own ++ l) (sym (all_own-snoc views w))
+
 -- ---- parts
 
 -- two fractions with the denominators c and d, added up
@@ -219,6 +238,11 @@ module _ {X E R : Type 0} where
   pub add_join : (v one two both : View X E R) (views : List (View X E R)) → AreJoined one two both
       → AddUpTo v (one ∷ two ∷ views) → AddUpTo v (both ∷ views)
   add_join v one two both views j a = join-on v one two both views a.number a.weights j a.positive a.weighed a.all
+
+  -- and these two have the parts of all
+  pub parts_joined : {v w both : View X E R} {first : View X E R} (views : List (View X E R)) → AreJoined v w both
+      → PassesOn (first ∷ (views ++ w ∷ [])) (v ∷ w ∷ []) → PassesOn (first ∷ (views ++ w ∷ [])) (both ∷ [])
+  parts_joined {v} {w} {both} views j carries = λ u a. add_join u v w both [] j (carries u a)
 
   weighed-grown : (number : ℕ) (vs ws : List (View X E R)) (weights : List ℕ) → HaveGrown vs ws
       → Weighed number vs weights → Weighed number ws weights

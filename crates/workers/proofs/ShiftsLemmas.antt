@@ -7,11 +7,14 @@ use Rattle.std.specs.List.{All}
 use Rattle.std.proofs.lemmas.List.Elements.{All-head, All-tail, All-nil, All-cons}
 use Rattle.atomic_table.specs.Seated.{TableId}
 use Rattle.turn_desk.specs.declared.shared.DeskSeat.{DeskSeat}
+use Rattle.turn_desk.specs.declared.view.View.{View}
 use Rattle.turn_desk.specs.Seats.{known_to}
 use Rattle.workers.specs.declared.sharing.Job.{Job}
 use Rattle.workers.specs.Jobs.{known_to_all, bench_of, IsClosedAt, IsSeatedAt, AreSeated}
 use Rattle.workers.specs.Shares.{HasGrown, HaveGrown, HasNone, HasSeenAll, Pairwise, all_own}
-use Rattle.workers.specs.Shifts.{Visit, Shift, AttendsInTurn, HasAttended, WorksFrom, HasWorked, HaveWorked, GainsByAttending}
+use Rattle.workers.specs.Rounds.{HasMadeRounds}
+use Rattle.workers.specs.Serving.{GainsByServing}
+use Rattle.workers.specs.Shifts.{Visit, Shift, AttendsInTurn, HasAttended, WorksFrom, HasWorked, HaveWorked}
 use Rattle.workers.proofs.SharesLemmas.{grown_self, grown_on, grown_seen, seen_on, written_whole}
 
 -- ---- visits
@@ -153,23 +156,46 @@ module _ {X E R C B A : Type 0} (attends : DeskSeat X E R → C → B → DeskSe
   have_grown (j ∷ js) [] w = absurd w
   have_grown (j ∷ js) (k ∷ ks) w = (w.0.attended.grew, have_grown js ks w.1)
 
-  -- workers attended at seats of their own, which were joined, and then the rest was attended to
-  pub served_of : (before after : List (Job X B A E R)) {seat joined back : DeskSeat X E R} {last left : B}
+  -- and so has who is beside them
+  pub grown_beside : (vs ws : List (View X E R)) {v w : View X E R} → HaveGrown vs ws → HasGrown v w
+      → HaveGrown (vs ++ v ∷ []) (ws ++ w ∷ [])
+  grown_beside [] [] all one = (one, tt)
+  grown_beside [] (w ∷ ws) all one = absurd all
+  grown_beside (v ∷ vs) [] all one = absurd all
+  grown_beside (v ∷ vs) (w ∷ ws) all one = (all.0, grown_beside vs ws all.1 one)
+
+  -- workers attended at seats of their own, and an errand had rounds at one of its own; all were joined; the rest was attended to,
+  -- and there was one round more
+  pub served_of : {does : DeskSeat X E R → B → DeskSeat X E R → B → Type 0} (before after : List (Job X B A E R)) (beside aside : Job X B A E R)
+      {seat joined between back : DeskSeat X E R} {bench last first left : B}
       → HaveWorked attends before after → All HasNone (known_to_all before)
-      → HasSeenAll (known_to joined) (known_to_all after)
-      → (known_to joined).own ≡ (known_to seat).own ++ all_own (known_to_all after)
-      → WorksFrom attends joined last back left
-      → GainsByAttending attends (map bench_of before ++ last ∷ []) seat back
-  served_of before after {seat} {joined} {back} {last} {left} worked none seen own rest =
+      → HasMadeRounds does beside aside → HasNone (known_to beside.seat) → bench ≡ aside.bench
+      → HasSeenAll (known_to joined) (known_to_all after ++ known_to aside.seat ∷ [])
+      → (known_to joined).own ≡ (known_to seat).own ++ all_own (known_to_all after ++ known_to aside.seat ∷ [])
+      → WorksFrom attends joined bench between last
+      → does between first back left → HasGrown (known_to between) (known_to back)
+      → GainsByServing attends does (map bench_of before ++ beside.bench ∷ []) first left seat back
+  served_of before after beside aside {seat} {joined} {between} {back} {bench} {last} {first} {left} worked none rounds fresh same seen own rest at grew =
       let s = shifts_of before after worked none in record {
         shifts = s.shifts;
-        last = record { seat = joined; bench = last; visits = rest.visits; later = back; left = left };
         worked = s.worked;
-        worked_last = rest.attended;
         fresh = s.fresh;
-        each_bench = ap (λ l. l ++ last ∷ []) s.benches;
-        seen = subst (λ l. HasSeenAll (known_to back) l) (sym s.later)
-            (seen_on (known_to joined) (known_to back) (known_to_all after) (grown_seen rest.attended.grew) seen);
-        gained = own ∙ ap (λ l. (known_to seat).own ++ all_own l) (sym s.later);
-        back_is = refl;
+        rounds = record {
+          seat = beside.seat;
+          bench = beside.bench;
+          count = rounds.count;
+          later = aside.seat;
+          left = aside.bench;
+        };
+        made = rounds.made;
+        fresh_beside = fresh;
+        each_bench = ap (λ l. l ++ beside.bench ∷ []) s.benches;
+        last = record { seat = joined; bench = bench; visits = rest.visits; later = between; left = last };
+        worked_last = rest.attended;
+        last_bench = same;
+        gained = own ∙ ap (λ l. (known_to seat).own ++ all_own (l ++ known_to aside.seat ∷ [])) (sym s.later);
+        seen = subst (λ l. HasSeenAll (known_to back) (l ++ known_to aside.seat ∷ [])) (sym s.later)
+            (seen_on (known_to between) (known_to back) (known_to_all after ++ known_to aside.seat ∷ []) (grown_seen grew)
+            (seen_on (known_to joined) (known_to between) (known_to_all after ++ known_to aside.seat ∷ []) (grown_seen rest.attended.grew) seen));
+        at_the_end = at;
       }

@@ -1,10 +1,9 @@
 -- What workers do at their seats: they attend to connections, one after another.
-use Rattle.std.specs.Prelude.{◌≡◌, List, [], ◌∷◌, ◌++◌, map}
-use Rattle.std.specs.List.{All}
+use Rattle.std.specs.Prelude.{◌≡◌, List, [], ◌∷◌}
 use Rattle.turn_desk.specs.declared.shared.DeskSeat.{DeskSeat}
 use Rattle.turn_desk.specs.Seats.{known_to}
 use Rattle.workers.specs.declared.sharing.Job.{Job}
-use Rattle.workers.specs.Shares.{HasGrown, HasNone, HasSeenAll, Pairwise, all_own}
+use Rattle.workers.specs.Shares.{HasGrown, Pairwise}
 
 -- a connection as it came, and as it was when it had been attended to
 pub record Visit (C A : Type 0) : Type 0 where
@@ -55,17 +54,3 @@ module _ {X E R C B A : Type 0}
   -- and so did each worker
   abbrev pub HaveWorked : List (Job X B A E R) → List (Job X B A E R) → Type 0
   HaveWorked before after = Pairwise HasWorked before after
-
-  -- The entries that a seat has gained are those that attending gave: at seats that were split off
-  -- it, which had none before, one for each bench but the last, and then at the seat itself.
-  pub record GainsByAttending (benches : List B) (lent back : DeskSeat X E R) : Type 0 where
-    pub shifts : List (Shift (DeskSeat X E R) C B A)
-    pub last : Shift (DeskSeat X E R) C B A
-    pub worked : All HasAttended shifts
-    pub worked_last : HasAttended last
-    pub fresh : All (λ s. HasNone (known_to s.seat)) shifts
-    pub each_bench : map (λ s. s.bench) shifts ++ last.bench ∷ [] ≡ benches
-    pub seen : HasSeenAll (known_to back) (map (λ s. known_to s.later) shifts)
-    pub gained : (known_to last.seat).own
-        ≡ (known_to lent).own ++ all_own (map (λ s. known_to s.later) shifts)
-    pub back_is : last.later ≡ back

@@ -2,23 +2,29 @@
 ghost use Rattle.std.specs.Prelude.{◌≡◌, ◌<◌, ◌≤◌, ◌++◌, ◌∷◌, [], map, vec_len, Some};
 ghost use Rattle.std.specs.Prelude.{IfOk, IfErr};
 ghost use Rattle.std.specs.List.{All};
+ghost use denote.Param.Send.{IsSync};
 ghost use Rattle.turn_desk.specs.Seats.{IsSeated, known_to};
 ghost use Rattle.workers.specs.declared.gate.Ending.TheVariants.{Fault};
 ghost use Rattle.workers.specs.Gate.{HasEnded, TakesConnections, ServesDoor, door_tells};
-ghost use Rattle.workers.specs.Jobs.{known_to_all, bench_of, AreSeated, IsClosedAt};
-ghost use Rattle.workers.specs.Serving.{EndsServing, seat_after};
+ghost use Rattle.workers.specs.Jobs.{known_to_all, bench_of, AreSeated, IsClosedAt, IsSeatedAt};
+ghost use Rattle.workers.specs.Rounds.{HasMadeRounds};
+ghost use Rattle.workers.specs.Serving.{EndsServing, GainsByServing, seat_after};
 ghost use Rattle.workers.specs.Shares.{HasNone, IsJoinedOf};
-ghost use Rattle.workers.specs.Shifts.{WorksFrom, HasWorked, HaveWorked, GainsByAttending};
+ghost use Rattle.workers.specs.Shifts.{WorksFrom, HasWorked, HaveWorked};
 
+use crate::errand::Errand;
 use crate::gate::{Entrance, Gate};
 use crate::service::Service;
-use crate::sharing::{Job, jobs_at, joined_seat};
+use crate::sharing::{Job, all_joined, jobs_at};
 use m2m_io::Door;
 use std::alloc::Global;
 use std::marker::Brand;
 use std::sync::{Mutex, Wait};
-use std::thread::{Threads, for_each_mut};
+use std::thread::{Threads, for_each_mut, join};
 use turn_desk::{DeskSeat, Object, TurnDesk};
+
+/// So many waits may end with nothing asked before there is a round again.
+const MOST_WAITS: u64 = 10;
 
 /// Why connections were not served to the end.
 #[derive(Clone, Copy, Debug, PartialEq, Eq)]
@@ -95,18 +101,14 @@ where
     unreachable!()
 }
 
-/// Serves the connections of a door whose entrance is `J`: by workers at these jobs, and what is
-/// left when they have ended at one bench more. The seats are joined into this one.
-fn serve_jobs<R, O, D, B, A, V, J>(
+/// Has all workers of a door work, each in a thread of its own where one can be made.
+fn work_all<R, O, D, B, A, V, J>(
     rt: &R,
     desk: &TurnDesk<O, R>,
-    seat: DeskSeat<O>,
-    mut jobs: Vec<Job<O, B, A>>,
-    mut last: B,
-    door: D,
-    accept: Option<u64>,
+    gate: &Mutex<Gate<D, J>>,
     service: &V,
-) -> Result<(DeskSeat<O>, D), (DeskSeat<O>, D, ServeFault)>
+    jobs: &mut Vec<Job<O, B, A>>,
+)
 where
     R: Wait + Threads + Sync,
     O: Object + Send,
@@ -117,58 +119,177 @@ where
     V: Service<TurnDesk<O, R>, D::Conn, B, A> + Sync,
     J: Entrance + Send + Sync,
     B: Send + Drop,
-    requires seat { IsSeated O.step desk.now.table.shared.table_id seat }
-    requires jobs { AreSeated O.step desk.now.table.shared.table_id jobs.items }
-    requires fresh { All HasNone (known_to_all jobs.items) }
-    requires start { door_tells D.opened D.given D.ended D.faults door ≡ J.start }
-    requires accept { accept ≡ J.accept }
-    ensures comes { IsJoinedOf O.step desk.now.table.shared.table_id (known_to seat)
-        (known_to_all jobs.items) (seat_after result) }
-    ensures attended { GainsByAttending V.attends (map bench_of jobs.items ++ last ∷ []) seat
-        (seat_after result) }
-    ensures ok { IfOk result (λ r. ServesDoor J.accept J.start
-        (door_tells D.opened D.given D.ended D.faults r.1)) }
-    ensures fault { IfErr result (λ e. TakesConnections J.accept (Some Fault) J.start
-        (door_tells D.opened D.given D.ended D.faults e.1)) }
-    ensures cause { IfErr result (λ e. e.2 ≡ ServeFault.DoorFault) }
+    requires { AreSeated O.step desk.now.table.shared.table_id jobs.old.items }
+    ensures seats { AreSeated O.step desk.now.table.shared.table_id jobs.new.items }
+    ensures closed { All IsClosedAt jobs.new.items }
+    ensures worked { HaveWorked V.attends jobs.old.items jobs.new.items }
 {
-    let gate: Mutex<Gate<D, J>> = Mutex::new(Gate::new(door, accept));
-    let shared = &gate;
     let threads = jobs.len().max(1);
     for_each_mut(
         rt,
-        &mut jobs,
+        jobs,
         threads,
         &|_place: usize, job: &mut Job<O, B, A>|
             requires { IsSeated O.step desk.now.table.shared.table_id job.old.seat }
             ensures { IsSeated O.step desk.entry.now.table.shared.table_id job.new.seat
                 × IsClosedAt job.new × HasWorked V.attends job.old job.new }
-        { work(rt, desk, shared, service, job) },
+        { work(rt, desk, gate, service, job) },
     );
-    let mut seat = joined_seat(desk, seat, jobs);
-    let mut gate = gate.into_inner();
-    serve_rest(rt, desk, &mut gate, service, &mut seat, &mut last);
-    match gate.into_served() {
-        Ok(door) => Ok((seat, door)),
-        Err(door) => Err((seat, door, ServeFault::DoorFault)),
-    }
 }
 
-/// Serves the connections of a door until it gives no more: it gave None, failed, or gave as many
-/// as `accept` says. Each bench but the last is a worker's, with a seat of its own that is split
-/// off this one; it takes a connection from the door and has it served, and then the next. The last
-/// bench is for what is left when they have ended. All seats are joined into the one that comes
-/// back, with the door.
-#[tactic(auto, using(crate::proofs::ServingLemmas::ends_starved))]
-pub fn serve_with<R, O, D, B, A, V>(
+/// Does a round of an errand where its signal was given, or so many waits ended with nothing asked,
+/// and says how many have since the last round.
+fn run_if_due<R, O, B, A, N>(
+    desk: &TurnDesk<O, R>,
+    errand: &N,
+    waits: u64,
+    job: &mut Job<O, B, A>,
+) -> u64
+where
+    R: Wait,
+    O: Object,
+    N: Errand<TurnDesk<O, R>, B>,
+    requires { IsSeated O.step desk.now.table.shared.table_id job.old.seat }
+    ensures seat { IsSeated O.step desk.now.table.shared.table_id job.new.seat }
+    ensures rounds { HasMadeRounds N.does job.old job.new }
+{
+    if errand.signal().take() || waits >= MOST_WAITS {
+        errand.run(desk, &mut job.seat, &mut job.bench);
+        return 0;
+    }
+    waits + 1
+}
+
+/// Does rounds of an errand, until its signal is given no more: one as soon as it is given, and else
+/// now and then.
+fn run_beside<R, O, B, A, N>(rt: &R, desk: &TurnDesk<O, R>, errand: &N, job: &mut Job<O, B, A>)
+where
+    R: Wait,
+    O: Object,
+    N: Errand<TurnDesk<O, R>, B>,
+    requires { IsSeated O.step desk.now.table.shared.table_id job.old.seat }
+    ensures seat { IsSeated O.step desk.now.table.shared.table_id job.new.seat }
+    ensures rounds { HasMadeRounds N.does job.old job.new }
+{
+    let mut waits = 0;
+    for _ in rt.forever() {
+        waits = run_if_due(desk, errand, waits, job);
+        if !errand.signal().wait(rt) {
+            return;
+        }
+    }
+    unreachable!()
+}
+
+/// Has an errand do rounds at its job, until its signal is given no more.
+fn with_rounds<R, O, B, A, N>(
     rt: &R,
-    alloc: Global,
+    desk: &TurnDesk<O, R>,
+    errand: &N,
+    mut beside: Job<O, B, A>,
+) -> Job<O, B, A>
+where
+    R: Wait,
+    O: Object,
+    N: Errand<TurnDesk<O, R>, B>,
+    requires { IsSeatedAt O.step desk.now.table.shared.table_id beside }
+    ensures seat { IsSeatedAt O.step desk.now.table.shared.table_id result }
+    ensures rounds { HasMadeRounds N.does beside result }
+{
+    run_beside(rt, desk, errand, &mut beside);
+    beside
+}
+
+/// Has all workers of a door work at their jobs, and says then that the errand's signal is given no
+/// more.
+fn with_work<R, O, D, B, A, V, N, J>(
+    rt: &R,
+    desk: &TurnDesk<O, R>,
+    gate: &Mutex<Gate<D, J>>,
+    service: &V,
+    errand: &N,
+    mut jobs: Vec<Job<O, B, A>>,
+) -> Vec<Job<O, B, A>>
+where
+    R: Wait + Threads + Sync,
+    O: Object + Send,
+    O::Event: Send,
+    O::Outcome: Send,
+    D: Door + Send,
+    A: Drop + Send,
+    V: Service<TurnDesk<O, R>, D::Conn, B, A> + Sync,
+    N: Errand<TurnDesk<O, R>, B>,
+    J: Entrance + Send + Sync,
+    B: Send + Drop,
+    requires { AreSeated O.step desk.now.table.shared.table_id jobs.items }
+    ensures seats { AreSeated O.step desk.now.table.shared.table_id result.items }
+    ensures closed { All IsClosedAt result.items }
+    ensures worked { HaveWorked V.attends jobs.items result.items }
+{
+    work_all(rt, desk, gate, service, &mut jobs);
+    errand.signal().end();
+    jobs
+}
+
+/// Has all workers of a door work, and an errand do rounds beside them, at a job of its own, until
+/// they have ended. Where no thread can be made for the errand, it comes behind them.
+fn run_all<R, O, D, B, A, V, N, J>(
+    rt: &R,
+    desk: &TurnDesk<O, R>,
+    gate: &Mutex<Gate<D, J>>,
+    service: &V,
+    errand: &N,
+    jobs: Vec<Job<O, B, A>>,
+    beside: Job<O, B, A>,
+) -> (Vec<Job<O, B, A>>, Job<O, B, A>)
+where
+    R: Wait + Threads + Sync,
+    O: Object + Send,
+    O::Event: Send,
+    O::Outcome: Send,
+    D: Door + Send,
+    A: Drop + Send,
+    V: Service<TurnDesk<O, R>, D::Conn, B, A> + Sync,
+    N: Errand<TurnDesk<O, R>, B> + Sync,
+    J: Entrance + Send + Sync,
+    B: Send + Drop,
+    requires jobs { AreSeated O.step desk.now.table.shared.table_id jobs.items }
+    requires beside { IsSeatedAt O.step desk.now.table.shared.table_id beside }
+    ensures seats { AreSeated O.step desk.now.table.shared.table_id result.0.items }
+    ensures closed { All IsClosedAt result.0.items }
+    ensures worked { HaveWorked V.attends jobs.items result.0.items }
+    ensures beside { IsSeatedAt O.step desk.now.table.shared.table_id result.1 }
+    ensures rounds { HasMadeRounds N.does beside result.1 }
+{
+    let rounds = move || -> Job<O, B, A>
+        requires { IsSeatedAt O.step desk.now.table.shared.table_id beside }
+        ensures { IsSeatedAt O.step desk.entry.now.table.shared.table_id result
+            × HasMadeRounds N.does beside result }
+    { with_rounds(rt, desk, errand, beside) };
+    let work = move || -> Vec<Job<O, B, A>>
+        requires { IsSync R.row × AreSeated O.step desk.now.table.shared.table_id jobs.items }
+        ensures { AreSeated O.step desk.entry.now.table.shared.table_id result.items
+            × All IsClosedAt result.items × HaveWorked V.attends jobs.items result.items }
+    { with_work(rt, desk, gate, service, errand, jobs) };
+    let (beside, jobs) = join(rt, rounds, work);
+    (jobs, beside)
+}
+
+/// Serves the connections of a door whose entrance is `J`: by workers at these jobs, with an errand
+/// beside them at a job of its own. What is left when they have ended is served at the bench of that
+/// one, and then the errand has one round more, at the first bench. The seats are joined into this
+/// one.
+fn serve_jobs<R, O, D, B, A, V, N, J>(
+    rt: &R,
     desk: &TurnDesk<O, R>,
     seat: DeskSeat<O>,
+    jobs: Vec<Job<O, B, A>>,
+    beside: Job<O, B, A>,
     door: D,
     accept: Option<u64>,
-    mut benches: Vec<B>,
+    first: &mut B,
     service: &V,
+    errand: &N,
 ) -> Result<(DeskSeat<O>, D), (DeskSeat<O>, D, ServeFault)>
 where
     R: Wait + Threads + Sync,
@@ -178,22 +299,85 @@ where
     D: Door + Send,
     A: Drop + Send,
     V: Service<TurnDesk<O, R>, D::Conn, B, A> + Sync,
+    N: Errand<TurnDesk<O, R>, B> + Sync,
+    J: Entrance + Send + Sync,
+    B: Send + Drop,
+    requires seat { IsSeated O.step desk.now.table.shared.table_id seat }
+    requires jobs { AreSeated O.step desk.now.table.shared.table_id jobs.items }
+    requires beside { IsSeatedAt O.step desk.now.table.shared.table_id beside }
+    requires fresh { All HasNone (known_to_all jobs.items) }
+    requires fresh_beside { HasNone (known_to beside.seat) }
+    requires start { door_tells D.opened D.given D.ended D.faults door ≡ J.start }
+    requires accept { accept ≡ J.accept }
+    ensures comes { IsJoinedOf O.step desk.now.table.shared.table_id (known_to seat)
+        (known_to_all jobs.items ++ known_to beside.seat ∷ []) (seat_after result) }
+    ensures gains { GainsByServing V.attends N.does
+        (map bench_of jobs.items ++ beside.bench ∷ []) first.old first.new seat
+        (seat_after result) }
+    ensures ok { IfOk result (λ r. ServesDoor J.accept J.start
+        (door_tells D.opened D.given D.ended D.faults r.1)) }
+    ensures fault { IfErr result (λ e. TakesConnections J.accept (Some Fault) J.start
+        (door_tells D.opened D.given D.ended D.faults e.1)) }
+    ensures cause { IfErr result (λ e. e.2 ≡ ServeFault.DoorFault) }
+{
+    let gate: Mutex<Gate<D, J>> = Mutex::new(Gate::new(door, accept));
+    let (jobs, beside) = run_all(rt, desk, &gate, service, errand, jobs, beside);
+    let (mut seat, mut bench) = all_joined(desk, seat, jobs, beside);
+    let mut gate = gate.into_inner();
+    serve_rest(rt, desk, &mut gate, service, &mut seat, &mut bench);
+    errand.run(desk, &mut seat, first);
+    match gate.into_served() {
+        Ok(door) => Ok((seat, door)),
+        Err(door) => Err((seat, door, ServeFault::DoorFault)),
+    }
+}
+
+/// Serves the connections of a door until it gives no more: it gave None, failed, or gave as many
+/// as `accept` says. Each bench but the last is a worker's, with a seat of its own that is split
+/// off this one; it takes a connection from the door and has it served, and then the next. The last
+/// bench is that of the errand, which has rounds beside the workers until none is left, also at a
+/// seat of its own; and then it is for what is left. All seats are joined into the one that comes
+/// back, with the door, and at it the errand has one round more, with the first bench.
+#[tactic(auto, using(crate::proofs::ServingLemmas::ends_starved))]
+pub fn serve_with<R, O, D, B, A, V, N>(
+    rt: &R,
+    alloc: Global,
+    desk: &TurnDesk<O, R>,
+    seat: DeskSeat<O>,
+    door: D,
+    accept: Option<u64>,
+    first: &mut B,
+    benches: Vec<B>,
+    service: &V,
+    errand: &N,
+) -> Result<(DeskSeat<O>, D), (DeskSeat<O>, D, ServeFault)>
+where
+    R: Wait + Threads + Sync,
+    O: Object + Send,
+    O::Event: Send,
+    O::Outcome: Send,
+    D: Door + Send,
+    A: Drop + Send,
+    V: Service<TurnDesk<O, R>, D::Conn, B, A> + Sync,
+    N: Errand<TurnDesk<O, R>, B> + Sync,
     B: Send + Drop,
     requires benches { 1 ≤ vec_len benches }
     requires seat { IsSeated O.step desk.now.table.shared.table_id seat }
 
     // Seat and door come back, with the fault where one ended it, and what the seat has gained is
-    // what attending gave.
+    // what attending gave, and then what the rounds of the errand did.
     ensures ends { EndsServing O.step desk.now.table.shared.table_id
-        (door_tells D.opened D.given D.ended D.faults) V.attends accept benches.items seat door
-        result }
+        (door_tells D.opened D.given D.ended D.faults) V.attends N.does accept benches.items
+        first.old first.new seat door result }
 {
-    let Some(last) = benches.pop() else {
-        unreachable!()
-    };
     match jobs_at(alloc, desk, seat, benches) {
-        Ok((seat, jobs)) => {
-            serve_jobs::<R, O, D, B, A, V, Brand>(rt, desk, seat, jobs, last, door, accept, service)
+        Ok((seat, mut jobs)) => {
+            let Some(beside) = jobs.pop() else {
+                unreachable!()
+            };
+            serve_jobs::<R, O, D, B, A, V, N, Brand>(
+                rt, desk, seat, jobs, beside, door, accept, first, service, errand,
+            )
         }
         Err((seat, _)) => Err((seat, door, ServeFault::OutOfMemory)),
     }

@@ -3,6 +3,7 @@ ghost use Rattle.std.specs.Prelude.{◌≡◌, List, ◌∷◌, [], ◌++◌, ma
 ghost use Rattle.std.specs.List.{All};
 ghost use Rattle.turn_desk.specs.Seats.{IsSeated, known_to};
 ghost use Rattle.turn_desk.specs.Shared.{halved, sibling};
+ghost use Rattle.turn_desk.specs.declared.view.View.{View};
 ghost use Rattle.workers.specs.Jobs.{known_to_all, bench_of, IsSeatedAt, AreSeated, IsClosedAt};
 ghost use Rattle.workers.specs.Shares.{HasGoneOn, AddUpTo, PassesOn, HasSeenAll, all_own, HasNone};
 
@@ -80,7 +81,7 @@ pub(crate) fn jobs_at<O: Object, R, B: Drop, A>(
 
 /// One seat for this one and those of the jobs, whose workers all have what the gate gave at its
 /// end.
-pub(crate) fn joined_seat<O: Object, R, B: Drop, A>(
+fn joined_seat<O: Object, R, B: Drop, A>(
     desk: &TurnDesk<O, R>,
     seat: DeskSeat<O>,
     jobs: Vec<Job<O, B, A>>,
@@ -93,8 +94,8 @@ pub(crate) fn joined_seat<O: Object, R, B: Drop, A>(
     ensures seen { HasSeenAll (known_to result) (known_to_all jobs.items) }
     ensures own { (known_to result).own
         ≡ (known_to seat).own ++ all_own (known_to_all jobs.items) }
-    ensures parts { PassesOn (known_to seat ∷ known_to_all jobs.items)
-        (known_to result ∷ []) }
+    ensures parts { (others : List (View O O.Event O.Outcome))
+        → PassesOn (known_to seat ∷ (known_to_all jobs.items ++ others)) (known_to result ∷ others) }
 {
     let mut all = seat;
     for job in jobs {
@@ -111,4 +112,40 @@ pub(crate) fn joined_seat<O: Object, R, B: Drop, A>(
         all = one;
     }
     all
+}
+
+/// One seat for this one, those of the jobs, whose workers all have what the gate gave at its end,
+/// and that of the job beside them; and what lies at the bench of that one.
+pub(crate) fn all_joined<O: Object, R, B: Drop, A>(
+    desk: &TurnDesk<O, R>,
+    seat: DeskSeat<O>,
+    jobs: Vec<Job<O, B, A>>,
+    beside: Job<O, B, A>,
+) -> (DeskSeat<O>, B)
+    requires seat { IsSeated O.step desk.now.table.shared.table_id seat }
+    requires jobs { AreSeated O.step desk.now.table.shared.table_id jobs.items }
+    requires closed { All IsClosedAt jobs.items }
+    requires beside { IsSeatedAt O.step desk.now.table.shared.table_id beside }
+    ensures seat { IsSeated O.step desk.now.table.shared.table_id result.0 }
+    ensures on { HasGoneOn (known_to seat) (known_to result.0) }
+    ensures seen { HasSeenAll (known_to result.0)
+        (known_to_all jobs.items ++ known_to beside.seat ∷ []) }
+    ensures own { (known_to result.0).own ≡ (known_to seat).own
+        ++ all_own (known_to_all jobs.items ++ known_to beside.seat ∷ []) }
+    ensures parts { PassesOn
+        (known_to seat ∷ (known_to_all jobs.items ++ known_to beside.seat ∷ []))
+        (known_to result.0 ∷ []) }
+    ensures bench { result.1 ≡ beside.bench }
+{
+    let joined = joined_seat(desk, seat, jobs);
+    let Job {
+        seat: other,
+        bench,
+        closed: _,
+        of: _,
+    } = beside;
+    let Ok(all) = desk.join(joined, other) else {
+        unreachable!()
+    };
+    (all, bench)
 }

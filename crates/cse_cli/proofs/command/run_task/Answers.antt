@@ -1,4 +1,5 @@
 use Rattle.std.proofs.Common.{refl, inl, inr}
+use Rattle.cse_cli.proofs.RunningLemmas.{no_fault}
 use Rattle.cse_cli.proofs.command.run_task.Goals as goal
 
 -- the streams were served as one connection
@@ -18,3 +19,15 @@ pub returns-in-Serve : goal.returns-in-Serve
 returns-in-Serve g c =
     let done = c.serve_door.ensures in
     rw c.in-Serve.is (record { opens = inr done.opens; no_usage = done.command; input = refl; out = refl })
+
+-- requests were made
+pub returns-in-Generate : goal.returns-in-Generate
+returns-in-Generate g c =
+    let done = c.generate.ensures in
+    rw c.in-Generate.is (record {
+      done = record { generates = done.makes; left = refl; readings = refl; link = refl };
+      no_usage = done.usage;
+      reads = no_fault done.reads;
+      writes = done.writes;
+      door = refl;
+    })

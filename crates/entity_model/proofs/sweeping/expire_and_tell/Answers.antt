@@ -4,12 +4,13 @@ use Rattle.notify_outbox.specs.Outbox.{OutboxData}
 use Rattle.notify_outbox.specs.declared.item.Item.{Item}
 use Rattle.tree_model.specs.Tree.{has, live, overdue_numbers, DoAscend}
 use Rattle.std.specs.Prelude.{not}
-use Rattle.tree_model.proofs.GrowthLemmas.{tree_from_well_formed}
+use Rattle.tree_model.proofs.GrowthLemmas.{ascending_from_tree, tree_from_well_formed}
+use Rattle.tree_model.proofs.ManyLemmas.{ascending_filter}
 use Rattle.entity_model.specs.Entity.{EntityData, expired, expired_told, still_waiting}
 use Rattle.entity_model.specs.Expiry.{expiry_changes}
 use Rattle.entity_model.specs.Sound.{IsSoundEntity}
 use Rattle.entity_model.proofs.SoundLemmas.{sound_expired}
-use Rattle.entity_model.proofs.SweepingLemmas.{picked_ascend, told_by_expiry}
+use Rattle.entity_model.proofs.SweepingLemmas.{told_by_expiry}
 use Rattle.entity_model.proofs.TellingLemmas.{sound_telling}
 use Rattle.entity_model.proofs.WaitingLemmas.{waiting_each}
 use Rattle.entity_model.proofs.sweeping.expire_and_tell.Goals as goal
@@ -19,7 +20,7 @@ prepare_expiry-requires g c =
     let nodes = g.T.Tree.nodes c.entity.inside.tree in
     let moment = c.args.moment in
     let gone : c.args.gone.now ≡ overdue_numbers moment nodes = c.requires.gone ∙ sym (ap (λ (e : EntityData). overdue_numbers moment e.nodes) c.entity.view_is) in
-    subst DoAscend (sym gone) (picked_ascend (λ r. not (has r.number (live moment nodes))) nodes (tree_from_well_formed nodes c.entity.invariant.tree))
+    subst DoAscend (sym gone) (ascending_filter (λ r. not (has r.number (live moment nodes))) nodes (ascending_from_tree nodes (tree_from_well_formed nodes c.entity.invariant.tree)))
 
 pub age-requires : goal.age-requires
 age-requires g c = tree_from_well_formed (g.T.Tree.nodes c.entity.inside.tree) c.entity.invariant.tree

@@ -1,8 +1,7 @@
 use Rattle.std.proofs.Common.{ap, ◌∙◌}
 use Rattle.entity_model.specs.Entity.{EntityData, swept}
-use Rattle.cse_machine.specs.declared.event.Event.TheVariants.{Ask}
-use Rattle.machine_laws.proofs.GuardLemmas.{retrieved_still}
-use Rattle.machine_laws.proofs.HistoryLemmas.{done_keeps, starved_leaves}
+use Rattle.machine_laws.proofs.GuardLemmas.{notified_still, retrieved_still}
+use Rattle.machine_laws.proofs.HistoryLemmas.{done_keeps, onward_leaves, starved_alone, starved_undone}
 use Rattle.machine_laws.proofs.laws.what_is_refused_or_read_changes_nothing.Goals as goal
 
 pub returns-clause-refused : goal.returns-clause-refused
@@ -11,10 +10,17 @@ returns-clause-refused c = λ reading request before after reply step unserved.
 
 pub returns-clause-retrieved : goal.returns-clause-retrieved
 returns-clause-retrieved c = λ reading request before after reply retrieve step.
-    ap (λ (e : EntityData). e.nodes) (step.1 ∙ retrieved_still (swept reading before) request retrieve)
+    ap (λ (e : EntityData). e.nodes) step.1 ∙ retrieved_still (swept reading before) request retrieve
+
+pub returns-clause-notified : goal.returns-clause-notified
+returns-clause-notified c = λ reading request before after reply notify step.
+    ap (λ (e : EntityData). e.nodes) step.1 ∙ notified_still (swept reading before) request notify
+
+pub returns-clause-onward : goal.returns-clause-onward
+returns-clause-onward c = λ reading request onward before after poa step. onward_leaves reading request before after poa onward step
 
 pub returns-clause-starved : goal.returns-clause-starved
-returns-clause-starved c = λ reading event before after step. (starved_leaves reading event before after 0 step).1
+returns-clause-starved c = starved_alone
 
 pub returns-clause-members : goal.returns-clause-members
-returns-clause-members c = λ reading request done before after alone step. (starved_leaves reading (Ask request) before after done step).0
+returns-clause-members c = starved_undone

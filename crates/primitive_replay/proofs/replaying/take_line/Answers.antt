@@ -11,5 +11,5 @@ returns-in-Reading-clause-takes g c = rw c.in-Reading.is
 
 pub returns-in-Ask-clause-takes : goal.returns-in-Ask-clause-takes
 returns-in-Ask-clause-takes g c = rw c.in-Ask.is
-    (takes_request c.args.reading.now c.args.entity.now c.put_request-reply.new.entity _ _ _
+    (takes_request c.args.reading.now c.args.entity.now c.put_request-reply.new.entity _ _ _ _
     c.in-Ask.request c.put_request-reply.result c.put_reply.result c.put_request-reply.ensures c.put_reply.ensures.said)

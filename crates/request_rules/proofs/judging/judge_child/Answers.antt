@@ -1,27 +1,33 @@
-use Rattle.std.proofs.Common.{◌≡◌, Some, sym, ◌∙◌}
+use Rattle.std.proofs.Common.{◌≡◌, Some, ◌∙◌}
+use Rattle.request_rules.specs.Groups.{group_rows, membership_by}
+use Rattle.request_rules.specs.Judged.{IsCreateOf}
 use Rattle.request_rules.specs.Requests.{content_for}
 use Rattle.request_rules.proofs.CreatingLemmas.{creation_refused}
 use Rattle.request_rules.proofs.EditingLemmas.{content_names}
+use Rattle.request_rules.proofs.JudgedLemmas.{judges_refused}
 use Rattle.request_rules.proofs.judging.judge_child.Goals as goal
 
-pub returns-in-Some-2 : goal.returns-in-Some-2
-returns-in-Some-2 g c =
+pub returns-in-Err : goal.returns-in-Err
+returns-in-Err g c =
+    let e = c.args.entity.now in
     let named = c.in-Some.named.now in
     let names : content_for c.args.request.now c.args.ty ≡ Some named = content_names c.args.request.now c.args.ty c.in-Some.content.now named c.in-Some.ensures.found.0 c.in-Some.ensures.found.1 in
-    creation_refused c.args.entity.now c.args.originator.now c.args.request.now c.args.parent.now c.args.ty named c.requires.child names
-    ∙ sym c.in_ok-fault.ensures ∙ c.in-Some-2.is
+    judges_refused c.in-Err.refusal _ _ (λ rows. rows.items ≡ group_rows e (membership_by c.args.ty named)) (IsCreateOf e c.args.request.now c.args.parent.now.number)
+    (creation_refused e c.args.originator.now c.args.request.now c.args.parent.now c.args.ty named c.requires.child names)
+    c.in-Err.ensures
 
-pub returns-in-None : goal.returns-in-None
-returns-in-None g c =
+pub returns-in-Ok : goal.returns-in-Ok
+returns-in-Ok g c =
     let named = c.in-Some.named.now in
     let names : content_for c.args.request.now c.args.ty ≡ Some named = content_names c.args.request.now c.args.ty c.in-Some.content.now named c.in-Some.ensures.found.0 c.in-Some.ensures.found.1 in (
       creation_refused c.args.entity.now c.args.originator.now c.args.request.now c.args.parent.now c.args.ty named c.requires.child names
-          ∙ sym c.in_ok-fault.ensures ∙ c.in-None.is,
+          ∙ c.in-Ok.ensures.0,
       record {
         sound = c.requires.sound;
         parent = c.requires.stands;
         ty = c.requires.child;
         content = c.in-Some.ensures.found.0;
         named = c.in-Some.ensures.found.1;
+        members = c.in-Ok.ensures.1;
       },
     )

@@ -1,4 +1,5 @@
 use Rattle.std.proofs.Common.{◌≡◌, ◌++◌}
+use Rattle.subscription_match.specs.Matching.{AreHeard}
 use Rattle.subscription_match.specs.Notices.{notes_of_all}
 use Rattle.subscription_match.proofs.noting.all_notes.Given as goal
 
@@ -6,5 +7,6 @@ use Rattle.subscription_match.proofs.noting.all_notes.Given as goal
 abbrev pub invariant-loop-change : goal.invariant-loop-change
 invariant-loop-change g l =
     let nodes = g.T.Tree.nodes l.tree in
-    l.drafts.items ++ notes_of_all l.home nodes l.going l.change-iterator
-    ≡ notes_of_all l.home nodes l.going l.fn.changes
+    (l.drafts.items ++ notes_of_all l.home nodes l.going l.change-iterator
+    ≡ notes_of_all l.home nodes l.going l.fn.changes)
+    × AreHeard l.going nodes l.heard.entries

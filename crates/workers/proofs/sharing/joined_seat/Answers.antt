@@ -17,7 +17,7 @@ loop-job-init g c =
       subst (λ l. Sees (known_to c.args.seat) (known_to_all l) (known_to_all c.args.jobs.items)) (sym items) (λ seen on all. all),
       ap (λ l. (known_to c.args.seat).own ++ all_own (known_to_all l)) items,
       on_self _,
-      λ v a. subst (λ l. AddUpTo v (known_to c.args.seat ∷ known_to_all l)) (sym items) a,
+      λ others v a. subst (λ l. AddUpTo v (known_to c.args.seat ∷ (known_to_all l ++ others))) (sym items) a,
       search rules,
     )
 
@@ -41,7 +41,7 @@ loop-job-preserved g c =
       sees_joined (known_to_all (into_iter_items c.next.new.self)) (known_to_all c.args.jobs.items) j (subst (λ l. Sees (known_to at.all) (known_to_all l) (known_to_all c.args.jobs.items)) steps at.invariant.3),
       own_joined (known_to_all (into_iter_items c.next.new.self)) j (sym (ap (λ l. (known_to at.all).own ++ all_own (known_to_all l)) steps) ∙ at.invariant.4),
       on_on _ _ _ at.invariant.5 (on_joined _ _ _ j),
-      λ v a. add_join v _ _ _ _ j (subst (λ l. AddUpTo v (known_to at.all ∷ known_to_all l)) steps (at.invariant.6 v a)),
+      λ others v a. add_join v _ _ _ _ j (subst (λ l. AddUpTo v (known_to at.all ∷ (known_to_all l ++ others))) steps (at.invariant.6 others v a)),
       let was = at.invariant.7 in
           let gone = c.in-Some.ensures.steps.1 in
           let short = ap length steps in
@@ -68,4 +68,4 @@ returns-clause-parts g c =
     let at = c.loop-job in
     let none = c.in-None.ensures.steps in
     let empty : into_iter_items at.job-iterator ≡ [] = nothing_left _ (sym at.invariant.7 ∙ none.0) in
-    λ v a. subst (λ l. AddUpTo v (known_to at.all ∷ known_to_all l)) empty (at.invariant.6 v a)
+    λ others v a. subst (λ l. AddUpTo v (known_to at.all ∷ (known_to_all l ++ others))) empty (at.invariant.6 others v a)

@@ -1,4 +1,4 @@
-use Rattle.std.proofs.Common.{◌≡◌, ◌∷◌, ◌++◌, length}
+use Rattle.std.proofs.Common.{◌≡◌, ◌∷◌, ◌++◌, List, length}
 use Rattle.std.specs.List.{All}
 use Rattle.std.specs.Vec.Iter.{into_iter_items, into_iter_len}
 use Rattle.turn_desk.specs.Seats.{IsSeated, known_to}
@@ -17,6 +17,6 @@ invariant-loop-job g l =
     × ((known_to l.all).own ++ all_own (known_to_all (into_iter_items l.job-iterator))
     ≡ (known_to l.fn.seat).own ++ all_own (known_to_all l.fn.jobs.items))
     × HasGoneOn (known_to l.fn.seat) (known_to l.all)
-    × PassesOn (known_to l.fn.seat ∷ known_to_all l.fn.jobs.items)
-    (known_to l.all ∷ known_to_all (into_iter_items l.job-iterator))
+    × ((others : List _) → PassesOn (known_to l.fn.seat ∷ (known_to_all l.fn.jobs.items ++ others))
+    (known_to l.all ∷ (known_to_all (into_iter_items l.job-iterator) ++ others)))
     × (into_iter_len l.job-iterator ≡ length (into_iter_items l.job-iterator))

@@ -1,9 +1,9 @@
-use Rattle.std.proofs.Common.{◌≡◌, List, [], sym, ap, ◌∙◌, subst}
+use Rattle.std.proofs.Common.{◌≡◌, List, [], filter, sym, ap, ◌∙◌, subst}
 use Rattle.resource_model.specs.Resource.{ResourceData, has_number}
-use Rattle.tree_model.specs.Tree.{children_of, is_tree}
+use Rattle.tree_model.specs.Tree.{children_of, has, is_tree}
 use Rattle.tree_model.proofs.KeptLemmas.{is_tree-without}
-use Rattle.resource_list.proofs.LeafLemmas.{leaf_without}
-use Rattle.resource_tree.specs.Index.{IsIndex, IsLeft}
+use Rattle.resource_store.proofs.LeafLemmas.{leaf_without}
+use Rattle.resource_tree.specs.Index.{HasKin}
 use Rattle.resource_dues.proofs.DuesLemmas.{dues_left}
 use Rattle.resource_tree.proofs.IndexLemmas.{left_kept}
 use Rattle.resource_names.proofs.NameLemmas.{left_within, named_within}
@@ -13,10 +13,10 @@ pub invariant_of-self : goal.invariant_of-self
 invariant_of-self c =
     let nodes = c.self.inside.list in
     let alone : children_of c.args.number nodes ≡ [] = ap (children_of c.args.number) c.self.view_is ∙ c.requires in
-    let left = subst (λ (ns : List ResourceData). IsLeft nodes ns) (sym c.remove_leaf.ensures) (left_kept (has_number c.args.number) nodes c.self.invariant.tree) in
+    let kept = subst (λ (ns : List ResourceData). ns ≡ filter (λ r. has r.number ns) nodes) (sym c.remove_leaf.ensures) (left_kept (has_number c.args.number) nodes c.self.invariant.tree) in
     record {
       tree = ap is_tree c.remove_leaf.ensures ∙ is_tree-without (has_number c.args.number) nodes c.self.invariant.tree;
-      queues = subst (λ (ns : List ResourceData). IsIndex ns c.remove.new.self) (sym (leaf_without c.args.number nodes c.self.invariant.tree alone) ∙ sym c.remove_leaf.ensures) c.remove.ensures;
-      told = c.note_gone-2.ensures (dues_left (has_number c.args.number) nodes _ c.self.inside.dues c.self.invariant.tree c.remove_leaf.ensures c.self.invariant.told);
-      names = c.note_gone.ensures (named_within nodes _ (left_within nodes _ left.kept) c.self.inside.named c.self.invariant.names);
+      queues = subst (λ (ns : List ResourceData). HasKin ns c.remove-parent.new.self) (sym (leaf_without c.args.number nodes c.self.invariant.tree alone) ∙ sym c.remove_leaf.ensures) c.remove-parent.ensures;
+      told = dues_left (has_number c.args.number) nodes _ c.self.inside.dues c.self.invariant.tree c.remove_leaf.ensures c.self.invariant.told;
+      names = c.note_gone.ensures (named_within nodes _ (left_within nodes _ kept) c.self.inside.named c.self.invariant.names);
     }

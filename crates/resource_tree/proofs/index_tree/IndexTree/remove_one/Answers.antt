@@ -1,17 +1,40 @@
-use Rattle.std.proofs.Common.{ap, sym, ◌∙◌}
-use Rattle.tree_model.specs.Tree.{children_of}
-use Rattle.tree_model.proofs.ManyLemmas.{one_removed}
-use Rattle.resource_tree.proofs.IndexLemmas.{no_children}
-use Rattle.resource_tree.proofs.QueueLemmas.{one_ascends}
+use Rattle.std.proofs.Common.{◌≡◌, List, false, sym, ap, ◌∙◌, subst, length, ◌<◌}
+use Rattle.std.proofs.lemmas.Bool.{ne_eqb}
+use Rattle.resource_model.specs.Resource.{ResourceData, has_number}
+use Rattle.tree_model.specs.Tree.{has, without}
+use Rattle.tree_model.proofs.LiveLemmas.{without_none}
+use Rattle.resource_tree.proofs.RemovalLemmas.{IsGoing, fewer, going_up, number_goes}
+use Rattle.std.proofs.Common.{refl}
 use Rattle.resource_tree.proofs.index_tree.IndexTree.remove_one.Goals as goal
 
-pub remove_leaf-requires : goal.remove_leaf-requires
-remove_leaf-requires c =
-    ap (children_of c.args.number) (sym c.self.view_is)
-    ∙ no_children c.self.inside.list c.self.inside.index.kin.children c.args.number c.self.invariant.queues.kin.children (sym c.count_of_kin.ensures ∙ c.if-count_of_kin-eq0.true)
+pub returns-then-not-has-clause-value : goal.returns-then-not-has-clause-value
+returns-then-not-has-clause-value c =
+    let none : has c.args.number c.self.inside.list ≡ false = sym c.if-not-has.ensures in
+    subst (λ (ns : List ResourceData). ns ≡ without (has_number c.args.number) ns) c.self.view_is
+    (sym (without_none (has_number c.args.number) c.self.inside.list c.self.invariant.tree none))
 
-pub remove_several-requires : goal.remove_several-requires
-remove_several-requires c = one_ascends c.args.number
+pub loop-leaf-init : goal.loop-leaf-init
+loop-leaf-init c = record {
+  whole = refl;
+  alone = c.newest_below-leaf.ensures.alone;
+  there = c.newest_below-leaf.ensures.there;
+  goes = c.newest_below-leaf.ensures.goes (has_number c.args.number) (number_goes c.args.number c.args.self.now c.newest_below-leaf.ensures.tree);
+}
 
-pub returns-else-count_of_kin-eq0 : goal.returns-else-count_of_kin-eq0
-returns-else-count_of_kin-eq0 c = c.remove_several.ensures ∙ sym (one_removed c.args.number c.args.self.now)
+pub newest_below-leaf-requires-in-loop-leaf : goal.newest_below-leaf-requires-in-loop-leaf
+newest_below-leaf-requires-in-loop-leaf c =
+    (going_up c.args.number c.loop-leaf.leaf c.parent_of-parent.result c.args.self.now c.loop-leaf.self c.remove_leaf.new.self c.parent_of-parent.ensures.tree c.loop-leaf.invariant (ne_eqb c.loop-leaf.leaf c.args.number c.loop-leaf-test.true) c.parent_of-parent.ensures.value c.remove_leaf.ensures).1
+
+pub loop-leaf-smaller : goal.loop-leaf-smaller
+loop-leaf-smaller c =
+    subst (λ (ns : List ResourceData). length ns < length c.loop-leaf.self) (sym c.remove_leaf.ensures) (fewer c.loop-leaf.leaf c.loop-leaf.self c.parent_of-parent.ensures.tree c.loop-leaf.invariant.there)
+
+pub loop-leaf-preserved : goal.loop-leaf-preserved
+loop-leaf-preserved c =
+    let up = going_up c.args.number c.loop-leaf.leaf c.parent_of-parent.result c.args.self.now c.loop-leaf.self c.remove_leaf.new.self c.parent_of-parent.ensures.tree c.loop-leaf.invariant (ne_eqb c.loop-leaf.leaf c.args.number c.loop-leaf-test.true) c.parent_of-parent.ensures.value c.remove_leaf.ensures in
+    record {
+      whole = up.0;
+      alone = c.newest_below-leaf-in-loop-leaf.ensures.alone;
+      there = c.newest_below-leaf-in-loop-leaf.ensures.there;
+      goes = c.newest_below-leaf-in-loop-leaf.ensures.goes (has_number c.args.number) up.2;
+    }

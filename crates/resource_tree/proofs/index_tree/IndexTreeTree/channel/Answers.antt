@@ -8,6 +8,6 @@ use Rattle.resource_tree.proofs.index_tree.IndexTreeTree.channel.Goals as goal
 
 pub returns : goal.returns
 returns c =
-    c.kin_at.ensures ∙ ap (λ (ns : List ℕ). slice_get ns 0) (c.self.invariant.queues.kin.types.channels c.args.parent)
+    c.kin_at.ensures ∙ ap (λ (ns : List ℕ). slice_get ns 0) (c.self.invariant.queues.types.channels c.args.parent)
     ∙ first_passes (is_kin PollingChannel c.args.parent) c.self.inside.list
     ∙ ap (λ (ns : List ResourceData). channel_of c.args.parent ns) c.self.view_is

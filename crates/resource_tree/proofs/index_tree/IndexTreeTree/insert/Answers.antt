@@ -4,7 +4,7 @@ use Rattle.tree_model.specs.Tree.{is_tree, may_stand}
 use Rattle.tree_model.proofs.GrowthLemmas.{next_fits}
 use Rattle.tree_model.proofs.KeptLemmas.{is_tree-append}
 use Rattle.resource_dues.specs.Dues.{is_told, HasDues}
-use Rattle.resource_tree.specs.Index.{IsIndex}
+use Rattle.resource_tree.specs.Index.{HasKin}
 use Rattle.resource_names.specs.Names.{IsNamed}
 use Rattle.resource_dues.proofs.DuesLemmas.{dues_grown, dues_more}
 use Rattle.resource_names.proofs.NameLemmas.{last_within, named_within}
@@ -35,15 +35,15 @@ invariant_of-self-in-Err-add-2 c =
     }
 
 -- none in the list
-pub invariant_of-self-in-Err-insert : goal.invariant_of-self-in-Err-insert
-invariant_of-self-in-Err-insert c =
+pub invariant_of-self-in-Err-push : goal.invariant_of-self-in-Err-push
+invariant_of-self-in-Err-push c =
     let nodes = c.self.inside.list in
     let r = c.args.resource in
     record {
-      tree = ap is_tree c.in-Err-insert.ensures.err ∙ c.self.invariant.tree;
+      tree = ap is_tree c.in-Err-push.ensures.err ∙ c.self.invariant.tree;
       queues = c.take_back.ensures;
-      names = subst (λ (ns : List ResourceData). IsNamed ns c.add.new.self) (sym c.in-Err-insert.ensures.err) (named_within (nodes ++ r ∷ []) nodes (last_within nodes r) c.add.new.self c.in_default.ensures.ok);
-      told = subst (λ (ns : List ResourceData). HasDues ns c.add-2.new.self) (sym c.in-Err-insert.ensures.err) (dues_more nodes c.self.inside.dues c.add-2.new.self (λ whole. sym c.add-2.ensures.whole ∙ whole) c.add-2.ensures.kept c.self.invariant.told);
+      names = subst (λ (ns : List ResourceData). IsNamed ns c.add.new.self) (sym c.in-Err-push.ensures.err) (named_within (nodes ++ r ∷ []) nodes (last_within nodes r) c.add.new.self c.in_default.ensures.ok);
+      told = subst (λ (ns : List ResourceData). HasDues ns c.add-2.new.self) (sym c.in-Err-push.ensures.err) (dues_more nodes c.self.inside.dues c.add-2.new.self (λ whole. sym c.add-2.ensures.whole ∙ whole) c.add-2.ensures.kept c.self.invariant.told);
     }
 
 pub invariant_of-self-in-Ok : goal.invariant_of-self-in-Ok
@@ -54,7 +54,7 @@ invariant_of-self-in-Ok c =
     let grown : HasDues (nodes ++ r ∷ []) c.add-2.new.self = dues_grown nodes r c.self.inside.dues c.add-2.new.self c.self.invariant.tree next c.self.invariant.told c.add-2.ensures.whole c.add-2.ensures.kept (λ moment when. subst (λ n. is_told moment n c.add-2.new.self.moments.keys ≡ true) c.number.ensures.value (c.in_default-add.ensures.ok moment (c.due-moment.ensures ∙ when))) in
     record {
       tree = ap is_tree c.in-Ok.ensures.ok ∙ is_tree-append nodes r c.self.invariant.tree next;
-      queues = subst (λ (ns : List ResourceData). IsIndex ns c.add-3.new.self) (sym c.in-Ok.ensures.ok) c.in_default-add-2.ensures.ok;
+      queues = subst (λ (ns : List ResourceData). HasKin ns c.add-3.new.self) (sym c.in-Ok.ensures.ok) c.in_default-add-2.ensures.ok;
       names = subst (λ (ns : List ResourceData). IsNamed ns c.add.new.self) (sym c.in-Ok.ensures.ok) c.in_default.ensures.ok;
       told = subst (λ (ns : List ResourceData). HasDues ns c.add-2.new.self) (sym c.in-Ok.ensures.ok) grown;
     }

@@ -7,6 +7,6 @@ use Rattle.resource_tree.proofs.index_tree.IndexTreeTree.instance_after.Goals as
 
 pub returns-clause-value : goal.returns-clause-value
 returns-clause-value c =
-    c.kin_after.ensures ∙ ap (first_after c.args.number) (c.self.invariant.queues.kin.types.instances c.args.container)
+    c.kin_after.ensures ∙ ap (first_after c.args.number) (c.self.invariant.queues.types.instances c.args.container)
     ∙ first-numbers c.args.number (instances_of c.args.container c.self.inside.list)
     ∙ ap (λ (ns : List ResourceData). resource_number (next_after c.args.number (instances_of c.args.container ns))) c.self.view_is

@@ -1,0 +1,70 @@
+-- What comes of a request by where it goes.
+use Rattle.std.proofs.Common.{◌≡◌, ℕ, List, Bool, true, false, Option, Some, None, is_some, Result, Ok, Err, OnOk, refl, sym, ap, ◌∙◌}
+use Rattle.std.specs.Prelude.{if◌then◌else◌}
+use Rattle.std.specs.Option.{option_map_or}
+use Rattle.primitive_json.specs.declared.request.RequestParts.{RequestParts}
+use Rattle.resource_model.specs.Resource.{ResourceData}
+use Rattle.addressing.specs.Addresses.{address_of}
+use Rattle.addressing.specs.Laws.{named_here, spot_named}
+use Rattle.addressing.specs.Names.{segments_of, spot_of}
+use Rattle.addressing.specs.declared.addr.Addr.{Addr}
+use Rattle.addressing.specs.declared.addr.Addr.TheVariants.{Local, Foreign, OtherProvider}
+use Rattle.addressing.specs.declared.addr.AddrFault.{AddrFault}
+use Rattle.subscription_match.specs.Destinations.{cse_named, first_url}
+use Rattle.entity_model.specs.Entity.{EntityData}
+use Rattle.group_fanout.specs.Rights.{claimed_originator}
+use Rattle.retarget.specs.Routes.{comes_from_cse, routed, routed_to}
+use Rattle.retarget.specs.declared.routing.Route.{Route}
+use Rattle.retarget.specs.declared.routing.Route.TheVariants as to
+use Rattle.cse_machine.specs.Answer.{EventEffect, address_effect, as_done, onward_effect, point_of, route_effect, spot_effect}
+
+-- what it gives is what its route gives
+pub by_route : (e : EntityData) (request : RequestParts) (o : List ℕ) (addr : Addr) (route : Route) → claimed_originator e.home request ≡ o → route ≡ routed e.nodes o addr → address_effect e request (Ok addr) ≡ route_effect e request (segments_of addr) route
+by_route e request o addr route by is =
+    ap (route_effect e request (segments_of addr))
+    (ap (λ (t : List ℕ). routed e.nodes t addr) by ∙ sym is)
+
+-- what goes on, or isn't reached, doesn't stay
+away : (n : ℕ) (comes reached : Bool) → (if comes then to.NoHop else (if reached then to.Forward n else to.NoPoint)) ≡ to.Local → ⊥
+away n true reached is = cc
+away n false true is = cc
+away n false false is = cc
+
+not_foreign : (nodes : List ResourceData) (o : List ℕ) (cse : Option ResourceData) → option_map_or (routed_to nodes o) cse to.Unknown ≡ to.Local → ⊥
+not_foreign nodes o None is = cc
+not_foreign nodes o (Some cse) is = away cse.number (comes_from_cse nodes o) (is_some (first_url cse)) is
+
+not_unknown : to.Unknown ≡ to.Local → ⊥
+not_unknown is = cc
+
+-- what stays names what its segments name
+names_here : (nodes : List ResourceData) (o : List ℕ) (addr : Addr) → routed nodes o addr ≡ to.Local → spot_of (segments_of addr) nodes ≡ named_here (Ok addr) nodes
+names_here nodes o (Local segments) is = refl
+names_here nodes o (Foreign text) is = absurd (not_foreign nodes o (cse_named text nodes) is)
+names_here nodes o OtherProvider is = absurd (not_unknown is)
+
+-- so what stays gives what it gives at what it names
+pub stays_here : (e : EntityData) (request : RequestParts) (o : List ℕ) (addr : Addr) (route : Route) → claimed_originator e.home request ≡ o → route ≡ routed e.nodes o addr → route ≡ to.Local → address_effect e request (Ok addr) ≡ as_done (spot_effect e request (named_here (Ok addr) e.nodes))
+stays_here e request o addr route by is local =
+    by_route e request o addr route by is
+    ∙ ap (route_effect e request (segments_of addr)) local
+    ∙ ap (λ spot. as_done (spot_effect e request spot)) (names_here e.nodes o addr (sym is ∙ local))
+
+-- what the address of a request names is what that names
+pub spot_read : (e : EntityData) (request : RequestParts) (addr : Addr) → address_of e.home request.to ≡ Ok addr → named_here (Ok addr) e.nodes ≡ spot_named e.home request.to e.nodes
+spot_read e request addr is = sym (ap (λ (a : Result Addr AddrFault). named_here a e.nodes) is)
+
+-- what goes on leaves the entity as it is
+onward_stays : (e : EntityData) (request : RequestParts) (poa : Option (List ℕ)) → (onward_effect e request poa).after ≡ e
+onward_stays e request None = refl
+onward_stays e request (Some poa) = refl
+
+pub goes_stays : (e : EntityData) (request : RequestParts) (o : List ℕ) (addr : Addr) (n : ℕ) → claimed_originator e.home request ≡ o → to.Forward n ≡ routed e.nodes o addr → e ≡ (address_effect e request (Ok addr)).after
+goes_stays e request o addr n by is =
+    sym (ap (λ (x : EventEffect). x.after) (by_route e request o addr (to.Forward n) by is)
+    ∙ onward_stays e request (point_of e.nodes n))
+
+-- whatever the result is
+pub on_ok : {A E : Type 0} (result : Result A E) (e after : EntityData) → e ≡ after → OnOk result (e ≡ after)
+on_ok (Ok x) e after same = same
+on_ok (Err fault) e after same = tt

@@ -1,0 +1,4 @@
+pub mod OperationLemmas
+pub mod HomeLemmas
+pub mod MemberLemmas
+pub mod FanLemmas

@@ -1,0 +1,3 @@
+pub mod Rights
+pub mod Operations
+pub mod Fan

@@ -1,0 +1,87 @@
+-- The attributes of registered CSEs stay in order through requests.
+use Rattle.std.proofs.Common.{◌≡◌, ℕ, List, true, Option, Some, None, refl, sym, ap, subst, ◌∙◌}
+use Rattle.std.specs.Option.{option_map_or}
+use Rattle.m2m_names.specs.Name.{is_originator}
+use Rattle.m2m_names.specs.declared.codes.Rsc.{Rsc}
+use Rattle.m2m_names.specs.declared.operations.Op.{Op}
+use Rattle.m2m_names.specs.declared.operations.Op.TheVariants.{Create, Retrieve, Update, Delete, Notify}
+use Rattle.primitive_json.specs.declared.request.RequestParts.{RequestParts}
+use Rattle.resource_model.specs.Home.{HomeData}
+use Rattle.resource_model.specs.Resource.{ResourceData, has_number}
+use Rattle.tree_model.specs.Tree.{at, is_well_formed, without}
+use Rattle.tree_model.proofs.GrowthLemmas.{tree_from_well_formed}
+use Rattle.tree_model.proofs.KeptLemmas.{is_well_formed-without}
+use Rattle.entity_model.specs.Entity.{EntityData}
+use Rattle.entity_model.specs.Places.{refused}
+use Rattle.entity_model.specs.Sound.{IsSoundEntity}
+use Rattle.request_rules.specs.Order.{fault_on}
+use Rattle.create_delete.specs.Guard.{NamesInOrder}
+use Rattle.create_delete.specs.Telling.{told_effect_by}
+use Rattle.cse_machine.specs.Answer.{effect_of}
+use Rattle.group_fanout.specs.Fan.{member_effect, sent_to}
+use Rattle.group_fanout.specs.Operations.{change_effect, operation_effect}
+use Rattle.group_fanout.specs.Rights.{claimed_originator}
+use Rattle.sight_laws.proofs.CreatedOrderLemmas.{created_order}
+use Rattle.sight_laws.proofs.UpdatedOrderLemmas.{updated_order}
+use Rattle.sight_laws.proofs.CseOrderLemmas.{order_left, order_spent}
+use Rattle.sight_laws.proofs.ToldLemmas.{sound_counts, without_counts}
+use Rattle.machine_laws.specs.Sight.{AreCsesInOrder}
+use Rattle.machine_laws.proofs.GuardLemmas.{comes, left_by, may_send}
+use Rattle.machine_laws.proofs.MemberLemmas.{IsSoundAt, MaySend, member_sound, members_leave, of_member}
+use Rattle.machine_laws.proofs.RelayLemmas.{relay_nodes}
+use Rattle.machine_laws.proofs.SightLemmas.{notes_taken}
+use Rattle.machine_laws.proofs.WayLemmas.{member_addresses}
+
+module _ (e : EntityData) (sound : IsSoundEntity e) (request : RequestParts) (r : ResourceData) (there : at r.number e.nodes ≡ Some r) (order : AreCsesInOrder e.nodes) where
+  delete_order : AreCsesInOrder (change_effect Delete e request r).after.nodes
+  unfolding change_effect
+  delete_order = by (fault_on Delete e (claimed_originator e.home request) request r)
+    where
+      by : (fault : Option Rsc) → AreCsesInOrder (option_map_or (refused e request) fault (told_effect_by Delete e (claimed_originator e.home request) request r)).after.nodes
+      by None =
+          let left = without (has_number r.number) e.nodes in
+          let well : is_well_formed left ≡ true = is_well_formed-without (has_number r.number) e.nodes sound.tree in
+          order_spent (notes_taken e r) left (tree_from_well_formed left well) (without_counts (has_number r.number) e.nodes (sound_counts e sound))
+          (order_left (has_number r.number) e.nodes (tree_from_well_formed e.nodes sound.tree) order)
+      by (Some fault) = order
+
+  make_order : is_originator (claimed_originator e.home request) ≡ true → NamesInOrder request → AreCsesInOrder (change_effect Create e request r).after.nodes
+  unfolding change_effect
+  make_order originator names = created_order (claimed_originator e.home request) e sound request r there originator names order
+
+  edit_order : NamesInOrder request → AreCsesInOrder (change_effect Update e request r).after.nodes
+  unfolding change_effect
+  edit_order names = updated_order (claimed_originator e.home request) e sound request r there names order
+
+  operated_order : (op : Op) → is_originator (claimed_originator e.home request) ≡ true → NamesInOrder request → AreCsesInOrder (operation_effect op e request r).after.nodes
+  operated_order Create originator names = make_order originator names
+  operated_order Retrieve originator names = order
+  operated_order Update originator names = edit_order names
+  operated_order Delete originator names = delete_order
+  operated_order Notify originator names = subst AreCsesInOrder (sym (relay_nodes e request r there)) order
+
+-- an entity through which a request is fanned out
+record IsOrderedAt (home : HomeData) (e : EntityData) : Type 0 where
+  sound : IsSoundAt home e
+  order : AreCsesInOrder e.nodes
+
+member_ordered : (home : HomeData) (request : RequestParts) → MaySend home request → (e : EntityData) (address : List ℕ) → IsOrderedAt home e → IsOrderedAt home (member_effect e (sent_to request address)).after
+member_ordered home request may e address is =
+    let one = sent_to request address in
+    let originator : is_originator (claimed_originator e.home request) ≡ true = ap (λ (h : HomeData). is_originator (claimed_originator h request)) is.sound.home_is ∙ may.originator in
+    record {
+      sound = member_sound home request may e address is.sound;
+      order = of_member e one (λ x. AreCsesInOrder x.after.nodes) (λ fault other. is.order)
+          (λ way. operated_order e is.sound.sound one way.target way.there is.order request.op originator may.names);
+    }
+
+pub effect_ordered : (e : EntityData) (request : RequestParts) → IsSoundEntity e → NamesInOrder request → AreCsesInOrder e.nodes → AreCsesInOrder (effect_of e request).after.nodes
+effect_ordered e request sound names order =
+    left_by e request (λ (after : EntityData). AreCsesInOrder after.nodes) order (comes e request (λ x. AreCsesInOrder x.after.nodes)
+    (λ fault other. order)
+    (λ way. operated_order e sound request way.target way.there order request.op way.originator names)
+    (λ way. order)
+    (λ way. order)
+    (λ way.
+    (members_leave (IsOrderedAt e.home) request (member_ordered e.home request (may_send e request way names))
+    (member_addresses e request way.place way.group) e (record { sound = record { sound = sound; home_is = refl }; order = order })).order))

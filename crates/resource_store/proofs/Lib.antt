@@ -1,0 +1,3 @@
+pub mod StoreLemmas
+pub mod NextLemmas
+pub mod LeafLemmas

@@ -1,0 +1,26 @@
+//! The resources of a tree by their numbers: each is found, put last, changed or taken out by one
+//! look-up, and none of the others moves.
+//!
+//! To callers a `Store` is the list of its resources in order of creation, in which their numbers
+//! ascend; that it is a tree is its invariant. It keeps them in a table by number, and beside it the
+//! numbers in order. A number whose resource has gone stays in that order for a while; where more
+//! than half of them have gone, they are let go in one pass. Callers owe the conditions of `push`
+//! and `replace`, and that what is taken out has nothing below it. Only `push` and `overdue_numbers`
+//! take memory.
+//!
+//! ```text
+//! let mut store = Store::new(alloc);
+//! store.push(resource)?;
+//! store.after(1) // the first resource whose number is greater than 1
+//! ```
+#![tactic(auto)]
+
+mod order;
+mod overdue;
+mod sizes;
+mod store;
+mod written;
+
+pub use overdue::overdue_numbers;
+pub use sizes::instance_sizes;
+pub use store::Store;

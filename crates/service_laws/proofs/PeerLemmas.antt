@@ -1,0 +1,187 @@
+-- The answer of another CSE to one request.
+use Rattle.std.proofs.Common.{◌≡◌, ℕ, true, false, List, [], ◌∷◌, ◌++◌, map, Option, Some, None, Result, Ok, Err, ◌⊎◌, inl, inr, refl, sym, ap, subst, ◌∙◌, append-nil}
+use Rattle.std.specs.List.{cons_option, list_any}
+use Rattle.std.specs.Result.{result_ok}
+use Rattle.std.proofs.lemmas.Bool.{cases_Bool, false≢true}
+use Rattle.m2m_io.specs.Link.{Carrying}
+use Rattle.m2m_io.specs.Told.{Tells}
+use Rattle.primitive_json.specs.declared.reply.ReplyParts.{ReplyParts}
+use Rattle.primitive_json.specs.declared.request.RequestParts.{RequestParts}
+use Rattle.turn_desk.specs.Entries.{Runs, readings_of, events_of, outcomes_of}
+use Rattle.turn_desk.proofs.GrowthLemmas.{Grew-runs}
+use Rattle.http_frames.specs.declared.frame.Frame.{Frame}
+use Rattle.http_frames.specs.declared.frame.Side.TheVariants.{Request}
+use Rattle.http_frames.specs.Lines.{Line, is_same_name}
+use Rattle.http_frames.specs.Stream.{BeginsWithFrame, BeginsWithFrames}
+use Rattle.http_target.specs.declared.fault.BindFault.{BindFault}
+use Rattle.http_binding.specs.Binding.{binding, echo_of, created_type}
+use Rattle.http_binding.specs.Replying.{reply_text, content_lines}
+use Rattle.http_client_binding.specs.Asking.{request_frame, request_text, caller_lines}
+use Rattle.http_client_binding.specs.Laws.{IsSendable}
+use Rattle.http_client_binding.specs.declared.target.Aim.TheVariants.{Peer}
+use Rattle.http_client_binding.proofs.AskLemmas.{request_back}
+use Rattle.retarget.specs.Answers.{Carried, handed_on}
+use Rattle.retarget.proofs.AnswerLemmas.{one_reply, told_is_carried}
+use Rattle.entity_model.specs.Entity.{EntityData}
+use Rattle.cse_machine.specs.History.{History}
+use Rattle.cse_machine.specs.declared.event.Event.{Event}
+use Rattle.cse_machine.specs.declared.event.Event.TheVariants.{Ask}
+use Rattle.cse_machine.specs.declared.event.Outcome.{Outcome}
+use Rattle.cse_machine.specs.Step.{Step}
+use Rattle.cse_server.specs.declared.connection.Ended.{Ended}
+use Rattle.cse_server.specs.declared.connection.Ended.TheVariants.{Closed, NoFrame}
+use Rattle.cse_server.specs.Closing.{asks_by, asks_to_close, closes}
+use Rattle.cse_server.specs.Connection.{Says}
+use Rattle.cse_server.specs.Outside.{SinkTold, sink_told}
+use Rattle.cse_server.specs.Replies.{GivesReply, GivesReplies}
+use Rattle.cse_server.specs.Talk.{reply_for, request_in, requests_in, talk}
+use Rattle.machine_laws.proofs.HistoryLemmas.{none_some, same_first}
+use Rattle.binding_laws.proofs.BoundLemmas.{bound_back}
+use Rattle.peer_link.specs.PeerTalk.{PeerTalks}
+use Rattle.service_laws.specs.Laws.{IsFaultless}
+use Rattle.service_laws.specs.Peers.{AnAnswerIsThePeers, AnswersBound, AnswersOnce, TheRequestIsAnsweredThere}
+use Rattle.service_laws.proofs.OneWayLemmas.{Settles, heard_one_way, said_whole, settles}
+
+-- ---- it closes the connection
+
+any_later : (xs ys : List Line) → list_any asks_by ys ≡ true → list_any asks_by (xs ++ ys) ≡ true
+any_later [] ys some = some
+any_later (x ∷ xs) ys some = elim (cases_Bool (asks_by x)) [
+  | inl t ↦ rw t refl
+  | inr f ↦ rw f (any_later xs ys some)
+]
+
+asks : (sent : RequestParts) (url : List ℕ) → asks_to_close (request_frame sent url Peer).lines ≡ true
+unfolding is_same_name
+asks sent url =
+    any_later (caller_lines sent url) _
+    (any_later (content_lines (created_type sent.op sent.ty) sent.pc) _ refl)
+
+closes_here : (sent : RequestParts) (url : List ℕ) (place : ℕ) → closes place (request_frame sent url Peer) ≡ true
+closes_here sent url place = rw (asks sent url) refl
+
+-- ---- its talk
+
+-- the connection was served whole
+whole_end : (ended : Ended) → (ended ≡ Closed) ⊎ (ended ≡ NoFrame) → IsFaultless ended
+whole_end ended (inl closed) = subst IsFaultless (sym closed) tt
+whole_end ended (inr none) = subst IsFaultless (sym none) tt
+
+-- and all of its talk was written
+written_all : (ended : Ended) (answer before text : List ℕ) (count : ℕ) (puts : Option ℕ) (new : SinkTold) → IsFaultless ended → new.written ≡ Some answer
+    → Says ended before text count (sink_told (Some []) puts) new → answer ≡ text
+written_all ended answer before text count puts new whole told said =
+    said_whole ended [] answer before text count puts new.puts whole
+    (subst (λ (w : Option (List ℕ)). Says ended before text count (sink_told (Some []) puts) (sink_told w new.puts)) told said)
+
+-- behind a lone frame that closes nothing is left
+lone_settles : (frame : Frame) → closes 1 frame ≡ true → Settles 1 Closed false (frame ∷ []) []
+lone_settles frame here = record {
+  closed = λ f. (refl, λ stays. refl);
+  refusal = λ t. absurd (false≢true t);
+}
+
+-- what is said to a lone frame that closes
+lone_talk : (frame : Frame) (replies : List ReplyParts) → closes 1 frame ≡ true
+    → talk 1 (frame ∷ []) false replies ≡ reply_text (reply_for frame (request_in frame) replies) true
+lone_talk frame replies here = rw here (append-nil _ ∙ append-nil _)
+
+-- ---- its reply
+
+-- one outcome of one request gives one reply
+one_given : (asked : RequestParts) (outcome : Outcome) (replies : List ReplyParts) (carried : List Carrying)
+    → GivesReplies (asked ∷ []) (outcome ∷ []) replies carried
+    → (reply : ReplyParts) × (replies ≡ reply ∷ []) × ((first : List Carrying) × GivesReply asked outcome reply first)
+one_given asked outcome [] carried g = absurd g
+one_given asked outcome (p ∷ []) carried g = (p, refl, (g.0, g.3))
+one_given asked outcome (p ∷ q ∷ ps) carried g = absurd g.4
+
+-- the request that the frame is bound to was asked, and nothing else
+asked_once : (asked : RequestParts) (before after : EntityData) (given now : Option (List ℕ)) (mine : History)
+    (readings : List ℕ) (outcomes : List Outcome) (replies : List ReplyParts) (carried : List Carrying)
+    → events_of mine ≡ Ask asked ∷ [] → Runs Step before mine after → readings_of mine ≡ readings → outcomes_of mine ≡ outcomes
+    → Tells (λ list. list ++ readings) given now → GivesReplies (asked ∷ []) outcomes replies carried
+    → (reply : ReplyParts) × (replies ≡ reply ∷ []) × AnswersOnce before after given now asked reply
+asked_once asked before after given now [] readings outcomes replies carried events run reads came clock gives =
+    absurd (none_some (Ask asked) [] events)
+asked_once asked before after given now (m ∷ n ∷ mine) readings outcomes replies carried events run reads came clock gives = cc
+asked_once asked before after given now (m ∷ []) readings outcomes replies carried events run reads came clock gives =
+    let event : m.event ≡ Ask asked = same_first m.event (Ask asked) [] [] events in
+    let one = one_given asked m.outcome replies carried (subst (λ (os : List Outcome). GivesReplies (asked ∷ []) os replies carried) (sym came) gives) in
+    let step : Step m.reading (Ask asked) before m.outcome run.0 = subst (λ (v : Event). Step m.reading v before m.outcome run.0) event run.1 in (
+      one.0,
+      one.1,
+      record {
+        reading = m.reading;
+        outcome = m.outcome;
+        carried = one.2.0;
+        clock = subst (λ (rs : List ℕ). Tells (λ list. list ++ rs) given now) (sym reads) clock;
+        step = subst (λ (e : EntityData). Step m.reading (Ask asked) before m.outcome e) (sym run.2) step;
+        gives = one.2.1;
+      },
+    )
+
+-- nothing was asked
+asked_nothing : (before after : EntityData) (mine : History) → events_of mine ≡ [] → Runs Step before mine after → after ≡ before
+asked_nothing before after [] events run = run
+asked_nothing before after (m ∷ mine) events run = absurd (none_some m.event (events_of mine) (sym events))
+
+-- what was asked for one frame, by what it is bound to
+answers_by : (frame : Frame) (bound : Result RequestParts BindFault) (before after : EntityData) (given now : Option (List ℕ))
+    (mine : History) (readings : List ℕ) (outcomes : List Outcome) (replies : List ReplyParts) (carried : List Carrying)
+    → events_of mine ≡ map Ask (cons_option (result_ok bound) []) → Runs Step before mine after
+    → readings_of mine ≡ readings → outcomes_of mine ≡ outcomes
+    → Tells (λ list. list ++ readings) given now → GivesReplies (cons_option (result_ok bound) []) outcomes replies carried
+    → AnswersBound before after given now bound (echo_of frame) (reply_for frame (result_ok bound) replies)
+answers_by frame (Ok asked) before after given now mine readings outcomes replies carried events run reads came clock gives =
+    let one = asked_once asked before after given now mine readings outcomes replies carried events run reads came clock gives in
+    subst (λ (ps : List ReplyParts). AnswersOnce before after given now asked (reply_for frame (Some asked) ps)) (sym one.1) one.2
+answers_by frame (Err fault) before after given now mine readings outcomes replies carried events run reads came clock gives =
+    (refl, asked_nothing before after mine events run)
+
+-- ---- together
+
+pub peers_answer : AnAnswerIsThePeers
+peers_answer sent url before after given now answer sendable talks =
+    let frame : Frame = request_frame sent url Peer in
+    let bytes : List ℕ = request_text sent url Peer in
+    let served = talks.serves in
+    let here : closes 1 frame ≡ true = closes_here sent url 1 in
+    let whole = whole_end talks.ended talks.whole in
+    let alone : BeginsWithFrames Request bytes (frame ∷ []) [] =
+    ([], subst (λ (v : List ℕ). BeginsWithFrame Request v frame []) (append-nil bytes) ((request_back sent url Peer sendable).1 []), refl) in
+    let stream = served.stream in
+    let heard =
+    heard_one_way served.heard (frame ∷ []) 1 talks.ended Closed served.refused false bytes stream.0 [] stream.1 alone served.up_to refl
+    (settles 1 talks.ended served.refused served.heard stream.0 talks.new.left whole stream.2 stream.3) (lone_settles frame here) in
+    let asks = served.asks in
+    let mine = asks.asked.mine in
+    let requests : requests_in served.heard ≡ cons_option (result_ok (binding frame)) [] = ap requests_in heard.0 in
+    let told : List ℕ = reply_text (reply_for frame (request_in frame) asks.replies) true in
+    let said : answer ≡ told =
+    written_all talks.ended answer _ _ _ _ talks.new.out whole talks.answer_is served.said
+    ∙ (λ i. talk 1 (heard.0 i) (heard.1 i) asks.replies) ∙ lone_talk frame asks.replies here in
+    record {
+      reply = reply_for frame (request_in frame) asks.replies;
+      answers = answers_by frame (binding frame) before after given now mine asks.readings asks.outcomes asks.replies asks.carried
+          (asks.asked.events_are ∙ ap (map Ask) requests) (Grew-runs Step asks.asked.grew) asks.asked.readings_are asks.asked.outcomes_are
+          (subst (λ (r : Option (List ℕ)). Tells (λ list. list ++ asks.readings) given r) talks.clock asks.clock)
+          (subst (λ (rs : List RequestParts). GivesReplies rs asks.outcomes asks.replies asks.carried) requests asks.gives);
+      text = said;
+      gives = λ other kinds sound carried.
+          one_reply (Some answer) sent.rqi other _ carried
+          (subst (λ (v : List ℕ). Carried (Some v) sent.rqi (handed_on sent.rqi (reply_for frame (request_in frame) asks.replies))) (sym said)
+          (told_is_carried (reply_for frame (request_in frame) asks.replies) true sent.rqi kinds sound));
+    }
+
+-- the request that the bytes bind to is the one that was sent
+pub answered_there : TheRequestIsAnsweredThere
+answered_there sent url before after given now answer says talks =
+    let back = bound_back sent url says in
+    let peers = peers_answer sent url before after given now answer says.sendable talks in (
+      back.0,
+      back.1,
+      peers.reply,
+      subst (λ (b : Result RequestParts BindFault). AnswersBound before after given now b (echo_of (request_frame sent url Peer)) peers.reply) back.2 peers.answers,
+      peers.text,
+    )

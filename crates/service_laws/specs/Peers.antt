@@ -1,0 +1,80 @@
+-- What another CSE answers to a request that goes on to it (TS-0001, 10.2.2).
+use Rattle.std.specs.Prelude.{◌≡◌, ℕ, List, [], ◌∷◌, ◌++◌, true, Option, Some, Result, Ok, Err}
+use Rattle.m2m_io.specs.Link.{Carrying}
+use Rattle.m2m_io.specs.Told.{Tells}
+use Rattle.primitive_json.specs.declared.reply.ReplyParts.{ReplyParts}
+use Rattle.primitive_json.specs.declared.request.RequestParts.{RequestParts}
+use Rattle.http_frames.specs.declared.frame.Frame.{Frame}
+use Rattle.http_frames.specs.declared.frame.Side.TheVariants.{Reply as OfReply}
+use Rattle.http_frames.specs.Text.{IsSoundFrame}
+use Rattle.http_target.specs.declared.fault.BindFault.{BindFault}
+use Rattle.http_binding.specs.Binding.{binding, echo_of}
+use Rattle.http_binding.specs.Replying.{reply_frame, reply_text}
+use Rattle.http_client_binding.specs.Asking.{request_frame, request_text}
+use Rattle.http_client_binding.specs.Laws.{IsSendable, IsTold}
+use Rattle.http_client_binding.specs.declared.target.Aim.TheVariants.{Peer}
+use Rattle.retarget.specs.Answers.{Carried, handed_on}
+use Rattle.entity_model.specs.Entity.{EntityData}
+use Rattle.cse_machine.specs.declared.event.Event.TheVariants.{Ask}
+use Rattle.cse_machine.specs.declared.event.Outcome.{Outcome}
+use Rattle.cse_machine.specs.Step.{Step}
+use Rattle.cse_server.specs.Replies.{GivesReply}
+use Rattle.cse_server.specs.Talk.{malformed}
+use Rattle.peer_link.specs.PeerTalk.{PeerTalks}
+use Rattle.filter_criteria.specs.declared.filter.FilterParts.{FilterParts}
+use Rattle.binding_laws.specs.ReadBack.{AreAlike, SaysAll}
+
+-- The entity before was asked a request by one event, at a reading that its clock gave, and is then
+-- the one after; the outcome gave this reply.
+pub record AnswersOnce (before after : EntityData) (given now : Option (List ℕ))
+    (asked : RequestParts) (reply : ReplyParts) : Type 0 where
+  pub reading : ℕ
+  pub outcome : Outcome
+  pub carried : List Carrying
+  pub clock : Tells (λ readings. readings ++ reading ∷ []) given now
+  pub step : Step reading (Ask asked) before outcome after
+  pub gives : GivesReply asked outcome reply carried
+
+-- What an entity answers by what a frame is bound to: to a request, what the machine gives it; and
+-- to none a refusal with the identifier that the frame has, and the entity stays as it is.
+abbrev pub AnswersBound : EntityData → EntityData → Option (List ℕ) → Option (List ℕ)
+    → Result RequestParts BindFault → Option (List ℕ) → ReplyParts → Type 0
+AnswersBound before after given now (Ok asked) id reply =
+    AnswersOnce before after given now asked reply
+AnswersBound before after given now (Err fault) id reply =
+    (reply ≡ malformed id) × (after ≡ before)
+
+-- The answer is one reply, which the entity gives what the frame is bound to, and which closes the
+-- connection. Where the reply is of its kinds and its message within the limits, it is what the
+-- answer gives the caller, with the identifier of the caller's request.
+pub record IsPeersAnswer (before after : EntityData) (given now : Option (List ℕ))
+    (frame : Frame) (rqi answer : List ℕ) : Type 0 where
+  pub reply : ReplyParts
+  pub answers : AnswersBound before after given now (binding frame) (echo_of frame) reply
+  pub text : answer ≡ reply_text reply true
+  pub gives : (other : ReplyParts) → IsTold reply → IsSoundFrame OfReply (reply_frame reply true)
+      → Carried (Some answer) rqi other → other ≡ handed_on rqi reply
+
+-- Where the answer of a link is the talk of another CSE with the bytes that were sent for a
+-- request, it is what the machine of that CSE gives to what these bytes are bound to: where the
+-- parameters of the request are of their kinds, its target is one of the grammar, and its head and
+-- body are within the limits.
+abbrev pub AnAnswerIsThePeers : Type 0
+AnAnswerIsThePeers =
+    (sent : RequestParts) (url : List ℕ) (before after : EntityData)
+    (given now : Option (List ℕ)) (answer : List ℕ)
+    → IsSendable sent url Peer
+    → PeerTalks before after given now (request_text sent url Peer) answer
+    → IsPeersAnswer before after given now (request_frame sent url Peer) sent.rqi answer
+
+-- Where the frame of the request says all that it has, and nothing that is read otherwise, the
+-- answer is one reply, which the machine of the other CSE gives that very request; but for a filter
+-- without conditions, which is none.
+abbrev pub TheRequestIsAnsweredThere : Type 0
+TheRequestIsAnsweredThere =
+    (sent : RequestParts) (url : List ℕ) (before after : EntityData)
+    (given now : Option (List ℕ)) (answer : List ℕ)
+    → SaysAll sent url → PeerTalks before after given now (request_text sent url Peer) answer
+    → (read : Option FilterParts) × AreAlike sent.fc read × (reply : ReplyParts)
+    × AnswersOnce before after given now (record sent { fc = read }) reply
+    × (answer ≡ reply_text reply true)

@@ -1,0 +1,62 @@
+-- What holds on a resource holds on that of a number.
+use Rattle.std.proofs.Common.{◌≡◌, ℕ, List, true, Option, Some, None, option_map, refl, sym, ap, subst, ◌∙◌}
+use Rattle.std.specs.Option.{option_map_or}
+use Rattle.m2m_names.specs.declared.codes.Rsc.TheVariants.{NotFound}
+use Rattle.m2m_names.specs.declared.operations.Op.{Op}
+use Rattle.m2m_names.specs.declared.operations.Op.TheVariants.{Create, Update}
+use Rattle.primitive_json.specs.declared.request.RequestParts.{RequestParts}
+use Rattle.resource_model.specs.Resource.{ResourceData}
+use Rattle.tree_model.specs.Tree.{at}
+use Rattle.tree_model.proofs.TreeLemmas.{at_number}
+use Rattle.policy_laws.specs.Seen.{seen}
+use Rattle.policy_laws.proofs.SeenLemmas.{at-seen}
+use Rattle.entity_model.specs.Entity.{EntityData}
+use Rattle.entity_model.specs.Places.{Effect, on_found}
+use Rattle.request_rules.specs.Order.{fault_at, fault_on}
+use Rattle.create_delete.specs.Telling.{told_effect_at, told_effect_on}
+use Rattle.sight_laws.specs.Laws.{CreatesAreSeenAlike, UpdatesAreSeenAlike}
+use Rattle.sight_laws.specs.Sight.{sight}
+use Rattle.sight_laws.proofs.CreatedLemmas.{created-alike}
+use Rattle.sight_laws.proofs.UpdateAlikeLemmas.{updated-alike}
+use Rattle.sight_laws.proofs.SeenAlikeLemmas.{AreSeenAlike, FoundAlike, found_alike, found_both, not_found}
+
+pub refusal_seen : (op : Op) (e : EntityData) (o : List ℕ) (request : RequestParts) (n : ℕ) → ((r : ResourceData) → at r.number e.nodes ≡ Some r → fault_on op (sight o e) o request (seen e.home e.nodes o r) ≡ fault_on op e o request r) → fault_at op (sight o e) o request n ≡ fault_at op e o request n
+refusal_seen op e o request n same = ap (λ (p : Option ResourceData). option_map_or (fault_on op (sight o e) o request) p (Some NotFound)) (at-seen e.home e.nodes o n) ∙ by (at n e.nodes) refl
+  where
+    by : (p : Option ResourceData) → at n e.nodes ≡ p → option_map_or (fault_on op (sight o e) o request) (option_map (seen e.home e.nodes o) p) (Some NotFound) ≡ option_map_or (fault_on op e o request) p (Some NotFound)
+    by None none = refl
+    by (Some r) found = same r (ap (λ (m : ℕ). at m e.nodes) (at_number n e.nodes r found) ∙ found)
+
+-- what comes of the operation on the resource of a number
+module _ (op : Op) (o : List ℕ) (x y : EntityData) (request : RequestParts) (n : ℕ) (same : sight o x ≡ sight o y) (on : (p q : ResourceData) → at p.number x.nodes ≡ Some p → at q.number y.nodes ≡ Some q → q.number ≡ p.number → AreSeenAlike o (told_effect_on op x o request p) (told_effect_on op y o request q)) where
+  abbrev at_x : Option ResourceData → Effect
+  at_x p = on_found x request (told_effect_on op x o request) p
+
+  abbrev at_y : Option ResourceData → Effect
+  at_y q = on_found y request (told_effect_on op y o request) q
+
+  found_so : (p q : Option ResourceData) → at n x.nodes ≡ p → at n y.nodes ≡ q → AreSeenAlike o (at_x p) (at_y q) → AreSeenAlike o (told_effect_at op x o request n) (told_effect_at op y o request n)
+  found_so p q first second alike =
+      subst (λ (r : Option ResourceData). AreSeenAlike o (at_x r) (told_effect_at op y o request n)) (sym first)
+      (subst (λ (r : Option ResourceData). AreSeenAlike o (at_x p) (at_y r)) (sym second) alike)
+
+  by : FoundAlike o x y same n → AreSeenAlike o (told_effect_at op x o request n) (told_effect_at op y o request n)
+  by (not_found none lacks) = found_so None None none lacks (record { reply = refl; after = same })
+  by (found_both p q inx iny) =
+      let np = at_number n x.nodes p inx in
+      let nq = at_number n y.nodes q iny in
+      found_so (Some p) (Some q) inx iny
+      (on p q (ap (λ (m : ℕ). at m x.nodes) np ∙ inx) (ap (λ (m : ℕ). at m y.nodes) nq ∙ iny) (nq ∙ sym np))
+
+  pub at_alike : AreSeenAlike o (told_effect_at op x o request n) (told_effect_at op y o request n)
+  at_alike = by (found_alike o x y same n)
+
+pub create_at_alike : CreatesAreSeenAlike
+create_at_alike x y o request n soundx soundy same originator names =
+    let alike = at_alike Create o x y request n same (λ p q inx iny number. created-alike o x y soundx soundy same request p q inx iny number originator names) in
+    (alike.reply, alike.after)
+
+pub update_at_alike : UpdatesAreSeenAlike
+update_at_alike x y o request n soundx soundy same names calm =
+    let alike = at_alike Update o x y request n same (λ p q inx iny number. updated-alike o x y soundx soundy same request p q inx iny number names calm) in
+    (alike.reply, alike.after)

@@ -1,0 +1,16 @@
+pub mod ToldLemmas
+pub mod SeenAlikeLemmas
+pub mod CseOrderLemmas
+pub mod NamedLemmas
+pub mod PlacesLemmas
+pub mod EvictionLemmas
+pub mod CreationLemmas
+pub mod JoinedLemmas
+pub mod CreatedLemmas
+pub mod ChangeRowsLemmas
+pub mod EditLemmas
+pub mod UpdateSeenLemmas
+pub mod UpdateAlikeLemmas
+pub mod LawLemmas
+pub mod CreatedOrderLemmas
+pub mod UpdatedOrderLemmas

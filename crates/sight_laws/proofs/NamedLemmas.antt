@@ -1,0 +1,163 @@
+-- What a text names, and what a content names by it, is the same on what an originator sees.
+use Rattle.std.specs.Prelude.{◌==◌}
+use Rattle.std.proofs.Common.{◌≡◌, ℕ, List, [], ◌∷◌, map, filter, length, Bool, false, cond, not, ◌&&◌, ◌||◌, Option, Some, None, is_some, option_map, Result, Ok, Err, inl, inr, refl, ap, ap₂, ◌∙◌}
+use Rattle.std.specs.List.{cons_option, filter_map, list_all}
+use Rattle.std.specs.Option.{option_and_then, option_map_or}
+use Rattle.std.proofs.lemmas.Bool.{cases_Bool}
+use Rattle.m2m_names.specs.declared.attributes.Attr.{Attr}
+use Rattle.m2m_names.specs.declared.attributes.Attr.TheVariants.{Acpi, Macp}
+use Rattle.m2m_names.specs.declared.codes.Rsc.TheVariants.{TooManyMembers, WrongMember}
+use Rattle.m2m_names.specs.declared.types.Ty.{Ty}
+use Rattle.m2m_names.specs.declared.types.Ty.TheVariants.{AccessControlPolicy}
+use Rattle.m2m_value.specs.Data.{Data, Entry, text, list, elements_of}
+use Rattle.m2m_value.specs.View.{as_text}
+use Rattle.resource_model.specs.Resource.{ResourceData, id_of, is_ty}
+use Rattle.tree_model.specs.Tree.{at, of_type, typed_at}
+use Rattle.tree_model.proofs.TreeLemmas.{list_any-same, list_all-same}
+use Rattle.addressing.specs.Addresses.{address_of}
+use Rattle.addressing.specs.Laws.{named_here, spot_named}
+use Rattle.addressing.specs.Names.{spot_resource}
+use Rattle.addressing.specs.declared.addr.Addr.{Addr}
+use Rattle.addressing.specs.declared.addr.Addr.TheVariants.{Local, Foreign, OtherProvider}
+use Rattle.addressing.specs.declared.addr.AddrFault.{AddrFault}
+use Rattle.addressing.specs.declared.spot.Spot.{Spot}
+use Rattle.policy_eval.specs.Rules.{policy_at}
+use Rattle.policy_laws.specs.Seen.{seen, seen_list}
+use Rattle.policy_laws.proofs.SeenLemmas.{at-seen}
+use Rattle.retrieve_laws.proofs.SpotLemmas.{spot_of-seen}
+use Rattle.entity_model.specs.Entity.{EntityData}
+use Rattle.entity_model.specs.Places.{first_fault, unless}
+use Rattle.request_rules.specs.Groups.{MembershipData, abandon_group, abandon_member, any_type, are_few, are_validated, differs_from, distinct_texts, group_rows, has_other_type, is_consistent, is_left_out, is_of_other_type, member_named, member_rows, members_kept, set_mixed, type_kept}
+use Rattle.request_rules.specs.Order.{member_places}
+use Rattle.request_rules.specs.Policies.{link_row, links_live, listed, policy_addressed, policy_ids, policy_meant, policy_on}
+use Rattle.sight_laws.specs.Sight.{sight}
+
+filter_same : {X : Type 0} (p q : X → Bool) → ((x : X) → p x ≡ q x) → (xs : List X) → filter p xs ≡ filter q xs
+filter_same p q same [] = refl
+filter_same p q same (x ∷ xs) = elim (cases_Bool (q x)) [
+  | inl t ↦ rw (same x ∙ t, t) (ap (λ ys. x ∷ ys) (filter_same p q same xs))
+  | inr f ↦ rw (same x ∙ f, f) (filter_same p q same xs)
+]
+
+module _ (e : EntityData) (o : List ℕ) where
+  abbrev seeing : EntityData
+  seeing = sight o e
+
+  abbrev see : ResourceData → ResourceData
+  see = seen e.home e.nodes o
+
+  -- ---- an address
+
+  pub spot-seen : (address : List ℕ) → spot_named e.home address (seen_list e.home e.nodes o) ≡ spot_named e.home address e.nodes
+  spot-seen address = by (address_of e.home address)
+    where
+      by : (a : Result Addr AddrFault) → named_here a (seen_list e.home e.nodes o) ≡ named_here a e.nodes
+      by (Ok (Local segments)) = spot_of-seen e.home e.nodes o segments
+      by (Ok (Foreign address)) = refl
+      by (Ok OtherProvider) = refl
+      by (Err fault) = refl
+
+  -- ---- a policy
+
+  still_some : (p : Option ResourceData) → is_some (option_map see p) ≡ is_some p
+  still_some None = refl
+  still_some (Some r) = refl
+
+  pub typed-seen : (ty : Ty) (n : ℕ) → typed_at ty n (seen_list e.home e.nodes o) ≡ option_map (seen e.home e.nodes o) (typed_at ty n e.nodes)
+  typed-seen ty n = ap (option_and_then (of_type ty)) (at-seen e.home e.nodes o n) ∙ by (at n e.nodes)
+    where
+      by : (p : Option ResourceData) → option_and_then (of_type ty) (option_map see p) ≡ option_map see (option_and_then (of_type ty) p)
+      by None = refl
+      by (Some r) = elim (cases_Bool (is_ty r.ty ty)) [
+        | inl t ↦ rw t refl
+        | inr f ↦ rw f refl
+      ]
+
+  on_spot : (spot : Option Spot) → option_and_then (policy_on (seen_list e.home e.nodes o)) spot ≡ option_map see (option_and_then (policy_on e.nodes) spot)
+  on_spot None = refl
+  on_spot (Some spot) = by (spot_resource spot)
+    where
+      by : (n : Option ℕ) → option_and_then (policy_at (seen_list e.home e.nodes o)) n ≡ option_map see (option_and_then (policy_at e.nodes) n)
+      by None = refl
+      by (Some n) = typed-seen AccessControlPolicy n
+
+  pub policy-seen : (d : Data) → policy_meant (sight o e) d ≡ option_map (seen e.home e.nodes o) (policy_meant e d)
+  policy-seen d = by (as_text d)
+    where
+      by : (t : Option (List ℕ)) → option_and_then (policy_addressed seeing) t ≡ option_map see (option_and_then (policy_addressed e) t)
+      by None = refl
+      by (Some t) =
+          ap (option_and_then (policy_on (seen_list e.home e.nodes o))) (spot-seen t)
+          ∙ on_spot (spot_named e.home t e.nodes)
+
+  all_live : (ds : List Data) → list_all (λ (d : Data). is_some (policy_meant seeing d)) ds ≡ list_all (λ (d : Data). is_some (policy_meant e d)) ds
+  all_live ds =
+      list_all-same (λ (d : Data). is_some (policy_meant seeing d)) (λ (d : Data). is_some (policy_meant e d))
+      (λ d. ap is_some (policy-seen d) ∙ still_some (policy_meant e d)) ds
+
+  pub links-seen : (es : List Entry) → links_live (sight o e) es ≡ links_live e es
+  links-seen es = ap₂ (λ a b. a && b) (all_live (listed Acpi es)) (all_live (listed Macp es))
+
+  ids_seen : (ds : List Data) → policy_ids seeing ds ≡ policy_ids e ds
+  ids_seen [] = refl
+  ids_seen (d ∷ ds) =
+      ap (λ (p : Option ResourceData). map (λ (r : ResourceData). text (id_of r)) (cons_option p (filter_map (policy_meant seeing) ds))) (policy-seen d)
+      ∙ by (policy_meant e d) (ids_seen ds)
+    where
+      by : (p : Option ResourceData) → policy_ids seeing ds ≡ policy_ids e ds → map (λ (r : ResourceData). text (id_of r)) (cons_option (option_map see p) (filter_map (policy_meant seeing) ds)) ≡ map (λ (r : ResourceData). text (id_of r)) (cons_option p (filter_map (policy_meant e) ds))
+      by None rest = rest
+      by (Some r) rest = ap (λ (xs : List Data). text (id_of r) ∷ xs) rest
+
+  pub link_row-seen : (es : List Entry) (attr : Attr) → link_row (sight o e) es attr ≡ link_row e es attr
+  link_row-seen es attr = ap (λ (ids : List Data). cond (length (listed attr es) == 0) [] ((attr, list (elements_of ids)) ∷ [])) (ids_seen (listed attr es))
+
+  -- ---- a member of a group
+
+  pub member-seen : (address : List ℕ) → member_named (sight o e) address ≡ option_map (seen e.home e.nodes o) (member_named e address)
+  member-seen address =
+      ap (λ (s : Option Spot). option_and_then (λ (n : ℕ). at n (seen_list e.home e.nodes o)) (option_and_then spot_resource s)) (spot-seen address)
+      ∙ by (option_and_then spot_resource (spot_named e.home address e.nodes))
+    where
+      by : (n : Option ℕ) → option_and_then (λ (m : ℕ). at m (seen_list e.home e.nodes o)) n ≡ option_map see (option_and_then (λ (m : ℕ). at m e.nodes) n)
+      by None = refl
+      by (Some n) = at-seen e.home e.nodes o n
+
+  other_seen : (of_type : ℕ) (address : List ℕ) → is_of_other_type seeing of_type address ≡ is_of_other_type e of_type address
+  other_seen of_type address =
+      ap (λ (p : Option ResourceData). not (of_type == any_type) && option_map_or (differs_from of_type) p false) (member-seen address)
+      ∙ by (member_named e address)
+    where
+      by : (p : Option ResourceData) → (not (of_type == any_type) && option_map_or (differs_from of_type) (option_map see p) false) ≡ (not (of_type == any_type) && option_map_or (differs_from of_type) p false)
+      by None = refl
+      by (Some r) = refl
+
+  some_other_seen : (m : MembershipData) → has_other_type seeing m ≡ has_other_type e m
+  some_other_seen m = list_any-same (is_of_other_type seeing m.of_type) (is_of_other_type e m.of_type) (other_seen m.of_type) (distinct_texts m.values)
+
+  consistent_seen : (m : MembershipData) → is_consistent seeing m ≡ is_consistent e m
+  consistent_seen m = ap (λ (b : Bool). not (m.strategy == abandon_group) || not b) (some_other_seen m)
+
+  pub member_places-seen : (m : Option MembershipData) → first_fault (member_places (sight o e) m) ≡ first_fault (member_places e m)
+  member_places-seen None = refl
+  member_places-seen (Some m) = ap (λ (b : Bool). first_fault (unless (are_few m) TooManyMembers ∷ unless b WrongMember ∷ [])) (consistent_seen m)
+
+  kept_seen : (m : MembershipData) → members_kept seeing m ≡ members_kept e m
+  kept_seen m =
+      filter_same (λ (address : List ℕ). not (is_left_out seeing m address)) (λ (address : List ℕ). not (is_left_out e m address))
+      (λ address. ap (λ (b : Bool). not ((m.strategy == abandon_member) && b)) (other_seen m.of_type address)) (distinct_texts m.values)
+
+  type_seen : (m : MembershipData) → type_kept seeing m ≡ type_kept e m
+  type_seen m = ap (λ (b : Bool). cond ((m.strategy == set_mixed) && b) any_type m.of_type) (some_other_seen m)
+
+  validated_seen : (m : MembershipData) → are_validated seeing m ≡ are_validated e m
+  validated_seen m =
+      ap (list_all (λ (address : List ℕ). is_some (member_named seeing address))) (kept_seen m)
+      ∙ list_all-same (λ (address : List ℕ). is_some (member_named seeing address)) (λ (address : List ℕ). is_some (member_named e address))
+      (λ address. ap is_some (member-seen address) ∙ still_some (member_named e address)) (members_kept e m)
+
+  member_rows_seen : (m : MembershipData) → member_rows seeing m ≡ member_rows e m
+  member_rows_seen m = rw (validated_seen m, kept_seen m, type_seen m) refl
+
+  pub group_rows-seen : (m : Option MembershipData) → group_rows (sight o e) m ≡ group_rows e m
+  group_rows-seen None = refl
+  group_rows-seen (Some m) = member_rows_seen m
