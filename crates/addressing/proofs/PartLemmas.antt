@@ -62,6 +62,13 @@ dropped_all [] (suc n) le = refl
 dropped_all (x ∷ xs) zero le = absurd (omega (arith, le))
 dropped_all (x ∷ xs) (suc n) le = dropped_all xs n (omega (arith, le))
 
+-- what is left of parts, seen by their bytes
+pub mapped_rest : (parts : List (Bor (List ℕ))) (place : ℕ) → map (λ p. p.now) (drop place parts) ≡ drop place (map (λ p. p.now) parts)
+mapped_rest [] zero = refl
+mapped_rest [] (suc place) = refl
+mapped_rest (p ∷ parts) zero = refl
+mapped_rest (p ∷ parts) (suc place) = mapped_rest parts place
+
 -- where no part is left, all are written
 pub written : (text : List ℕ) (place : ℕ) (parts : List (Bor (List ℕ))) → length parts ≤ place → text ++ parts_from (map (λ t. t.now) (drop place parts)) place ≡ parts_from (map (λ t. t.now) parts) 0 → text ≡ joined (map (λ t. t.now) parts)
 written text place parts past all =

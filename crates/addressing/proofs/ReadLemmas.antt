@@ -1,7 +1,8 @@
 -- The steps by which a text is read.
-use Rattle.std.proofs.Common.{◌≡◌, ℕ, true, false, List, [], ◌∷◌, ◌++◌, Option, Some, None, Result, Err, inl, inr, refl, sym, ap, subst, ◌∙◌, append_assoc, append-nil}
+use Rattle.std.proofs.Common.{◌≡◌, ℕ, true, false, List, [], ◌∷◌, ◌++◌, map, Bor, Option, Some, None, Result, Err, inl, inr, refl, sym, ap, subst, ◌∙◌, append_assoc, append-nil}
 use Rattle.std.specs.Option.{option_and_then}
 use Rattle.std.proofs.lemmas.Bool.{and_from, cases_Bool, false_from_ne_true, both_ways}
+use Rattle.std.proofs.lemmas.List.{map-append}
 use Rattle.std.proofs.lemmas.List.Folds.{list_all-append}
 use Rattle.m2m_names.specs.Name.{is_name}
 use Rattle.resource_model.specs.Home.{HomeData}
@@ -48,12 +49,17 @@ names_may_take text = elim (cases_Bool (are_names (between_slashes text))) [
   | inr f ↦ rw f tt
 ]
 
-pub names_push : (names : List (List ℕ)) (name : List ℕ) → are_names names ≡ true → is_name name ≡ true → are_names (names ++ name ∷ []) ≡ true
-names_push names name are is = list_all-append is_name names (name ∷ []) ∙ and_from _ _ are (and_from _ _ is refl)
+pub names_push : (names : List (Bor (List ℕ))) (name : Bor (List ℕ)) → are_names (map (λ t. t.now) names) ≡ true → is_name name.now ≡ true → are_names (map (λ t. t.now) (names ++ name ∷ [])) ≡ true
+names_push names name are is =
+    ap are_names (map-append (λ (t : Bor (List ℕ)). t.now) names (name ∷ []))
+    ∙ list_all-append is_name (map (λ (t : Bor (List ℕ)). t.now) names) (name.now ∷ [])
+    ∙ and_from _ _ are (and_from _ _ is refl)
 
-pub parts_push : (names parts rest all : List (List ℕ)) (name : List ℕ) → names ++ parts ≡ all → parts ≡ name ∷ rest → (names ++ name ∷ []) ++ rest ≡ all
+pub parts_push : (names : List (Bor (List ℕ))) (parts rest all : List (List ℕ)) (name : Bor (List ℕ)) → map (λ t. t.now) names ++ parts ≡ all → parts ≡ name.now ∷ rest → map (λ t. t.now) (names ++ name ∷ []) ++ rest ≡ all
 parts_push names parts rest all name before is =
-    append_assoc names (name ∷ []) rest ∙ ap (λ ps. names ++ ps) (sym is) ∙ before
+    ap (λ ns. ns ++ rest) (map-append (λ (t : Bor (List ℕ)). t.now) names (name ∷ []))
+    ∙ append_assoc (map (λ (t : Bor (List ℕ)). t.now) names) (name.now ∷ []) rest
+    ∙ ap (λ ps. map (λ (t : Bor (List ℕ)). t.now) names ++ ps) (sym is) ∙ before
 
 pub names_fail : (names parts rest all : List (List ℕ)) (name : List ℕ) → names ++ parts ≡ all → parts ≡ name ∷ rest → is_name name ≡ false → are_names all ≡ false
 names_fail names parts rest all name before is none = false_from_ne_true _ (λ are.

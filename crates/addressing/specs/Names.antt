@@ -1,5 +1,5 @@
 -- What an address names (TS-0001, 9.3.1 and 9.6), on the list of resources.
-use Rattle.std.specs.Prelude.{ℕ, ◌+◌, Bool, true, false, ◌&&◌, List, [], ◌∷◌, length, bytes_eq}
+use Rattle.std.specs.Prelude.{ℕ, ◌+◌, Bool, true, false, ◌&&◌, List, [], ◌∷◌, bytes_eq}
 use Rattle.std.specs.Prelude.{if◌then◌else◌, map, reverse, Option, Some, None, option_and_then}
 use Rattle.std.specs.Prelude.{is_some, option_map}
 use Rattle.std.specs.Option.{option_or}

@@ -3,15 +3,16 @@ ghost use Rattle.std.specs.Prelude.{◌≡◌, ◌∷◌, ◌++◌, IfOk, OnOk, 
 ghost use Rattle.addressing.specs.declared.addr.Addr.TheVariants.{Local};
 ghost use Rattle.addressing.specs.Addresses.{KeepsText, joined, printed, slash_at};
 
-use m2m_value::{Labels, Text};
+use crate::segments::Segments;
+use m2m_value::Text;
 use std::alloc::{AllocError, AllocFailed, Global};
 use tree_model::Home;
 
-/// An address (TS-0001, 7.2).
+/// An address (TS-0001, 7.2), whose segments stand in the text that it was read from.
 #[derive(Debug, Drop)]
-pub enum Addr {
+pub enum Addr<'a> {
     /// The segments of an address of this CSE; none is the CSEBase.
-    Local(Labels),
+    Local(Segments<'a>),
     /// The SP-relative text of an address of another CSE of own provider.
     Foreign(Text),
     /// Of another provider; nothing is kept.
@@ -63,13 +64,14 @@ pub fn print(alloc: Global, addr: &Addr, home: &Home) -> Result<Text, AllocError
     }
 }
 
-fn of_segments(alloc: Global, segments: &[Text], home: &Home) -> Result<Text, AllocError>
-    ensures { IfOk result (λ text. text ≡ printed home.now (Local segments.now)) }
+fn of_segments(alloc: Global, segments: &[&[u8]], home: &Home) -> Result<Text, AllocError>
+    ensures { IfOk result (λ text. text
+        ≡ printed home.now (Local (map (λ s. s.now) segments.now))) }
 {
     if segments.is_empty() {
         slashed(alloc, home.csi().entries())
     } else {
-        with_slashes(alloc, &borrowed(alloc, segments)?)
+        with_slashes(alloc, segments)
     }
 }
 
@@ -83,19 +85,13 @@ pub(crate) fn slashed(alloc: Global, bytes: &[u8]) -> Result<Text, AllocError>
     Ok(Text::of(text))
 }
 
-fn borrowed(alloc: Global, texts: &[Text]) -> Result<Vec<&Text>, AllocError>
-    ensures { IfOk result (λ all. map (λ t. t.now) all.items ≡ texts.now) }
-{
-    texts.iter().collect(alloc)
-}
-
 /// Texts with a slash between them.
-pub(crate) fn with_slashes(alloc: Global, parts: &[&Text]) -> Result<Text, AllocError>
+pub(crate) fn with_slashes(alloc: Global, parts: &[&[u8]]) -> Result<Text, AllocError>
     ensures { IfOk result (λ text. text ≡ joined (map (λ t. t.now) parts.now)) }
 {
     let mut text = Vec::new(alloc);
     for (place, part) in parts.iter().enumerate() {
-        add_part(&mut text, place, part.entries())?;
+        add_part(&mut text, place, part)?;
     }
     Ok(Text::of(text))
 }

@@ -22,7 +22,7 @@ pub fn structured<T: Tree>(alloc: Global, tree: &T, number: u64) -> Result<Text,
 
 /// The names of a resource, of its parent, and so on up to the CSEBase.
 #[tactic(auto, using(crate::proofs::NameLemmas::names_upwards))]
-fn names_up<T: Tree>(alloc: Global, tree: &T, number: u64) -> Result<Vec<&Text>, AllocError>
+fn names_up<T: Tree>(alloc: Global, tree: &T, number: u64) -> Result<Vec<&[u8]>, AllocError>
     ensures { IfOk result (λ names. map (λ t. t.now) names.items
         ≡ map (λ r. r.name) (line_of number (T.nodes tree.now))) }
 {
@@ -32,7 +32,7 @@ fn names_up<T: Tree>(alloc: Global, tree: &T, number: u64) -> Result<Vec<&Text>,
     }
     let mut at = number;
     while let Some(resource) = tree.get(at) {
-        names.push(resource.name())?;
+        names.push(resource.name().entries())?;
         at = resource.parent();
     }
     Ok(names)

@@ -8,15 +8,15 @@ ghost use Rattle.addressing.specs.Addresses.{GivesAddress, address_of, are_names
 ghost use Rattle.addressing.specs.Addresses.{between_slashes, unless_shapeless};
 
 use crate::addr::{Addr, AddrFault, slashed};
+use crate::segments::Segments;
 use m2m_names::{POINT_LIMIT, is_name};
-use m2m_value::{Labels, Text};
 use std::alloc::Global;
 use tree_model::Home;
 
 /// Reads a text as an address. It is too long where it has over 512 bytes, and else shapeless where
 /// it has none of the three forms. To tell that it is too long, or of another provider, takes no
 /// memory.
-pub fn parse(alloc: Global, text: &[u8], home: &Home) -> Result<Addr, AddrFault>
+pub fn parse<'a>(alloc: Global, text: &'a [u8], home: &Home) -> Result<Addr<'a>, AddrFault>
     ensures { GivesAddress result (address_of home.now text.now) }
 {
     if text.len() > POINT_LIMIT {
@@ -25,7 +25,7 @@ pub fn parse(alloc: Global, text: &[u8], home: &Home) -> Result<Addr, AddrFault>
     shaped(alloc, text, home)
 }
 
-fn shaped(alloc: Global, text: &[u8], home: &Home) -> Result<Addr, AddrFault>
+fn shaped<'a>(alloc: Global, text: &'a [u8], home: &Home) -> Result<Addr<'a>, AddrFault>
     ensures { GivesAddress result (unless_shapeless (spec.shaped home.now text.now)) }
 {
     if text.starts_with(b"//") {
@@ -66,7 +66,7 @@ fn is_slash(byte: u8) -> bool
 
 /// A provider, and behind it the slash of an SP-relative address.
 #[tactic(auto, using(crate::proofs::ReadLemmas::by_provider_cases))]
-fn by_provider(alloc: Global, rest: &[u8], home: &Home) -> Result<Addr, AddrFault>
+fn by_provider<'a>(alloc: Global, rest: &'a [u8], home: &Home) -> Result<Addr<'a>, AddrFault>
     ensures { GivesAddress result (unless_shapeless (spec.by_provider home.now rest.now)) }
 {
     match cut_at(rest) {
@@ -75,7 +75,12 @@ fn by_provider(alloc: Global, rest: &[u8], home: &Home) -> Result<Addr, AddrFaul
     }
 }
 
-fn of_provider(alloc: Global, sp: &[u8], behind: &[u8], home: &Home) -> Result<Addr, AddrFault>
+fn of_provider<'a>(
+    alloc: Global,
+    sp: &[u8],
+    behind: &'a [u8],
+    home: &Home,
+) -> Result<Addr<'a>, AddrFault>
     ensures { GivesAddress result
         (unless_shapeless (spec.of_provider home.now sp.now behind.now)) }
 {
@@ -94,7 +99,7 @@ fn of_provider(alloc: Global, sp: &[u8], behind: &[u8], home: &Home) -> Result<A
 
 /// A CSE-ID without its slash, and behind it nothing, or a slash and names.
 #[tactic(auto, using(crate::proofs::ReadLemmas::by_cse_cases))]
-fn by_cse(alloc: Global, rest: &[u8], home: &Home) -> Result<Addr, AddrFault>
+fn by_cse<'a>(alloc: Global, rest: &'a [u8], home: &Home) -> Result<Addr<'a>, AddrFault>
     ensures { GivesAddress result (unless_shapeless (spec.by_cse home.now rest.now)) }
 {
     match cut_at(rest) {
@@ -103,13 +108,13 @@ fn by_cse(alloc: Global, rest: &[u8], home: &Home) -> Result<Addr, AddrFault>
     }
 }
 
-fn under(
+fn under<'a>(
     alloc: Global,
     rest: &[u8],
     csi: &[u8],
-    behind: &[u8],
+    behind: &'a [u8],
     home: &Home,
-) -> Result<Addr, AddrFault>
+) -> Result<Addr<'a>, AddrFault>
     ensures { GivesAddress result
         (unless_shapeless (spec.under home.now rest.now (csi.now ∷ between_slashes behind.now))) }
 {
@@ -126,7 +131,7 @@ fn under(
     }
 }
 
-fn alone(alloc: Global, csi: &[u8], home: &Home) -> Result<Addr, AddrFault>
+fn alone<'a>(alloc: Global, csi: &'a [u8], home: &Home) -> Result<Addr<'a>, AddrFault>
     ensures { GivesAddress result
         (unless_shapeless (spec.under home.now csi.now (csi.now ∷ []))) }
 {
@@ -134,7 +139,7 @@ fn alone(alloc: Global, csi: &[u8], home: &Home) -> Result<Addr, AddrFault>
         return Err(AddrFault::Shape);
     }
     if csi == home.csi().entries() {
-        Ok(Addr::Local(Labels::of(Vec::new(alloc))))
+        Ok(Addr::Local(Segments::of(Vec::new(alloc))))
     } else {
         Ok(Addr::Foreign(slashed(alloc, csi)?))
     }
@@ -149,14 +154,14 @@ fn are_names(text: &[u8]) -> bool
 
 /// Names with a slash between them.
 #[tactic(auto, using(crate::proofs::ReadLemmas::names_may_take))]
-fn by_names(alloc: Global, text: &[u8]) -> Result<Addr, AddrFault>
+fn by_names(alloc: Global, text: &[u8]) -> Result<Addr<'_>, AddrFault>
     ensures { GivesAddress result (unless_shapeless (spec.by_names text.now)) }
 {
     Ok(Addr::Local(names_in(alloc, text)?))
 }
 
 #[tactic(auto, using(crate::proofs::ReadLemmas::names_so_far))]
-fn names_in(alloc: Global, text: &[u8]) -> Result<Labels, AddrFault>
+fn names_in(alloc: Global, text: &[u8]) -> Result<Segments<'_>, AddrFault>
     ensures ok { IfOk result (λ names.
         (names ≡ between_slashes text.now) × IsTrue (are_names (between_slashes text.now))) }
     ensures err { IfErr result (λ fault. (fault ≡ OutOfMemory)
@@ -169,10 +174,10 @@ fn names_in(alloc: Global, text: &[u8]) -> Result<Labels, AddrFault>
         if !is_name(name) {
             return Err(AddrFault::Shape);
         }
-        names.push(Text::from_slice(alloc, name)?)?;
+        names.push(name)?;
         left = behind;
     }
-    Ok(Labels::of(names))
+    Ok(Segments::of(names))
 }
 
 /// What stands before the first slash, and behind it, where there is one.

@@ -1,5 +1,5 @@
 //! What an address names in a tree.
-ghost use Rattle.std.specs.Prelude.{◌≡◌, ◌+◌, ◌*◌, ◌<◌, ◌≤◌, length, Ok};
+ghost use Rattle.std.specs.Prelude.{◌≡◌, ◌+◌, ◌*◌, ◌<◌, ◌≤◌, length, map, Ok};
 ghost use Rattle.addressing.specs.Laws.{named_here};
 ghost use Rattle.addressing.specs.Names as spec;
 ghost use Rattle.addressing.specs.Names.{IsLocal, segments_of};
@@ -7,12 +7,12 @@ ghost use Rattle.addressing.specs.Names.{IsLocal, segments_of};
 use crate::addr::Addr;
 use crate::spot::Spot;
 use m2m_names::Ty;
-use m2m_value::Text;
 use std::marker::Brand;
 use std::sync::ledger::{Blank, Ledger};
 use tree_model::{Steps, Tree, resource_of_id, typed_at};
 
 /// What a local address names. It asks for one child for each segment at most, and else looks up.
+#[tactic(auto, using(crate::proofs::CostLemmas::cost_of_parts))]
 pub fn resolve<T: Tree, L: Ledger>(tree: &T, addr: &Addr, steps: &mut Steps<L>) -> Option<Spot>
     requires { IsLocal addr.now }
     ensures value { result ≡ spec.spot_of (segments_of addr.now) (T.nodes tree.now) }
@@ -47,15 +47,15 @@ fn resolved<T: Tree, L: Ledger>(tree: &T, addr: &Addr, blank: Blank) -> Option<S
 }
 
 #[tactic(auto, using(crate::proofs::CostLemmas::costs_of_looking))]
-fn spot_of<T: Tree, L: Ledger>(tree: &T, segments: &[Text], steps: &mut Steps<L>) -> Option<Spot>
-    ensures value { result ≡ spec.spot_of segments.now (T.nodes tree.now) }
+fn spot_of<T: Tree, L: Ledger>(tree: &T, segments: &[&[u8]], steps: &mut Steps<L>) -> Option<Spot>
+    ensures value { result ≡ spec.spot_of (map (λ s. s.now) segments.now) (T.nodes tree.now) }
     ensures counted { steps.old ≤ steps.new }
     ensures cost { steps.new ≤ steps.old + T.child_steps * length segments.now }
 {
     match segments {
         [] => Some(Spot::Resource(tree.kid(0, 0)?)),
         [segment, names @ ..] => {
-            let number = first_named(tree, segment.entries(), steps)?;
+            let number = first_named(tree, segment, steps)?;
             spot_behind(tree, number, names, steps)
         }
     }
@@ -107,16 +107,16 @@ fn is_at<T: Tree>(tree: &T, ty: Ty, number: u64) -> bool
 fn spot_behind<T: Tree, L: Ledger>(
     tree: &T,
     number: u64,
-    names: &[Text],
+    names: &[&[u8]],
     steps: &mut Steps<L>,
 ) -> Option<Spot>
-    ensures value { result ≡ spec.spot_from 1 number names.now (T.nodes tree.now) }
+    ensures value { result
+        ≡ spec.spot_from 1 number (map (λ n. n.now) names.now) (T.nodes tree.now) }
     ensures counted { steps.old ≤ steps.new }
     ensures cost { steps.new ≤ steps.old + T.child_steps * length names.now }
 {
     let mut at = number;
     for (place, name) in names.iter().enumerate() {
-        let name = name.entries();
         if is_fan(tree, at, name) {
             return Some(Spot::Fan {
                 group: at,
@@ -143,8 +143,8 @@ fn is_poll<T: Tree>(tree: &T, number: u64, name: &[u8]) -> bool
     name == b"pcu".as_slice() && is_at(tree, Ty::PollingChannel, number)
 }
 
-fn poll_point(number: u64, behind: &[Text]) -> Option<Spot>
-    ensures { result ≡ spec.poll_point number behind.now }
+fn poll_point(number: u64, behind: &[&[u8]]) -> Option<Spot>
+    ensures { result ≡ spec.poll_point number (map (λ n. n.now) behind.now) }
 {
     match behind {
         [] => Some(Spot::Poll(number)),

@@ -1,5 +1,5 @@
 -- What follows for admitted contents: what an update may do, the name that a creation gives, and that what is named is kept.
-use Rattle.std.proofs.Common.{◌≡◌, List, [], ◌∷◌, Bool, true, false, ◌&&◌, ◌||◌, Option, Some, None, is_some, IfSome, Result, Ok, Err, IfOk, option_and_then, unwrap_or, if◌then◌else◌, bytes_eq, inl, inr, refl, sym, ap, ◌∙◌, subst}
+use Rattle.std.proofs.Common.{◌≡◌, ℕ, List, [], ◌∷◌, Bool, true, false, ◌&&◌, ◌||◌, Option, Some, None, is_some, IfSome, Result, Ok, Err, IfOk, option_and_then, unwrap_or, if◌then◌else◌, bytes_eq, inl, inr, refl, sym, ap, ◌∙◌, subst}
 use Rattle.std.proofs.lemmas.Bool.{and_from, and_parts, both_ways, cases_Bool, false_from_ne_true, not-true, or_cases, or_from, or_parts}
 use Rattle.std.proofs.lemmas.Option.{same_Some}
 use Rattle.std.specs.List.{filter_map, list_all, list_any}
@@ -91,20 +91,16 @@ if_value None P means = tt
 if_value (Some d) P means = means d refl
 
 -- an expiry that an admitted update sets is a timestamp
-pub edit_expiry : (ty : Ty) (es : List Entry) (edit : Edit) → are_admitted Update ty es ≡ true → edit ≡ edit_in es → IfSome (value_of Et edit.sets) (λ d. has_kind Stamp d ≡ true)
-edit_expiry ty es edit h is =
-    let sets : list_all (may_set ty) edit.sets ≡ true = ap (λ (x : Edit). list_all (may_set ty) x.sets) is ∙ sets_may ty es (fit_in Update ty es h) in
-    if_value (value_of Et edit.sets) (λ d. has_kind Stamp d ≡ true)
-    (λ d found. stamp_set ty d (value_passes (may_set ty) Et edit.sets d sets found))
+pub sets_expiry : (ty : Ty) (es : List Entry) (sets : List Row) → are_admitted Update ty es ≡ true → sets ≡ filter_map set_row es → IfSome (value_of Et sets) (λ d. has_kind Stamp d ≡ true)
+sets_expiry ty es sets h is =
+    let may : list_all (may_set ty) sets ≡ true = ap (list_all (may_set ty)) is ∙ sets_may ty es (fit_in Update ty es h) in
+    if_value (value_of Et sets) (λ d. has_kind Stamp d ≡ true)
+    (λ d found. stamp_set ty d (value_passes (may_set ty) Et sets d may found))
 
 pub admitted_expiry : (ty : Ty) (content : Data) → is_admitted Update ty content ≡ true → IfSome (value_of Et (edit_of ty content).sets) (λ d. has_kind Stamp d ≡ true)
 admitted_expiry ty content h =
     if_value (value_of Et (edit_of ty content).sets) (λ d. has_kind Stamp d ≡ true)
     (λ d is. stamp_set ty d (value_passes (may_set ty) Et (edit_of ty content).sets d (admitted_sets ty content h) is))
-
-pub edits_expiry : {E : Type 0} (ty : Ty) (es : List Entry) (r : Result Edit E) → are_admitted Update ty es ≡ true → IfOk r (λ edit. edit ≡ edit_in es) → IfOk r (λ edit. IfSome (value_of Et edit.sets) (λ d. has_kind Stamp d ≡ true))
-edits_expiry ty es (Ok edit) h is = edit_expiry ty es edit h is
-edits_expiry ty es (Err fault) h is = tt
 
 -- ---- what is cleared
 
@@ -254,16 +250,8 @@ pub free_name : (ty : Ty) (es : List Entry) → are_admitted Create ty es ≡ tr
 free_name ty es h =
     free_in (member_of (attr_short Rn) es) (λ d is. name_fits ty d (named_fits Create ty Rn es d (fit_in Create ty es h) is))
 
-pub wanted_name : (ty : Ty) (es : List Entry) (wanted : Wanted) → are_admitted Create ty es ≡ true → wanted ≡ wanted_in es → IfSome wanted.name (λ s. is_free_name s ≡ true)
-wanted_name ty es wanted h is = subst (λ (x : Wanted). IfSome x.name (λ s. is_free_name s ≡ true)) (sym is) (free_name ty es h)
-
-pub wishes_name : {E : Type 0} (ty : Ty) (es : List Entry) (r : Result Wanted E) → are_admitted Create ty es ≡ true → IfOk r (λ wanted. wanted ≡ wanted_in es) → IfOk r (λ wanted. IfSome wanted.name (λ s. is_free_name s ≡ true))
-wishes_name ty es (Ok wanted) h is = wanted_name ty es wanted h is
-wishes_name ty es (Err fault) h is = tt
-
--- the members of an admitted content are admitted
-pub members_fit : (writing : Writing) (ty : Ty) (content : Data) (es : List Entry) → is_admitted writing ty content ≡ true → attributes_in ty content ≡ Some es → are_admitted writing ty es ≡ true
-members_fit writing ty content es h is = sym (ap (λ o. option_map_or (are_admitted writing ty) o false) is) ∙ h
+pub name_free : (ty : Ty) (es : List Entry) (name : Option (List ℕ)) → are_admitted Create ty es ≡ true → name ≡ named_text Rn es → IfSome name (λ s. is_free_name s ≡ true)
+name_free ty es name h is = subst (λ (x : Option (List ℕ)). IfSome x (λ s. is_free_name s ≡ true)) (sym is) (free_name ty es h)
 
 -- ---- what is named is kept
 

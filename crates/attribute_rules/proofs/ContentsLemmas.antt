@@ -17,7 +17,7 @@ use Rattle.m2m_value.specs.Data.{Data, Entry}
 use Rattle.m2m_value.specs.Node.{AreSorted}
 use Rattle.m2m_value.specs.View.{as_text, member_of}
 use Rattle.resource_model.specs.Attributes.{Row, attr_cmp, AreInOrder}
-use Rattle.attribute_rules.specs.Contents.{is_apart, is_no_policy, kept_row, named_text, name_after, does_clear, set_row}
+use Rattle.attribute_rules.specs.Contents.{is_apart, is_no_policy, kept_row, does_clear, set_row}
 
 -- whether there is a value, and which
 pub seen : {X : Type 0} (o : Option X) → (o ≡ None) ⊎ ((x : X) × (o ≡ Some x))
@@ -125,23 +125,6 @@ absent_after e es sorted = absent_above e.0 es sorted.0
 
 pub same_text : (x y : List ℕ) → bytes_eq x y ≡ true → x ≡ y
 same_text x y = (bytes_eq-Decides x y).0
-
--- the name so far, one more member, and the rest
-pub name_step : (name : Option (List ℕ)) (e : Entry) (es : List Entry) → AreSorted (e ∷ es) → option_or (name_after name e) (named_text Rn es) ≡ option_or name (named_text Rn (e ∷ es))
-name_step name e es sorted = elim (cases_Bool (bytes_eq e.0 (attr_short Rn))) [
-  | inl t ↦
-      let same : e.0 ≡ attr_short Rn = same_text e.0 (attr_short Rn) t in
-      let here : bytes_eq (attr_short Rn) e.0 ≡ true = (bytes_eq-Decides (attr_short Rn) e.0).1 (sym same) in
-      let gone : named_text Rn es ≡ None = ap (option_and_then as_text) (ap (λ k. member_of k es) (sym same) ∙ absent_after e es sorted) in
-      ap (λ b. option_or (if b then option_or name (as_text e.1) else name) (named_text Rn es)) t
-      ∙ ap (option_or (option_or name (as_text e.1))) gone
-      ∙ option_or-None (option_or name (as_text e.1))
-      ∙ ap (λ b. option_or name (option_and_then as_text (if b then Some e.1 else member_of (attr_short Rn) es))) (sym here)
-  | inr f ↦
-      let not_here : bytes_eq (attr_short Rn) e.0 ≡ false = false_from_ne_true _ (λ t. both_ways _ f ((bytes_eq-Decides e.0 (attr_short Rn)).1 (sym (same_text (attr_short Rn) e.0 t)))) in
-      ap (λ b. option_or (if b then option_or name (as_text e.1) else name) (named_text Rn es)) f
-      ∙ ap (λ b. option_or name (option_and_then as_text (if b then Some e.1 else member_of (attr_short Rn) es))) (sym not_here)
-]
 
 -- rows so far, what one more member gives, and the rest
 pub joined : {X : Type 0} (xs : List X) (o : Option X) (ys : List X) → (xs ++ option_to_list o) ++ ys ≡ xs ++ cons_option o ys

@@ -48,10 +48,6 @@ kept_row e =
 abbrev pub named_text : Attr → List Entry → Option (List ℕ)
 named_text attr es = option_and_then as_text (member_of (attr_short attr) es)
 
--- the name after one more member, where one was named so far, or none
-abbrev pub name_after : Option (List ℕ) → Entry → Option (List ℕ)
-name_after name e = if bytes_eq e.0 (attr_short Rn) then option_or name (as_text e.1) else name
-
 -- what a creation wants that names these attributes
 abbrev pub wanted_in : List Entry → Wanted
 wanted_in es = record {

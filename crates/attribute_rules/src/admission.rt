@@ -3,11 +3,14 @@ ghost use Rattle.std.specs.Prelude.{◌≡◌, Some, None, IfOk, OnOk, IfErr, Is
 ghost use Rattle.std.specs.Prelude.{option_map};
 ghost use Rattle.std.specs.List.{filter_map, list_all};
 ghost use Rattle.std.specs.Option.{option_map_or};
+ghost use Rattle.m2m_names.specs.Attributes.{attr_short};
 ghost use Rattle.m2m_value.specs.View as views;
+ghost use Rattle.m2m_value.specs.View.{member_of};
 ghost use Rattle.attribute_rules.specs.Admission as spec;
 
 use crate::faults::AttrFault;
 use crate::table::{Rule, Writing, mandatory, rule_of};
+use filter_criteria::value_among;
 use m2m_names::{Attr, Ty};
 use m2m_value::{Members, Node, Text, Val};
 
@@ -53,16 +56,24 @@ fn take_only(name: &str, members: Members) -> Option<Val>
 }
 
 /// The same attributes, taken out of the content.
-pub fn take_attributes(ty: Ty, content: Val) -> Option<Members>
+fn take_attributes(ty: Ty, content: Val) -> Option<Members>
     ensures { result ≡ spec.attributes_in ty content }
 {
     into_members(take_only(ty.member(), into_members(content)?)?)
 }
 
-fn is_named(attr: Attr, members: &Members) -> bool
+/// The value that is named at an attribute.
+pub fn value_named(attr: Attr, members: &Members) -> Option<&Val>
+    ensures { option_map (λ v. v.now) result ≡ member_of (attr_short attr) members.now }
+{
+    value_among(members.entries(), attr.short().as_bytes())
+}
+
+/// Whether an attribute is named.
+pub fn is_named(attr: Attr, members: &Members) -> bool
     ensures { result ≡ spec.is_named attr members.now }
 {
-    members.get(attr.short().as_bytes()).is_some()
+    value_named(attr, members).is_some()
 }
 
 fn is_alone(members: &Members) -> bool
@@ -108,20 +119,11 @@ fn is_complete(writing: Writing, ty: Ty, members: &Members) -> bool
     }
 }
 
-fn are_admitted(writing: Writing, ty: Ty, members: &Members) -> bool
+/// Whether a content of the type that names these attributes is admitted.
+pub fn are_admitted(writing: Writing, ty: Ty, members: &Members) -> bool
     ensures { result ≡ spec.are_admitted writing ty members.now }
 {
     are_fit(writing, ty, members.entries()) && is_complete(writing, ty, members)
-}
-
-/// Whether the content is admitted.
-pub fn is_admitted(writing: Writing, ty: Ty, content: &Val) -> bool
-    ensures { result ≡ spec.is_admitted writing ty content.now }
-{
-    match attributes_in(ty, content) {
-        Some(members) => are_admitted(writing, ty, members),
-        None => false,
-    }
 }
 
 fn key_fault(writing: Writing, ty: Ty, key: Text, value: &Val) -> Option<AttrFault>

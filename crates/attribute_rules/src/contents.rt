@@ -1,16 +1,22 @@
-//! What a creation wants and what an update changes, taken out of the content.
-ghost use Rattle.std.specs.Prelude.{◌≡◌, ◌≤◌, ◌++◌, IfOk, IfSome, OnOk, IsUtf8, bytes_eq};
-ghost use Rattle.std.specs.Prelude.{option_and_then};
+//! What a creation wants and what an update changes, copied out of the content.
+ghost use Rattle.std.specs.Prelude.{◌≡◌, ◌≤◌, ◌++◌, IfOk, IfSome, OnOk, IsTrue, IsUtf8};
+ghost use Rattle.std.specs.Prelude.{option_and_then, option_map};
+ghost use Rattle.std.specs.List.{filter_map};
 ghost use Rattle.std.specs.Option.{option_to_list};
-ghost use Rattle.m2m_names.specs.Attributes.{attr_short};
+ghost use Rattle.m2m_names.specs.Name.{is_free_name};
 ghost use Rattle.m2m_names.specs.Stamps.{last_moment};
 ghost use Rattle.m2m_names.specs.StampReading.{moment_at};
 ghost use Rattle.m2m_names.specs.declared.attributes.Attr.TheVariants.{Et, Rn};
-ghost use Rattle.m2m_value.specs.View as views;
+ghost use Rattle.resource_model.specs.Attributes.{value_of};
+ghost use Rattle.attribute_kinds.specs.Kinds.{has_kind};
+ghost use Rattle.attribute_kinds.specs.declared.kinds.Kind.TheVariants.{Stamp};
+ghost use Rattle.attribute_rules.specs.Admission.{are_admitted};
 ghost use Rattle.attribute_rules.specs.Contents as spec;
+ghost use Rattle.attribute_rules.specs.declared.table.Writing.TheVariants.{Create, Update};
 
-use m2m_names::{Attr, read_stamp};
-use m2m_value::{Members, Node, OutOfMemory, Text, Val};
+use crate::admission::{is_named, value_named};
+use m2m_names::{Attr, Ty, read_stamp};
+use m2m_value::{Members, OutOfMemory, Text, Val};
 use resource_model::{AttrSet, Attrs};
 use std::alloc::Global;
 
@@ -65,95 +71,104 @@ fn does_clear(attr: Attr, value: &Val) -> bool
     value.is_null() || is_no_policy(attr, value)
 }
 
-fn into_text(value: Val) -> Option<Text>
-    ensures value { result ≡ views.as_text value }
-    ensures utf8 { IfSome result (λ t. IsUtf8 t) }
-{
-    match value.into_node() {
-        Node::Text(text) => Some(text),
-        _ => None,
-    }
-}
-
 // The moment of expiry that a creation names.
 fn moment_in(members: &Members) -> Option<u64>
     ensures value { result ≡ option_and_then moment_at (spec.named_text Et members.now) }
     ensures last { IfSome result (λ m. m ≤ last_moment) }
 {
-    read_stamp(members.get(b"et")?.as_text()?.entries())
+    read_stamp(value_named(Attr::Et, members)?.as_text()?.entries())
 }
 
-fn is_name_key(key: &Text) -> bool
-    ensures { result ≡ bytes_eq key.now (attr_short Rn) }
+// The name that a creation names.
+fn name_in(members: &Members) -> Option<&Text>
+    ensures value { option_map (λ t. t.now) result ≡ spec.named_text Rn members.now }
+    ensures utf8 { IfSome result (λ t. IsUtf8 t.now) }
 {
-    key.entries() == Attr::Rn.short().as_bytes()
+    value_named(Attr::Rn, members)?.as_text()
 }
 
-// The row that a member of a creation gives the resource.
-fn kept_row(key: &Text, value: Val) -> Option<(Attr, Val)>
-    ensures { result ≡ spec.kept_row (key.now, value) }
+fn copied_name(alloc: Global, members: &Members) -> Result<Option<Text>, OutOfMemory>
+    ensures value { IfOk result (λ name. name ≡ spec.named_text Rn members.now) }
+    ensures utf8 { IfOk result (λ name. IfSome name (λ t. IsUtf8 t)) }
 {
-    let attr = Attr::from_short_bytes(key.entries())?;
-    if is_apart(attr) || is_no_policy(attr, &value) {
-        None
-    } else {
-        Some((attr, value))
+    match name_in(members) {
+        Some(name) => Ok(Some(name.copy(alloc)?)),
+        None => Ok(None),
     }
 }
 
-// Takes what a member of a creation says: the name, or a row.
-fn keep_member(
-    name: &mut Option<Text>,
-    rows: &mut Vec<(Attr, Val)>,
-    key: &Text,
-    value: Val,
-) -> Result<(), OutOfMemory>
-    ensures name { OnOk result (name.new ≡ spec.name_after name.old (key.now, value)) }
-    ensures utf8 { OnOk result (IfSome name.old (λ t. IsUtf8 t) → IfSome name.new (λ t. IsUtf8 t)) }
-    ensures rows { OnOk result (rows.new.items ≡
-        rows.old.items ++ option_to_list (spec.kept_row (key.now, value))) }
+// The attribute at which a member of a creation gives the resource its value.
+fn kept_attr(key: &Text, value: &Val) -> Option<Attr>
+    ensures { option_map (λ attr. (attr, value.now)) result
+        ≡ spec.kept_row (key.now, value.now) }
 {
-    if is_name_key(key) {
-        *name = name.take().or(into_text(value));
-    } else if let Some(row) = kept_row(key, value) {
-        rows.push(row)?;
+    let attr = Attr::from_short_bytes(key.entries())?;
+    if is_apart(attr) || is_no_policy(attr, value) {
+        None
+    } else {
+        Some(attr)
+    }
+}
+
+// Puts the row that a member of a creation gives the resource behind others.
+fn copy_kept(
+    alloc: Global,
+    key: &Text,
+    value: &Val,
+    rows: &mut Vec<(Attr, Val)>,
+) -> Result<(), OutOfMemory>
+    ensures { OnOk result (rows.new.items
+        ≡ rows.old.items ++ option_to_list (spec.kept_row (key.now, value.now))) }
+{
+    if let Some(attr) = kept_attr(key, value) {
+        rows.push((attr, value.copy(alloc)?))?;
     }
     Ok(())
 }
 
-/// What a creation wants that names these attributes.
-pub fn wanted_in(alloc: Global, members: Members) -> Result<Wanted, OutOfMemory>
-    ensures value { IfOk result (λ w. w ≡ spec.wanted_in members) }
+fn kept_rows(alloc: Global, members: &Members) -> Result<Attrs, OutOfMemory>
+    ensures { IfOk result (λ rows. rows ≡ filter_map spec.kept_row members.now) }
+{
+    let mut rows = Vec::with_capacity(alloc, members.entries().len() + ASSIGNED)?;
+    for (key, value) in members.entries() {
+        copy_kept(alloc, key, value, &mut rows)?;
+    }
+    Ok(Attrs::of(rows))
+}
+
+/// What a creation wants of a resource of the type that names these attributes, which are admitted.
+/// Their values are copied.
+pub fn wanted_in(alloc: Global, ty: Ty, members: &Members) -> Result<Wanted, OutOfMemory>
+    requires { IsTrue (are_admitted Create ty members.now) }
+    ensures value { IfOk result (λ w. w ≡ spec.wanted_in members.now) }
+    ensures name { IfOk result (λ w. IfSome w.name (λ t. IsTrue (is_free_name t))) }
     ensures utf8 { IfOk result (λ w. IfSome w.name (λ t. IsUtf8 t)) }
     ensures last { IfOk result (λ w. IfSome w.et (λ m. m ≤ last_moment)) }
 {
-    let et = moment_in(&members);
-    let creator = members.get(b"cr").is_some();
-    let mut rows = Vec::with_capacity(alloc, members.entries().len() + ASSIGNED)?;
-    let mut name = None;
-    for (key, value) in members.into_vec() {
-        keep_member(&mut name, &mut rows, &key, value)?;
-    }
     Ok(Wanted {
-        name,
-        et,
-        attrs: Attrs::of(rows),
-        creator,
+        name: copied_name(alloc, members)?,
+        et: moment_in(members),
+        attrs: kept_rows(alloc, members)?,
+        creator: is_named(Attr::Cr, members),
     })
 }
 
-/// What an update changes that names these attributes.
-pub fn edit_in(alloc: Global, members: Members) -> Result<Edit, OutOfMemory>
-    ensures { IfOk result (λ e. e ≡ spec.edit_in members) }
+/// What an update of a resource of the type changes that names these attributes, which are
+/// admitted. Their values are copied.
+pub fn edit_in(alloc: Global, ty: Ty, members: &Members) -> Result<Edit, OutOfMemory>
+    requires { IsTrue (are_admitted Update ty members.now) }
+    ensures value { IfOk result (λ e. e ≡ spec.edit_in members.now) }
+    ensures expiry { IfOk result (λ e.
+        IfSome (value_of Et e.sets) (λ d. IsTrue (has_kind Stamp d))) }
 {
     let mut sets = Vec::with_capacity(alloc, members.entries().len())?;
     let mut clears = Vec::new(alloc);
-    for (key, value) in members.into_vec() {
+    for (key, value) in members.entries() {
         if let Some(attr) = Attr::from_short_bytes(key.entries()) {
-            if does_clear(attr, &value) {
+            if does_clear(attr, value) {
                 clears.push(attr)?;
             } else {
-                sets.push((attr, value))?;
+                sets.push((attr, value.copy(alloc)?))?;
             }
         }
     }

@@ -3,14 +3,14 @@
 //!
 //! Callers see the table by `rule_of`, whose rules tell what a `Writing`, a Create or an Update,
 //! may do, by `mandatory` and by `kind_of`; `keeps_kinds` tells whether all attributes of a
-//! resource are of their kinds. Whether a content is admitted is told by `admits_create` and
-//! `admits_update`, which only look at it; `take_wanted` and `take_edit` then take it apart, and
-//! `admit_create` and `admit_update` do both, or say the first fault. Values are moved out of the
-//! content, never copied.
+//! resource are of their kinds. `attributes_in` gives the attributes that a content names, and
+//! `are_admitted` tells whether these are admitted; `wanted_in` and `edit_in` then say what they
+//! want or change, and copy their values. `admit_create` and `admit_update` do all of this, or say
+//! the first fault.
 //!
-//! A content is walked once to judge it, up to the first member with a fault, and once more to move
-//! out of it what it gives, or the key of the fault that is told. These are two walks since a
-//! refusal takes no memory: nothing is taken before the last member is judged.
+//! A content is walked once to judge it, up to the first member with a fault, and once more to copy
+//! out of it what it gives, or to find the key of the fault that is told. These are two walks since
+//! a refusal takes no memory: nothing is taken before the last member is judged.
 //!
 //! ```text
 //! let kind = kind_of(Ty::Container, Attr::Mni); // a count
@@ -26,10 +26,10 @@ mod faults;
 mod laws;
 mod table;
 
-pub use admission::attributes_in;
-pub use admit::{admit_create, admit_update, admits_create, admits_update, take_edit, take_wanted};
+pub use admission::{are_admitted, attributes_in, is_named, value_named};
+pub use admit::{admit_create, admit_update};
 pub use attribute_kinds::Kind;
-pub use contents::{Edit, Wanted};
+pub use contents::{Edit, Wanted, edit_in, wanted_in};
 pub use faults::AttrFault;
 pub use laws::{
     an_update_does_what_it_may, attributes_have_the_values_that_are_named,

@@ -264,7 +264,7 @@ bound_back r url told =
       path = told.to_bytes;
       filled = kinds.to;
       to_utf8 = told.to_utf8;
-      asked = query_bytes [] (query_pairs r) refl;
+      asked = query_bytes (query_pairs r);
       utf8 = subst IsUtf8 rooted told.sendable.target.2;
       few = subst (λ (t : List ℕ). length t ≤ 65534) rooted (omega (arith, few, told.sendable.head));
     } in (

@@ -5,4 +5,5 @@ pub mod FilterLemmas
 pub mod LineLemmas
 pub mod PairLemmas
 pub mod TargetLemmas
+pub mod PlainLemmas
 pub mod BoundLemmas

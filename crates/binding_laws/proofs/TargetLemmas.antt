@@ -1,5 +1,5 @@
 -- The target of a request to another CSE says its address and its query.
-use Rattle.std.proofs.Common.{◌≡◌, ℕ, ◌≤◌, ◌==◌, Bool, true, not, cond, nat_eq, List, [], ◌∷◌, ◌++◌, length, drop, codes, Option, Some, IsTrue, IsUtf8, inl, inr, refl, sym, ap, subst, ◌∙◌, arith, append-nil}
+use Rattle.std.proofs.Common.{◌≡◌, ℕ, ◌≤◌, ◌==◌, ◌&&◌, Bool, true, not, cond, nat_eq, nat_lt, List, [], ◌∷◌, ◌++◌, length, drop, codes, Option, Some, IsTrue, IsUtf8, inl, inr, refl, sym, ap, subst, ◌∙◌, arith, append-nil}
 use Rattle.std.specs.Prelude.{Ok, Err, unwrap_or}
 use Rattle.std.specs.List.{list_all, starts_with}
 use Rattle.std.specs.Option.{option_map_or}
@@ -30,19 +30,19 @@ use Rattle.binding_laws.proofs.CutLemmas.{back_at, back_none, front_at, front_no
 -- ---- bytes
 
 -- what holds of each byte of two texts
-all_append : (p : ℕ → Bool) (xs ys : List ℕ) → list_all p xs ≡ true → list_all p ys ≡ true → list_all p (xs ++ ys) ≡ true
+pub all_append : (p : ℕ → Bool) (xs ys : List ℕ) → list_all p xs ≡ true → list_all p ys ≡ true → list_all p (xs ++ ys) ≡ true
 all_append p [] ys a b = b
 all_append p (x ∷ xs) ys a b =
     let parts = and_parts (p x) (list_all p xs) a in
     and_from _ _ parts.0 (all_append p xs ys parts.1 b)
 
-all_weaker : (p q : ℕ → Bool) → ((b : ℕ) → p b ≡ true → q b ≡ true) → (xs : List ℕ) → list_all p xs ≡ true → list_all q xs ≡ true
+pub all_weaker : (p q : ℕ → Bool) → ((b : ℕ) → p b ≡ true → q b ≡ true) → (xs : List ℕ) → list_all p xs ≡ true → list_all q xs ≡ true
 all_weaker p q f [] a = refl
 all_weaker p q f (x ∷ xs) a =
     let parts = and_parts (p x) (list_all p xs) a in
     and_from _ _ (f x parts.0) (all_weaker p q f xs parts.1)
 
-all_drop : (p : ℕ → Bool) (xs : List ℕ) → list_all p xs ≡ true → list_all p (drop 1 xs) ≡ true
+pub all_drop : (p : ℕ → Bool) (xs : List ℕ) → list_all p xs ≡ true → list_all p (drop 1 xs) ≡ true
 all_drop p [] a = refl
 all_drop p (x ∷ xs) a = (and_parts (p x) (list_all p xs) a).1
 
@@ -56,7 +56,7 @@ path_bytes to h = elim (cases_Bool (starts_with nat_eq to (codes "//"))) [
   ])
 ]
 
-path_begins : (to : List ℕ) → (rest : List ℕ) × (path_of_address to ≡ slash ∷ rest)
+pub path_begins : (to : List ℕ) → (rest : List ℕ) × (path_of_address to ≡ slash ∷ rest)
 path_begins to = elim (cases_Bool (starts_with nat_eq to (codes "//"))) [
   | inl two ↦ rw two (95 ∷ drop 1 to, refl)
   | inr other ↦ rw other (elim (cases_Bool (starts_with nat_eq to (codes "/"))) [
@@ -79,31 +79,41 @@ path_no_hash b h = let p = address_path b h in grind (arith, nat_tests)
 
 -- ---- the bytes of a query
 
-query_serialized : (b : ℕ) → IsSerializedByte b → IsTrue (is_query_byte b)
+-- a byte of a query that is ASCII
+abbrev pub is_form_byte : ℕ → Bool
+is_form_byte b = is_query_byte b && nat_lt b 128
+
+query_serialized : (b : ℕ) → IsSerializedByte b → IsTrue (is_form_byte b)
 query_serialized b h = elim h.allowed [
   | inl kept ↦ grind (arith, nat_tests)
-  | inr (inl plus) ↦ subst (λ (c : ℕ). IsTrue (is_query_byte c)) (sym plus) refl
-  | inr (inr percent) ↦ subst (λ (c : ℕ). IsTrue (is_query_byte c)) (sym percent) refl
+  | inr (inl plus) ↦ subst (λ (c : ℕ). IsTrue (is_form_byte c)) (sym plus) refl
+  | inr (inr percent) ↦ subst (λ (c : ℕ). IsTrue (is_form_byte c)) (sym percent) refl
 ]
 
-query_text_byte : (bs : List ℕ) → list_all is_query_byte (byte_serialize bs) ≡ true
+query_text_byte : (bs : List ℕ) → list_all is_form_byte (byte_serialize bs) ≡ true
 query_text_byte bs =
-    list_all-from_AllPass is_query_byte (byte_serialize bs)
-    (All-weaker IsSerializedByte (λ b. IsTrue (is_query_byte b)) query_serialized (byte_serialize bs) (All-byte_serialize bs))
+    list_all-from_AllPass is_form_byte (byte_serialize bs)
+    (All-weaker IsSerializedByte (λ b. IsTrue (is_form_byte b)) query_serialized (byte_serialize bs) (All-byte_serialize bs))
 
-query_separator : (form : List ℕ) → list_all is_query_byte (separator form) ≡ true
+query_separator : (form : List ℕ) → list_all is_form_byte (separator form) ≡ true
 query_separator form = elim (cases_Bool (is_nonempty form)) [ inl some ↦ rw some refl | inr none ↦ rw none refl ]
 
-query_pair : (form key value : List ℕ) → list_all is_query_byte form ≡ true → list_all is_query_byte (append_pair form key value) ≡ true
+query_pair : (form key value : List ℕ) → list_all is_form_byte form ≡ true → list_all is_form_byte (append_pair form key value) ≡ true
 query_pair form key value h =
-    all_append is_query_byte (form ++ separator form) (serialize_pair (key, value))
-    (all_append is_query_byte form (separator form) h (query_separator form))
-    (all_append is_query_byte (byte_serialize key ++ 61 ∷ []) (byte_serialize value)
-    (all_append is_query_byte (byte_serialize key) (61 ∷ []) (query_text_byte key) refl) (query_text_byte value))
+    all_append is_form_byte (form ++ separator form) (serialize_pair (key, value))
+    (all_append is_form_byte form (separator form) h (query_separator form))
+    (all_append is_form_byte (byte_serialize key ++ 61 ∷ []) (byte_serialize value)
+    (all_append is_form_byte (byte_serialize key) (61 ∷ []) (query_text_byte key) refl) (query_text_byte value))
 
-pub query_bytes : (form : List ℕ) (pairs : List Pair) → list_all is_query_byte form ≡ true → list_all is_query_byte (extend_pairs form pairs) ≡ true
-query_bytes form [] h = h
-query_bytes form (pair ∷ pairs) h = query_bytes (append_pair form pair.0 pair.1) pairs (query_pair form pair.0 pair.1 h)
+pub form_bytes : (form : List ℕ) (pairs : List Pair) → list_all is_form_byte form ≡ true → list_all is_form_byte (extend_pairs form pairs) ≡ true
+form_bytes form [] h = h
+form_bytes form (pair ∷ pairs) h = form_bytes (append_pair form pair.0 pair.1) pairs (query_pair form pair.0 pair.1 h)
+
+form_query : (b : ℕ) → is_form_byte b ≡ true → is_query_byte b ≡ true
+form_query b h = (and_parts (is_query_byte b) (nat_lt b 128) h).0
+
+pub query_bytes : (pairs : List Pair) → list_all is_query_byte (extend_pairs [] pairs) ≡ true
+query_bytes pairs = all_weaker is_form_byte is_query_byte form_query (extend_pairs [] pairs) (form_bytes [] pairs refl)
 
 query_no_hash : (b : ℕ) → is_query_byte b ≡ true → is_other 35 b ≡ true
 query_no_hash b h = grind (arith, nat_tests)

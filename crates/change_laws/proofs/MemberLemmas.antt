@@ -48,7 +48,6 @@ use Rattle.request_rules.specs.Requests.{child_ty, content_for, named_by, named_
 use Rattle.request_rules.proofs.CreatingLemmas.{new_is}
 use Rattle.request_rules.proofs.OrderLemmas.{IsUnrefusedNew, new_parts, nothing_on, places_parts}
 use Rattle.create_delete.specs.Changing.{own_rows, state_row, updated_by, updated_resource}
-use Rattle.create_delete.specs.Guard.{NamesInOrder}
 use Rattle.create_delete.specs.Joining.{IsAllowed}
 use Rattle.create_delete.specs.Updating.{IsUpdatable}
 use Rattle.create_delete.proofs.CreatableLemmas.{allowed, names_attributes}
@@ -310,7 +309,7 @@ links_alike e es rows = record { mid = unset Mid refl refl; cnm = unset Cnm refl
 
 -- ---- a Create
 
-module _ (e : EntityData) (o : List ℕ) (request : RequestParts) (parent : ResourceData) (content : NamesInOrder request) (none : fault_on Create e o request parent ≡ None) (there : at parent.number e.nodes ≡ Some parent) (child : child_ty request ≡ Some Group) where
+module _ (e : EntityData) (o : List ℕ) (request : RequestParts) (parent : ResourceData) (none : fault_on Create e o request parent ≡ None) (there : at parent.number e.nodes ≡ Some parent) (child : child_ty request ≡ Some Group) where
   creation_keeps : (es : List Entry) → content_for request Group ≡ Some es → KeepsMembers e (members_wanted es) (new_rows (creation_of e o Group parent es))
   creation_keeps es whole =
       let c : Creation = creation_of e o Group parent es in
@@ -318,7 +317,7 @@ module _ (e : EntityData) (o : List ℕ) (request : RequestParts) (parent : Reso
       let new : IsUnrefusedNew c = new_parts c (sym (ap (list_all (λ (p : Check). p.holds)) (new_is e o request parent Group es child whole)) ∙ (places_parts Create e o request parent none).new) in
       let members = and_parts (are_few (members_wanted es)) (is_consistent e (members_wanted es) && true) new.members in
       let consistent : is_consistent e (members_wanted es) ≡ true = (and_parts (is_consistent e (members_wanted es)) true members.1).0 in
-      let fit : AreFit (members_wanted es) = wanted_fit es (content Group es whole) may.admitted in
+      let fit : AreFit (members_wanted es) = wanted_fit es may.sorted may.admitted in
       let given : List Row = member_rows e (members_wanted es) in
       let wanted : List Row = (wanted_in es).attrs in
       let creator : List Row = creator_rows o es in
@@ -337,14 +336,14 @@ module _ (e : EntityData) (o : List ℕ) (request : RequestParts) (parent : Reso
   pub new_group_keeps : KeepsMembers e (members_wanted (named_for request Group)) (new_resource (creation_by e o request parent Group)).attrs
   new_group_keeps = by_names (content_for request Group) refl
 
-pub creation_keeps_members : (e : EntityData) (o : List ℕ) (request : RequestParts) (n : ℕ) (parent : ResourceData) → NamesInOrder request → fault_at Create e o request n ≡ None → at n e.nodes ≡ Some parent → child_ty request ≡ Some Group → KeepsMembers e (members_wanted (named_for request Group)) (new_resource (creation_by e o request parent Group)).attrs
-creation_keeps_members e o request n parent content none found child =
-    new_group_keeps e o request parent content (nothing_on Create e o request n parent found none)
+pub creation_keeps_members : (e : EntityData) (o : List ℕ) (request : RequestParts) (n : ℕ) (parent : ResourceData) → fault_at Create e o request n ≡ None → at n e.nodes ≡ Some parent → child_ty request ≡ Some Group → KeepsMembers e (members_wanted (named_for request Group)) (new_resource (creation_by e o request parent Group)).attrs
+creation_keeps_members e o request n parent none found child =
+    new_group_keeps e o request parent (nothing_on Create e o request n parent found none)
     (ap (λ (m : ℕ). at m e.nodes) (at_number n e.nodes parent found) ∙ found) child
 
 -- ---- an Update
 
-module _ (e : EntityData) (o : List ℕ) (request : RequestParts) (r : ResourceData) (sound : IsSoundEntity e) (content : NamesInOrder request) (none : fault_on Update e o request r ≡ None) (there : at r.number e.nodes ≡ Some r) where
+module _ (e : EntityData) (o : List ℕ) (request : RequestParts) (r : ResourceData) (sound : IsSoundEntity e) (none : fault_on Update e o request r ≡ None) (there : at r.number e.nodes ≡ Some r) where
   update_keeps : (es : List Entry) → content_for request r.ty ≡ Some es → does_edit_members r es ≡ true → KeepsMembers e (members_edited r es) (updated_resource e es r).attrs
   update_keeps es whole edits =
       let m : MembershipData = members_edited r es in
@@ -359,7 +358,7 @@ module _ (e : EntityData) (o : List ℕ) (request : RequestParts) (r : ResourceD
       let members = and_parts (are_few m) (is_consistent e m && true) addresses.1 in
       let consistent : is_consistent e m ≡ true = (and_parts (is_consistent e m) true members.1).0 in
       let kinds : are_kinds r ≡ true = number_passes are_kinds r.number e.nodes r sound.kinds there in
-      let fit : AreFit m = edited_fit r es (content r.ty es whole) (ap (λ (k : Ty). are_admitted Updating k es) (sym ty) ∙ may.admitted) (ap (λ (k : Ty). have_kinds k r.attrs) (sym ty) ∙ kinds) in
+      let fit : AreFit m = edited_fit r es may.sorted (ap (λ (k : Ty). are_admitted Updating k es) (sym ty) ∙ may.admitted) (ap (λ (k : Ty). have_kinds k r.attrs) (sym ty) ∙ kinds) in
       let kept : List Row = edited (edit_in es) r.attrs in
       let base : List Row = with_rows (state_row r) kept in
       let own : with_rows (own_rows e es r) kept ≡ with_rows (member_rows e m) base =
@@ -378,7 +377,7 @@ module _ (e : EntityData) (o : List ℕ) (request : RequestParts) (r : ResourceD
   pub group_keeps : does_edit_members r (named_by Update request r) ≡ true → KeepsMembers e (members_edited r (named_by Update request r)) (updated_by e request r).attrs
   group_keeps edits = by_edited (content_for request r.ty) refl edits
 
-pub update_keeps_members : (e : EntityData) (o : List ℕ) (request : RequestParts) (n : ℕ) (r : ResourceData) → IsSoundEntity e → NamesInOrder request → fault_at Update e o request n ≡ None → at n e.nodes ≡ Some r → does_edit_members r (named_by Update request r) ≡ true → KeepsMembers e (members_edited r (named_by Update request r)) (updated_by e request r).attrs
-update_keeps_members e o request n r sound content none found edits =
-    group_keeps e o request r sound content (nothing_on Update e o request n r found none)
+pub update_keeps_members : (e : EntityData) (o : List ℕ) (request : RequestParts) (n : ℕ) (r : ResourceData) → IsSoundEntity e → fault_at Update e o request n ≡ None → at n e.nodes ≡ Some r → does_edit_members r (named_by Update request r) ≡ true → KeepsMembers e (members_edited r (named_by Update request r)) (updated_by e request r).attrs
+update_keeps_members e o request n r sound none found edits =
+    group_keeps e o request r sound (nothing_on Update e o request n r found none)
     (ap (λ (m : ℕ). at m e.nodes) (at_number n e.nodes r found) ∙ found) edits

@@ -27,7 +27,7 @@ use Rattle.request_rules.proofs.OrderLemmas.{found_at, nothing_on}
 use Rattle.request_rules.proofs.RefusalLemmas.{refuses_at}
 use Rattle.create_delete.specs.Changes.{changes_at, creation_changes, named_attrs, only_in, update_changes}
 use Rattle.create_delete.specs.Changing.{after_joining, create_effect, container_update_of, nodes_updated, effect_at, pushed_by, pushed_out, updated_by, updated_resource, with_new_resource}
-use Rattle.create_delete.specs.Guard.{IsChanged, IsGone, NamesInOrder}
+use Rattle.create_delete.specs.Guard.{IsChanged, IsGone}
 use Rattle.create_delete.specs.Joining.{gone_by, IsAllowed, MayJoinContainer, MayJoin}
 use Rattle.create_delete.specs.NewResource.{IsNewInstance, IsNewResource, IsReplacement}
 use Rattle.change_laws.specs.Served.{AddsOne, ChangesOne, ServesCreate, ServesDelete, ServesUpdate}
@@ -107,25 +107,25 @@ creation_adds c sound allowed may = elim (cases_Bool (is_ty c.ty ContentInstance
       rw none (adds_plain c.e (new_resource c) sound joins.0)
 ]
 
-module _ (e : EntityData) (o : List ℕ) (request : RequestParts) (n : ℕ) (sound : IsSoundEntity e) (originator : is_originator o ≡ true) (content : NamesInOrder request) (none : fault_at Create e o request n ≡ None) where
+module _ (e : EntityData) (o : List ℕ) (request : RequestParts) (n : ℕ) (sound : IsSoundEntity e) (originator : is_originator o ≡ true) (none : fault_at Create e o request n ≡ None) where
   abbrev creates : IsCreate e o request n
-  creates = create e o request n sound originator content none
+  creates = create e o request n sound originator none
 
   abbrev made : Creation
   made = creates.made
 
   may : MayJoin made.e (new_resource made) (container_update_of made)
-  may = joins e o request n sound originator content none
+  may = joins e o request n sound originator none
 
   after : (effect_at Create e o request n).after ≡ after_joining made.e (new_resource made) (container_update_of made)
-  after = after_is e o request n sound originator content none
+  after = after_is e o request n sound originator none
 
   pub adds_one : AddsOne e n (effect_at Create e o request n).after
   adds_one =
       subst (AddsOne e n) (sym after)
       (subst (λ (x : EntityData). AddsOne x n (after_joining made.e (new_resource made) (container_update_of made))) creates.entity
       (subst (λ (m : ℕ). AddsOne made.e m (after_joining made.e (new_resource made) (container_update_of made))) creates.parent
-      (creation_adds made (made_sound e o request n sound originator content none) creates.may may)))
+      (creation_adds made (made_sound e o request n sound originator none) creates.may may)))
 
   -- its changes are those that it prepares
   pub creation_told : (parent : ResourceData) (ty : Ty) → at n e.nodes ≡ Some parent → child_ty request ≡ Some ty → changes_at Create e o request n ≡ creation_changes e.nodes (new_resource (creation_by e o request parent ty)) (gone_by (container_update_of (creation_by e o request parent ty)))
@@ -135,11 +135,11 @@ module _ (e : EntityData) (o : List ℕ) (request : RequestParts) (n : ℕ) (sou
       (subst (λ (c : Creation). MayJoin c.e (new_resource c) (container_update_of c)) by may)
       (sym (subst (λ (c : Creation). (effect_at Create e o request n).after ≡ after_joining c.e (new_resource c) (container_update_of c)) by after)))
 
-pub creation_adds_one : (e : EntityData) (o : List ℕ) (request : RequestParts) (n : ℕ) → IsSoundEntity e → is_originator o ≡ true → NamesInOrder request → is_success (effect_at Create e o request n).reply.rsc ≡ true → AddsOne e n (effect_at Create e o request n).after
-creation_adds_one e o request n sound originator content served = adds_one e o request n sound originator content (not_refused Create e o request n served)
+pub creation_adds_one : (e : EntityData) (o : List ℕ) (request : RequestParts) (n : ℕ) → IsSoundEntity e → is_originator o ≡ true → is_success (effect_at Create e o request n).reply.rsc ≡ true → AddsOne e n (effect_at Create e o request n).after
+creation_adds_one e o request n sound originator served = adds_one e o request n sound originator (not_refused Create e o request n served)
 
-pub told_created : (e : EntityData) (o : List ℕ) (request : RequestParts) (n : ℕ) (parent : ResourceData) (ty : Ty) → IsSoundEntity e → is_originator o ≡ true → NamesInOrder request → fault_at Create e o request n ≡ None → at n e.nodes ≡ Some parent → child_ty request ≡ Some ty → changes_at Create e o request n ≡ creation_changes e.nodes (new_resource (creation_by e o request parent ty)) (gone_by (container_update_of (creation_by e o request parent ty)))
-told_created e o request n parent ty sound originator content none found child = creation_told e o request n sound originator content none parent ty found child
+pub told_created : (e : EntityData) (o : List ℕ) (request : RequestParts) (n : ℕ) (parent : ResourceData) (ty : Ty) → IsSoundEntity e → is_originator o ≡ true → fault_at Create e o request n ≡ None → at n e.nodes ≡ Some parent → child_ty request ≡ Some ty → changes_at Create e o request n ≡ creation_changes e.nodes (new_resource (creation_by e o request parent ty)) (gone_by (container_update_of (creation_by e o request parent ty)))
+told_created e o request n parent ty sound originator none found child = creation_told e o request n sound originator none parent ty found child
 
 -- ---- an Update
 
@@ -185,25 +185,25 @@ module _ (e : EntityData) (sound : IsSoundEntity e) (old now : ResourceData) (ne
     rest = refl;
   }
 
-update_changes_one : (e : EntityData) (o : List ℕ) (request : RequestParts) (n : ℕ) → IsSoundEntity e → NamesInOrder request → fault_at Update e o request n ≡ None → ChangesOne e n (effect_at Update e o request n).after
-update_changes_one e o request n sound content none =
-    let u = is_update e o request n content none in
+update_changes_one : (e : EntityData) (o : List ℕ) (request : RequestParts) (n : ℕ) → IsSoundEntity e → fault_at Update e o request n ≡ None → ChangesOne e n (effect_at Update e o request n).after
+update_changes_one e o request n sound none =
+    let u = is_update e o request n none in
     let now = updated_resource e u.es u.target in
     subst (ChangesOne e n) (sym u.after)
     (subst (λ (m : ℕ). ChangesOne e m (updated_in e now)) u.number
-    (changes_one e sound u.target now (replacement e u.es u.target sound u.sorted u.may) u.may.stands refl))
+    (changes_one e sound u.target now (replacement e u.es u.target sound u.may) u.may.stands refl))
 
-pub update_alone : (e : EntityData) (o : List ℕ) (request : RequestParts) (n : ℕ) → IsSoundEntity e → NamesInOrder request → is_success (effect_at Update e o request n).reply.rsc ≡ true → ChangesOne e n (effect_at Update e o request n).after
-update_alone e o request n sound content served = update_changes_one e o request n sound content (not_refused Update e o request n served)
+pub update_alone : (e : EntityData) (o : List ℕ) (request : RequestParts) (n : ℕ) → IsSoundEntity e → is_success (effect_at Update e o request n).reply.rsc ≡ true → ChangesOne e n (effect_at Update e o request n).after
+update_alone e o request n sound served = update_changes_one e o request n sound (not_refused Update e o request n served)
 
 -- its changes are those that it prepares
-pub told_updated : (e : EntityData) (o : List ℕ) (request : RequestParts) (n : ℕ) (r : ResourceData) → IsSoundEntity e → NamesInOrder request → fault_at Update e o request n ≡ None → at n e.nodes ≡ Some r → changes_at Update e o request n ≡ update_changes e.nodes r (updated_by e request r) (named_attrs request r) (pushed_by e (updated_by e request r))
-told_updated e o request n r sound content none found =
-    let u = is_update e o request n content none in
+pub told_updated : (e : EntityData) (o : List ℕ) (request : RequestParts) (n : ℕ) (r : ResourceData) → IsSoundEntity e → fault_at Update e o request n ≡ None → at n e.nodes ≡ Some r → changes_at Update e o request n ≡ update_changes e.nodes r (updated_by e request r) (named_attrs request r) (pushed_by e (updated_by e request r))
+told_updated e o request n r sound none found =
+    let u = is_update e o request n none in
     let target : u.target ≡ r = same_Some u.target r (sym u.may.stands ∙ ap (λ (m : ℕ). at m e.nodes) u.number ∙ found) in
     let by : updated_resource e u.es u.target ≡ updated_by e request r = ap (λ (es : List Entry). updated_resource e es u.target) (sym u.named) ∙ ap (updated_by e request) target in
     sym (updated_are e o request n r (updated_by e request r) (pushed_by e (updated_by e request r)) sound none found (at_number n e.nodes r found)
-    (subst (IsReplacement e) by (replacement e u.es u.target sound u.sorted u.may))
+    (subst (IsReplacement e) by (replacement e u.es u.target sound u.may))
     refl
     (sym (subst (λ (s : ResourceData). (effect_at Update e o request n).after ≡ updated_in e s) by u.after)))
 
@@ -218,14 +218,14 @@ stays e now same none = (let count : length (only_in now.nodes e.nodes) ≡ 0 = 
 unchanged : (e now : EntityData) → now ≡ e → Rises e now
 unchanged e now same = subst (Rises e) (sym same) (stays e e refl (nothing_apart e.nodes))
 
-module _ (e : EntityData) (o : List ℕ) (request : RequestParts) (n : ℕ) (sound : IsSoundEntity e) (originator : is_originator o ≡ true) (content : NamesInOrder request) where
+module _ (e : EntityData) (o : List ℕ) (request : RequestParts) (n : ℕ) (sound : IsSoundEntity e) (originator : is_originator o ≡ true) where
   abbrev left_by : Op → EntityData
   left_by op = (effect_at op e o request n).after
 
   -- a Retrieve and a Notify do nothing here
   rises : (op : Op) → fault_at op e o request n ≡ None → Rises e (left_by op)
   rises Create none =
-      let adds = adds_one e o request n sound originator content none in
+      let adds = adds_one e o request n sound originator none in
       let count : length (only_in (left_by Create).nodes e.nodes) ≡ 1 = ap length adds.alone in
       let next : (left_by Create).next ≡ e.next + 1 = ap (λ (x : EntityData). x.next) adds.rest in
       omega (arith, count, next)
@@ -233,10 +233,10 @@ module _ (e : EntityData) (o : List ℕ) (request : RequestParts) (n : ℕ) (sou
       let found = found_at Retrieve e o request n none in
       unchanged e (left_by Retrieve) (ap (λ (x : Effect). x.after) (done_at Retrieve e o request n found.0 found.1 none))
   rises Update none =
-      let changes = update_changes_one e o request n sound content none in
+      let changes = update_changes_one e o request n sound none in
       stays e (left_by Update) (ap (λ (x : EntityData). x.next) changes.rest) changes.none
   rises Delete none =
-      let tree : is_tree (left_by Delete).nodes ≡ true = tree_from_well_formed (left_by Delete).nodes (stays_sound Delete e o request n sound originator content).tree in
+      let tree : is_tree (left_by Delete).nodes ≡ true = tree_from_well_formed (left_by Delete).nodes (stays_sound Delete e o request n sound originator).tree in
       stays e (left_by Delete) (ap (λ (x : Effect). x.after.next) (delete_done e o request n none))
       (gone_are (λ r. false) (left_by Delete).nodes e.nodes tree (λ r found. at_has r.number e.nodes r (deletion_keeps e o request n r sound found))
       ∙ nothing_picked (λ r. false) (left_by Delete).nodes (none_false (left_by Delete).nodes))
@@ -248,8 +248,8 @@ module _ (e : EntityData) (o : List ℕ) (request : RequestParts) (n : ℕ) (sou
   by_fault op None none = rises op none
   by_fault op (Some f) is = unchanged e (left_by op) (ap (λ (x : Effect). x.after) (refused_at op e o request n f is))
 
-pub next_rises : (op : Op) (e : EntityData) (o : List ℕ) (request : RequestParts) (n : ℕ) → IsSoundEntity e → is_originator o ≡ true → NamesInOrder request → (effect_at op e o request n).after.next ≡ e.next + length (only_in (effect_at op e o request n).after.nodes e.nodes)
-next_rises op e o request n sound originator content = by_fault e o request n sound originator content op (fault_at op e o request n) refl
+pub next_rises : (op : Op) (e : EntityData) (o : List ℕ) (request : RequestParts) (n : ℕ) → IsSoundEntity e → is_originator o ≡ true → (effect_at op e o request n).after.next ≡ e.next + length (only_in (effect_at op e o request n).after.nodes e.nodes)
+next_rises op e o request n sound originator = by_fault e o request n sound originator op (fault_at op e o request n) refl
 
 -- ---- what no place refuses
 

@@ -14,7 +14,6 @@ ghost use Rattle.request_rules.specs.Requests.{child_ty};
 ghost use Rattle.create_delete.specs.Changes.{changes_at, creation_changes, deletion_changes};
 ghost use Rattle.create_delete.specs.Changes.{named_attrs, update_changes};
 ghost use Rattle.create_delete.specs.Changing.{container_update_of, pushed_by, updated_by};
-ghost use Rattle.create_delete.specs.Guard.{NamesInOrder};
 ghost use Rattle.create_delete.specs.Joining.{gone_by};
 
 /// The changes that an operation makes of a sound entity, where no place refuses it, are just what
@@ -24,14 +23,14 @@ ghost use Rattle.create_delete.specs.Joining.{gone_by};
 pub fn the_changes_are_those_that_are_prepared()
     ensures creation { (e : EntityData) (originator : List ℕ) (request : RequestParts) (n : ℕ)
         (parent : ResourceData) (ty : Ty)
-        → IsSoundEntity e → IsTrue (is_originator originator) → NamesInOrder request
+        → IsSoundEntity e → IsTrue (is_originator originator)
         → fault_at Create e originator request n ≡ None
         → at n e.nodes ≡ Some parent → child_ty request ≡ Some ty
         → changes_at Create e originator request n
         ≡ creation_changes e.nodes (new_resource (creation_by e originator request parent ty))
         (gone_by (container_update_of (creation_by e originator request parent ty))) }
     ensures update { (e : EntityData) (originator : List ℕ) (request : RequestParts) (n : ℕ)
-        (r : ResourceData) → IsSoundEntity e → NamesInOrder request
+        (r : ResourceData) → IsSoundEntity e
         → fault_at Update e originator request n ≡ None → at n e.nodes ≡ Some r
         → changes_at Update e originator request n
         ≡ update_changes e.nodes r (updated_by e request r) (named_attrs request r)

@@ -12,7 +12,6 @@ ghost use Rattle.request_rules.specs.Groups.{does_edit_members, members_edited, 
 ghost use Rattle.request_rules.specs.Order.{creation_by, fault_at};
 ghost use Rattle.request_rules.specs.Requests.{child_ty, named_by, named_for};
 ghost use Rattle.create_delete.specs.Changing.{updated_by};
-ghost use Rattle.create_delete.specs.Guard.{NamesInOrder};
 ghost use Rattle.change_laws.specs.Groups.{KeepsMembers};
 
 /// A group keeps of the members that it is asked to have each once, and only those: by its creation,
@@ -22,13 +21,13 @@ ghost use Rattle.change_laws.specs.Groups.{KeepsMembers};
 /// a live resource.
 pub fn a_group_keeps_its_members_once()
     ensures created { (e : EntityData) (originator : List ℕ) (request : RequestParts) (n : ℕ)
-        (parent : ResourceData) → NamesInOrder request
+        (parent : ResourceData)
         → fault_at Create e originator request n ≡ None
         → at n e.nodes ≡ Some parent → child_ty request ≡ Some Group
         → KeepsMembers e (members_wanted (named_for request Group))
         (new_resource (creation_by e originator request parent Group)).attrs }
     ensures updated { (e : EntityData) (originator : List ℕ) (request : RequestParts) (n : ℕ)
-        (r : ResourceData) → IsSoundEntity e → NamesInOrder request
+        (r : ResourceData) → IsSoundEntity e
         → fault_at Update e originator request n ≡ None → at n e.nodes ≡ Some r
         → IsTrue (does_edit_members r (named_by Update request r))
         → KeepsMembers e (members_edited r (named_by Update request r))

@@ -15,7 +15,6 @@ ghost use Rattle.entity_model.specs.Sound.{IsSoundEntity};
 ghost use Rattle.create_delete.specs.Changes.{changes_at, only_in};
 ghost use Rattle.create_delete.specs.Changing.{create_effect, delete_effect, effect_at};
 ghost use Rattle.create_delete.specs.Changing.{update_effect};
-ghost use Rattle.create_delete.specs.Guard.{NamesInOrder};
 ghost use Rattle.create_delete.specs.Telling.{gone_numbers, told_effect_at};
 ghost use Rattle.change_laws.specs.Served.{AddsOne, ChangesOne, ServesCreate, ServesDelete};
 ghost use Rattle.change_laws.specs.Served.{MayCreate, MayDelete, MayUpdate, ServesUpdate};
@@ -71,7 +70,7 @@ pub fn what_is_done_is_told_behind()
 /// removes at most instances of it.
 pub fn a_creation_adds_one_resource()
     ensures { (e : EntityData) (originator : List ℕ) (request : RequestParts) (n : ℕ)
-        → IsSoundEntity e → IsTrue (is_originator originator) → NamesInOrder request
+        → IsSoundEntity e → IsTrue (is_originator originator)
         → IsTrue (is_success (effect_at Create e originator request n).reply.rsc)
         → AddsOne e n (effect_at Create e originator request n).after }
 {}
@@ -80,7 +79,7 @@ pub fn a_creation_adds_one_resource()
 /// most instances of it.
 pub fn an_update_changes_its_target_alone()
     ensures { (e : EntityData) (originator : List ℕ) (request : RequestParts) (n : ℕ)
-        → IsSoundEntity e → NamesInOrder request
+        → IsSoundEntity e
         → IsTrue (is_success (effect_at Update e originator request n).reply.rsc)
         → ChangesOne e n (effect_at Update e originator request n).after }
 {}
@@ -88,7 +87,7 @@ pub fn an_update_changes_its_target_alone()
 /// The next number of a sound entity rises by just as many as are new.
 pub fn the_next_number_rises_by_what_is_new()
     ensures { (op : Op) (e : EntityData) (originator : List ℕ) (request : RequestParts) (n : ℕ)
-        → IsSoundEntity e → IsTrue (is_originator originator) → NamesInOrder request
+        → IsSoundEntity e → IsTrue (is_originator originator)
         → (effect_at op e originator request n).after.next
         ≡ e.next + length (only_in (effect_at op e originator request n).after.nodes e.nodes) }
 {}

@@ -19,7 +19,7 @@ use Rattle.request_rules.specs.Order.{expires_later, fault_on}
 use Rattle.request_rules.specs.Policies.{links_live}
 use Rattle.request_rules.specs.Requests.{child_ty, content_for, is_content_for, named_by, takes_child}
 use Rattle.request_rules.proofs.CreatingLemmas.{named_is, new_is}
-use Rattle.request_rules.proofs.EditingLemmas.{admitted_for, names_some}
+use Rattle.request_rules.proofs.EditingLemmas.{admitted_for, names_some, sorted_for}
 use Rattle.request_rules.proofs.OrderLemmas.{new_parts, places_parts}
 use Rattle.create_delete.specs.Joining.{IsAllowed}
 
@@ -50,6 +50,7 @@ allowed e o request parent ty es none there child whole =
     record {
       parent = there;
       takes = sym (ap (λ (x : Option Ty). option_map_or (does_take parent.ty) x false) child) ∙ h.child;
+      sorted = sorted_for Creating request ty es (content_of e o request parent ty none child) whole;
       admitted = admitted_for Creating request ty es (content_of e o request parent ty none child) whole;
       later = ap (expires_later e) (sym names) ∙ h.later;
       live = ap (links_live e) (sym names) ∙ h.live;

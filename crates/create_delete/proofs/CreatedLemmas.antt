@@ -38,7 +38,6 @@ use Rattle.request_rules.specs.Creation.{Creation, creator_rows, given_rows, has
 use Rattle.request_rules.specs.Groups.{MembershipData, member_rows}
 use Rattle.request_rules.specs.Policies.{link_row}
 use Rattle.request_rules.specs.Requests.{named_expiry}
-use Rattle.request_rules.proofs.EditingLemmas.{attributes_admitted}
 use Rattle.request_rules.proofs.RoomLemmas.{StandsAlone, HasRoom, free_cse_id_parts, place_parts, room_parts, takes_parts, unique_parts}
 use Rattle.create_delete.specs.Changing.{container_update_of, pushed_out}
 use Rattle.create_delete.specs.Joining.{IsAllowed, MayJoin}
@@ -57,7 +56,10 @@ takes_it c small instance = rw instance at small
 
 -- ---- a new resource
 
-module _ (c : Creation) (sound : IsSoundEntity c.e) (originator : is_originator c.originator ≡ true) (sorted : AreSorted c.named) (may : IsAllowed c) where
+module _ (c : Creation) (sound : IsSoundEntity c.e) (originator : is_originator c.originator ≡ true) (may : IsAllowed c) where
+  sorted : AreSorted c.named
+  sorted = may.sorted
+
   abbrev r : ResourceData
   r = new_resource c
 
@@ -272,15 +274,8 @@ few_numbers c may = (let few : c.e.next < 2 ^ 63 - 1 = few_for c may.room in ome
 pub small_contents : (c : Creation) → IsAllowed c → is_ty c.ty ContentInstance ≡ true → new_size c < 2 ^ 63
 small_contents c may is = (let small : new_size c ≤ 1048576 = (takes_parts c.parent (new_size c) (takes_it c (room_parts c may.room).small is)).largest in omega arith)
 
-pub wanted_is : (ty : Ty) (content : Data) (es : List Entry) → attributes_in ty content ≡ Some es → wanted_of ty content ≡ wanted_in es
-wanted_is ty content es named = ap (λ (o : Option (List Entry)). wanted_in (unwrap_or o [])) named
-
--- a content whose attributes are admitted is admitted
-pub content_admitted : (c : Creation) (content : Data) → IsAllowed c → attributes_in c.ty content ≡ Some c.named → is_admitted Creating c.ty content ≡ true
-content_admitted c content may named = attributes_admitted Creating c.ty content c.named named ∙ may.admitted
-
 pub last_is_moment : (e : EntityData) → IsSoundEntity e → e.last ≤ last_moment
 last_is_moment e sound = (let most : e.last ≤ last_reading = sound.last in omega arith)
 
 -- the parts of what a creation makes
-pub ruleset parts_of_the_created = (few_numbers, small_contents, wanted_is, content_admitted, last_is_moment)
+pub ruleset parts_of_the_created = (few_numbers, small_contents, last_is_moment)

@@ -23,7 +23,6 @@ use Rattle.request_rules.specs.Order.{creation_by, fault_at}
 use Rattle.request_rules.specs.declared.judging.AllowedCreate.{AllowedCreate}
 use Rattle.request_rules.specs.declared.judging.AllowedUpdate.{AllowedUpdate}
 use Rattle.request_rules.specs.Requests.{content_for}
-use Rattle.request_rules.proofs.EditingLemmas.{content_names}
 use Rattle.request_rules.proofs.OrderLemmas.{found_at, nothing_on}
 use Rattle.create_delete.specs.Changing.{after_joining, create_effect, nodes_updated, effect_at, pushed_by, update_effect}
 use Rattle.create_delete.specs.Joining.{IsAllowed, MayJoin, gone_by}
@@ -44,7 +43,7 @@ use Rattle.create_delete.proofs.UpdatableLemmas.{updatable}
 
 module _ (e : EntityData) (o : List ℕ) (request : RequestParts) (n : ℕ) (create : AllowedCreate) (none : fault_at Create e o request n ≡ None) (asked : IsCreateOf e request n create) where
   create_names : content_for request create.ty ≡ Some create.named.now
-  create_names = content_names request create.ty create.content.now create.named.now asked.content asked.named
+  create_names = asked.named
 
   pub create_allowed : IsAllowed (creation_for e o create)
   create_allowed =
@@ -77,7 +76,7 @@ module _ (e : EntityData) (o : List ℕ) (request : RequestParts) (n : ℕ) (upd
   number = at_number n e.nodes update.target.now asked.target
 
   update_names : content_for request update.target.now.ty ≡ Some update.named.now
-  update_names = content_names request update.target.now.ty update.content.now update.named.now asked.content asked.named
+  update_names = asked.named
 
   pub update_allowed : IsUpdatable e update.named.now update.target.now
   update_allowed =

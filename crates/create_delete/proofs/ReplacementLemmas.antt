@@ -56,7 +56,10 @@ still_known next (Some d) clears old t known = elim (cases_Bool (clears d)) [
   | inr v ↦ rw v (ap (list_all (is_known_id next)) (nil_from_length (listed_in (Some d)) (eqb-true (length (listed_in (Some d))) 0 t)))
 ]
 
-module _ (e : EntityData) (es : List Entry) (r : ResourceData) (sound : IsSoundEntity e) (sorted : AreSorted es) (may : IsUpdatable e es r) where
+module _ (e : EntityData) (es : List Entry) (r : ResourceData) (sound : IsSoundEntity e) (may : IsUpdatable e es r) where
+  sorted : AreSorted es
+  sorted = may.sorted
+
   abbrev now : ResourceData
   now = updated_resource e es r
 

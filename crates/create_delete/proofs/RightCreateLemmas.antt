@@ -14,7 +14,6 @@ use Rattle.m2m_names.specs.declared.operations.Op.TheVariants.{Create}
 use Rattle.m2m_names.specs.declared.types.Ty.{Ty}
 use Rattle.m2m_names.specs.declared.types.Ty.TheVariants.{Container, ContentInstance}
 use Rattle.m2m_value.specs.Data.{Entry, number}
-use Rattle.m2m_value.specs.Node.{AreSorted}
 use Rattle.primitive_json.specs.declared.request.RequestParts.{RequestParts}
 use Rattle.resource_model.specs.Resource.{ResourceData, is_ty, has_number}
 use Rattle.resource_model.proofs.AttributeLemmas.{value-with_value_other}
@@ -34,7 +33,7 @@ use Rattle.request_rules.specs.Requests.{child_ty, content_for}
 use Rattle.request_rules.specs.Rights.{create_bits, is_granted, is_subscribing}
 use Rattle.request_rules.proofs.OrderLemmas.{found_at, nothing_on, places_parts}
 use Rattle.create_delete.specs.Changing.{after_joining, create_effect, with_new_instance, container_update_of, is_numbered_in, effect_at, with_new_resource, without_all}
-use Rattle.create_delete.specs.Guard.{ChangesByRight, DiffersIn, container_update_attrs, NamesInOrder, IsChanged, IsChangedByRight, IsGone, IsNew}
+use Rattle.create_delete.specs.Guard.{ChangesByRight, DiffersIn, container_update_attrs, IsChanged, IsChangedByRight, IsGone, IsNew}
 use Rattle.create_delete.specs.Joining.{IsAllowed, MayJoinContainer, MayJoin}
 use Rattle.create_delete.specs.NewResource.{IsNewInstance, IsNewResource}
 use Rattle.create_delete.specs.declared.joining.ContainerUpdate.{ContainerUpdate}
@@ -264,12 +263,11 @@ pub record IsCreate (e : EntityData) (o : List ℕ) (request : RequestParts) (n 
   pub originator : made.originator ≡ o
   pub parent : made.parent.number ≡ n
   pub by : (t : ResourceData) (ty : Ty) → at n e.nodes ≡ Some t → child_ty request ≡ Some ty → made ≡ creation_by e o request t ty
-  pub sorted : AreSorted made.named
   pub may : IsAllowed made
   pub right : is_granted made.e made.originator (op_row Create).bit made.parent.number ≡ true
   pub after : (effect_at Create e o request n).after ≡ (create_effect request made).after
 
-module _ (e : EntityData) (o : List ℕ) (request : RequestParts) (n : ℕ) (content : NamesInOrder request) (none : fault_at Create e o request n ≡ None) where
+module _ (e : EntityData) (o : List ℕ) (request : RequestParts) (n : ℕ) (none : fault_at Create e o request n ≡ None) where
   create_of : (t : ResourceData) → at n e.nodes ≡ Some t → fault_on Create e o request t ≡ None → (ty : Ty) → child_ty request ≡ Some ty → (es : List Entry) → content_for request ty ≡ Some es → IsCreate e o request n
   create_of t stands fault ty child es whole =
       let number : t.number ≡ n = at_number n e.nodes t stands in
@@ -282,7 +280,6 @@ module _ (e : EntityData) (o : List ℕ) (request : RequestParts) (n : ℕ) (con
             ap (λ (x : Option (List Entry)). creation_of e o ty t (unwrap_or x [])) (sym whole)
             ∙ ap (creation_by e o request t) (same_Some ty kind (sym child ∙ names))
             ∙ ap (λ (x : ResourceData). creation_by e o request x kind) (same_Some t u (sym stands ∙ found));
-        sorted = content ty es whole;
         may = allowed e o request t ty es fault (ap (λ (m : ℕ). at m e.nodes) number ∙ stands) child whole;
         right = creates_by e o request t.number (places_parts Create e o request t fault).right;
         after =
@@ -305,15 +302,15 @@ module _ (e : EntityData) (o : List ℕ) (request : RequestParts) (n : ℕ) (con
       by_type found.0 found.1 (nothing_on Create e o request n found.0 found.1 none) (child_ty request) refl
 
 -- its resource joins
-module _ (e : EntityData) (o : List ℕ) (request : RequestParts) (n : ℕ) (sound : IsSoundEntity e) (originator : is_originator o ≡ true) (content : NamesInOrder request) (none : fault_at Create e o request n ≡ None) where
+module _ (e : EntityData) (o : List ℕ) (request : RequestParts) (n : ℕ) (sound : IsSoundEntity e) (originator : is_originator o ≡ true) (none : fault_at Create e o request n ≡ None) where
   pub create : IsCreate e o request n
-  create = is_create e o request n content none
+  create = is_create e o request n none
 
   pub made_sound : IsSoundEntity create.made.e
   made_sound = subst IsSoundEntity (sym create.entity) sound
 
   pub joins : MayJoin create.made.e (new_resource create.made) (container_update_of create.made)
-  joins = may_join create.made made_sound (ap is_originator create.originator ∙ originator) create.sorted create.may
+  joins = may_join create.made made_sound (ap is_originator create.originator ∙ originator) create.may
 
   pub after_is : (effect_at Create e o request n).after ≡ after_joining create.made.e (new_resource create.made) (container_update_of create.made)
   after_is = create.after

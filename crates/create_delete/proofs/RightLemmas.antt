@@ -23,7 +23,7 @@ use Rattle.request_rules.proofs.OrderLemmas.{found_at}
 use Rattle.request_rules.specs.Creation.{new_resource}
 use Rattle.create_delete.specs.Changes.{changes_by, named_attrs}
 use Rattle.create_delete.specs.Changing.{after_joining, container_update_of, nodes_updated, effect_at, pushed_by, pushed_out, updated_resource, without_all}
-use Rattle.create_delete.specs.Guard.{ChangesByRight, NamesInOrder}
+use Rattle.create_delete.specs.Guard.{ChangesByRight}
 use Rattle.create_delete.specs.NewResource.{IsReplacement}
 use Rattle.create_delete.specs.Telling.{drafts_at, gone_numbers, told_effect_at}
 use Rattle.create_delete.proofs.DeletionLemmas.{deletable, deletable_spared, deletion_keeps, deletion_takes, delete_done}
@@ -77,11 +77,11 @@ delete_sound e o request n sound none =
 
 -- ---- each operation
 
-module _ (e : EntityData) (o : List ℕ) (request : RequestParts) (n : ℕ) (sound : IsSoundEntity e) (originator : is_originator o ≡ true) (content : NamesInOrder request) where
+module _ (e : EntityData) (o : List ℕ) (request : RequestParts) (n : ℕ) (sound : IsSoundEntity e) (originator : is_originator o ≡ true) where
   done_by_right : (op : Op) → fault_at op e o request n ≡ None → ChangesByRight op e o n [] (effect_at op e o request n).after
-  done_by_right Create none = create_by_right e o request n sound originator content none
+  done_by_right Create none = create_by_right e o request n sound originator none
   done_by_right Retrieve none = subst (ChangesByRight Retrieve e o n []) (sym (retrieve_same e o request n none)) (unchanged Retrieve e o n [])
-  done_by_right Update none = update_by_right e o request n sound content none
+  done_by_right Update none = update_by_right e o request n sound none
   done_by_right Delete none = delete_by_right e o request n sound
   done_by_right Notify none = subst (ChangesByRight Notify e o n []) (sym (notify_same e o request n none)) (unchanged Notify e o n [])
 
@@ -90,9 +90,9 @@ module _ (e : EntityData) (o : List ℕ) (request : RequestParts) (n : ℕ) (sou
   by_fault op (Some f) is = subst (ChangesByRight op e o n []) (sym (refused_after op e o request n f is)) (unchanged op e o n [])
 
   done_sound : (op : Op) → fault_at op e o request n ≡ None → IsSoundEntity (effect_at op e o request n).after
-  done_sound Create none = create_sound e o request n sound originator content none
+  done_sound Create none = create_sound e o request n sound originator none
   done_sound Retrieve none = subst IsSoundEntity (sym (retrieve_same e o request n none)) sound
-  done_sound Update none = update_sound e o request n sound content none
+  done_sound Update none = update_sound e o request n sound none
   done_sound Delete none = delete_sound e o request n sound none
   done_sound Notify none = subst IsSoundEntity (sym (notify_same e o request n none)) sound
 
@@ -100,15 +100,15 @@ module _ (e : EntityData) (o : List ℕ) (request : RequestParts) (n : ℕ) (sou
   sound_by_fault op None none = done_sound op none
   sound_by_fault op (Some f) is = subst IsSoundEntity (sym (refused_after op e o request n f is)) sound
 
-pub changes_by_right : (op : Op) (e : EntityData) (o : List ℕ) (request : RequestParts) (n : ℕ) → IsSoundEntity e → is_originator o ≡ true → NamesInOrder request → ChangesByRight op e o n [] (effect_at op e o request n).after
-changes_by_right op e o request n sound originator content = by_fault e o request n sound originator content op (fault_at op e o request n) refl
+pub changes_by_right : (op : Op) (e : EntityData) (o : List ℕ) (request : RequestParts) (n : ℕ) → IsSoundEntity e → is_originator o ≡ true → ChangesByRight op e o n [] (effect_at op e o request n).after
+changes_by_right op e o request n sound originator = by_fault e o request n sound originator op (fault_at op e o request n) refl
 
-pub stays_sound : (op : Op) (e : EntityData) (o : List ℕ) (request : RequestParts) (n : ℕ) → IsSoundEntity e → is_originator o ≡ true → NamesInOrder request → IsSoundEntity (effect_at op e o request n).after
-stays_sound op e o request n sound originator content = sound_by_fault e o request n sound originator content op (fault_at op e o request n) refl
+pub stays_sound : (op : Op) (e : EntityData) (o : List ℕ) (request : RequestParts) (n : ℕ) → IsSoundEntity e → is_originator o ≡ true → IsSoundEntity (effect_at op e o request n).after
+stays_sound op e o request n sound originator = sound_by_fault e o request n sound originator op (fault_at op e o request n) refl
 
 -- ---- and where it is told
 
-module _ (e : EntityData) (o : List ℕ) (request : RequestParts) (n : ℕ) (sound : IsSoundEntity e) (originator : is_originator o ≡ true) (content : NamesInOrder request) where
+module _ (e : EntityData) (o : List ℕ) (request : RequestParts) (n : ℕ) (sound : IsSoundEntity e) (originator : is_originator o ≡ true) where
   abbrev left : Op → EntityData
   left op = (effect_at op e o request n).after
 
@@ -117,21 +117,21 @@ module _ (e : EntityData) (o : List ℕ) (request : RequestParts) (n : ℕ) (sou
 
   create_keeps : fault_at Create e o request n ≡ None → KeepsTold e.nodes (drafts Create) (left Create).nodes
   create_keeps none =
-      let c = create e o request n sound originator content none in
+      let c = create e o request n sound originator none in
       let home = (left Create).home in
       let going = gone_numbers e (left Create) in
       let changes = changes_by Create request n e (left Create) in
       let r = new_resource c.made in
       let f = container_update_of c.made in
-      subst (λ (x : EntityData). KeepsTold e.nodes (notes_of_all home e.nodes going changes) x.nodes) (sym (after_is e o request n sound originator content none))
+      subst (λ (x : EntityData). KeepsTold e.nodes (notes_of_all home e.nodes going changes) x.nodes) (sym (after_is e o request n sound originator none))
       (subst (λ (x : EntityData). KeepsTold x.nodes (notes_of_all home x.nodes going changes) (after_joining c.made.e r f).nodes) c.entity
-      (keeps_joined home c.made.e (made_sound e o request n sound originator content none) going r changes f (joins e o request n sound originator content none)))
+      (keeps_joined home c.made.e (made_sound e o request n sound originator none) going r changes f (joins e o request n sound originator none)))
 
   update_keeps : fault_at Update e o request n ≡ None → KeepsTold e.nodes (drafts Update) (left Update).nodes
   update_keeps none =
-      let u = is_update e o request n content none in
+      let u = is_update e o request n none in
       let now = updated_resource e u.es u.target in
-      let new = replacement e u.es u.target sound u.sorted u.may in
+      let new = replacement e u.es u.target sound u.may in
       let home = (left Update).home in
       let going = gone_numbers e (left Update) in
       let makes : changes_by Update request n e (left Update) ≡ update_changes e.nodes u.target now (named_attrs request u.target) (pushed_by e now) =
@@ -168,19 +168,19 @@ module _ (e : EntityData) (o : List ℕ) (request : RequestParts) (n : ℕ) (sou
   by_right_or_refused op (Some f) is = subst (ChangesByRight op e o n (drafts op)) (sym (ap (λ (x : Effect). x.after) (told_refused_at op e o request n f is))) (unchanged op e o n (drafts op))
   by_right_or_refused op None none =
       subst (ChangesByRight op e o n (drafts op)) (sym (told_is op none))
-      (told_right op e o n (drafts op) (left op) (stays_sound op e o request n sound originator content) (keeps op none) (changes_by_right op e o request n sound originator content))
+      (told_right op e o n (drafts op) (left op) (stays_sound op e o request n sound originator) (keeps op none) (changes_by_right op e o request n sound originator))
 
   sound_or_refused : (op : Op) (x : Option Rsc) → fault_at op e o request n ≡ x → IsSoundEntity (told_effect_at op e o request n).after
   sound_or_refused op (Some f) is = subst IsSoundEntity (sym (ap (λ (x : Effect). x.after) (told_refused_at op e o request n f is))) sound
   sound_or_refused op None none =
-      subst IsSoundEntity (sym (told_is op none)) (sound_told e.nodes (drafts op) (left op) (stays_sound op e o request n sound originator content))
+      subst IsSoundEntity (sym (told_is op none)) (sound_told e.nodes (drafts op) (left op) (stays_sound op e o request n sound originator))
 
 -- what an operation changes, and what is told of it, it does by right
-pub told_by_right : (op : Op) (e : EntityData) (o : List ℕ) (request : RequestParts) (n : ℕ) → IsSoundEntity e → is_originator o ≡ true → NamesInOrder request → ChangesByRight op e o n (drafts_at op e o request n) (told_effect_at op e o request n).after
-told_by_right op e o request n sound originator content = by_right_or_refused e o request n sound originator content op (fault_at op e o request n) refl
+pub told_by_right : (op : Op) (e : EntityData) (o : List ℕ) (request : RequestParts) (n : ℕ) → IsSoundEntity e → is_originator o ≡ true → ChangesByRight op e o n (drafts_at op e o request n) (told_effect_at op e o request n).after
+told_by_right op e o request n sound originator = by_right_or_refused e o request n sound originator op (fault_at op e o request n) refl
 
-pub told_stays_sound : (op : Op) (e : EntityData) (o : List ℕ) (request : RequestParts) (n : ℕ) → IsSoundEntity e → is_originator o ≡ true → NamesInOrder request → IsSoundEntity (told_effect_at op e o request n).after
-told_stays_sound op e o request n sound originator content = sound_or_refused e o request n sound originator content op (fault_at op e o request n) refl
+pub told_stays_sound : (op : Op) (e : EntityData) (o : List ℕ) (request : RequestParts) (n : ℕ) → IsSoundEntity e → is_originator o ≡ true → IsSoundEntity (told_effect_at op e o request n).after
+told_stays_sound op e o request n sound originator = sound_or_refused e o request n sound originator op (fault_at op e o request n) refl
 
 -- ---- a container after an update
 

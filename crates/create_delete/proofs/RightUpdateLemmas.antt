@@ -6,7 +6,6 @@ use Rattle.m2m_names.specs.Operations.{op_row}
 use Rattle.m2m_names.specs.declared.operations.Op.TheVariants.{Update}
 use Rattle.m2m_names.specs.declared.types.Ty.TheVariants.{Container, ContentInstance}
 use Rattle.m2m_value.specs.Data.{Entry}
-use Rattle.m2m_value.specs.Node.{AreSorted}
 use Rattle.primitive_json.specs.declared.request.RequestParts.{RequestParts}
 use Rattle.resource_model.specs.Resource.{ResourceData, is_ty}
 use Rattle.tree_model.specs.Tree.{at, instances_of, is_instance, is_tree, replaced}
@@ -23,7 +22,7 @@ use Rattle.request_rules.specs.Requests.{content_for, named_by}
 use Rattle.request_rules.specs.Rights.{is_granted, is_relink, may_update}
 use Rattle.request_rules.proofs.OrderLemmas.{found_at, nothing_on, places_parts}
 use Rattle.create_delete.specs.Changing.{nodes_updated, effect_at, pushed_by, pushed_out, update_effect, updated_resource, without_all}
-use Rattle.create_delete.specs.Guard.{ChangesByRight, DiffersIn, NamesInOrder, IsChanged, IsChangedByRight, IsGone, IsNew, IsRemovedByRight, link_attrs}
+use Rattle.create_delete.specs.Guard.{ChangesByRight, DiffersIn, IsChanged, IsChangedByRight, IsGone, IsNew, IsRemovedByRight, link_attrs}
 use Rattle.create_delete.specs.NewResource.{IsReplacement}
 use Rattle.create_delete.specs.Updating.{IsUpdatable}
 use Rattle.create_delete.proofs.LeftLemmas.{all_left, is_left, pushes_nothing, IsLeft}
@@ -73,7 +72,7 @@ module _ (e : EntityData) (sound : IsSoundEntity e) (now : ResourceData) (new : 
 
 -- ---- an Update that no place refuses
 
-module _ (e : EntityData) (sound : IsSoundEntity e) (o : List ℕ) (request : RequestParts) (old : ResourceData) (es : List Entry) (sorted : AreSorted es) (may : IsUpdatable e es old) (whole : content_for request old.ty ≡ Some es) (right : may_update e o request old.number ≡ true) where
+module _ (e : EntityData) (sound : IsSoundEntity e) (o : List ℕ) (request : RequestParts) (old : ResourceData) (es : List Entry) (may : IsUpdatable e es old) (whole : content_for request old.ty ≡ Some es) (right : may_update e o request old.number ≡ true) where
   abbrev now : ResourceData
   now = updated_resource e es old
 
@@ -81,7 +80,7 @@ module _ (e : EntityData) (sound : IsSoundEntity e) (o : List ℕ) (request : Re
   after = updated_in e now
 
   new : IsReplacement e now
-  new = replacement e es old sound sorted may
+  new = replacement e es old sound may
 
   -- ---- what is new
 
@@ -100,7 +99,7 @@ module _ (e : EntityData) (sound : IsSoundEntity e) (o : List ℕ) (request : Re
         inr (inl (relinks_it, relinked e es old (names_link request old.ty es link whole)))
     | inr other ↦
         let updates_it : is_granted e o (op_row Update).bit old.number ≡ true = rw other at right in
-        inl (updates_it, links_stay e es old sorted (names_no_link request old.ty es may.admitted whole other))
+        inl (updates_it, links_stay e es old may.sorted (names_no_link request old.ty es may.admitted whole other))
   ]
 
   by_same : (r s : ResourceData) → old ≡ r → now ≡ s → IsChangedByRight e o [] after r s
@@ -168,13 +167,12 @@ pub record IsUpdate (e : EntityData) (o : List ℕ) (request : RequestParts) (n 
   pub number : target.number ≡ n
   pub es : List Entry
   pub named : named_by Update request target ≡ es
-  pub sorted : AreSorted es
   pub may : IsUpdatable e es target
   pub whole : content_for request target.ty ≡ Some es
   pub right : may_update e o request target.number ≡ true
   pub after : (effect_at Update e o request n).after ≡ updated_in e (updated_resource e es target)
 
-module _ (e : EntityData) (o : List ℕ) (request : RequestParts) (n : ℕ) (content : NamesInOrder request) (none : fault_at Update e o request n ≡ None) where
+module _ (e : EntityData) (o : List ℕ) (request : RequestParts) (n : ℕ) (none : fault_at Update e o request n ≡ None) where
   update_of : (t : ResourceData) → at n e.nodes ≡ Some t → fault_on Update e o request t ≡ None → (es : List Entry) → content_for request t.ty ≡ Some es → IsUpdate e o request n
   update_of t there fault es whole =
       let number : t.number ≡ n = at_number n e.nodes t there in
@@ -184,7 +182,6 @@ module _ (e : EntityData) (o : List ℕ) (request : RequestParts) (n : ℕ) (con
         number = number;
         es = es;
         named = names;
-        sorted = content t.ty es whole;
         may = updatable e o request t es fault (ap (λ (m : ℕ). at m e.nodes) number ∙ there) whole;
         whole = whole;
         right = (places_parts Update e o request t fault).right;
@@ -202,14 +199,14 @@ module _ (e : EntityData) (o : List ℕ) (request : RequestParts) (n : ℕ) (con
       let found = found_at Update e o request n none in
       by_names found.0 found.1 (nothing_on Update e o request n found.0 found.1 none) (content_for request found.0.ty) refl
 
-pub update_by_right : (e : EntityData) (o : List ℕ) (request : RequestParts) (n : ℕ) → IsSoundEntity e → NamesInOrder request → fault_at Update e o request n ≡ None → ChangesByRight Update e o n [] (effect_at Update e o request n).after
-update_by_right e o request n sound content none =
-    let u = is_update e o request n content none in
+pub update_by_right : (e : EntityData) (o : List ℕ) (request : RequestParts) (n : ℕ) → IsSoundEntity e → fault_at Update e o request n ≡ None → ChangesByRight Update e o n [] (effect_at Update e o request n).after
+update_by_right e o request n sound none =
+    let u = is_update e o request n none in
     subst (ChangesByRight Update e o n []) (sym u.after)
     (subst (λ (m : ℕ). ChangesByRight Update e o m [] (updated_in e (updated_resource e u.es u.target))) u.number
-    (updated_by_right e sound o request u.target u.es u.sorted u.may u.whole u.right))
+    (updated_by_right e sound o request u.target u.es u.may u.whole u.right))
 
-pub update_sound : (e : EntityData) (o : List ℕ) (request : RequestParts) (n : ℕ) → IsSoundEntity e → NamesInOrder request → fault_at Update e o request n ≡ None → IsSoundEntity (effect_at Update e o request n).after
-update_sound e o request n sound content none =
-    let u = is_update e o request n content none in
-    subst IsSoundEntity (sym u.after) (updated_sound e sound o request u.target u.es u.sorted u.may u.whole u.right)
+pub update_sound : (e : EntityData) (o : List ℕ) (request : RequestParts) (n : ℕ) → IsSoundEntity e → fault_at Update e o request n ≡ None → IsSoundEntity (effect_at Update e o request n).after
+update_sound e o request n sound none =
+    let u = is_update e o request n none in
+    subst IsSoundEntity (sym u.after) (updated_sound e sound o request u.target u.es u.may u.whole u.right)

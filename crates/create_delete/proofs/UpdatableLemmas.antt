@@ -4,11 +4,10 @@ use Rattle.std.proofs.lemmas.Bool.{and_parts}
 use Rattle.std.specs.List.{list_all}
 use Rattle.std.specs.Option.{option_map_or}
 use Rattle.m2m_names.specs.declared.operations.Op.TheVariants.{Update}
-use Rattle.m2m_value.specs.Data.{Data, Entry}
+use Rattle.m2m_value.specs.Data.{Entry}
 use Rattle.primitive_json.specs.declared.request.RequestParts.{RequestParts}
 use Rattle.resource_model.specs.Resource.{ResourceData}
 use Rattle.tree_model.specs.Tree.{at}
-use Rattle.attribute_rules.specs.Admission.{attributes_in, is_admitted}
 use Rattle.attribute_rules.specs.declared.table.Writing.TheVariants.{Update as Updating}
 use Rattle.entity_model.specs.Entity.{EntityData}
 use Rattle.entity_model.specs.Places.{Check}
@@ -16,7 +15,7 @@ use Rattle.request_rules.specs.Groups.{MembershipData, are_few, have_addresses, 
 use Rattle.request_rules.specs.Order.{expires_later, fault_on, member_places}
 use Rattle.request_rules.specs.Policies.{links_live}
 use Rattle.request_rules.specs.Requests.{content_for, named_by}
-use Rattle.request_rules.proofs.EditingLemmas.{admitted_for, attributes_admitted, names_some}
+use Rattle.request_rules.proofs.EditingLemmas.{admitted_for, names_some, sorted_for}
 use Rattle.request_rules.proofs.OrderLemmas.{places_parts}
 use Rattle.create_delete.specs.Updating.{IsUpdatable}
 
@@ -38,12 +37,9 @@ updatable e o request r es none there whole =
     record {
       stands = there;
       kind = h.kind;
+      sorted = sorted_for Updating request r.ty es h.content whole;
       admitted = admitted_for Updating request r.ty es h.content whole;
       later = ap (expires_later e) (sym names) ∙ h.later;
       live = ap (links_live e) (sym names) ∙ h.live;
       few = ap (λ (xs : List Entry). option_map_or are_few (membership_edited r xs) true) (sym names) ∙ few_of e (membership_edited r (named_by Update request r)) h.new;
     }
-
--- a content whose attributes are admitted is admitted
-pub update_admitted : (e : EntityData) (es : List Entry) (r : ResourceData) (content : Data) → IsUpdatable e es r → attributes_in r.ty content ≡ Some es → is_admitted Updating r.ty content ≡ true
-update_admitted e es r content may named = attributes_admitted Updating r.ty content es named ∙ may.admitted

@@ -9,7 +9,6 @@ use Rattle.m2m_names.specs.declared.operations.Op.TheVariants.{Notify}
 use Rattle.m2m_names.specs.declared.types.Ty.{Ty}
 use Rattle.m2m_names.specs.declared.types.Ty.TheVariants.{Container, Subscription}
 use Rattle.m2m_value.specs.Data.{Entry}
-use Rattle.m2m_value.specs.Node.{AreSorted}
 use Rattle.primitive_json.specs.declared.request.RequestParts.{RequestParts}
 use Rattle.resource_model.specs.Attributes.{value_of}
 use Rattle.resource_model.specs.Resource.{ResourceData, is_ty}
@@ -19,7 +18,6 @@ use Rattle.tree_model.specs.Tree.{at, is_at_or_below, is_instance, recounted}
 use Rattle.policy_eval.specs.Rules.{is_attr_in}
 use Rattle.policy_eval.specs.Rights.{create_bit, update_bit, delete_bit, relinks}
 use Rattle.entity_model.specs.Entity.{EntityData}
-use Rattle.request_rules.specs.Requests.{content_for}
 use Rattle.request_rules.specs.Rights.{is_granted}
 
 -- ---- what is changed
@@ -122,11 +120,3 @@ pub record ChangesByRight (op : Op) (before : EntityData) (originator : List ℕ
       → IsChangedByRight before originator drafts after r s
   pub removed : (r : ResourceData) → IsGone before.nodes after.nodes r
       → IsRemovedByRight op before originator n drafts r
-
--- ---- requests
-
--- the attributes that its content names stand in the order of their names, each once (RFC 8259,
--- section 4)
-abbrev pub NamesInOrder : RequestParts → Type 0
-NamesInOrder request =
-    (ty : Ty) (es : List Entry) → content_for request ty ≡ Some es → AreSorted es

@@ -3,6 +3,7 @@ use Rattle.std.specs.Prelude.{◌≡◌, ℕ, List, [], true, false, Option, Som
 use Rattle.std.specs.Option.{option_map_or}
 use Rattle.m2m_names.specs.Types.{does_take}
 use Rattle.m2m_names.specs.declared.types.Ty.TheVariants.{ContentInstance}
+use Rattle.m2m_value.specs.Node.{AreSorted}
 use Rattle.resource_model.specs.Resource.{ResourceData, is_ty}
 use Rattle.tree_model.specs.Tree.{at, instance_size}
 use Rattle.attribute_rules.specs.Admission.{are_admitted}
@@ -18,11 +19,12 @@ use Rattle.create_delete.specs.NewResource.{IsNewInstance, IsNewResource}
 use Rattle.create_delete.specs.declared.joining.ContainerUpdate.{ContainerUpdate}
 
 -- What holds of a creation that no place refuses: its parent is there and takes it, what it names
--- is admitted, nothing that it alone may be stands there, no limit is passed, and a group's members
+-- stands in the order of names and is admitted, nothing that it alone may be stands there, no limit is passed, and a group's members
 -- are few.
 pub record IsAllowed (c : Creation) : Type 0 where
   pub parent : at c.parent.number c.e.nodes ≡ Some c.parent
   pub takes : IsTrue (does_take c.parent.ty c.ty)
+  pub sorted : AreSorted c.named
   pub admitted : IsTrue (are_admitted Create c.ty c.named)
   pub later : IsTrue (expires_later c.e c.named)
   pub live : IsTrue (links_live c.e c.named)

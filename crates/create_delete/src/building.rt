@@ -1,5 +1,5 @@
 //! The resource that a Create makes.
-ghost use Rattle.std.specs.Prelude.{◌≡◌, ◌<◌, IfOk, IsTrue, IsUtf8, OnOk, Some, pos};
+ghost use Rattle.std.specs.Prelude.{◌≡◌, ◌<◌, IfOk, IsTrue, IsUtf8, OnOk, pos};
 ghost use Rattle.std.specs.Prelude.{unwrap_or};
 ghost use Rattle.m2m_names.specs.Ids.{count_bound};
 ghost use Rattle.m2m_names.specs.Name.{is_originator};
@@ -7,14 +7,13 @@ ghost use Rattle.m2m_names.specs.Stamps.{last_moment};
 ghost use Rattle.m2m_value.specs.Data as json;
 ghost use Rattle.resource_model.specs.Attributes.{with_value};
 ghost use Rattle.tree_model.specs.Shown.{with_rows};
-ghost use Rattle.attribute_rules.specs.Admission.{attributes_in};
 ghost use Rattle.request_rules.specs.Creation as spec;
 ghost use Rattle.request_rules.specs.Groups.{group_rows, membership_by};
 ghost use Rattle.request_rules.specs.Judged.{creation_for};
 ghost use Rattle.request_rules.specs.Policies as policies;
 ghost use Rattle.create_delete.specs.Joining.{IsAllowed};
 
-use attribute_rules::take_wanted;
+use attribute_rules::{is_named, wanted_in};
 use entity_model::Entity;
 use m2m_names::{Attr, LARGEST_COUNT, LAST_MOMENT, Ty};
 use m2m_value::{Items, Members, Text, Val};
@@ -108,10 +107,11 @@ fn sign(
     ensures { OnOk result (attrs.new ≡ with_rows
         (spec.creator_rows originator.now members.now) attrs.old) }
 {
-    if members.get(Attr::Cr.short().as_bytes()).is_none() {
-        return Ok(());
+    if is_named(Attr::Cr, members) {
+        set_text(attrs, Attr::Cr, originator_text(alloc, originator)?)
+    } else {
+        Ok(())
     }
-    set_text(attrs, Attr::Cr, originator_text(alloc, originator)?)
 }
 
 // The policies that an attribute names, by their resource ids.
@@ -175,14 +175,12 @@ pub(crate) fn new_resource<T: Tree>(
 ) -> Result<Resource, OutOfMemory>
     requires originator { IsTrue (is_originator originator.now) }
     requires allowed { IsAllowed (creation_for entity.now originator.now create.now) }
-    requires named { attributes_in create.now.ty create.now.content.now
-        ≡ Some create.now.named.now }
     requires members { create.now.members.items
         ≡ group_rows entity.now (membership_by create.now.ty create.now.named.now) }
     ensures { IfOk result (λ r.
         r ≡ spec.new_resource (creation_for entity.now originator.now create.now)) }
 {
-    let wanted = take_wanted(alloc, create.ty, create.content.copy(alloc)?)?;
+    let wanted = wanted_in(alloc, create.ty, create.named)?;
     let moments = moments_at(entity.last, wanted.et);
     let name = new_name(alloc, create.ty, entity.next, wanted.name)?;
     let owner = new_owner(alloc, originator, create.ty, entity.next)?;

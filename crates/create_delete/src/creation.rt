@@ -1,8 +1,7 @@
 //! Creation (TS-0001, 10.2.1): what it prepares, and what it then does.
-ghost use Rattle.std.specs.Prelude.{◌≡◌, ℕ, List, IfOk, OnOk, OnErr, IsTrue, Some};
+ghost use Rattle.std.specs.Prelude.{◌≡◌, ℕ, List, IfOk, OnOk, OnErr, IsTrue};
 ghost use Rattle.m2m_names.specs.Name.{is_originator};
 ghost use Rattle.m2m_names.specs.declared.operations.Op.TheVariants.{Create};
-ghost use Rattle.attribute_rules.specs.Admission.{attributes_in};
 ghost use Rattle.entity_model.specs.Sound.{IsSoundEntity};
 ghost use Rattle.request_rules.specs.Groups.{group_rows, membership_by};
 ghost use Rattle.request_rules.specs.Judged.{Judges, creation_for};
@@ -84,8 +83,6 @@ fn prepare<T: Tree>(
     requires originator { IsTrue (is_originator originator.now) }
     requires sound { IsSoundEntity entity.now }
     requires allowed { IsAllowed (creation_for entity.now originator.now create.now) }
-    requires named { attributes_in create.now.ty create.now.content.now
-        ≡ Some create.now.named.now }
     requires members { create.now.members.items
         ≡ group_rows entity.now (membership_by create.now.ty create.now.named.now) }
     ensures may { IfOk result (λ p. MayJoin entity.now p.resource p.update) }
@@ -94,8 +91,6 @@ fn prepare<T: Tree>(
     ensures after { IfOk result (λ p. after_joining entity.now p.resource p.update
         ≡ (create_effect request.now (creation_for entity.now originator.now create.now)).after) }
 {
-    // That members stand in order is told by their list.
-    let _entries = create.named.entries();
     let resource = new_resource(alloc, entity, originator, create)?;
     let update = container_update(alloc, entity, create)?;
     let told = created_content(alloc, entity, request, &resource)?;

@@ -3,7 +3,7 @@ ghost use Rattle.std.specs.Prelude.{◌≡◌, ◌≤◌, IfOk, IsTrue, OnOk, So
 ghost use Rattle.m2m_names.specs.Stamps.{last_moment};
 ghost use Rattle.m2m_names.specs.declared.attributes.Attr.TheVariants.{Et};
 ghost use Rattle.resource_model.specs.Attributes as rows;
-ghost use Rattle.attribute_rules.specs.Admission.{attributes_in, is_admitted};
+ghost use Rattle.attribute_rules.specs.Admission.{are_admitted};
 ghost use Rattle.attribute_rules.specs.Contents as contents;
 ghost use Rattle.attribute_rules.specs.declared.table.Writing.TheVariants.{Update};
 ghost use Rattle.tree_model.specs.Shown.{with_rows};
@@ -11,7 +11,7 @@ ghost use Rattle.request_rules.specs.Groups.{group_rows, membership_edited};
 ghost use Rattle.create_delete.specs.Changing as spec;
 
 use crate::building::{keep_members, link, next_state, set_count};
-use attribute_rules::{Edit, take_edit};
+use attribute_rules::{Edit, edit_in, is_named};
 use entity_model::Entity;
 use m2m_names::{Attr, LAST_MOMENT, Ty};
 use m2m_value::Members;
@@ -73,17 +73,17 @@ fn updated_attrs<T: Tree>(
     update: &AllowedUpdate,
 ) -> Result<Attrs, OutOfMemory>
     requires admitted { IsTrue
-        (is_admitted Update update.now.target.now.ty update.now.content.now) }
-    requires named { attributes_in update.now.target.now.ty update.now.content.now
-        ≡ Some update.now.named.now }
+        (are_admitted Update update.now.target.now.ty update.now.named.now) }
     requires members { update.now.members.items ≡ group_rows entity.now
         (membership_edited update.now.target.now update.now.named.now) }
     ensures { IfOk result (λ a. a ≡ (spec.updated_resource entity.now
         update.now.named.now update.now.target.now).attrs) }
 {
     let mut attrs = update.target.attrs().copy(alloc)?;
-    let content = update.content.copy(alloc)?;
-    edit(take_edit(alloc, update.target.ty(), content)?, &mut attrs)?;
+    edit(
+        edit_in(alloc, update.target.ty(), update.named)?,
+        &mut attrs,
+    )?;
     count_change(update.target, &mut attrs)?;
     keep_members(alloc, &update.members, &mut attrs)?;
     link(alloc, entity, update.named, Attr::Acpi, &mut attrs)?;
@@ -97,9 +97,10 @@ fn expiry_after(members: &Members, et: u64) -> u64
     ensures value { result ≡ spec.expiry_after members.now et }
     ensures bound { result ≤ last_moment }
 {
-    match members.get(Attr::Et.short().as_bytes()) {
-        Some(_) => named_expiry(members).unwrap_or(LAST_MOMENT),
-        None => et,
+    if is_named(Attr::Et, members) {
+        named_expiry(members).unwrap_or(LAST_MOMENT)
+    } else {
+        et
     }
 }
 
@@ -111,9 +112,7 @@ pub(crate) fn updated_resource<T: Tree>(
     update: &AllowedUpdate,
 ) -> Result<Resource, OutOfMemory>
     requires admitted { IsTrue
-        (is_admitted Update update.now.target.now.ty update.now.content.now) }
-    requires named { attributes_in update.now.target.now.ty update.now.content.now
-        ≡ Some update.now.named.now }
+        (are_admitted Update update.now.target.now.ty update.now.named.now) }
     requires members { update.now.members.items ≡ group_rows entity.now
         (membership_edited update.now.target.now update.now.named.now) }
     ensures { IfOk result (λ r. r ≡ spec.updated_resource entity.now

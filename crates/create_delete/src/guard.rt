@@ -10,7 +10,7 @@ ghost use Rattle.container_limits.specs.Limits.{kept, limits_of};
 ghost use Rattle.entity_model.specs.Entity.{EntityData};
 ghost use Rattle.entity_model.specs.Sound.{IsSoundEntity};
 ghost use Rattle.create_delete.specs.Changing.{with_new_instance, nodes_updated};
-ghost use Rattle.create_delete.specs.Guard.{ChangesByRight, NamesInOrder};
+ghost use Rattle.create_delete.specs.Guard.{ChangesByRight};
 ghost use Rattle.create_delete.specs.Joining.{MayJoinContainer};
 ghost use Rattle.create_delete.specs.NewResource.{IsReplacement};
 ghost use Rattle.create_delete.specs.Telling.{drafts_at, told_effect_at};
@@ -26,7 +26,7 @@ ghost use Rattle.create_delete.specs.declared.joining.ContainerUpdate.{Container
 /// to it.
 pub fn nothing_is_changed_without_a_grant()
     ensures { (op : Op) (e : EntityData) (originator : List ℕ) (request : RequestParts) (n : ℕ)
-        → IsSoundEntity e → IsTrue (is_originator originator) → NamesInOrder request
+        → IsSoundEntity e → IsTrue (is_originator originator)
         → ChangesByRight op e originator n (drafts_at op e originator request n)
         (told_effect_at op e originator request n).after }
 {}
@@ -34,7 +34,7 @@ pub fn nothing_is_changed_without_a_grant()
 /// A sound entity stays sound under each operation.
 pub fn an_entity_stays_sound()
     ensures { (op : Op) (e : EntityData) (originator : List ℕ) (request : RequestParts) (n : ℕ)
-        → IsSoundEntity e → IsTrue (is_originator originator) → NamesInOrder request
+        → IsSoundEntity e → IsTrue (is_originator originator)
         → IsSoundEntity (told_effect_at op e originator request n).after }
 {}
 

@@ -9,6 +9,7 @@ ghost use Rattle.entity_model.specs.Places as places;
 ghost use Rattle.create_delete.specs.Changing as spec;
 
 use addressing::structured;
+use attribute_rules::is_named;
 use entity_model::{Entity, wanted_content};
 use m2m_names::{Attr, Ty};
 use m2m_value::{Members, Text, Val};
@@ -134,7 +135,7 @@ pub(crate) fn created_content<T: Tree>(
 fn is_told(members: &Members, attr: Attr) -> bool
     ensures { result ≡ spec.is_told_at members.now attr }
 {
-    members.get(attr.short().as_bytes()).is_some() || attr.order(Attr::Lt).is_eq()
+    is_named(attr, members) || attr.order(Attr::Lt).is_eq()
 }
 
 // The named attributes that have a value, and `lt`.

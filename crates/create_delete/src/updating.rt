@@ -4,7 +4,6 @@ ghost use Rattle.resource_model.specs.Resource.{ResourceData};
 ghost use Rattle.tree_model.specs.Tree.{at};
 ghost use Rattle.m2m_names.specs.Name.{is_originator};
 ghost use Rattle.m2m_names.specs.declared.operations.Op.TheVariants.{Update};
-ghost use Rattle.attribute_rules.specs.Admission.{attributes_in};
 ghost use Rattle.entity_model.specs.Sound.{IsSoundEntity};
 ghost use Rattle.request_rules.specs.Groups.{group_rows, membership_edited};
 ghost use Rattle.request_rules.specs.Judged.{Judges};
@@ -80,7 +79,6 @@ fn plan<T: Tree>(
 }
 
 // The resource, what was named of it, what it pushes out, and the reply.
-#[tactic(auto, using(crate::proofs::UpdatableLemmas::update_admitted))]
 fn prepare<T: Tree>(
     alloc: Global,
     entity: &Entity<T>,
@@ -89,8 +87,6 @@ fn prepare<T: Tree>(
 ) -> Result<PreparedUpdate, OutOfMemory>
     requires sound { IsSoundEntity entity.now }
     requires allowed { IsUpdatable entity.now update.now.named.now update.now.target.now }
-    requires named { attributes_in update.now.target.now.ty update.now.content.now
-        ≡ Some update.now.named.now }
     requires members { update.now.members.items ≡ group_rows entity.now
         (membership_edited update.now.target.now update.now.named.now) }
     ensures may { IfOk result (λ p. IsReplacement entity.now p.resource) }
@@ -104,8 +100,6 @@ fn prepare<T: Tree>(
         ≡ (spec.update_effect entity.now request.now
         update.now.named.now update.now.target.now).after) }
 {
-    // That members stand in order is told by their list.
-    let _entries = update.named.entries();
     let resource = updated_resource(alloc, entity, update)?;
     let named = named_attrs(alloc, update.named)?;
     let gone = pushed_by(alloc, entity, &resource)?;

@@ -18,20 +18,20 @@ use tcp_link::TcpLink;
 /// As many workers as a server can be told to have.
 const MOST_WORKERS: u64 = 4_096;
 
-/// What a server is told that the devices have to know: how many benches it needs, what it logs,
-/// and what the CSE is called.
+/// What a server is told that the devices have to know: how many workers it has, what it logs, and
+/// what the CSE is called.
 #[derive(Drop)]
 struct Told {
-    benches: usize,
+    workers: usize,
     log: LogLevel,
     whom: String,
 }
 
-/// Each worker has a bench, and one more is for what is left when they have ended.
-fn benches_of(workers: u64) -> usize
-    ensures { 2 ≤ result }
+/// A server has a worker at least.
+fn workers_of(workers: u64) -> usize
+    ensures { 1 ≤ result }
 {
-    workers.clamp(1, MOST_WORKERS) as usize + 1
+    workers.clamp(1, MOST_WORKERS) as usize
 }
 
 fn level_of(logged: Logged) -> LogLevel {
@@ -44,19 +44,19 @@ fn level_of(logged: Logged) -> LogLevel {
 
 /// What words tell the devices; at every other command they are told nothing.
 fn told_by(alloc: Global, words: &[&str]) -> Result<Told, AllocError>
-    ensures { IfOk result (λ told. 2 ≤ told.benches) }
+    ensures { IfOk result (λ told. 1 ≤ told.workers) }
 {
     if let Some(command) = read_command(alloc, words)?
         && let Task::Serve(serving) = command.task
     {
         return Ok(Told {
-            benches: benches_of(serving.workers),
+            workers: workers_of(serving.workers),
             log: level_of(serving.log),
             whom: format!(in alloc; "/{}", command.home.csi)?,
         });
     }
     Ok(Told {
-        benches: benches_of(1),
+        workers: workers_of(1),
         log: LogLevel::Nothing,
         whom: String::new(alloc),
     })
@@ -73,20 +73,49 @@ where
     })
 }
 
-fn all_benches<R>(
+/// What the sender works with: its link waits little, so that one who doesn't answer holds up
+/// nothing that goes to others.
+fn sender_bench<R>(rt: R, log: &Log<R>) -> Result<Bench<SystemClock<R>, TcpLink<R>>, AllocError>
+where
+    R: Net<Listener = TcpListener, Stream = TcpStream> + Clock + Eprint + Copy + Drop,
+{
+    Ok(Bench {
+        clock: SystemClock::new(rt),
+        link: TcpLink::impatient(log.again()?),
+    })
+}
+
+/// A bench for each of so many workers.
+fn worker_benches<R>(
     rt: R,
     log: &Log<R>,
     count: usize,
 ) -> Result<Vec<Bench<SystemClock<R>, TcpLink<R>>>, AllocError>
 where
     R: Net<Listener = TcpListener, Stream = TcpStream> + Clock + Eprint + Copy + Drop,
-    requires { 2 ≤ count }
-    ensures { IfOk result (λ benches. 2 ≤ vec_len benches) }
+    ensures { IfOk result (λ benches. count ≤ vec_len benches) }
 {
     let mut benches = Vec::new(log.allocator());
     while benches.len() < count {
         benches.push(bench(rt, log)?)?;
     }
+    Ok(benches)
+}
+
+/// The benches of so many workers, and the sender's, which is also for what is left when they have
+/// ended.
+fn all_benches<R>(
+    rt: R,
+    log: &Log<R>,
+    workers: usize,
+) -> Result<Vec<Bench<SystemClock<R>, TcpLink<R>>>, AllocError>
+where
+    R: Net<Listener = TcpListener, Stream = TcpStream> + Clock + Eprint + Copy + Drop,
+    requires { 1 ≤ workers }
+    ensures { IfOk result (λ benches. 2 ≤ vec_len benches) }
+{
+    let mut benches = worker_benches(rt, log, workers)?;
+    benches.push(sender_bench(rt, log)?)?;
     Ok(benches)
 }
 
@@ -112,7 +141,7 @@ fn main(rt: HostRuntime) -> ExitCode {
     let Ok(log) = Log::new(rt, alloc, told.log) else {
         return starved();
     };
-    let Ok(benches) = all_benches(rt, &log, told.benches) else {
+    let Ok(benches) = all_benches(rt, &log, told.workers) else {
         return starved();
     };
     let Ok(mut first) = bench(rt, &log) else {

@@ -19,6 +19,7 @@ use Rattle.resource_model.specs.contracts.home.Home.TheInside as home_inside
 use Rattle.resource_model.specs.contracts.resource.Moments as moments
 use Rattle.resource_model.specs.contracts.resource.Resource as resource
 use Rattle.resource_model.specs.contracts.resource.Resource.TheInside as resource_inside
+use Rattle.resource_store.specs.contracts.gone.Gone as gone
 use Rattle.resource_store.specs.contracts.store.Store as store
 use Rattle.resource_store.specs.contracts.store.Store.TheInside as store_inside
 
@@ -69,8 +70,11 @@ table_send : IsSend (as_row (first_part store_inside.the_type.parts))
 table_send = as_row_send (first_part store_inside.the_type.parts)
     (maps.HashMap-send u64 resource.the_row (built.the_row fold.the_row) fold.the_row _ _ _ _ u64_send resource_send hasher_send)
 
+gone_send : IsSend gone.the_row
+gone_send = search (sendable, crosses, resource_send) depth 40 fits 5000
+
 store_inside_send : IsSend store_inside.the_row
-store_inside_send = declared_send store_inside.the_type (table_send, (search (sendable, crosses) depth 20, (search (sendable, crosses) depth 20, tt)))
+store_inside_send = declared_send store_inside.the_type (table_send, (search (sendable, crosses) depth 20, (search (sendable, crosses) depth 20, (gone_send, tt))))
 
 pub store_send : IsSend store.the_row
 store_send = record { owned = λ d vs x. (store_inside_send.owned x.0 vs, tt); leaving = λ k d w. tt }

@@ -17,7 +17,6 @@ use Rattle.addressing.specs.declared.addr.AddrFault.{AddrFault}
 use Rattle.addressing.specs.declared.spot.Spot.TheVariants.{Poll}
 use Rattle.entity_model.specs.Entity.{EntityData, swept}
 use Rattle.entity_model.specs.Places.{Effect, first_fault, refused, reply_alone, reply_to}
-use Rattle.create_delete.specs.Guard.{NamesInOrder}
 use Rattle.retrieve_discover.specs.Polling.{polled}
 use Rattle.cse_machine.specs.declared.event.Event.{Event}
 use Rattle.cse_machine.specs.declared.event.Event.TheVariants.{Ask, Take, Tick}
@@ -119,14 +118,14 @@ no_answer e request outcome undone kept is = elim (effect_answers e request) [
 ]
 
 -- so what comes of it answers it
-pub came_of : (request : RequestParts) (before after : EntityData) (outcome : Outcome) → outcome ≡ (effect_of before request).outcome → after ≡ (effect_of before request).after → NamesInOrder request → IsAnswered before request outcome after
-came_of request before after (Done reply) is left names = (is, left, names)
-came_of request before after (Forward poa onward) is left names = (is, left, names)
-came_of request before after (Item given) is left names =
+pub came_of : (request : RequestParts) (before after : EntityData) (outcome : Outcome) → outcome ≡ (effect_of before request).outcome → after ≡ (effect_of before request).after → IsAnswered before request outcome after
+came_of request before after (Done reply) is left = (is, left)
+came_of request before after (Forward poa onward) is left = (is, left)
+came_of request before after (Item given) is left =
     absurd (no_answer before request (Item given) (given_done given) (given_onward given) is)
-came_of request before after Ticked is left names =
+came_of request before after Ticked is left =
     absurd (no_answer before request Ticked ticked_done ticked_onward is)
-came_of request before after (Starved done) is left names =
+came_of request before after (Starved done) is left =
     absurd (no_answer before request (Starved done) (starved_done done) (starved_onward done) is)
 
 -- and what answers it on what is left is a step

@@ -45,7 +45,6 @@ use Rattle.retarget.specs.Routes.{forwarded, routed}
 use Rattle.retarget.specs.declared.routing.Route.{Route}
 use Rattle.retarget.specs.declared.routing.Route.TheVariants as to
 use Rattle.retrieve_discover.specs.Polling.{polled}
-use Rattle.create_delete.specs.Guard.{NamesInOrder}
 use Rattle.cse_machine.specs.declared.event.Outcome.{Outcome}
 use Rattle.cse_machine.specs.declared.event.Outcome.TheVariants.{Done, Forward}
 use Rattle.request_rules.specs.Requests.{child_ty}
@@ -264,9 +263,7 @@ abbrev pub effect_of : EntityData → RequestParts → EventEffect
 effect_of e request =
     judged_effect (first_places e request) e request (address_of e.home request.to)
 
--- The outcome and the entity after are those that the request gives, and what its content names
--- stands in order, as in each request that is heard.
+-- The outcome and the entity after are those that the request gives.
 abbrev pub ComesOf : EntityData → RequestParts → Outcome → EntityData → Type 0
 ComesOf e request outcome after =
     (outcome ≡ (effect_of e request).outcome) × (after ≡ (effect_of e request).after)
-    × NamesInOrder request

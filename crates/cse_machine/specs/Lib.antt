@@ -1,3 +1,4 @@
 pub mod Answer
+pub mod Heard
 pub mod Step
 pub mod History

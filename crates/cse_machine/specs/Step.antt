@@ -6,7 +6,6 @@ use Rattle.addressing.specs.Laws.{spot_named}
 use Rattle.entity_model.specs.Entity.{EntityData, event_moment, next_note, swept, without_next}
 use Rattle.entity_model.specs.Expiry.{is_some_due}
 use Rattle.entity_model.specs.Places.{Check, first_fault}
-use Rattle.create_delete.specs.Guard.{NamesInOrder}
 use Rattle.cse_machine.specs.declared.event.Event.{Event}
 use Rattle.cse_machine.specs.declared.event.Event.TheVariants.{Ask, Take, Tick}
 use Rattle.cse_machine.specs.declared.event.Outcome.{Outcome}
@@ -25,11 +24,9 @@ abbrev pub heard_members : EntityData → RequestParts → List RequestParts
 heard_members e request = heard_past (first_places e request) e request
 
 -- Memory ran out for a request when so many members of a fan-out had been served: these have taken
--- effect, and nothing else has. Outside a fan-out that is none of them. What the content of the
--- request names stands in order, as in each that is heard.
+-- effect, and nothing else has. Outside a fan-out that is none of them.
 abbrev pub IsCutShort : EntityData → RequestParts → ℕ → EntityData → Type 0
-IsCutShort e request done after =
-    IsCutShortAt e (heard_members e request) done after × NamesInOrder request
+IsCutShort e request done after = IsCutShortAt e (heard_members e request) done after
 
 -- What a request may give on an entity from which what is due is gone, and the entity that it may
 -- leave: one function of the two, but for want of memory.

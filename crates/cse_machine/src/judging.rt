@@ -1,21 +1,14 @@
 //! What is told of a request before what its address names.
-ghost use Rattle.std.specs.Prelude.{◌≡◌, bytes_eq, codes, false, IfSome, List, Some};
-ghost use Rattle.std.specs.Prelude.{option_and_then, option_map};
+ghost use Rattle.std.specs.Prelude.{◌≡◌, bytes_eq, codes, false, option_map};
 ghost use Rattle.std.specs.Option.{option_map_or};
-ghost use Rattle.m2m_names.specs.declared.types.Ty.{Ty};
 ghost use Rattle.m2m_names.specs.declared.types.Ty.TheVariants.{Ae};
-ghost use Rattle.m2m_value.specs.Data.{Entry};
-ghost use Rattle.m2m_value.specs.Node.{AreSorted};
-ghost use Rattle.m2m_value.specs.View.{as_object};
 ghost use Rattle.resource_model.specs.Resource.{is_ty};
-ghost use Rattle.attribute_rules.specs.Admission.{attributes_in};
 ghost use Rattle.request_rules.specs.Rights.{sole};
-ghost use Rattle.create_delete.specs.Guard.{NamesInOrder};
 ghost use Rattle.cse_machine.specs.Answer as spec;
 
 use entity_model::Entity;
 use m2m_names::{Op, Ty};
-use m2m_value::{Members, Text, Val};
+use m2m_value::{Text, Val};
 use primitive_json::{Request, When, creates};
 use request_rules::child_ty;
 use tree_model::Tree;
@@ -112,23 +105,6 @@ pub(crate) fn is_blocking(request: &Request) -> bool
 
 // ---- the content
 
-// The members of what the only member of a content has. That they stand in order is told by their
-// list.
-fn inner_members(content: &Val) -> Option<&Members>
-    ensures members { option_map (λ m. m.now) result
-        ≡ option_and_then (λ e. as_object e.1) (sole content.now) }
-    ensures sorted { IfSome result (λ m. AreSorted m.now) }
-{
-    match content.as_obj()?.entries() {
-        [entry] => {
-            let members = entry.1.as_obj()?;
-            let _entries = members.entries();
-            Some(members)
-        }
-        _ => None,
-    }
-}
-
 // The only member of a content.
 fn sole_member(content: &Val) -> Option<&(Text, Val)>
     ensures { option_map (λ e. e.now) result ≡ sole content.now }
@@ -156,21 +132,5 @@ pub(crate) fn has_answer(request: &Request) -> bool
     match &request.parts().pc {
         Some(content) => is_answer(content),
         None => false,
-    }
-}
-
-// That what a content names stands in order.
-fn tell_content(content: &Val)
-    ensures { (ty : Ty) (es : List Entry) → attributes_in ty content.now ≡ Some es → AreSorted es }
-{
-    let _members = inner_members(content);
-}
-
-/// That what the content of a request names stands in order, as its types keep it.
-pub(crate) fn tell_order(request: &Request)
-    ensures { NamesInOrder request.now }
-{
-    if let Some(content) = &request.parts().pc {
-        tell_content(content);
     }
 }

@@ -8,29 +8,31 @@ ghost use Rattle.addressing.specs.Laws.{spot_named};
 ghost use Rattle.addressing.specs.Names.{segments_of};
 ghost use Rattle.addressing.specs.Short.{short_of};
 ghost use Rattle.addressing.specs.declared.spot.Spot.TheVariants.{Poll};
-ghost use Rattle.entity_model.specs.Places.{refusal};
+ghost use Rattle.entity_model.specs.Places.{first_fault, refusal};
+ghost use Rattle.request_rules.specs.Judged.{Judges};
 ghost use Rattle.cse_machine.specs.Answer.{address_effect, address_places, answered_poll};
 ghost use Rattle.primitive_json.specs.Notes.{IsSomeUrl};
 ghost use Rattle.group_fanout.specs.Fan.{IsCutShortAt, fan_effect_at, fanned_at, rest_of};
 ghost use Rattle.group_fanout.specs.Fan.{served_members};
 ghost use Rattle.group_fanout.specs.Rights.{claimed_originator};
 ghost use Rattle.group_fanout.specs.Rights as rights;
-ghost use Rattle.cse_machine.specs.Answer.{effect_of, form_places, judged_effect};
+ghost use Rattle.cse_machine.specs.Answer.{effect_of, first_places, form_places};
 ghost use Rattle.cse_machine.specs.Answer.{goes_on, onward_effect, point_of, poll_effect};
 ghost use Rattle.cse_machine.specs.Answer.{poll_refusal, spot_effect, time_places};
 ghost use Rattle.cse_machine.specs.Answer as spec;
-ghost use Rattle.cse_machine.specs.Step.{IsAnswered, Step, heard_members, heard_past};
+ghost use Rattle.cse_machine.specs.Heard.{IsHeardAs};
+ghost use Rattle.cse_machine.specs.Step.{IsAnswered, Step, heard_members};
 ghost use Rattle.cse_machine.specs.declared.event.Outcome.TheVariants.{Done};
 
 use crate::event::{Event, Outcome};
-use crate::judging::{has_answer, is_blocking, is_in_time, is_served, said_originator, tell_order};
+use crate::judging::{has_answer, is_blocking, is_in_time, is_served, said_originator};
 use addressing::{Addr, AddrFault, Segments, Spot, name_spot, parse, short_fr};
 use entity_model::{Entity, refuse, reply_to, sweep, take_next};
 use group_fanout::{Starved, fan, operate};
 use m2m_names::{Op, Rsc};
 use m2m_value::Text;
 use primitive_json::{Reply, Request, has_form};
-use request_rules::{find, may_do};
+use request_rules::{Refusal, find, may_do};
 use retarget::{Route, Url, first_url, forwarded, route_of};
 use retrieve_discover::poll;
 use std::alloc::{AllocError as OutOfMemory, Global};
@@ -57,7 +59,6 @@ pub fn step<T: Tree>(alloc: Global, entity: &mut Entity<T>, reading: u64, event:
 fn ask<T: Tree>(alloc: Global, entity: &mut Entity<T>, request: &Request) -> Outcome
     ensures { IsAnswered entity.old request.now result entity.new }
 {
-    tell_order(request);
     match answer(alloc, entity, request) {
         Ok(outcome) => outcome,
         Err(starved) => Outcome::Starved { done: starved.done },
@@ -84,33 +85,54 @@ fn answer<T: Tree>(
     ensures cut { IfErr result (λ s. IsCutShortAt entity.old
         (heard_members entity.old request.now) s.done entity.new) }
 {
-    if is_served(request) {
-        answer_served(alloc, entity, request)
-    } else {
-        turn_down(alloc, request, Rsc::BadRequest)
+    match judge(alloc, entity, request) {
+        Ok(heard) => lead(alloc, entity, request, heard.originator, &heard.addr),
+        Err(Refusal::Fault(fault)) => turn_down(alloc, request, fault),
+        Err(Refusal::OutOfMemory) => Err(Starved { done: 0 }),
     }
 }
 
-// What one gives that is served.
-#[tactic(auto, using(group_fanout::proofs::FanLemmas::none_cut))]
-fn answer_served<T: Tree>(
+// ---- whether it is heard
+
+// A request that no place refuses before its address is resolved: whom it is judged as, in the
+// short form, and the address.
+#[derive(Drop)]
+struct Heard<'a> {
+    originator: &'a [u8],
+    addr: Addr<'a>,
+}
+
+// Judges a request whatever its address names. Nothing is changed.
+fn judge<'a, T: Tree>(
     alloc: Global,
-    entity: &mut Entity<T>,
-    request: &Request,
-) -> Result<Outcome, Starved>
-    ensures outcome { IfOk result (λ x. x ≡ (judged_effect (form_places entity.old request.now)
-        entity.old request.now (address_of entity.old.home request.now.to)).outcome) }
-    ensures after { OnOk result (entity.new ≡ (judged_effect (form_places entity.old request.now)
-        entity.old request.now (address_of entity.old.home request.now.to)).after) }
-    ensures cut { IfErr result (λ s. IsCutShortAt entity.old
-        (heard_past (form_places entity.old request.now) entity.old request.now) s.done entity.new) }
+    entity: &Entity<T>,
+    request: &'a Request,
+) -> Result<Heard<'a>, Refusal>
+    ensures { Judges result (first_fault (first_places entity.now request.now))
+        (IsHeardAs entity.now request.now) }
+{
+    if is_served(request) {
+        judge_form(alloc, entity, request)
+    } else {
+        Err(Refusal::Fault(Rsc::BadRequest))
+    }
+}
+
+// One that is served.
+fn judge_form<'a, T: Tree>(
+    alloc: Global,
+    entity: &Entity<T>,
+    request: &'a Request,
+) -> Result<Heard<'a>, Refusal>
+    ensures { Judges result (first_fault (form_places entity.now request.now))
+        (IsHeardAs entity.now request.now) }
 {
     if !has_form(request) {
-        return turn_down(alloc, request, Rsc::BadRequest);
+        return Err(Refusal::Fault(Rsc::BadRequest));
     }
     match asking(entity, request) {
-        Some(originator) => answer_to(alloc, entity, request, originator),
-        None => turn_down(alloc, request, Rsc::BadRequest),
+        Some(originator) => judge_address(alloc, entity, request, originator),
+        None => Err(Refusal::Fault(Rsc::BadRequest)),
     }
 }
 
@@ -127,63 +149,55 @@ fn asking<'a, T: Tree>(entity: &Entity<T>, request: &'a Request) -> Option<&'a [
 }
 
 // The address that it is sent to.
-fn address<T: Tree>(alloc: Global, entity: &Entity<T>, request: &Request) -> Result<Addr, AddrFault>
+fn address<'a, T: Tree>(
+    alloc: Global,
+    entity: &Entity<T>,
+    request: &'a Request,
+) -> Result<Addr<'a>, AddrFault>
     ensures { GivesAddress result (address_of entity.now.home request.now.to) }
 {
     parse(alloc, request.parts().to.entries(), &entity.home)
 }
 
-// What the request of this originator gives, by its address.
-#[tactic(auto, using(group_fanout::proofs::FanLemmas::none_cut))]
-fn answer_to<T: Tree>(
+// One of this originator.
+fn judge_address<'a, T: Tree>(
     alloc: Global,
-    entity: &mut Entity<T>,
-    request: &Request,
-    originator: &[u8],
-) -> Result<Outcome, Starved>
+    entity: &Entity<T>,
+    request: &'a Request,
+    originator: &'a [u8],
+) -> Result<Heard<'a>, Refusal>
     requires originator { IsTrue (is_originator originator.now) }
-    requires claimed { claimed_originator entity.old.home request.now ≡ originator.now }
-    ensures outcome { IfOk result (λ x. x ≡ (judged_effect (address_places entity.old request.now)
-        entity.old request.now (address_of entity.old.home request.now.to)).outcome) }
-    ensures after { OnOk result (entity.new ≡ (judged_effect (address_places entity.old request.now)
-        entity.old request.now (address_of entity.old.home request.now.to)).after) }
-    ensures cut { IfErr result (λ s. IsCutShortAt entity.old
-        (heard_past (address_places entity.old request.now) entity.old request.now) s.done entity.new) }
+    requires claimed { claimed_originator entity.now.home request.now ≡ originator.now }
+    ensures { Judges result (first_fault (address_places entity.now request.now))
+        (IsHeardAs entity.now request.now) }
 {
     match address(alloc, entity, request) {
-        Ok(addr) => answer_at(alloc, entity, request, originator, &addr),
-        Err(AddrFault::OutOfMemory) => Err(Starved { done: 0 }),
-        Err(_) => turn_down(alloc, request, Rsc::BadRequest),
+        Ok(addr) => judge_times(entity, request, Heard { originator, addr }),
+        Err(AddrFault::OutOfMemory) => Err(Refusal::OutOfMemory),
+        Err(_) => Err(Refusal::Fault(Rsc::BadRequest)),
     }
 }
 
-// What it gives at an address.
-#[tactic(auto, using(group_fanout::proofs::FanLemmas::none_cut))]
-fn answer_at<T: Tree>(
-    alloc: Global,
-    entity: &mut Entity<T>,
+// One that is sent to an address.
+fn judge_times<'a, T: Tree>(
+    entity: &Entity<T>,
     request: &Request,
-    originator: &[u8],
-    addr: &Addr,
-) -> Result<Outcome, Starved>
-    requires originator { IsTrue (is_originator originator.now) }
-    requires claimed { claimed_originator entity.old.home request.now ≡ originator.now }
-    requires addressed { address_of entity.old.home request.now.to ≡ Ok addr.now }
-    ensures outcome { IfOk result (λ x. x ≡ (judged_effect (time_places entity.old request.now)
-        entity.old request.now (Ok addr.now)).outcome) }
-    ensures after { OnOk result (entity.new ≡ (judged_effect (time_places entity.old request.now)
-        entity.old request.now (Ok addr.now)).after) }
-    ensures cut { IfErr result (λ s. IsCutShortAt entity.old
-        (heard_past (time_places entity.old request.now) entity.old request.now) s.done entity.new) }
+    heard: Heard<'a>,
+) -> Result<Heard<'a>, Refusal>
+    requires { IsHeardAs entity.now request.now heard }
+    ensures { Judges result (first_fault (time_places entity.now request.now))
+        (IsHeardAs entity.now request.now) }
 {
     if !is_in_time(entity, request) {
-        return turn_down(alloc, request, Rsc::RequestTimeout);
+        return Err(Refusal::Fault(Rsc::RequestTimeout));
     }
     if !is_blocking(request) {
-        return turn_down(alloc, request, Rsc::NonBlocking);
+        return Err(Refusal::Fault(Rsc::NonBlocking));
     }
-    lead(alloc, entity, request, originator, addr)
+    Ok(heard)
 }
+
+// ---- where it goes
 
 // What it gives by where it goes: here, or to another CSE.
 #[tactic(auto, using(group_fanout::proofs::FanLemmas::none_cut))]
@@ -323,33 +337,13 @@ fn reach_members<T: Tree>(
 }
 
 // The segments of a local address from a place on.
-fn rest_of(alloc: Global, addr: &Addr, place: u64) -> Result<Segments, OutOfMemory>
+fn rest_of<'a>(alloc: Global, addr: &Addr<'a>, place: u64) -> Result<Segments<'a>, OutOfMemory>
     ensures { IfOk result (λ s. s ≡ drop place (segments_of addr.now)) }
 {
     match addr {
-        Addr::Local(segments) => copied(alloc, from_place(segments.entries(), place)),
+        Addr::Local(segments) => segments.from_place(alloc, place),
         Addr::Foreign(_) | Addr::OtherProvider => Ok(Segments::of(Vec::new(alloc))),
     }
-}
-
-fn from_place(segments: &[Text], place: u64) -> &[Text]
-    ensures { result.now ≡ drop place segments.now }
-{
-    if place < segments.len() as u64 {
-        &segments[place as usize..]
-    } else {
-        &[]
-    }
-}
-
-fn copied(alloc: Global, segments: &[Text]) -> Result<Segments, OutOfMemory>
-    ensures { IfOk result (λ s. s ≡ segments.now) }
-{
-    let mut texts = Vec::with_capacity(alloc, segments.len())?;
-    for segment in segments {
-        texts.push(segment.copy(alloc)?)?;
-    }
-    Ok(Segments::of(texts))
 }
 
 // Whether the resource of a number is there.

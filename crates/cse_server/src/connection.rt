@@ -12,10 +12,9 @@ ghost use Rattle.cse_server.specs.Way.{AnswersFrame, Goes, Hears, Refuses};
 use crate::closing::{MOST_FRAMES, closes};
 use crate::replying::{put_last_reply, put_reply, refusal_of, reply_by};
 use cse_machine::{Event, Outcome};
-use http_binding::{BindFault, ReplyRoom, to_request_in};
+use http_binding::{BindFault, BodyRoom, ReplyRoom, to_request_in};
 use http_frames::{Frame, FrameFault, Inbox, Next, PutFault};
 use m2m_io::{Clock, Connection, Link};
-use m2m_value::Scratch;
 use primitive_json::{Reply, Request};
 use std::alloc::{AllocError as OutOfMemory, Global};
 use turn_desk::Desk;
@@ -90,7 +89,7 @@ fn answer<D, X, C, L>(
     conn: &mut X,
     clock: &mut C,
     link: &mut L,
-    scratch: &mut Scratch,
+    bodies: &mut BodyRoom,
     room: &mut ReplyRoom,
     place: u64,
     frame: &Frame,
@@ -115,7 +114,7 @@ where
     ensures read_faults { X.Source.faults conn.new ≡ X.Source.faults conn.old }
     ensures holds { (X.kept_by_read conn.new).holds ≡ (X.kept_by_read conn.old).holds }
 {
-    let asked = to_request_in(alloc, scratch, frame);
+    let asked = to_request_in(alloc, bodies, frame);
     if let Err(BindFault::OutOfMemory) = asked {
         return Some(Ended::Memory);
     }
@@ -174,7 +173,7 @@ fn serve_next<D, X, C, L>(
     clock: &mut C,
     link: &mut L,
     inbox: &mut Inbox,
-    scratch: &mut Scratch,
+    bodies: &mut BodyRoom,
     room: &mut ReplyRoom,
     place: u64,
 ) -> Option<Ended>
@@ -207,7 +206,7 @@ where
     match read_next(alloc, conn, inbox) {
         Ok(Next::Message(frame)) => {
             let ended = answer(
-                alloc, desk, seat, conn, clock, link, scratch, room, place, &frame,
+                alloc, desk, seat, conn, clock, link, bodies, room, place, &frame,
             );
             inbox.give_back(frame);
             ended
@@ -264,7 +263,7 @@ where
     let Ok(mut inbox) = Inbox::new(alloc) else {
         return Ended::Memory;
     };
-    let mut scratch = Scratch::new(alloc);
+    let mut bodies = BodyRoom::new();
     let mut room = ReplyRoom::new(alloc);
     for place in 1..MOST_FRAMES + 1 {
         if let Some(ended) = serve_next(
@@ -275,7 +274,7 @@ where
             clock,
             link,
             &mut inbox,
-            &mut scratch,
+            &mut bodies,
             &mut room,
             place,
         ) {

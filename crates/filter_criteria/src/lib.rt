@@ -14,7 +14,7 @@
 //! sort is read as absent: callers judge first.
 //!
 //! Here too stands what filters and the primitives around them share: members of objects by their
-//! names (`members_in`, `value_at`), objects of the members that are there (`push_member`,
+//! names (`members_in`, `value_at`, `value_among`), objects of the members that are there (`push_member`,
 //! `sorted_object`), and a few kinds of values.
 //!
 //! ```text
@@ -41,6 +41,6 @@ pub use reading::{is_filter, labelled, labels_from, plain_filter};
 pub use std::alloc::AllocError as OutOfMemory;
 pub use values::{
     members_in, moment_text, moment_value, owned_text, push_member, read_type_number,
-    sorted_object, text_value, value_at,
+    sorted_object, text_value, value_among, value_at,
 };
 pub use writing::write_filter;

@@ -275,7 +275,11 @@ fn ask_member<T: Tree>(
 }
 
 // The address that a text is.
-fn read_address<T: Tree>(alloc: Global, entity: &Entity<T>, text: &Text) -> Result<Addr, AddrFault>
+fn read_address<'a, T: Tree>(
+    alloc: Global,
+    entity: &Entity<T>,
+    text: &'a Text,
+) -> Result<Addr<'a>, AddrFault>
     ensures { GivesAddress result (address_of entity.now.home text.now) }
 {
     parse(alloc, text.entries(), &entity.home)

@@ -23,15 +23,15 @@ pub(crate) fn member_addresses(
         v.items ≡ spec.addresses_of rest.now group.now) }
     ensures utf8 { IfOk result (λ v. AllByRecursion IsUtf8 v.items) }
 {
-    listed_addresses(
-        alloc,
-        listed_in(group.attrs().get(Attr::Mid)),
-        rest.entries(),
-    )
+    listed_addresses(alloc, listed_in(group.attrs().get(Attr::Mid)), rest)
 }
 
 // The addresses that values list.
-fn listed_addresses(alloc: Global, members: &[Val], rest: &[Text]) -> Result<Vec<Text>, OutOfMemory>
+fn listed_addresses(
+    alloc: Global,
+    members: &[Val],
+    rest: &Segments,
+) -> Result<Vec<Text>, OutOfMemory>
     requires { IsTrue (are_names rest.now) }
     ensures value { IfOk result (λ v.
         v.items ≡ map (spec.with_rest rest.now) (texts_of members.now)) }
@@ -49,7 +49,7 @@ fn add_address(
     alloc: Global,
     addresses: &mut Vec<Text>,
     member: &Val,
-    rest: &[Text],
+    rest: &Segments,
 ) -> Result<(), OutOfMemory>
     requires names { IsTrue (are_names rest.now) }
     requires utf8 { AllByRecursion IsUtf8 addresses.old.items }
@@ -65,16 +65,17 @@ fn add_address(
 
 // The text of a member, and behind it the rest, with a slash before each of its parts.
 #[tactic(auto, using(crate::proofs::MemberLemmas::written_so_far))]
-fn with_rest(alloc: Global, member: &Text, rest: &[Text]) -> Result<Text, OutOfMemory>
+fn with_rest(alloc: Global, member: &Text, rest: &Segments) -> Result<Text, OutOfMemory>
     requires names { IsTrue (are_names rest.now) }
     requires utf8 { IsUtf8 member.now }
     ensures value { IfOk result (λ t. t ≡ spec.with_rest rest.now member.now) }
     ensures utf8 { IfOk result IsUtf8 }
 {
     let mut address = Vec::from_slice(alloc, member.entries())?;
-    for part in rest {
+    let parts = rest.entries();
+    for part in parts {
         address.push(b'/')?;
-        address.extend_from_slice(part.entries())?;
+        address.extend_from_slice(part)?;
     }
     Ok(Text::of(address))
 }

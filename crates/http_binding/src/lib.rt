@@ -41,6 +41,6 @@ pub use names::{
 };
 pub use reply::of_reply;
 pub use request::{created_type, to_request, to_request_in, value_in};
-pub use room::ReplyRoom;
+pub use room::{BodyRoom, ReplyRoom};
 pub use std::alloc::AllocError as OutOfMemory;
 pub use writing::write_reply_text;

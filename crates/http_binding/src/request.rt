@@ -11,6 +11,7 @@ ghost use Rattle.http_binding.specs.Seen.{seen_caller};
 
 use crate::headers::{Caller, caller_of};
 use crate::method::Method;
+use crate::room::BodyRoom;
 use crate::{BindFault, OutOfMemory};
 use filter_criteria::{Filter, FilterParts};
 use http_frames::Frame;
@@ -53,26 +54,26 @@ fn object_only(value: Val) -> Result<Option<Val>, BindFault>
 }
 
 /// The content that a body is.
-fn content_in(alloc: Global, scratch: &mut Scratch, body: &[u8]) -> Result<Option<Val>, BindFault>
+fn content_in(alloc: Global, room: &mut BodyRoom, body: &[u8]) -> Result<Option<Val>, BindFault>
     ensures { ReadsAs (λ content. content) result (spec.content_in body.now) }
 {
     if body.is_empty() {
         return Err(BindFault::Missing(Text::from_slice(alloc, Member::Content.name().as_bytes())?));
     }
-    object_only(value_in(alloc, scratch, body)?)
+    object_only(value_in(alloc, room.lend(alloc)?, body)?)
 }
 
 /// The content that a body has, on an operation that has one.
 fn content_of(
     alloc: Global,
-    scratch: &mut Scratch,
+    room: &mut BodyRoom,
     op: Op,
     body: &[u8],
 ) -> Result<Option<Val>, BindFault>
     ensures { ReadsAs (λ content. content) result (spec.content_of op body.now) }
 {
     if primitive_json::has_content(op) {
-        content_in(alloc, scratch, body)
+        content_in(alloc, room, body)
     } else {
         Ok(None)
     }
@@ -150,13 +151,13 @@ fn request_of(
 pub fn to_request(alloc: Global, frame: &Frame) -> Result<Request, BindFault>
     ensures { ReadsAs (λ request. request) result (binding frame.now) }
 {
-    to_request_in(alloc, &mut Scratch::new(alloc), frame)
+    to_request_in(alloc, &mut BodyRoom::new(), frame)
 }
 
 /// The same, where a body is read in the room of those before it.
 pub fn to_request_in(
     alloc: Global,
-    scratch: &mut Scratch,
+    room: &mut BodyRoom,
     frame: &Frame,
 ) -> Result<Request, BindFault>
     ensures { ReadsAs (λ request. request) result (binding frame.now) }
@@ -166,6 +167,6 @@ pub fn to_request_in(
     let caller = caller_of(alloc, method, &frame.lines)?;
     let op = method.operation(caller.ty);
     let query = query_said(alloc, op, target.query)?;
-    let content = content_of(alloc, scratch, op, frame.body.entries())?;
+    let content = content_of(alloc, room, op, frame.body.entries())?;
     request_of(alloc, op, target.to, caller, query, content)
 }

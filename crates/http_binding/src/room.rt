@@ -1,7 +1,9 @@
-//! Room in which one reply after another is written.
+//! Room in which one body after another is read, and one reply after another written.
 ghost use Rattle.std.specs.Prelude.{◌≤◌, vec_capacity};
 ghost use Rattle.http_binding.specs.Rooms.{kept_limit};
 
+use crate::OutOfMemory;
+use m2m_value::Scratch;
 use std::alloc::Global;
 use std::mem::replace;
 
@@ -52,5 +54,37 @@ impl ReplyRoom {
     pub(crate) fn keep(&mut self, alloc: Global, text: Vec<u8>, head: Vec<u8>) {
         self.text = small_only(alloc, text);
         self.head = small_only(alloc, head);
+    }
+}
+
+/// Room in which one body after another is read. It takes no memory until the first one, since it
+/// is large, and many connections have no bodies.
+#[derive(Drop)]
+pub struct BodyRoom {
+    kept: Option<Box<Scratch>>,
+}
+
+// It stands apart, so that its large value is nowhere on the stack but here.
+#[inline(never)]
+fn new_scratch(alloc: Global) -> Result<Box<Scratch>, OutOfMemory> {
+    match Box::new(alloc, Scratch::new(alloc)) {
+        Ok(scratch) => Ok(scratch),
+        Err(_) => Err(OutOfMemory),
+    }
+}
+
+impl BodyRoom {
+    /// Room for which no memory was taken yet.
+    pub fn new() -> BodyRoom {
+        BodyRoom { kept: None }
+    }
+
+    /// The room, which is made here where there is none.
+    pub(crate) fn lend(&mut self, alloc: Global) -> Result<&mut Scratch, OutOfMemory> {
+        let scratch = match self.kept.take() {
+            Some(scratch) => scratch,
+            None => new_scratch(alloc)?,
+        };
+        Ok(self.kept.insert(scratch))
     }
 }

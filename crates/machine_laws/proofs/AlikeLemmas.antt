@@ -16,7 +16,6 @@ use Rattle.cse_machine.specs.Answer.{ComesOf, effect_of}
 use Rattle.cse_machine.specs.History.{History, HistoryLeaves, IsDone}
 use Rattle.machine_laws.specs.Sight.{AreCsesInOrder, FindsUrls, IsBy, IsRequestBy, goes_away, sight}
 use Rattle.cse_machine.specs.Step.{Step}
-use Rattle.create_delete.specs.Guard.{NamesInOrder}
 use Rattle.entity_model.proofs.TellingLemmas.{sound_swept}
 use Rattle.machine_laws.proofs.CseOrderLemmas.{effect_ordered}
 use Rattle.machine_laws.proofs.HistoryLemmas.{none_some, same_entity, same_first, same_rest, sound_step}
@@ -34,10 +33,10 @@ record AreStillAlike (o : List ℕ) (one other after left : EntityData) (mine th
   orders : AreCsesInOrder one.nodes → AreCsesInOrder other.nodes → AreCsesInOrder after.nodes × AreCsesInOrder left.nodes
 
 -- the attributes of registered CSEs stay in order through a request
-asked_order : (reading : ℕ) (request : RequestParts) (e after : EntityData) → IsSoundEntity e → NamesInOrder request → after ≡ (effect_of (swept reading e) request).after → AreCsesInOrder e.nodes → AreCsesInOrder after.nodes
-asked_order reading request e after sound names left order =
+asked_order : (reading : ℕ) (request : RequestParts) (e after : EntityData) → IsSoundEntity e → after ≡ (effect_of (swept reading e) request).after → AreCsesInOrder e.nodes → AreCsesInOrder after.nodes
+asked_order reading request e after sound left order =
     subst (λ (x : EntityData). AreCsesInOrder x.nodes) (sym left)
-    (effect_ordered (swept reading e) request (sound_swept reading e sound) names (order_swept e reading sound.tree (sound_counts e sound) order))
+    (effect_ordered (swept reading e) request (sound_swept reading e sound) (order_swept e reading sound.tree (sound_counts e sound) order))
 
 module _ (o : List ℕ) (one other : EntityData) (sound : IsSoundEntity one) (sounds : IsSoundEntity other) (same : sight o one ≡ sight o other) where
   -- the attributes of registered CSEs stand in order in both, where the event is a request to one
@@ -51,14 +50,14 @@ module _ (o : List ℕ) (one other : EntityData) (sound : IsSoundEntity one) (so
       let away : FindsUrls one request = λ is. (finds is).0 in
       let aways : FindsUrls other request = λ is. (finds (ap (λ (h : HomeData). goes_away h (Ask request)) home ∙ is)).1 in
       record {
-        outcome = first.0 ∙ outcomes-alike one other o reading sound sounds same request by first.2 away aways ∙ sym second.0;
-        seen = ap (sight o) first.1 ∙ left-alike one other o reading sound sounds same request by first.2 away aways ∙ sym (ap (sight o) second.1);
+        outcome = first.0 ∙ outcomes-alike one other o reading sound sounds same request by away aways ∙ sym second.0;
+        seen = ap (sight o) first.1 ∙ left-alike one other o reading sound sounds same request by away aways ∙ sym (ap (sight o) second.1);
         sound = sound_step reading (Ask request) one after outcome sound step;
         sounds = sound_step reading (Ask request) other left twin sounds steps;
         home = sym (same_entity reading (Ask request) outcome one after step).home;
         orders = λ is are. (
-          asked_order reading request one after sound first.2 first.1 is,
-          asked_order reading request other left sounds second.2 second.1 are,
+          asked_order reading request one after sound first.1 is,
+          asked_order reading request other left sounds second.1 are,
         );
       }
 

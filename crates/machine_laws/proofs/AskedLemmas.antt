@@ -18,7 +18,6 @@ use Rattle.entity_model.specs.Sound.{IsSoundEntity}
 use Rattle.entity_model.proofs.TellingLemmas.{sound_swept}
 use Rattle.create_delete.specs.Changes.{changes_by, only_in}
 use Rattle.create_delete.specs.Changing.{effect_at, effect_by}
-use Rattle.create_delete.specs.Guard.{NamesInOrder}
 use Rattle.create_delete.specs.Telling.{gone_numbers, told_effect_at}
 use Rattle.create_delete.proofs.EffectLemmas.{done_at}
 use Rattle.create_delete.proofs.RightLemmas.{stays_sound}
@@ -91,7 +90,7 @@ create_adds reading request before after reply target sound op step =
     let on = served_step reading request before after reply target step in
     let made = performed_step Create reading request before after reply target op refl step in (
       (effect_at Create e o request target.number).after,
-      creation_adds_one e o request target.number (sound_swept reading before sound) on.originator step.step.2 made.success,
+      creation_adds_one e o request target.number (sound_swept reading before sound) on.originator made.success,
       made.left,
     )
 
@@ -101,7 +100,7 @@ update_changes reading request before after reply target sound op step =
     let o = claimed_originator e.home request in
     let made = performed_step Update reading request before after reply target op refl step in (
       (effect_at Update e o request target.number).after,
-      update_alone e o request target.number (sound_swept reading before sound) step.step.2 made.success,
+      update_alone e o request target.number (sound_swept reading before sound) made.success,
       made.left,
     )
 
@@ -126,29 +125,29 @@ still_rises : (e : EntityData) (reply : ReplyParts) → Rises e (reply_alone e r
 still_rises e reply = omega (arith, ap length (nothing_apart e.nodes))
 
 -- what is done rises so, and what is told of it leaves as many that are new
-told_rises : (op : Op) (e : EntityData) (request : RequestParts) (target : ResourceData) → IsSoundEntity e → is_originator (claimed_originator e.home request) ≡ true → NamesInOrder request → at target.number e.nodes ≡ Some target → Rises e (told_effect_at op e (claimed_originator e.home request) request target.number)
-told_rises op e request target sound originator names there =
+told_rises : (op : Op) (e : EntityData) (request : RequestParts) (target : ResourceData) → IsSoundEntity e → is_originator (claimed_originator e.home request) ≡ true → at target.number e.nodes ≡ Some target → Rises e (told_effect_at op e (claimed_originator e.home request) request target.number)
+told_rises op e request target sound originator there =
     comes_at e request target there op (Rises e) (λ f other. still_rises e (refusal request f)) (λ none.
     let o = claimed_originator e.home request in
     let x = effect_by op e o request target in
     let is = done_at op e o request target.number target there (fault_there op e request target there ∙ none) in
-    let rises : Rises e x = subst (Rises e) is (next_rises op e o request target.number sound originator names) in
-    let done_sound : IsSoundEntity x.after = subst (λ (y : Effect). IsSoundEntity y.after) is (stays_sound op e o request target.number sound originator names) in
+    let rises : Rises e x = subst (Rises e) is (next_rises op e o request target.number sound originator) in
+    let done_sound : IsSoundEntity x.after = subst (λ (y : Effect). IsSoundEntity y.after) is (stays_sound op e o request target.number sound originator) in
     let drafts = notes_of_all x.after.home e.nodes (gone_numbers e x.after) (changes_by op request target.number e x.after) in
     rises
     ∙ ap (λ (k : ℕ). e.next + k) (sym (as_many_new drafts x.after.nodes e.nodes done_sound.tree done_sound.kinds (λ n none.
     untold e.nodes (gone_numbers e x.after) n x.after.home (changes_by op request target.number e x.after) none))))
 
-changed_rises : (op : Op) (e : EntityData) (request : RequestParts) (target : ResourceData) → IsSoundEntity e → is_originator (claimed_originator e.home request) ≡ true → NamesInOrder request → at target.number e.nodes ≡ Some target → Rises e (change_effect op e request target)
-changed_rises op e request target sound originator names there =
-    subst (Rises e) (sym (changing_at op e request target there)) (told_rises op e request target sound originator names there)
+changed_rises : (op : Op) (e : EntityData) (request : RequestParts) (target : ResourceData) → IsSoundEntity e → is_originator (claimed_originator e.home request) ≡ true → at target.number e.nodes ≡ Some target → Rises e (change_effect op e request target)
+changed_rises op e request target sound originator there =
+    subst (Rises e) (sym (changing_at op e request target there)) (told_rises op e request target sound originator there)
 
-operation_rises : (op : Op) (e : EntityData) (request : RequestParts) (target : ResourceData) → IsSoundEntity e → is_originator (claimed_originator e.home request) ≡ true → NamesInOrder request → at target.number e.nodes ≡ Some target → Rises e (operation_effect op e request target)
+operation_rises : (op : Op) (e : EntityData) (request : RequestParts) (target : ResourceData) → IsSoundEntity e → is_originator (claimed_originator e.home request) ≡ true → at target.number e.nodes ≡ Some target → Rises e (operation_effect op e request target)
 operation_rises Create e request target = changed_rises Create e request target
-operation_rises Retrieve e request target = λ sound originator names there. still_rises e (reading_reply e request target.number)
+operation_rises Retrieve e request target = λ sound originator there. still_rises e (reading_reply e request target.number)
 operation_rises Update e request target = changed_rises Update e request target
 operation_rises Delete e request target = changed_rises Delete e request target
-operation_rises Notify e request target = λ sound originator names there.
+operation_rises Notify e request target = λ sound originator there.
     relays e request target there (Rises e) (λ f other. still_rises e (refusal request f)) (λ none. still_rises e (refusal request Fine))
 
 pub numbers_rise : NumbersRiseByWhatIsNew
@@ -157,7 +156,7 @@ numbers_rise reading request before after reply sound step alone =
     done_holds (Rises e) reading request before after reply
     (comes e request (Rises e)
     (λ fault other. still_rises e (refusal request fault))
-    (λ way. operation_rises request.op e request way.target (sound_swept reading before sound) way.originator step.2 way.there)
+    (λ way. operation_rises request.op e request way.target (sound_swept reading before sound) way.originator way.there)
     (λ way. still_rises e (given_note e request way.channel way.note).reply)
     (λ way. still_rises e (taken_answer e request).reply)
     (λ way. absurd (true≢false (sym (ap is_fan_point way.spot) ∙ alone))))

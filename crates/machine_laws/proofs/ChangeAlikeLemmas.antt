@@ -70,12 +70,12 @@ module _ (home : HomeData) (o : List ℕ) (request : RequestParts) (claims : cla
   created_on : (one other : EntityData) (address : List ℕ) (p q : ResourceData) → IsSoundAt home one → IsSoundAt home other → sight o one ≡ sight o other → at p.number one.nodes ≡ Some p → at q.number other.nodes ≡ Some q → q.number ≡ p.number → AreSeenAlike o (operation_effect Create one (sent_to request address) p) (operation_effect Create other (sent_to request address) q)
   created_on one other address p q here there same inp inq number =
       changed Create one other address p q here there
-      (created-alike o one other here.sound there.sound same (sent_to request address) p q inp inq number asked may.names)
+      (created-alike o one other here.sound there.sound same (sent_to request address) p q inp inq number asked)
 
   updated_on : IsCalm request → (one other : EntityData) (address : List ℕ) (p q : ResourceData) → IsSoundAt home one → IsSoundAt home other → sight o one ≡ sight o other → at p.number one.nodes ≡ Some p → at q.number other.nodes ≡ Some q → q.number ≡ p.number → AreSeenAlike o (operation_effect Update one (sent_to request address) p) (operation_effect Update other (sent_to request address) q)
   updated_on calm one other address p q here there same inp inq number =
       changed Update one other address p q here there
-      (updated-alike o one other here.sound there.sound same (sent_to request address) p q inp inq number may.names calm)
+      (updated-alike o one other here.sound there.sound same (sent_to request address) p q inp inq number calm)
 
   pub create_alike : request.op ≡ Create → (one other : EntityData) → IsSoundAt home one → IsSoundAt home other → sight o one ≡ sight o other → is_polling one.home request ≡ false → (leads_away (address_of one.home request.to) ≡ true → AreCsesInOrder one.nodes × AreCsesInOrder other.nodes) → AreAnsweredAlike o (effect_of one request) (effect_of other request)
   create_alike op = change_alike home o request Create op claims may created_on

@@ -38,7 +38,7 @@ use Rattle.retrieve_laws.proofs.RightLemmas.{addresses_under, ids_under, referen
 use Rattle.retrieve_laws.proofs.ToldLemmas.{none_referred, none_under}
 use Rattle.create_delete.specs.Changes.{changes_by}
 use Rattle.create_delete.specs.Changing.{create_effect, created_content, told_rows, update_effect, updated_content, updated_resource}
-use Rattle.create_delete.specs.Guard.{ChangesByRight, NamesInOrder}
+use Rattle.create_delete.specs.Guard.{ChangesByRight}
 use Rattle.create_delete.proofs.EffectLemmas.{told_done_at, told_refused_at}
 use Rattle.create_delete.proofs.RightLemmas.{told_by_right}
 use Rattle.create_delete.specs.Telling.{drafts_at, told_effect, told_effect_at, told_effect_by}
@@ -208,9 +208,9 @@ module _ (e : EntityData) (request : RequestParts) (t : ResourceData) (there : a
   update_told = comes_at Update (λ x. IsToldByRight e request x.reply) (λ f other. tells_nothing e request f) (λ none. updated_told (named_by Update request t))
 
   -- what an operation changes, it changes by right
-  pub change_guarded : (op : Op) → IsSoundEntity e → is_originator who ≡ true → NamesInOrder request → addressed e request.to ≡ Some t → request.op ≡ op → IsToldByRight e request (told_effect_at op e who request t.number).reply → IsGuardedAlone e request (told_effect_at op e who request t.number).reply (told_effect_at op e who request t.number).after
-  change_guarded op sound originator names named is told =
-      let by = told_by_right op e who request t.number sound originator names in
+  pub change_guarded : (op : Op) → IsSoundEntity e → is_originator who ≡ true → addressed e request.to ≡ Some t → request.op ≡ op → IsToldByRight e request (told_effect_at op e who request t.number).reply → IsGuardedAlone e request (told_effect_at op e who request t.number).reply (told_effect_at op e who request t.number).after
+  change_guarded op sound originator named is told =
+      let by = told_by_right op e who request t.number sound originator in
       record {
         shown = shows_by_right op e request t there named is;
         others = told;

@@ -1,7 +1,8 @@
 -- What nothing speaks against is served.
-use Rattle.std.proofs.Common.{◌≡◌, ◌⊎◌, ℕ, List, [], Bool, true, false, Option, Some, None, Result, Ok, Err, inl, inr, refl, sym, ap, subst, ◌∙◌}
+use Rattle.std.proofs.Common.{◌≡◌, ◌⊎◌, ℕ, List, [], ◌∷◌, ◌++◌, All, Bool, true, false, find, Option, Some, None, is_some, Result, Ok, Err, inl, inr, refl, sym, ap, subst, ◌∙◌}
 use Rattle.std.specs.Option.{option_and_then, option_map_or}
-use Rattle.std.proofs.lemmas.Bool.{and_parts, cases_Bool, false≢true}
+use Rattle.std.proofs.lemmas.Bool.{and_parts, cases_Bool, cond-true, cond-false, false≢true}
+use Rattle.std.proofs.lemmas.List.Elements.{All-head, All-tail}
 use Rattle.std.proofs.lemmas.Option.{none-some}
 use Rattle.m2m_names.specs.declared.codes.Rsc.{Rsc}
 use Rattle.m2m_names.specs.declared.codes.Rsc.TheVariants.{NotFound}
@@ -11,7 +12,7 @@ use Rattle.m2m_names.specs.Types.{does_take}
 use Rattle.m2m_names.specs.declared.types.Ty.{Ty}
 use Rattle.primitive_json.specs.declared.request.RequestParts.{RequestParts}
 use Rattle.resource_model.specs.Resource.{ResourceData}
-use Rattle.tree_model.specs.Tree.{at, has}
+use Rattle.tree_model.specs.Tree.{at, cse_of, has}
 use Rattle.tree_model.proofs.TreeLemmas.{at_number}
 use Rattle.addressing.specs.Addresses.{address_of}
 use Rattle.addressing.specs.Laws.{named_here}
@@ -35,10 +36,12 @@ use Rattle.create_delete.specs.Telling.{told_effect_by}
 use Rattle.cse_machine.specs.declared.event.Event.TheVariants.{Ask}
 use Rattle.cse_machine.specs.declared.event.Outcome.{Outcome}
 use Rattle.cse_machine.specs.declared.event.Outcome.TheVariants.{Done, Forward, Item, Ticked, Starved}
-use Rattle.cse_machine.specs.Answer.{EventEffect, address_effect, addressed, as_done, does_serve, effect_of, onward_effect, poll_effect, resource_at, route_effect, spot_effect}
+use Rattle.subscription_match.specs.Destinations.{first_url, is_url, leading_cse_id}
+use Rattle.cse_machine.specs.Answer.{EventEffect, address_effect, addressed, as_done, does_serve, effect_of, onward_effect, point_of, poll_effect, resource_at, route_effect, spot_effect}
 use Rattle.group_fanout.specs.Operations.{change_effect, operation_effect, reading_reply, relay_effect, resource_effect}
-use Rattle.retarget.specs.Routes.{forwarded}
+use Rattle.retarget.specs.Routes.{forwarded, routed, routed_to}
 use Rattle.retarget.specs.declared.routing.Route.{Route}
+use Rattle.retarget.specs.declared.routing.Route.TheVariants as to
 use Rattle.retrieve_discover.specs.Polling.{polled}
 use Rattle.cse_machine.specs.Step.{Step}
 use Rattle.cse_machine.proofs.OutcomeLemmas.{poll_there}
@@ -209,11 +212,29 @@ taken_steps reading request before after outcome channel step hears is op there 
     at_spot reading request before after outcome (Poll channel) (taken_answer e request) step hears is
     (poll_there e request channel there ∙ ap (λ (p : Op). poll_effect p e request channel) op ∙ taken)
 
+-- the first URL of these points of access
+first_of_points : (passed behind : List (List ℕ)) (url : List ℕ) → All (λ (p : List ℕ). is_url p ≡ false) passed → is_url url ≡ true → find is_url (passed ++ url ∷ behind) ≡ Some url
+first_of_points [] behind url none is = cond-true _ _ _ is
+first_of_points (p ∷ passed) behind url none is =
+    cond-false _ _ _ (All-head (λ (q : List ℕ). is_url q ≡ false) p passed none)
+    ∙ first_of_points passed behind url (All-tail (λ (q : List ℕ). is_url q ≡ false) p passed none) is
+
+-- the CSE that is named so is there
+named_cse : (nodes : List ResourceData) (cse : ResourceData) (n : Option ℕ) → option_and_then (λ k. at k nodes) n ≡ Some cse → at cse.number nodes ≡ Some cse
+named_cse nodes cse None found = absurd (none-some cse found)
+named_cse nodes cse (Some n) found = ap (λ (m : ℕ). at m nodes) (at_number n nodes cse found) ∙ found
+
 pub onward_steps : WhatMayGoOnGoesOn
-onward_steps reading request before after outcome text poa n step hears is goes point =
+onward_steps reading request before after outcome text url passed behind cse step hears is named stays points none first =
     let e = swept reading before in
     let o = claimed_originator e.home request in
-    heard_step reading request before after (λ (x : Outcome). x ≡ Forward poa (forwarded e.home o request)) hears
+    let found : first_url cse ≡ Some url = ap (find is_url) points ∙ first_of_points passed behind url none first in
+    let there : at cse.number e.nodes ≡ Some cse = named_cse e.nodes cse (cse_of (leading_cse_id text) e.nodes) named in
+    let goes : routed e.nodes o (Foreign text) ≡ to.Forward cse.number =
+    ap (λ (c : Option ResourceData). option_map_or (routed_to e.nodes o) c to.Unknown) named
+    ∙ cond-false _ _ _ stays ∙ cond-true _ _ _ (ap is_some found) in
+    let point : point_of e.nodes cse.number ≡ Some url = ap (option_and_then first_url) there ∙ found in
+    heard_step reading request before after (λ (x : Outcome). x ≡ Forward url (forwarded e.home o request)) hears
     (ap (λ (a : Result Addr AddrFault). (address_effect e request a).outcome) is
     ∙ ap (λ (r : Route). (route_effect e request [] r).outcome) goes
     ∙ ap (λ (p : Option (List ℕ)). (onward_effect e request p).outcome) point)

@@ -15,7 +15,6 @@ use Rattle.entity_model.specs.Entity.{EntityData}
 use Rattle.entity_model.specs.Places.{refused}
 use Rattle.entity_model.specs.Sound.{IsSoundEntity}
 use Rattle.request_rules.specs.Order.{fault_on}
-use Rattle.create_delete.specs.Guard.{NamesInOrder}
 use Rattle.create_delete.specs.Telling.{told_effect_by}
 use Rattle.cse_machine.specs.Answer.{effect_of}
 use Rattle.group_fanout.specs.Fan.{member_effect, sent_to}
@@ -45,20 +44,20 @@ module _ (e : EntityData) (sound : IsSoundEntity e) (request : RequestParts) (r 
           (order_left (has_number r.number) e.nodes (tree_from_well_formed e.nodes sound.tree) order)
       by (Some fault) = order
 
-  make_order : is_originator (claimed_originator e.home request) ≡ true → NamesInOrder request → AreCsesInOrder (change_effect Create e request r).after.nodes
+  make_order : is_originator (claimed_originator e.home request) ≡ true → AreCsesInOrder (change_effect Create e request r).after.nodes
   unfolding change_effect
-  make_order originator names = created_order (claimed_originator e.home request) e sound request r there originator names order
+  make_order originator = created_order (claimed_originator e.home request) e sound request r there originator order
 
-  edit_order : NamesInOrder request → AreCsesInOrder (change_effect Update e request r).after.nodes
+  edit_order : AreCsesInOrder (change_effect Update e request r).after.nodes
   unfolding change_effect
-  edit_order names = updated_order (claimed_originator e.home request) e sound request r there names order
+  edit_order = updated_order (claimed_originator e.home request) e sound request r there order
 
-  operated_order : (op : Op) → is_originator (claimed_originator e.home request) ≡ true → NamesInOrder request → AreCsesInOrder (operation_effect op e request r).after.nodes
-  operated_order Create originator names = make_order originator names
-  operated_order Retrieve originator names = order
-  operated_order Update originator names = edit_order names
-  operated_order Delete originator names = delete_order
-  operated_order Notify originator names = subst AreCsesInOrder (sym (relay_nodes e request r there)) order
+  operated_order : (op : Op) → is_originator (claimed_originator e.home request) ≡ true → AreCsesInOrder (operation_effect op e request r).after.nodes
+  operated_order Create originator = make_order originator
+  operated_order Retrieve originator = order
+  operated_order Update originator = edit_order
+  operated_order Delete originator = delete_order
+  operated_order Notify originator = subst AreCsesInOrder (sym (relay_nodes e request r there)) order
 
 -- an entity through which a request is fanned out
 record IsOrderedAt (home : HomeData) (e : EntityData) : Type 0 where
@@ -72,16 +71,16 @@ member_ordered home request may e address is =
     record {
       sound = member_sound home request may e address is.sound;
       order = of_member e one (λ x. AreCsesInOrder x.after.nodes) (λ fault other. is.order)
-          (λ way. operated_order e is.sound.sound one way.target way.there is.order request.op originator may.names);
+          (λ way. operated_order e is.sound.sound one way.target way.there is.order request.op originator);
     }
 
-pub effect_ordered : (e : EntityData) (request : RequestParts) → IsSoundEntity e → NamesInOrder request → AreCsesInOrder e.nodes → AreCsesInOrder (effect_of e request).after.nodes
-effect_ordered e request sound names order =
+pub effect_ordered : (e : EntityData) (request : RequestParts) → IsSoundEntity e → AreCsesInOrder e.nodes → AreCsesInOrder (effect_of e request).after.nodes
+effect_ordered e request sound order =
     left_by e request (λ (after : EntityData). AreCsesInOrder after.nodes) order (comes e request (λ x. AreCsesInOrder x.after.nodes)
     (λ fault other. order)
-    (λ way. operated_order e sound request way.target way.there order request.op way.originator names)
+    (λ way. operated_order e sound request way.target way.there order request.op way.originator)
     (λ way. order)
     (λ way. order)
     (λ way.
-    (members_leave (IsOrderedAt e.home) request (member_ordered e.home request (may_send e request way names))
+    (members_leave (IsOrderedAt e.home) request (member_ordered e.home request (may_send e request way))
     (member_addresses e request way.place way.group) e (record { sound = record { sound = sound; home_is = refl }; order = order })).order))

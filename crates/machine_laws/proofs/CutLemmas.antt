@@ -15,7 +15,6 @@ use Rattle.addressing.specs.declared.spot.Spot.TheVariants.{Resource, Fan, Poll}
 use Rattle.entity_model.specs.Entity.{EntityData}
 use Rattle.entity_model.specs.Places.{first_fault, unless}
 use Rattle.request_rules.proofs.OrderLemmas.{first_holds}
-use Rattle.create_delete.specs.Guard.{NamesInOrder}
 use Rattle.cse_machine.specs.Answer.{address_places, does_serve, first_places, form_places, has_originator, is_served, originator_places}
 use Rattle.cse_machine.specs.Step.{IsCutShort, heard_members}
 use Rattle.cse_machine.proofs.PlaceLemmas.{claimed_valid}
@@ -95,7 +94,7 @@ module _ (e : EntityData) (request : RequestParts) where
 -- nothing was done; or so many members were
 pub data IsLeftShort (e : EntityData) (request : RequestParts) (done : ℕ) (after : EntityData) : Type 0 where
   undone : done ≡ 0 → after ≡ e → IsLeftShort e request done after
-  some_done : (fan : IsHeardFan e request (heard_members e request)) → NamesInOrder request → after ≡ after_members e (requests_to request (take done (member_addresses e request fan.place fan.group))) → IsLeftShort e request done after
+  some_done : (fan : IsHeardFan e request (heard_members e request)) → after ≡ after_members e (requests_to request (take done (member_addresses e request fan.place fan.group))) → IsLeftShort e request done after
 
 none_done : (done : ℕ) → done ≤ length {A = RequestParts} [] → done ≡ 0
 none_done done few = omega (arith, few)
@@ -105,17 +104,17 @@ left_short e request done after short = by (heard_by e request)
   where
     by : Heard e request (heard_members e request) → IsLeftShort e request done after
     by (no_fan none) =
-        undone (omega (arith, short.0.within, ap length none))
-        (short.0.left ∙ ap (λ (members : List RequestParts). after_members e (take done members)) none ∙ ap (after_members e) (take-nil done))
+        undone (omega (arith, short.within, ap length none))
+        (short.left ∙ ap (λ (members : List RequestParts). after_members e (take done members)) none ∙ ap (after_members e) (take-nil done))
     by (a_fan fan) =
-        some_done fan short.1
-        (short.0.left
+        some_done fan
+        (short.left
         ∙ ap (λ (members : List RequestParts). after_members e (take done members)) fan.are
         ∙ ap (after_members e) (take_requests done (member_addresses e request fan.place fan.group) request))
 
 -- the members may be sent to
-pub short_send : (e : EntityData) (request : RequestParts) → IsHeardFan e request (heard_members e request) → NamesInOrder request → MaySend e.home request
-short_send e request fan names = record { served = fan.served; originator = fan.originator; names = names }
+pub short_send : (e : EntityData) (request : RequestParts) → IsHeardFan e request (heard_members e request) → MaySend e.home request
+short_send e request fan = record { served = fan.served; originator = fan.originator }
 
 -- and outside a fan-out none are
 fan_asked : (e : EntityData) (request : RequestParts) → is_fan_point (spot_asked e request) ≡ false → IsHeardFan e request (heard_members e request) → false ≡ true
@@ -123,12 +122,12 @@ fan_asked e request other fan = sym other ∙ ap is_fan_point fan.spot
 
 pub alone_undone : (e : EntityData) (request : RequestParts) (done : ℕ) (after : EntityData) → is_fan_point (spot_asked e request) ≡ false → IsLeftShort e request done after → done ≡ 0
 alone_undone e request done after other (undone none same) = none
-alone_undone e request done after other (some_done fan names left) = (let no : false ≡ true = fan_asked e request other fan in cc)
+alone_undone e request done after other (some_done fan left) = (let no : false ≡ true = fan_asked e request other fan in cc)
 
 -- where none is done, nothing has changed
 pub first_undone : (e : EntityData) (request : RequestParts) (after : EntityData) → IsLeftShort e request 0 after → after ≡ e
 first_undone e request after (undone none same) = same
-first_undone e request after (some_done fan names left) = left
+first_undone e request after (some_done fan left) = left
 
 -- its moment is the one before
 pub short_last : (e : EntityData) (request : RequestParts) (done : ℕ) (after : EntityData) → IsCutShort e request done after → after.last ≡ e.last
@@ -136,5 +135,5 @@ short_last e request done after short = by (left_short e request done after shor
   where
     by : IsLeftShort e request done after → after.last ≡ e.last
     by (undone none same) = ap (λ (x : EntityData). x.last) same
-    by (some_done fan names left) =
+    by (some_done fan left) =
         ap (λ (x : EntityData). x.last) left ∙ (members_kept (take done (member_addresses e request fan.place fan.group)) e request fan.served).last

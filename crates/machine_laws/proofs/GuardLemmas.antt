@@ -24,7 +24,6 @@ use Rattle.request_rules.specs.Rights.{may_do}
 use Rattle.retrieve_discover.specs.Polling.{handed_on}
 use Rattle.addressing.specs.declared.spot.Spot.{Spot}
 use Rattle.addressing.specs.declared.spot.Spot.TheVariants.{Resource, Fan, Poll}
-use Rattle.create_delete.specs.Guard.{NamesInOrder}
 use Rattle.create_delete.specs.Telling.{told_effect_at}
 use Rattle.cse_machine.specs.declared.event.Outcome.TheVariants.{Done, Forward}
 use Rattle.cse_machine.specs.Answer.{EventEffect, addressed, as_done, does_serve, effect_of, resource_at}
@@ -65,8 +64,8 @@ left_by e request P holds (replied effect is left) = subst (λ (x : EventEffect)
 left_by e request P holds (went_on way) = subst (λ (x : EventEffect). P x.after) (sym way.is) holds
 
 -- a request that is fanned out may be sent to each member
-pub may_send : (e : EntityData) (request : RequestParts) → IsFanned e request (effect_of e request) → NamesInOrder request → MaySend e.home request
-may_send e request way names = record { served = way.served; originator = way.originator; names = names }
+pub may_send : (e : EntityData) (request : RequestParts) → IsFanned e request (effect_of e request) → MaySend e.home request
+may_send e request way = record { served = way.served; originator = way.originator }
 
 -- a refusal is guarded, whatever the address names
 refused_by : (e : EntityData) (request : RequestParts) (fault : Rsc) (spot : Option Spot) → is_success fault ≡ false → IsGuardedAt spot e request (refusal request fault) e
@@ -79,14 +78,14 @@ refused_by e request fault (Some (Poll channel)) other = record {
   kept = refl;
 }
 
-pub guarded : (e : EntityData) (request : RequestParts) → IsSoundEntity e → NamesInOrder request → Came e request (λ x. IsGuarded e request x.reply x.after)
-guarded e request sound names =
+pub guarded : (e : EntityData) (request : RequestParts) → IsSoundEntity e → Came e request (λ x. IsGuarded e request x.reply x.after)
+guarded e request sound =
     comes e request (λ x. IsGuarded e request x.reply x.after)
     (λ fault other. refused_by e request fault (spot_asked e request) other)
     (λ way.
     let x = operation_effect request.op e request way.target in
     subst (λ (spot : Option Spot). IsGuardedAt spot e request x.reply x.after) (sym way.spot)
-    (operated_guarded e request way.target way.there request.op sound way.originator names way.served refl way.named))
+    (operated_guarded e request way.target way.there request.op sound way.originator way.served refl way.named))
     (λ way.
     let x = given_note e request way.channel way.note in
     subst (λ (spot : Option Spot). IsGuardedAt spot e request x.reply x.after) (sym way.spot)
@@ -117,18 +116,18 @@ guarded e request sound names =
       right = way.right;
       singles = singles_of e (requests_to request addresses);
       all = refl;
-      guarded = members_guarded e.home request (may_send e request way names) addresses e at_home;
+      guarded = members_guarded e.home request (may_send e request way) addresses e at_home;
       replied = refl;
     })))
 
-pub sound_effect : (e : EntityData) (request : RequestParts) → IsSoundEntity e → NamesInOrder request → IsSoundEntity (effect_of e request).after
-sound_effect e request sound names =
+pub sound_effect : (e : EntityData) (request : RequestParts) → IsSoundEntity e → IsSoundEntity (effect_of e request).after
+sound_effect e request sound =
     left_by e request IsSoundEntity sound (comes e request (λ x. IsSoundEntity x.after)
     (λ fault other. sound)
-    (λ way. operated_sound e request way.target way.there request.op sound way.originator names way.served)
+    (λ way. operated_sound e request way.target way.there request.op sound way.originator way.served)
     (λ way. sound_taken (waits_for way.channel) e sound)
     (λ way. sound)
-    (λ way. (members_sound e.home request (may_send e request way names) (member_addresses e request way.place way.group) e (record { sound = sound; home_is = refl })).sound))
+    (λ way. (members_sound e.home request (may_send e request way) (member_addresses e request way.place way.group) e (record { sound = sound; home_is = refl })).sound))
 
 pub kept : (e : EntityData) (request : RequestParts) → Came e request (IsKept e)
 kept e request =

@@ -95,7 +95,7 @@ swept_same reading before after left = record { home = left.home; last = inl lef
 short_same : (reading : ℕ) (request : RequestParts) (done : ℕ) (before after : EntityData) → IsLeftShort (swept reading before) request done after → IsSameEntity reading before after
 short_same reading request done before after (undone none same) =
     swept_same reading before after (subst (IsSame (swept reading before)) (sym same) (same_still (swept reading before)))
-short_same reading request done before after (some_done fan names left) =
+short_same reading request done before after (some_done fan left) =
     let e = swept reading before in
     let addresses = take done (member_addresses e request fan.place fan.group) in
     swept_same reading before after (subst (IsSame e) (sym left) (members_kept addresses e request fan.served))
@@ -136,10 +136,10 @@ one_more opening before after history reading event outcome run step =
 
 short_sound : (e : EntityData) (request : RequestParts) (done : ℕ) (after : EntityData) → IsSoundEntity e → IsLeftShort e request done after → IsSoundEntity after
 short_sound e request done after sound (undone none same) = subst IsSoundEntity (sym same) sound
-short_sound e request done after sound (some_done fan names left) =
+short_sound e request done after sound (some_done fan left) =
     let addresses = take done (member_addresses e request fan.place fan.group) in
     subst IsSoundEntity (sym left)
-    (members_sound e.home request (short_send e request fan names) addresses e (record { sound = sound; home_is = refl })).sound
+    (members_sound e.home request (short_send e request fan) addresses e (record { sound = sound; home_is = refl })).sound
 
 unswept_sound : (reading : ℕ) (before after : EntityData) (done : ℕ) → IsSoundEntity before → IsUnswept reading before done after → IsSoundEntity after
 unswept_sound reading before after done sound unswept = subst IsSoundEntity (sym unswept.same) sound
@@ -154,9 +154,9 @@ sound_starved reading Tick before after done sound step = unswept_sound reading 
 
 pub sound_step : (reading : ℕ) (event : Event) (before after : EntityData) (outcome : Outcome) → IsSoundEntity before → Step reading event before outcome after → IsSoundEntity after
 sound_step reading (Ask request) before after (Done reply) sound step =
-    subst IsSoundEntity (sym step.1) (sound_effect (swept reading before) request (sound_swept reading before sound) step.2)
+    subst IsSoundEntity (sym step.1) (sound_effect (swept reading before) request (sound_swept reading before sound))
 sound_step reading (Ask request) before after (Forward poa onward) sound step =
-    subst IsSoundEntity (sym step.1) (sound_effect (swept reading before) request (sound_swept reading before sound) step.2)
+    subst IsSoundEntity (sym step.1) (sound_effect (swept reading before) request (sound_swept reading before sound))
 sound_step reading (Ask request) before after (Starved done) sound step = sound_starved reading (Ask request) before after done sound step
 sound_step reading (Ask request) before after (Item given) sound step = absurd step
 sound_step reading (Ask request) before after Ticked sound step = absurd step
@@ -181,12 +181,12 @@ sound_after (entry ∷ history) opening e sound run =
 pub step_guarded : (reading : ℕ) (request : RequestParts) (before after : EntityData) (reply : ReplyParts) → IsSoundEntity before → Step reading (Ask request) before (Done reply) after → IsGuarded (swept reading before) request reply after
 step_guarded reading request before after reply sound step =
     let e = swept reading before in
-    done_holds (λ x. IsGuarded e request x.reply x.after) reading request before after reply (guarded e request (sound_swept reading before sound) step.2) step
+    done_holds (λ x. IsGuarded e request x.reply x.after) reading request before after reply (guarded e request (sound_swept reading before sound)) step
 
 -- and so is what has taken effect where memory ran out
 short_guarded : (e : EntityData) (request : RequestParts) (done : ℕ) (after : EntityData) → IsSoundEntity e → IsLeftShort e request done after → IsGuardedShort e request done after
 short_guarded e request done after sound (undone none same) = inl same
-short_guarded e request done after sound (some_done fan names left) =
+short_guarded e request done after sound (some_done fan left) =
     let addresses = member_addresses e request fan.place fan.group in
     let singles = singles_of e (requests_to request addresses) in
     let first = take done addresses in
@@ -203,7 +203,7 @@ short_guarded e request done after sound (some_done fan names left) =
       all = refl;
       guarded = subst (λ (taken : List Single). AreGuarded e taken after) (sym some)
           (subst (λ (x : EntityData). AreGuarded e (singles_of e (requests_to request first)) x) (sym left)
-          (members_guarded e.home request (short_send e request fan names) first e at_home));
+          (members_guarded e.home request (short_send e request fan) first e at_home));
     })
 
 pub starved_guarded : (reading : ℕ) (request : RequestParts) (before after : EntityData) (done : ℕ) → IsSoundEntity before → Step reading (Ask request) before (Starved done) after → IsGuardedShort (swept reading before) request done after ⊎ IsUnswept reading before done after

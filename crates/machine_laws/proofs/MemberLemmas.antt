@@ -23,7 +23,6 @@ use Rattle.addressing.specs.declared.spot.Spot.TheVariants.{Resource, Fan, Poll}
 use Rattle.entity_model.specs.Entity.{EntityData}
 use Rattle.entity_model.specs.Places.{Effect, refusal, refused}
 use Rattle.entity_model.specs.Sound.{IsSoundEntity}
-use Rattle.create_delete.specs.Guard.{NamesInOrder}
 use Rattle.cse_machine.specs.Answer.{addressed, does_serve, resource_at}
 use Rattle.group_fanout.specs.Fan.{Single, after_members, member_effect, member_effect_at, member_effect_by, requests_to, sent_to, single_of, singles_of}
 use Rattle.group_fanout.specs.Operations.{operation_effect, resource_effect}
@@ -101,7 +100,6 @@ member_kept e request served =
 pub record MaySend (home : HomeData) (request : RequestParts) : Type 0 where
   pub served : does_serve request.op request ≡ true
   pub originator : is_originator (claimed_originator home request) ≡ true
-  pub names : NamesInOrder request
 
 -- it is the same entity at the same moment
 pub record IsSame (before after : EntityData) : Type 0 where
@@ -148,7 +146,7 @@ module _ (home : HomeData) (request : RequestParts) (may : MaySend home request)
       let one = sent_to request address in
       record {
         sound = of_member e one (λ x. IsSoundEntity x.after) (λ fault other. at_home.sound)
-            (λ way. operated_sound e one way.target way.there request.op at_home.sound (asks e at_home.home_is) may.names (served_sent request.op request address ∙ may.served));
+            (λ way. operated_sound e one way.target way.there request.op at_home.sound (asks e at_home.home_is) (served_sent request.op request address ∙ may.served));
         home_is = (member_kept e one (served_sent request.op request address ∙ may.served)).home ∙ at_home.home_is;
       }
 
@@ -159,7 +157,7 @@ module _ (home : HomeData) (request : RequestParts) (may : MaySend home request)
   member_guarded e address at_home =
       let one = sent_to request address in
       of_member e one (IsGuardedIn e one) (λ fault other. refused_guarded e one fault other)
-      (λ way. operated_guarded e one way.target way.there request.op at_home.sound (asks e at_home.home_is) may.names (served_sent request.op request address ∙ may.served) refl way.named)
+      (λ way. operated_guarded e one way.target way.there request.op at_home.sound (asks e at_home.home_is) (served_sent request.op request address ∙ may.served) refl way.named)
 
   -- each of them is guarded in the entity that the one before it left
   pub members_guarded : (addresses : List (List ℕ)) (e : EntityData) → IsSoundAt home e → AreGuarded e (singles_of e (requests_to request addresses)) (after_members e (requests_to request addresses))

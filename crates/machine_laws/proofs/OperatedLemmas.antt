@@ -15,7 +15,6 @@ use Rattle.entity_model.specs.Sound.{IsSoundEntity}
 use Rattle.request_rules.specs.Rights.{is_discovery, may_do}
 use Rattle.retrieve_discover.specs.Replies.{discovered, retrieved}
 use Rattle.retrieve_laws.proofs.RightLemmas.{discovered_by_right, retrieved_by_right}
-use Rattle.create_delete.specs.Guard.{NamesInOrder}
 use Rattle.create_delete.specs.Telling.{told_effect_at}
 use Rattle.create_delete.proofs.RightLemmas.{told_stays_sound}
 use Rattle.cse_machine.specs.Answer.{addressed, does_serve}
@@ -84,25 +83,25 @@ module _ (e : EntityData) (request : RequestParts) (r : ResourceData) (there : a
   as_changed : (op : Op) (P : Effect → Type 0) → P (told_effect_at op e (claimed_originator e.home request) request r.number) → P (change_effect op e request r)
   as_changed op P holds = subst P (sym (changing_at op e request r there)) holds
 
-  pub operated_guarded : (op : Op) → IsSoundEntity e → is_originator (claimed_originator e.home request) ≡ true → NamesInOrder request → does_serve op request ≡ true → request.op ≡ op → addressed e request.to ≡ Some r → IsGuardedIn e request (operation_effect op e request r)
-  operated_guarded Create sound originator names served op named =
-      as_changed Create (IsGuardedIn e request) (change_guarded e request r there Create sound originator names named op (create_told e request r there))
-  operated_guarded Retrieve sound originator names served op named = read_guarded e sound request r named op there
-  operated_guarded Update sound originator names served op named =
-      as_changed Update (IsGuardedIn e request) (change_guarded e request r there Update sound originator names named op (update_told e request r there))
-  operated_guarded Delete sound originator names served op named =
-      as_changed Delete (IsGuardedIn e request) (change_guarded e request r there Delete sound originator names named op (delete_told e request r there))
-  operated_guarded Notify sound originator names served op named = relay_guarded e request r there named op
+  pub operated_guarded : (op : Op) → IsSoundEntity e → is_originator (claimed_originator e.home request) ≡ true → does_serve op request ≡ true → request.op ≡ op → addressed e request.to ≡ Some r → IsGuardedIn e request (operation_effect op e request r)
+  operated_guarded Create sound originator served op named =
+      as_changed Create (IsGuardedIn e request) (change_guarded e request r there Create sound originator named op (create_told e request r there))
+  operated_guarded Retrieve sound originator served op named = read_guarded e sound request r named op there
+  operated_guarded Update sound originator served op named =
+      as_changed Update (IsGuardedIn e request) (change_guarded e request r there Update sound originator named op (update_told e request r there))
+  operated_guarded Delete sound originator served op named =
+      as_changed Delete (IsGuardedIn e request) (change_guarded e request r there Delete sound originator named op (delete_told e request r there))
+  operated_guarded Notify sound originator served op named = relay_guarded e request r there named op
 
-  pub operated_sound : (op : Op) → IsSoundEntity e → is_originator (claimed_originator e.home request) ≡ true → NamesInOrder request → does_serve op request ≡ true → IsSoundEntity (operation_effect op e request r).after
-  operated_sound Create sound originator names served =
-      as_changed Create (λ x. IsSoundEntity x.after) (told_stays_sound Create e (claimed_originator e.home request) request r.number sound originator names)
-  operated_sound Retrieve sound originator names served = sound
-  operated_sound Update sound originator names served =
-      as_changed Update (λ x. IsSoundEntity x.after) (told_stays_sound Update e (claimed_originator e.home request) request r.number sound originator names)
-  operated_sound Delete sound originator names served =
-      as_changed Delete (λ x. IsSoundEntity x.after) (told_stays_sound Delete e (claimed_originator e.home request) request r.number sound originator names)
-  operated_sound Notify sound originator names served = relay_sound e request r there sound
+  pub operated_sound : (op : Op) → IsSoundEntity e → is_originator (claimed_originator e.home request) ≡ true → does_serve op request ≡ true → IsSoundEntity (operation_effect op e request r).after
+  operated_sound Create sound originator served =
+      as_changed Create (λ x. IsSoundEntity x.after) (told_stays_sound Create e (claimed_originator e.home request) request r.number sound originator)
+  operated_sound Retrieve sound originator served = sound
+  operated_sound Update sound originator served =
+      as_changed Update (λ x. IsSoundEntity x.after) (told_stays_sound Update e (claimed_originator e.home request) request r.number sound originator)
+  operated_sound Delete sound originator served =
+      as_changed Delete (λ x. IsSoundEntity x.after) (told_stays_sound Delete e (claimed_originator e.home request) request r.number sound originator)
+  operated_sound Notify sound originator served = relay_sound e request r there sound
 
   pub operated_kept : (op : Op) → does_serve op request ≡ true → IsKept e (operation_effect op e request r)
   operated_kept Create served = as_changed Create (IsKept e) (create_kept e request r there)

@@ -388,7 +388,7 @@ short_goes reading request before after done account holds short =
     let expired = expired_account reading before account in
     let swept_holds = expired_holds reading before account holds in
     record {
-      waits = ap (λ (x : EntityData). x.items) short.0.left ∙ members_append some e
+      waits = ap (λ (x : EntityData). x.items) short.left ∙ members_append some e
           ∙ ap (λ (items : List Item). items ++ member_items e some) swept_holds.waits
           ∙ sym (waiting-noted (member_items e some) expired);
       dropped = ap (λ (m : ℕ). list_all (is_justly_dropped m) (noted (member_items e some) expired)) (short_last e request done after short)

@@ -49,7 +49,6 @@ use Rattle.machine_laws.proofs.AddressAlikeLemmas.{AreAnsweredAlike, effect_alik
 use Rattle.machine_laws.proofs.ChangeAlikeLemmas.{create_alike, update_alike}
 use Rattle.machine_laws.proofs.CutLemmas.{heard_facts}
 use Rattle.cse_machine.proofs.PlaceLemmas.{claimed_valid}
-use Rattle.create_delete.specs.Guard.{NamesInOrder}
 use Rattle.entity_model.proofs.TellingLemmas.{sound_swept}
 use Rattle.entity_model.specs.Places.{first_fault}
 use Rattle.retarget.specs.declared.routing.Route.TheVariants as to
@@ -363,8 +362,8 @@ alike one other o request well wells counts count same by alone finds find = eli
 ]
 
 -- and so does what comes of it where it is heard, of two that are sound
-heard_alike : (one other : EntityData) (o : List ℕ) (request : RequestParts) → IsSoundEntity one → IsSoundEntity other → sight o one ≡ sight o other → IsRequestBy one.home o request → NamesInOrder request → FindsUrls one request → FindsUrls other request → AreAnsweredAlike o (effect_of one request) (effect_of other request)
-heard_alike one other o request sound sounds same by names finds find =
+heard_alike : (one other : EntityData) (o : List ℕ) (request : RequestParts) → IsSoundEntity one → IsSoundEntity other → sight o one ≡ sight o other → IsRequestBy one.home o request → FindsUrls one request → FindsUrls other request → AreAnsweredAlike o (effect_of one request) (effect_of other request)
+heard_alike one other o request sound sounds same by finds find =
     by_place_first (first_fault (first_places one request)) refl
   where
     home : one.home ≡ other.home
@@ -380,7 +379,7 @@ heard_alike one other o request sound sounds same by names finds find =
     by_place_first None is =
         let heard = heard_facts one request is in
         by_way heard.served
-        (record { served = heard.served; originator = claimed_valid one.home request heard.originator; names = names })
+        (record { served = heard.served; originator = claimed_valid one.home request heard.originator })
         (way_of_sight request.op)
       where
         by_way : is_served request ≡ true → MaySend one.home request → WayOfSight request.op → AreAnsweredAlike o (effect_of one request) (effect_of other request)
@@ -410,10 +409,10 @@ module _ (one other : EntityData) (o : List ℕ) (reading : ℕ) (sound : IsSoun
   pub passed-alike : sight o (swept reading one) ≡ sight o (swept reading other)
   passed-alike = swept-alike o one other sound.tree sounds.tree (sound_counts one sound) (sound_counts other sounds) same reading
 
-  module _ (request : RequestParts) (by : IsRequestBy one.home o request) (names : NamesInOrder request) (finds : FindsUrls one request) (find : FindsUrls other request) where
+  module _ (request : RequestParts) (by : IsRequestBy one.home o request) (finds : FindsUrls one request) (find : FindsUrls other request) where
     answered_alike : AreAnsweredAlike o (effect_of (swept reading one) request) (effect_of (swept reading other) request)
     answered_alike =
-        heard_alike (swept reading one) (swept reading other) o request (sound_swept reading one sound) (sound_swept reading other sounds) passed-alike by names
+        heard_alike (swept reading one) (swept reading other) o request (sound_swept reading one sound) (sound_swept reading other sounds) passed-alike by
         (finds_swept one reading request sound.tree (sound_counts one sound) finds) (finds_swept other reading request sounds.tree (sound_counts other sounds) find)
 
     pub outcomes-alike : (effect_of (swept reading one) request).outcome ≡ (effect_of (swept reading other) request).outcome

@@ -1,21 +1,26 @@
 -- That a request is served which nothing speaks against (TS-0001, 10.2; TS-0004, 7.2 and 7.3.3).
-use Rattle.std.specs.Prelude.{◌≡◌, ◌⊎◌, ℕ, false, List, Option, Some, None, Ok, IsTrue}
+use Rattle.std.specs.Prelude.{◌≡◌, ◌⊎◌, ℕ, true, false, List, ◌∷◌, ◌++◌, Option, Some, None, Ok}
+use Rattle.std.specs.Prelude.{All, IsTrue}
 use Rattle.std.specs.Prelude.{if◌then◌else◌}
 use Rattle.std.specs.Option.{option_map_or}
+use Rattle.m2m_names.specs.declared.attributes.Attr.TheVariants.{Poa}
 use Rattle.m2m_names.specs.declared.codes.Rsc.TheVariants.{Created, Deleted, Ok as Fine, Updated}
 use Rattle.m2m_names.specs.declared.operations.Op.{Op}
 use Rattle.m2m_names.specs.declared.operations.Op.TheVariants.{Create, Retrieve, Update, Delete}
 use Rattle.m2m_names.specs.declared.operations.Op.TheVariants.{Notify}
 use Rattle.m2m_names.specs.declared.types.Ty.{Ty}
 use Rattle.m2m_value.specs.Data.{Data}
+use Rattle.policy_eval.specs.Rules.{listed_in, texts_of}
 use Rattle.primitive_json.specs.Form.{has_form}
 use Rattle.primitive_json.specs.declared.note.NoteParts.{NoteParts}
 use Rattle.primitive_json.specs.declared.request.RequestParts.{RequestParts}
+use Rattle.resource_model.specs.Attributes.{value_of}
 use Rattle.resource_model.specs.Resource.{ResourceData}
 use Rattle.tree_model.specs.Tree.{at, has}
 use Rattle.addressing.specs.Addresses.{address_of}
 use Rattle.addressing.specs.declared.addr.Addr.TheVariants.{Foreign}
 use Rattle.addressing.specs.declared.spot.Spot.TheVariants.{Fan, Poll}
+use Rattle.subscription_match.specs.Destinations.{cse_named, is_url}
 use Rattle.entity_model.specs.Entity.{EntityData, swept}
 use Rattle.entity_model.specs.Places.{reply_to, wanted_content}
 use Rattle.request_rules.specs.Creation.{Creation, has_room, is_unique, new_resource}
@@ -29,15 +34,14 @@ use Rattle.retrieve_discover.specs.Contents.{content}
 use Rattle.retrieve_discover.specs.Findings.{address_list, found_addresses}
 use Rattle.retrieve_discover.specs.Polling.{first_waiting, handed_on}
 use Rattle.retrieve_discover.specs.Replies.{is_by_id}
-use Rattle.retarget.specs.Routes.{forwarded, routed}
-use Rattle.retarget.specs.declared.routing.Route.TheVariants as to
+use Rattle.retarget.specs.Routes.{comes_from_cse, forwarded}
 use Rattle.create_delete.specs.Changing.{created_content, updated_content, updated_resource}
 use Rattle.cse_machine.specs.declared.event.Event.TheVariants.{Ask}
 use Rattle.cse_machine.specs.declared.event.Outcome.{Outcome}
 use Rattle.cse_machine.specs.declared.event.Outcome.TheVariants.{Done, Forward, Item, Ticked}
 use Rattle.cse_machine.specs.declared.event.Outcome.TheVariants.{Starved}
 use Rattle.cse_machine.specs.Answer.{addressed, has_address, has_answer, has_originator}
-use Rattle.cse_machine.specs.Answer.{is_blocking, point_of}
+use Rattle.cse_machine.specs.Answer.{is_blocking}
 use Rattle.cse_machine.specs.Answer.{is_in_time, is_served}
 use Rattle.group_fanout.specs.Fan.{gathered, is_fanned, may_fan, member_requests, rest_of}
 use Rattle.group_fanout.specs.Fan.{singles_of}
@@ -193,17 +197,21 @@ WhatIsAnsweredIsTaken =
     → IsTrue (has_right (swept reading before) request channel) → IsTrue (has_answer request)
     → (outcome ≡ Done (reply_to request Fine None)) ⊎ IsStarved outcome
 
--- A request to another CSE goes on to it where that is registered and has a URL, unless the
--- originator comes from a registered CSE itself, or memory runs out (TS-0001, 10.2.2).
+-- A request to another CSE goes on to it where that is registered and has a URL among its points of
+-- access, of which the first is where it goes, unless the originator comes from a registered CSE
+-- itself, or memory runs out (TS-0001, 10.2.2).
 abbrev pub WhatMayGoOnGoesOn : Type 0
 WhatMayGoOnGoesOn =
     (reading : ℕ) (request : RequestParts) (before after : EntityData) (outcome : Outcome)
-    (text poa : List ℕ) (n : ℕ) → Step reading (Ask request) before outcome after
+    (text url : List ℕ) (passed behind : List (List ℕ)) (cse : ResourceData)
+    → Step reading (Ask request) before outcome after
     → MayBeHeard (swept reading before) request
     → address_of (swept reading before).home request.to ≡ Ok (Foreign text)
-    → routed (swept reading before).nodes
-    (claimed_originator (swept reading before).home request) (Foreign text) ≡ to.Forward n
-    → point_of (swept reading before).nodes n ≡ Some poa
-    → (outcome ≡ Forward poa (forwarded (swept reading before).home
+    → cse_named text (swept reading before).nodes ≡ Some cse
+    → comes_from_cse (swept reading before).nodes
+    (claimed_originator (swept reading before).home request) ≡ false
+    → texts_of (listed_in (value_of Poa cse.attrs)) ≡ passed ++ url ∷ behind
+    → All (λ point. is_url point ≡ false) passed → is_url url ≡ true
+    → (outcome ≡ Forward url (forwarded (swept reading before).home
     (claimed_originator (swept reading before).home request) request))
     ⊎ IsStarved outcome

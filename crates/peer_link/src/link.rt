@@ -6,7 +6,7 @@ ghost use Rattle.m2m_io.specs.declared.fault.LinkFault.TheVariants.{Failed as fa
 ghost use Rattle.m2m_io.specs.declared.fault.LinkFault.TheVariants.{OutOfMemory as starved};
 ghost use Rattle.m2m_io.specs.Counts.{CountsFault, CountsFaults, after_call, after_fault};
 ghost use Rattle.m2m_io.specs.Counts.{fails_next, no_calls};
-ghost use Rattle.m2m_io.specs.Link.{TellsAnswer, TellsExchange};
+ghost use Rattle.m2m_io.specs.Link.{TellsAnswer, TellsExchange, calls_after};
 ghost use Rattle.peer_link.specs.PeerTalk.{AnswersTalking, PeerTalks};
 
 use crate::conn::MemPair;
@@ -157,6 +157,9 @@ impl<T: Tree, C: Clock> Link for PeerLink<T, C> {
         ensures due { IsErrOf result failed ↔ fails_next self.old.turns.calls ≡ true }
         ensures kept { IsErrOf result failed
             → (self.new.seat ≡ self.old.seat) × (self.new.clock ≡ self.old.clock) }
+
+        // It counts as one exchange, whatever comes of it.
+        ensures counted { self.new.turns.calls ≡ calls_after self.old.turns.calls result }
     {
         if let Err(_) = count(&mut self.turns) {
             tell_failure(alloc, &mut self.told, host, request);

@@ -1,11 +1,12 @@
 -- Contents that name attributes, and the order in which an Update is refused by them.
-use Rattle.std.proofs.Common.{◌≡◌, ℕ, List, [], ◌∷◌, ◌++◌, Bool, true, false, not, Option, Some, None, option_and_then, unwrap_or, if◌then◌else◌, refl, sym, ap, ◌∙◌}
+use Rattle.std.proofs.Common.{◌≡◌, ℕ, List, [], ◌∷◌, ◌++◌, Bool, true, false, not, ◌&&◌, Option, Some, None, option_and_then, unwrap_or, if◌then◌else◌, refl, sym, ap, ◌∙◌}
 use Rattle.std.proofs.lemmas.Bool.{and_parts, both_ways}
 use Rattle.std.specs.Option.{option_map_or, option_or}
 use Rattle.m2m_names.specs.declared.codes.Rsc.TheVariants.{BadRequest}
 use Rattle.m2m_names.specs.declared.operations.Op.TheVariants.{Update}
 use Rattle.m2m_names.specs.declared.types.Ty.{Ty}
 use Rattle.m2m_value.specs.Data.{Data, Entry}
+use Rattle.m2m_value.specs.Node.{AreSorted}
 use Rattle.primitive_json.specs.declared.request.RequestParts.{RequestParts}
 use Rattle.resource_model.specs.Resource.{ResourceData}
 use Rattle.attribute_rules.specs.Admission.{are_admitted, attributes_in, is_admitted}
@@ -14,7 +15,8 @@ use Rattle.attribute_rules.specs.declared.table.Writing.TheVariants.{Update as U
 use Rattle.entity_model.specs.Entity.{EntityData}
 use Rattle.entity_model.specs.Places.{first_fault, unless}
 use Rattle.request_rules.specs.Order.{content_places, creation_places, edit_places, fault_edit, fault_named, named_places}
-use Rattle.request_rules.specs.Requests.{admits, content_for, is_content_for, named_by, names_copy}
+use Rattle.request_rules.specs.Requests.{admits, are_in_order, content_for, is_content_for, named_by, names_copy}
+use Rattle.request_rules.proofs.InOrderLemmas.{order_sorted}
 use Rattle.request_rules.proofs.OrderLemmas.{first_fault-append}
 
 -- ---- which contents are for a type
@@ -31,10 +33,15 @@ no_content writing request ty none = ap (λ (x : Option (List Entry)). option_ma
 pub names_some : (writing : Writing) (request : RequestParts) (ty : Ty) → is_content_for writing request ty ≡ true → content_for request ty ≡ None → ⊥
 names_some writing request ty is none = both_ways (is_content_for writing request ty) (no_content writing request ty none) is
 
--- which are admitted
+-- which stand in order, and are admitted
+pub sorted_for : (writing : Writing) (request : RequestParts) (ty : Ty) (es : List Entry) → is_content_for writing request ty ≡ true → content_for request ty ≡ Some es → AreSorted es
+sorted_for writing request ty es is names =
+    let both = and_parts (are_in_order es && not (names_copy es)) (are_admitted writing ty es) (sym (content_admits writing request ty es names) ∙ is) in
+    order_sorted es (and_parts (are_in_order es) (not (names_copy es)) both.0).0
+
 pub admitted_for : (writing : Writing) (request : RequestParts) (ty : Ty) (es : List Entry) → is_content_for writing request ty ≡ true → content_for request ty ≡ Some es → are_admitted writing ty es ≡ true
 admitted_for writing request ty es is names =
-    (and_parts (not (names_copy es)) (are_admitted writing ty es) (sym (content_admits writing request ty es names) ∙ is)).1
+    (and_parts (are_in_order es && not (names_copy es)) (are_admitted writing ty es) (sym (content_admits writing request ty es names) ∙ is)).1
 
 -- a content is admitted where what it names is
 pub attributes_admitted : (writing : Writing) (ty : Ty) (content : Data) (es : List Entry) → attributes_in ty content ≡ Some es → is_admitted writing ty content ≡ are_admitted writing ty es

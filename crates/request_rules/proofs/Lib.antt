@@ -2,6 +2,7 @@ pub mod CreatingLemmas
 pub mod DepthLemmas
 pub mod EditingLemmas
 pub mod GroupLemmas
+pub mod InOrderLemmas
 pub mod JudgedLemmas
 pub mod NamingLemmas
 pub mod OrderLemmas

@@ -3,12 +3,11 @@ use Rattle.std.specs.Prelude.{◌≡◌, ℕ, List, Option, Some, None, Result, 
 use Rattle.m2m_names.specs.declared.codes.Rsc.{Rsc}
 use Rattle.primitive_json.specs.declared.request.RequestParts.{RequestParts}
 use Rattle.tree_model.specs.Tree.{at}
-use Rattle.attribute_rules.specs.Admission.{attributes_in}
 use Rattle.entity_model.specs.Entity.{EntityData}
 use Rattle.entity_model.specs.Sound.{IsSoundEntity}
 use Rattle.request_rules.specs.Asked.{Creation, creation_of}
 use Rattle.request_rules.specs.Groups.{group_rows, membership_by, membership_edited}
-use Rattle.request_rules.specs.Requests.{child_ty}
+use Rattle.request_rules.specs.Requests.{child_ty, content_for}
 use Rattle.request_rules.specs.declared.judging.AllowedCreate.{AllowedCreate}
 use Rattle.request_rules.specs.declared.judging.AllowedUpdate.{AllowedUpdate}
 use Rattle.request_rules.specs.declared.judging.Refusal.{Refusal}
@@ -21,25 +20,24 @@ Judges (Ok x) fault IsSo = (fault ≡ None) × IsSo x
 Judges (Err (Fault f)) fault IsSo = fault ≡ Some f
 Judges (Err OutOfMemory) fault IsSo = ⊤
 
--- These are the parent, the type, the content and its attributes of the Create that a request asks
--- for on the resource of a number of a sound entity, and what a group keeps of its members.
+-- These are the parent and the type of the Create that a request asks for on the resource of a
+-- number of a sound entity, the attributes that its content names, and what a group keeps of its
+-- members.
 pub record IsCreateOf (e : EntityData) (request : RequestParts) (n : ℕ) (create : AllowedCreate)
     : Type 0 where
   pub sound : IsSoundEntity e
   pub parent : at n e.nodes ≡ Some create.parent.now
   pub ty : child_ty request ≡ Some create.ty
-  pub content : request.pc ≡ Some create.content.now
-  pub named : attributes_in create.ty create.content.now ≡ Some create.named.now
+  pub named : content_for request create.ty ≡ Some create.named.now
   pub members : create.members.items ≡ group_rows e (membership_by create.ty create.named.now)
 
--- These are the resource, the content and its attributes of the Update that it asks for, and what a
--- group keeps of the members that this names.
+-- These are the resource of the Update that it asks for, the attributes that its content names, and
+-- what a group keeps of the members that this names.
 pub record IsUpdateOf (e : EntityData) (request : RequestParts) (n : ℕ) (update : AllowedUpdate)
     : Type 0 where
   pub sound : IsSoundEntity e
   pub target : at n e.nodes ≡ Some update.target.now
-  pub content : request.pc ≡ Some update.content.now
-  pub named : attributes_in update.target.now.ty update.content.now ≡ Some update.named.now
+  pub named : content_for request update.target.now.ty ≡ Some update.named.now
   pub members :
       update.members.items ≡ group_rows e (membership_edited update.target.now update.named.now)
 

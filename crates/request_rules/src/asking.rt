@@ -1,7 +1,5 @@
 //! What a request to a resource asks for.
-ghost use Rattle.std.specs.Prelude.{◌≡◌, false, IfSome, IsTrue, Some, option_map};
-ghost use Rattle.std.specs.Option.{option_map_or};
-ghost use Rattle.m2m_names.specs.Types.{does_take};
+ghost use Rattle.std.specs.Prelude.{◌≡◌, IfSome, IsTrue, Some, option_map};
 ghost use Rattle.resource_model.specs.Resource as resources;
 ghost use Rattle.tree_model.specs.Tree.{at, has};
 ghost use Rattle.entity_model.specs.Sound.{IsSoundEntity};
@@ -51,21 +49,15 @@ pub(crate) fn is_for(op: Op, ty: Ty) -> bool
     }
 }
 
-fn takes(parent: &Resource, child: Option<Ty>) -> bool
-    ensures { result ≡ option_map_or (λ ty. does_take parent.now.ty ty) child false }
-{
-    match child {
-        Some(ty) => parent.ty().takes(ty),
-        None => false,
-    }
-}
-
 /// Whether the target takes the child that is to be created.
 pub(crate) fn takes_child(op: Op, request: &Request, target: &Resource) -> bool
     ensures { result ≡ spec.takes_child op request.now target.now }
 {
     match op {
-        Op::Create => takes(target, child_ty(request)),
+        Op::Create => match child_ty(request) {
+            Some(ty) => target.ty().takes(ty),
+            None => false,
+        },
         Op::Retrieve => true,
         Op::Update => true,
         Op::Delete => true,

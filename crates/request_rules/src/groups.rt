@@ -9,7 +9,6 @@ ghost use Rattle.m2m_names.specs.declared.attributes.Attr.TheVariants.{Cnm, Csy,
 ghost use Rattle.m2m_value.specs.Data.{boolean, elements_of, list, number, text};
 ghost use Rattle.m2m_value.specs.Shapes.{is_text_of};
 ghost use Rattle.resource_model.specs.Resource.{ResourceData};
-ghost use Rattle.attribute_rules.specs.Admission as attributes;
 ghost use Rattle.entity_model.specs.Entity.{EntityData};
 ghost use Rattle.entity_model.specs.Places.{first_fault};
 ghost use Rattle.policy_eval.specs.Rules.{texts_of};
@@ -23,6 +22,7 @@ use crate::judging::Refusal;
 use crate::membership::Membership;
 use crate::policies::{listed, spot_named};
 use addressing::{Addr, AddrFault, Spot, parse};
+use attribute_rules::{is_named, value_named};
 use entity_model::Entity;
 use m2m_names::{Attr, Rsc, Ty};
 use m2m_value::{Items, Members, Text, Val};
@@ -53,13 +53,7 @@ fn count_named(attr: Attr, named: &Members) -> Option<u64>
     ensures value { result ≡ spec.count_named attr named.now }
     ensures bound { IfSome result (λ n. n < count_bound) }
 {
-    named.get(attr.short().as_bytes())?.as_count()
-}
-
-fn is_named(attr: Attr, named: &Members) -> bool
-    ensures { result ≡ attributes.is_named attr named.now }
-{
-    named.get(attr.short().as_bytes()).is_some()
+    value_named(attr, named)?.as_count()
 }
 
 fn members_wanted(named: &Members) -> Membership<'_>

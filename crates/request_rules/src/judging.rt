@@ -1,10 +1,9 @@
 //! The order in which a request to a resource is refused, and what one asks for that isn't.
-ghost use Rattle.std.specs.Prelude.{◌≡◌, ◌++◌, None, Some, IfErr, IfNone, IfOk, IfSome, IsTrue};
-ghost use Rattle.std.specs.Prelude.{OnOk};
+ghost use Rattle.std.specs.Prelude.{◌≡◌, ◌++◌, None, Some, IfErr, IfOk, IsTrue, OnOk};
+ghost use Rattle.std.specs.Prelude.{option_map};
 ghost use Rattle.m2m_names.specs.Name.{is_originator};
 ghost use Rattle.m2m_names.specs.declared.operations.Op.TheVariants as ops;
 ghost use Rattle.tree_model.specs.Tree.{at, has};
-ghost use Rattle.attribute_rules.specs.Admission.{attributes_in};
 ghost use Rattle.entity_model.specs.Places.{first_fault};
 ghost use Rattle.entity_model.specs.Sound.{IsSoundEntity};
 ghost use Rattle.request_rules.specs.Asked.{creation_of};
@@ -26,7 +25,7 @@ use tree_model::{Resource, Tree};
 
 /// Why a request isn't done: by the first place that refuses it, with its status, or for want of
 /// memory.
-#[derive(Clone, Copy, Debug, PartialEq, Eq)]
+#[derive(Clone, Copy)]
 pub enum Refusal {
     Fault(Rsc),
     OutOfMemory,
@@ -43,23 +42,21 @@ impl From<OutOfMemory> for Refusal {
     }
 }
 
-/// A Create that no place refuses: the parent of the new resource, its type, the content, the
-/// attributes that this names, and those in which a group keeps its members.
+/// A Create that no place refuses: the parent of the new resource, its type, the attributes that
+/// the content names, and those in which a group keeps its members.
 #[derive(Drop)]
 pub struct AllowedCreate<'a> {
     pub parent: &'a Resource,
     pub ty: Ty,
-    pub content: &'a Val,
     pub named: &'a Members,
     pub members: Vec<(Attr, Val)>,
 }
 
-/// An Update that no place refuses: the resource, the content, the attributes that this names, and
-/// those in which a group keeps the members that it is to have from now on.
+/// An Update that no place refuses: the resource, the attributes that the content names, and those
+/// in which a group keeps the members that it is to have from now on.
 #[derive(Drop)]
 pub struct AllowedUpdate<'a> {
     pub target: &'a Resource,
-    pub content: &'a Val,
     pub named: &'a Members,
     pub members: Vec<(Attr, Val)>,
 }
@@ -130,15 +127,11 @@ fn judge_parent<T: Tree>(
 
 // ---- the content
 
-// A content for a resource of the type, and the attributes that it names.
-fn content_for(request: &Request, ty: Ty) -> Option<(&Val, &Members)>
-    ensures found { IfSome result (λ p. (request.now.pc ≡ Some p.0.now)
-        × (attributes_in ty p.0.now ≡ Some p.1.now)) }
-    ensures none { IfNone result (requests.content_for request.now ty ≡ None) }
+// The attributes that a content for a resource of the type names.
+fn content_for(request: &Request, ty: Ty) -> Option<&Members>
+    ensures { option_map (λ m. m.now) result ≡ requests.content_for request.now ty }
 {
-    let content = request.parts().pc.as_ref()?;
-    let named = attributes_in(ty, content)?;
-    Some((content, named))
+    attributes_in(ty, request.parts().pc.as_ref()?)
 }
 
 // ---- a Create
@@ -200,14 +193,13 @@ fn judge_child<'a, T: Tree>(
         ++ spec.creation_places ops.Create entity.now originator.now request.now parent.now))
         (IsCreateOf entity.now request.now parent.now.number) }
 {
-    let Some((content, named)) = content_for(request, ty) else {
+    let Some(named) = content_for(request, ty) else {
         return Err(Refusal::Fault(Rsc::BadRequest));
     };
-    match judge_named(alloc, entity, originator, parent, ty, content, named) {
+    match judge_named(alloc, entity, originator, parent, ty, named) {
         Ok(members) => Ok(AllowedCreate {
             parent,
             ty,
-            content,
             named,
             members,
         }),
@@ -222,16 +214,14 @@ fn judge_named<T: Tree>(
     originator: &[u8],
     parent: &Resource,
     ty: Ty,
-    content: &Val,
     named: &Members,
 ) -> Result<Vec<(Attr, Val)>, Refusal>
-    requires originator { IsTrue (is_originator originator.now) }
-    requires named { attributes_in ty content.now ≡ Some named.now }
+    requires { IsTrue (is_originator originator.now) }
     ensures { Judges result
         (spec.fault_creation (creation_of entity.now originator.now ty parent.now named.now))
         (λ rows. rows.items ≡ group_rows entity.now (membership_by ty named.now)) }
 {
-    if let Some(fault) = judge_content(alloc, entity, Writing::Create, ty, content, named)? {
+    if let Some(fault) = judge_content(alloc, entity, Writing::Create, ty, named)? {
         return Err(Refusal::Fault(fault));
     }
     judge_creation(alloc, entity, originator, ty, parent, named)
@@ -293,13 +283,12 @@ fn judge_edit<'a, T: Tree>(
         ++ spec.creation_places ops.Update entity.now originator.now request.now target.now))
         (IsUpdateOf entity.now request.now target.now.number) }
 {
-    let Some((content, named)) = content_for(request, target.ty()) else {
+    let Some(named) = content_for(request, target.ty()) else {
         return Err(Refusal::Fault(Rsc::BadRequest));
     };
-    match judge_edits(alloc, entity, target, content, named) {
+    match judge_edits(alloc, entity, target, named) {
         Ok(members) => Ok(AllowedUpdate {
             target,
-            content,
             named,
             members,
         }),
@@ -312,15 +301,12 @@ fn judge_edits<T: Tree>(
     alloc: Global,
     entity: &Entity<T>,
     target: &Resource,
-    content: &Val,
     named: &Members,
 ) -> Result<Vec<(Attr, Val)>, Refusal>
-    requires { attributes_in target.now.ty content.now ≡ Some named.now }
     ensures { Judges result (spec.fault_edit entity.now target.now named.now)
         (λ rows. rows.items ≡ group_rows entity.now (membership_edited target.now named.now)) }
 {
-    let ty = target.ty();
-    if let Some(fault) = judge_content(alloc, entity, Writing::Update, ty, content, named)? {
+    if let Some(fault) = judge_content(alloc, entity, Writing::Update, target.ty(), named)? {
         return Err(Refusal::Fault(fault));
     }
     judge_edition(alloc, entity, target, named)

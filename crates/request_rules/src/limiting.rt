@@ -7,6 +7,7 @@ ghost use Rattle.tree_model.specs.Tree.{level_of, is_tree};
 ghost use Rattle.request_rules.specs.Creation as spec;
 ghost use Rattle.request_rules.specs.Creation.{creation_of};
 
+use attribute_rules::value_named;
 use container_limits::is_within;
 use entity_model::Entity;
 use m2m_names::{Attr, LARGEST_COUNT, Ty};
@@ -40,7 +41,7 @@ fn is_less_deep<T: Tree>(tree: &T, number: u64, bound: u64) -> bool
 pub fn size_named(members: &Members) -> u64
     ensures { result ≡ spec.size_named members.now }
 {
-    match members.get(Attr::Con.short().as_bytes()) {
+    match value_named(Attr::Con, members) {
         Some(content) => content.size(),
         None => 0,
     }

@@ -7,6 +7,7 @@ ghost use Rattle.m2m_names.specs.declared.types.Ty.TheVariants.{Ae};
 ghost use Rattle.attribute_rules.specs.Contents.{named_text};
 ghost use Rattle.request_rules.specs.Creation as spec;
 
+use attribute_rules::value_named;
 use m2m_names::{Attr, Ty, is_name};
 use m2m_value::{Members, Text};
 use resource_model::{id_text, numbered};
@@ -25,7 +26,7 @@ pub(crate) fn text_named(attr: Attr, members: &Members) -> Option<&Text>
     ensures value { option_map (λ t. t.now) result ≡ named_text attr members.now }
     ensures utf8 { IfSome result (λ t. IsUtf8 t.now) }
 {
-    members.get(attr.short().as_bytes())?.as_text()
+    value_named(attr, members)?.as_text()
 }
 
 /// Whether an originator is an AE-ID already.

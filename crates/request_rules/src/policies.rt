@@ -6,6 +6,7 @@ ghost use Rattle.addressing.specs.Laws.{spot_named};
 ghost use Rattle.request_rules.specs.Policies as spec;
 
 use addressing::{AddrFault, Spot, name_spot, parse};
+use attribute_rules::value_named;
 use entity_model::Entity;
 use m2m_names::Attr;
 use m2m_value::{Members, Val};
@@ -39,19 +40,7 @@ fn policy_on<T: Tree>(tree: &T, spot: Option<Spot>) -> Option<&Resource>
     }
 }
 
-// The live policy that an address leads to.
-fn policy_addressed<'a, T: Tree>(
-    alloc: Global,
-    entity: &'a Entity<T>,
-    address: &[u8],
-) -> Result<Option<&'a Resource>, OutOfMemory>
-    ensures { IfOk result (λ found. option_map (λ r. r.now) found
-        ≡ spec.policy_addressed entity.now address.now) }
-{
-    let spot = spot_named(alloc, entity, address)?;
-    Ok(policy_on(&entity.tree, spot))
-}
-
+// The live policy that the address leads to which a value is.
 fn policy_meant<'a, T: Tree>(
     alloc: Global,
     entity: &'a Entity<T>,
@@ -61,7 +50,10 @@ fn policy_meant<'a, T: Tree>(
         ≡ spec.policy_meant entity.now value.now) }
 {
     match value.as_text() {
-        Some(text) => policy_addressed(alloc, entity, text.entries()),
+        Some(text) => {
+            let spot = spot_named(alloc, entity, text.entries())?;
+            Ok(policy_on(&entity.tree, spot))
+        }
         None => Ok(None),
     }
 }
@@ -70,7 +62,7 @@ fn policy_meant<'a, T: Tree>(
 pub fn listed(attr: Attr, members: &Members) -> &[Val]
     ensures { result.now ≡ spec.listed attr members.now }
 {
-    listed_in(members.get(attr.short().as_bytes()))
+    listed_in(value_named(attr, members))
 }
 
 // Whether all of these lead to live policies.

@@ -1,7 +1,6 @@
 //! What a content names, and what it would create, in the order in which it is refused.
-ghost use Rattle.std.specs.Prelude.{◌≡◌, IfOk, IsTrue, Some};
+ghost use Rattle.std.specs.Prelude.{◌≡◌, IfOk, IsTrue};
 ghost use Rattle.m2m_names.specs.Name.{is_originator};
-ghost use Rattle.attribute_rules.specs.Admission.{attributes_in};
 ghost use Rattle.entity_model.specs.Places.{first_fault};
 ghost use Rattle.request_rules.specs.Asked.{creation_of};
 ghost use Rattle.request_rules.specs.Groups.{group_rows, membership_by, membership_edited};
@@ -54,13 +53,11 @@ pub(crate) fn judge_content<T: Tree>(
     entity: &Entity<T>,
     writing: Writing,
     ty: Ty,
-    content: &Val,
     named: &Members,
 ) -> Result<Option<Rsc>, OutOfMemory>
-    requires { attributes_in ty content.now ≡ Some named.now }
     ensures { IfOk result (λ f. f ≡ spec.fault_content writing entity.now ty named.now) }
 {
-    if !admits(writing, ty, content, named) {
+    if !admits(writing, ty, named) {
         return Ok(Some(Rsc::BadRequest));
     }
     judge_named(alloc, entity, named)

@@ -1,10 +1,6 @@
 //! The right that a request needs on its target.
-ghost use Rattle.std.specs.Prelude.{◌≡◌, ◌==◌, false, IsTrue, bytes_eq, option_and_then};
-ghost use Rattle.std.specs.Prelude.{option_map};
-ghost use Rattle.std.specs.Option.{option_map_or};
+ghost use Rattle.std.specs.Prelude.{◌≡◌, IsTrue, option_map};
 ghost use Rattle.m2m_names.specs.Name.{is_originator};
-ghost use Rattle.m2m_names.specs.Types.{ty_row};
-ghost use Rattle.m2m_names.specs.declared.types.Ty.TheVariants as types;
 ghost use Rattle.tree_model.specs.Tree.{has};
 ghost use Rattle.request_rules.specs.Rights as spec;
 
@@ -26,28 +22,12 @@ fn is_granted<T: Tree>(entity: &Entity<T>, originator: &[u8], bits: u32, number:
 
 // ---- kinds of requests
 
-fn is_of_subscription(ty: Option<u32>) -> bool
-    ensures { result ≡ option_map_or (λ n. n == (ty_row types.Subscription).number) ty false }
-{
-    match ty {
-        Some(number) => number == Ty::Subscription.number(),
-        None => false,
-    }
-}
-
 /// Whether it creates a subscription.
 pub(crate) fn is_subscribing(request: &Request) -> bool
     ensures { result ≡ spec.is_subscribing request.now }
 {
-    is_of_subscription(request.parts().ty)
-}
-
-fn is_search(usage: Option<FilterUsage>) -> bool
-    ensures { result ≡ option_map_or spec.is_search usage false }
-{
-    match usage {
-        Some(FilterUsage::Discovery) => true,
-        Some(FilterUsage::Conditional) => false,
+    match request.parts().ty {
+        Some(number) => number == Ty::Subscription.number(),
         None => false,
     }
 }
@@ -57,7 +37,10 @@ pub fn is_discovery(request: &Request) -> bool
     ensures { result ≡ spec.is_discovery request.now }
 {
     match &request.parts().fc {
-        Some(filter) => is_search(filter.parts().fu),
+        Some(filter) => match filter.parts().fu {
+            Some(FilterUsage::Discovery) => true,
+            Some(FilterUsage::Conditional) | None => false,
+        },
         None => false,
     }
 }
@@ -81,20 +64,14 @@ fn is_link(value: &Val) -> bool
     }
 }
 
-fn holds_link(content: &Val) -> bool
-    ensures { result ≡ option_map_or (λ e. spec.is_link e.1) (spec.sole content.now) false }
-{
-    match sole(content) {
-        Some(entry) => is_link(&entry.1),
-        None => false,
-    }
-}
-
 fn is_relink(request: &Request) -> bool
     ensures { result ≡ spec.is_relink request.now }
 {
     match &request.parts().pc {
-        Some(content) => holds_link(content),
+        Some(content) => match sole(content) {
+            Some(entry) => is_link(&entry.1),
+            None => false,
+        },
         None => false,
     }
 }

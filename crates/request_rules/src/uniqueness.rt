@@ -26,17 +26,6 @@ fn own_cse_id(alloc: Global, home: &Home) -> Result<Text, OutOfMemory>
     Ok(Text::of(bytes))
 }
 
-fn is_free_cse_id<T: Tree>(
-    alloc: Global,
-    entity: &Entity<T>,
-    csi: &[u8],
-) -> Result<bool, OutOfMemory>
-    ensures { IfOk result (λ b. b ≡ spec.is_free_cse_id entity.now csi.now) }
-{
-    let own = own_cse_id(alloc, &entity.home)?;
-    Ok(!has_cse(&entity.tree, csi) && own.entries() != csi)
-}
-
 fn has_free_cse_id<T: Tree>(
     alloc: Global,
     entity: &Entity<T>,
@@ -46,7 +35,10 @@ fn has_free_cse_id<T: Tree>(
         (option_map (λ t. t.now) csi.entry) true) }
 {
     match csi {
-        Some(csi) => is_free_cse_id(alloc, entity, csi.entries()),
+        Some(csi) => {
+            let own = own_cse_id(alloc, &entity.home)?;
+            Ok(!has_cse(&entity.tree, csi.entries()) && own.entries() != csi.entries())
+        }
         None => Ok(true),
     }
 }

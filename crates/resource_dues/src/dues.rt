@@ -16,6 +16,9 @@ use tree_model::lowered_age;
 // So many entries may stand for nothing before they go.
 const FEW: u64 = 64;
 
+// Where there are so many times as many entries as resources, most stand for nothing.
+const MOST: u64 = 8;
+
 /// Moments with the numbers of the resources that are due then, the earliest first. A resource may
 /// have an entry that is too early, and never one that is too late; that of one that has gone stays
 /// for a while.
@@ -75,14 +78,6 @@ impl Dues {
         }
     }
 
-    /// The number of the earliest entry.
-    pub fn first_number(&self) -> Option<u64> {
-        match self.moments.first() {
-            Some(entry) => Some(entry.1),
-            None => None,
-        }
-    }
-
     /// In this list a resource takes the place of another that stood as it does.
     pub fn replace(&mut self, list: &Store, resource: &Resource)
         requires tree { IsTrue (is_tree list.now) }
@@ -98,43 +93,38 @@ impl Dues {
         }
     }
 
-    /// What a pass has left, which took all that is due at a moment: made anew where some entries
-    /// may be missing.
-    pub fn refresh(&mut self, alloc: Global, list: &Store, moment: u64)
+    /// Made anew, where some entries may be missing.
+    pub fn refresh(&mut self, alloc: Global, list: &Store)
         ensures { HasDues list.now self.old → HasDues list.now self.new }
     {
         if !self.whole {
             *self = Dues::of(alloc, list);
         }
-        self.note_gone(list);
-        self.renote(list, moment);
     }
 
-    /// Goes over the entries up to a moment: those of resources that have gone go, and others are
-    /// noted again at the moment at which they are due. It ends at the first that is due by now.
-    pub fn renote(&mut self, list: &Store, moment: u64)
-        ensures { HasDues list.now self.old → HasDues list.now self.new }
+    /// The number of the first that the entries tell to be due at a moment, if one is. Entries
+    /// before it go, where their resources have gone; the others are noted again at the moment at
+    /// which they are due.
+    pub fn next_due(&mut self, list: &Store, moment: u64) -> Option<u64>
+        ensures dues { HasDues list.now self.old → HasDues list.now self.new }
+        ensures due { (n : ℕ) → result ≡ Some n
+            → option_map_or (tree.has_come moment) (due_at n list.now) false ≡ true }
     {
         for _ in 0..self.moments.len() {
-            if !self.renote_first(list, moment) {
-                return;
+            let Some((at, number)) = self.first() else {
+                return None;
+            };
+            if moment < at {
+                return None;
             }
+            let due_at = due_of(list, number);
+            if has_come(due_at, moment) {
+                return Some(number);
+            }
+            self.pop();
+            self.note(due_at, number);
         }
-    }
-
-    fn renote_first(&mut self, list: &Store, moment: u64) -> bool
-        ensures { HasDues list.now self.old → HasDues list.now self.new }
-    {
-        let Some((at, number)) = self.first() else {
-            return false;
-        };
-        let due_at = due_of(list, number);
-        if moment < at || has_come(due_at, moment) {
-            return false;
-        }
-        self.pop();
-        self.note(due_at, number);
-        true
+        None
     }
 
     fn first(&self) -> Option<(u64, u64)>
@@ -177,14 +167,24 @@ impl Dues {
         }
     }
 
-    /// A resource has gone, and this list has those that are left. Where more entries stand for
-    /// nothing than not, and some, these go.
-    pub fn note_gone(&mut self, list: &Store)
+    /// Resources have gone, and this list has those that are left. Where more entries stand for
+    /// nothing than not, and some, these go; where most do, the entries are made anew.
+    pub fn note_gone(&mut self, alloc: Global, list: &Store)
         ensures { HasDues list.now self.old → HasDues list.now self.new }
     {
-        if self.is_full(list) {
+        if !self.is_full(list) {
+            return;
+        }
+        if self.is_mostly_gone(list) {
+            *self = Dues::of(alloc, list);
+        } else {
             self.let_go(list);
         }
+    }
+
+    // Whether it is quicker to note those that are left than to let the others go.
+    fn is_mostly_gone(&self, list: &Store) -> bool {
+        self.moments.len() as u64 / MOST > list.len()
     }
 
     fn is_full(&self, list: &Store) -> bool {

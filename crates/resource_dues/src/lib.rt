@@ -4,7 +4,7 @@
 //! the moment at which its resource is due, or may stand for one that has gone; it is never later,
 //! unless the table isn't whole. It isn't once memory ran out where a resource took the place of
 //! another, or a container lowered the age that its instances may reach: then it is made anew
-//! (`refresh`) after the next pass over all.
+//! (`refresh`) at the next expiry.
 //!
 //! ```text
 //! let mut dues = Dues::new(alloc);

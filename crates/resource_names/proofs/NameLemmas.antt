@@ -1,5 +1,5 @@
 -- Tables of names: what a change leaves at any name, and which resources of a list they find.
-use Rattle.std.specs.Prelude.{◌==◌, nat_eq}
+use Rattle.std.specs.Prelude.{◌==◌, nat_eq, option_and_then}
 use Rattle.std.proofs.Common.{◌≡◌, ℕ, ◌⊎◌, List, [], ◌∷◌, ◌++◌, Bool, true, false, cond, ◌&&◌, Option, Some, None, Result, Ok, Err, OnOk, OnErr, option_map, pos, inl, inr, refl, sym, ap, ◌∙◌, subst}
 use Rattle.std.proofs.lemmas.Bool.{cases_Bool, and_parts, and_from, or_left, or_right, eq-eqb, eqb-true, both_ways}
 use Rattle.std.proofs.lemmas.Map.Text.{is_eq-slice_cmp}
@@ -9,7 +9,7 @@ use Rattle.std.specs.BTreeMap as sorted
 use Rattle.std.specs.BTreeMap.{BTreeMap}
 use Rattle.std.specs.Cmp.{eq_by_cmp_equiv}
 use Rattle.std.specs.Cmp.Lexicographic.{slice_cmp, nat_list_cmp_total, nat_list_eq_equiv}
-use Rattle.std.specs.HashMap.{HashMap}
+use Rattle.std.specs.HashMap.{HashMap, get}
 use Rattle.std.specs.List.{filter, find, list_any, slice_get}
 use Rattle.std.specs.Map.{lookup, IsKeyTest, AreApart, KeepsOthers}
 use Rattle.std.specs.Option.{option_map_or, option_or}
@@ -374,3 +374,13 @@ module _ (nodes : List ResourceData) (tree : is_tree nodes ≡ true) (named : Na
 
   pub cse_decided : (csi : List ℕ) (result : Option ℕ) → result ≡ checked (is_cse csi) nodes (number_by csi named.cses) → result ≡ cse_of csi nodes
   cse_decided csi result = decided (is_cse csi) nodes tree (λ m n r s left right first second. cse_ids_apart nodes m n r s csi tree left right (id_is (cse_id r) csi first) (id_is (cse_id s) csi second)) None (number_by csi named.cses) result (λ r found there passes. inr (is.cses r csi there (id_is (cse_id r) csi passes)))
+
+-- a table in which no name is left goes, and nothing else is found
+pub forgotten : {S : Type 0} (m now : HashMap ℕ Names S) (parent : ℕ) → ((name : List ℕ) → named_at m parent name ≡ None) → ((q : ℕ) → get nat_eq now q ≡ cond (nat_eq parent q) None (get nat_eq m q)) → (p : ℕ) (name : List ℕ) → named_at now p name ≡ named_at m p name
+forgotten m now parent none updates p name = elim (cases_Bool (nat_eq parent p)) [
+  | inl t ↦
+      ap (λ (o : Option Names). option_and_then (λ (names : Names). number_by name names) o) (updates p ∙ ap (λ b. cond b None (get nat_eq m p)) t)
+      ∙ sym (none name)
+      ∙ ap (λ q. named_at m q name) (eqb-true parent p t)
+  | inr f ↦ ap (λ (o : Option Names). option_and_then (λ (names : Names). number_by name names) o) (updates p ∙ ap (λ b. cond b None (get nat_eq m p)) f)
+]

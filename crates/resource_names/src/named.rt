@@ -234,36 +234,55 @@ fn let_go_children(children: &mut HashMap<u64, Names>, list: &Store, parent: u64
     ensures { (p : ℕ) (name : List ℕ) (n : ℕ) → named_at children.old p name ≡ Some n
         → has n list.now ≡ true → named_at children.new p name ≡ Some n }
 {
-    if let Some(names) = children.get_mut(&parent) {
-        names.let_go(list);
+    if lets_names_go(children, list, parent) {
+        forget_names(children, parent);
     }
-    forget_empty(children, parent);
+}
+
+// Whether the parent has a table of names, and none is left in it then.
+fn lets_names_go(children: &mut HashMap<u64, Names>, list: &Store, parent: u64) -> bool
+    ensures kept { (p : ℕ) (name : List ℕ) (n : ℕ) → named_at children.old p name ≡ Some n
+        → has n list.now ≡ true → named_at children.new p name ≡ Some n }
+    ensures none { (name : List ℕ) → result ≡ true → named_at children.new parent name ≡ None }
+{
+    match children.get_mut(&parent) {
+        Some(names) => {
+            names.let_go(list);
+            names.is_empty()
+        }
+        None => false,
+    }
 }
 
 fn note_gone_child(children: &mut HashMap<u64, Names>, list: &Store, parent: u64)
     ensures { (p : ℕ) (name : List ℕ) (n : ℕ) → named_at children.old p name ≡ Some n
         → has n list.now ≡ true → named_at children.new p name ≡ Some n }
 {
-    if let Some(names) = children.get_mut(&parent) {
-        names.note_gone(list, 0);
+    if notes_child_gone(children, list, parent) {
+        forget_names(children, parent);
     }
-    forget_empty(children, parent);
 }
 
-fn forget_empty(children: &mut HashMap<u64, Names>, parent: u64)
+// Whether the parent has a table of names, and none is left in it then.
+fn notes_child_gone(children: &mut HashMap<u64, Names>, list: &Store, parent: u64) -> bool
+    ensures kept { (p : ℕ) (name : List ℕ) (n : ℕ) → named_at children.old p name ≡ Some n
+        → has n list.now ≡ true → named_at children.new p name ≡ Some n }
+    ensures none { (name : List ℕ) → result ≡ true → named_at children.new parent name ≡ None }
+{
+    match children.get_mut(&parent) {
+        Some(names) => {
+            names.note_gone(list, 0);
+            names.is_empty()
+        }
+        None => false,
+    }
+}
+
+// The table of a parent goes, in which no name is left.
+fn forget_names(children: &mut HashMap<u64, Names>, parent: u64)
+    requires { (name : List ℕ) → named_at children.old parent name ≡ None }
     ensures { (p : ℕ) (name : List ℕ) →
         named_at children.new p name ≡ named_at children.old p name }
 {
-    if has_none(children, parent) {
-        let _empty = children.remove(&parent);
-    }
-}
-
-fn has_none(children: &HashMap<u64, Names>, parent: u64) -> bool
-    ensures { (name : List ℕ) → result ≡ true → named_at children.now parent name ≡ None }
-{
-    match children.get(&parent) {
-        Some(names) => names.is_empty(),
-        None => false,
-    }
+    let _empty = children.remove(&parent);
 }

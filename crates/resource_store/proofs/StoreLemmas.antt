@@ -506,6 +506,18 @@ nothing_above m order count n is below = sym (found_at m n is.numbered order is.
 
 -- ---- the store as a tree
 
+-- a table with the same entries holds the same
+pub unchanged_store : {S : Type 0} (m now : HashMap ℕ ResourceData S) (order after : List ℕ) (count : ℕ) → now.entries ≡ m.entries → after ≡ order → HoldsTree order m count → HoldsTree after now count
+unchanged_store m now order after count same kept holds = subst (λ (ns : List ℕ). HoldsTree ns now count) (sym kept) (record {
+  store = record {
+    ascends = holds.store.ascends;
+    numbered = λ n r some. holds.store.numbered n r (ap (lookup (nat_eq n)) (sym same) ∙ some);
+    listed = λ n r some. holds.store.listed n r (ap (lookup (nat_eq n)) (sym same) ∙ some);
+    counted = holds.store.counted ∙ ap (λ (es : List (ℕ × ResourceData)). length (filter_map (λ k. lookup (nat_eq k) es) order)) (sym same);
+  };
+  tree = subst (λ (es : List (ℕ × ResourceData)). is_tree (filter_map (λ k. lookup (nat_eq k) es) order) ≡ true) (sym same) holds.tree;
+})
+
 pub empty_store : {S : Type 0} (m : HashMap ℕ ResourceData S) (order : List ℕ) → m.entries ≡ [] → order ≡ [] → HoldsTree order m 0
 unfolding IsStrictlySortedBy
 empty_store m order nothing none = subst (λ (ns : List ℕ). HoldsTree ns m 0) (sym none) (record {

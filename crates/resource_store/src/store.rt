@@ -8,6 +8,7 @@ ghost use Rattle.tree_model.specs.Tree.{at, children_of, due, has, has_counter, 
 ghost use Rattle.tree_model.specs.Tree.{is_tree, may_stand, next_after, recounted_at, replaced};
 ghost use Rattle.tree_model.specs.Tree.{restamped_at, standing, without};
 
+use crate::gone::Gone;
 use crate::order::{let_gaps_go, nth_of, place_after, put_last};
 use crate::written::{recount_in, restamp_in, write_over};
 use resource_model::Resource;
@@ -23,6 +24,7 @@ pub struct Store {
     // Their numbers in order, among some whose resources have gone.
     order: Vec<u64>,
     count: u64,
+    gone: Gone,
 }
 
 impl Model for Store {
@@ -50,6 +52,7 @@ impl Store {
             resources: HashMap::new(alloc),
             order: Vec::new(alloc),
             count: 0,
+            gone: Gone::none(alloc),
         }
     }
 
@@ -130,6 +133,7 @@ impl Store {
         }
         put_last(&mut self.order, number);
         self.count += 1;
+        self.gone.free_some();
         Ok(())
     }
 
@@ -161,14 +165,23 @@ impl Store {
         recount_in(&mut self.resources, number, left)
     }
 
-    /// Takes out the resource of a number, below which none stands.
+    /// Takes out the resource of a number, below which none stands. Its memory is given back later
+    /// (`free_some`).
     pub fn remove_leaf(&mut self, number: u64)
         requires { children_of number self.old ≡ [] }
         ensures { self.new ≡ without (has_number number) self.old }
     {
-        if let Some(_) = self.resources.remove(&number) {
+        if let Some(resource) = self.resources.remove(&number) {
+            self.gone.keep(resource);
             self.count -= 1;
             let_gaps_go(&self.resources, &mut self.order, self.count);
         }
+    }
+
+    /// Gives back the memory of some of the resources that were taken out, as `push` does.
+    pub fn free_some(&mut self)
+        ensures { self.new ≡ self.old }
+    {
+        self.gone.free_some()
     }
 }

@@ -1,9 +1,10 @@
 -- Numbers that ascend.
 use Rattle.std.specs.Prelude.{nat_le, nat_lt}
-use Rattle.std.proofs.Common.{◌≡◌, ◌≢◌, ◌==◌, ℕ, zero, suc, ◌<◌, ◌≤◌, List, [], ◌∷◌, ◌++◌, length, get_or, Bool, true, false, not, Err, Less, Equal, cond, inl, inr, refl, sym, ap, subst, arith}
+use Rattle.std.proofs.Common.{◌≡◌, ◌≢◌, ◌==◌, ℕ, zero, suc, ◌<◌, ◌≤◌, List, [], ◌∷◌, ◌++◌, length, get_or, Bool, true, false, not, Some, Err, Less, Equal, cond, inl, inr, refl, sym, ap, ◌∙◌, subst, arith}
 use Rattle.std.proofs.lemmas.Bool.{cases_lt, and_parts, eq-eqb, ne_eqb, leb-true, leb-false, lt-ltb, le-ltb}
 use Rattle.std.proofs.lemmas.List.Kept.{IsStrictlySortedBy-filter}
 use Rattle.std.proofs.lemmas.Map.Keys.{below_from_sorted}
+use Rattle.std.proofs.lemmas.Option.{get_or_from_slice_get, slice_get-get_or, slice_get_within}
 use Rattle.std.specs.List.{AllByRecursion, list_all, remove, slice_get}
 use Rattle.std.specs.List.Sorted.{IsBinarySearchResult, IsPartitionPoint, IsStrictlySortedBy}
 use Rattle.std.specs.Ordering.{nat_cmp}
@@ -84,10 +85,15 @@ apart_from numbers n i k d sorted within is inside other e = elim (cases_lt k i)
   ]
 ]
 
--- what a search by halving found is taken out
-pub found_out : (n : ℕ) (numbers : List ℕ) (i : ℕ) → DoAscend numbers → i < length numbers → ((d : ℕ) → nat_cmp (get_or numbers i d) n ≡ Equal) → remove numbers i ≡ without_number n numbers
-found_out n numbers i sorted within found =
-    let is : (d : ℕ) → get_or numbers i d ≡ n = λ d. equal_is _ _ (found d) in
+-- where it stands, as a place of the list
+pub place_found : (n : ℕ) (numbers : List ℕ) (i : ℕ) → i < length numbers → ((d : ℕ) → nat_cmp (get_or numbers i d) n ≡ Equal) → slice_get numbers i ≡ Some n
+place_found n numbers i within found = slice_get-get_or numbers i n within ∙ ap Some (equal_is _ _ (found n))
+
+-- what stands at a place is taken out
+pub placed_out : (n : ℕ) (numbers : List ℕ) (i : ℕ) → DoAscend numbers → slice_get numbers i ≡ Some n → remove numbers i ≡ without_number n numbers
+placed_out n numbers i sorted there =
+    let within : i < length numbers = slice_get_within numbers i n there in
+    let is : (d : ℕ) → get_or numbers i d ≡ n = λ d. get_or_from_slice_get numbers i n d there in
     taken_out n numbers i within (λ k d inside other. apart_from numbers n i k d sorted within (is d) inside other) is
 
 -- where a search found none, nothing is taken out

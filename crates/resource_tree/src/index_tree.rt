@@ -126,11 +126,13 @@ impl IndexTree {
         self.named.note_gone(&self.list, number, parent);
     }
 
-    // Where most moments stand for resources that have gone, these moments go.
-    fn let_moments_go(&mut self)
+    // Where most moments stand for resources that have gone, these moments go. Some of what was taken
+    // out is freed.
+    fn tidy(&mut self)
         ensures { self.new ≡ self.old }
     {
-        self.dues.note_gone(&self.list)
+        self.dues.note_gone(self.alloc, &self.list);
+        self.list.free_some()
     }
 
     fn remove_several(&mut self, numbers: &[u64])
@@ -148,7 +150,7 @@ impl IndexTree {
 // What is due.
 impl IndexTree {
     ghost use Rattle.std.specs.Prelude.{◌≡◌, ◌<◌, ◌^◌, [], ◌∷◌, IsTrue, IfSome, ℕ, Some};
-    ghost use Rattle.std.specs.Prelude.{false, length};
+    ghost use Rattle.std.specs.Prelude.{false, length, true};
     ghost use Rattle.std.specs.Option.{option_map_or};
     ghost use Rattle.tree_model.specs.Tree.{is_tree, live, next_after, overdue_numbers};
     ghost use Rattle.tree_model.specs.Tree.{resource_number};
@@ -162,18 +164,14 @@ impl IndexTree {
         while self.expire_first(moment) {}
     }
 
-    // Removes the resource of the first entry, where that is due, with all that stands below it.
+    // Removes the first that the entries tell to be due, with all that stands below it.
     fn expire_first(&mut self, moment: u64) -> bool
         ensures live { live moment self.new ≡ live moment self.old }
         ensures less { IsTrue result → length self.new < length self.old }
     {
-        self.renote(moment);
-        let Some(number) = self.dues.first_number() else {
+        let Some(number) = self.next_due(moment) else {
             return false;
         };
-        if !self.is_due(number, moment) {
-            return false;
-        }
         self.remove_one(number);
         true
     }
@@ -228,12 +226,13 @@ impl IndexTree {
         Some(number)
     }
 
-    // Goes over the entries up to a moment: those of resources that have gone go, and others are
-    // noted again at the moment at which they are due. It ends at the first that is due by now.
-    fn renote(&mut self, moment: u64)
-        ensures { self.new ≡ self.old }
+    // The number of the first that the entries tell to be due at a moment, if one is.
+    fn next_due(&mut self, moment: u64) -> Option<u64>
+        ensures same { self.new ≡ self.old }
+        ensures due { (n : ℕ) → result ≡ Some n
+            → option_map_or (tree.has_come moment) (due_at n self.old) false ≡ true }
     {
-        self.dues.renote(&self.list, moment)
+        self.dues.next_due(&self.list, moment)
     }
 
     // Whether nothing is due at a moment, as far as the entries tell.
@@ -245,10 +244,10 @@ impl IndexTree {
     }
 
     // Where some entries may be missing, they are made anew.
-    fn refresh(&mut self, moment: u64)
+    fn refresh(&mut self)
         ensures { self.new ≡ self.old }
     {
-        self.dues.refresh(self.alloc, &self.list, moment)
+        self.dues.refresh(self.alloc, &self.list)
     }
 }
 
@@ -387,18 +386,18 @@ impl Tree for IndexTree {
 
     fn remove_subtree(&mut self, number: u64) {
         self.remove_one(number);
-        self.let_moments_go()
+        self.tidy()
     }
 
     fn remove_all(&mut self, numbers: &[u64]) {
         self.remove_several(numbers);
-        self.let_moments_go()
+        self.tidy()
     }
 
     fn expire(&mut self, moment: u64) {
-        self.refresh(moment);
+        self.refresh();
         self.expire_told(moment);
-        self.let_moments_go();
+        self.tidy();
         if !self.is_quiet_at(moment) {
             self.expire_each(moment);
         }

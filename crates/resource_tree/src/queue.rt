@@ -1,6 +1,6 @@
 //! Numbers in ascending order.
 ghost use Rattle.std.specs.Prelude.{◌≡◌, ◌++◌, [], ◌∷◌, OnOk, OnErr, IsTrue, nat_lt, length};
-ghost use Rattle.std.specs.Prelude.{slice_get};
+ghost use Rattle.std.specs.Prelude.{slice_get, Some, MatchOption};
 ghost use Rattle.std.specs.List.{list_all};
 ghost use Rattle.resource_tree.specs.Queue.{first_after, without_number};
 
@@ -77,8 +77,35 @@ impl Queue {
     pub fn remove(&mut self, number: u64)
         ensures { self.new ≡ without_number number self.old }
     {
-        if let Ok(at) = self.numbers.binary_search(&number) {
+        if let Some(at) = self.place_of(number) {
             let _gone = self.numbers.remove(at);
+        }
+    }
+
+    // Where a number stands. Most that go stand at one of the ends, so these are tried first.
+    fn place_of(&self, number: u64) -> Option<usize>
+        ensures { MatchOption result (without_number number self.now ≡ self.now)
+            (λ at. slice_get self.now at ≡ Some number) }
+    {
+        let last = self.numbers.len().saturating_sub(1);
+        if self.is_at(last, number) {
+            return Some(last);
+        }
+        if self.is_at(0, number) {
+            return Some(0);
+        }
+        match self.numbers.binary_search(&number) {
+            Ok(at) => Some(at),
+            Err(_) => None,
+        }
+    }
+
+    fn is_at(&self, at: usize, number: u64) -> bool
+        ensures { IsTrue result → slice_get self.now at ≡ Some number }
+    {
+        match self.numbers.get(at) {
+            Some(own) => *own == number,
+            None => false,
         }
     }
 }

@@ -29,6 +29,7 @@ mod url;
 pub use carrying::carry;
 pub use forwarding::forwarded;
 pub use laws::{an_answer_gives_one_reply, the_full_form_tells_the_cse, what_is_told_is_carried};
-pub use routing::{Route, first_url, route_of};
+pub use routing::{Route, route_of};
 pub use std::alloc::AllocError as OutOfMemory;
+pub use subscription_match::first_url;
 pub use url::Url;

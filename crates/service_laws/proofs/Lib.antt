@@ -3,3 +3,4 @@ pub mod GuardedLemmas
 pub mod CarriedLemmas
 pub mod OneWayLemmas
 pub mod PeerLemmas
+pub mod OnwardLemmas

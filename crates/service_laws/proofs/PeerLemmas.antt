@@ -1,23 +1,32 @@
 -- The answer of another CSE to one request.
-use Rattle.std.proofs.Common.{◌≡◌, ℕ, true, false, List, [], ◌∷◌, ◌++◌, map, Option, Some, None, Result, Ok, Err, ◌⊎◌, inl, inr, refl, sym, ap, subst, ◌∙◌, append-nil}
+use Rattle.std.proofs.Common.{◌≡◌, ◌≢◌, ℕ, true, false, List, [], ◌∷◌, ◌++◌, length, map, if◌then◌else◌, Option, Some, None, Result, Ok, Err, IfSome, IsTrue, ◌⊎◌, inl, inr, refl, sym, ap, subst, ◌∙◌, append-nil, arith}
 use Rattle.std.specs.List.{cons_option, list_any}
+use Rattle.std.specs.Fmt.{decimal}
 use Rattle.std.specs.Result.{result_ok}
-use Rattle.std.proofs.lemmas.Bool.{cases_Bool, false≢true}
+use Rattle.std.proofs.lemmas.Bool.{cases_Bool, cond-true, cond-false, false≢true, true≢false}
+use Rattle.m2m_value.specs.Data.{Data}
+use Rattle.m2m_names.specs.declared.operations.Op.{Op}
+use Rattle.m2m_names.specs.declared.operations.Op.TheVariants.{Create, Retrieve, Update, Notify, Delete as Removal}
 use Rattle.m2m_io.specs.Link.{Carrying}
 use Rattle.m2m_io.specs.Told.{Tells}
+use Rattle.primitive_json.specs.Bounds.{is_request_id}
 use Rattle.primitive_json.specs.declared.reply.ReplyParts.{ReplyParts}
 use Rattle.primitive_json.specs.declared.request.RequestParts.{RequestParts}
+use Rattle.primitive_json.specs.declared.request.When.{When}
 use Rattle.turn_desk.specs.Entries.{Runs, readings_of, events_of, outcomes_of}
 use Rattle.turn_desk.proofs.GrowthLemmas.{Grew-runs}
 use Rattle.http_frames.specs.declared.frame.Frame.{Frame}
+use Rattle.http_frames.specs.declared.frame.Start.{Start}
 use Rattle.http_frames.specs.declared.frame.Side.TheVariants.{Request}
 use Rattle.http_frames.specs.Lines.{Line, is_same_name}
-use Rattle.http_frames.specs.Stream.{BeginsWithFrame, BeginsWithFrames}
+use Rattle.http_frames.specs.Stream.{BeginsWithFrame, BeginsWithFrames, HasNoFrame}
 use Rattle.http_target.specs.declared.fault.BindFault.{BindFault}
 use Rattle.http_binding.specs.Binding.{binding, echo_of, created_type}
-use Rattle.http_binding.specs.Replying.{reply_text, content_lines}
-use Rattle.http_client_binding.specs.Asking.{request_frame, request_text, caller_lines}
-use Rattle.http_client_binding.specs.Laws.{IsSendable}
+use Rattle.http_binding.specs.Headers.{length_field}
+use Rattle.http_binding.proofs.BackLemmas.{reply_sound}
+use Rattle.http_binding.specs.Replying.{reply_text, close_lines, content_lines, id_lines}
+use Rattle.http_client_binding.specs.Asking.{request_frame, request_text, caller_lines, expiry_lines, host_field, origin_lines}
+use Rattle.http_client_binding.specs.TargetWriting.{host_of}
 use Rattle.http_client_binding.specs.declared.target.Aim.TheVariants.{Peer}
 use Rattle.http_client_binding.proofs.AskLemmas.{request_back}
 use Rattle.retarget.specs.Answers.{Carried, handed_on}
@@ -34,12 +43,12 @@ use Rattle.cse_server.specs.Closing.{asks_by, asks_to_close, closes}
 use Rattle.cse_server.specs.Connection.{Says}
 use Rattle.cse_server.specs.Outside.{SinkTold, sink_told}
 use Rattle.cse_server.specs.Replies.{GivesReply, GivesReplies}
-use Rattle.cse_server.specs.Talk.{reply_for, request_in, requests_in, talk}
+use Rattle.cse_server.specs.Talk.{malformed, reply_for, request_in, requests_in, talk}
 use Rattle.machine_laws.proofs.HistoryLemmas.{none_some, same_first}
 use Rattle.binding_laws.proofs.BoundLemmas.{bound_back}
 use Rattle.peer_link.specs.PeerTalk.{PeerTalks}
 use Rattle.service_laws.specs.Laws.{IsFaultless}
-use Rattle.service_laws.specs.Peers.{AnAnswerIsThePeers, AnswersBound, AnswersOnce, TheRequestIsAnsweredThere}
+use Rattle.service_laws.specs.Peers.{AnAnswerIsThePeers, AnswersBound, AnswersOnce, IsPeersAnswer, IsRefusedThere, TheRequestIsAnsweredThere, WhatBindsToNothingIsRefusedThere, WhatIsNoMessageIsRefusedThere}
 use Rattle.service_laws.proofs.OneWayLemmas.{Settles, heard_one_way, said_whole, settles}
 
 -- ---- it closes the connection
@@ -74,10 +83,10 @@ written_all ended answer before text count puts new whole told said =
     said_whole ended [] answer before text count puts new.puts whole
     (subst (λ (w : Option (List ℕ)). Says ended before text count (sink_told (Some []) puts) (sink_told w new.puts)) told said)
 
--- behind a lone frame that closes nothing is left
-lone_settles : (frame : Frame) → closes 1 frame ≡ true → Settles 1 Closed false (frame ∷ []) []
-lone_settles frame here = record {
-  closed = λ f. (refl, λ stays. refl);
+-- a lone frame that closes ends the connection
+lone_settles : (frame : Frame) (rest : List ℕ) → closes 1 frame ≡ true → Settles 1 Closed false (frame ∷ []) rest
+lone_settles frame rest here = record {
+  closed = λ f. (refl, λ stays. absurd (true≢false (rw here at stays)));
   refusal = λ t. absurd (false≢true t);
 }
 
@@ -87,6 +96,41 @@ lone_talk : (frame : Frame) (replies : List ReplyParts) → closes 1 frame ≡ t
 lone_talk frame replies here = rw here (append-nil _ ∙ append-nil _)
 
 -- ---- its reply
+
+-- the identifier that a refusal repeats is of its kind
+abbrev IsOfItsKind : Option (List ℕ) → Type 0
+IsOfItsKind id = IfSome id (λ s. IsTrue (is_request_id s))
+
+-- what the lines of a request to another CSE say
+abbrev lines_with : List ℕ → Option (List ℕ) → List ℕ → Option When → Option ℕ → Option Data → List ℕ → List Line
+lines_with host fr id when type content size =
+    ((host_field, host) ∷ (origin_lines fr ++ (id_lines (Some id) ++ expiry_lines when)))
+    ++ (content_lines type content ++ ((length_field, size) ∷ close_lines true))
+
+echo_is : (start : Start) (body host : List ℕ) (fr : Option (List ℕ)) (id : List ℕ) (when : Option When) (type : Option ℕ) (content : Option Data) (size : List ℕ)
+    → echo_of (record { start = start; lines = lines_with host fr id when type content size; body = body }) ≡ (if is_request_id id then Some id else None)
+unfolding is_same_name
+echo_is start body host None id None type None size = elim (cases_Bool (is_request_id id)) [ inl t ↦ rw t refl | inr f ↦ rw f refl ]
+echo_is start body host None id None type (Some content) size = elim (cases_Bool (is_request_id id)) [ inl t ↦ rw t refl | inr f ↦ rw f refl ]
+echo_is start body host None id (Some when) type None size = elim (cases_Bool (is_request_id id)) [ inl t ↦ rw t refl | inr f ↦ rw f refl ]
+echo_is start body host None id (Some when) type (Some content) size = elim (cases_Bool (is_request_id id)) [ inl t ↦ rw t refl | inr f ↦ rw f refl ]
+echo_is start body host (Some fr) id None type None size = elim (cases_Bool (is_request_id id)) [ inl t ↦ rw t refl | inr f ↦ rw f refl ]
+echo_is start body host (Some fr) id None type (Some content) size = elim (cases_Bool (is_request_id id)) [ inl t ↦ rw t refl | inr f ↦ rw f refl ]
+echo_is start body host (Some fr) id (Some when) type None size = elim (cases_Bool (is_request_id id)) [ inl t ↦ rw t refl | inr f ↦ rw f refl ]
+echo_is start body host (Some fr) id (Some when) type (Some content) size = elim (cases_Bool (is_request_id id)) [ inl t ↦ rw t refl | inr f ↦ rw f refl ]
+
+id_kind : (id : List ℕ) → IsOfItsKind (if is_request_id id then Some id else None)
+id_kind id = elim (cases_Bool (is_request_id id)) [
+  | inl t ↦ subst IsOfItsKind (sym (cond-true (is_request_id id) (Some id) None t)) t
+  | inr f ↦ subst IsOfItsKind (sym (cond-false (is_request_id id) (Some id) None f)) tt
+]
+
+echo_kind : (sent : RequestParts) (url : List ℕ) → IsOfItsKind (echo_of (request_frame sent url Peer))
+echo_kind sent url =
+    let frame = request_frame sent url Peer in
+    subst IsOfItsKind
+    (sym (echo_is frame.start frame.body (host_of url) sent.fr sent.rqi sent.rqet (created_type sent.op sent.ty) sent.pc (decimal (length frame.body))))
+    (id_kind sent.rqi)
 
 -- one outcome of one request gives one reply
 one_given : (asked : RequestParts) (outcome : Outcome) (replies : List ReplyParts) (carried : List Carrying)
@@ -141,44 +185,117 @@ answers_by frame (Err fault) before after given now mine readings outcomes repli
 
 -- ---- together
 
-pub peers_answer : AnAnswerIsThePeers
-peers_answer sent url before after given now answer sendable talks =
-    let frame : Frame = request_frame sent url Peer in
-    let bytes : List ℕ = request_text sent url Peer in
-    let served = talks.serves in
-    let here : closes 1 frame ≡ true = closes_here sent url 1 in
-    let whole = whole_end talks.ended talks.whole in
-    let alone : BeginsWithFrames Request bytes (frame ∷ []) [] =
-    ([], subst (λ (v : List ℕ). BeginsWithFrame Request v frame []) (append-nil bytes) ((request_back sent url Peer sendable).1 []), refl) in
-    let stream = served.stream in
-    let heard =
-    heard_one_way served.heard (frame ∷ []) 1 talks.ended Closed served.refused false bytes stream.0 [] stream.1 alone served.up_to refl
-    (settles 1 talks.ended served.refused served.heard stream.0 talks.new.left whole stream.2 stream.3) (lone_settles frame here) in
-    let asks = served.asks in
-    let mine = asks.asked.mine in
-    let requests : requests_in served.heard ≡ cons_option (result_ok (binding frame)) [] = ap requests_in heard.0 in
-    let told : List ℕ = reply_text (reply_for frame (request_in frame) asks.replies) true in
-    let said : answer ≡ told =
-    written_all talks.ended answer _ _ _ _ talks.new.out whole talks.answer_is served.said
-    ∙ (λ i. talk 1 (heard.0 i) (heard.1 i) asks.replies) ∙ lone_talk frame asks.replies here in
-    record {
-      reply = reply_for frame (request_in frame) asks.replies;
-      answers = answers_by frame (binding frame) before after given now mine asks.readings asks.outcomes asks.replies asks.carried
-          (asks.asked.events_are ∙ ap (map Ask) requests) (Grew-runs Step asks.asked.grew) asks.asked.readings_are asks.asked.outcomes_are
-          (subst (λ (r : Option (List ℕ)). Tells (λ list. list ++ asks.readings) given r) talks.clock asks.clock)
-          (subst (λ (rs : List RequestParts). GivesReplies rs asks.outcomes asks.replies asks.carried) requests asks.gives);
-      text = said;
-      gives = λ other kinds sound carried.
-          one_reply (Some answer) sent.rqi other _ carried
-          (subst (λ (v : List ℕ). Carried (Some v) sent.rqi (handed_on sent.rqi (reply_for frame (request_in frame) asks.replies))) (sym said)
-          (told_is_carried (reply_for frame (request_in frame) asks.replies) true sent.rqi kinds sound));
-    }
+module _ (sent : RequestParts) (url : List ℕ) (before after : EntityData) (given now : Option (List ℕ)) (answer : List ℕ) (talks : PeerTalks before after given now (request_text sent url Peer) answer) where
+  abbrev bytes : List ℕ
+  bytes = request_text sent url Peer
+
+  whole_here : IsFaultless talks.ended
+  whole_here = whole_end talks.ended talks.whole
+
+  -- what was heard settles the rest of the stream
+  settled : Settles 1 talks.ended talks.serves.refused talks.serves.heard talks.serves.stream.0
+  settled =
+      let stream = talks.serves.stream in
+      settles 1 talks.ended talks.serves.refused talks.serves.heard stream.0 talks.new.left whole_here stream.2 stream.3
+
+  -- all of the talk was written
+  said_there : answer ≡ talk 1 talks.serves.heard talks.serves.refused talks.serves.asks.replies
+  said_there = written_all talks.ended answer _ _ _ _ talks.new.out whole_here talks.answer_is talks.serves.said
+
+  -- ---- where its frame stands at the front
+
+  peers_answer : (rest : List ℕ) → BeginsWithFrame Request bytes (request_frame sent url Peer) rest → IsPeersAnswer before after given now (request_frame sent url Peer) sent.rqi answer
+  peers_answer rest begins =
+      let frame : Frame = request_frame sent url Peer in
+      let served = talks.serves in
+      let here : closes 1 frame ≡ true = closes_here sent url 1 in
+      let alone : BeginsWithFrames Request bytes (frame ∷ []) rest = (rest, begins, refl) in
+      let stream = served.stream in
+      let heard =
+      heard_one_way served.heard (frame ∷ []) 1 talks.ended Closed served.refused false bytes stream.0 rest stream.1 alone served.up_to refl
+      settled (lone_settles frame rest here) in
+      let asks = served.asks in
+      let mine = asks.asked.mine in
+      let requests : requests_in served.heard ≡ cons_option (result_ok (binding frame)) [] = ap requests_in heard.0 in
+      let told : List ℕ = reply_text (reply_for frame (request_in frame) asks.replies) true in
+      let said : answer ≡ told =
+      said_there
+      ∙ (λ i. talk 1 (heard.0 i) (heard.1 i) asks.replies) ∙ lone_talk frame asks.replies here in
+      record {
+        reply = reply_for frame (request_in frame) asks.replies;
+        answers = answers_by frame (binding frame) before after given now mine asks.readings asks.outcomes asks.replies asks.carried
+            (asks.asked.events_are ∙ ap (map Ask) requests) (Grew-runs Step asks.asked.grew) asks.asked.readings_are asks.asked.outcomes_are
+            (subst (λ (r : Option (List ℕ)). Tells (λ list. list ++ asks.readings) given r) talks.clock asks.clock)
+            (subst (λ (rs : List RequestParts). GivesReplies rs asks.outcomes asks.replies asks.carried) requests asks.gives);
+        text = said;
+        gives = λ other kinds sound carried.
+            one_reply (Some answer) sent.rqi other _ carried
+            (subst (λ (v : List ℕ). Carried (Some v) sent.rqi (handed_on sent.rqi (reply_for frame (request_in frame) asks.replies))) (sym said)
+            (told_is_carried (reply_for frame (request_in frame) asks.replies) true sent.rqi kinds sound));
+      }
+
+  -- ---- where it is refused
+
+  -- a refusal with an identifier of its kind, or with none, is carried
+  refused_so : (id : Option (List ℕ)) → IsOfItsKind id → answer ≡ reply_text (malformed id) true → Carried (Some answer) sent.rqi (malformed (Some sent.rqi))
+  refused_so id kind said =
+      subst (λ (v : List ℕ). Carried (Some v) sent.rqi (malformed (Some sent.rqi))) (sym said)
+      (told_is_carried (malformed id) true sent.rqi (record { rqi = kind; pc = tt })
+      (reply_sound (malformed id) true (record { rqi = kind; body = omega arith })))
+
+  bound_to_nothing : (rest : List ℕ) (fault : BindFault) → BeginsWithFrame Request bytes (request_frame sent url Peer) rest → binding (request_frame sent url Peer) ≡ Err fault → IsRefusedThere before after sent.rqi answer
+  bound_to_nothing rest fault begins bound =
+      let frame = request_frame sent url Peer in
+      let peers = peers_answer rest begins in
+      let refused = subst (λ (b : Result RequestParts BindFault). AnswersBound before after given now b (echo_of frame) peers.reply) bound peers.answers in
+      record {
+        stays = refused.1;
+        gives = refused_so (echo_of frame) (echo_kind sent url) (peers.text ∙ ap (λ (r : ReplyParts). reply_text r true) refused.0);
+      }
+
+  no_message : HasNoFrame Request bytes → bytes ≢ [] → IsRefusedThere before after sent.rqi answer
+  no_message none some =
+      let served = talks.serves in
+      let stream = served.stream in
+      let heard =
+      heard_one_way served.heard [] 1 talks.ended NoFrame served.refused true bytes stream.0 bytes stream.1 refl served.up_to refl
+      settled (record { closed = λ f. absurd (true≢false f); refusal = λ t. (refl, refl, some, none) }) in
+      let asks = served.asks in
+      record {
+        stays = asked_nothing before after asks.asked.mine (asks.asked.events_are ∙ ap (λ (fs : List Frame). map Ask (requests_in fs)) heard.0) (Grew-runs Step asks.asked.grew);
+        gives = refused_so None tt (said_there ∙ (λ i. talk 1 (heard.0 i) (heard.1 i) asks.replies));
+      }
+
+pub answer_is_the_peers : AnAnswerIsThePeers
+answer_is_the_peers sent url rest before after given now answer begins talks = peers_answer sent url before after given now answer talks rest begins
+
+pub refused_there : WhatBindsToNothingIsRefusedThere
+refused_there sent url rest fault before after given now answer begins bound talks = bound_to_nothing sent url before after given now answer talks rest fault begins bound
+
+-- the bytes for a request aren't none: they begin with its method
+not_none : (x : ℕ) (xs : List ℕ) → x ∷ xs ≡ [] → ⊥
+not_none x xs e = cc
+
+some_text : (sent : RequestParts) (url : List ℕ) → request_text sent url Peer ≢ []
+some_text sent url none = by_op sent.op none
+  where
+    by_op : (op : Op) → request_text (record sent { op = op }) url Peer ≡ [] → ⊥
+    by_op Create e = not_none _ _ e
+    by_op Retrieve e = not_none _ _ e
+    by_op Update e = not_none _ _ e
+    by_op Removal e = not_none _ _ e
+    by_op Notify e = not_none _ _ e
+
+pub no_message_there : WhatIsNoMessageIsRefusedThere
+no_message_there sent url before after given now answer none talks = no_message sent url before after given now answer talks none (some_text sent url)
 
 -- the request that the bytes bind to is the one that was sent
 pub answered_there : TheRequestIsAnsweredThere
 answered_there sent url before after given now answer says talks =
     let back = bound_back sent url says in
-    let peers = peers_answer sent url before after given now answer says.sendable talks in (
+    let bytes : List ℕ = request_text sent url Peer in
+    let begins = subst (λ (v : List ℕ). BeginsWithFrame Request v (request_frame sent url Peer) []) (append-nil bytes) ((request_back sent url Peer says.sendable).1 []) in
+    let peers = peers_answer sent url before after given now answer talks [] begins in (
       back.0,
       back.1,
       peers.reply,

@@ -5,13 +5,14 @@ use Rattle.m2m_io.specs.Told.{Tells}
 use Rattle.primitive_json.specs.declared.reply.ReplyParts.{ReplyParts}
 use Rattle.primitive_json.specs.declared.request.RequestParts.{RequestParts}
 use Rattle.http_frames.specs.declared.frame.Frame.{Frame}
-use Rattle.http_frames.specs.declared.frame.Side.TheVariants.{Reply as OfReply}
+use Rattle.http_frames.specs.declared.frame.Side.TheVariants.{Reply as OfReply, Request}
+use Rattle.http_frames.specs.Stream.{BeginsWithFrame, HasNoFrame}
 use Rattle.http_frames.specs.Text.{IsSoundFrame}
 use Rattle.http_target.specs.declared.fault.BindFault.{BindFault}
 use Rattle.http_binding.specs.Binding.{binding, echo_of}
 use Rattle.http_binding.specs.Replying.{reply_frame, reply_text}
 use Rattle.http_client_binding.specs.Asking.{request_frame, request_text}
-use Rattle.http_client_binding.specs.Laws.{IsSendable, IsTold}
+use Rattle.http_client_binding.specs.Laws.{IsTold}
 use Rattle.http_client_binding.specs.declared.target.Aim.TheVariants.{Peer}
 use Rattle.retarget.specs.Answers.{Carried, handed_on}
 use Rattle.entity_model.specs.Entity.{EntityData}
@@ -56,16 +57,41 @@ pub record IsPeersAnswer (before after : EntityData) (given now : Option (List �
       → Carried (Some answer) rqi other → other ≡ handed_on rqi reply
 
 -- Where the answer of a link is the talk of another CSE with the bytes that were sent for a
--- request, it is what the machine of that CSE gives to what these bytes are bound to: where the
--- parameters of the request are of their kinds, its target is one of the grammar, and its head and
--- body are within the limits.
+-- request, and the frame of the request stands at the front of these, it is what the machine of
+-- that CSE gives to what the frame is bound to.
 abbrev pub AnAnswerIsThePeers : Type 0
 AnAnswerIsThePeers =
-    (sent : RequestParts) (url : List ℕ) (before after : EntityData)
+    (sent : RequestParts) (url rest : List ℕ) (before after : EntityData)
     (given now : Option (List ℕ)) (answer : List ℕ)
-    → IsSendable sent url Peer
+    → BeginsWithFrame Request (request_text sent url Peer) (request_frame sent url Peer) rest
     → PeerTalks before after given now (request_text sent url Peer) answer
     → IsPeersAnswer before after given now (request_frame sent url Peer) sent.rqi answer
+
+-- The answer gives the caller the refusal BAD_REQUEST, with the identifier of the caller's request,
+-- and the entity stays as it is.
+pub record IsRefusedThere (before after : EntityData) (rqi answer : List ℕ) : Type 0 where
+  pub stays : after ≡ before
+  pub gives : Carried (Some answer) rqi (malformed (Some rqi))
+
+-- So it is where the frame binds to no request.
+abbrev pub WhatBindsToNothingIsRefusedThere : Type 0
+WhatBindsToNothingIsRefusedThere =
+    (sent : RequestParts) (url rest : List ℕ) (fault : BindFault) (before after : EntityData)
+    (given now : Option (List ℕ)) (answer : List ℕ)
+    → BeginsWithFrame Request (request_text sent url Peer) (request_frame sent url Peer) rest
+    → binding (request_frame sent url Peer) ≡ Err fault
+    → PeerTalks before after given now (request_text sent url Peer) answer
+    → IsRefusedThere before after sent.rqi answer
+
+-- And so it is where no frame stands at the front of the bytes, as of a request whose head or body
+-- is longer than that of a message may be.
+abbrev pub WhatIsNoMessageIsRefusedThere : Type 0
+WhatIsNoMessageIsRefusedThere =
+    (sent : RequestParts) (url : List ℕ) (before after : EntityData)
+    (given now : Option (List ℕ)) (answer : List ℕ)
+    → HasNoFrame Request (request_text sent url Peer)
+    → PeerTalks before after given now (request_text sent url Peer) answer
+    → IsRefusedThere before after sent.rqi answer
 
 -- Where the frame of the request says all that it has, and nothing that is read otherwise, the
 -- answer is one reply, which the machine of the other CSE gives that very request; but for a filter

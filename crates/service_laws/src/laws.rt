@@ -1,7 +1,10 @@
 //! Laws of the definitions.
 ghost use Rattle.service_laws.specs.Laws.{EqualSightsAreServedAlike, IsAnsweredInOneWay};
 ghost use Rattle.service_laws.specs.Laws.{NothingIsAnsweredBehindClose, ServesGuarded};
+ghost use Rattle.service_laws.specs.Onward.{WhatGoesOnIsAnsweredThere, WhatGoesOnSaysAll};
 ghost use Rattle.service_laws.specs.Peers.{AnAnswerIsThePeers, TheRequestIsAnsweredThere};
+ghost use Rattle.service_laws.specs.Peers.{WhatBindsToNothingIsRefusedThere};
+ghost use Rattle.service_laws.specs.Peers.{WhatIsNoMessageIsRefusedThere};
 ghost use Rattle.cse_server.specs.Replies.{WhatIsAnsweredHereIsNotCarried};
 
 /// Once a frame closes the connection, what is behind it is not answered.
@@ -27,10 +30,28 @@ pub fn an_answer_is_the_peers()
     ensures { AnAnswerIsThePeers }
 {}
 
+/// Where the bytes of a request are no message of a request, or one that binds to none, the answer
+/// of another CSE is the refusal BAD_REQUEST, and it stays as it is.
+pub fn what_is_no_request_is_refused_there()
+    ensures unbound { WhatBindsToNothingIsRefusedThere }
+    ensures none { WhatIsNoMessageIsRefusedThere }
+{}
+
 /// The request that goes on is the one that the machine of the other CSE answers, where its frame
 /// says all of it.
 pub fn the_request_is_answered_there()
     ensures { TheRequestIsAnsweredThere }
+{}
+
+/// The frame of a request that goes on says all of it, where an HTTP request can.
+pub fn what_goes_on_says_all()
+    ensures { WhatGoesOnSaysAll }
+{}
+
+/// Where the answer of the link is the talk of another CSE, the reply to a request that goes on is
+/// the one that its machine gives to that request.
+pub fn what_goes_on_is_answered_there()
+    ensures { WhatGoesOnIsAnsweredThere }
 {}
 
 /// The replies to a stream are settled by the entity, the stream and the readings.

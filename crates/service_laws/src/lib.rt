@@ -11,5 +11,6 @@ mod laws;
 pub use laws::{
     a_connection_shows_and_changes_by_grant_alone, a_stream_is_answered_in_one_way,
     an_answer_is_the_peers, equal_sights_are_served_alike, the_request_is_answered_there,
-    what_is_answered_here_is_not_carried, what_is_behind_a_closing_frame_is_not_answered,
+    what_goes_on_is_answered_there, what_goes_on_says_all, what_is_answered_here_is_not_carried,
+    what_is_behind_a_closing_frame_is_not_answered, what_is_no_request_is_refused_there,
 };

@@ -10,7 +10,6 @@ use Rattle.m2m_names.specs.declared.operations.Op.TheVariants.{Create}
 use Rattle.m2m_names.specs.declared.types.Ty.{Ty}
 use Rattle.m2m_names.specs.declared.types.Ty.TheVariants.{Container, ContentInstance}
 use Rattle.m2m_value.specs.Data.{Entry}
-use Rattle.m2m_value.specs.Node.{AreSorted}
 use Rattle.primitive_json.specs.declared.request.RequestParts.{RequestParts}
 use Rattle.resource_model.specs.Home.{HomeData}
 use Rattle.resource_model.specs.Resource.{ResourceData, is_ty}
@@ -31,7 +30,6 @@ use Rattle.request_rules.specs.Order.{creation_by as created_by, fault_on}
 use Rattle.request_rules.specs.Requests.{child_ty, content_for, named_for}
 use Rattle.create_delete.specs.Changes.{changes_by}
 use Rattle.create_delete.specs.Changing.{pushed_out, after_joining, container_update_of, create_effect, effect_at, effect_by, nodes_joined}
-use Rattle.create_delete.specs.Guard.{NamesInOrder}
 use Rattle.create_delete.specs.Joining.{IsAllowed, MayJoin, gone_by}
 use Rattle.create_delete.specs.NewResource.{IsNewResource}
 use Rattle.create_delete.specs.Telling.{gone_numbers, told_effect_by, told_effect_on}
@@ -52,17 +50,15 @@ use Rattle.sight_laws.proofs.ToldLemmas.{creation_seen, for_whom, numbers_told_a
 -- of this type, with the attributes that it names
 pub record IsCreation (e : EntityData) (o : List ℕ) (request : RequestParts) (p : ResourceData) (child : Ty) : Type 0 where
   pub is : child_ty request ≡ Some child
-  pub sorted : AreSorted (named_for request child)
   pub may : IsAllowed (creation_of e o child p (named_for request child))
 
-module _ (e : EntityData) (o : List ℕ) (request : RequestParts) (p : ResourceData) (there : at p.number e.nodes ≡ Some p) (names : NamesInOrder request) (none : fault_on Create e o request p ≡ None) where
+module _ (e : EntityData) (o : List ℕ) (request : RequestParts) (p : ResourceData) (there : at p.number e.nodes ≡ Some p) (none : fault_on Create e o request p ≡ None) where
   by_content : (child : Ty) → child_ty request ≡ Some child → (es : Option (List Entry)) → content_for request child ≡ es → IsCreation e o request p child
   by_content child is None lacks = absurd (names_attributes e o request p child none is lacks)
   by_content child is (Some es) whole =
       let named : es ≡ named_for request child = sym (ap (λ (x : Option (List Entry)). unwrap_or x []) whole) in
       record {
         is = is;
-        sorted = subst AreSorted named (names child es whole);
         may = subst (λ (xs : List Entry). IsAllowed (creation_of e o child p xs)) named (allowed e o request p child es none there is whole);
       }
 
@@ -78,7 +74,7 @@ module _ (e : EntityData) (o : List ℕ) (request : RequestParts) (p : ResourceD
 
 -- ---- after it
 
-module _ (o : List ℕ) (e : EntityData) (sound : IsSoundEntity e) (request : RequestParts) (p : ResourceData) (there : at p.number e.nodes ≡ Some p) (originator : is_originator o ≡ true) (names : NamesInOrder request) (none : fault_on Create e o request p ≡ None) (child : Ty) (made : IsCreation e o request p child) where
+module _ (o : List ℕ) (e : EntityData) (sound : IsSoundEntity e) (request : RequestParts) (p : ResourceData) (there : at p.number e.nodes ≡ Some p) (originator : is_originator o ≡ true) (none : fault_on Create e o request p ≡ None) (child : Ty) (made : IsCreation e o request p child) where
   abbrev c : Creation
   c = creation_of e o child p (named_for request child)
 
@@ -86,10 +82,10 @@ module _ (o : List ℕ) (e : EntityData) (sound : IsSoundEntity e) (request : Re
   r = new_resource c
 
   joins : MayJoin e r (container_update_of c)
-  joins = may_join c sound originator made.sorted made.may
+  joins = may_join c sound originator made.may
 
   new : IsNewResource e r
-  new = newcomer c sound originator made.sorted made.may
+  new = newcomer c sound originator made.may
 
   pub effect_is : effect_by Create e o request p ≡ create_effect request c
   effect_is = ap (λ (x : Option Ty). option_map_or (λ (ty : Ty). create_effect request (created_by e o request p ty)) x (refused e request BadChild)) made.is
@@ -98,7 +94,7 @@ module _ (o : List ℕ) (e : EntityData) (sound : IsSoundEntity e) (request : Re
   left_sound =
       let at_none : effect_at Create e o request p.number ≡ effect_by Create e o request p =
       done_at Create e o request p.number p there (ap (λ (x : Option ResourceData). option_map_or (fault_on Create e o request) x (Some NotFound)) there ∙ none) in
-      subst (λ (x : Effect). IsSoundEntity x.after) (at_none ∙ effect_is) (stays_sound Create e o request p.number sound originator names)
+      subst (λ (x : Effect). IsSoundEntity x.after) (at_none ∙ effect_is) (stays_sound Create e o request p.number sound originator)
 
   pub grown_well : is_well_formed (e.nodes ++ r ∷ []) ≡ true
   grown_well = grown fits_in e.nodes r sound.tree new.fits
@@ -123,7 +119,7 @@ module _ (o : List ℕ) (e : EntityData) (sound : IsSoundEntity e) (request : Re
 
 -- ---- two entities
 
-module _ (o : List ℕ) (x y : EntityData) (soundx : IsSoundEntity x) (soundy : IsSoundEntity y) (same : sight o x ≡ sight o y) (request : RequestParts) (p q : ResourceData) (inx : at p.number x.nodes ≡ Some p) (iny : at q.number y.nodes ≡ Some q) (number : q.number ≡ p.number) (originator : is_originator o ≡ true) (names : NamesInOrder request) where
+module _ (o : List ℕ) (x y : EntityData) (soundx : IsSoundEntity x) (soundy : IsSoundEntity y) (same : sight o x ≡ sight o y) (request : RequestParts) (p q : ResourceData) (inx : at p.number x.nodes ≡ Some p) (iny : at q.number y.nodes ≡ Some q) (number : q.number ≡ p.number) (originator : is_originator o ≡ true) where
   seen_is : seen x.home x.nodes o p ≡ seen y.home y.nodes o q
   seen_is = seen_same o x y same p.number p q inx (ap (λ (n : ℕ). at n y.nodes) (sym number) ∙ iny)
 
@@ -149,10 +145,10 @@ module _ (o : List ℕ) (x y : EntityData) (soundx : IsSoundEntity x) (soundy : 
     none_too = sym fault_same ∙ none
 
     made : IsCreation x o request p child
-    made = creation_by x o request p inx names none child is
+    made = creation_by x o request p inx none child is
 
     made_too : IsCreation y o request q child
-    made_too = creation_by y o request q iny names none_too child is
+    made_too = creation_by y o request q iny none_too child is
 
     abbrev es : List Entry
     es = named_for request child
@@ -188,10 +184,10 @@ module _ (o : List ℕ) (x y : EntityData) (soundx : IsSoundEntity x) (soundy : 
     joined_alike : seen_list x.home (nodes_joined x.last x.nodes (new_of x p) (container_update_of (creation_on x p))) o ≡ seen_list x.home (nodes_joined x.last y.nodes (new_of x p) (container_update_of (creation_on x p))) o
     joined_alike =
         let r = new_of x p in
-        let wellx : is_well_formed (x.nodes ++ r ∷ []) ≡ true = grown_well o x soundx request p inx originator names none child made in
-        let welly : is_well_formed (y.nodes ++ r ∷ []) ≡ true = ap (λ (s : ResourceData). is_well_formed (y.nodes ++ s ∷ [])) new_same ∙ grown_well o y soundy request q iny originator names none_too child made_too in
+        let wellx : is_well_formed (x.nodes ++ r ∷ []) ≡ true = grown_well o x soundx request p inx originator none child made in
+        let welly : is_well_formed (y.nodes ++ r ∷ []) ≡ true = ap (λ (s : ResourceData). is_well_formed (y.nodes ++ s ∷ [])) new_same ∙ grown_well o y soundy request q iny originator none_too child made_too in
         let unlinked = not_linked r x.nodes soundx.ids in
-        let learn = learns o x soundx request p inx originator names none child made in
+        let learn = learns o x soundx request p inx originator none child made in
         elim (cases_Bool (is_ty child ContentInstance)) [
           | inr f ↦ rw f (appended x.home o x.nodes y.nodes r wellx welly unlinked learn (same_seen o x y same))
           | inl t ↦
@@ -222,15 +218,15 @@ module _ (o : List ℕ) (x y : EntityData) (soundx : IsSoundEntity x) (soundy : 
 
     whom_same : for_whom (drafts_of x p) ≡ for_whom (drafts_of y q)
     whom_same =
-        whom o x soundx request p inx originator names none child made (left_of x p) refl
+        whom o x soundx request p inx originator none child made (left_of x p) refl
         ∙ ap (λ (e : EntityData). whom_of e.nodes (new_of x p) (gone_of x p)) same
         ∙ ap₂ (whom_of (seen_list y.home y.nodes o)) new_same (ap (λ g. gone_by g) update_same)
-        ∙ sym (whom o y soundy request q iny originator names none_too child made_too (left_of y q) refl)
+        ∙ sym (whom o y soundy request q iny originator none_too child made_too (left_of y q) refl)
 
     told_alike : sight o (record (left_of x p) { nodes = nodes_spent (drafts_of x p) (left_of x p).nodes }) ≡ sight o (record (left_of y q) { nodes = nodes_spent (drafts_of y q) (left_of y q).nodes })
     told_alike =
-        let one = left_sound o x soundx request p inx originator names none child made in
-        let other = left_sound o y soundy request q iny originator names none_too child made_too in
+        let one = left_sound o x soundx request p inx originator none child made in
+        let other = left_sound o y soundy request q iny originator none_too child made_too in
         spent_alike o (left_of x p) (left_of y q) left_alike (drafts_of x p) (drafts_of y q) one.tree other.tree
         (sound_counts (left_of x p) one) (sound_counts (left_of y q) other) whom_same
 
@@ -239,14 +235,14 @@ module _ (o : List ℕ) (x y : EntityData) (soundx : IsSoundEntity x) (soundy : 
 
     done_alike : sight o (told_effect_by Create x o request p).after ≡ sight o (told_effect_by Create y o request q).after
     done_alike =
-        ap (λ (effect : Effect). sight o (told_of x p effect)) (effect_is o x soundx request p inx originator names none child made)
+        ap (λ (effect : Effect). sight o (told_of x p effect)) (effect_is o x soundx request p inx originator none child made)
         ∙ told_alike
-        ∙ sym (ap (λ (effect : Effect). sight o (told_of y q effect)) (effect_is o y soundy request q iny originator names none_too child made_too))
+        ∙ sym (ap (λ (effect : Effect). sight o (told_of y q effect)) (effect_is o y soundy request q iny originator none_too child made_too))
 
   after_same : (fault : Option Rsc) → fault_on Create x o request p ≡ fault → sight o (option_map_or (refused x request) fault (told_effect_by Create x o request p)).after ≡ sight o (option_map_or (refused y request) fault (told_effect_by Create y o request q)).after
   after_same (Some fault) is = same
   after_same None none =
-      let some = creates_some x o request p inx names none in
+      let some = creates_some x o request p inx none in
       done_alike none some.0 some.1
 
   -- what comes of a Create of both is seen alike

@@ -52,11 +52,11 @@ module _ (op : Op) (o : List ℕ) (x y : EntityData) (request : RequestParts) (n
   at_alike = by (found_alike o x y same n)
 
 pub create_at_alike : CreatesAreSeenAlike
-create_at_alike x y o request n soundx soundy same originator names =
-    let alike = at_alike Create o x y request n same (λ p q inx iny number. created-alike o x y soundx soundy same request p q inx iny number originator names) in
+create_at_alike x y o request n soundx soundy same originator =
+    let alike = at_alike Create o x y request n same (λ p q inx iny number. created-alike o x y soundx soundy same request p q inx iny number originator) in
     (alike.reply, alike.after)
 
 pub update_at_alike : UpdatesAreSeenAlike
-update_at_alike x y o request n soundx soundy same names calm =
-    let alike = at_alike Update o x y request n same (λ p q inx iny number. updated-alike o x y soundx soundy same request p q inx iny number names calm) in
+update_at_alike x y o request n soundx soundy same calm =
+    let alike = at_alike Update o x y request n same (λ p q inx iny number. updated-alike o x y soundx soundy same request p q inx iny number calm) in
     (alike.reply, alike.after)

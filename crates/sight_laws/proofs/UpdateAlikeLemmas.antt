@@ -11,7 +11,6 @@ use Rattle.m2m_names.specs.declared.operations.Op.TheVariants.{Update}
 use Rattle.m2m_names.specs.declared.types.Ty.{Ty}
 use Rattle.m2m_names.specs.declared.types.Ty.TheVariants.{ContentInstance, CseBase}
 use Rattle.m2m_value.specs.Data.{Entry}
-use Rattle.m2m_value.specs.Node.{AreSorted}
 use Rattle.primitive_json.specs.declared.request.RequestParts.{RequestParts}
 use Rattle.resource_model.specs.Home.{HomeData}
 use Rattle.resource_model.specs.Resource.{ResourceData, is_ty}
@@ -35,7 +34,6 @@ use Rattle.request_rules.specs.Rights.{is_relink, may_do}
 use Rattle.request_rules.proofs.OrderLemmas.{places_parts}
 use Rattle.create_delete.specs.Changes.{changes_by, named_attrs}
 use Rattle.create_delete.specs.Changing.{nodes_updated, pushed_by, updated_resource, without_all}
-use Rattle.create_delete.specs.Guard.{NamesInOrder}
 use Rattle.create_delete.specs.NewResource.{IsReplacement}
 use Rattle.create_delete.specs.Telling.{gone_numbers, told_effect_by, told_effect_on}
 use Rattle.create_delete.specs.Updating.{IsUpdatable}
@@ -54,13 +52,12 @@ use Rattle.sight_laws.proofs.UpdateSeenLemmas.{changes_judge_none, changes_of, c
 -- ---- an update that no place refuses, by which everyone is judged as before
 
 pub record IsDoneCalmly (e : EntityData) (o : List ℕ) (request : RequestParts) (r : ResourceData) : Type 0 where
-  pub sorted : AreSorted (named_by Update request r)
   pub may : IsUpdatable e (named_by Update request r) r
   pub right : may_do Update e o request r.number ≡ true
   pub bit : has_bit e.home e.nodes o update_bit r ≡ true
 
-pub done_calmly : (e : EntityData) (o : List ℕ) (request : RequestParts) (r : ResourceData) → at r.number e.nodes ≡ Some r → NamesInOrder request → IsCalm request → fault_on Update e o request r ≡ None → IsDoneCalmly e o request r
-done_calmly e o request r there names calm none = by (content_for request r.ty) refl
+pub done_calmly : (e : EntityData) (o : List ℕ) (request : RequestParts) (r : ResourceData) → at r.number e.nodes ≡ Some r → IsCalm request → fault_on Update e o request r ≡ None → IsDoneCalmly e o request r
+done_calmly e o request r there calm none = by (content_for request r.ty) refl
   where
     right_is : may_do Update e o request r.number ≡ true
     right_is = (places_parts Update e o request r none).right
@@ -70,7 +67,6 @@ done_calmly e o request r there names calm none = by (content_for request r.ty) 
     by (Some es) whole =
         let named : es ≡ named_by Update request r = sym (ap (λ (x : Option (List Entry)). unwrap_or x []) whole) in
         record {
-          sorted = subst AreSorted named (names r.ty es whole);
           may = subst (λ (xs : List Entry). IsUpdatable e xs r) named (updatable e o request r es none there whole);
           right = right_is;
           bit = elim (cases_Bool (is_relink request)) [
@@ -85,7 +81,7 @@ done_calmly e o request r there names calm none = by (content_for request r.ty) 
 
 -- ---- what it replies
 
-module _ (e : EntityData) (o : List ℕ) (request : RequestParts) (r : ResourceData) (there : at r.number e.nodes ≡ Some r) (names : NamesInOrder request) (calm : IsCalm request) where
+module _ (e : EntityData) (o : List ℕ) (request : RequestParts) (r : ResourceData) (there : at r.number e.nodes ≡ Some r) (calm : IsCalm request) where
   update_reply : (told_effect_on Update (sight o e) o request (seen e.home e.nodes o r)).reply ≡ (told_effect_on Update e o request r).reply
   update_reply =
       ap (λ (f : Option Rsc). (option_map_or (refused (sight o e) request) f (told_effect_by Update (sight o e) o request (seen e.home e.nodes o r))).reply) (update_refused e o request r there)
@@ -94,8 +90,8 @@ module _ (e : EntityData) (o : List ℕ) (request : RequestParts) (r : ResourceD
       by : (f : Option Rsc) → fault_on Update e o request r ≡ f → (option_map_or (refused (sight o e) request) f (told_effect_by Update (sight o e) o request (seen e.home e.nodes o r))).reply ≡ (option_map_or (refused e request) f (told_effect_by Update e o request r)).reply
       by (Some fault) is = refl
       by None none =
-          let done = done_calmly e o request r there names calm none in
-          ap (reply_to request Updated) (content_seen e o request r there done.right done.bit done.sorted done.may (wanted_content request.rcn))
+          let done = done_calmly e o request r there calm none in
+          ap (reply_to request Updated) (content_seen e o request r there done.right done.bit done.may.sorted done.may (wanted_content request.rcn))
 
 -- ---- what it leaves
 
@@ -110,7 +106,7 @@ module _ (o : List ℕ) (e : EntityData) (sound : IsSoundEntity e) (request : Re
   left = record e { nodes = nodes_updated e now }
 
   new : IsReplacement e now
-  new = replacement e named r sound done.sorted done.may
+  new = replacement e named r sound done.may
 
   pub left_sound : IsSoundEntity left
   left_sound = sound_updated e now sound new
@@ -122,7 +118,7 @@ module _ (o : List ℕ) (e : EntityData) (sound : IsSoundEntity e) (request : Re
   pub shows_no_more : ShowNoMore e.home e.nodes o r (changes_of e (named_by Update request r) r)
   shows_no_more = record {
     other = (or_parts (is_ty r.ty CseBase) (is_ty r.ty ContentInstance) (not-true _ done.may.kind)).1;
-    free = changes_judge_none e named r done.sorted done.may (calm r.ty);
+    free = changes_judge_none e named r done.may.sorted done.may (calm r.ty);
     reach = λ some. done.bit;
   }
 
@@ -136,7 +132,7 @@ module _ (o : List ℕ) (e : EntityData) (sound : IsSoundEntity e) (request : Re
 
 -- ---- two entities
 
-module _ (o : List ℕ) (x y : EntityData) (soundx : IsSoundEntity x) (soundy : IsSoundEntity y) (same : sight o x ≡ sight o y) (request : RequestParts) (p q : ResourceData) (inx : at p.number x.nodes ≡ Some p) (iny : at q.number y.nodes ≡ Some q) (number : q.number ≡ p.number) (names : NamesInOrder request) (calm : IsCalm request) where
+module _ (o : List ℕ) (x y : EntityData) (soundx : IsSoundEntity x) (soundy : IsSoundEntity y) (same : sight o x ≡ sight o y) (request : RequestParts) (p q : ResourceData) (inx : at p.number x.nodes ≡ Some p) (iny : at q.number y.nodes ≡ Some q) (number : q.number ≡ p.number) (calm : IsCalm request) where
   seen_is : seen x.home x.nodes o p ≡ seen y.home y.nodes o q
   seen_is = seen_same o x y same p.number p q inx (ap (λ (n : ℕ). at n y.nodes) (sym number) ∙ iny)
 
@@ -151,7 +147,7 @@ module _ (o : List ℕ) (x y : EntityData) (soundx : IsSoundEntity x) (soundy : 
   fault_same = through (λ (e : EntityData) (r : ResourceData). fault_on Update e o request r) (update_refused x o request p inx) (update_refused y o request q iny)
 
   reply_same : (told_effect_on Update x o request p).reply ≡ (told_effect_on Update y o request q).reply
-  reply_same = through (λ (e : EntityData) (r : ResourceData). (told_effect_on Update e o request r).reply) (update_reply x o request p inx names calm) (update_reply y o request q iny names calm)
+  reply_same = through (λ (e : EntityData) (r : ResourceData). (told_effect_on Update e o request r).reply) (update_reply x o request p inx calm) (update_reply y o request q iny calm)
 
   ty_same : p.ty ≡ q.ty
   ty_same = ap (λ (r : ResourceData). r.ty) seen_is
@@ -232,7 +228,7 @@ module _ (o : List ℕ) (x y : EntityData) (soundx : IsSoundEntity x) (soundy : 
   after_same : (fault : Option Rsc) → fault_on Update x o request p ≡ fault → sight o (option_map_or (refused x request) fault (told_effect_by Update x o request p)).after ≡ sight o (option_map_or (refused y request) fault (told_effect_by Update y o request q)).after
   after_same (Some fault) is = same
   after_same None none =
-      done_alike (done_calmly x o request p inx names calm none) (done_calmly y o request q iny names calm (sym fault_same ∙ none))
+      done_alike (done_calmly x o request p inx calm none) (done_calmly y o request q iny calm (sym fault_same ∙ none))
 
   -- what comes of an Update of both is seen alike
   pub updated-alike : AreSeenAlike o (told_effect_on Update x o request p) (told_effect_on Update y o request q)

@@ -6,7 +6,6 @@ use Rattle.m2m_names.specs.declared.attributes.Attr.{Attr}
 use Rattle.m2m_names.specs.declared.codes.Rsc.{Rsc}
 use Rattle.m2m_names.specs.declared.operations.Op.TheVariants.{Update}
 use Rattle.m2m_value.specs.Data.{Data, Entry}
-use Rattle.m2m_value.specs.Node.{AreSorted}
 use Rattle.primitive_json.specs.declared.request.RequestParts.{RequestParts}
 use Rattle.resource_model.specs.Attributes.{AreInOrder, Row}
 use Rattle.resource_model.specs.Resource.{ResourceData}
@@ -24,7 +23,6 @@ use Rattle.request_rules.specs.Order.{fault_on}
 use Rattle.request_rules.specs.Requests.{content_for, named_by}
 use Rattle.create_delete.specs.Changes.{changes_by}
 use Rattle.create_delete.specs.Changing.{nodes_updated, pushed_by, updated_resource}
-use Rattle.create_delete.specs.Guard.{NamesInOrder}
 use Rattle.create_delete.specs.NewResource.{IsReplacement}
 use Rattle.create_delete.specs.Telling.{gone_numbers, told_effect_by, told_effect_on}
 use Rattle.create_delete.specs.Updating.{IsUpdatable}
@@ -44,7 +42,7 @@ changes_order : (changes : List NewValue) (rows : List Row) → AreInOrder rows 
 changes_order [] rows order = order
 changes_order (c ∷ changes) rows order = changes_order changes (with_change c.0 c.1 rows) (change_order c.0 c.1 rows order)
 
-module _ (o : List ℕ) (e : EntityData) (sound : IsSoundEntity e) (request : RequestParts) (r : ResourceData) (there : at r.number e.nodes ≡ Some r) (names : NamesInOrder request) (order : AreCsesInOrder e.nodes) where
+module _ (o : List ℕ) (e : EntityData) (sound : IsSoundEntity e) (request : RequestParts) (r : ResourceData) (there : at r.number e.nodes ≡ Some r) (order : AreCsesInOrder e.nodes) where
   abbrev named : List Entry
   named = named_by Update request r
 
@@ -54,9 +52,9 @@ module _ (o : List ℕ) (e : EntityData) (sound : IsSoundEntity e) (request : Re
   abbrev left : EntityData
   left = record e { nodes = nodes_updated e now }
 
-  left_order : AreSorted named → IsUpdatable e named r → AreCsesInOrder (told_effect_by Update e o request r).after.nodes
-  left_order sorted may =
-      let new : IsReplacement e now = replacement e named r sound sorted may in
+  left_order : IsUpdatable e named r → AreCsesInOrder (told_effect_by Update e o request r).after.nodes
+  left_order may =
+      let new : IsReplacement e now = replacement e named r sound may in
       let left_is : IsSoundEntity left = sound_updated e now sound new in
       let tree : is_tree (replaced now e.nodes) ≡ true = is_tree-replaced now e.nodes new.stood ∙ tree_from_well_formed e.nodes sound.tree in
       let drafts : List DraftParts = notes_of_all left.home e.nodes (gone_numbers e left) (changes_by Update request r.number e left) in
@@ -72,8 +70,7 @@ module _ (o : List ℕ) (e : EntityData) (sound : IsSoundEntity e) (request : Re
       by_content none None lacks = absurd (updates_attributes e o request r none lacks)
       by_content none (Some es) whole =
           let is : es ≡ named = sym (ap (λ (x : Option (List Entry)). unwrap_or x []) whole) in
-          left_order (subst AreSorted is (names r.ty es whole))
-          (subst (λ (xs : List Entry). IsUpdatable e xs r) is (updatable e o request r es none there whole))
+          left_order (subst (λ (xs : List Entry). IsUpdatable e xs r) is (updatable e o request r es none there whole))
 
       by : (fault : Option Rsc) → fault_on Update e o request r ≡ fault → AreCsesInOrder (option_map_or (refused e request) fault (told_effect_by Update e o request r)).after.nodes
       by (Some fault) is = order

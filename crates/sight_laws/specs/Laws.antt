@@ -14,7 +14,6 @@ use Rattle.entity_model.specs.Entity.{EntityData}
 use Rattle.entity_model.specs.Sound.{IsSoundEntity}
 use Rattle.request_rules.specs.Order.{fault_at}
 use Rattle.request_rules.specs.Requests.{named_for}
-use Rattle.create_delete.specs.Guard.{NamesInOrder}
 use Rattle.create_delete.specs.Telling.{told_effect_at}
 use Rattle.sight_laws.specs.Sight.{sight}
 
@@ -31,7 +30,7 @@ abbrev pub CreatesAreSeenAlike : Type 0
 CreatesAreSeenAlike =
     (left right : EntityData) (originator : List ℕ) (request : RequestParts) (n : ℕ)
     → IsSoundEntity left → IsSoundEntity right → sight originator left ≡ sight originator right
-    → IsTrue (is_originator originator) → NamesInOrder request
+    → IsTrue (is_originator originator)
     → ((told_effect_at Create left originator request n).reply
     ≡ (told_effect_at Create right originator request n).reply)
     × (sight originator (told_effect_at Create left originator request n).after
@@ -55,7 +54,7 @@ abbrev pub UpdatesAreSeenAlike : Type 0
 UpdatesAreSeenAlike =
     (left right : EntityData) (originator : List ℕ) (request : RequestParts) (n : ℕ)
     → IsSoundEntity left → IsSoundEntity right → sight originator left ≡ sight originator right
-    → NamesInOrder request → IsCalm request
+    → IsCalm request
     → ((told_effect_at Update left originator request n).reply
     ≡ (told_effect_at Update right originator request n).reply)
     × (sight originator (told_effect_at Update left originator request n).after

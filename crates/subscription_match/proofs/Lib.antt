@@ -5,3 +5,4 @@ pub mod TellingLemmas
 pub mod WatchingLemmas
 pub mod HeardLemmas
 pub mod MarkLemmas
+pub mod StepLemmas

@@ -1,6 +1,5 @@
 -- Two lists of subscriptions as one, in order of creation.
 use Rattle.std.specs.Prelude.{nat_lt, slice_get, filter, drop, option_map, IfSome, MatchOption}
-use Rattle.std.specs.Iterator.{YieldsFirstRef}
 use Rattle.std.proofs.Common.{◌≡◌, ℕ, zero, suc, ◌+◌, ◌<◌, ◌==◌, Bor, List, [], ◌∷◌, ◌++◌, Bool, true, false, not, ◌||◌, Option, Some, None, refl, sym, ap, ◌∙◌, subst, inl, inr, arith}
 use Rattle.std.proofs.lemmas.Bool.{cases_Bool, and_parts, eqb-true, ltb-true, le-ltb, both_ways}
 use Rattle.std.proofs.lemmas.List.Elements.{filter_map-append}
@@ -80,8 +79,12 @@ firsts rs ss one other b want own above asked is =
     ap (λ (o : Option ResourceData). comes_next o (slice_get ss 0)) (sym own)
     ∙ ap (comes_next one) (sym above) ∙ sym asked ∙ is
 
+-- what is taken is the first of a list, of which the rest is left
+abbrev pub Takes : List ResourceData → Option (Bor ResourceData) → List ResourceData → Type 0
+Takes left o rest = MatchOption o ((left ≡ []) × (rest ≡ [])) (λ r. left ≡ r.now ∷ rest)
+
 -- what the one list gives is the next, where its first comes next
-pub one_gives : (rs ss rest left : List ResourceData) (o : Option (Bor ResourceData)) → by_number rs ss ≡ left → comes_next (slice_get rs 0) (slice_get ss 0) ≡ true → MatchOption o ((rs ≡ []) × (rest ≡ [])) (λ r. rs ≡ r.now ∷ rest) → YieldsFirstRef (λ xs. xs) left o (by_number rest ss)
+pub one_gives : (rs ss rest left : List ResourceData) (o : Option (Bor ResourceData)) → by_number rs ss ≡ left → comes_next (slice_get rs 0) (slice_get ss 0) ≡ true → Takes rs o rest → Takes left o (by_number rest ss)
 one_gives rs ss rest left None view first ends =
     let empty : ss ≡ [] = no_front ss (subst (λ (xs : List ResourceData). comes_next (slice_get xs 0) (slice_get ss 0) ≡ true) ends.0 first) in
     (sym view ∙ ap (λ (xs : List ResourceData). by_number xs ss) ends.0 ∙ empty, ap (λ (xs : List ResourceData). by_number xs ss) ends.1 ∙ empty)
@@ -90,7 +93,7 @@ one_gives rs ss rest left (Some r) view first is =
     sym view ∙ ap (λ (xs : List ResourceData). by_number xs ss) is ∙ front_one r.now rest ss (slice_get ss 0) refl here
 
 -- what the other gives is the next, where the first of the one doesn't come next
-pub other_gives : (rs ss rest left : List ResourceData) (o : Option (Bor ResourceData)) → by_number rs ss ≡ left → comes_next (slice_get rs 0) (slice_get ss 0) ≡ false → MatchOption o ((ss ≡ []) × (rest ≡ [])) (λ s. ss ≡ s.now ∷ rest) → YieldsFirstRef (λ xs. xs) left o (by_number rs rest)
+pub other_gives : (rs ss rest left : List ResourceData) (o : Option (Bor ResourceData)) → by_number rs ss ≡ left → comes_next (slice_get rs 0) (slice_get ss 0) ≡ false → Takes ss o rest → Takes left o (by_number rs rest)
 other_gives rs ss rest left None view later ends =
     let here : comes_next (slice_get rs 0) None ≡ false = subst (λ (xs : List ResourceData). comes_next (slice_get rs 0) (slice_get xs 0) ≡ false) ends.0 later in
     absurd (both_ways _ here refl)

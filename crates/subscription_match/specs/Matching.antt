@@ -1,5 +1,6 @@
 -- Which subscriptions are told of which changes (TS-0001, 9.6.8 and 10.2.10).
-use Rattle.std.specs.Prelude.{◌≡◌, ℕ, nat_eq, Bool, true, false, not, ◌&&◌, ◌||◌, List, filter, codes}
+use Rattle.std.specs.Prelude.{◌≡◌, ℕ, ◌+◌, ◌*◌, nat_eq, Bool, true, false, not, ◌&&◌, ◌||◌, List}
+use Rattle.std.specs.Prelude.{[], ◌∷◌, filter, length, codes}
 use Rattle.std.specs.Prelude.{if◌then◌else◌, Option, Some, None, is_some, option_and_then}
 use Rattle.std.specs.List.{list_any}
 use Rattle.std.specs.Map.{lookup}
@@ -84,6 +85,10 @@ above_of (created r) = Some r.parent
 above_of (updated r s named) = None
 above_of (deleted r) = Some r.parent
 
+-- the subscriptions under one of both
+abbrev pub watching : List ResourceData → ChangeData → List ResourceData
+watching nodes change = filter (is_sub_of_either (own_of change) (above_of change)) nodes
+
 -- ---- the table
 
 -- the kind of event, where a condition holds and the subscription looks for it
@@ -129,3 +134,14 @@ pub record AreHeard (going : List ℕ) (nodes : List ResourceData)
 -- the subscriptions that are told of a change, in order of creation
 abbrev pub matching : List ResourceData → List ℕ → ChangeData → List ResourceData
 matching nodes going change = filter (λ sub. is_some (event_for going change sub)) nodes
+
+-- ---- how many steps it takes
+
+-- at most two steps for each subscription under the changed resource or its parent, and three more
+abbrev pub steps_of : List ResourceData → ChangeData → ℕ
+steps_of nodes change = 2 * length (watching nodes change) + 3
+
+-- the same for each change of an operation
+abbrev pub steps_of_all : List ResourceData → List ChangeData → ℕ
+steps_of_all nodes [] = 0
+steps_of_all nodes (change ∷ changes) = steps_of nodes change + steps_of_all nodes changes

@@ -23,8 +23,8 @@ fn is_url(text: &[u8]) -> bool
     read_url(text).is_some()
 }
 
-// The first URL among a resource's points of access.
-fn first_url(resource: &Resource) -> Option<&Text>
+/// The first URL among a resource's points of access.
+pub fn first_url(resource: &Resource) -> Option<&Text>
     ensures value { option_map (λ t. t.now) result ≡ spec.first_url resource.now }
     ensures url { IfSome result (λ t. IsSomeUrl t.now) }
 {
@@ -77,8 +77,9 @@ fn ae_at<T: Tree>(tree: &T, spot: Option<Spot>) -> Option<&Resource>
     }
 }
 
-// The CSE-ID that a foreign address begins with: its slash, and what stands before the next one.
-fn leading_cse_id(text: &[u8]) -> &[u8]
+/// The CSE-ID that an address or an originator of a CSE begins with: its slash, and what stands
+/// before the next one.
+pub fn leading_cse_id(text: &[u8]) -> &[u8]
     ensures { result.now ≡ spec.leading_cse_id text.now }
 {
     match text {
@@ -95,7 +96,8 @@ fn first_slash(text: &[u8]) -> usize
     text.iter().take_while(|byte| **byte != b'/').count()
 }
 
-fn cse_named<'a, T: Tree>(tree: &'a T, text: &[u8]) -> Option<&'a Resource>
+/// The registered CSE that the text of a foreign address leads to.
+pub fn cse_named<'a, T: Tree>(tree: &'a T, text: &[u8]) -> Option<&'a Resource>
     ensures { option_map (λ r. r.now) result ≡ spec.cse_named text.now (T.nodes tree.now) }
 {
     let number = tree.cse(leading_cse_id(text))?;

@@ -3,7 +3,7 @@ ghost use Rattle.std.specs.Prelude.{◌≡◌};
 ghost use Rattle.subscription_match.specs.Matching as spec;
 
 /// What a change is to the resource that a subscription stands under (TS-0004, 6.3.4.2.19).
-#[derive(Clone, Copy, Debug, PartialEq, Eq)]
+#[derive(Clone, Copy)]
 pub enum EventKind {
     /// It was updated.
     UpdateOfResource,

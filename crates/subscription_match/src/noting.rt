@@ -1,17 +1,22 @@
 //! What is told of changes.
-ghost use Rattle.std.specs.Prelude.{◌≡◌, ◌++◌, IfOk, OnOk};
+ghost use Rattle.std.specs.Prelude.{◌≡◌, ◌++◌, ◌+◌, ◌<◌, ◌≤◌, filter, length, IfOk, OnOk};
+ghost use Rattle.std.specs.List.{filter_map};
 ghost use Rattle.subscription_match.specs.Matching as matching;
+ghost use Rattle.subscription_match.specs.Matching.{is_sub_of_either, steps_of_all, watching};
 ghost use Rattle.subscription_match.specs.Notices as spec;
+ghost use Rattle.subscription_match.specs.Watching.{subs_under};
 ghost use Rattle.tree_model.specs.Changes.{change_of};
 ghost use Rattle.tree_model.specs.Tree.{DoAscend};
 
 use crate::criteria::{does_hear, event_for};
 use crate::drafts::Draft;
 use crate::telling::{notice_of, told_as};
-use crate::watching::over_watching;
+use crate::watching::{Under, over_watching};
 use std::alloc::{AllocError as OutOfMemory, Global};
 use std::collections::BTreeMap;
-use tree_model::{Change, Changes, Home, Tree};
+use std::marker::Brand;
+use std::sync::ledger::{Blank, Ledger};
+use tree_model::{Change, Changes, Home, Steps, Tree};
 
 // The resource that was there before the change and is itself changed.
 fn own_of(change: Change<'_>) -> Option<u64>
@@ -24,12 +29,32 @@ fn own_of(change: Change<'_>) -> Option<u64>
     }
 }
 
-// Whether a subscription under the resource of this number is told of the deletion of a child.
-fn is_any_told<T: Tree>(tree: &T, going: &[u64], parent: u64) -> bool
-    requires { DoAscend going.now }
-    ensures { result ≡ matching.is_heard going.now (T.nodes tree.now) parent }
+// The resource that gets or loses a child by a change.
+fn above_of(change: Change<'_>) -> Option<u64>
+    ensures { result ≡ matching.above_of (change_of change.entry) }
 {
-    for sub in over_watching(tree, None, Some(parent)) {
+    match change {
+        Change::Created(new) => Some(new.parent()),
+        Change::Updated { .. } => None,
+        Change::Deleted(gone) => Some(gone.parent()),
+    }
+}
+
+// Whether a subscription under the resource of this number is told of the deletion of a child.
+fn is_any_told<T: Tree, L: Ledger>(
+    tree: &T,
+    going: &[u64],
+    parent: u64,
+    steps: &mut Steps<L>,
+) -> bool
+    requires { DoAscend going.now }
+    ensures value { result ≡ matching.is_heard going.now (T.nodes tree.now) parent }
+    ensures counted { steps.old ≤ steps.new }
+    ensures cost { steps.new
+        ≤ steps.old + length (subs_under (Some parent) (T.nodes tree.now)) + 1 }
+{
+    let mut subs = Under::of(tree, Some(parent), steps);
+    'subs: while let Some(sub) = subs.take(steps) {
         if does_hear(going, sub) {
             return true;
         }
@@ -39,33 +64,38 @@ fn is_any_told<T: Tree>(tree: &T, going: &[u64], parent: u64) -> bool
 
 // The same as `is_any_told`, which is found once for each resource and then noted.
 #[tactic(auto, using(crate::proofs::HeardLemmas::one_noted))]
-fn is_heard<T: Tree>(
+fn is_heard<T: Tree, L: Ledger>(
     tree: &T,
     going: &[u64],
     heard: &mut BTreeMap<u64, bool>,
     parent: u64,
+    steps: &mut Steps<L>,
 ) -> Result<bool, OutOfMemory>
     requires order { DoAscend going.now }
     requires heard { matching.AreHeard going.now (T.nodes tree.now) heard.old.entries }
     ensures value { IfOk result (λ b. b ≡ matching.is_heard going.now (T.nodes tree.now) parent) }
     ensures heard { OnOk result
         (matching.AreHeard going.now (T.nodes tree.now) heard.new.entries) }
+    ensures counted { steps.old ≤ steps.new }
+    ensures cost { steps.new
+        ≤ steps.old + length (subs_under (Some parent) (T.nodes tree.now)) + 1 }
 {
     if let Some(known) = heard.get(&parent) {
         return Ok(*known);
     }
-    let found = is_any_told(tree, going, parent);
+    let found = is_any_told(tree, going, parent, steps);
     heard.insert(parent, found)?;
     Ok(found)
 }
 
 // The resource that gets or loses a child, where a subscription under it may be told so. A removal
 // of a subtree looks so at the subscriptions of each resource once, and not once for each child.
-fn above_of<T: Tree>(
+fn heard_above<T: Tree, L: Ledger>(
     tree: &T,
     going: &[u64],
     heard: &mut BTreeMap<u64, bool>,
     change: Change<'_>,
+    steps: &mut Steps<L>,
 ) -> Result<Option<u64>, OutOfMemory>
     requires order { DoAscend going.now }
     requires heard { matching.AreHeard going.now (T.nodes tree.now) heard.old.entries }
@@ -73,12 +103,15 @@ fn above_of<T: Tree>(
         ≡ matching.heard_above going.now (T.nodes tree.now) (change_of change.entry)) }
     ensures heard { OnOk result
         (matching.AreHeard going.now (T.nodes tree.now) heard.new.entries) }
+    ensures counted { steps.old ≤ steps.new }
+    ensures cost { steps.new ≤ steps.old + length (subs_under
+        (matching.above_of (change_of change.entry)) (T.nodes tree.now)) + 1 }
 {
     match change {
         Change::Created(new) => Ok(Some(new.parent())),
         Change::Updated { .. } => Ok(None),
         Change::Deleted(gone) => {
-            if is_heard(tree, going, heard, gone.parent())? {
+            if is_heard(tree, going, heard, gone.parent(), steps)? {
                 Ok(Some(gone.parent()))
             } else {
                 Ok(None)
@@ -87,24 +120,29 @@ fn above_of<T: Tree>(
     }
 }
 
-fn add_told<T: Tree>(
+// What is told to those of the subscriptions under the changed resource, and under another one
+// where it is given, that match the change.
+fn add_told<T: Tree, L: Ledger>(
     alloc: Global,
     tree: &T,
     home: &Home,
     going: &[u64],
     change: Change<'_>,
-    heard: &mut BTreeMap<u64, bool>,
+    above: Option<u64>,
     drafts: &mut Vec<Draft>,
+    steps: &mut Steps<L>,
 ) -> Result<(), OutOfMemory>
-    requires order { DoAscend going.now }
-    requires heard { matching.AreHeard going.now (T.nodes tree.now) heard.old.entries }
+    requires { DoAscend going.now }
     ensures told { OnOk result (drafts.new.items ≡ drafts.old.items
-        ++ spec.told_to_all home.now (T.nodes tree.now) going.now (change_of change.entry)) }
-    ensures heard { OnOk result
-        (matching.AreHeard going.now (T.nodes tree.now) heard.new.entries) }
+        ++ filter_map (spec.told home.now (T.nodes tree.now) going.now (change_of change.entry))
+        (filter (is_sub_of_either (matching.own_of (change_of change.entry)) above)
+        (T.nodes tree.now))) }
+    ensures counted { steps.old ≤ steps.new }
+    ensures cost { steps.new ≤ steps.old + length (filter (is_sub_of_either
+        (matching.own_of (change_of change.entry)) above) (T.nodes tree.now)) + 2 }
 {
-    let above = above_of(tree, going, heard, change)?;
-    for sub in over_watching(tree, own_of(change), above) {
+    let mut subs = over_watching(tree, own_of(change), above, steps);
+    'subs: while let Some(sub) = subs.take(steps) {
         if let Some(kind) = event_for(going, change, sub) {
             drafts.push(told_as(alloc, tree, home, change, sub, kind)?)?;
         }
@@ -129,7 +167,7 @@ fn add_notices(
     Ok(())
 }
 
-fn add_notes<T: Tree>(
+fn add_notes<T: Tree, L: Ledger>(
     alloc: Global,
     tree: &T,
     home: &Home,
@@ -137,6 +175,7 @@ fn add_notes<T: Tree>(
     change: Change<'_>,
     heard: &mut BTreeMap<u64, bool>,
     drafts: &mut Vec<Draft>,
+    steps: &mut Steps<L>,
 ) -> Result<(), OutOfMemory>
     requires order { DoAscend going.now }
     requires heard { matching.AreHeard going.now (T.nodes tree.now) heard.old.entries }
@@ -144,35 +183,78 @@ fn add_notes<T: Tree>(
         (matching.AreHeard going.now (T.nodes tree.now) heard.new.entries) }
     ensures told { OnOk result (drafts.new.items ≡ drafts.old.items
         ++ spec.notes_of home.now (T.nodes tree.now) going.now (change_of change.entry)) }
+    ensures counted { steps.old ≤ steps.new }
+    ensures cost { steps.new ≤ steps.old
+        + matching.steps_of (T.nodes tree.now) (change_of change.entry) }
 {
-    add_told(alloc, tree, home, going, change, heard, drafts)?;
+    let above = heard_above(tree, going, heard, change, steps)?;
+    add_told(alloc, tree, home, going, change, above, drafts, steps)?;
     add_notices(alloc, home, change, drafts)
 }
 
 /// What is told of a change: what each matching subscription is told, in order of creation, and
 /// then the notice of the deletion of a subscription. The tree is the one before the change, and
-/// `going` are the numbers, which ascend, of what the same removal takes.
-#[tactic(auto, using(crate::proofs::HeardLemmas::none_noted))]
-pub fn notes<T: Tree>(
+/// `going` are the numbers, which ascend, of what the same removal takes. It takes at most a step
+/// for each subscription under the changed resource or its parent, and two more.
+pub fn notes<T: Tree, L: Ledger>(
     alloc: Global,
     tree: &T,
     home: &Home,
     going: &[u64],
     change: Change<'_>,
+    steps: &mut Steps<L>,
 ) -> Result<Vec<Draft>, OutOfMemory>
     requires { DoAscend going.now }
-    ensures { IfOk result (λ v. v.items
+    ensures value { IfOk result (λ v. v.items
         ≡ spec.notes_of home.now (T.nodes tree.now) going.now (change_of change.entry)) }
+    ensures counted { steps.old ≤ steps.new }
+    ensures cost { steps.new
+        ≤ steps.old + length (watching (T.nodes tree.now) (change_of change.entry)) + 2 }
 {
-    let mut heard = BTreeMap::new(alloc);
     let mut drafts = Vec::new(alloc);
-    add_notes(alloc, tree, home, going, change, &mut heard, &mut drafts)?;
+    let above = above_of(change);
+    add_told(alloc, tree, home, going, change, above, &mut drafts, steps)?;
+    add_notices(alloc, home, change, &mut drafts)?;
     Ok(drafts)
 }
 
 /// What is told of an operation's changes, in their order. The tree is the one before the
-/// operation, and `going` are the numbers, which ascend, of what it removes.
+/// operation, and `going` are the numbers, which ascend, of what it removes. For each change it
+/// takes at most two steps for each subscription under the changed resource or its parent, and
+/// three more.
 #[tactic(auto, using(crate::proofs::HeardLemmas::none_noted))]
+pub fn counted_notes<T: Tree, L: Ledger>(
+    alloc: Global,
+    tree: &T,
+    home: &Home,
+    going: &[u64],
+    changes: Changes<'_, T>,
+    steps: &mut Steps<L>,
+) -> Result<Vec<Draft>, OutOfMemory>
+    requires { DoAscend going.now }
+    ensures value { IfOk result (λ v. v.items
+        ≡ spec.notes_of_all home.now (T.nodes tree.now) going.now changes.entry) }
+    ensures counted { steps.old ≤ steps.new }
+    ensures cost { steps.new ≤ steps.old + steps_of_all (T.nodes tree.now) changes.entry }
+{
+    let mut heard = BTreeMap::new(alloc);
+    let mut drafts = Vec::new(alloc);
+    for change in changes {
+        add_notes(
+            alloc,
+            tree,
+            home,
+            going,
+            change,
+            &mut heard,
+            &mut drafts,
+            steps,
+        )?;
+    }
+    Ok(drafts)
+}
+
+/// The same as `counted_notes`, for who counts no steps.
 pub fn all_notes<T: Tree>(
     alloc: Global,
     tree: &T,
@@ -184,10 +266,24 @@ pub fn all_notes<T: Tree>(
     ensures { IfOk result (λ v. v.items
         ≡ spec.notes_of_all home.now (T.nodes tree.now) going.now changes.entry) }
 {
-    let mut heard = BTreeMap::new(alloc);
-    let mut drafts = Vec::new(alloc);
-    for change in changes {
-        add_notes(alloc, tree, home, going, change, &mut heard, &mut drafts)?;
-    }
-    Ok(drafts)
+    notes_by::<T, Brand>(alloc, tree, home, going, changes, Blank::new(1))
+}
+
+fn notes_by<T: Tree, L: Ledger>(
+    alloc: Global,
+    tree: &T,
+    home: &Home,
+    going: &[u64],
+    changes: Changes<'_, T>,
+    blank: Blank,
+) -> Result<Vec<Draft>, OutOfMemory>
+    requires order { DoAscend going.now }
+    requires name { blank.name ≡ L.name }
+    requires parts { blank.parts ≡ L.parts }
+    requires some { 0 < blank.parts }
+    ensures { IfOk result (λ v. v.items
+        ≡ spec.notes_of_all home.now (T.nodes tree.now) going.now changes.entry) }
+{
+    let mut steps = Steps::<L>::new(blank);
+    counted_notes(alloc, tree, home, going, changes, &mut steps)
 }

@@ -1,17 +1,18 @@
-//! Going over the subscriptions of two resources.
-ghost use Rattle.std.specs.Prelude.{◌≡◌, ◌∷◌, [], ◌+◌, ◌^◌, ◌<◌, filter, option_map, slice_get};
-ghost use Rattle.std.specs.Prelude.{IfSome, IsTrue, MatchOption};
-ghost use Rattle.std.specs.Iterator.{YieldsFirstRef, item_count};
+//! Going over the subscriptions of two resources. Each look at a place among them is a step, also
+//! where nothing stands at it.
+ghost use Rattle.std.specs.Prelude.{◌≡◌, ◌∷◌, [], ◌+◌, ◌^◌, ◌<◌, filter, option_map};
+ghost use Rattle.std.specs.Prelude.{slice_get, IfSome, IsTrue, MatchOption};
 ghost use Rattle.subscription_match.specs.Matching.{is_sub_of_either};
 ghost use Rattle.subscription_match.specs.Watching as spec;
 ghost use Rattle.tree_model.specs.Tree.{is_tree};
 
 use std::marker::Model;
-use tree_model::{Resource, Tree, subscription_at};
+use std::sync::ledger::Ledger;
+use tree_model::{Resource, Steps, Tree, subscription_at};
 
-// The subscriptions under a resource, where one is given, seen as the list of those that are left.
+/// The subscriptions under a resource, where one is given, seen as the list of those that are left.
 #[derive(Drop)]
-struct Under<'a, T: Tree> {
+pub(crate) struct Under<'a, T: Tree> {
     tree: &'a T,
     parent: Option<u64>,
     // The first of those that are left, and its place.
@@ -39,15 +40,21 @@ impl<'a, T: Tree> Model for Under<'a, T> {
 }
 
 impl<'a, T: Tree> Under<'a, T> {
-    // All of them.
-    fn of(tree: &'a T, parent: Option<u64>) -> Under<'a, T>
+    /// All of them.
+    pub(crate) fn of<L: Ledger>(
+        tree: &'a T,
+        parent: Option<u64>,
+        steps: &mut Steps<L>,
+    ) -> Under<'a, T>
         ensures all { result ≡ spec.subs_under parent (T.nodes tree.now) }
         ensures tree { IfSome parent (λ _. IsTrue (is_tree (T.nodes tree.now))) }
+        ensures cost { steps.new ≡ steps.old + 1 }
     {
+        let first = sub_at(tree, parent, 0, steps);
         Under {
             tree,
             parent,
-            first: sub_at(tree, parent, 0),
+            first,
             place: 0,
         }
     }
@@ -58,14 +65,16 @@ impl<'a, T: Tree> Under<'a, T> {
         self.first
     }
 
-    // Takes the first.
-    fn take(&mut self) -> Option<&'a Resource>
-        ensures { MatchOption result ((self.old ≡ []) × (self.new ≡ []))
+    /// Takes the first.
+    pub(crate) fn take<L: Ledger>(&mut self, steps: &mut Steps<L>) -> Option<&'a Resource>
+        ensures taken { MatchOption result ((self.old ≡ []) × (self.new ≡ []))
             (λ r. self.old ≡ r.now ∷ self.new) }
+        ensures cost { MatchOption result (steps.new ≡ steps.old)
+            (λ _. steps.new ≡ steps.old + 1) }
     {
         let first = self.first?;
         self.place += 1;
-        self.first = sub_at(self.tree, self.parent, self.place);
+        self.first = sub_at(self.tree, self.parent, self.place, steps);
         Some(first)
     }
 }
@@ -73,7 +82,7 @@ impl<'a, T: Tree> Under<'a, T> {
 /// The subscriptions under one of two resources, as far as these are given, in order of creation,
 /// seen as the list of those that are left. The tree finds them, so that nothing else is visited.
 #[derive(Drop)]
-pub struct Watching<'a, T: Tree> {
+pub(crate) struct Watching<'a, T: Tree> {
     own: Under<'a, T>,
     above: Under<'a, T>,
 }
@@ -93,12 +102,18 @@ impl<'a, T: Tree> Model for Watching<'a, T> {
 }
 
 /// Goes over the subscriptions under a resource and under another one, each where it is given.
-pub fn over_watching<T: Tree>(tree: &T, own: Option<u64>, above: Option<u64>) -> Watching<'_, T>
-    ensures { result ≡ filter (is_sub_of_either own above) (T.nodes tree.now) }
+pub(crate) fn over_watching<'a, T: Tree, L: Ledger>(
+    tree: &'a T,
+    own: Option<u64>,
+    above: Option<u64>,
+    steps: &mut Steps<L>,
+) -> Watching<'a, T>
+    ensures all { result ≡ filter (is_sub_of_either own above) (T.nodes tree.now) }
+    ensures cost { steps.new ≡ steps.old + 2 }
 {
     Watching {
-        own: Under::of(tree, own),
-        above: Under::of(tree, unless_same(own, above)),
+        own: Under::of(tree, own, steps),
+        above: Under::of(tree, unless_same(own, above), steps),
     }
 }
 
@@ -113,12 +128,19 @@ fn unless_same(one: Option<u64>, other: Option<u64>) -> Option<u64>
 }
 
 // The subscription at a place under a resource, where one is given.
-fn sub_at<T: Tree>(tree: &T, parent: Option<u64>, k: u64) -> Option<&Resource>
+fn sub_at<'a, T: Tree, L: Ledger>(
+    tree: &'a T,
+    parent: Option<u64>,
+    k: u64,
+    steps: &mut Steps<L>,
+) -> Option<&'a Resource>
     ensures value { option_map (λ r. r.now) result
         ≡ slice_get (spec.subs_under parent (T.nodes tree.now)) k }
     ensures few { IfSome result (λ _. k + 1 < 2 ^ 64) }
     ensures tree { IfSome parent (λ _. IsTrue (is_tree (T.nodes tree.now))) }
+    ensures cost { steps.new ≡ steps.old + 1 }
 {
+    steps.tick();
     subscription_at(tree, parent?, k)
 }
 
@@ -133,20 +155,20 @@ fn comes_next(one: Option<&Resource>, other: Option<&Resource>) -> bool
     }
 }
 
-impl<'a, T: Tree> Iterator for Watching<'a, T> {
-    type Item = &'a Resource;
-
-    ghost next_gives = { YieldsFirstRef (λ rest. rest) };
-
-    ghost remaining = { item_count (λ rest. rest) };
-
-    fn next(&mut self) -> Option<&'a Resource> {
+impl<'a, T: Tree> Watching<'a, T> {
+    /// Takes the next of them.
+    pub(crate) fn take<L: Ledger>(&mut self, steps: &mut Steps<L>) -> Option<&'a Resource>
+        ensures taken { MatchOption result ((self.old ≡ []) × (self.new ≡ []))
+            (λ r. self.old ≡ r.now ∷ self.new) }
+        ensures cost { MatchOption result (steps.new ≡ steps.old)
+            (λ _. steps.new ≡ steps.old + 1) }
+    {
         let own = self.own.first();
         let above = self.above.first();
         if comes_next(own, above) {
-            self.own.take()
+            self.own.take(steps)
         } else {
-            self.above.take()
+            self.above.take(steps)
         }
     }
 }

@@ -1,5 +1,6 @@
 //! One request over a connection, and its answer.
-ghost use Rattle.std.specs.Prelude.{◌≡◌, ◌≤◌, length};
+ghost use Rattle.std.specs.Prelude.{◌≡◌, ◌≤◌, IfOk, length};
+ghost use Rattle.tcp_link.specs.Heard.{HasFew};
 ghost use Rattle.std.specs.Io.{ReadsAtMost};
 
 use devices::time_left;
@@ -15,8 +16,14 @@ use std::time::{Clock, Duration};
 /// are tried within as many.
 pub const PATIENCE: u64 = 5_000;
 
-/// So many milliseconds a request and its answer take at most, once the connection stands.
+/// So many milliseconds an exchange takes at most, once its host is looked up.
 pub const LONGEST: u64 = 15_000;
+
+/// So many milliseconds an exchange of an impatient link takes at most, once its host is looked up.
+pub const SHORT_PATIENCE: u64 = 1_500;
+
+/// So many milliseconds it takes at most to send a request whose answer isn't waited for.
+const SENDING: u64 = 250;
 
 /// An answer has at most so many bytes.
 pub const MOST_BYTES: usize = 2_097_152;
@@ -24,12 +31,56 @@ pub const MOST_BYTES: usize = 2_097_152;
 /// So many bytes are read at once where an answer ends with its connection.
 const PIECE: usize = 4_096;
 
+/// How long an exchange waits.
+#[derive(Clone, Copy, Debug, PartialEq, Eq)]
+pub(crate) enum Pace {
+    /// `PATIENCE` for what the other side says or takes next, and `LONGEST` for all of it.
+    Patient,
+    /// `SHORT_PATIENCE` for all of it.
+    Impatient,
+    /// `SENDING` for what the other side takes, and nothing for what it says.
+    AtOnce,
+}
+
+impl Pace {
+    /// So many milliseconds the other side may say or take nothing.
+    pub(crate) fn of_a_step(self) -> u64
+        ensures { result ≤ PATIENCE }
+    {
+        match self {
+            Pace::Patient => PATIENCE,
+            Pace::Impatient => SHORT_PATIENCE,
+            Pace::AtOnce => SENDING,
+        }
+    }
+
+    /// So many milliseconds an exchange takes at most.
+    fn of_all(self) -> u64
+        ensures { result ≤ LONGEST }
+    {
+        match self {
+            Pace::Patient => LONGEST,
+            Pace::Impatient => SHORT_PATIENCE,
+            Pace::AtOnce => SENDING,
+        }
+    }
+}
+
+/// What came of a request that was sent.
+pub(crate) enum Heard {
+    /// An answer.
+    Answer(Vec<u8>),
+    /// Nothing yet, or not all of it, at this connection.
+    Nothing(TcpStream),
+}
+
 /// A connection at which one request is sent and one answer is read: the bytes that came are kept.
 #[derive(Drop)]
 pub(crate) struct Asked<R> {
     rt: R,
     stream: TcpStream,
-    /// The moment from which on the connection stood, in milliseconds.
+    pace: Pace,
+    /// The moment at which the exchange began, in milliseconds.
     begun: u64,
     heard: Vec<u8>,
     /// Memory ran out for what came.
@@ -42,11 +93,11 @@ fn timed_out() -> io::Error {
     io::Error::from(ErrorKind::TimedOut)
 }
 
-/// How long the next read or write may take, where the connection stands since this moment.
-fn next_patience<R: Clock>(rt: &R, begun: u64) -> io::Result<Duration> {
-    match time_left(rt, begun, LONGEST) {
-        Some(left) if left.as_millis() < PATIENCE as u128 => Ok(left),
-        Some(_) => Ok(Duration::from_millis(PATIENCE)),
+/// How long the next read or write may take, in an exchange that began at this moment.
+fn next_patience<R: Clock>(rt: &R, begun: u64, pace: Pace) -> io::Result<Duration> {
+    match time_left(rt, begun, pace.of_all()) {
+        Some(left) if left.as_millis() < pace.of_a_step() as u128 => Ok(left),
+        Some(_) => Ok(Duration::from_millis(pace.of_a_step())),
         None => Err(timed_out()),
     }
 }
@@ -56,12 +107,13 @@ fn read_in_time<R: Clock>(
     rt: &R,
     stream: &mut TcpStream,
     begun: u64,
+    pace: Pace,
     buf: &mut [u8],
 ) -> io::Result<usize>
     ensures { ReadsAtMost result buf.new }
 {
     for _ in 0..u64::MAX {
-        stream.set_read_timeout(Some(next_patience(rt, begun)?))?;
+        stream.set_read_timeout(Some(next_patience(rt, begun, pace)?))?;
         match stream.read(buf) {
             Ok(n) => return Ok(n),
             Err(error) if error.kind() == ErrorKind::Interrupted => {}
@@ -76,6 +128,7 @@ fn write_in_time<R: Clock>(
     rt: &R,
     stream: &mut TcpStream,
     begun: u64,
+    pace: Pace,
     bytes: &[u8],
 ) -> io::Result<()> {
     let mut rest = bytes;
@@ -83,7 +136,7 @@ fn write_in_time<R: Clock>(
         if rest.is_empty() {
             return Ok(());
         }
-        stream.set_write_timeout(Some(next_patience(rt, begun)?))?;
+        stream.set_write_timeout(Some(next_patience(rt, begun, pace)?))?;
         match stream.write(rest) {
             Ok(0) => return Err(io::Error::from(ErrorKind::WriteZero)),
             Ok(n) => rest = rest.split_at(n.min(rest.len())).1,
@@ -137,11 +190,12 @@ impl<R: Clock + Copy> Source for Asked<R> {
 }
 
 impl<R: Clock + Copy> Asked<R> {
-    /// A connection on which nothing was said yet.
-    pub(crate) fn new(rt: R, alloc: Global, stream: TcpStream, begun: u64) -> Self {
+    /// A connection on which nothing was said yet, in an exchange that began at this moment.
+    pub(crate) fn new(rt: R, alloc: Global, stream: TcpStream, pace: Pace, begun: u64) -> Self {
         Asked {
             rt,
             stream,
+            pace,
             begun,
             heard: Vec::new(alloc),
             is_starved: false,
@@ -167,7 +221,7 @@ impl<R: Clock + Copy> Asked<R> {
         ensures bound { ReadsAtMost result buf.new }
         ensures faults { self.new.faults ≡ self.old.faults }
     {
-        let n = read_in_time(&self.rt, &mut self.stream, self.begun, buf)?;
+        let n = read_in_time(&self.rt, &mut self.stream, self.begun, self.pace, buf)?;
         self.keep(&buf[..n])?;
         Ok(n)
     }
@@ -210,30 +264,50 @@ impl<R: Clock + Copy> Asked<R> {
 
     /// Sends the request.
     fn send(&mut self, request: &[u8]) -> Result<(), LinkFault> {
-        match write_in_time(&self.rt, &mut self.stream, self.begun, request) {
+        match write_in_time(&self.rt, &mut self.stream, self.begun, self.pace, request) {
             Ok(()) => Ok(()),
             Err(_) => Err(LinkFault::Failed),
         }
     }
 
-    /// Sends the request, and hears its answer.
-    pub(crate) fn ask(&mut self, alloc: Global, request: &[u8]) -> Result<(), LinkFault> {
-        self.send(request)?;
+    /// Whether an answer that didn't come in time is awaited beside other exchanges.
+    fn is_awaited(&self) -> bool {
+        self.pace != Pace::Patient
+    }
+
+    /// Hears the answer, where this exchange waits for it.
+    fn hear_in_time(&mut self, alloc: Global) -> Result<(), LinkFault> {
+        if self.pace == Pace::AtOnce {
+            return Err(LinkFault::Failed);
+        }
         self.hear(alloc)
     }
 
-    /// The bytes that came.
-    pub(crate) fn into_heard(self) -> Vec<u8>
-        ensures { length result.items ≤ MOST_BYTES }
+    /// Sends the request, and hears what comes of it.
+    pub(crate) fn asked(mut self, alloc: Global, request: &[u8]) -> Result<Heard, LinkFault>
+        ensures { IfOk result (λ heard. HasFew heard) }
+    {
+        self.send(request)?;
+        match self.hear_in_time(alloc) {
+            Ok(()) => Ok(Heard::Answer(self.into_parts().0)),
+            Err(LinkFault::Failed) if self.is_awaited() => Ok(Heard::Nothing(self.into_parts().1)),
+            Err(fault) => Err(fault),
+        }
+    }
+
+    /// The bytes that came, and the connection.
+    fn into_parts(self) -> (Vec<u8>, TcpStream)
+        ensures { length result.0.items ≤ MOST_BYTES }
     {
         let Asked {
             rt: _,
-            stream: _,
+            stream,
+            pace: _,
             begun: _,
             heard,
             is_starved: _,
             faults: _,
         } = self;
-        heard
+        (heard, stream)
     }
 }

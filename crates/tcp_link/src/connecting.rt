@@ -1,8 +1,7 @@
 //! Connections to hosts, as URLs name them.
 ghost use Rattle.std.specs.Prelude.{◌≤◌, ◌<◌};
 
-use crate::answering::PATIENCE;
-use devices::{millis_now, time_left};
+use devices::time_left;
 use std::alloc::Global;
 use std::io::ErrorKind;
 use std::net::{Net, SocketAddr, TcpListener, TcpStream, ToSocketAddrs};
@@ -20,6 +19,13 @@ const MOST_TRIED: usize = 4;
 pub(crate) struct Place<'a> {
     pub name: &'a str,
     pub port: u16,
+}
+
+impl Place<'_> {
+    /// Whether that is the same host and port.
+    pub(crate) fn is_at(self, place: Place) -> bool {
+        self.port == place.port && self.name.eq_ignore_ascii_case(place.name)
+    }
 }
 
 /// The place that a host stands for, as it stands in a URL, with its port or without.
@@ -42,7 +48,11 @@ fn unreachable_host() -> io::Error {
 }
 
 /// The addresses of a place, by the system's resolver.
-fn addresses<R: Net>(rt: &R, alloc: Global, place: Place) -> io::Result<Vec<SocketAddr>> {
+pub(crate) fn addresses<R: Net>(
+    rt: &R,
+    alloc: Global,
+    place: Place,
+) -> io::Result<Vec<SocketAddr>> {
     let mut found = Vec::new(alloc);
     for address in (place.name, place.port).to_socket_addrs(rt)? {
         if found.len() < MOST_TRIED {
@@ -52,26 +62,30 @@ fn addresses<R: Net>(rt: &R, alloc: Global, place: Place) -> io::Result<Vec<Sock
     Ok(found)
 }
 
-/// An equal share of what is left of `PATIENCE` since this moment, for so many tries.
-fn share_of<R: Clock>(rt: &R, begun: u64, tries: usize) -> io::Result<Duration>
+/// An equal share of what is left of so many milliseconds since this moment, for so many tries.
+fn share_of<R: Clock>(rt: &R, begun: u64, patience: u64, tries: usize) -> io::Result<Duration>
     requires { 0 < tries }
 {
-    match time_left(rt, begun, PATIENCE) {
+    match time_left(rt, begun, patience) {
         Some(left) => Ok(Duration::from_millis((left.as_millis() as u64 / tries as u64).max(1))),
         None => Err(io::Error::from(ErrorKind::TimedOut)),
     }
 }
 
-/// A connection to a place: its addresses are tried in turn.
-pub(crate) fn connected<R>(rt: &R, alloc: Global, place: Place) -> io::Result<TcpStream>
+/// A connection to the first of these addresses that takes one: they are tried in turn, within so
+/// many milliseconds since this moment.
+pub(crate) fn connected<R>(
+    rt: &R,
+    found: &[SocketAddr],
+    begun: u64,
+    patience: u64,
+) -> io::Result<TcpStream>
 where
     R: Net<Listener = TcpListener, Stream = TcpStream> + Clock,
 {
-    let found = addresses(rt, alloc, place)?;
-    let begun = millis_now(rt);
     let mut last = unreachable_host();
     for (i, address) in found.iter().enumerate() {
-        let share = share_of(rt, begun, found.len() - i)?;
+        let share = share_of(rt, begun, patience, found.len() - i)?;
         match TcpStream::connect_timeout(rt, address, share) {
             Ok(stream) => return Ok(stream),
             Err(error) => last = error,

@@ -65,7 +65,11 @@ impl Destination {
     }
 
     fn is_at(&self, place: Place) -> bool {
-        self.port == place.port && self.name.as_str().eq_ignore_ascii_case(place.name)
+        let own = Place {
+            name: self.name.as_str(),
+            port: self.port,
+        };
+        own.is_at(place)
     }
 
     /// Whether it is to be left alone at this moment.
@@ -162,15 +166,6 @@ impl Failing {
         }
     }
 
-    /// Counts an exchange with this place that failed without being tried.
-    pub(crate) fn count(&mut self, place: Place) {
-        for destination in &mut self.list {
-            if destination.is_at(place) {
-                destination.count();
-            }
-        }
-    }
-
     /// Remembers this place, if there is memory. The destination that has to make room for it comes
     /// back, where there are too many.
     fn remember(&mut self, alloc: Global, place: Place) -> Option<Destination> {
@@ -188,13 +183,24 @@ impl Failing {
         oldest
     }
 
-    /// An exchange with this place was tried, and failed at this moment. A destination of which
-    /// nothing more is remembered comes back.
-    pub(crate) fn fail(&mut self, alloc: Global, place: Place, now: u64) -> Option<Destination> {
+    /// Counts an exchange with this place that wasn't tried. A destination of which nothing more is
+    /// remembered comes back.
+    pub(crate) fn count(&mut self, alloc: Global, place: Place) -> Option<Destination> {
         let oldest = self.remember(alloc, place);
         for destination in &mut self.list {
             if destination.is_at(place) {
                 destination.count();
+            }
+        }
+        oldest
+    }
+
+    /// An exchange with this place was tried, and failed at this moment: it is left alone, unless
+    /// it is already. A destination of which nothing more is remembered comes back.
+    pub(crate) fn fail(&mut self, alloc: Global, place: Place, now: u64) -> Option<Destination> {
+        let oldest = self.count(alloc, place);
+        for destination in &mut self.list {
+            if destination.is_at(place) && !destination.is_left_alone(now) {
                 destination.leave_alone(now);
             }
         }

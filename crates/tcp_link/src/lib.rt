@@ -3,8 +3,12 @@
 //! Host names are looked up by the system's resolver; the first addresses are tried, IPv4 and IPv6,
 //! and all of them within `PATIENCE`. An answer ends where its head says so; where the head says
 //! nothing of its length, it ends with the connection. No read waits longer than `PATIENCE`, no
-//! request and answer take longer than `LONGEST`, and an answer has at most `MOST_BYTES` bytes. How
-//! long a look-up takes is the resolver's.
+//! exchange takes longer than `LONGEST`, and an answer has at most `MOST_BYTES` bytes. How long a
+//! look-up takes is the resolver's.
+//!
+//! An impatient link holds nobody up for longer than `SHORT_PATIENCE`: an answer that hasn't come
+//! by then is awaited beside the exchanges that follow. It is for requests whose answers nobody
+//! reads.
 //!
 //! A destination that failed is left alone for ten seconds: each exchange with it fails at once.
 //! Where it fails again after that, it is left alone for twice as long, up to five minutes, until
@@ -18,9 +22,10 @@
 #![tactic(auto)]
 
 mod answering;
+mod awaiting;
 mod connecting;
 mod failing;
 mod link;
 
-pub use answering::{LONGEST, MOST_BYTES, PATIENCE};
+pub use answering::{LONGEST, MOST_BYTES, PATIENCE, SHORT_PATIENCE};
 pub use link::TcpLink;

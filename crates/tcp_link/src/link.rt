@@ -3,11 +3,13 @@ ghost use Rattle.std.specs.Prelude.{◌≡◌, ◌≤◌, ◌+◌, None, OnOk, O
 ghost use Rattle.std.specs.Prelude.{IfOk, length};
 ghost use Rattle.m2m_io.specs.Link.{Exchange, TellsAnswer, TellsExchange};
 ghost use Rattle.m2m_io.specs.Counts.{CountsFault};
+ghost use Rattle.tcp_link.specs.Heard.{HasFew};
 ghost use Rattle.m2m_io.specs.declared.fault.LinkFault.TheVariants.{Failed as failed};
 ghost use Rattle.m2m_io.specs.declared.fault.LinkFault.TheVariants.{OutOfMemory as starved};
 
-use crate::answering::{Asked, MOST_BYTES};
-use crate::connecting::{Place, connected, place_of};
+use crate::answering::{Asked, Heard, MOST_BYTES, Pace};
+use crate::awaiting::{Awaiting, Fate};
+use crate::connecting::{Place, addresses, connected, place_of};
 use crate::failing::{Destination, Failing};
 use devices::{Log, millis_now};
 use m2m_io::{Link, LinkFault};
@@ -21,7 +23,9 @@ use std::time::Clock;
 /// is too long.
 pub struct TcpLink<R: Clock + Eprint + Copy> {
     log: Log<R>,
+    is_patient: bool,
     failing: Failing,
+    awaiting: Awaiting,
     faults: u64,
 }
 
@@ -29,7 +33,9 @@ impl<R: Clock + Eprint + Copy> Drop for TcpLink<R> {
     fn drop(self) {
         let TcpLink {
             log,
+            is_patient: _,
             mut failing,
+            awaiting: _,
             faults: _,
         } = self;
         for destination in failing.destinations() {
@@ -68,6 +74,15 @@ impl<R: Clock + Eprint + Copy> TcpLink<R> {
         self.failing.tidy(now);
     }
 
+    /// Counts an exchange with a place that isn't tried.
+    fn count(&mut self, alloc: Global, place: Place)
+        ensures { self.new.faults ≡ self.old.faults }
+    {
+        if let Some(oldest) = self.failing.count(alloc, place) {
+            say_unsaid(&self.log, &oldest);
+        }
+    }
+
     /// An exchange with a place was tried, and failed.
     fn fail(&mut self, alloc: Global, place: Place)
         ensures { self.new.faults ≡ self.old.faults }
@@ -77,20 +92,82 @@ impl<R: Clock + Eprint + Copy> TcpLink<R> {
             say_unsaid(&self.log, &oldest);
         }
     }
+
+    /// Looks what has come of the answers that are awaited. One that never came is a failure of the
+    /// moment at which it was given up, however long ago that is.
+    fn settle(&mut self, alloc: Global)
+        ensures { self.new.faults ≡ self.old.faults }
+    {
+        let now = millis_now(&self.log.runtime());
+        self.awaiting.look(now);
+        for one in self.awaiting.all() {
+            match one.fate() {
+                Fate::Open => {}
+                Fate::Answered => self.failing.welcome(one.place()),
+                Fate::Failed => {
+                    let at = one.failed_at(now);
+                    if let Some(oldest) = self.failing.fail(alloc, one.place(), at) {
+                        say_unsaid(&self.log, &oldest);
+                    }
+                }
+            }
+        }
+        self.awaiting.tidy();
+    }
+
+    /// A request was sent to a place, and isn't answered yet: its answer is awaited at this
+    /// connection, since this moment. Where there is no room for it, it failed; so did the place,
+    /// unless another answer of it is awaited.
+    fn wait_for(&mut self, alloc: Global, place: Place, stream: TcpStream, since: u64)
+        ensures { self.new.faults ≡ self.old.faults }
+    {
+        if self.awaiting.keep(alloc, place, stream, since) {
+            self.settle(alloc);
+        } else if self.awaiting.has(place) {
+            self.count(alloc, place);
+        } else {
+            self.fail(alloc, place);
+        }
+    }
+
+    /// How long an exchange with a place waits.
+    fn pace(&self, place: Place) -> Pace {
+        if self.is_patient {
+            Pace::Patient
+        } else if self.awaiting.has(place) {
+            Pace::AtOnce
+        } else {
+            Pace::Impatient
+        }
+    }
+
+    /// Whether a request to a place isn't sent at this moment: the place is left alone, or so much
+    /// is awaited of it that nothing more is asked.
+    fn is_passed_over(&self, place: Place, now: u64) -> bool {
+        self.failing.is_left_alone(place, now) || self.awaiting.is_full_at(place)
+    }
 }
 
 /// One exchange with a place, over a connection of its own.
-fn exchange_at<R>(rt: R, alloc: Global, place: Place, request: &[u8]) -> Result<Vec<u8>, LinkFault>
+fn exchange_at<R>(
+    rt: R,
+    alloc: Global,
+    place: Place,
+    pace: Pace,
+    request: &[u8],
+) -> Result<Heard, LinkFault>
 where
     R: Net<Listener = TcpListener, Stream = TcpStream> + Clock + Copy,
-    ensures { IfOk result (λ answer. length answer.items ≤ MOST_BYTES) }
+    ensures { IfOk result HasFew }
 {
-    let Ok(stream) = connected(&rt, alloc, place) else {
+    let Ok(found) = addresses(&rt, alloc, place) else {
         return Err(LinkFault::Failed);
     };
-    let mut asked = Asked::new(rt, alloc, stream, millis_now(&rt));
-    asked.ask(alloc, request)?;
-    Ok(asked.into_heard())
+    let begun = millis_now(&rt);
+    let Ok(stream) = connected(&rt, &found, begun, pace.of_a_step()) else {
+        return Err(LinkFault::Failed);
+    };
+    Asked::new(rt, alloc, stream, pace, begun).asked(alloc, request)
 }
 
 impl<R> TcpLink<R>
@@ -98,35 +175,66 @@ where
     R: Net<Listener = TcpListener, Stream = TcpStream> + Clock + Eprint + Copy,
 {
     /// A link of which no destination has failed yet, and which says on this log what fails.
-    pub fn new(log: Log<R>) -> Self
-        ensures exchanges { ⟦<TcpLink<R> as Link>⟧.exchanges result ≡ None }
-        ensures faults { ⟦<TcpLink<R> as Link>⟧.faults result ≡ 0 }
+    fn made(log: Log<R>, is_patient: bool) -> Self
+        ensures { result.faults ≡ 0 }
     {
         let failing = Failing::new(log.allocator());
+        let awaiting = Awaiting::new(log.allocator());
         TcpLink {
             log,
+            is_patient,
             failing,
+            awaiting,
             faults: 0,
         }
     }
 
-    /// One exchange with a place, unless that is left alone.
+    /// A link of which no destination has failed yet, and which says on this log what fails.
+    pub fn new(log: Log<R>) -> Self
+        ensures exchanges { ⟦<TcpLink<R> as Link>⟧.exchanges result ≡ None }
+        ensures faults { ⟦<TcpLink<R> as Link>⟧.faults result ≡ 0 }
+    {
+        TcpLink::made(log, true)
+    }
+
+    /// Such a link that waits no longer than `SHORT_PATIENCE` in an exchange. Where a request was
+    /// sent and its answer didn't come by then, the exchange is a fault, and the answer is awaited
+    /// beside those that follow. Until it comes a few more requests go to that destination, and none
+    /// of them is waited for; behind these it is passed over. Where it doesn't come within
+    /// `PATIENCE`, the destination failed.
+    pub fn impatient(log: Log<R>) -> Self
+        ensures exchanges { ⟦<TcpLink<R> as Link>⟧.exchanges result ≡ None }
+        ensures faults { ⟦<TcpLink<R> as Link>⟧.faults result ≡ 0 }
+    {
+        TcpLink::made(log, false)
+    }
+
+    /// One exchange with a place, unless that is passed over.
     fn ask(&mut self, alloc: Global, place: Place, request: &[u8]) -> Result<Vec<u8>, LinkFault>
         ensures few { IfOk result (λ answer. length answer.items ≤ MOST_BYTES) }
         ensures faults { self.new.faults ≡ self.old.faults }
     {
         let rt = self.log.runtime();
-        if self.failing.is_left_alone(place, millis_now(&rt)) {
-            self.failing.count(place);
+        let now = millis_now(&rt);
+        if self.is_passed_over(place, now) {
+            self.count(alloc, place);
             return Err(LinkFault::Failed);
         }
-        let answered = exchange_at(rt, alloc, place, request);
-        match &answered {
-            Ok(_) => self.failing.welcome(place),
-            Err(LinkFault::Failed) => self.fail(alloc, place),
-            Err(LinkFault::OutOfMemory) => {}
+        match exchange_at(rt, alloc, place, self.pace(place), request) {
+            Ok(Heard::Answer(answer)) => {
+                self.failing.welcome(place);
+                Ok(answer)
+            }
+            Ok(Heard::Nothing(stream)) => {
+                self.wait_for(alloc, place, stream, now);
+                Err(LinkFault::Failed)
+            }
+            Err(LinkFault::Failed) => {
+                self.fail(alloc, place);
+                Err(LinkFault::Failed)
+            }
+            Err(fault) => Err(fault),
         }
-        answered
     }
 
     /// One exchange with a host, and then the lines that are due.
@@ -137,6 +245,7 @@ where
         let Some(place) = place_of(host) else {
             return Err(LinkFault::Failed);
         };
+        self.settle(alloc);
         let answered = self.ask(alloc, place, request);
         let now = millis_now(&self.log.runtime());
         self.say_faults(now);

@@ -29,28 +29,32 @@ const MOST_CALLS_OF_A_FAN_OUT: u64 = 80;
 const FIRST: &str =
     r#"100 {"op":1,"to":"cse-in","fr":"CDev","rqi":"r","ty":2,"pc":{"m2m:ae":{"api":"N1","rn":"dev","rr":true}}}"#;
 
+const SUBSCRIPTION: &str =
+    r#"100 {"op":1,"to":"cse-in/dev","fr":"CDev","rqi":"r","ty":23,"pc":{"m2m:sub":{"rn":"s","nu":["http://127.0.0.1:9/n"]}}}"#;
+
 const LAST: &str =
     r#"100 {"op":1,"to":"cse-in/dev","fr":"CDev","rqi":"r","ty":3,"pc":{"m2m:cnt":{"rn":"last"}}}"#;
 
 // When a request comes, and what it asks for: Retrieves by name, by id and by AE-ID, one that is
-// refused, one of nothing, one with descendants and one with references; Creates, the last of which
-// pushes out an instance; the newest and the oldest instance; a group, a fan-out to its members
-// that creates and one that retrieves; a discovery below a container; Updates, the second of which
-// pushes out an instance; a Delete; a Create that is refused since its name is taken; and a
-// Retrieve before which a container expires.
+// refused, one of nothing, one with descendants, one with references and one of the subscription;
+// Creates, the last of which pushes out an instance; the newest and the oldest instance; a group, a
+// fan-out to its members that creates and one that retrieves; a discovery below a container;
+// Updates, the second of which pushes out an instance; a Delete; a Create that is refused since its
+// name is taken; and a Retrieve before which a container expires.
 const ASKED: &str = r#"100 {"op":2,"to":"cse-in/dev/last","fr":"CDev","rqi":"r"}
-100 {"op":2,"to":"cnt4","fr":"CDev","rqi":"r"}
+100 {"op":2,"to":"cnt5","fr":"CDev","rqi":"r"}
 100 {"op":2,"to":"CDev/last","fr":"CDev","rqi":"r"}
 100 {"op":2,"to":"cse-in/dev/last","fr":"COther","rqi":"r"}
 100 {"op":2,"to":"cse-in/dev/none","fr":"CDev","rqi":"r"}
 100 {"op":2,"to":"cse-in/dev/last","fr":"CDev","rqi":"r","rcn":4}
 100 {"op":2,"to":"cse-in/dev/last","fr":"CDev","rqi":"r","rcn":5}
+100 {"op":2,"to":"cse-in/dev/s","fr":"CDev","rqi":"r"}
 100 {"op":1,"to":"cse-in/dev/last","fr":"CDev","rqi":"r","ty":3,"pc":{"m2m:cnt":{"rn":"d","mni":1}}}
 100 {"op":1,"to":"cse-in/dev/last/d","fr":"CDev","rqi":"r","ty":4,"pc":{"m2m:cin":{"con":"a"}}}
 100 {"op":1,"to":"cse-in/dev/last/d","fr":"CDev","rqi":"r","ty":4,"pc":{"m2m:cin":{"con":"b"}}}
 100 {"op":2,"to":"cse-in/dev/last/d/la","fr":"CDev","rqi":"r"}
 100 {"op":2,"to":"cse-in/dev/last/d/ol","fr":"CDev","rqi":"r"}
-100 {"op":1,"to":"cse-in/dev","fr":"CDev","rqi":"r","ty":9,"pc":{"m2m:grp":{"rn":"g","mnm":3,"mid":["cse-in/dev/last","cnt4","/id-mn/x"]}}}
+100 {"op":1,"to":"cse-in/dev","fr":"CDev","rqi":"r","ty":9,"pc":{"m2m:grp":{"rn":"g","mnm":3,"mid":["cse-in/dev/last","cnt5","/id-mn/x"]}}}
 100 {"op":1,"to":"cse-in/dev/g/fopt","fr":"CDev","rqi":"r","ty":4,"pc":{"m2m:cin":{"con":"c"}}}
 100 {"op":2,"to":"cse-in/dev/g/fopt/la","fr":"CDev","rqi":"r"}
 100 {"op":2,"to":"cse-in/dev/last","fr":"CDev","rqi":"r","fc":{"fu":1,"ty":4}}
@@ -99,9 +103,10 @@ fn told<T: Tree>(
     }
 }
 
-// One application, so many containers beside each other, and a last one.
+// One application with a subscription, so many containers beside each other, and a last one.
 fn grow<T: Tree>(alloc: Global, entity: &mut Entity<T>, count: u64) -> Result<(), OutOfMemory> {
     told(alloc, entity, FIRST)?;
+    told(alloc, entity, SUBSCRIPTION)?;
     for k in 0..count {
         let members = format!(in alloc; "\"ty\":3,\"pc\":{{\"m2m:cnt\":{{\"rn\":\"c{k}\"}}}}")?;
         let head = r#"{"op":1,"to":"cse-in/dev","fr":"CDev","rqi":"r","rcn":0,"#;

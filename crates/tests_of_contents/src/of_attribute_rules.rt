@@ -289,22 +289,24 @@ fn content(alloc: Global, ty: Ty, attrs: &str) -> Result<Val, OutOfMemory> {
 // Whether a creation by these attributes is admitted, whose wants can be taken then.
 fn creates(alloc: Global, ty: Ty, attrs: &str) -> Result<String, OutOfMemory> {
     let content = content(alloc, ty, attrs)?;
-    if admits_create(ty, &content) {
-        let _wanted = take_wanted(alloc, ty, content)?;
-        word(alloc, "yes")
-    } else {
-        word(alloc, "no")
+    match attributes_in(ty, &content) {
+        Some(named) if are_admitted(Writing::Create, ty, named) => {
+            let _wanted = wanted_in(alloc, ty, named)?;
+            word(alloc, "yes")
+        }
+        _ => word(alloc, "no"),
     }
 }
 
 // The same of an update.
 fn updates(alloc: Global, ty: Ty, attrs: &str) -> Result<String, OutOfMemory> {
     let content = content(alloc, ty, attrs)?;
-    if admits_update(ty, &content) {
-        let _edit = take_edit(alloc, ty, content)?;
-        word(alloc, "yes")
-    } else {
-        word(alloc, "no")
+    match attributes_in(ty, &content) {
+        Some(named) if are_admitted(Writing::Update, ty, named) => {
+            let _edit = edit_in(alloc, ty, named)?;
+            word(alloc, "yes")
+        }
+        _ => word(alloc, "no"),
     }
 }
 

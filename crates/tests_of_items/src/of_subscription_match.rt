@@ -1,13 +1,17 @@
 //! Who is told of what changed, and where that goes.
+ghost use Rattle.std.specs.Prelude.{◌≡◌, ◌<◌};
+
 use m2m_names::Attr;
 use m2m_value::Val;
 use plain_tree::ListTree;
 use primitive_json::{Dest, Note, write_request};
 use std::alloc::{AllocError, AllocGlobal, Global};
+use std::marker::Brand;
 use std::process::Abort;
+use std::sync::ledger::{Blank, Ledger};
 use std::test::Fail;
 use subscription_match::{Draft, aim, all_notes, items_of, notes, spend};
-use tree_model::{AttrSet, Change, Changes, Home, Resource, Tree};
+use tree_model::{AttrSet, Change, Changes, Home, Resource, Steps, Tree};
 use tree_samples::{number, spelled, tree_of, word};
 
 const BEFORE: &str = r#"1 cb cse-in 0 - 100 100 1000000 {}
@@ -104,6 +108,23 @@ fn drafts_text(alloc: Global, drafts: &[Draft]) -> Result<String, AllocError> {
     Ok(text)
 }
 
+// What a change tells by which nothing goes.
+#[tactic(auto, using(crate::proofs::Ascending::none))]
+fn of_one<L: Ledger>(
+    alloc: Global,
+    tree: &ListTree,
+    home: &Home,
+    change: Change<'_>,
+    blank: Blank,
+) -> Result<Vec<Draft>, AllocError>
+    requires name { blank.name ≡ L.name }
+    requires parts { blank.parts ≡ L.parts }
+    requires some { 0 < blank.parts }
+{
+    let mut steps = Steps::<L>::new(blank);
+    notes(alloc, tree, home, &[], change, &mut steps)
+}
+
 // What a creation tells that pushes out the instance of a number, or none.
 #[tactic(auto, using(crate::proofs::Ascending::none, crate::proofs::Ascending::one))]
 fn of_creation(
@@ -114,7 +135,7 @@ fn of_creation(
     pushed: Option<u64>,
 ) -> Result<Vec<Draft>, AllocError> {
     let Some(number) = pushed else {
-        return notes(alloc, tree, home, &[], Change::Created(new));
+        return of_one::<Brand>(alloc, tree, home, Change::Created(new), Blank::new(1));
     };
     let pushed = [number];
     let changes = Changes::of_creation(tree, new, &pushed);

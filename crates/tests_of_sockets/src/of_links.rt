@@ -70,6 +70,14 @@ where
     Ok(TcpLink::new(Log::new(rt, alloc, LogLevel::Nothing)?))
 }
 
+/// A link that waits little, and says nothing of what fails.
+fn an_impatient_link<R>(rt: R, alloc: Global) -> Result<TcpLink<R>, AllocError>
+where
+    R: Net<Listener = TcpListener, Stream = TcpStream> + Clock + Eprint + Copy,
+{
+    Ok(TcpLink::impatient(Log::new(rt, alloc, LogLevel::Nothing)?))
+}
+
 /// What an exchange with a host gives.
 fn answer_of<L: Link>(alloc: Global, link: &mut L, host: &str) -> Result<Vec<u8>, LinkFault> {
     let mut answer = Vec::new(alloc);
@@ -202,5 +210,100 @@ fn a_peer_that_says_nothing_is_given_up(rt: HostRuntime) -> Result<(), Fail> {
     assert_eq!(rt; answer_of(alloc, &mut link, &host), Err(LinkFault::Failed));
     let taken = rt.monotonic()?.saturating_sub(begun).as_secs();
     assert!(rt; (4..=6).contains(&taken), "{taken} seconds");
+    Ok(())
+}
+
+/// How long an exchange takes, in milliseconds.
+fn millis_of<R: Clock, L: Link>(
+    rt: &R,
+    alloc: Global,
+    link: &mut L,
+    host: &str,
+) -> io::Result<u128> {
+    let begun = rt.monotonic()?;
+    let _ = answer_of(alloc, link, host);
+    Ok(rt.monotonic()?.saturating_sub(begun).as_millis())
+}
+
+#[test]
+fn an_impatient_link_is_held_up_once_and_not_for_long(rt: HostRuntime) -> Result<(), Fail> {
+    let alloc = rt.alloc();
+    let millis = AtomicU64::new(0);
+    let timed = Timed {
+        rt,
+        millis: &millis,
+    };
+    let listener = TcpListener::bind(&rt, "127.0.0.1:0")?;
+    listener.set_nonblocking(true)?;
+    let host = format!(in alloc; "127.0.0.1:{}", listener.local_addr()?.port())?;
+    let mut link = an_impatient_link(timed, alloc)?;
+    let first = millis_of(&rt, alloc, &mut link, &host)?;
+    assert!(rt; (1_000..2_000).contains(&first), "{first} milliseconds");
+    let second = millis_of(&rt, alloc, &mut link, &host)?;
+    assert!(rt; second < 500, "{second} milliseconds");
+    millis.store(5_000, Ordering::SeqCst);
+    let third = millis_of(&rt, alloc, &mut link, &host)?;
+    assert!(rt; third < 500, "{third} milliseconds");
+    let were_sent = listener.accept().is_ok() && listener.accept().is_ok();
+    assert!(rt;
+        were_sent && listener.accept().is_err(),
+        "two of three were sent"
+    );
+    Ok(())
+}
+
+#[test]
+fn an_answer_that_never_came_long_ago_keeps_nothing_back(rt: HostRuntime) -> Result<(), Fail> {
+    let alloc = rt.alloc();
+    let millis = AtomicU64::new(0);
+    let timed = Timed {
+        rt,
+        millis: &millis,
+    };
+    let listener = TcpListener::bind(&rt, "127.0.0.1:0")?;
+    listener.set_nonblocking(true)?;
+    let host = format!(in alloc; "127.0.0.1:{}", listener.local_addr()?.port())?;
+    let mut link = an_impatient_link(timed, alloc)?;
+    assert_eq!(rt; answer_of(alloc, &mut link, &host), Err(LinkFault::Failed));
+    millis.store(15_000, Ordering::SeqCst);
+    assert_eq!(rt; answer_of(alloc, &mut link, &host), Err(LinkFault::Failed));
+    let were_sent = listener.accept().is_ok() && listener.accept().is_ok();
+    assert!(rt; were_sent, "both were sent");
+    Ok(())
+}
+
+/// Lets a client in late, and answers it; and then another one.
+fn answers_late<R: Clock>(rt: &R, listener: &TcpListener, pieces: &[&[u8]]) -> io::Result<bool> {
+    thread::sleep(rt, Duration::from_secs(2));
+    answers(rt, listener, pieces, false)?;
+    answers(rt, listener, pieces, true)
+}
+
+/// What an exchange with a host gives, and another one a while later.
+fn answers_of<R: Clock, L: Link>(
+    rt: &R,
+    alloc: Global,
+    link: &mut L,
+    host: &str,
+) -> (Result<Vec<u8>, LinkFault>, Result<Vec<u8>, LinkFault>) {
+    let first = answer_of(alloc, link, host);
+    thread::sleep(rt, Duration::from_secs(2));
+    (first, answer_of(alloc, link, host))
+}
+
+#[test]
+fn who_answers_an_impatient_link_late_has_not_failed(rt: HostRuntime) -> Result<(), Fail> {
+    let alloc = rt.alloc();
+    let listener = TcpListener::bind(&rt, "127.0.0.1:0")?;
+    let host = format!(in alloc; "127.0.0.1:{}", listener.local_addr()?.port())?;
+    let mut link = an_impatient_link(rt, alloc)?;
+    let bare = [b"HTTP/1.1 204 No Content\r\n\r\n".as_slice()];
+    let (came, ended) = join(
+        &rt,
+        || answers_of(&rt, alloc, &mut link, &host),
+        || answers_late(&rt, &listener, &bare),
+    );
+    assert_eq!(rt; came.0, Err(LinkFault::Failed));
+    assert!(rt; came.1.is_ok() && ended?);
     Ok(())
 }

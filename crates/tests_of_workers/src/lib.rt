@@ -1,8 +1,12 @@
 //! The tests of a server with several workers: clients in memory beside each other at one entity,
-//! one that waits for what is sent beside it, and one over the loopback in a thread of its own. Which connections are served, and how a server
-//! ends, stands in the cases. Without its tests this library is empty, and no crate stands on it.
+//! one whose request goes on to another CSE while another client is served, one that waits for what
+//! is sent beside it, and one over the loopback in a thread of its own. Which connections are
+//! served, and how a server ends, stands in the cases. Without its tests this library is empty, and
+//! no crate stands on it.
 #![tactic(auto)]
 
+#[cfg(test)]
+mod of_forwarding;
 #[cfg(test)]
 mod of_sending;
 #[cfg(test)]

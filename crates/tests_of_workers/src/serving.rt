@@ -62,6 +62,30 @@ fn three_benches(
     ]?)
 }
 
+/// Serves the connections of a door with these words and benches, and tells how it ended.
+pub fn serve_over<R, D, L>(
+    rt: &R,
+    alloc: Global,
+    words: &[&str],
+    door: D,
+    first: &mut Bench<MemClock, L>,
+    benches: Vec<Bench<MemClock, L>>,
+) -> Result<Status, AllocError>
+where
+    R: Wait + Threads + time::Clock + Clone + Drop + Sync + Send,
+    D: Door + Send + Drop,
+    L: Link + Send + Drop,
+    requires { 2 ≤ vec_len benches }
+{
+    let mut input = MemSource::new(Vec::new(alloc), Vec::new(alloc), Vec::new(alloc));
+    let mut out = MemSink::new(Vec::new(alloc), Vec::new(alloc));
+    let mut err = MemSink::new(Vec::new(alloc), Vec::new(alloc));
+    let (status, _) = run(
+        rt, alloc, words, &mut input, &mut out, &mut err, door, first, benches,
+    );
+    Ok(status)
+}
+
 /// Serves the connections of a door with these words and this first bench, and tells how it ended.
 /// The links of the other benches count here.
 pub fn serve_at<R, D>(
@@ -76,14 +100,7 @@ where
     R: Wait + Threads + time::Clock + Clone + Drop + Sync + Send,
     D: Door + Send + Drop,
 {
-    let mut input = MemSource::new(Vec::new(alloc), Vec::new(alloc), Vec::new(alloc));
-    let mut out = MemSink::new(Vec::new(alloc), Vec::new(alloc));
-    let mut err = MemSink::new(Vec::new(alloc), Vec::new(alloc));
-    let benches = three_benches(alloc, sent)?;
-    let (status, _) = run(
-        rt, alloc, words, &mut input, &mut out, &mut err, door, first, benches,
-    );
-    Ok(status)
+    serve_over(rt, alloc, words, door, first, three_benches(alloc, sent)?)
 }
 
 /// Serves the connections of a door with these words, and tells how it ended.

@@ -20,7 +20,7 @@ created_content-requires g c =
 pub returns-clause-may : goal.returns-clause-may
 returns-clause-may g c =
     let made : Creation = creation_for c.args.entity.now c.args.originator.now c.args.create.now in
-    let joins : MayJoin made.e (new_resource made) (container_update_of made) = may_join made c.requires.sound c.requires.originator c.entries-entries.ensures.sorted c.requires.allowed in
+    let joins : MayJoin made.e (new_resource made) (container_update_of made) = may_join made c.requires.sound c.requires.originator c.requires.allowed in
     subst (λ (r : ResourceData). MayJoin made.e r c.in_ok-update.update) (sym c.in_ok-resource.ensures)
     (subst (λ (f : Option ContainerUpdate). MayJoin made.e (new_resource made) f) (sym (c.in_ok-update.ensures c.args.originator.now)) joins)
 

@@ -1,10 +1,8 @@
-use Rattle.std.proofs.Common.{◌≡◌, Some, ◌∙◌, subst}
-use Rattle.m2m_names.specs.declared.types.Ty.{Ty}
-use Rattle.attribute_rules.specs.Admission.{attributes_in}
+use Rattle.std.proofs.Common.{◌≡◌, Some, sym, ap, ◌∙◌}
 use Rattle.request_rules.specs.Groups.{group_rows, membership_edited}
 use Rattle.request_rules.specs.Judged.{IsUpdateOf}
 use Rattle.request_rules.specs.Requests.{content_for}
-use Rattle.request_rules.proofs.EditingLemmas.{content_names, edit_refused}
+use Rattle.request_rules.proofs.EditingLemmas.{edit_refused}
 use Rattle.request_rules.proofs.JudgedLemmas.{judges_refused}
 use Rattle.request_rules.proofs.judging.judge_edit.Goals as goal
 
@@ -13,8 +11,7 @@ returns-in-Err g c =
     let e = c.args.entity.now in
     let target = c.args.target.now in
     let named = c.in-Some.named.now in
-    let inside : attributes_in target.ty c.in-Some.content.now ≡ Some named = subst (λ (t : Ty). attributes_in t c.in-Some.content.now ≡ Some named) c.ty.ensures c.in-Some.ensures.found.1 in
-    let names : content_for c.args.request.now target.ty ≡ Some named = content_names c.args.request.now target.ty c.in-Some.content.now named c.in-Some.ensures.found.0 inside in
+    let names : content_for c.args.request.now target.ty ≡ Some named = ap (content_for c.args.request.now) (sym c.ty.ensures) ∙ sym c.in-Some.ensures in
     judges_refused c.in-Err.refusal _ _ (λ rows. rows.items ≡ group_rows e (membership_edited target named)) (IsUpdateOf e c.args.request.now target.number)
     (edit_refused e c.args.originator.now c.args.request.now target named names)
     c.in-Err.ensures
@@ -23,15 +20,13 @@ pub returns-in-Ok : goal.returns-in-Ok
 returns-in-Ok g c =
     let target = c.args.target.now in
     let named = c.in-Some.named.now in
-    let inside : attributes_in target.ty c.in-Some.content.now ≡ Some named = subst (λ (t : Ty). attributes_in t c.in-Some.content.now ≡ Some named) c.ty.ensures c.in-Some.ensures.found.1 in
-    let names : content_for c.args.request.now target.ty ≡ Some named = content_names c.args.request.now target.ty c.in-Some.content.now named c.in-Some.ensures.found.0 inside in (
+    let names : content_for c.args.request.now target.ty ≡ Some named = ap (content_for c.args.request.now) (sym c.ty.ensures) ∙ sym c.in-Some.ensures in (
       edit_refused c.args.entity.now c.args.originator.now c.args.request.now target named names
           ∙ c.in-Ok.ensures.0,
       record {
         sound = c.requires.sound;
         target = c.requires.stands;
-        content = c.in-Some.ensures.found.0;
-        named = inside;
+        named = names;
         members = c.in-Ok.ensures.1;
       },
     )

@@ -1,12 +1,20 @@
-use Rattle.std.proofs.Common.{◌≡◌, ◌++◌}
+use Rattle.std.proofs.Common.{◌≡◌, ◌+◌, ◌≤◌, ◌++◌, filter, length}
 use Rattle.std.specs.List.{filter_map}
 use Rattle.tree_model.specs.Changes.{change_of}
-use Rattle.subscription_match.specs.Notices.{told, told_to_all}
+use Rattle.subscription_match.specs.Matching.{is_sub_of_either, own_of}
+use Rattle.subscription_match.specs.Notices.{told}
 use Rattle.subscription_match.proofs.noting.add_told.Given as goal
 
--- what was told so far and what those are told that are left are what all are told
-abbrev pub invariant-loop-sub : goal.invariant-loop-sub
-invariant-loop-sub g l =
+-- what was told so far and what those are told that are left are what all are told, and each that
+-- was taken has cost one step
+abbrev pub invariant-subs : goal.invariant-subs
+invariant-subs g l =
     let nodes = g.T.Tree.nodes l.tree in
-    l.drafts.items ++ filter_map (told l.home nodes l.going (change_of l.change)) l.sub-iterator
-    ≡ l.fn.drafts.items ++ told_to_all l.home nodes l.going (change_of l.change)
+    let all = filter (is_sub_of_either (own_of (change_of l.change)) l.fn.above) nodes in
+    (l.drafts.items ++ filter_map (told l.home nodes l.going (change_of l.change)) l.subs
+    ≡ l.fn.drafts.items ++ filter_map (told l.home nodes l.going (change_of l.change)) all)
+    × (l.fn.steps ≤ l.steps)
+    × (l.steps + length l.subs ≤ l.fn.steps + length all + 2)
+
+abbrev pub decreases-subs : goal.decreases-subs
+decreases-subs g l = length l.subs

@@ -1,12 +1,4 @@
-use Rattle.std.proofs.Common.{◌≡◌, ◌++◌}
-use Rattle.subscription_match.specs.Matching.{AreHeard}
-use Rattle.subscription_match.specs.Notices.{notes_of_all}
 use Rattle.subscription_match.proofs.noting.all_notes.Given as goal
 
--- what was told so far and what is told of the changes that are left are what is told of all
-abbrev pub invariant-loop-change : goal.invariant-loop-change
-invariant-loop-change g l =
-    let nodes = g.T.Tree.nodes l.tree in
-    (l.drafts.items ++ notes_of_all l.home nodes l.going l.change-iterator
-    ≡ notes_of_all l.home nodes l.going l.fn.changes)
-    × AreHeard l.going nodes l.heard.entries
+abbrev pub ghosts-notes_by : goal.ghosts-notes_by
+ghosts-notes_by g a = record { name = a.blank.name; parts = a.blank.parts }

@@ -5,8 +5,8 @@ use Rattle.subscription_match.specs.Watching.{by_number, subs_under}
 use Rattle.subscription_match.proofs.WatchingLemmas.{watched_by}
 use Rattle.subscription_match.proofs.watching.over_watching.Goals as goal
 
-pub returns : goal.returns
-returns g c =
+pub returns-clause-all : goal.returns-clause-all
+returns-clause-all g c =
     let nodes = g.T.Tree.nodes c.args.tree.now in
     let tree = subst (λ (o : Option ℕ). IfSome o (λ _. is_tree nodes ≡ true)) c.unless_same.ensures c.of-2.ensures.tree in
     ap (λ (rs : List ResourceData). by_number rs c.of-2.result) c.of.ensures.all

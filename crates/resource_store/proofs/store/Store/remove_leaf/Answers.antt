@@ -6,31 +6,25 @@ use Rattle.tree_model.specs.Tree.{children_of, has, without}
 use Rattle.resource_store.specs.Store.{resources_of}
 use Rattle.resource_store.proofs.StoreLemmas.{count_left, none_removed, removed_store, removed_view}
 use Rattle.resource_store.proofs.store.Store.remove_leaf.Goals as goal
-use Rattle.resource_store.proofs.store.Store.remove_leaf.Goals.{in-Some-1, in-None-1}
 
 pub overflow_sub-self : goal.overflow_sub-self
 overflow_sub-self c =
-    let some : get nat_eq c.self.inside.resources c.args.number ≡ Some c.in-Some.field-0 = sym c.in-Some.ensures.value in
-    let more = count_left c.self.inside.resources c.remove.new.self c.self.inside.order.items c.self.inside.count c.args.number c.in-Some.field-0 c.self.invariant.store c.remove.ensures.updates.0 some in
+    let some : get nat_eq c.self.inside.resources c.args.number ≡ Some c.in-Some.resource = sym c.in-Some.ensures.value in
+    let more = count_left c.self.inside.resources c.remove.new.self c.self.inside.order.items c.self.inside.count c.args.number c.in-Some.resource c.self.invariant.store c.remove.ensures.updates.0 some in
     omega (arith, more)
 
 pub invariant_of-self : goal.invariant_of-self
 invariant_of-self c =
-    let some : get nat_eq c.self.inside.resources c.args.number ≡ Some c.in-Some.field-0 = sym c.in-Some.ensures.value in
-    let more = count_left c.self.inside.resources c.remove.new.self c.self.inside.order.items c.self.inside.count c.args.number c.in-Some.field-0 c.self.invariant.store c.remove.ensures.updates.0 some in
+    let some : get nat_eq c.self.inside.resources c.args.number ≡ Some c.in-Some.resource = sym c.in-Some.ensures.value in
+    let more = count_left c.self.inside.resources c.remove.new.self c.self.inside.order.items c.self.inside.count c.args.number c.in-Some.resource c.self.invariant.store c.remove.ensures.updates.0 some in
     let alone : children_of c.args.number (resources_of c.self.inside.order.items c.self.inside.resources) ≡ [] = ap (children_of c.args.number) c.self.view_is ∙ c.requires in
-    removed_store c.self.inside.resources c.remove.new.self c.self.inside.order.items c.let_gaps_go.new.order.items c.self.inside.count c.args.number (c.self.inside.count - 1) c.self.invariant c.remove.ensures.updates.0 alone c.in-Some.field-0 some (omega (arith, more)) c.let_gaps_go.ensures
+    removed_store c.self.inside.resources c.remove.new.self c.self.inside.order.items c.let_gaps_go.new.order.items c.self.inside.count c.args.number (c.self.inside.count - 1) c.self.invariant c.remove.ensures.updates.0 alone c.in-Some.resource some (omega (arith, more)) c.let_gaps_go.ensures
 
 pub returns-in-Some : goal.returns-in-Some
 returns-in-Some c =
     let alone : children_of c.args.number (resources_of c.self.inside.order.items c.self.inside.resources) ≡ [] = ap (children_of c.args.number) c.self.view_is ∙ c.requires in
-    let done : resources_of c.let_gaps_go.new.order.items c.remove.new.self ≡ without (has_number c.args.number) c.args.self.now =
     removed_view c.self.inside.resources c.remove.new.self c.self.inside.order.items c.let_gaps_go.new.order.items c.self.inside.count c.args.number (c.self.inside.count - 1) c.self.invariant c.remove.ensures.updates.0 alone c.let_gaps_go.ensures
-    ∙ ap (without (has_number c.args.number)) c.self.view_is in
-    elim c.match-remove-2.branch [
-      | in-Some-1 w ↦ w.self-is ∙ done
-      | in-None-1 w ↦ w.self-is ∙ done
-    ]
+    ∙ ap (without (has_number c.args.number)) c.self.view_is
 
 pub returns-in_default : goal.returns-in_default
 returns-in_default c =

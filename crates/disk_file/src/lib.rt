@@ -1,0 +1,26 @@
+//! A file of the system that outlives the program, as the crate kept_file has it.
+//!
+//! `DiskFile::open` takes a lock on the file, so that no second program has it, and sees to it that
+//! what is read of it is what stands on the disk: it syncs the file and its folder, and has the
+//! system drop the pages that it holds of it. Where there is no file of that name, it makes one with
+//! the bytes that it is given, under another name first, so that a crash leaves none or a whole one.
+//! `DiskFile::replace` puts such a file in the place of one that is there.
+//!
+//! A file of the system tells nothing: what is said of crashes in kept_file is supposed of it and
+//! not proved. It is supposed that a crash leaves each byte outside of the places that were written
+//! since the last sync, that a rename is kept whole or not at all, and that no other program writes
+//! to the file.
+//!
+//! ```text
+//! let mut file = DiskFile::open(rt, "journal", b"{}\n\n")?; // or why not: another program has it
+//! file.write_at(3, b"\n")?;
+//! file.sync()?;
+//! ```
+#![tactic(auto)]
+
+mod fault;
+mod file;
+mod opening;
+
+pub use fault::OpenFault;
+pub use file::DiskFile;

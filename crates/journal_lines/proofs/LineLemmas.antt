@@ -1,0 +1,201 @@
+-- The lines of a deed are read back as it.
+use Rattle.std.proofs.Common.{◌≡◌, ℕ, zero, suc, ◌+◌, ◌^◌, ◌==◌, ◌<◌, ◌≤◌, nat_le, nat_lt, List, [], ◌∷◌, ◌++◌, length, take, drop, Bool, true, false, not, ◌&&◌, cond, if◌then◌else◌, Option, Some, None, option_map, option_and_then, Result, Ok, Err, IfSome, is_none, is_some, inl, inr, decimal, refl, sym, ap, ◌∙◌, subst, arith, append_assoc, length-append, lt-ltb, le-leb}
+use Rattle.std.proofs.lemmas.Bool.{and_from, and_parts, cases_Bool, leb-true, ltb-true}
+use Rattle.std.proofs.lemmas.Bool.Decides.{nat_tests}
+use Rattle.std.proofs.lemmas.Fmt.{digits_decimal, digits_value-decimal, decimal_nonempty, length-decimal-le}
+use Rattle.std.proofs.lemmas.List.{take_at, drop_at}
+use Rattle.std.proofs.lemmas.Option.{cond_some}
+use Rattle.std.specs.Char.{is_ascii_digit}
+use Rattle.std.specs.List.{list_all}
+use Rattle.std.specs.Option.{option_map_or}
+use Rattle.std.specs.Result.{result_ok}
+use Rattle.std.specs.Str.Parse.{digits_value}
+use Rattle.m2m_names.proofs.NumeralLemmas.{own}
+use Rattle.m2m_names.specs.Name.{is_filled, is_numeral, is_originator}
+use Rattle.m2m_value.specs.Data.{Data, depth}
+use Rattle.m2m_value.specs.Reading.{reading, reading_depth}
+use Rattle.m2m_value.specs.Spelling.{text_of}
+use Rattle.primitive_json.proofs.RoundTrip.{request_back}
+use Rattle.primitive_json.specs.Form.{has_form, has_no_more}
+use Rattle.primitive_json.specs.Kinds.{number_spelled, numeral_limit, target_limit}
+use Rattle.primitive_json.specs.Reading.{read_request}
+use Rattle.primitive_json.specs.Laws.{HasShortExpiry, IsOfKinds, IsShortWhen, IsWhenOfKind}
+use Rattle.primitive_json.specs.Writing.{written_request}
+use Rattle.primitive_json.specs.declared.request.RequestParts.{RequestParts}
+use Rattle.primitive_json.specs.declared.request.When.{When}
+use Rattle.primitive_json.specs.declared.request.When.TheVariants.{At, Millis}
+use Rattle.filter_criteria.specs.Laws.{IsFilterOfKinds}
+use Rattle.filter_criteria.specs.declared.filter.FilterParts.{FilterParts}
+use Rattle.journal_lines.specs.Keeping.{can_be_kept, is_of_kinds, is_shallow, is_short_when, kept_value}
+use Rattle.journal_lines.specs.Lines.{IsReadBack, behind_line, deed_at, deed_in, deed_len, deed_of, ended, first_deed, first_line, has_line, is_inner, line_len, lines_of, moment_bound, moment_line, moment_of, word_of}
+use Rattle.journal_lines.specs.declared.deed.Deed.{Deed}
+use Rattle.journal_lines.specs.declared.deed.Deed.TheVariants.{Ask, Take, Tick}
+use Rattle.journal_lines.specs.declared.deed.Dated.{Dated}
+use Rattle.journal_lines.proofs.InnerLemmas.{inner_append, inner_decimal, inner_text}
+
+-- ---- lines
+
+no_end : (b : ℕ) → is_inner b ≡ true → b == 10 ≡ false
+no_end b inner = let big : 32 ≤ b = leb-true 32 b inner in grind (arith, nat_tests)
+
+-- the first line of a line with its end, whatever stands behind it
+line_then : (line behind : List ℕ) → list_all is_inner line ≡ true → line_len (line ++ 10 ∷ behind) ≡ length line
+line_then [] behind inner = refl
+line_then (b ∷ line) behind inner =
+    let parts = and_parts (is_inner b) _ inner in
+    rw (no_end b parts.0) (omega (arith, line_then line behind parts.1))
+
+module _ (line behind : List ℕ) (inner : list_all is_inner line ≡ true) where
+  abbrev text : List ℕ
+  text = line ++ 10 ∷ behind
+
+  pub first_then : first_line text ≡ line
+  first_then = ap (λ n. take n text) (line_then line behind inner) ∙ take_at line (10 ∷ behind) (length line) refl
+
+  pub behind_then : behind_line text ≡ behind
+  behind_then =
+      let size : length (line ++ 10 ∷ []) ≡ length line + 1 = length-append line (10 ∷ []) in
+      ap (λ n. drop (n + 1) text) (line_then line behind inner)
+      ∙ ap (λ (l : List ℕ). drop (length line + 1) l) (sym (append_assoc line (10 ∷ []) behind))
+      ∙ drop_at (line ++ 10 ∷ []) behind (length line + 1) size
+
+  pub has_then : has_line text ≡ true
+  has_then = lt-ltb _ _ (omega (arith, line_then line behind inner, length-append line (10 ∷ behind)))
+
+-- ---- words
+
+pub inner_word : (deed : Deed) → list_all is_inner (word_of deed) ≡ true
+inner_word (Ask request) = inner_text (written_request request)
+inner_word Take = refl
+inner_word Tick = refl
+
+pub inner_moment : (moment : ℕ) → list_all is_inner (moment_line moment) ≡ true
+inner_moment moment = inner_decimal moment
+
+filled : (n : ℕ) → n < 10 ^ 18 → is_filled 18 (decimal n) ≡ true
+filled n short =
+    let small : n < 2 ^ 64 = omega (arith, short) in
+    rw (lt-ltb _ _ (decimal_nonempty n small), le-leb _ _ (length-decimal-le 18 n (omega arith) short small)) refl
+
+numeral : (n : ℕ) → n < 10 ^ 18 → is_numeral (decimal n) ≡ true
+numeral n short =
+    let small : n < 2 ^ 64 = omega (arith, short) in
+    let all : list_all is_ascii_digit (decimal n) ≡ true = digits_decimal own n small in
+    rw (filled n short, all) refl
+
+spelled : (n : ℕ) → n < 10 ^ 18 → number_spelled (decimal n) ≡ Some n
+spelled n short =
+    let small : n < 2 ^ 64 = omega (arith, short) in
+    ap (λ b. if b then Some (digits_value 10 (decimal n)) else None) (numeral n short)
+    ∙ ap Some (digits_value-decimal own n small)
+
+moment_back : (n : ℕ) → n < moment_bound → moment_of (moment_line n) ≡ Some n
+moment_back n short = spelled n short
+
+-- ---- deeds
+
+deed_back : (moment : ℕ) (deed : Deed) → moment < moment_bound → IsReadBack deed
+    → deed_in (moment_line moment) (word_of deed) ≡ Some (deed_at moment deed)
+deed_back moment deed short back =
+    ap (λ m. option_and_then (λ n. option_map (deed_at n) (deed_of (word_of deed))) m) (moment_back moment short)
+    ∙ ap (option_map (deed_at moment)) back
+
+module _ (moment : ℕ) (deed : Deed) (behind : List ℕ) (short : moment < moment_bound) (back : IsReadBack deed) where
+  abbrev whole : List ℕ
+  whole = lines_of moment deed ++ behind
+
+  abbrev second : List ℕ
+  second = word_of deed ++ 10 ∷ behind
+
+  apart : whole ≡ moment_line moment ++ 10 ∷ second
+  apart =
+      append_assoc (ended (moment_line moment)) (ended (word_of deed)) behind
+      ∙ append_assoc (moment_line moment) (10 ∷ []) (ended (word_of deed) ++ behind)
+      ∙ ap (λ (l : List ℕ). moment_line moment ++ 10 ∷ l) (append_assoc (word_of deed) (10 ∷ []) behind)
+
+  of_apart : first_deed (moment_line moment ++ 10 ∷ second) ≡ Some (deed_at moment deed)
+  of_apart =
+      rw (
+        has_then (moment_line moment) second (inner_moment moment),
+        behind_then (moment_line moment) second (inner_moment moment),
+        has_then (word_of deed) behind (inner_word deed),
+        first_then (moment_line moment) second (inner_moment moment),
+        first_then (word_of deed) behind (inner_word deed),
+      )
+      (deed_back moment deed short back)
+
+  len_apart : deed_len (moment_line moment ++ 10 ∷ second) ≡ length (moment_line moment) + 1 + (length (word_of deed) + 1)
+  len_apart =
+      rw (
+        behind_then (moment_line moment) second (inner_moment moment),
+        line_then (moment_line moment) second (inner_moment moment),
+        line_then (word_of deed) behind (inner_word deed),
+      ) refl
+
+  len_whole : length (lines_of moment deed) ≡ length (moment_line moment) + 1 + (length (word_of deed) + 1)
+  len_whole = omega (
+    arith,
+    length-append (ended (moment_line moment)) (ended (word_of deed)),
+    length-append (moment_line moment) (10 ∷ []),
+    length-append (word_of deed) (10 ∷ []),
+  )
+
+  pub deeds_back : (first_deed whole ≡ Some (deed_at moment deed)) × (deed_len whole ≡ length (lines_of moment deed))
+  deeds_back = (ap first_deed apart ∙ of_apart, ap deed_len apart ∙ len_apart ∙ sym len_whole)
+
+-- ---- requests that can be kept
+
+when_kind : (when : When) → is_short_when when ≡ true → IsWhenOfKind when × IsShortWhen when
+when_kind (At at) short = (leb-true _ _ short, tt)
+when_kind (Millis n) short = (tt, ltb-true _ _ short)
+
+expiry_kind : (o : Option When) → option_map_or is_short_when o true ≡ true → IfSome o IsWhenOfKind × IfSome o IsShortWhen
+expiry_kind None short = (tt, tt)
+expiry_kind (Some when) short = when_kind when short
+
+originator_kind : (o : Option (List ℕ)) → option_map_or is_originator o true ≡ true → IfSome o (λ s. is_originator s ≡ true)
+originator_kind None graphic = tt
+originator_kind (Some s) graphic = graphic
+
+no_filter : (o : Option FilterParts) → is_none o ≡ true → IfSome o IsFilterOfKinds
+no_filter None none = tt
+no_filter (Some f) none = absurd cc
+
+-- each is of its kinds, and says by few digits when it expires
+pub kept_kinds : (r : RequestParts) → is_of_kinds r ≡ true → IsOfKinds r × HasShortExpiry r
+kept_kinds r kept =
+    let o1 = option_map_or is_originator r.fr true in
+    let o2 = option_map_or is_short_when r.rqet true in
+    let f = and_parts (has_form r && has_no_more r && is_filled target_limit r.to && o1 && o2) (is_none r.fc) kept in
+    let e = and_parts (has_form r && has_no_more r && is_filled target_limit r.to && o1) o2 f.0 in
+    let d = and_parts (has_form r && has_no_more r && is_filled target_limit r.to) o1 e.0 in
+    let c = and_parts (has_form r && has_no_more r) (is_filled target_limit r.to) d.0 in
+    let b = and_parts (has_form r) (has_no_more r) c.0 in
+    let when = expiry_kind r.rqet e.1 in
+    (record { form = b.0; no_more = b.1; to = c.1; fr = originator_kind r.fr d.1; rqet = when.0; fc = no_filter r.fc f.1 }, when.1)
+
+-- what is written of one that can be kept is read as it, where its text is read as its value
+pub kept_back : (r : RequestParts) → is_of_kinds r ≡ true
+    → reading (text_of (written_request r)) ≡ Ok (written_request r) → IsReadBack (Ask r)
+kept_back r kept back =
+    let kinds = kept_kinds r kept in
+    ap (λ d. option_map Ask (option_and_then (λ v. result_ok (read_request v)) (result_ok d))) back
+    ∙ ap (λ d. option_map Ask (result_ok d)) (request_back r kinds.0 kinds.1)
+
+-- what is written of one that can be kept is there, and else nothing
+pub kept_some : (r : RequestParts) → is_some (kept_value r) ≡ can_be_kept r
+kept_some r = elim (cases_Bool (can_be_kept r)) [
+  | inl t ↦ rw t refl
+  | inr f ↦ rw f refl
+]
+
+pub kept_if : (r : RequestParts) (d : Data) → kept_value r ≡ Some d → (can_be_kept r ≡ true) × (d ≡ written_request r)
+kept_if r d some = let parts = cond_some (can_be_kept r) (written_request r) d some in (parts.0, sym parts.1)
+
+pub kept_reads : (r : RequestParts) (d : Data) → kept_value r ≡ Some d
+    → (depth d ≤ reading_depth → reading (text_of d) ≡ Ok d) → IsReadBack (Ask r)
+kept_reads r d some back =
+    let k = kept_if r d some in
+    let parts = and_parts (is_of_kinds r) (is_shallow r) k.0 in
+    let deep : depth d ≤ reading_depth = subst (λ v. depth v ≤ reading_depth) (sym k.1) (leb-true _ _ parts.1) in
+    kept_back r parts.0 (subst (λ v. reading (text_of v) ≡ Ok v) k.1 (back deep))

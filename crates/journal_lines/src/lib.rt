@@ -1,0 +1,31 @@
+//! The lines of a journal: what was done at a CSE, each at its moment, as text.
+//!
+//! A deed is a request, the taking of an item from the outbox, or an expiry. It has two lines: `@`
+//! and its moment, and a word: the request as a primitive (TS-0004, 8.2), `take` or `tick`
+//! (specs/Lines). No byte below 32 stands inside a line, and what is written of a deed is read back
+//! as it. A request of which that isn't so, as its content is too deep or its expiry too long, is
+//! told apart before anything of it is written.
+//!
+//! `first_deed` reads the two lines at the front of a text and tells how many bytes they have. It
+//! gives none where they are no such lines; callers then name the line.
+//!
+//! ```text
+//! push_request(alloc, &mut text, 1_700_000_000, &request)?; // @1700000000 and the primitive
+//! push_take(alloc, &mut text, 1_700_000_001)?; // @1700000001 and `take`
+//! let (dated, len) = first_deed(alloc, &mut scratch, &text)?;
+//! ```
+#![tactic(auto)]
+
+mod deed;
+mod keeping;
+mod laws;
+mod reading;
+mod shallow;
+mod writing;
+
+pub use deed::{Dated, Deed};
+pub use keeping::can_be_kept;
+pub use laws::{deeds_are_read_back, lines_have_one_end};
+pub use reading::first_deed;
+pub use std::alloc::AllocError as OutOfMemory;
+pub use writing::{LineFault, push_request, push_take, push_tick};

@@ -1,0 +1,3 @@
+pub mod Crashes
+pub mod FileFault
+pub mod Memory

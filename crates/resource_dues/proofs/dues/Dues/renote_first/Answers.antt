@@ -1,7 +1,0 @@
-use Rattle.std.proofs.Common.{sym, ◌∙◌}
-use Rattle.resource_dues.proofs.DuesLemmas.{told_anew}
-use Rattle.resource_dues.proofs.dues.Dues.renote_first.Goals as goal
-
-pub returns : goal.returns
-returns c told =
-    told_anew c.args.list.now c.args.self.now c.pop.new.self c.note.new.self (c.in-Some.at, c.in-Some.number) c.due_of-due_at.result (sym c.first.ensures ∙ c.in-Some.is) c.due_of-due_at.ensures c.pop.ensures.whole c.pop.ensures.kept c.note.ensures.whole c.note.ensures.kept c.note.ensures.noted told

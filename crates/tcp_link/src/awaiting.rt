@@ -1,0 +1,166 @@
+//! Answers that are awaited beside other exchanges.
+ghost use Rattle.std.specs.Prelude.{◌≡◌, min, nat_le};
+ghost use Rattle.tcp_link.specs.Failing.{later};
+
+use crate::answering::PATIENCE;
+use crate::connecting::Place;
+use std::alloc::{AllocError as OutOfMemory, Global};
+use std::io::{ErrorKind, Read};
+use std::net::TcpStream;
+
+/// At most so many answers of one destination are awaited,
+const MOST_OF_ONE: usize = 8;
+
+/// and so many of all.
+const MOST_AWAITED: usize = 256;
+
+/// So many bytes of an answer are read, whose first says that it came.
+const PIECE: usize = 1_024;
+
+/// What has come of a request that was sent.
+#[derive(Clone, Copy, Debug, PartialEq, Eq)]
+pub(crate) enum Fate {
+    /// Nothing yet.
+    Open,
+    /// Its answer.
+    Answered,
+    /// Nothing, and it isn't waited for any longer.
+    Failed,
+}
+
+/// A request that was sent, and not answered yet when it was looked at last.
+#[derive(Debug, Drop)]
+pub(crate) struct Awaited {
+    name: String,
+    port: u16,
+    stream: TcpStream,
+    /// The moment from which on its answer is awaited, in milliseconds.
+    since: u64,
+    fate: Fate,
+}
+
+impl Awaited {
+    /// An answer of this place that is awaited from this moment on.
+    fn new(
+        alloc: Global,
+        place: Place,
+        stream: TcpStream,
+        since: u64,
+    ) -> Result<Self, OutOfMemory> {
+        Ok(Awaited {
+            name: String::from_str(alloc, place.name)?,
+            port: place.port,
+            stream,
+            since,
+            fate: Fate::Open,
+        })
+    }
+
+    /// The place that was asked.
+    pub(crate) fn place(&self) -> Place<'_> {
+        Place {
+            name: self.name.as_str(),
+            port: self.port,
+        }
+    }
+
+    /// What has come of it.
+    pub(crate) fn fate(&self) -> Fate
+        ensures { result ≡ self.now.fate }
+    {
+        self.fate
+    }
+
+    /// Whether the other side has said nothing for too long.
+    fn is_late(&self, now: u64) -> bool
+        ensures { result ≡ nat_le (later self.now.since PATIENCE) now }
+    {
+        self.since.saturating_add(PATIENCE) <= now
+    }
+
+    /// The moment at which it failed, where it has by this one: it wasn't awaited any longer.
+    pub(crate) fn failed_at(&self, now: u64) -> u64
+        ensures { result ≡ min (later self.now.since PATIENCE) now }
+    {
+        self.since.saturating_add(PATIENCE).min(now)
+    }
+
+    /// Looks what has come of it, without waiting.
+    fn look(&mut self, now: u64) {
+        let mut buf = [0u8; PIECE];
+        self.fate = match self.stream.read(&mut buf) {
+            Ok(0) => Fate::Failed,
+            Ok(_) => Fate::Answered,
+            Err(error) if error.kind() == ErrorKind::WouldBlock && !self.is_late(now) => Fate::Open,
+            Err(_) => Fate::Failed,
+        };
+    }
+}
+
+/// The answers that are awaited, those that are awaited longest first.
+#[derive(Debug, Drop)]
+pub(crate) struct Awaiting {
+    list: Vec<Awaited>,
+}
+
+impl Awaiting {
+    /// None is awaited yet.
+    pub(crate) fn new(alloc: Global) -> Self {
+        Awaiting {
+            list: Vec::new(alloc),
+        }
+    }
+
+    /// How many answers of this place are awaited.
+    fn count_at(&self, place: Place) -> usize {
+        self.list
+            .iter()
+            .filter(|one| one.place().is_at(place))
+            .count()
+    }
+
+    /// Whether an answer of this place is awaited.
+    pub(crate) fn has(&self, place: Place) -> bool {
+        self.count_at(place) > 0
+    }
+
+    /// Whether as many answers of this place are awaited as may be.
+    pub(crate) fn is_full_at(&self, place: Place) -> bool {
+        self.count_at(place) >= MOST_OF_ONE
+    }
+
+    /// Awaits an answer of this place from this moment on, at a connection. Tells whether there is
+    /// room for it.
+    pub(crate) fn keep(
+        &mut self,
+        alloc: Global,
+        place: Place,
+        stream: TcpStream,
+        since: u64,
+    ) -> bool {
+        if self.list.len() >= MOST_AWAITED || stream.set_nonblocking(true).is_err() {
+            return false;
+        }
+        match Awaited::new(alloc, place, stream, since) {
+            Ok(one) => self.list.push(one).is_ok(),
+            Err(_) => false,
+        }
+    }
+
+    /// Looks what has come of each.
+    pub(crate) fn look(&mut self, now: u64) {
+        for one in &mut self.list {
+            one.look(now);
+        }
+    }
+
+    /// All of them.
+    pub(crate) fn all(&self) -> &[Awaited] {
+        &self.list
+    }
+
+    /// Lets those go of which something has come, or nothing will.
+    pub(crate) fn tidy(&mut self) {
+        self.list.retain(|one| one.fate == Fate::Open);
+    }
+}
