@@ -10,7 +10,7 @@ pub trait Watch<E> {
     fn may_change(&self, event: &E) -> bool;
 }
 
-/// A desk that asks the desk behind it, and signals that it did.
+/// A desk that asks the desk behind it, and signals what may have changed something.
 pub struct SignallingDesk<'a, D, W> {
     behind: &'a D,
     signal: &'a ChangeSignal,
@@ -60,8 +60,6 @@ impl<D: Desk, W: Watch<D::Event>> Desk for SignallingDesk<'_, D, W> {
         let outcome = self.behind.ask(seat, reading, event);
         if may_change {
             self.signal.raise();
-        } else {
-            self.signal.note();
         }
         outcome
     }

@@ -2,9 +2,8 @@
 //!
 //! Who is to act on changes waits at a `ChangeSignal`, for a tenth of a second at most. Those who
 //! ask an object do so at a `SignallingDesk`, which asks the desk behind it, and signals then: the
-//! wait ends at once behind an event that may change something, as a `Watch` says; any other event
-//! is noted, and is seen when the wait ends. It ends as well when it is said that nobody asks any
-//! more.
+//! wait ends at once behind an event that may change something, as a `Watch` says. It ends as well
+//! when it is said that nobody asks any more.
 //!
 //! To who asks, the desk is the one behind it: a seat is of both or of neither, and grows alike
 //! (`seats`, `grown`). Nothing is stated of the signal itself, as other threads may change it.
@@ -14,7 +13,7 @@
 //! let desk = SignallingDesk::new(&behind, &signal, watch);
 //! let outcome = desk.ask(&mut seat, reading, event); // as `behind` answers
 //! signal.end();
-//! (signal.take(), signal.wait(&rt)) // something was asked, and nobody asks any more
+//! signal.wait(&rt) // nobody asks any more
 //! ```
 #![tactic(auto)]
 

@@ -10,8 +10,6 @@ const LONGEST_WAIT: u64 = 100;
 /// A signal that something may have changed. One thread waits at it, and others give it.
 #[derive(Drop)]
 pub struct ChangeSignal {
-    /// Whether something was asked since it was looked at last.
-    noted: AtomicU64,
     /// Whether nobody asks any more.
     ended: AtomicU64,
     waiting: Parker,
@@ -21,20 +19,13 @@ impl ChangeSignal {
     /// A signal that wasn't given yet.
     pub fn new() -> ChangeSignal {
         ChangeSignal {
-            noted: AtomicU64::new(0),
             ended: AtomicU64::new(0),
             waiting: Parker::new(),
         }
     }
 
-    /// Notes that something was asked. It waits for nobody, and wakes nobody.
-    pub fn note(&self) {
-        self.noted.store(1, Ordering::SeqCst);
-    }
-
-    /// Notes that something may have changed, and ends the wait at once.
+    /// Says that something may have changed, and ends the wait at once, or the next one.
     pub fn raise(&self) {
-        self.note();
         self.waiting.unpark();
     }
 
@@ -42,11 +33,6 @@ impl ChangeSignal {
     pub fn end(&self) {
         self.ended.store(1, Ordering::SeqCst);
         self.waiting.unpark();
-    }
-
-    /// Whether something was asked since this was answered last.
-    pub fn take(&self) -> bool {
-        self.noted.swap(0, Ordering::SeqCst) > 0
     }
 
     /// Waits until something may have changed, or nobody asks any more, for a tenth of a second at

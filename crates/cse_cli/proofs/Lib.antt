@@ -4,4 +4,4 @@ mod ServeLemmas
 mod RunningLemmas
 mod TreesSent
 mod OutboxSent
-mod EntitiesSent
+pub mod EntitiesSent

@@ -92,7 +92,8 @@ where
         self.signal
     }
 
-    // What couldn't be sent for want of memory waits for the next round.
+    // Where memory runs out in sending an item, that item is let go, and what stands behind it in the
+    // outbox waits for the next round. Where it runs out in taking one, that one waits as well.
     fn run(&self, desk: &K, seat: &mut K::Seat, bench: &mut Bench<C, L>) {
         let Bench { clock, link } = bench;
         let _ = send_notes(self.alloc, desk, seat, clock, link);
@@ -103,9 +104,9 @@ where
 /// as `accept` says. Each bench but the last is a worker's, with a seat of its own that is split
 /// off this one; it takes a connection under the door's lock, which it holds for that alone, serves
 /// it by `serve_connection`, and takes the next. The last bench is the sender's, which calls
-/// `send_notes` beside the workers, at a seat of its own: as soon as a request but a Retrieve was
-/// answered, else a tenth of a second behind a Retrieve, and about once a second where nobody asks.
-/// It ends when no worker is left. No worker waits for it, and nothing is sent within a question.
+/// `send_notes` beside the workers, at a seat of its own, with a tenth of a second at most between
+/// two calls: it is called at once where a request but a Retrieve was answered. It ends when no
+/// worker is left. No worker waits for it, and nothing is sent within a question.
 /// All seats are joined into the one that comes back, with the door, and `send_notes` is called
 /// once more there, with `first`. What a connection or a call of `send_notes` ended with doesn't
 /// change the answer.

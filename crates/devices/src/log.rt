@@ -190,13 +190,6 @@ impl<R: Clock + Eprint + Copy + Drop> Log<R> {
         self.shared.writers.store(0, Ordering::SeqCst);
     }
 
-    /// Writes a line that was begun, or counts it.
-    fn write_or_count(&self, moment: u64, text: &str) {
-        if self.write_counted(moment, text).is_err() {
-            self.leave_out(1);
-        }
-    }
-
     fn now(&self) -> u64 {
         match self.rt.since_1970() {
             Ok(time) => time.as_secs(),
@@ -215,29 +208,35 @@ impl<R: Clock + Eprint + Copy + Drop> Log<R> {
 
     /// A line for a request.
     pub(crate) fn request(&self, text: &str) {
-        if self.begin_line() {
-            self.write_or_count(self.now(), text);
-            self.end_line();
-        } else {
-            self.leave_out(1);
-        }
-    }
-
-    /// A line for a fault, where faults are logged and not too many came in this second.
-    pub fn fault(&self, text: &str) {
-        if self.level == LogLevel::Nothing {
-            return;
-        }
         if !self.begin_line() {
             self.leave_out(1);
             return;
         }
-        let now = self.now();
-        if self.has_room(now) {
-            self.write_or_count(now, text);
-        } else {
+        if self.write_counted(self.now(), text).is_err() {
             self.leave_out(1);
         }
         self.end_line();
+    }
+
+    /// A line for a fault, where faults are logged and not too many came in this second.
+    pub fn fault(&self, text: &str) {
+        if !self.try_fault(text) {
+            self.leave_out(1);
+        }
+    }
+
+    /// Such a line, which isn't counted where it is left out. Tells whether nothing of it is left
+    /// to be said: it was written, or faults aren't logged.
+    pub fn try_fault(&self, text: &str) -> bool {
+        if self.level == LogLevel::Nothing {
+            return true;
+        }
+        if !self.begin_line() {
+            return false;
+        }
+        let now = self.now();
+        let is_written = self.has_room(now) && self.write_counted(now, text).is_ok();
+        self.end_line();
+        is_written
     }
 }

@@ -1,2 +1,3 @@
 pub mod Failing
 pub mod Heard
+pub mod Places

@@ -70,7 +70,9 @@ impl Pace {
 pub(crate) enum Heard {
     /// An answer.
     Answer(Vec<u8>),
-    /// Nothing yet, or not all of it, at this connection.
+    /// The beginning of one, which wasn't whole in time, or is too long.
+    Part,
+    /// Nothing yet, at this connection.
     Nothing(TcpStream),
 }
 
@@ -290,8 +292,20 @@ impl<R: Clock + Copy> Asked<R> {
         self.send(request)?;
         match self.hear_in_time(alloc) {
             Ok(()) => Ok(Heard::Answer(self.into_parts().0)),
-            Err(LinkFault::Failed) if self.is_awaited() => Ok(Heard::Nothing(self.into_parts().1)),
+            Err(LinkFault::Failed) if self.is_awaited() => Ok(self.heard_in_part()),
             Err(fault) => Err(fault),
+        }
+    }
+
+    /// What came where the answer isn't whole.
+    fn heard_in_part(self) -> Heard
+        ensures { HasFew result }
+    {
+        let (heard, stream) = self.into_parts();
+        if heard.is_empty() {
+            Heard::Nothing(stream)
+        } else {
+            Heard::Part
         }
     }
 

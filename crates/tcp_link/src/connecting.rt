@@ -1,5 +1,6 @@
 //! Connections to hosts, as URLs name them.
-ghost use Rattle.std.specs.Prelude.{◌≤◌, ◌<◌};
+ghost use Rattle.std.specs.Prelude.{◌≡◌, ◌≤◌, ◌<◌, IsNone, Some};
+ghost use Rattle.tcp_link.specs.Places.{usual_port};
 
 use devices::time_left;
 use std::alloc::Global;
@@ -28,19 +29,27 @@ impl Place<'_> {
     }
 }
 
+/// The port that stands behind the name of a host, or the usual one where none does.
+fn port_in(digits: Option<&str>) -> Option<u16>
+    ensures { IsNone digits.entry → result ≡ Some usual_port }
+{
+    match digits {
+        None => Some(USUAL_PORT),
+        Some(digits) => digits.parse::<u16>().ok(),
+    }
+}
+
 /// The place that a host stands for, as it stands in a URL, with its port or without.
 pub(crate) fn place_of(host: &[u8]) -> Option<Place<'_>> {
     let host = str::from_utf8(host).ok()?;
-    match host.rsplit_once(':') {
-        None => Some(Place {
-            name: host,
-            port: USUAL_PORT,
-        }),
-        Some((name, port)) => Some(Place {
-            name,
-            port: port.parse::<u16>().ok()?,
-        }),
-    }
+    let (name, digits) = match host.rsplit_once(':') {
+        None => (host, None),
+        Some((name, digits)) => (name, Some(digits)),
+    };
+    Some(Place {
+        name,
+        port: port_in(digits)?,
+    })
 }
 
 fn unreachable_host() -> io::Error {

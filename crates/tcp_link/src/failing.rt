@@ -103,23 +103,24 @@ impl Destination {
         self.until = 0;
     }
 
-    /// How many exchanges failed that weren't said, where that may be said at this moment. They
-    /// count as said then.
-    pub(crate) fn due(&mut self, now: u64) -> Option<u64>
-        ensures some { result ≡ (if spec.is_due self.old.failed self.old.silent_until now
-            then Some self.old.failed else None) }
-        ensures said { self.new
-            ≡ (if spec.is_due self.old.failed self.old.silent_until now
-            then record self.old { failed = 0; silent_until = spec.later now spec.silence }
-            else self.old) }
+    /// How many exchanges failed that weren't said, where that may be said at this moment.
+    pub(crate) fn due(&self, now: u64) -> Option<u64>
+        ensures { result ≡ (if spec.is_due self.now.failed self.now.silent_until now
+            then Some self.now.failed else None) }
     {
         if self.failed == 0 || now < self.silent_until {
             return None;
         }
-        let failed = self.failed;
+        Some(self.failed)
+    }
+
+    /// The exchanges that failed were said at this moment.
+    pub(crate) fn note_said(&mut self, now: u64)
+        ensures { self.new
+            ≡ record self.old { failed = 0; silent_until = spec.later now spec.silence } }
+    {
         self.failed = 0;
         self.silent_until = now.saturating_add(SILENCE);
-        Some(failed)
     }
 
     /// How many exchanges failed that weren't said.

@@ -13,7 +13,7 @@ use crate::connecting::{Place, addresses, connected, place_of};
 use crate::failing::{Destination, Failing};
 use devices::{Log, millis_now};
 use m2m_io::{Link, LinkFault};
-use std::alloc::Global;
+use std::alloc::{AllocError, Global};
 use std::io::Eprint;
 use std::net::{Net, TcpListener, TcpStream};
 use std::time::Clock;
@@ -44,31 +44,34 @@ impl<R: Clock + Eprint + Copy> Drop for TcpLink<R> {
     }
 }
 
-/// A line for so many exchanges that failed.
-fn say<R: Clock + Eprint + Copy>(log: &Log<R>, destination: &Destination, count: u64) {
+/// The line for so many exchanges that failed.
+fn line_for(alloc: Global, destination: &Destination, count: u64) -> Result<String, AllocError> {
     let name = destination.name();
     let port = destination.port();
-    if let Ok(text) = format!(in log.allocator(); "no answer from {name}:{port}: {count}") {
-        log.fault(text.as_str());
-    }
+    format!(in alloc; "no answer from {name}:{port}: {count}")
 }
 
-/// A line for what wasn't said of a destination yet, if anything.
+/// A line for what wasn't said of a destination yet, if anything. It isn't said again.
 fn say_unsaid<R: Clock + Eprint + Copy>(log: &Log<R>, destination: &Destination) {
     let count = destination.unsaid();
-    if count > 0 {
-        say(log, destination, count);
+    if count > 0
+        && let Ok(line) = line_for(log.allocator(), destination, count)
+    {
+        log.fault(line.as_str());
     }
 }
 
 impl<R: Clock + Eprint + Copy> TcpLink<R> {
-    /// Says what failed and may be said at this moment.
+    /// Says what failed and may be said at this moment. What the log doesn't take is said later.
     fn say_faults(&mut self, now: u64)
         ensures { self.new.faults ≡ self.old.faults }
     {
         for destination in self.failing.destinations() {
-            if let Some(count) = destination.due(now) {
-                say(&self.log, destination, count);
+            if let Some(count) = destination.due(now)
+                && let Ok(line) = line_for(self.log.allocator(), destination, count)
+                && self.log.try_fault(line.as_str())
+            {
+                destination.note_said(now);
             }
         }
         self.failing.tidy(now);
@@ -201,7 +204,7 @@ where
     /// sent and its answer didn't come by then, the exchange is a fault, and the answer is awaited
     /// beside those that follow. Until it comes a few more requests go to that destination, and none
     /// of them is waited for; behind these it is passed over. Where it doesn't come within
-    /// `PATIENCE`, the destination failed.
+    /// `PATIENCE`, the destination failed. One that has begun to answer hasn't.
     pub fn impatient(log: Log<R>) -> Self
         ensures exchanges { ⟦<TcpLink<R> as Link>⟧.exchanges result ≡ None }
         ensures faults { ⟦<TcpLink<R> as Link>⟧.faults result ≡ 0 }
@@ -224,6 +227,10 @@ where
             Ok(Heard::Answer(answer)) => {
                 self.failing.welcome(place);
                 Ok(answer)
+            }
+            Ok(Heard::Part) => {
+                self.failing.welcome(place);
+                Err(LinkFault::Failed)
             }
             Ok(Heard::Nothing(stream)) => {
                 self.wait_for(alloc, place, stream, now);

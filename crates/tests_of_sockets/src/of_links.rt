@@ -213,6 +213,23 @@ fn a_peer_that_says_nothing_is_given_up(rt: HostRuntime) -> Result<(), Fail> {
     Ok(())
 }
 
+#[test]
+fn who_ends_the_connection_without_an_answer_is_asked_once(rt: HostRuntime) -> Result<(), Fail> {
+    let alloc = rt.alloc();
+    let listener = TcpListener::bind(&rt, "127.0.0.1:0")?;
+    let host = format!(in alloc; "127.0.0.1:{}", listener.local_addr()?.port())?;
+    let mut link = a_link(rt, alloc)?;
+    let (answer, has_ended) = join(
+        &rt,
+        || answer_of(alloc, &mut link, &host),
+        || answers(&rt, &listener, &[], false),
+    );
+    assert_eq!(rt; answer, Err(LinkFault::Failed));
+    listener.set_nonblocking(true)?;
+    assert!(rt; has_ended? && listener.accept().is_err(), "asked once");
+    Ok(())
+}
+
 /// How long an exchange takes, in milliseconds.
 fn millis_of<R: Clock, L: Link>(
     rt: &R,
@@ -269,6 +286,31 @@ fn an_answer_that_never_came_long_ago_keeps_nothing_back(rt: HostRuntime) -> Res
     assert_eq!(rt; answer_of(alloc, &mut link, &host), Err(LinkFault::Failed));
     let were_sent = listener.accept().is_ok() && listener.accept().is_ok();
     assert!(rt; were_sent, "both were sent");
+    Ok(())
+}
+
+#[test]
+fn who_has_begun_to_answer_an_impatient_link_has_not_failed(rt: HostRuntime) -> Result<(), Fail> {
+    let alloc = rt.alloc();
+    let millis = AtomicU64::new(0);
+    let timed = Timed {
+        rt,
+        millis: &millis,
+    };
+    let listener = TcpListener::bind(&rt, "127.0.0.1:0")?;
+    let host = format!(in alloc; "127.0.0.1:{}", listener.local_addr()?.port())?;
+    let mut link = an_impatient_link(timed, alloc)?;
+    let begun = [b"HTTP/1.1 200 OK\r\n\r\n".as_slice()];
+    let (answer, ended) = join(
+        &rt,
+        || answer_of(alloc, &mut link, &host),
+        || answers(&rt, &listener, &begun, true),
+    );
+    assert_eq!(rt; answer, Err(LinkFault::Failed));
+    listener.set_nonblocking(true)?;
+    millis.store(10_000, Ordering::SeqCst);
+    assert_eq!(rt; answer_of(alloc, &mut link, &host), Err(LinkFault::Failed));
+    assert!(rt; ended? && listener.accept().is_ok(), "asked again");
     Ok(())
 }
 

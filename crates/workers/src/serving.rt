@@ -23,9 +23,6 @@ use std::sync::{Mutex, Wait};
 use std::thread::{Threads, for_each_mut, join};
 use turn_desk::{DeskSeat, Object, TurnDesk};
 
-/// So many waits may end with nothing asked before there is a round again.
-const MOST_WAITS: u64 = 10;
-
 /// Why connections were not served to the end.
 #[derive(Clone, Copy, Debug, PartialEq, Eq)]
 pub enum ServeFault {
@@ -137,31 +134,8 @@ where
     );
 }
 
-/// Does a round of an errand where its signal was given, or so many waits ended with nothing asked,
-/// and says how many have since the last round.
-fn run_if_due<R, O, B, A, N>(
-    desk: &TurnDesk<O, R>,
-    errand: &N,
-    waits: u64,
-    job: &mut Job<O, B, A>,
-) -> u64
-where
-    R: Wait,
-    O: Object,
-    N: Errand<TurnDesk<O, R>, B>,
-    requires { IsSeated O.step desk.now.table.shared.table_id job.old.seat }
-    ensures seat { IsSeated O.step desk.now.table.shared.table_id job.new.seat }
-    ensures rounds { HasMadeRounds N.does job.old job.new }
-{
-    if errand.signal().take() || waits >= MOST_WAITS {
-        errand.run(desk, &mut job.seat, &mut job.bench);
-        return 0;
-    }
-    waits + 1
-}
-
-/// Does rounds of an errand, until its signal is given no more: one as soon as it is given, and else
-/// now and then.
+/// Does rounds of an errand, until its signal is given no more. It waits between them until the
+/// signal is given, and for a tenth of a second at most.
 fn run_beside<R, O, B, A, N>(rt: &R, desk: &TurnDesk<O, R>, errand: &N, job: &mut Job<O, B, A>)
 where
     R: Wait,
@@ -171,9 +145,8 @@ where
     ensures seat { IsSeated O.step desk.now.table.shared.table_id job.new.seat }
     ensures rounds { HasMadeRounds N.does job.old job.new }
 {
-    let mut waits = 0;
     for _ in rt.forever() {
-        waits = run_if_due(desk, errand, waits, job);
+        errand.run(desk, &mut job.seat, &mut job.bench);
         if !errand.signal().wait(rt) {
             return;
         }
