@@ -1,3 +1,4 @@
+pub mod BaseLemmas
 pub mod PartLemmas
 pub mod BackLemmas
 pub mod NameLemmas

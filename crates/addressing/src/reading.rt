@@ -1,6 +1,6 @@
 //! How a text is read as an address.
 ghost use Rattle.std.specs.Prelude.{◌≡◌, ◌<◌, ◌≤◌, ◌⊎◌, [], ◌∷◌, length, Some, option_map, false};
-ghost use Rattle.std.specs.Prelude.{IsTrue, IfOk, IfErr, IfSome};
+ghost use Rattle.std.specs.Prelude.{◌++◌, IsTrue, IfOk, IfErr, IfSome, map};
 ghost use Rattle.std.specs.List.{position_or_len};
 ghost use Rattle.addressing.specs.declared.addr.AddrFault.TheVariants.{OutOfMemory, Shape};
 ghost use Rattle.addressing.specs.Addresses as spec;
@@ -8,7 +8,8 @@ ghost use Rattle.addressing.specs.Addresses.{GivesAddress, address_of, are_names
 ghost use Rattle.addressing.specs.Addresses.{between_slashes, unless_shapeless};
 
 use crate::addr::{Addr, AddrFault, slashed};
-use crate::segments::Segments;
+use crate::segments::{FEW, Segments};
+use arrayvec::ArrayVec;
 use m2m_names::{POINT_LIMIT, is_name};
 use std::alloc::Global;
 use tree_model::Home;
@@ -167,7 +168,37 @@ fn names_in(alloc: Global, text: &[u8]) -> Result<Segments<'_>, AddrFault>
     ensures err { IfErr result (λ fault. (fault ≡ OutOfMemory)
         ⊎ ((fault ≡ Shape) × (are_names (between_slashes text.now) ≡ false))) }
 {
-    let mut names = Vec::new(alloc);
+    let mut names = ArrayVec::<&[u8], FEW>::new();
+    let mut left = Some(text);
+    while let Some(rest) = left {
+        if names.is_full() {
+            return more_names(alloc, names.as_slice(), rest);
+        }
+        let (name, behind) = first_part(rest);
+        if !is_name(name) {
+            return Err(AddrFault::Shape);
+        }
+        names.push(name);
+        left = behind;
+    }
+    Ok(Segments::few(names))
+}
+
+/// The same of a text before which these names stand.
+#[tactic(auto, using(crate::proofs::ReadLemmas::names_so_far))]
+fn more_names<'a>(
+    alloc: Global,
+    front: &[&'a [u8]],
+    text: &'a [u8],
+) -> Result<Segments<'a>, AddrFault>
+    requires { IsTrue (are_names (map (λ n. n.now) front.now)) }
+    ensures ok { IfOk result (λ names.
+        (names ≡ map (λ n. n.now) front.now ++ between_slashes text.now)
+        × IsTrue (are_names (map (λ n. n.now) front.now ++ between_slashes text.now))) }
+    ensures err { IfErr result (λ fault. (fault ≡ OutOfMemory) ⊎ ((fault ≡ Shape)
+        × (are_names (map (λ n. n.now) front.now ++ between_slashes text.now) ≡ false))) }
+{
+    let mut names = Vec::from_slice(alloc, front)?;
     let mut left = Some(text);
     while let Some(rest) = left {
         let (name, behind) = first_part(rest);

@@ -1,15 +1,17 @@
 //! What an address names in a tree.
-ghost use Rattle.std.specs.Prelude.{◌≡◌, ◌+◌, ◌*◌, ◌<◌, ◌≤◌, length, map, Ok};
+ghost use Rattle.std.specs.Prelude.{◌≡◌, ◌+◌, ◌*◌, ◌<◌, ◌≤◌, length, map, None, Ok, Some};
+ghost use Rattle.std.specs.Prelude.{bytes_eq, if◌then◌else◌};
 ghost use Rattle.addressing.specs.Laws.{named_here};
 ghost use Rattle.addressing.specs.Names as spec;
 ghost use Rattle.addressing.specs.Names.{IsLocal, segments_of};
+ghost use Rattle.tree_model.specs.Tree.{child_of};
 
 use crate::addr::Addr;
 use crate::spot::Spot;
 use m2m_names::Ty;
 use std::marker::Brand;
 use std::sync::ledger::{Blank, Ledger};
-use tree_model::{Steps, Tree, resource_of_id, typed_at};
+use tree_model::{Resource, Steps, Tree, resource_of_id, typed_at};
 
 /// What a local address names. It asks for one child for each segment at most, and else looks up.
 #[tactic(auto, using(crate::proofs::CostLemmas::cost_of_parts))]
@@ -66,7 +68,7 @@ fn first_named<T: Tree, L: Ledger>(tree: &T, segment: &[u8], steps: &mut Steps<L
     ensures counted { steps.old ≤ steps.new }
     ensures cost { steps.new ≤ steps.old + T.child_steps }
 {
-    if let Some(base) = base_named(tree, segment, steps) {
+    if let Some(base) = base_named(tree, segment) {
         return Some(base);
     }
     if let Some(number) = id_named(tree, segment) {
@@ -76,15 +78,38 @@ fn first_named<T: Tree, L: Ledger>(tree: &T, segment: &[u8], steps: &mut Steps<L
 }
 
 /// The CSEBase by its name or `-`.
-fn base_named<T: Tree, L: Ledger>(tree: &T, segment: &[u8], steps: &mut Steps<L>) -> Option<u64>
-    ensures value { result ≡ spec.base_named segment.now (T.nodes tree.now) }
-    ensures counted { steps.old ≤ steps.new }
-    ensures cost { steps.new ≤ steps.old + T.child_steps }
+fn base_named<T: Tree>(tree: &T, segment: &[u8]) -> Option<u64>
+    ensures { result ≡ spec.base_named segment.now (T.nodes tree.now) }
 {
     if segment == b"-".as_slice() {
         tree.kid(0, 0)
     } else {
-        tree.child(0, segment, steps)
+        first_by_name(tree, segment)
+    }
+}
+
+// The first resource, which alone stands under none, by its name. No name is looked up.
+fn first_by_name<T: Tree>(tree: &T, name: &[u8]) -> Option<u64>
+    ensures { result ≡ child_of 0 name.now (T.nodes tree.now) }
+{
+    if tree.len() == 0 {
+        return None;
+    }
+    match tree.nth(0) {
+        Some(base) => number_by_name(base, name),
+        None => None,
+    }
+}
+
+// The number of a resource that has this name.
+fn number_by_name(resource: &Resource, name: &[u8]) -> Option<u64>
+    ensures { result ≡ (if bytes_eq resource.now.name name.now
+        then Some resource.now.number else None) }
+{
+    if resource.name().entries() == name {
+        Some(resource.number())
+    } else {
+        None
     }
 }
 

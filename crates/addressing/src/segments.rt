@@ -1,22 +1,35 @@
 //! The segments of an address.
 ghost use Rattle.std.specs.Prelude.{◌≡◌, drop};
 
+use arrayvec::ArrayVec;
 use std::alloc::{AllocError, Global};
 use std::marker::Model;
+
+/// Most addresses have no more segments.
+pub(crate) const FEW: usize = 6;
 
 /// The segments of an address, which stand in its text. Clauses see them as the list of their
 /// bytes.
 #[derive(Debug, Drop)]
 pub struct Segments<'a> {
-    parts: Vec<&'a [u8]>,
+    parts: Parts<'a>,
+}
+
+// Few segments take no memory.
+#[derive(Debug, Drop)]
+enum Parts<'a> {
+    Few(ArrayVec<&'a [u8], FEW>),
+    Many(Vec<&'a [u8]>),
 }
 
 impl<'a> Model for Segments<'a> {
-    ghost use Rattle.std.specs.Prelude.{List, ℕ, map};
+    ghost use Rattle.std.specs.Prelude.{List, ℕ};
 
     ghost Value = { List (List ℕ) };
 
-    ghost view = { λ s. map (λ p. p.now) s.parts.items };
+    ghost use Rattle.addressing.specs.Segments.{parts_of};
+
+    ghost view = { λ s. parts_of s.parts };
 }
 
 impl<'a> Segments<'a> {
@@ -26,14 +39,28 @@ impl<'a> Segments<'a> {
     pub fn of(parts: Vec<&'a [u8]>) -> Segments<'a>
         ensures { result ≡ map (λ p. p.now) parts.entry.items }
     {
-        Segments { parts }
+        Segments {
+            parts: Parts::Many(parts),
+        }
+    }
+
+    /// The same of few.
+    pub(crate) fn few(parts: ArrayVec<&'a [u8], FEW>) -> Segments<'a>
+        ensures { result ≡ map (λ p. p.now) parts.entry.items }
+    {
+        Segments {
+            parts: Parts::Few(parts),
+        }
     }
 
     /// Its parts.
     pub fn entries(&self) -> &[&'a [u8]]
         ensures { map (λ p. p.now) result.now ≡ self.now }
     {
-        &self.parts
+        match &self.parts {
+            Parts::Few(parts) => parts.as_slice(),
+            Parts::Many(parts) => parts,
+        }
     }
 
     /// Those from a place on, from 0.
@@ -41,7 +68,7 @@ impl<'a> Segments<'a> {
     pub fn from_place(&self, alloc: Global, place: u64) -> Result<Segments<'a>, AllocError>
         ensures { IfOk result (λ s. s ≡ drop place self.now) }
     {
-        let parts = Vec::from_slice(alloc, rest_of(&self.parts, place))?;
+        let parts = Vec::from_slice(alloc, rest_of(self.entries(), place))?;
         Ok(Segments::of(parts))
     }
 }

@@ -10,21 +10,21 @@ ghost use Rattle.attribute_kinds.specs.Kinds as spec;
 use crate::lists::{is_event_kinds, is_labels, is_originators};
 use crate::values::{is_number_within, list_in};
 use m2m_names::ALL_BITS;
-use m2m_value::{Members, Text, Val};
+use m2m_value::{MemberKey, Members, Val};
 
-fn is_rule_key(key: &Text) -> bool
+fn is_rule_key(key: &MemberKey) -> bool
     ensures { result ≡ names.is_one_of (codes "acor" ∷ codes "acop" ∷ []) key.now }
 {
     matches!(key.entries(), b"acor" | b"acop")
 }
 
-fn is_rules_key(key: &Text) -> bool
+fn is_rules_key(key: &MemberKey) -> bool
     ensures { result ≡ names.is_one_of (codes "acr" ∷ []) key.now }
 {
     matches!(key.entries(), b"acr")
 }
 
-fn is_criteria_key(key: &Text) -> bool
+fn is_criteria_key(key: &MemberKey) -> bool
     ensures { result ≡ names.is_one_of (codes "net" ∷ codes "atr" ∷ []) key.now }
 {
     matches!(key.entries(), b"net" | b"atr")

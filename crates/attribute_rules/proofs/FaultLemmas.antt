@@ -1,13 +1,16 @@
 -- The first fault of several, and that contents without a fault are those that are admitted.
-use Rattle.std.proofs.Common.{◌≡◌, List, [], ◌∷◌, Bool, true, false, not, ◌&&◌, Option, Some, None, is_none, option_map, inl, inr, refl, sym, ap, ◌∙◌}
+use Rattle.std.proofs.Common.{◌≡◌, ℕ, List, [], ◌∷◌, Bool, true, false, not, ◌&&◌, Option, Some, None, is_none, is_some, option_map, Err, IfSome, IfNone, inl, inr, refl, sym, ap, subst, ◌∙◌}
 use Rattle.std.proofs.lemmas.Bool.{cases_Bool}
+use Rattle.std.proofs.lemmas.Slice.Eq.{bytes_eq-Decides}
+use Rattle.std.specs.Str.{bytes_eq}
 use Rattle.std.specs.List.{filter_map, find, list_all, cons_option}
 use Rattle.std.specs.Option.{option_or, option_map_or}
 use Rattle.m2m_names.specs.declared.attributes.Attr.{Attr}
-use Rattle.m2m_names.specs.declared.attributes.Attr.TheVariants.{Acpi}
+use Rattle.m2m_names.specs.Attributes.{attr_of_short, attr_short}
+use Rattle.m2m_names.specs.declared.attributes.Attr.TheVariants.{Acpi, Con}
 use Rattle.m2m_names.specs.declared.types.Ty.{Ty}
 use Rattle.m2m_value.specs.Data.{Data, Entry}
-use Rattle.attribute_rules.specs.Admission.{attributes_in, is_named, column_of, allows_value, rule_at, is_fit, is_alone, is_complete, are_admitted, is_admitted, value_fault, key_fault, is_unknown, is_not_allowed, is_wrong_kind, leading_fault, with_fault, rest_fault, fault_in, fault_of}
+use Rattle.attribute_rules.specs.Admission.{attributes_in, is_named, column_of, allows_value, rule_at, is_fit, is_alone, is_complete, are_admitted, is_admitted, value_fault, key_fault, is_unknown, is_not_allowed, is_wrong_kind, leading_fault, with_fault, rest_fault, fault_in, fault_of, has_unknown, IsTold, Refuses}
 use Rattle.attribute_rules.specs.Table.{is_permitted, mandatory_attrs}
 use Rattle.attribute_rules.specs.declared.admission.Firsts.{Firsts}
 use Rattle.attribute_rules.specs.declared.table.Rule.{Rule}
@@ -16,7 +19,14 @@ use Rattle.attribute_rules.specs.declared.table.Writing.TheVariants.{Create, Upd
 use Rattle.attribute_rules.specs.declared.faults.AttrFault.{AttrFault}
 use Rattle.attribute_rules.specs.declared.faults.AttrFault.TheVariants.{Shape, Unknown, NotAllowed, Kind as WrongKind, Missing, AcpiNotAlone, OutOfMemory}
 use Rattle.attribute_rules.proofs.ContentsLemmas.{seen}
+use Rattle.m2m_names.proofs.AttributeLemmas.{attr_again}
 use Rattle.m2m_names.proofs.LookupLemmas.{option_or-None}
+
+-- ---- the attribute of a key
+
+-- a key with the short name of what an instance holds is that attribute's
+pub con_named : (key : List ℕ) → bytes_eq key (attr_short Con) ≡ true → Some Con ≡ attr_of_short key
+con_named key same = subst (λ (k : List ℕ). Some Con ≡ attr_of_short k) (sym ((bytes_eq-Decides key (attr_short Con)).0 same)) (sym (attr_again Con))
 
 -- ---- what a member may have for a fault
 
@@ -139,6 +149,48 @@ adds_wrong firsts now fs key = elim (cases_Bool (option_map_or is_unknown now fa
     | inr g ↦ rw g (wrong_step firsts.wrong now fs key f g)
   ])
 ]
+
+-- ---- an unknown key
+
+-- where some key is unknown, that is the first fault
+pub found_unknown : (fs : List AttrFault) (rest : Option AttrFault) → is_some (find is_unknown fs) ≡ true → has_unknown (option_or (find is_unknown fs) rest) ≡ true
+found_unknown [] rest t = let no : false ≡ true = t in cc
+found_unknown (f ∷ fs) rest t = elim (cases_Bool (is_unknown f)) [
+  | inl u ↦ rw u u
+  | inr n ↦ let left : is_some (find is_unknown fs) ≡ true = rw n at t in rw n (found_unknown fs rest left)
+]
+
+pub some_behind : {X : Type 0} (o : Option X) (x : X) → is_some (option_or o (Some x)) ≡ true
+some_behind None x = refl
+some_behind (Some y) x = refl
+
+-- and it stays so, whatever else is wrong
+pub still_unknown : (o rest : Option AttrFault) → has_unknown o ≡ true → has_unknown (option_or o rest) ≡ true
+still_unknown None rest t = let no : false ≡ true = t in cc
+still_unknown (Some f) rest t = t
+
+-- ---- what is told
+
+-- what is told of a content that names no attributes, and of one that has a fault
+pub shape_told : (writing : Writing) (ty : Ty) (content : Data) → attributes_in ty content ≡ None → IsTold (fault_of writing ty content) Shape
+shape_told writing ty content none = inl (ap (λ o. option_map_or (fault_in writing ty) o (Some Shape)) none)
+
+pub fault_told : (writing : Writing) (ty : Ty) (content : Data) (es : List Entry) (fault : AttrFault) → attributes_in ty content ≡ Some es → fault_in writing ty es ≡ Some fault → IsTold (fault_of writing ty content) fault
+fault_told writing ty content es fault named is = inl (ap (λ o. option_map_or (fault_in writing ty) o (Some Shape)) named ∙ is)
+
+pub memory_told : (writing : Writing) (ty : Ty) (content : Data) (es : List Entry) → attributes_in ty content ≡ Some es → has_unknown (fault_in writing ty es) ≡ true → IsTold (fault_of writing ty content) OutOfMemory
+memory_told writing ty content es named unknown = inr (refl, ap (λ o. has_unknown (option_map_or (fault_in writing ty) o (Some Shape))) named ∙ unknown)
+
+-- where there is no fault, what is told is that memory ran out; else the content is refused
+pub told_admitted : (fault : Option AttrFault) (told : AttrFault) → IsTold fault told → IfNone fault (told ≡ OutOfMemory)
+told_admitted None told (inl is) = cc
+told_admitted None told (inr memory) = memory.0
+told_admitted (Some f) told is = tt
+
+pub told_refused : (A : Type 0) (fault : Option AttrFault) (told : AttrFault) → IsTold fault told → IfSome fault (Refuses {A = A} (Err told))
+told_refused A None told is = tt
+told_refused A (Some f) told (inl is) = inl cc
+told_refused A (Some f) told (inr memory) = inr (ap Err memory.0, memory.1)
 
 -- ---- no fault
 

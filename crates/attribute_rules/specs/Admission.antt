@@ -1,6 +1,7 @@
 -- Which contents of a Create and of an Update are admitted, and what is wrong with the others.
-use Rattle.std.specs.Prelude.{ℕ, Bool, true, false, not, ◌&&◌, ◌||◌, List, [], bytes_eq}
+use Rattle.std.specs.Prelude.{◌≡◌, ℕ, Bool, true, false, not, ◌&&◌, ◌||◌, List, [], bytes_eq}
 use Rattle.std.specs.Prelude.{Option, Some, None, find, is_some, is_none, option_map}
+use Rattle.std.specs.Prelude.{Result, Err, IsTrue, ◌⊎◌}
 use Rattle.std.specs.Prelude.{option_and_then, unwrap_or, if◌then◌else◌}
 use Rattle.std.specs.List.{filter_map, list_all}
 use Rattle.std.specs.Option.{option_or, option_map_or}
@@ -176,3 +177,18 @@ fault_in writing ty es =
 abbrev pub fault_of : Writing → Ty → Data → Option AttrFault
 fault_of writing ty content =
     option_map_or (fault_in writing ty) (attributes_in ty content) (Some Shape)
+
+-- there is a fault, and it is an unknown attribute
+abbrev pub has_unknown : Option AttrFault → Bool
+has_unknown fault = option_map_or is_unknown fault false
+
+-- What is told of a first fault: that fault, or, where memory runs out for the name of an unknown
+-- attribute, that it did.
+abbrev pub IsTold : Option AttrFault → AttrFault → Type 0
+IsTold fault told = (fault ≡ Some told) ⊎ ((told ≡ OutOfMemory) × IsTrue (has_unknown fault))
+
+-- A content with this first fault is refused for it, or, where memory runs out for the name of an
+-- unknown attribute, for want of memory.
+abbrev pub Refuses : {A : Type 0} → Result A AttrFault → AttrFault → Type 0
+Refuses result fault =
+    (result ≡ Err fault) ⊎ ((result ≡ Err OutOfMemory) × IsTrue (is_unknown fault))

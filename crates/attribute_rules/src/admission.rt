@@ -1,9 +1,10 @@
 //! Which contents are admitted, and what is wrong with the others.
-ghost use Rattle.std.specs.Prelude.{◌≡◌, Some, None, IfOk, OnOk, IfErr, IsTrue, false};
-ghost use Rattle.std.specs.Prelude.{option_map};
+ghost use Rattle.std.specs.Prelude.{◌≡◌, Some, None, IfOk, OnOk, OnErr, IfErr, IsTrue, false};
+ghost use Rattle.std.specs.Prelude.{bytes_eq, option_map};
 ghost use Rattle.std.specs.List.{filter_map, list_all};
 ghost use Rattle.std.specs.Option.{option_map_or};
-ghost use Rattle.m2m_names.specs.Attributes.{attr_short};
+ghost use Rattle.m2m_names.specs.Attributes.{attr_of_short, attr_short};
+ghost use Rattle.m2m_names.specs.declared.attributes.Attr.TheVariants.{Con};
 ghost use Rattle.m2m_value.specs.View as views;
 ghost use Rattle.m2m_value.specs.View.{member_of};
 ghost use Rattle.attribute_rules.specs.Admission as spec;
@@ -12,10 +13,11 @@ use crate::faults::AttrFault;
 use crate::table::{Rule, Writing, mandatory, rule_of};
 use filter_criteria::value_among;
 use m2m_names::{Attr, Ty};
-use m2m_value::{Members, Node, Text, Val};
+use m2m_value::{MemberKey, Members, Node, OutOfMemory, Val};
+use std::alloc::Global;
 
 // The value of the one member, where it has this name.
-fn only_value<'a>(name: &str, entries: &'a [(Text, Val)]) -> Option<&'a Val>
+fn only_value<'a>(name: &str, entries: &'a [(MemberKey, Val)]) -> Option<&'a Val>
     ensures { option_map (λ v. v.now) result ≡ spec.only_value name.now entries.now }
 {
     match entries {
@@ -82,14 +84,33 @@ fn is_alone(members: &Members) -> bool
     matches!(members.entries(), [_])
 }
 
-fn rule_at(ty: Ty, key: &Text) -> Option<(Attr, Rule)>
+// Whether a key is the short name of the attribute that the content of an instance has.
+fn is_con(key: &MemberKey) -> bool
+    ensures { result ≡ bytes_eq key.now (attr_short Con) }
+{
+    matches!(key.entries(), b"con")
+}
+
+/// The attribute of a key. Most contents are those of instances, so that what these have is tried
+/// first.
+pub fn attribute_at(key: &MemberKey) -> Option<Attr>
+    ensures { result ≡ attr_of_short key.now }
+{
+    if is_con(key) {
+        Some(Attr::Con)
+    } else {
+        Attr::from_short_bytes(key.entries())
+    }
+}
+
+fn rule_at(ty: Ty, key: &MemberKey) -> Option<(Attr, Rule)>
     ensures { result ≡ spec.rule_at ty key.now }
 {
-    let attr = Attr::from_short_bytes(key.entries())?;
+    let attr = attribute_at(key)?;
     Some((attr, rule_of(ty, attr)?))
 }
 
-fn is_fit(writing: Writing, ty: Ty, entry: &(Text, Val)) -> bool
+fn is_fit(writing: Writing, ty: Ty, entry: &(MemberKey, Val)) -> bool
     ensures { result ≡ spec.is_fit writing ty entry.now }
 {
     match rule_at(ty, &entry.0) {
@@ -98,7 +119,7 @@ fn is_fit(writing: Writing, ty: Ty, entry: &(Text, Val)) -> bool
     }
 }
 
-fn are_fit(writing: Writing, ty: Ty, entries: &[(Text, Val)]) -> bool
+fn are_fit(writing: Writing, ty: Ty, entries: &[(MemberKey, Val)]) -> bool
     ensures { result ≡ list_all (spec.is_fit writing ty) entries.now }
 {
     entries.iter().all(|entry| is_fit(writing, ty, entry))
@@ -126,12 +147,21 @@ pub fn are_admitted(writing: Writing, ty: Ty, members: &Members) -> bool
     are_fit(writing, ty, members.entries()) && is_complete(writing, ty, members)
 }
 
-fn key_fault(writing: Writing, ty: Ty, key: Text, value: &Val) -> Option<AttrFault>
-    ensures { result ≡ spec.key_fault writing ty (key, value.now) }
+// What is wrong with a member. Memory may run out for the name of an attribute that is unknown.
+fn key_fault(
+    alloc: Global,
+    writing: Writing,
+    ty: Ty,
+    key: MemberKey,
+    value: &Val,
+) -> Result<Option<AttrFault>, OutOfMemory>
+    ensures value { IfOk result (λ fault. fault ≡ spec.key_fault writing ty (key, value.now)) }
+    ensures memory { OnErr result (spec.key_fault writing ty (key, value.now)
+        ≡ Some (AttrFault.Unknown key)) }
 {
     match rule_at(ty, &key) {
-        None => Some(AttrFault::Unknown(key)),
-        Some((attr, rule)) => value_fault(writing, attr, rule, value),
+        None => Ok(Some(AttrFault::Unknown(key.into_text(alloc)?))),
+        Some((attr, rule)) => Ok(value_fault(writing, attr, rule, value)),
     }
 }
 
@@ -198,15 +228,32 @@ fn with_fault(firsts: Firsts, fault: Option<AttrFault>) -> Firsts
     }
 }
 
-fn with_entry(writing: Writing, ty: Ty, firsts: Firsts, entry: (Text, Val)) -> Firsts
-    ensures { result ≡ spec.with_fault firsts (spec.key_fault writing ty entry) }
+fn with_entry(
+    alloc: Global,
+    writing: Writing,
+    ty: Ty,
+    firsts: Firsts,
+    entry: (MemberKey, Val),
+) -> Result<Firsts, OutOfMemory>
+    ensures value { IfOk result (λ f.
+        f ≡ spec.with_fault firsts (spec.key_fault writing ty entry)) }
+    ensures memory { OnErr result (spec.key_fault writing ty entry
+        ≡ Some (AttrFault.Unknown entry.0)) }
 {
     let (key, value) = entry;
-    with_fault(firsts, key_fault(writing, ty, key, &value))
+    Ok(with_fault(firsts, key_fault(alloc, writing, ty, key, &value)?))
 }
 
-fn first_key_fault(writing: Writing, ty: Ty, members: Members) -> Option<AttrFault>
-    ensures { result ≡ spec.leading_fault (filter_map (spec.key_fault writing ty) members) }
+fn first_key_fault(
+    alloc: Global,
+    writing: Writing,
+    ty: Ty,
+    members: Members,
+) -> Result<Option<AttrFault>, OutOfMemory>
+    ensures value { IfOk result (λ fault.
+        fault ≡ spec.leading_fault (filter_map (spec.key_fault writing ty) members)) }
+    ensures memory { OnErr result (IsTrue (spec.has_unknown
+        (spec.leading_fault (filter_map (spec.key_fault writing ty) members)))) }
 {
     let mut firsts = Firsts {
         unknown: None,
@@ -214,9 +261,9 @@ fn first_key_fault(writing: Writing, ty: Ty, members: Members) -> Option<AttrFau
         wrong: None,
     };
     for entry in members.into_vec() {
-        firsts = with_entry(writing, ty, firsts, entry);
+        firsts = with_entry(alloc, writing, ty, firsts, entry)?;
     }
-    firsts.unknown.or(firsts.not_allowed.or(firsts.wrong))
+    Ok(firsts.unknown.or(firsts.not_allowed.or(firsts.wrong)))
 }
 
 fn missing_attr(ty: Ty, members: &Members) -> Option<Attr>
@@ -240,19 +287,25 @@ fn rest_fault(writing: Writing, ty: Ty, members: &Members) -> Option<AttrFault>
     }
 }
 
-fn fault_in(writing: Writing, ty: Ty, members: Members) -> Option<AttrFault>
-    ensures { result ≡ spec.fault_in writing ty members }
+fn fault_in(
+    alloc: Global,
+    writing: Writing,
+    ty: Ty,
+    members: Members,
+) -> Result<Option<AttrFault>, OutOfMemory>
+    ensures value { IfOk result (λ fault. fault ≡ spec.fault_in writing ty members) }
+    ensures memory { OnErr result (IsTrue (spec.has_unknown (spec.fault_in writing ty members))) }
 {
     let rest = rest_fault(writing, ty, &members);
-    first_key_fault(writing, ty, members).or(rest)
+    Ok(first_key_fault(alloc, writing, ty, members)?.or(rest))
 }
 
 /// The attributes that an admitted content names; of any other content its first fault.
-pub fn sort_out(writing: Writing, ty: Ty, content: Val) -> Result<Members, AttrFault>
+pub fn sort_out(alloc: Global, writing: Writing, ty: Ty, content: Val) -> Result<Members, AttrFault>
     ensures attributes { IfOk result (λ es. spec.attributes_in ty content ≡ Some es) }
     ensures fit { IfOk result (λ es. IsTrue (spec.are_admitted writing ty es)) }
     ensures admitted { OnOk result (spec.fault_of writing ty content ≡ None) }
-    ensures refused { IfErr result (λ fault. spec.fault_of writing ty content ≡ Some fault) }
+    ensures refused { IfErr result (spec.IsTold (spec.fault_of writing ty content)) }
 {
     let Some(members) = take_attributes(ty, content) else {
         return Err(AttrFault::Shape);
@@ -260,7 +313,7 @@ pub fn sort_out(writing: Writing, ty: Ty, content: Val) -> Result<Members, AttrF
     if are_admitted(writing, ty, &members) {
         return Ok(members);
     }
-    match fault_in(writing, ty, members) {
+    match fault_in(alloc, writing, ty, members)? {
         Some(fault) => Err(fault),
         None => unreachable!(),
     }

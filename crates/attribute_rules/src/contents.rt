@@ -14,9 +14,9 @@ ghost use Rattle.attribute_rules.specs.Admission.{are_admitted};
 ghost use Rattle.attribute_rules.specs.Contents as spec;
 ghost use Rattle.attribute_rules.specs.declared.table.Writing.TheVariants.{Create, Update};
 
-use crate::admission::{is_named, value_named};
+use crate::admission::{attribute_at, is_named, value_named};
 use m2m_names::{Attr, Ty, read_stamp};
-use m2m_value::{Members, OutOfMemory, Text, Val};
+use m2m_value::{MemberKey, Members, OutOfMemory, Text, Val};
 use resource_model::{AttrSet, Attrs};
 use std::alloc::Global;
 
@@ -98,11 +98,11 @@ fn copied_name(alloc: Global, members: &Members) -> Result<Option<Text>, OutOfMe
 }
 
 // The attribute at which a member of a creation gives the resource its value.
-fn kept_attr(key: &Text, value: &Val) -> Option<Attr>
+fn kept_attr(key: &MemberKey, value: &Val) -> Option<Attr>
     ensures { option_map (λ attr. (attr, value.now)) result
         ≡ spec.kept_row (key.now, value.now) }
 {
-    let attr = Attr::from_short_bytes(key.entries())?;
+    let attr = attribute_at(key)?;
     if is_apart(attr) || is_no_policy(attr, value) {
         None
     } else {
@@ -113,7 +113,7 @@ fn kept_attr(key: &Text, value: &Val) -> Option<Attr>
 // Puts the row that a member of a creation gives the resource behind others.
 fn copy_kept(
     alloc: Global,
-    key: &Text,
+    key: &MemberKey,
     value: &Val,
     rows: &mut Vec<(Attr, Val)>,
 ) -> Result<(), OutOfMemory>
@@ -126,7 +126,9 @@ fn copy_kept(
     Ok(())
 }
 
-fn kept_rows(alloc: Global, members: &Members) -> Result<Attrs, OutOfMemory>
+/// The attributes that a creation which names these gives the resource, but for those that stand
+/// apart from them: its name, its expiry and its originator. Their values are copied.
+pub fn kept_attrs(alloc: Global, members: &Members) -> Result<Attrs, OutOfMemory>
     ensures { IfOk result (λ rows. rows ≡ filter_map spec.kept_row members.now) }
 {
     let mut rows = Vec::with_capacity(alloc, members.entries().len() + ASSIGNED)?;
@@ -148,7 +150,7 @@ pub fn wanted_in(alloc: Global, ty: Ty, members: &Members) -> Result<Wanted, Out
     Ok(Wanted {
         name: copied_name(alloc, members)?,
         et: moment_in(members),
-        attrs: kept_rows(alloc, members)?,
+        attrs: kept_attrs(alloc, members)?,
         creator: is_named(Attr::Cr, members),
     })
 }
@@ -164,7 +166,7 @@ pub fn edit_in(alloc: Global, ty: Ty, members: &Members) -> Result<Edit, OutOfMe
     let mut sets = Vec::with_capacity(alloc, members.entries().len())?;
     let mut clears = Vec::new(alloc);
     for (key, value) in members.entries() {
-        if let Some(attr) = Attr::from_short_bytes(key.entries()) {
+        if let Some(attr) = attribute_at(key) {
             if does_clear(attr, value) {
                 clears.push(attr)?;
             } else {

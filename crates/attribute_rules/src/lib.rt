@@ -10,7 +10,8 @@
 //!
 //! A content is walked once to judge it, up to the first member with a fault, and once more to copy
 //! out of it what it gives, or to find the key of the fault that is told. These are two walks since
-//! a refusal takes no memory: nothing is taken before the last member is judged.
+//! a refusal takes memory only for the name of an unknown attribute that stands in the program:
+//! nothing is taken before the last member is judged.
 //!
 //! ```text
 //! let kind = kind_of(Ty::Container, Attr::Mni); // a count
@@ -29,7 +30,7 @@ mod table;
 pub use admission::{are_admitted, attributes_in, is_named, value_named};
 pub use admit::{admit_create, admit_update};
 pub use attribute_kinds::Kind;
-pub use contents::{Edit, Wanted, edit_in, wanted_in};
+pub use contents::{Edit, Wanted, edit_in, kept_attrs, wanted_in};
 pub use faults::AttrFault;
 pub use laws::{
     an_update_does_what_it_may, attributes_have_the_values_that_are_named,

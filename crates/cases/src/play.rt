@@ -1,18 +1,23 @@
 //! Playing a case.
 ghost use Rattle.std.specs.Prelude.{◌≤◌, ◌<◌, All, IfOk, vec_len};
 
-use crate::came::{Came, push_exchange};
+use crate::came::Came;
 use crate::case::{Case, Cuts, Streams};
 use crate::client::{Gets, Sends};
+use crate::link::{CaseLink, Neighbour};
 use crate::verdict::difference;
 use cse_cli::run;
 use cse_server::Bench;
-use m2m_io::{MemClock, MemConn, MemDoor, MemLink, MemSink, MemSource, Status};
+use entity_model::Entity;
+use m2m_io::{Clock, MemClock, MemConn, MemDoor, MemLink, MemSink, MemSource, Status};
+use peer_link::PeerLink;
+use resource_tree::IndexTree;
 use std::alloc::{AllocError, Global};
 use std::sync::atomic::{AtomicU64, Ordering};
 use std::sync::{Arc, Wait};
 use std::thread::Threads;
 use std::time;
+use tree_model::Home;
 
 /// The objects of a run.
 #[derive(Drop)]
@@ -21,7 +26,7 @@ struct Stage {
     out: Gets,
     err: MemSink,
     door: MemDoor<MemConn>,
-    first: Bench<MemClock, MemLink>,
+    first: Bench<MemClock, CaseLink>,
 }
 
 /// What a run leaves.
@@ -31,7 +36,7 @@ struct Played {
     input: Sends,
     out: Gets,
     err: MemSink,
-    link: MemLink,
+    link: CaseLink,
 }
 
 /// How the reads of a stream are cut in a form of its case.
@@ -102,7 +107,8 @@ fn clock_of(alloc: Global, case: &Case) -> Result<MemClock, AllocError> {
     }
 }
 
-fn link_of(alloc: Global, case: &Case) -> Result<MemLink, AllocError> {
+/// The answers of the case.
+fn answers_of(alloc: Global, case: &Case) -> Result<MemLink, AllocError> {
     let mut answers = Vec::new(alloc);
     for answer in &case.answers {
         answers.push(answer.clone()?)?;
@@ -110,15 +116,43 @@ fn link_of(alloc: Global, case: &Case) -> Result<MemLink, AllocError> {
     Ok(MemLink::new(answers, case.link_fails.clone()?))
 }
 
+/// A CSE with this home, which opens at the first reading of the clock of the case.
+fn cse_at(
+    alloc: Global,
+    case: &Case,
+    home: &Home,
+) -> Result<PeerLink<IndexTree, MemClock>, AllocError> {
+    let mut clock = clock_of(alloc, case)?;
+    let reading = clock.now();
+    let entity = Entity::open(alloc, home.copy(alloc)?, IndexTree::new(alloc), reading)?;
+    Ok(PeerLink::new(alloc, entity, clock, case.link_fails.clone()?))
+}
+
+/// What answers the requests that go on.
+fn neighbour_of(alloc: Global, case: &Case) -> Result<Neighbour, AllocError> {
+    match &case.peer {
+        None => Ok(Neighbour::Answers(answers_of(alloc, case)?)),
+        Some(home) => Ok(Neighbour::Cse(cse_at(alloc, case, home)?)),
+    }
+}
+
+/// The bench of the run: the clock of the case, and its link.
+fn first_bench(alloc: Global, case: &Case) -> Result<Bench<MemClock, CaseLink>, AllocError> {
+    let clock = clock_of(alloc, case)?;
+    let link = CaseLink::new(alloc, neighbour_of(alloc, case)?);
+    Ok(Bench { clock, link })
+}
+
 /// The bench of a worker: the clock of the case, and a link without answers.
-fn worker_bench(alloc: Global, case: &Case) -> Result<Bench<MemClock, MemLink>, AllocError> {
+fn worker_bench(alloc: Global, case: &Case) -> Result<Bench<MemClock, CaseLink>, AllocError> {
+    let none = MemLink::new(Vec::new(alloc), Vec::new(alloc));
     Ok(Bench {
         clock: clock_of(alloc, case)?,
-        link: MemLink::new(Vec::new(alloc), Vec::new(alloc)),
+        link: CaseLink::new(alloc, Neighbour::Answers(none)),
     })
 }
 
-fn three_benches(alloc: Global, case: &Case) -> Result<Vec<Bench<MemClock, MemLink>>, AllocError>
+fn three_benches(alloc: Global, case: &Case) -> Result<Vec<Bench<MemClock, CaseLink>>, AllocError>
     ensures { IfOk result (λ benches. 2 ≤ vec_len benches) }
 {
     Ok(vec![in alloc;
@@ -126,13 +160,6 @@ fn three_benches(alloc: Global, case: &Case) -> Result<Vec<Bench<MemClock, MemLi
         worker_bench(alloc, case)?,
         worker_bench(alloc, case)?,
     ]?)
-}
-
-/// The bench of the run: the clock of the case, and its link.
-fn first_bench(alloc: Global, case: &Case) -> Result<Bench<MemClock, MemLink>, AllocError> {
-    let clock = clock_of(alloc, case)?;
-    let link = link_of(alloc, case)?;
-    Ok(Bench { clock, link })
 }
 
 /// What the client sends and what it gets.
@@ -174,7 +201,7 @@ fn run_on<R>(
     alloc: Global,
     words: &[&str],
     stage: Stage,
-    benches: Vec<Bench<MemClock, MemLink>>,
+    benches: Vec<Bench<MemClock, CaseLink>>,
 ) -> Played
 where
     R: Wait + Threads + time::Clock + Clone + Drop + Sync + Send,
@@ -199,24 +226,12 @@ where
     }
 }
 
-/// The exchanges that a link has made.
-fn asked_over(alloc: Global, link: &MemLink) -> Result<Vec<u8>, AllocError> {
-    let Some(exchanges) = link.exchanges() else {
-        return Err(AllocError);
-    };
-    let mut asked = Vec::new(alloc);
-    for exchanged in exchanges {
-        push_exchange(alloc, &mut asked, exchanged.host(), exchanged.request())?;
-    }
-    Ok(asked)
-}
-
 fn came_of(alloc: Global, played: &Played, right: &Arc<AtomicU64>) -> Result<Came, AllocError> {
     Ok(Came {
         status: u64::from(played.status.number()),
         out: Vec::from_slice(alloc, played.out.written())?,
         err: Vec::from_slice(alloc, played.err.written())?,
-        asked: asked_over(alloc, &played.link)?,
+        asked: Vec::from_slice(alloc, played.link.asked())?,
         served: right.load(Ordering::SeqCst),
         left: played.input.left() as u64,
     })

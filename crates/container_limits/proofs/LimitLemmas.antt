@@ -1,22 +1,21 @@
 -- What the limits leave, and what goes.
 use Rattle.std.specs.Prelude.{nat_lt}
-use Rattle.std.proofs.Common.{◌≡◌, ℕ, zero, suc, ◌+◌, ◌-◌, ◌<◌, ◌≤◌, List, [], ◌∷◌, ◌++◌, length, take, drop, Bool, true, false, not, ◌&&◌, Option, Some, None, option_to_list, unwrap_or, inl, inr, refl, sym, ap, ◌∙◌, arith, append_assoc, length-append}
-use Rattle.std.proofs.lemmas.Bool.{cases_Bool, or_parts, false≢true, ltb-true, ltb-false}
-use Rattle.std.proofs.lemmas.List.{append-nil, drop_all, map-append, take-append-drop}
+use Rattle.std.proofs.Common.{◌≡◌, ℕ, zero, suc, ◌+◌, ◌-◌, ◌≤◌, List, [], ◌∷◌, ◌++◌, length, take, drop, Bool, true, false, not, ◌&&◌, Option, Some, None, option_to_list, unwrap_or, inl, inr, refl, sym, ap, ◌∙◌, arith, append_assoc, length-append}
+use Rattle.std.proofs.lemmas.Bool.{cases_Bool, and_parts, or_parts, false≢true, leb-true, le-leb}
+use Rattle.std.proofs.lemmas.List.{append-nil, drop_all, take-append-drop}
 use Rattle.std.proofs.lemmas.List.Elements.{filter-append}
 use Rattle.std.proofs.lemmas.List.Filters.{length-filter_both, sum_by-filter_both}
-use Rattle.std.proofs.lemmas.List.Sums.{sum_by-append}
-use Rattle.std.proofs.Math.Numerals.{suc-eq-add-one}
+use Rattle.std.proofs.lemmas.List.Sums.{sum_by-append, sum_by-cons}
 use Rattle.std.specs.List.{filter, list_any, slice_get, sum_by}
 use Rattle.std.specs.Option.{is_none}
 use Rattle.resource_model.specs.Resource.{ResourceData}
 use Rattle.tree_model.specs.Tree.{has, instance_size}
-use Rattle.container_limits.specs.Limits.{is_within, is_unlimited, do_fit, longest_fit, is_due_by, lasts, goes, going, kept, evicted, numbers_of}
+use Rattle.container_limits.specs.Limits.{is_within, is_unlimited, do_fit, longest_fit, is_due_by, lasts, goes, kept, evicted, numbers_of}
 use Rattle.container_limits.specs.declared.limits.Limits.{Limits}
-use Rattle.tree_model.proofs.OrderLemmas.{ascend}
-use Rattle.tree_model.proofs.StepLemmas.{drop_step, not_not}
+use Rattle.tree_model.proofs.OrderLemmas.{are_above, ascend, above_filter, above_lacks, ascend_back, ascend_parts}
+use Rattle.tree_model.proofs.StepLemmas.{drop_step, dropped_none, dropped_some, not_not}
 use Rattle.container_limits.proofs.PlaceLemmas.{lacked_all}
-use Rattle.m2m_names.proofs.ListLemmas.{filter_same}
+use Rattle.m2m_names.proofs.ListLemmas.{append_parts, filter_same}
 
 -- ---- due or not
 
@@ -101,65 +100,6 @@ nothing_left p rs k past = ap (filter p) (drop_all k rs past)
 
 -- ---- what goes
 
-going_nil : (n : ℕ) (mia : Option ℕ) (moment : ℕ) → going n mia moment [] ≡ []
-going_nil zero mia moment = refl
-going_nil (suc n) mia moment = refl
-
-going_first : (r : ResourceData) (rs : List ResourceData) (n m : ℕ) (b : Bool) (mia : Option ℕ) (moment : ℕ) → (b ≡ true → n ≡ suc m) → (b ≡ false → (n ≡ 0) × (m ≡ 0)) → going n mia moment (r ∷ rs) ≡ filter (goes b mia moment) (r ∷ []) ++ going m mia moment rs
-going_first r rs n m true mia moment out in' = ap (λ (x : ℕ). going x mia moment (r ∷ rs)) (out refl)
-going_first r rs n m false mia moment out in' =
-    let zeros = in' refl in
-    ap (λ (x : ℕ). going x mia moment (r ∷ rs)) zeros.0
-    ∙ first_due
-    ∙ ap (λ (x : ℕ). filter (goes false mia moment) (r ∷ []) ++ going x mia moment rs) (sym zeros.1)
-  where
-    first_due : going 0 mia moment (r ∷ rs) ≡ filter (goes false mia moment) (r ∷ []) ++ going 0 mia moment rs
-    first_due = elim (cases_Bool (is_due_by mia moment r)) [
-      | inl t ↦ rw t refl
-      | inr f ↦ rw f refl
-    ]
-
-going_turn : (rs : List ResourceData) (k n m : ℕ) (b : Bool) (mia : Option ℕ) (moment : ℕ) → (b ≡ true → n ≡ suc m) → (b ≡ false → (n ≡ 0) × (m ≡ 0)) → going n mia moment (drop k rs) ≡ filter (goes b mia moment) (option_to_list (slice_get rs k)) ++ going m mia moment (drop (suc k) rs)
-going_turn [] zero n m b mia moment out in' = going_nil n mia moment ∙ sym (going_nil m mia moment)
-going_turn [] (suc k) n m b mia moment out in' = going_nil n mia moment ∙ sym (going_nil m mia moment)
-going_turn (r ∷ rs) zero n m b mia moment out in' = going_first r rs n m b mia moment out in'
-going_turn (r ∷ rs) (suc k) n m b mia moment out in' = going_turn rs k n m b mia moment out in'
-
--- what is to go from a place on is what goes there and what is to go from the next one on
-pub going_split : (rs : List ResourceData) (k outside : ℕ) (mia : Option ℕ) (moment : ℕ) (o : Option ResourceData) → o ≡ slice_get rs k → numbers_of (going (outside - k) mia moment (drop k rs)) ≡ numbers_of (filter (goes (nat_lt k outside) mia moment) (option_to_list o)) ++ numbers_of (going (outside - (k + 1)) mia moment (drop (k + 1) rs))
-going_split rs k outside mia moment o is =
-    let head = filter (goes (nat_lt k outside) mia moment) (option_to_list (slice_get rs k)) in
-    let tail = going (outside - (k + 1)) mia moment (drop (k + 1) rs) in
-    let split : going (outside - k) mia moment (drop k rs) ≡ head ++ tail =
-    going_turn rs k (outside - k) (outside - (k + 1)) (nat_lt k outside) mia moment (λ t. within t) (λ f. (over f, over_next f))
-    ∙ ap (λ (n : ℕ). head ++ going (outside - (k + 1)) mia moment (drop n rs)) (suc-eq-add-one k) in
-    ap numbers_of split ∙ map-append (λ (r : ResourceData). r.number) head tail
-    ∙ ap (λ (x : Option ResourceData). numbers_of (filter (goes (nat_lt k outside) mia moment) (option_to_list x)) ++ numbers_of tail) (sym is)
-  where
-    within : nat_lt k outside ≡ true → outside - k ≡ suc (outside - (k + 1))
-    within t = (let less : k < outside = ltb-true k outside t in omega arith)
-
-    over : nat_lt k outside ≡ false → outside - k ≡ 0
-    over f = (let more : outside ≤ k = ltb-false k outside f in omega arith)
-
-    over_next : nat_lt k outside ≡ false → outside - (k + 1) ≡ 0
-    over_next f = (let more : outside ≤ k = ltb-false k outside f in omega arith)
-
--- the numbers so far and those of the rest are those of all
-pub gone_turn : (rs : List ResourceData) (k outside : ℕ) (mia : Option ℕ) (moment : ℕ) (now after all : List ℕ) (o : Option ResourceData) → o ≡ slice_get rs k → now ++ numbers_of (going (outside - k) mia moment (drop k rs)) ≡ all → after ≡ now ++ numbers_of (filter (goes (nat_lt k outside) mia moment) (option_to_list o)) → after ++ numbers_of (going (outside - (k + 1)) mia moment (drop (k + 1) rs)) ≡ all
-gone_turn rs k outside mia moment now after all o is rest pushed =
-    let head = numbers_of (filter (goes (nat_lt k outside) mia moment) (option_to_list o)) in
-    let tail = numbers_of (going (outside - (k + 1)) mia moment (drop (k + 1) rs)) in
-    ap (λ (ns : List ℕ). ns ++ tail) pushed
-    ∙ append_assoc now head tail
-    ∙ ap (λ (ns : List ℕ). now ++ ns) (sym (going_split rs k outside mia moment o is))
-    ∙ rest
-
--- where it is known that none is due, and none stands outside, none goes
-pub gone_none : (rs : List ResourceData) (outside : ℕ) (mia : Option ℕ) (moment : ℕ) → outside ≡ 0 → list_any (is_due_by mia moment) rs ≡ false → numbers_of (going outside mia moment rs) ≡ []
-gone_none rs outside mia moment first none =
-    ap (λ (n : ℕ). numbers_of (going n mia moment rs)) first ∙ ap numbers_of (none_end mia moment rs none)
-
 -- without limits on their count and sizes, all stay
 unlimited_by : (mni mbs mia new : Option ℕ) (rs : List ResourceData) → (is_none mni && is_none mbs) ≡ true → longest_fit (record { mni = mni; mbs = mbs; mia = mia }) new rs ≡ rs
 unlimited_by None None mia new [] h = refl
@@ -170,24 +110,7 @@ unlimited_by (Some most) mbs mia new rs h = absurd (false≢true h)
 pub fit_unlimited : (limits : Limits) (new : Option ℕ) (rs : List ResourceData) → is_unlimited limits ≡ true → longest_fit limits new rs ≡ rs
 fit_unlimited limits new rs h = unlimited_by limits.mni limits.mbs limits.mia new rs h
 
-pub gone_quiet : (rs : List ResourceData) (k outside : ℕ) (mia : Option ℕ) (moment : ℕ) (now all : List ℕ) → outside ≤ k → list_any (is_due_by mia moment) rs ≡ false → now ++ numbers_of (going (outside - k) mia moment (drop k rs)) ≡ all → now ≡ all
-gone_quiet rs k outside mia moment now all past none rest =
-    let zero_left : outside - k ≡ 0 = omega arith in
-    let nothing : going (outside - k) mia moment (drop k rs) ≡ [] = ap (λ (n : ℕ). going n mia moment (drop k rs)) zero_left ∙ none_end mia moment (drop k rs) (none_later mia moment k rs none) in
-    sym (append-nil now) ∙ ap (λ (gs : List ResourceData). now ++ numbers_of gs) (sym nothing) ∙ rest
-
--- what goes is what isn't kept
-pub going_evicted : (l : Limits) (new : Option ℕ) (moment n : ℕ) (rs : List ResourceData) → ascend rs ≡ true → kept l new moment rs ≡ filter (lasts l.mia moment) (drop n rs) → numbers_of (going n l.mia moment rs) ≡ evicted l new moment rs
-going_evicted l new moment n rs order stay =
-    let whole : take n rs ++ drop n rs ≡ rs = take-append-drop n rs in
-    let parted = lacked_all (lasts l.mia moment) (take n rs) (drop n rs) (ap ascend whole ∙ order) in
-    let due : filter (λ r. not (lasts l.mia moment r)) (drop n rs) ≡ filter (is_due_by l.mia moment) (drop n rs) = filter_same _ _ (λ r. not_not (is_due_by l.mia moment r)) (drop n rs) in
-    let lacks : filter (λ r. not (has r.number (filter (lasts l.mia moment) (drop n rs)))) rs ≡ going n l.mia moment rs =
-    ap (filter (λ r. not (has r.number (filter (lasts l.mia moment) (drop n rs))))) (sym whole) ∙ parted ∙ ap (λ (ss : List ResourceData). take n rs ++ ss) due in
-    sym (ap (λ (ss : List ResourceData). numbers_of (filter (λ r. not (has r.number ss)) rs)) stay ∙ ap numbers_of lacks)
-
--- ---- the law
-
+-- what is kept of some is a suffix of them
 pub longest_is_suffix : (l : Limits) (new : Option ℕ) (rs : List ResourceData) → (front : List ResourceData) × (front ++ longest_fit l new rs ≡ rs)
 longest_is_suffix l new [] = ([], fit_none l new)
 longest_is_suffix l new (r ∷ rs) = elim (cases_Bool (do_fit l new (r ∷ rs))) [
@@ -196,6 +119,100 @@ longest_is_suffix l new (r ∷ rs) = elim (cases_Bool (do_fit l new (r ∷ rs)))
       let later = longest_is_suffix l new rs in
       (r ∷ later.0, rw f (ap (λ (ss : List ResourceData). r ∷ ss) later.1))
 ]
+
+-- where all that last are kept, those go that are due
+kept_whole : (l : Limits) (new : Option ℕ) (moment : ℕ) (rs : List ResourceData) → ascend rs ≡ true → kept l new moment rs ≡ filter (lasts l.mia moment) rs → evicted l new moment rs ≡ numbers_of (filter (is_due_by l.mia moment) rs)
+kept_whole l new moment rs order stay =
+    ap (λ (ss : List ResourceData). numbers_of (filter (λ r. not (has r.number ss)) rs)) stay
+    ∙ ap numbers_of (lacked_all (lasts l.mia moment) [] rs order ∙ filter_same _ _ (λ r. not_not (is_due_by l.mia moment r)) rs)
+
+-- so it is where these fit
+pub evicted_fit : (l : Limits) (new : Option ℕ) (moment : ℕ) (rs : List ResourceData) → ascend rs ≡ true → do_fit l new (filter (lasts l.mia moment) rs) ≡ true → evicted l new moment rs ≡ numbers_of (filter (is_due_by l.mia moment) rs)
+evicted_fit l new moment rs order fits = kept_whole l new moment rs order (fit_here l new (filter (lasts l.mia moment) rs) fits)
+
+-- and where they may be as many and as large as they are
+pub unlimited_quiet : (l : Limits) (new : Option ℕ) (moment : ℕ) (rs : List ResourceData) → ascend rs ≡ true → is_unlimited l ≡ true → list_any (is_due_by l.mia moment) rs ≡ false → evicted l new moment rs ≡ []
+unlimited_quiet l new moment rs order none_asked none =
+    kept_whole l new moment rs order (fit_unlimited l new (filter (lasts l.mia moment) rs) none_asked)
+    ∙ ap numbers_of (none_end l.mia moment rs none)
+
+-- where they don't fit, the first goes, and then what goes of the rest
+evicted_unfit : (l : Limits) (new : Option ℕ) (moment : ℕ) (r : ResourceData) (rest : List ResourceData) → ascend (r ∷ rest) ≡ true → do_fit l new (filter (lasts l.mia moment) (r ∷ rest)) ≡ false → evicted l new moment (r ∷ rest) ≡ r.number ∷ evicted l new moment rest
+evicted_unfit l new moment r rest order over =
+    let parts = ascend_parts r rest order in
+    let stays = kept l new moment rest in
+    let same : kept l new moment (r ∷ rest) ≡ stays = fit_turn l new (lasts l.mia moment) (r ∷ rest) 0 over in
+    let suffix = longest_is_suffix l new (filter (lasts l.mia moment) rest) in
+    let above : are_above r.number (suffix.0 ++ stays) ≡ true = ap (are_above r.number) suffix.1 ∙ above_filter (lasts l.mia moment) r.number rest parts.above in
+    let behind = append_parts (λ (s : ResourceData). nat_lt r.number s.number) suffix.0 stays above in
+    let lacks : has r.number stays ≡ false = above_lacks r.number stays behind.back in
+    ap (λ (ss : List ResourceData). numbers_of (filter (λ s. not (has s.number ss)) (r ∷ rest))) same
+    ∙ rw lacks refl
+
+within_less : (n m : ℕ) (limit : Option ℕ) → m ≤ n → is_within n limit ≡ true → is_within m limit ≡ true
+within_less n m None less within = refl
+within_less n m (Some most) less within = (let all : n ≤ most = leb-true n most within in le-leb m most (omega arith))
+
+-- what is left of what fits does
+fit_less : (l : Limits) (new : Option ℕ) (p : ResourceData → Bool) (r : ResourceData) (rest : List ResourceData) → do_fit l new (filter p (r ∷ rest)) ≡ true → do_fit l new (filter p rest) ≡ true
+fit_less l new p r rest fits = elim (cases_Bool (p r)) [
+  | inl t ↦
+      let ys = filter p rest in
+      let all : do_fit l new (r ∷ ys) ≡ true = rw t at fits in
+      let both = and_parts (is_within (length (r ∷ ys) + length (option_to_list new)) l.mni) (is_within (sum_by instance_size (r ∷ ys) + unwrap_or new 0) l.mbs) all in
+      let sum : sum_by instance_size (r ∷ ys) ≡ instance_size r + sum_by instance_size ys = sum_by-cons instance_size r ys in
+      ap (λ b. b && is_within (sum_by instance_size ys + unwrap_or new 0) l.mbs) (within_less (length (r ∷ ys) + length (option_to_list new)) (length ys + length (option_to_list new)) l.mni (omega arith) both.0)
+      ∙ within_less (sum_by instance_size (r ∷ ys) + unwrap_or new 0) (sum_by instance_size ys + unwrap_or new 0) l.mbs (omega (arith, sum)) both.1
+  | inr f ↦ rw f at fits
+]
+
+-- what goes of some is what goes of the first, which goes where they don't fit or it is due, and
+-- what goes of the rest
+evicted_first : (l : Limits) (new : Option ℕ) (moment : ℕ) (r : ResourceData) (rest : List ResourceData) (fits : Bool) → ascend (r ∷ rest) ≡ true → fits ≡ do_fit l new (filter (lasts l.mia moment) (r ∷ rest)) → evicted l new moment (r ∷ rest) ≡ numbers_of (filter (goes (not fits) l.mia moment) (r ∷ [])) ++ evicted l new moment rest
+evicted_first l new moment r rest false order is = evicted_unfit l new moment r rest order (sym is)
+evicted_first l new moment r rest true order is =
+    let later : numbers_of (filter (is_due_by l.mia moment) rest) ≡ evicted l new moment rest = sym (evicted_fit l new moment rest (ascend_parts r rest order).rest (fit_less l new (lasts l.mia moment) r rest (sym is))) in
+    evicted_fit l new moment (r ∷ rest) order (sym is)
+    ∙ elim (cases_Bool (is_due_by l.mia moment r)) [
+      | inl t ↦ rw t (ap (λ (ns : List ℕ). r.number ∷ ns) later)
+      | inr f ↦ rw f later
+    ]
+
+pub evicted_turn : (l : Limits) (new : Option ℕ) (moment : ℕ) (rs : List ResourceData) (k : ℕ) (o : Option ResourceData) (fits : Bool) → ascend rs ≡ true → o ≡ slice_get rs k → fits ≡ do_fit l new (filter (lasts l.mia moment) (drop k rs)) → evicted l new moment (drop k rs) ≡ numbers_of (filter (goes (not fits) l.mia moment) (option_to_list o)) ++ evicted l new moment (drop (k + 1) rs)
+evicted_turn l new moment rs k None fits order at_k is =
+    let none : drop k rs ≡ [] = dropped_none rs k (sym at_k) in
+    let later : drop (k + 1) rs ≡ [] = sym (drop_step rs k ∙ ap (λ (x : Option ResourceData). option_to_list x ++ drop (k + 1) rs) (sym at_k)) ∙ none in
+    ap (evicted l new moment) (none ∙ sym later)
+evicted_turn l new moment rs k (Some r) fits order at_k is =
+    let split : drop k rs ≡ r ∷ drop (k + 1) rs = dropped_some rs k r (sym at_k) in
+    let whole : ascend (drop k rs) ≡ true = ascend_back (take k rs) (drop k rs) (ap ascend (take-append-drop k rs) ∙ order) in
+    ap (evicted l new moment) split
+    ∙ evicted_first l new moment r (drop (k + 1) rs) fits (ap ascend (sym split) ∙ whole) (is ∙ ap (λ (ss : List ResourceData). do_fit l new (filter (lasts l.mia moment) ss)) split)
+
+-- the numbers so far and those that go of the rest are those that go
+pub gone_turn : (l : Limits) (new : Option ℕ) (moment : ℕ) (rs : List ResourceData) (k : ℕ) (now after all : List ℕ) (o : Option ResourceData) (fits : Bool) → ascend rs ≡ true → o ≡ slice_get rs k → fits ≡ do_fit l new (filter (lasts l.mia moment) (drop k rs)) → now ++ evicted l new moment (drop k rs) ≡ all → after ≡ now ++ numbers_of (filter (goes (not fits) l.mia moment) (option_to_list o)) → after ++ evicted l new moment (drop (k + 1) rs) ≡ all
+gone_turn l new moment rs k now after all o fits order at_k is rest pushed =
+    let head = numbers_of (filter (goes (not fits) l.mia moment) (option_to_list o)) in
+    let tail = evicted l new moment (drop (k + 1) rs) in
+    ap (λ (ns : List ℕ). ns ++ tail) pushed
+    ∙ append_assoc now head tail
+    ∙ ap (λ (ns : List ℕ). now ++ ns) (sym (evicted_turn l new moment rs k o fits order at_k is))
+    ∙ rest
+
+-- where none is due, and the rest fits, no more goes
+pub gone_quiet : (l : Limits) (new : Option ℕ) (moment : ℕ) (rs : List ResourceData) (k : ℕ) (now all : List ℕ) → ascend rs ≡ true → do_fit l new (filter (lasts l.mia moment) (drop k rs)) ≡ true → list_any (is_due_by l.mia moment) rs ≡ false → now ++ evicted l new moment (drop k rs) ≡ all → now ≡ all
+gone_quiet l new moment rs k now all order fits none rest =
+    let whole : ascend (drop k rs) ≡ true = ascend_back (take k rs) (drop k rs) (ap ascend (take-append-drop k rs) ∙ order) in
+    let nothing : evicted l new moment (drop k rs) ≡ [] = evicted_fit l new moment (drop k rs) whole fits ∙ ap numbers_of (none_end l.mia moment (drop k rs) (none_later l.mia moment k rs none)) in
+    sym (append-nil now) ∙ ap (λ (ns : List ℕ). now ++ ns) (sym nothing) ∙ rest
+
+-- nor behind the last
+pub gone_all : (l : Limits) (new : Option ℕ) (moment : ℕ) (rs : List ResourceData) (k : ℕ) (now all : List ℕ) → length rs ≤ k → now ++ evicted l new moment (drop k rs) ≡ all → now ≡ all
+gone_all l new moment rs k now all past rest =
+    let nothing : evicted l new moment (drop k rs) ≡ [] = ap (evicted l new moment) (drop_all k rs past) in
+    sym (append-nil now) ∙ ap (λ (ns : List ℕ). now ++ ns) (sym nothing) ∙ rest
+
+-- ---- the law
 
 pub longest_fits : (l : Limits) (new : Option ℕ) (rs : List ResourceData) → do_fit l new [] ≡ true → do_fit l new (longest_fit l new rs) ≡ true
 longest_fits l new [] fits = ap (do_fit l new) (fit_none l new) ∙ fits

@@ -1,5 +1,5 @@
 -- What the limits of a container leave of its instances (TS-0001, 9.6.6).
-use Rattle.std.specs.Prelude.{◌≡◌, ℕ, ◌+◌, ◌==◌, nat_le, List, [], ◌∷◌, ◌++◌, length, take, drop}
+use Rattle.std.specs.Prelude.{◌≡◌, ℕ, ◌+◌, ◌==◌, nat_le, List, [], ◌∷◌, length}
 use Rattle.std.specs.Prelude.{filter, find, sum_by, Bool, true, false, not, ◌&&◌, ◌||◌}
 use Rattle.std.specs.Prelude.{if◌then◌else◌, Option, Some, option_to_list, unwrap_or}
 use Rattle.std.specs.Bool.{OnTrue}
@@ -85,7 +85,3 @@ evicted limits new moment rs =
 -- where it is known so, none of them is due
 abbrev pub IsQuiet : Bool → Option ℕ → ℕ → List ResourceData → Type 0
 IsQuiet quiet mia moment rs = OnTrue quiet (list_any (is_due_by mia moment) rs ≡ false)
-
--- the oldest ones, and those after them that are due
-abbrev pub going : ℕ → Option ℕ → ℕ → List ResourceData → List ResourceData
-going outside mia moment rs = take outside rs ++ filter (is_due_by mia moment) (drop outside rs)

@@ -1,8 +1,8 @@
 //! What the limits of a container push out.
 ghost use Rattle.std.specs.Prelude.{◌≡◌, ◌≢◌, ◌^◌, ◌<◌, [], ◌∷◌, ◌++◌, length, filter, sum_by};
-ghost use Rattle.std.specs.Prelude.{drop, option_map, option_to_list, IfOk, OnOk, OnErr};
-ghost use Rattle.tree_model.specs.Tree.{instances_of, instance_size};
-ghost use Rattle.container_limits.specs.Limits.{lasts, goes, going, kept, evicted, numbers_of};
+ghost use Rattle.std.specs.Prelude.{option_map, option_to_list, IfOk, IsTrue, OnOk, OnErr};
+ghost use Rattle.tree_model.specs.Tree.{instances_of, instance_size, is_tree};
+ghost use Rattle.container_limits.specs.Limits.{lasts, goes, evicted, numbers_of};
 ghost use Rattle.container_limits.specs.Limits.{IsQuiet};
 
 use crate::instances::{is_quiet, lasting_total, total, with_new, without};
@@ -30,57 +30,65 @@ pub fn evictions<T: Tree>(
         (evicted limits new_size moment (instances_of container (T.nodes tree.now)) ≢ []) }
 {
     let quiet = is_quiet(tree, container, limits.mia, moment);
-    let outside = count_outside(tree, container, limits, new_size, moment, quiet);
-    Ok(Numbers::of(gone(alloc, tree, container, limits.mia, moment, outside, quiet)?))
+    Ok(Numbers::of(gone(alloc, tree, container, limits, new_size, moment, quiet)?))
 }
 
-// How many of the oldest instances stand before those that stay. Where neither the count nor the
-// sum of sizes has a limit, none is looked at.
-fn count_outside<T: Tree>(
+// Where it is known that none is due, and neither the count nor the sum of sizes has a limit, none
+// is looked at.
+fn gone<T: Tree>(
+    alloc: Global,
     tree: &T,
     container: u64,
     limits: Limits,
     new_size: Option<u64>,
     moment: u64,
     quiet: bool,
-) -> u64
-    requires { IsQuiet quiet limits.mia moment (instances_of container (T.nodes tree.now)) }
-    ensures { kept limits new_size moment (instances_of container (T.nodes tree.now))
-        ≡ filter (lasts limits.mia moment) (drop result
-        (instances_of container (T.nodes tree.now))) }
+) -> Result<Vec<u64>, OutOfMemory>
+    requires tree { IsTrue (is_tree (T.nodes tree.now)) }
+    requires quiet { IsQuiet quiet limits.mia moment (instances_of container (T.nodes tree.now)) }
+    ensures value { IfOk result (λ v. v.items
+        ≡ evicted limits new_size moment (instances_of container (T.nodes tree.now))) }
+    ensures memory { OnErr result
+        (evicted limits new_size moment (instances_of container (T.nodes tree.now)) ≢ []) }
 {
-    if is_unlimited(limits) {
-        return 0;
+    if quiet && is_unlimited(limits) {
+        return Ok(Vec::new(alloc));
     }
-    count_before_fit(tree, container, limits, new_size, moment, quiet)
+    some_gone(alloc, tree, container, limits, new_size, moment, quiet)
 }
 
-// The same, by going over the oldest ones until the rest is within the limits.
-fn count_before_fit<T: Tree>(
+// The same, by going over the instances once: the oldest ones go until the rest is within the
+// limits, and of the rest those that are due.
+fn some_gone<T: Tree>(
+    alloc: Global,
     tree: &T,
     container: u64,
     limits: Limits,
     new_size: Option<u64>,
     moment: u64,
     quiet: bool,
-) -> u64
-    requires { IsQuiet quiet limits.mia moment (instances_of container (T.nodes tree.now)) }
-    ensures { kept limits new_size moment (instances_of container (T.nodes tree.now))
-        ≡ filter (lasts limits.mia moment) (drop result
-        (instances_of container (T.nodes tree.now))) }
+) -> Result<Vec<u64>, OutOfMemory>
+    requires tree { IsTrue (is_tree (T.nodes tree.now)) }
+    requires quiet { IsQuiet quiet limits.mia moment (instances_of container (T.nodes tree.now)) }
+    ensures value { IfOk result (λ v. v.items
+        ≡ evicted limits new_size moment (instances_of container (T.nodes tree.now))) }
+    ensures memory { OnErr result
+        (evicted limits new_size moment (instances_of container (T.nodes tree.now)) ≢ []) }
 {
     let lasting = total_of(tree, container, limits.mia, moment, quiet);
     let mut left = with_new(lasting, new_size);
+    let mut numbers = Vec::new(alloc);
     let mut oldest = over_instances(tree, container);
-    let count = tree.instance_count(container);
-    for k in 0..count {
-        if is_total_within(left, limits) {
-            return k;
+    for k in 0..tree.instance_count(container) {
+        let fits = is_total_within(left, limits);
+        if fits && quiet {
+            return Ok(numbers);
         }
         let instance = oldest.next();
+        push_gone(&mut numbers, instance, !fits, limits.mia, moment)?;
         left = without(left, instance, false, limits.mia, moment);
     }
-    count
+    Ok(numbers)
 }
 
 // The total of those that aren't due.
@@ -98,57 +106,6 @@ fn total_of<T: Tree>(tree: &T, container: u64, mia: Option<u64>, moment: u64, qu
     } else {
         lasting_total(tree, container, mia, moment)
     }
-}
-
-// The numbers of the oldest ones, and of those after them that are due. Where it is known that none
-// goes, none is looked at.
-fn gone<T: Tree>(
-    alloc: Global,
-    tree: &T,
-    container: u64,
-    mia: Option<u64>,
-    moment: u64,
-    outside: u64,
-    quiet: bool,
-) -> Result<Vec<u64>, OutOfMemory>
-    requires { IsQuiet quiet mia moment (instances_of container (T.nodes tree.now)) }
-    ensures value { IfOk result (λ v. v.items
-        ≡ numbers_of (going outside mia moment (instances_of container (T.nodes tree.now)))) }
-    ensures memory { OnErr result
-        (numbers_of (going outside mia moment (instances_of container (T.nodes tree.now))) ≢ []) }
-{
-    if outside == 0 && quiet {
-        return Ok(Vec::new(alloc));
-    }
-    some_gone(alloc, tree, container, mia, moment, outside, quiet)
-}
-
-// The same, by going over the instances.
-fn some_gone<T: Tree>(
-    alloc: Global,
-    tree: &T,
-    container: u64,
-    mia: Option<u64>,
-    moment: u64,
-    outside: u64,
-    quiet: bool,
-) -> Result<Vec<u64>, OutOfMemory>
-    requires { IsQuiet quiet mia moment (instances_of container (T.nodes tree.now)) }
-    ensures value { IfOk result (λ v. v.items
-        ≡ numbers_of (going outside mia moment (instances_of container (T.nodes tree.now)))) }
-    ensures memory { OnErr result
-        (numbers_of (going outside mia moment (instances_of container (T.nodes tree.now))) ≢ []) }
-{
-    let mut numbers = Vec::new(alloc);
-    let mut oldest = over_instances(tree, container);
-    for k in 0..tree.instance_count(container) {
-        if k >= outside && quiet {
-            return Ok(numbers);
-        }
-        let instance = oldest.next();
-        push_gone(&mut numbers, instance, k < outside, mia, moment)?;
-    }
-    Ok(numbers)
 }
 
 fn push_gone(

@@ -1,5 +1,5 @@
 -- A resource that may join an entity: what the tree asks of it, and that the entity stays sound.
-use Rattle.std.proofs.Common.{◌≡◌, ℕ, ◌+◌, List, [], ◌∷◌, ◌++◌, true, false, Option, Some, is_some, sym, ap, ◌∙◌, subst}
+use Rattle.std.proofs.Common.{◌≡◌, ℕ, ◌+◌, List, [], ◌∷◌, ◌++◌, true, false, Option, Some, None, is_some, sym, ap, ◌∙◌, subst}
 use Rattle.std.specs.Option.{option_map_or}
 use Rattle.m2m_names.specs.declared.attributes.Attr.TheVariants.{St}
 use Rattle.m2m_names.specs.declared.types.Ty.TheVariants.{Container}
@@ -13,7 +13,7 @@ use Rattle.container_limits.specs.Limits.{evicted, limits_of}
 use Rattle.entity_model.specs.Entity.{EntityData}
 use Rattle.entity_model.specs.Sound.{has_state_tag, IsSoundEntity}
 use Rattle.create_delete.specs.Changing.{nodes_joined, with_new_instance, pushed_out, without_all}
-use Rattle.create_delete.specs.Joining.{MayJoinContainer}
+use Rattle.create_delete.specs.Joining.{JoinsAt, MayJoinContainer}
 use Rattle.create_delete.specs.NewResource.{IsNewInstance, IsNewResource}
 use Rattle.create_delete.specs.declared.joining.ContainerUpdate.{ContainerUpdate}
 use Rattle.create_delete.proofs.InstanceLemmas.{grown_tree, is_container, sound_filled, there}
@@ -21,6 +21,11 @@ use Rattle.tree_model.proofs.GrowthLemmas.{fits_parts}
 
 pub newcomer_fits : (e : EntityData) (r : ResourceData) → IsNewResource e r → may_stand e.nodes r ≡ true
 newcomer_fits e r new = (fits_parts e.nodes r new.fits).stands
+
+-- whatever joins may stand
+pub joining_fits : (moment : ℕ) (nodes : List ResourceData) (r : ResourceData) (f : Option ContainerUpdate) → JoinsAt moment nodes r f → may_stand nodes r ≡ true
+joining_fits moment nodes r None joins = subst (λ (ns : List ResourceData). may_stand ns r ≡ true) joins.stand (newcomer_fits joins.entity r joins.may.0)
+joining_fits moment nodes r (Some f) joins = subst (λ (ns : List ResourceData). may_stand ns r ≡ true) joins.stand (newcomer_fits joins.entity r joins.may.joins.new)
 
 -- the container has a state tag
 tagged : (c : ResourceData) → is_ty c.ty Container ≡ true → has_state_tag c ≡ true → is_some (value_of St c.attrs) ≡ true

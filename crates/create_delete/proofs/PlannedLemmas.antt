@@ -20,8 +20,8 @@ use Rattle.entity_model.specs.Sound.{IsSoundEntity}
 use Rattle.request_rules.specs.Creation.{creation_of}
 use Rattle.request_rules.specs.Judged.{IsCreateOf, IsUpdateOf, creation_for}
 use Rattle.request_rules.specs.Order.{creation_by, fault_at}
-use Rattle.request_rules.specs.declared.judging.AllowedCreate.{AllowedCreate}
-use Rattle.request_rules.specs.declared.judging.AllowedUpdate.{AllowedUpdate}
+use Rattle.request_rules.specs.declared.allowed.AllowedCreate.{AllowedCreate}
+use Rattle.request_rules.specs.declared.allowed.AllowedUpdate.{AllowedUpdate}
 use Rattle.request_rules.specs.Requests.{content_for}
 use Rattle.request_rules.proofs.OrderLemmas.{found_at, nothing_on}
 use Rattle.create_delete.specs.Changing.{after_joining, create_effect, nodes_updated, effect_at, pushed_by, update_effect}

@@ -1,7 +1,6 @@
 -- What limits push out goes in order of creation.
-use Rattle.std.proofs.Common.{◌≡◌, ℕ, List, [], true, not, Option, None, inl, inr}
+use Rattle.std.proofs.Common.{◌≡◌, ℕ, List, true, not, Option, None, inl, inr}
 use Rattle.std.proofs.lemmas.Bool.{cases_Bool}
-use Rattle.std.specs.List.Sorted.{IsStrictlySortedBy}
 use Rattle.m2m_names.specs.declared.types.Ty.TheVariants.{Container}
 use Rattle.resource_model.specs.Resource.{ResourceData, is_ty}
 use Rattle.tree_model.specs.Tree.{has, is_instance, instances_of, is_tree, DoAscend}
@@ -10,16 +9,13 @@ use Rattle.tree_model.proofs.ManyLemmas.{picked_ascend}
 use Rattle.container_limits.specs.Limits.{evicted, kept, limits_of}
 use Rattle.container_limits.specs.declared.limits.Limits.{Limits}
 use Rattle.entity_model.specs.Entity.{EntityData}
+pub use Rattle.entity_model.proofs.OnePassLemmas.{none_ascend}
 use Rattle.create_delete.specs.Changing.{pushed_by}
 
 -- the numbers of what the limits of a container push out ascend
 pub evicted_ascend : (limits : Limits) (size : Option ℕ) (moment n : ℕ) (nodes : List ResourceData) → is_tree nodes ≡ true → DoAscend (evicted limits size moment (instances_of n nodes))
 evicted_ascend limits size moment n nodes tree =
     picked_ascend (is_instance n) (λ r. not (has r.number (kept limits size moment (instances_of n nodes)))) nodes tree
-
-pub none_ascend : DoAscend []
-unfolding IsStrictlySortedBy
-none_ascend = tt
 
 pub pushed_ascend : (e : EntityData) (c : ResourceData) → is_tree e.nodes ≡ true → DoAscend (pushed_by e c)
 pushed_ascend e c tree = elim (cases_Bool (is_ty c.ty Container)) [

@@ -10,7 +10,7 @@ use Rattle.m2m_names.specs.Name.{is_free_name}
 use Rattle.m2m_names.specs.Types.{ty_member}
 use Rattle.m2m_names.specs.declared.types.Ty.{Ty}
 use Rattle.m2m_names.specs.declared.types.Ty.TheVariants.{AccessControlPolicy, Ae, Container, ContentInstance, CseBase, Group, PollingChannel, RemoteCse, Subscription, AccessControlPolicyAnnc, AeAnnc, ContainerAnnc, ContentInstanceAnnc, GroupAnnc}
-use Rattle.m2m_names.proofs.NameLemmas.{free_name_parts, name_is_utf8}
+use Rattle.m2m_names.proofs.NameLemmas.{free_name_parts, graphic_is_utf8, name_is_utf8}
 use Rattle.m2m_value.specs.Data.{Data, Entry}
 use Rattle.m2m_value.specs.Node.{AreSorted}
 use Rattle.resource_model.specs.Resource.{ResourceData}
@@ -48,6 +48,23 @@ type_first GroupAnnc a b = ((refl, tt), (tt, tt))
 
 pub sorted_with_address : (es : List Entry) (ty : Ty) (a b : Data) → es ≡ ([] ++ (ty_member ty, a) ∷ []) ++ (codes "uri", b) ∷ [] → AreSorted es
 sorted_with_address es ty a b is = subst AreSorted (sym is) (type_first ty a b)
+
+-- the name of a type is UTF-8
+pub type_utf8 : (ty : Ty) → IsUtf8 (ty_member ty)
+type_utf8 AccessControlPolicy = graphic_is_utf8 (codes "m2m:acp") refl
+type_utf8 Ae = graphic_is_utf8 (codes "m2m:ae") refl
+type_utf8 Container = graphic_is_utf8 (codes "m2m:cnt") refl
+type_utf8 ContentInstance = graphic_is_utf8 (codes "m2m:cin") refl
+type_utf8 CseBase = graphic_is_utf8 (codes "m2m:cb") refl
+type_utf8 Group = graphic_is_utf8 (codes "m2m:grp") refl
+type_utf8 PollingChannel = graphic_is_utf8 (codes "m2m:pch") refl
+type_utf8 RemoteCse = graphic_is_utf8 (codes "m2m:csr") refl
+type_utf8 Subscription = graphic_is_utf8 (codes "m2m:sub") refl
+type_utf8 AccessControlPolicyAnnc = graphic_is_utf8 (codes "m2m:acpA") refl
+type_utf8 AeAnnc = graphic_is_utf8 (codes "m2m:aeA") refl
+type_utf8 ContainerAnnc = graphic_is_utf8 (codes "m2m:cntA") refl
+type_utf8 ContentInstanceAnnc = graphic_is_utf8 (codes "m2m:cinA") refl
+type_utf8 GroupAnnc = graphic_is_utf8 (codes "m2m:grpA") refl
 
 -- ---- the address of what comes last
 

@@ -1,25 +1,20 @@
 //! The resource that a Create makes.
 ghost use Rattle.std.specs.Prelude.{◌≡◌, ◌<◌, IfOk, IsTrue, IsUtf8, OnOk, pos};
-ghost use Rattle.std.specs.Prelude.{unwrap_or};
 ghost use Rattle.m2m_names.specs.Ids.{count_bound};
 ghost use Rattle.m2m_names.specs.Name.{is_originator};
-ghost use Rattle.m2m_names.specs.Stamps.{last_moment};
 ghost use Rattle.m2m_value.specs.Data as json;
 ghost use Rattle.resource_model.specs.Attributes.{with_value};
 ghost use Rattle.tree_model.specs.Shown.{with_rows};
 ghost use Rattle.request_rules.specs.Creation as spec;
-ghost use Rattle.request_rules.specs.Groups.{group_rows, membership_by};
-ghost use Rattle.request_rules.specs.Judged.{creation_for};
+ghost use Rattle.request_rules.specs.Judged.{IsCreateBy, creation_for};
 ghost use Rattle.request_rules.specs.Policies as policies;
 ghost use Rattle.create_delete.specs.Joining.{IsAllowed};
 
-use attribute_rules::{is_named, wanted_in};
+use attribute_rules::{is_named, kept_attrs};
 use entity_model::Entity;
-use m2m_names::{Attr, LARGEST_COUNT, LAST_MOMENT, Ty};
+use m2m_names::{Attr, LARGEST_COUNT, Ty};
 use m2m_value::{Items, Members, Text, Val};
-use request_rules::{
-    AllowedCreate, listed, new_ae_id, new_name, new_owner, policy_ids, size_named,
-};
+use request_rules::{AllowedCreate, listed, new_ae_id, new_owner, policy_ids};
 use std::alloc::{AllocError as OutOfMemory, Global};
 use tree_model::{Attrs, Moments, Resource, Tree};
 
@@ -70,8 +65,8 @@ fn give<T: Tree>(
 ) -> Result<(), OutOfMemory>
     requires originator { IsTrue (is_originator originator.now) }
     requires allowed { IsAllowed (creation_for entity.now originator.now create.now) }
-    requires members { create.now.members.items
-        ≡ group_rows entity.now (membership_by create.now.ty create.now.named.now) }
+    requires parts { IsCreateBy entity.now create.now.ty create.now.parent.now create.now.named.now
+        create.now }
     ensures { OnOk result (attrs.new ≡ with_rows (spec.given_rows create.now.ty
         (creation_for entity.now originator.now create.now)) attrs.old) }
 {
@@ -79,7 +74,7 @@ fn give<T: Tree>(
         Ty::Ae => set_text(attrs, Attr::Aei, new_ae_id(alloc, originator, entity.next)?),
         Ty::Container => set_count(attrs, Attr::St, 0),
         Ty::ContentInstance => {
-            set_count(attrs, Attr::Cs, size_named(create.named))?;
+            set_count(attrs, Attr::Cs, create.size)?;
             set_count(attrs, Attr::St, next_state(create.parent))
         }
         Ty::Group => keep_members(alloc, &create.members, attrs),
@@ -143,8 +138,8 @@ fn add_besides<T: Tree>(
 ) -> Result<(), OutOfMemory>
     requires originator { IsTrue (is_originator originator.now) }
     requires allowed { IsAllowed (creation_for entity.now originator.now create.now) }
-    requires members { create.now.members.items
-        ≡ group_rows entity.now (membership_by create.now.ty create.now.named.now) }
+    requires parts { IsCreateBy entity.now create.now.ty create.now.parent.now create.now.named.now
+        create.now }
     ensures { OnOk result (attrs.new ≡ with_rows (spec.rows_besides
         (creation_for entity.now originator.now create.now)) attrs.old) }
 {
@@ -155,41 +150,32 @@ fn add_besides<T: Tree>(
     Ok(())
 }
 
-fn moments_at(moment: u64, et: Option<u64>) -> Moments
-    ensures { result ≡ record { ct = moment; lt = moment; et = unwrap_or et last_moment } }
-{
-    Moments {
-        ct: moment,
-        lt: moment,
-        et: et.unwrap_or(LAST_MOMENT),
-    }
-}
-
 /// The resource that a Create makes which no place refuses.
 #[tactic(auto, using(crate::proofs::CreatedLemmas::parts_of_the_created))]
 pub(crate) fn new_resource<T: Tree>(
     alloc: Global,
     entity: &Entity<T>,
     originator: &[u8],
-    create: &AllowedCreate,
+    create: AllowedCreate<'_>,
 ) -> Result<Resource, OutOfMemory>
     requires originator { IsTrue (is_originator originator.now) }
-    requires allowed { IsAllowed (creation_for entity.now originator.now create.now) }
-    requires members { create.now.members.items
-        ≡ group_rows entity.now (membership_by create.now.ty create.now.named.now) }
+    requires allowed { IsAllowed (creation_for entity.now originator.now create) }
+    requires parts { IsCreateBy entity.now create.ty create.parent.now create.named.now create }
     ensures { IfOk result (λ r.
-        r ≡ spec.new_resource (creation_for entity.now originator.now create.now)) }
+        r ≡ spec.new_resource (creation_for entity.now originator.now create.entry)) }
 {
-    let wanted = wanted_in(alloc, create.ty, create.named)?;
-    let moments = moments_at(entity.last, wanted.et);
-    let name = new_name(alloc, create.ty, entity.next, wanted.name)?;
+    let moments = Moments {
+        ct: entity.last,
+        lt: entity.last,
+        et: create.et,
+    };
     let owner = new_owner(alloc, originator, create.ty, entity.next)?;
-    let mut attrs = wanted.attrs;
-    add_besides(alloc, entity, originator, create, &mut attrs)?;
+    let mut attrs = kept_attrs(alloc, create.named)?;
+    add_besides(alloc, entity, originator, &create, &mut attrs)?;
     Ok(Resource::of(
         entity.next,
         create.ty,
-        name,
+        create.name,
         create.parent.number(),
         owner,
         moments,

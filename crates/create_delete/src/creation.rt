@@ -3,8 +3,8 @@ ghost use Rattle.std.specs.Prelude.{◌≡◌, ℕ, List, IfOk, OnOk, OnErr, IsT
 ghost use Rattle.m2m_names.specs.Name.{is_originator};
 ghost use Rattle.m2m_names.specs.declared.operations.Op.TheVariants.{Create};
 ghost use Rattle.entity_model.specs.Sound.{IsSoundEntity};
-ghost use Rattle.request_rules.specs.Groups.{group_rows, membership_by};
-ghost use Rattle.request_rules.specs.Judged.{Judges, creation_for};
+ghost use Rattle.request_rules.specs.Creation.{size_named};
+ghost use Rattle.request_rules.specs.Judged.{IsCreateBy, Judges, creation_for};
 ghost use Rattle.request_rules.specs.Order.{fault_at};
 ghost use Rattle.create_delete.specs.Changing.{after_joining, create_effect, container_update_of};
 ghost use Rattle.create_delete.specs.Joining.{IsAllowed, MayJoin};
@@ -19,7 +19,7 @@ use crate::telling::created_content;
 use entity_model::{Entity, refuse, reply_to, tell};
 use m2m_names::{Rsc, Ty};
 use primitive_json::{Reply, Request};
-use request_rules::{AllowedCreate, Refusal, judge_create, size_named};
+use request_rules::{AllowedCreate, Refusal, judge_create};
 use std::alloc::{AllocError as OutOfMemory, Global};
 use tree_model::{Resource, Tree};
 
@@ -69,7 +69,7 @@ fn plan<T: Tree>(
         (IsPreparedCreate entity.now originator.now request.now parent) }
 {
     let create = judge_create(alloc, entity, originator, request, parent)?;
-    Ok(prepare(alloc, entity, originator, request, &create)?)
+    Ok(prepare(alloc, entity, originator, request, create)?)
 }
 
 // The resource, what it does besides, and the reply.
@@ -78,21 +78,20 @@ fn prepare<T: Tree>(
     entity: &Entity<T>,
     originator: &[u8],
     request: &Request,
-    create: &AllowedCreate,
+    create: AllowedCreate<'_>,
 ) -> Result<PreparedCreate, OutOfMemory>
     requires originator { IsTrue (is_originator originator.now) }
     requires sound { IsSoundEntity entity.now }
-    requires allowed { IsAllowed (creation_for entity.now originator.now create.now) }
-    requires members { create.now.members.items
-        ≡ group_rows entity.now (membership_by create.now.ty create.now.named.now) }
+    requires allowed { IsAllowed (creation_for entity.now originator.now create) }
+    requires parts { IsCreateBy entity.now create.ty create.parent.now create.named.now create }
     ensures may { IfOk result (λ p. MayJoin entity.now p.resource p.update) }
     ensures reply { IfOk result (λ p. p.reply
-        ≡ (create_effect request.now (creation_for entity.now originator.now create.now)).reply) }
+        ≡ (create_effect request.now (creation_for entity.now originator.now create.entry)).reply) }
     ensures after { IfOk result (λ p. after_joining entity.now p.resource p.update
-        ≡ (create_effect request.now (creation_for entity.now originator.now create.now)).after) }
+        ≡ (create_effect request.now (creation_for entity.now originator.now create.entry)).after) }
 {
+    let update = container_update(alloc, entity, &create)?;
     let resource = new_resource(alloc, entity, originator, create)?;
-    let update = container_update(alloc, entity, create)?;
     let told = created_content(alloc, entity, request, &resource)?;
     let reply = reply_to(alloc, request, Rsc::Created, told)?;
     Ok(PreparedCreate {
@@ -107,6 +106,7 @@ fn container_update<T: Tree>(
     entity: &Entity<T>,
     create: &AllowedCreate,
 ) -> Result<Option<ContainerUpdate>, OutOfMemory>
+    requires { create.now.size ≡ size_named create.now.named.now }
     ensures { IfOk result (λ f. (originator : List ℕ) →
         f ≡ container_update_of (creation_for entity.now originator create.now)) }
 {
@@ -117,7 +117,7 @@ fn container_update<T: Tree>(
     Ok(Some(ContainerUpdate {
         container: container.number(),
         state: next_state(container),
-        gone: pushed_out(alloc, entity, container, Some(size_named(create.named)))?,
+        gone: pushed_out(alloc, entity, container, Some(create.size))?,
     }))
 }
 

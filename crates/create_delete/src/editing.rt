@@ -13,9 +13,9 @@ ghost use Rattle.create_delete.specs.Changing as spec;
 use crate::building::{keep_members, link, next_state, set_count};
 use attribute_rules::{Edit, edit_in, is_named};
 use entity_model::Entity;
-use m2m_names::{Attr, LAST_MOMENT, Ty};
+use m2m_names::{Attr, Ty};
 use m2m_value::Members;
-use request_rules::{AllowedUpdate, named_expiry};
+use request_rules::{AllowedUpdate, expiry_for};
 use resource_model::AttrSet;
 use std::alloc::{AllocError as OutOfMemory, Global};
 use tree_model::{Attrs, Moments, Resource, Tree};
@@ -98,7 +98,7 @@ fn expiry_after(members: &Members, et: u64) -> u64
     ensures bound { result ≤ last_moment }
 {
     if is_named(Attr::Et, members) {
-        named_expiry(members).unwrap_or(LAST_MOMENT)
+        expiry_for(members)
     } else {
         et
     }

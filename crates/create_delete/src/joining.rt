@@ -1,5 +1,5 @@
 //! A new resource joins a tree.
-ghost use Rattle.std.specs.Prelude.{◌≡◌, OnOk, OnErr, Some};
+ghost use Rattle.std.specs.Prelude.{◌≡◌, OnOk, OnErr};
 ghost use Rattle.create_delete.specs.Changing.{nodes_joined};
 ghost use Rattle.create_delete.specs.Joining.{JoinsAt};
 
@@ -17,8 +17,8 @@ pub(crate) struct ContainerUpdate {
     pub(crate) gone: Numbers,
 }
 
-/// Puts a resource last at a moment, with what it does besides. Where memory runs out, nothing has
-/// changed.
+/// Puts a resource last at a moment. Of a content instance the container is stamped anew, and what
+/// doesn't fit beside it goes. Where memory runs out, nothing has changed.
 pub(crate) fn put_new_resource<T: Tree>(
     tree: &mut T,
     moment: u64,
@@ -30,26 +30,13 @@ pub(crate) fn put_new_resource<T: Tree>(
         (T.nodes tree.new ≡ nodes_joined moment (T.nodes tree.old) resource update) }
     ensures err { OnErr result (T.nodes tree.new ≡ T.nodes tree.old) }
 {
-    match update {
-        Some(update) => join_container(tree, moment, resource, &update),
-        None => put_last(tree, resource),
-    }
-}
-
-// Puts a content instance last; its container is stamped anew, and what doesn't fit beside it goes.
-fn join_container<T: Tree>(
-    tree: &mut T,
-    moment: u64,
-    resource: Resource,
-    update: &ContainerUpdate,
-) -> Result<(), OutOfMemory>
-    requires { JoinsAt moment (T.nodes tree.old) resource (Some update.now) }
-    ensures ok { OnOk result
-        (T.nodes tree.new ≡ nodes_joined moment (T.nodes tree.old) resource (Some update.now)) }
-    ensures err { OnErr result (T.nodes tree.new ≡ T.nodes tree.old) }
-{
     put_last(tree, resource)?;
-    tree.restamp(update.container, moment, update.state);
-    tree.remove_all(update.gone.entries());
-    Ok(())
+    match update {
+        Some(update) => {
+            tree.restamp(update.container, moment, update.state);
+            tree.remove_all(update.gone.entries());
+            Ok(())
+        }
+        None => Ok(()),
+    }
 }

@@ -43,7 +43,7 @@ pub(crate) fn prepare_creation<T: Tree>(
 }
 
 /// What an Update of these attributes tells that leaves a resource so and pushes out the instances
-/// of these numbers, with room for it in the outbox.
+/// of these numbers, with room for it in the outbox: nothing, where the resource isn't there.
 pub(crate) fn prepare_update<T: Tree>(
     alloc: Global,
     tree: &T,
@@ -53,8 +53,7 @@ pub(crate) fn prepare_update<T: Tree>(
     named: &AttrSet,
     gone: &[u64],
 ) -> Result<Told, OutOfMemory>
-    requires there { IsTrue (has resource.now.number (T.nodes tree.now)) }
-    requires order { DoAscend gone.now }
+    requires { DoAscend gone.now }
     ensures told { (r : ResourceData) → at resource.now.number (T.nodes tree.now) ≡ Some r
         → IfOk result (IsTold home.now (T.nodes tree.now)
         (notes_of_all home.now (T.nodes tree.now) gone.now
@@ -68,7 +67,7 @@ pub(crate) fn prepare_update<T: Tree>(
             let changes = Changes::of_update(tree, before, resource, named, gone);
             prepare_telling(alloc, tree, home, outbox, gone, changes)
         }
-        None => unreachable!(),
+        None => Ok(nothing_told(alloc)),
     }
 }
 

@@ -12,7 +12,7 @@ use addressing::structured;
 use attribute_rules::is_named;
 use entity_model::{Entity, wanted_content};
 use m2m_names::{Attr, Ty};
-use m2m_value::{Members, Text, Val};
+use m2m_value::{MemberKey, Members, Text, Val};
 use primitive_json::Request;
 use std::alloc::{AllocError as OutOfMemory, Global};
 use tree_model::{Attrs, Resource, Tree, attributes, content, members_of, shown};
@@ -51,11 +51,11 @@ fn address_last<T: Tree>(
 
 // An object of one member.
 #[tactic(auto, using(crate::proofs::TellingLemmas::sorted_alone))]
-fn object_of_one(alloc: Global, key: &str, value: Val) -> Result<Val, OutOfMemory>
+fn object_of_one(alloc: Global, key: &'static str, value: Val) -> Result<Val, OutOfMemory>
     ensures { IfOk result (λ v. v ≡ json.object (json.pairs_of ((key.now, value) ∷ []))) }
 {
     let mut members = Vec::with_capacity(alloc, 1)?;
-    members.push((Text::from_slice(alloc, key.as_bytes())?, value))?;
+    members.push((MemberKey::named(key), value))?;
     Ok(Val::of_obj(Members::of(members)))
 }
 
@@ -71,8 +71,8 @@ fn object_with_address(
         ((ty_member ty, attributes) ∷ (codes "uri", address) ∷ []))) }
 {
     let mut members = Vec::with_capacity(alloc, 2)?;
-    members.push((Text::from_slice(alloc, ty.member().as_bytes())?, attributes))?;
-    members.push((Text::from_slice(alloc, "uri".as_bytes())?, address))?;
+    members.push((MemberKey::named(ty.member()), attributes))?;
+    members.push((MemberKey::named("uri"), address))?;
     Ok(Val::of_obj(Members::of(members)))
 }
 

@@ -18,10 +18,10 @@ use tcp_link::TcpLink;
 /// As many workers as a server can be told to have.
 const MOST_WORKERS: u64 = 4_096;
 
-/// What a server is told that the devices have to know: how many workers it has, what it logs, and
-/// what the CSE is called.
+/// What the devices have to know of a server: how many workers it has, what it logs, and what the
+/// CSE is called.
 #[derive(Drop)]
-struct Told {
+struct DeviceSettings {
     workers: usize,
     log: LogLevel,
     whom: String,
@@ -42,20 +42,20 @@ fn level_of(logged: Logged) -> LogLevel {
     }
 }
 
-/// What words tell the devices; at every other command they are told nothing.
-fn told_by(alloc: Global, words: &[&str]) -> Result<Told, AllocError>
-    ensures { IfOk result (λ told. 1 ≤ told.workers) }
+/// The settings that words give; at every other command those of one worker that logs nothing.
+fn settings_by(alloc: Global, words: &[&str]) -> Result<DeviceSettings, AllocError>
+    ensures { IfOk result (λ settings. 1 ≤ settings.workers) }
 {
     if let Some(command) = read_command(alloc, words)?
         && let Task::Serve(serving) = command.task
     {
-        return Ok(Told {
+        return Ok(DeviceSettings {
             workers: workers_of(serving.workers),
             log: level_of(serving.log),
             whom: format!(in alloc; "/{}", command.home.csi)?,
         });
     }
-    Ok(Told {
+    Ok(DeviceSettings {
         workers: workers_of(1),
         log: LogLevel::Nothing,
         whom: String::new(alloc),
@@ -135,13 +135,13 @@ fn main(rt: HostRuntime) -> ExitCode {
     else {
         return starved();
     };
-    let Ok(told) = told_by(alloc, &texts) else {
+    let Ok(settings) = settings_by(alloc, &texts) else {
         return starved();
     };
-    let Ok(log) = Log::new(rt, alloc, told.log) else {
+    let Ok(log) = Log::new(rt, alloc, settings.log) else {
         return starved();
     };
-    let Ok(benches) = all_benches(rt, &log, told.workers) else {
+    let Ok(benches) = all_benches(rt, &log, settings.workers) else {
         return starved();
     };
     let Ok(mut first) = bench(rt, &log) else {
@@ -154,7 +154,7 @@ fn main(rt: HostRuntime) -> ExitCode {
         &mut StdIn::new(rt.stdin()),
         &mut StdOut::new(rt.stdout()),
         &mut StdOut::new(rt.stderr()),
-        TcpDoor::new(log, told.whom),
+        TcpDoor::new(log, settings.whom),
         &mut first,
         benches,
     );

@@ -7,7 +7,6 @@ use denote.Struct.Field.{Field, u64-field}
 use Rattle.std.proofs.Common.{List, [], ◌∷◌}
 use Rattle.std.proofs.Crossing.{crosses}
 use Rattle.std.proofs.MapsCrossing as maps
-use Rattle.std.specs.contracts.hash.BuildHasherDefault as built
 use Rattle.std.specs.contracts.hash.FoldHasher as fold
 use Rattle.cse_server.proofs.ValuesSent.{text_send, val_send}
 use Rattle.m2m_names.specs.contracts.attributes.Attr as attr
@@ -20,6 +19,7 @@ use Rattle.resource_model.specs.contracts.resource.Moments as moments
 use Rattle.resource_model.specs.contracts.resource.Resource as resource
 use Rattle.resource_model.specs.contracts.resource.Resource.TheInside as resource_inside
 use Rattle.resource_store.specs.contracts.gone.Gone as gone
+use Rattle.resource_store.specs.contracts.seeded.Seeded as seeded
 use Rattle.resource_store.specs.contracts.store.Store as store
 use Rattle.resource_store.specs.contracts.store.Store.TheInside as store_inside
 
@@ -57,7 +57,7 @@ resource_send = record { owned = λ d vs x. (resource_inside_send.owned x.0 vs, 
 u64_send : IsSend u64
 u64_send = search sendable depth 20
 
-hasher_send : IsSend (built.the_row fold.the_row)
+hasher_send : IsSend seeded.the_row
 hasher_send = search (sendable, crosses) depth 20
 
 -- the first of a struct's fields
@@ -68,7 +68,7 @@ first_part (F ∷ Fs) = F
 -- a table that a struct with an invariant keeps is sent as its row
 table_send : IsSend (as_row (first_part store_inside.the_type.parts))
 table_send = as_row_send (first_part store_inside.the_type.parts)
-    (maps.HashMap-send u64 resource.the_row (built.the_row fold.the_row) fold.the_row _ _ _ _ u64_send resource_send hasher_send)
+    (maps.HashMap-send u64 resource.the_row seeded.the_row fold.the_row _ _ _ _ u64_send resource_send hasher_send)
 
 gone_send : IsSend gone.the_row
 gone_send = search (sendable, crosses, resource_send) depth 40 fits 5000

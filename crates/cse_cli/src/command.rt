@@ -55,7 +55,7 @@ fn run_task<R, S: Source, O: Sink, D: Door + Send, C: Clock + Send, L: Link + Se
     benches: Vec<Bench<C, L>>,
 ) -> (Status, D)
 where
-    R: Wait + Threads + Clone + Drop + Sync,
+    R: Wait + Threads + time::Clock + Clone + Drop + Sync,
     C: Drop,
     L: Drop,
     requires benches { 2 ≤ vec_len benches }
@@ -90,7 +90,7 @@ fn run_words<'a, R, S: Source, O: Sink, D: Door + Send, C: Clock + Send, L: Link
     benches: Vec<Bench<C, L>>,
 ) -> (Status, D)
 where
-    R: Wait + Threads + Clone + Drop + Sync,
+    R: Wait + Threads + time::Clock + Clone + Drop + Sync,
     C: Drop,
     L: Drop,
     requires benches { 2 ≤ vec_len benches }

@@ -13,6 +13,8 @@ use m2m_io::{Clock, Door, Link, Status};
 use std::alloc::Global;
 use std::sync::Wait;
 use std::thread::Threads;
+use std::time::Duration;
+use std::{io, time};
 use tree_model::Home;
 use turn_desk::{Object, TurnDesk};
 
@@ -80,6 +82,21 @@ fn benches_for<C: Clock + Drop, L: Link + Drop>(
     benches
 }
 
+fn nanos_of(time: io::Result<Duration>) -> u64 {
+    match time {
+        Ok(time) => time
+            .as_secs()
+            .wrapping_mul(1_000_000_000)
+            .wrapping_add(time.subsec_nanos() as u64),
+        Err(_) => 0,
+    }
+}
+
+// What clients don't know: how long the machine has run, and the moment, in nanoseconds.
+fn seed<R: time::Clock>(rt: &R) -> u64 {
+    nanos_of(rt.monotonic()) ^ nanos_of(rt.since_1970())
+}
+
 /// Opens an entity with this home at the clock's first reading, opens the door where the words say,
 /// and serves its connections, of which as many are accepted at most as they say, by as many
 /// workers as they say, beside a sender of what waits in its outbox.
@@ -93,7 +110,7 @@ pub(crate) fn serve_door<R, D, C, L>(
     benches: Vec<Bench<C, L>>,
 ) -> (Status, D)
 where
-    R: Wait + Threads + Clone + Drop + Sync,
+    R: Wait + Threads + time::Clock + Clone + Drop + Sync,
     D: Door + Send,
     C: Clock + Send + Drop,
     L: Link + Send + Drop,
@@ -109,7 +126,7 @@ where
     ensures command { result.0 ≢ Status.Usage }
 {
     let reading = first.clock.now();
-    let Ok(served) = opened(alloc, home, reading) else {
+    let Ok(served) = opened(alloc, home, reading, seed(rt)) else {
         return (Status::Memory, door);
     };
     let Ok(own_rt) = rt.clone() else {

@@ -8,7 +8,7 @@ ghost use Rattle.cse_machine.specs.Answer as spec;
 
 use entity_model::Entity;
 use m2m_names::{Op, Ty};
-use m2m_value::{Text, Val};
+use m2m_value::{MemberKey, Val};
 use primitive_json::{Request, When, creates};
 use request_rules::child_ty;
 use tree_model::Tree;
@@ -24,22 +24,16 @@ fn is_creatable(ty: Ty) -> bool
     }
 }
 
-fn has_creatable_type(request: &Request) -> bool
-    ensures { result ≡ spec.has_creatable_type request.now }
-{
-    match child_ty(request) {
-        Some(ty) => is_creatable(ty),
-        None => true,
-    }
-}
-
 /// Whether the request is one of those that are served so far: all but the creation of an announced
 /// resource.
 pub(crate) fn is_served(request: &Request) -> bool
     ensures { result ≡ spec.is_served request.now }
 {
     match request.parts().op {
-        Op::Create => has_creatable_type(request),
+        Op::Create => match child_ty(request) {
+            Some(ty) => is_creatable(ty),
+            None => true,
+        },
         Op::Retrieve | Op::Update | Op::Delete | Op::Notify => true,
     }
 }
@@ -106,7 +100,7 @@ pub(crate) fn is_blocking(request: &Request) -> bool
 // ---- the content
 
 // The only member of a content.
-fn sole_member(content: &Val) -> Option<&(Text, Val)>
+fn sole_member(content: &Val) -> Option<&(MemberKey, Val)>
     ensures { option_map (λ e. e.now) result ≡ sole content.now }
 {
     match content.as_obj()?.entries() {

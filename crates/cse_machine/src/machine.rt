@@ -16,9 +16,9 @@ ghost use Rattle.group_fanout.specs.Fan.{IsCutShortAt, fan_effect_at, fanned_at,
 ghost use Rattle.group_fanout.specs.Fan.{served_members};
 ghost use Rattle.group_fanout.specs.Rights.{claimed_originator};
 ghost use Rattle.group_fanout.specs.Rights as rights;
-ghost use Rattle.cse_machine.specs.Answer.{effect_of, first_places, form_places};
+ghost use Rattle.cse_machine.specs.Answer.{effect_of, first_places};
 ghost use Rattle.cse_machine.specs.Answer.{goes_on, onward_effect, point_of, poll_effect};
-ghost use Rattle.cse_machine.specs.Answer.{poll_refusal, spot_effect, time_places};
+ghost use Rattle.cse_machine.specs.Answer.{poll_refusal, spot_effect};
 ghost use Rattle.cse_machine.specs.Answer as spec;
 ghost use Rattle.cse_machine.specs.Heard.{IsHeardAs};
 ghost use Rattle.cse_machine.specs.Step.{IsAnswered, Step, heard_members};
@@ -97,7 +97,7 @@ fn answer<T: Tree>(
 // A request that no place refuses before its address is resolved: whom it is judged as, in the
 // short form, and the address.
 #[derive(Drop)]
-struct Heard<'a> {
+struct HeardRequest<'a> {
     originator: &'a [u8],
     addr: Addr<'a>,
 }
@@ -107,26 +107,13 @@ fn judge<'a, T: Tree>(
     alloc: Global,
     entity: &Entity<T>,
     request: &'a Request,
-) -> Result<Heard<'a>, Refusal>
+) -> Result<HeardRequest<'a>, Refusal>
     ensures { Judges result (first_fault (first_places entity.now request.now))
         (IsHeardAs entity.now request.now) }
 {
-    if is_served(request) {
-        judge_form(alloc, entity, request)
-    } else {
-        Err(Refusal::Fault(Rsc::BadRequest))
+    if !is_served(request) {
+        return Err(Refusal::Fault(Rsc::BadRequest));
     }
-}
-
-// One that is served.
-fn judge_form<'a, T: Tree>(
-    alloc: Global,
-    entity: &Entity<T>,
-    request: &'a Request,
-) -> Result<Heard<'a>, Refusal>
-    ensures { Judges result (first_fault (form_places entity.now request.now))
-        (IsHeardAs entity.now request.now) }
-{
     if !has_form(request) {
         return Err(Refusal::Fault(Rsc::BadRequest));
     }
@@ -159,42 +146,25 @@ fn address<'a, T: Tree>(
     parse(alloc, request.parts().to.entries(), &entity.home)
 }
 
-// One of this originator.
+// One of this originator: by its address, and by when and how it is answered.
 fn judge_address<'a, T: Tree>(
     alloc: Global,
     entity: &Entity<T>,
     request: &'a Request,
     originator: &'a [u8],
-) -> Result<Heard<'a>, Refusal>
+) -> Result<HeardRequest<'a>, Refusal>
     requires originator { IsTrue (is_originator originator.now) }
     requires claimed { claimed_originator entity.now.home request.now ≡ originator.now }
     ensures { Judges result (first_fault (address_places entity.now request.now))
         (IsHeardAs entity.now request.now) }
 {
     match address(alloc, entity, request) {
-        Ok(addr) => judge_times(entity, request, Heard { originator, addr }),
+        Ok(_) if !is_in_time(entity, request) => Err(Refusal::Fault(Rsc::RequestTimeout)),
+        Ok(_) if !is_blocking(request) => Err(Refusal::Fault(Rsc::NonBlocking)),
+        Ok(addr) => Ok(HeardRequest { originator, addr }),
         Err(AddrFault::OutOfMemory) => Err(Refusal::OutOfMemory),
         Err(_) => Err(Refusal::Fault(Rsc::BadRequest)),
     }
-}
-
-// One that is sent to an address.
-fn judge_times<'a, T: Tree>(
-    entity: &Entity<T>,
-    request: &Request,
-    heard: Heard<'a>,
-) -> Result<Heard<'a>, Refusal>
-    requires { IsHeardAs entity.now request.now heard }
-    ensures { Judges result (first_fault (time_places entity.now request.now))
-        (IsHeardAs entity.now request.now) }
-{
-    if !is_in_time(entity, request) {
-        return Err(Refusal::Fault(Rsc::RequestTimeout));
-    }
-    if !is_blocking(request) {
-        return Err(Refusal::Fault(Rsc::NonBlocking));
-    }
-    Ok(heard)
 }
 
 // ---- where it goes

@@ -19,12 +19,25 @@ use denote.Model.Local.{Parts, rows}
 use Rattle.std.proofs.Crossing.{crosses, Vec-send}
 use Rattle.m2m_value.specs.contracts.value.Val as val
 use Rattle.m2m_value.specs.contracts.text.Text as text
+use Rattle.m2m_value.specs.contracts.key.Form as form
+use Rattle.m2m_value.specs.contracts.key.MemberKey as key
+use Rattle.m2m_value.specs.contracts.key.MemberKey.TheInside as key_inside
 use Rattle.m2m_value.specs.contracts.value.Items.TheKnot as knot
 use Rattle.m2m_value.specs.contracts.value.Items.TheKnot.{sizes, frame, step}
 use Rattle.m2m_value.specs.declared.value.Items.TheDeep.{the_members, member-Items, member-Members, member-Val, split-Items, join-Items, joins-Items, split-Members, join-Members, joins-Members, split-Node, join-Node, joins-Node, split-Val, join-Val, joins-Val}
 
 pub text_send : IsSend text.the_row
 text_send = search (sendable, crosses) depth 20
+
+-- a key, whose name is lent for good
+form_send : IsSend form.the_row
+form_send = variants_send form.enum ((text_send, tt), ((search (sendable, crosses) depth 20, tt), tt))
+
+key_inside_send : IsSend key_inside.the_row
+key_inside_send = declared_send key_inside.the_type (form_send, tt)
+
+key_send : IsSend key.the_row
+key_send = record { owned = λ d vs x. (key_inside_send.owned x.0 vs, tt); leaving = λ k d w. tt }
 
 -- a field at a type's own row
 row_send : (R : RattleType) → IsSend R → IsSend (as_row (row_field R))
@@ -55,13 +68,13 @@ module _ (p : Parts frame) (s : (j : the_members) → IsSend (rows frame p j)) w
   items : IsSend (rows frame (step p) member-Items)
   items = has_of frame send (step p) member-Items (part_has send (knot.view-Items p) items_view)
 
-  pair_send : IsSend (Tuple (text.the_row ∷ rows frame p member-Val ∷ []))
-  pair_send = declared_send (tuple_type (text.the_row ∷ rows frame p member-Val ∷ []))
-      (row_send text.the_row text_send, (row_send (rows frame p member-Val) (s member-Val), tt))
+  pair_send : IsSend (Tuple (key.the_row ∷ rows frame p member-Val ∷ []))
+  pair_send = declared_send (tuple_type (key.the_row ∷ rows frame p member-Val ∷ []))
+      (row_send key.the_row key_send, (row_send (rows frame p member-Val) (s member-Val), tt))
 
   members_fields : IsSend (S.row (knot.type-Members (rows frame p member-Val)))
   members_fields = declared_send (knot.type-Members (rows frame p member-Val))
-      (row_send _ (Vec-send (Tuple (text.the_row ∷ rows frame p member-Val ∷ [])) pair_send), tt)
+      (row_send _ (Vec-send (Tuple (key.the_row ∷ rows frame p member-Val ∷ [])) pair_send), tt)
 
   members_at : IsSend (knot.at-Members p)
   members_at = rejoined_send (knot.layer-Members (rows frame p member-Val)) _ split-Members join-Members joins-Members members_fields

@@ -2,12 +2,10 @@
 ghost use Rattle.std.specs.Prelude.{◌≡◌};
 ghost use Rattle.std.specs.List.{list_all, list_any};
 ghost use Rattle.httparse.specs.Grammar.{is_ows, skip_ows};
-ghost use Rattle.http_binding.specs.Headers.{connection_field};
 ghost use Rattle.http_frames.specs.Body.{minor_of};
-ghost use Rattle.http_frames.specs.Lines.{is_same_name};
 ghost use Rattle.cse_server.specs.Closing as spec;
 
-use http_frames::{Frame, Lines, Start};
+use http_frames::{Frame, Lines, Start, is_same_name};
 use m2m_value::Text;
 
 /// The most frames that a connection has: behind the reply to the last of them it closes.
@@ -41,16 +39,11 @@ fn some_asks(lines: &[(Text, Text)]) -> bool
     lines.iter().any(|line| asks_by(line))
 }
 
+/// Whether the line is one `Connection` that has the option `close`.
 fn asks_by(line: &(Text, Text)) -> bool
     ensures { result ≡ spec.asks_by line.now }
 {
-    is_connection(line.0.entries()) && lists_close(line.1.entries())
-}
-
-fn is_connection(name: &[u8]) -> bool
-    ensures { result ≡ is_same_name name.now connection_field }
-{
-    name.eq_ignore_ascii_case(b"Connection")
+    is_same_name(line.0.entries(), b"Connection") && lists_close(line.1.entries())
 }
 
 /// Whether the list, whose elements stand between commas, has the option `close`.
@@ -72,7 +65,7 @@ fn is_close_word(text: &[u8]) -> bool
     ensures { result ≡ spec.is_close_word text.now }
 {
     let (word, blanks) = text.split_at(text.len().min(5));
-    word.eq_ignore_ascii_case(b"close") && are_blank(blanks)
+    is_same_name(word, b"close") && are_blank(blanks)
 }
 
 fn are_blank(text: &[u8]) -> bool

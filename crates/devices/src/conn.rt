@@ -3,8 +3,8 @@ ghost use Rattle.std.specs.Prelude.{◌≡◌};
 ghost use Rattle.std.specs.Io.{ReadsAtMost};
 
 use crate::clock::{millis_now, millis_of, since_start, time_left};
-use crate::heard::Heard;
 use crate::log::Log;
+use crate::scanner::RequestScanner;
 use m2m_io::{Connection, Failed, Sink, Source};
 use std::io;
 use std::io::{Eprint, ErrorKind, Read, Write};
@@ -37,7 +37,7 @@ pub struct TcpConn<R: Clock + Eprint + Copy> {
     is_pressed: bool,
     /// The client has ended its writing side.
     is_ended: bool,
-    heard: Option<Heard>,
+    requests: Option<RequestScanner>,
     read_faults: u64,
     write_faults: u64,
 }
@@ -132,7 +132,7 @@ impl<R: Clock + Eprint + Copy> Drop for TcpConn<R> {
             busy: _,
             is_pressed: _,
             is_ended,
-            heard: _,
+            requests: _,
             read_faults,
             write_faults,
         } = self;
@@ -149,8 +149,8 @@ impl<R: Clock + Eprint + Copy> TcpConn<R> {
         stream.set_nodelay(true)?;
         stream.set_read_timeout(patience)?;
         stream.set_write_timeout(patience)?;
-        let heard = if log.has_requests() {
-            Some(Heard::new(log.allocator())?)
+        let requests = if log.has_requests() {
+            Some(RequestScanner::new(log.allocator())?)
         } else {
             None
         };
@@ -162,7 +162,7 @@ impl<R: Clock + Eprint + Copy> TcpConn<R> {
             busy: 0,
             is_pressed: false,
             is_ended: false,
-            heard,
+            requests,
             read_faults: 0,
             write_faults: 0,
         })
@@ -194,8 +194,8 @@ impl<R: Clock + Eprint + Copy> TcpConn<R> {
         } else if self.begun.is_none() {
             self.begun = Some(millis_of(now));
         }
-        if let Some(heard) = &mut self.heard {
-            heard.hear(bytes);
+        if let Some(requests) = &mut self.requests {
+            requests.hear(bytes);
             self.busy = micros_of(now);
         }
     }
@@ -221,8 +221,8 @@ impl<R: Clock + Eprint + Copy> TcpConn<R> {
         let now = micros_of(since_start(&rt));
         let taken = now.saturating_sub(self.busy);
         self.busy = now;
-        if let Some(heard) = &mut self.heard {
-            if let Ok(text) = heard.line(self.log.allocator(), &self.peer, bytes, taken) {
+        if let Some(requests) = &mut self.requests {
+            if let Ok(text) = requests.line(self.log.allocator(), &self.peer, bytes, taken) {
                 self.log.request(text.as_str());
             }
         }

@@ -53,7 +53,7 @@ pub struct TcpDoor<R> {
 
 /// What an error of `accept` is.
 #[derive(Clone, Copy, Debug, PartialEq, Eq)]
-enum Refusal {
+enum AcceptFault {
     /// It is one client's, or of the network between: the system hands it on with the socket.
     OfOneClient,
     /// Descriptors or memory are wanting, or something else that may pass.
@@ -70,20 +70,20 @@ fn is_of_network(error: &io::Error) -> bool {
     )
 }
 
-fn refusal_of(error: &io::Error) -> Refusal {
+fn accept_fault_of(error: &io::Error) -> AcceptFault {
     let is_gone = matches!(error.raw_os_error(), Some(EBADF | EINVAL | ENOTSOCK));
     let is_want = matches!(
         error.raw_os_error(),
         Some(EMFILE | ENFILE | ENOBUFS | ENOMEM)
     );
     if is_gone {
-        return Refusal::Gone;
+        return AcceptFault::Gone;
     }
     if is_want {
-        return Refusal::OfWant;
+        return AcceptFault::OfWant;
     }
     if is_of_network(error) {
-        return Refusal::OfOneClient;
+        return AcceptFault::OfOneClient;
     }
     match error.kind() {
         ErrorKind::Interrupted
@@ -93,8 +93,8 @@ fn refusal_of(error: &io::Error) -> Refusal {
         | ErrorKind::NetworkUnreachable
         | ErrorKind::NetworkDown
         | ErrorKind::PermissionDenied
-        | ErrorKind::TimedOut => Refusal::OfOneClient,
-        _ => Refusal::OfWant,
+        | ErrorKind::TimedOut => AcceptFault::OfOneClient,
+        _ => AcceptFault::OfWant,
     }
 }
 
@@ -175,13 +175,13 @@ fn accepted<R: Clock + Eprint + Copy>(listener: &TcpListener, log: &Log<R>) -> O
                     return Some(conn);
                 }
             }
-            Err(error) => match refusal_of(&error) {
-                Refusal::OfOneClient => {}
-                Refusal::OfWant => {
+            Err(error) => match accept_fault_of(&error) {
+                AcceptFault::OfOneClient => {}
+                AcceptFault::OfWant => {
                     log.fault("no descriptors or memory for a client, who waits");
                     log.runtime().sleep(Duration::from_millis(WANTING));
                 }
-                Refusal::Gone => return None,
+                AcceptFault::Gone => return None,
             },
         }
     }

@@ -17,8 +17,8 @@
 mod clock;
 mod conn;
 mod door;
-mod heard;
 mod log;
+mod scanner;
 mod streams;
 
 pub use clock::{SystemClock, millis_now, time_left};

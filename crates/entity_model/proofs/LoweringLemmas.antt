@@ -262,6 +262,11 @@ tree_lowered n left nodes tree = elim (cases_Bool (has_more left (left_at nodes 
   | inr f ↦ rw f tree
 ]
 
+-- and so do steps one after another
+pub tree_all_lowered : (rows : List (ℕ × ℕ)) (nodes : List ResourceData) → is_tree nodes ≡ true → is_tree (all_lowered_to rows nodes) ≡ true
+tree_all_lowered [] nodes tree = tree
+tree_all_lowered (row ∷ rows) nodes tree = tree_all_lowered rows (lowered_to row.0 row.1 nodes) (tree_lowered row.0 row.1 nodes tree)
+
 pub others_after : (row : ℕ × ℕ) (rows : List (ℕ × ℕ)) (m : ℕ) → nat_eq m row.0 ≡ false → left_in (row ∷ rows) m ≡ left_in rows m
 others_after row rows m other = rw (same_number m row.0 ∙ other) refl
 

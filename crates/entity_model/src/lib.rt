@@ -10,7 +10,7 @@
 //! something is due. `take_next` takes what is sent next.
 //!
 //! An operation tells of its changes by two calls. `prepare_telling` takes all memory, before the
-//! first change; `tell`, behind the last, takes none: it appends the notes, and lowers the
+//! first change; `tell`, behind the last, needs none: it appends the notes, and lowers the
 //! subscriptions that count, or removes those to which none is left (`telling` of `specs/Entity`).
 //!
 //! Laws over every entity stand on functions without a body: an entity opens sound, and stays sound

@@ -7,7 +7,7 @@ ghost use Rattle.policy_eval.specs.Rules as policies;
 ghost use Rattle.entity_model.specs.Opening as spec;
 
 use m2m_names::{ALL_BITS, Attr, LAST_MOMENT, Ty};
-use m2m_value::{Items, Members, Text, Val};
+use m2m_value::{Items, MemberKey, Members, Text, Val};
 use resource_model::id_text;
 use std::alloc::{AllocError as OutOfMemory, Global};
 use tree_model::{Attrs, Home, Moments, Resource, Tree};
@@ -33,8 +33,8 @@ fn written_rule(alloc: Global, who: Text, bits: u32) -> Result<Val, OutOfMemory>
     ensures { IfOk result (λ v. v ≡ policies.written_rule who bits) }
 {
     let mut members = Vec::with_capacity(alloc, 2)?;
-    members.push((Text::from_slice(alloc, b"acop")?, Val::of_num(bits as i64)))?;
-    members.push((Text::from_slice(alloc, b"acor")?, list_of(alloc, who)?))?;
+    members.push((MemberKey::named("acop"), Val::of_num(bits as i64)))?;
+    members.push((MemberKey::named("acor"), list_of(alloc, who)?))?;
     Ok(Val::of_obj(Members::of(members)))
 }
 
@@ -42,10 +42,7 @@ fn written_rules(alloc: Global, rules: Vec<Val>) -> Result<Val, OutOfMemory>
     ensures { IfOk result (λ v. v ≡ policies.written_rules rules.items) }
 {
     let mut members = Vec::with_capacity(alloc, 1)?;
-    members.push((
-        Text::from_slice(alloc, b"acr")?,
-        Val::of_list(Items::of(rules)),
-    ))?;
+    members.push((MemberKey::named("acr"), Val::of_list(Items::of(rules))))?;
     Ok(Val::of_obj(Members::of(members)))
 }
 

@@ -29,7 +29,7 @@ pub fn sweep<T: Tree>(
 ) -> Result<(), OutOfMemory>
     ensures ok { OnOk result (entity.new ≡ swept reading entity.old) }
     ensures err { OnErr result (entity.new ≡ entity.old) }
-    // No memory is taken where nothing is due.
+    // Memory runs out only where something is due.
     ensures memory { OnErr result
         (IsTrue (is_some_due entity.old.nodes (spec.event_moment entity.old.last reading))) }
 {
@@ -96,20 +96,14 @@ fn pass<T: Tree>(entity: &mut Entity<T>, moment: u64)
     entity.last = moment;
 }
 
+// What is due at a moment goes, with all that stands below it, and so does what has waited the keeping
+// time. The tree isn't asked to let anything expire where it knows that nothing is due.
 fn age<T: Tree>(tree: &mut T, outbox: &mut Outbox, moment: u64)
     requires { IsTrue (is_tree (T.nodes tree.old)) }
     ensures nodes { T.nodes tree.new ≡ live moment (T.nodes tree.old) }
     ensures items { outbox.new ≡ dropped moment outbox.old }
 {
-    expire(tree, moment);
     outbox.drop_old(moment);
-}
-
-// Removes what is due at a moment, with all that stands below it.
-pub(crate) fn expire<T: Tree>(tree: &mut T, moment: u64)
-    requires { IsTrue (is_tree (T.nodes tree.old)) }
-    ensures { T.nodes tree.new ≡ live moment (T.nodes tree.old) }
-{
     let quiet = tree.quiet_until();
     if moment < quiet {
         return;

@@ -1,17 +1,14 @@
 //! What is told of an operation.
-ghost use Rattle.std.specs.Prelude.{◌≡◌, ◌<◌, ◌≤◌, ◌==◌, ◌++◌, [], length, true, IfOk};
+ghost use Rattle.std.specs.Prelude.{◌≡◌, ◌<◌, ◌≤◌, ◌==◌, ◌++◌, [], length, true, IfOk, IsTrue};
 ghost use Rattle.std.specs.Prelude.{if◌then◌else◌, List};
 ghost use Rattle.std.specs.List.{AllByRecursion};
-ghost use Rattle.std.specs.List.Sorted.{IsStrictlySortedBy};
-ghost use Rattle.std.specs.Map.{keys_of};
-ghost use Rattle.std.specs.Ordering.{nat_cmp};
 ghost use Rattle.m2m_names.specs.Ids.{count_bound};
 ghost use Rattle.notify_outbox.specs.declared.item.Item.{Item};
 ghost use Rattle.resource_model.specs.Home.{HomeData};
 ghost use Rattle.resource_model.specs.Resource.{ResourceData};
 ghost use Rattle.subscription_match.specs.Notices.{notes_of_all};
 ghost use Rattle.subscription_match.specs.Spending as spending;
-ghost use Rattle.tree_model.specs.Tree.{without_all, DoAscend};
+ghost use Rattle.tree_model.specs.Tree.{is_tree, without_all, DoAscend};
 ghost use Rattle.entity_model.specs.Entity.{items_from, numbered_after};
 ghost use Rattle.entity_model.specs.Lowering.{some_left, spent_numbers};
 ghost use Rattle.entity_model.specs.Telling as spec;
@@ -78,8 +75,7 @@ fn numbers_spent(alloc: Global, rows: &[(u64, u64)]) -> Result<Vec<u64>, OutOfMe
     Ok(numbers)
 }
 
-/// Appends notes, for which there is room, at a moment before which each item was appended. No
-/// memory is taken.
+/// Appends notes, for which there is room, at a moment before which each item was appended.
 pub(crate) fn append_all(outbox: &mut Outbox, moment: u64, notes: Vec<Note>)
     requires room { length notes.items ≤ outbox.old.room }
     requires order { AllByRecursion (λ (i : Item). i.since ≤ moment) outbox.old.items }
@@ -137,43 +133,26 @@ fn numbers_gone<T: Tree>(tree: &T, numbers: Vec<u64>) -> Vec<u64>
     gone
 }
 
-// Removes the subscriptions of these numbers, which ascend, in one pass.
+// Of the subscriptions of these numbers, which ascend, those to which more than none is left go, in
+// one pass. Each of the numbers is looked up; where none goes, the tree isn't asked to remove any.
 fn remove_spent<T: Tree>(tree: &mut T, numbers: Vec<u64>)
-    requires { DoAscend numbers.items }
+    requires order { DoAscend numbers.items }
+    requires tree { IsTrue (is_tree (T.nodes tree.old)) }
     ensures { T.nodes tree.new ≡ without_all
         (spec.numbers_gone numbers.items (T.nodes tree.old)) (T.nodes tree.old) }
 {
     let gone = numbers_gone(tree, numbers);
-    remove_some(tree, &gone);
-}
-
-// Where there are none, it looks at no resource.
-fn remove_some<T: Tree>(tree: &mut T, numbers: &[u64])
-    requires { DoAscend numbers.now }
-    ensures { T.nodes tree.new ≡ without_all numbers.now (T.nodes tree.old) }
-{
-    let _len = tree.len();
-    if numbers.is_empty() {
+    if gone.is_empty() {
         return;
     }
-    tree.remove_all(numbers);
+    tree.remove_all(&gone);
 }
 
-/// Lowers subscriptions: those to which some are left one after another, and those to which none
-/// is left, whose numbers these are, go in one pass. No memory is taken.
-pub(crate) fn lower_all<T: Tree>(tree: &mut T, rows: Vec<(u64, u64)>, spent: Vec<u64>)
-    requires order { IsStrictlySortedBy nat_cmp (keys_of rows.items) }
-    requires spent { spent.items ≡ spent_numbers rows.items }
-    ensures { T.nodes tree.new ≡ spec.all_lowered_to rows.items (T.nodes tree.old) }
-{
-    let _len = tree.len();
-    count_all_anew(tree, rows);
-    remove_spent(tree, spent);
-}
-
-/// Appends what is told to the outbox at a moment, and lowers the subscriptions. No memory is
-/// taken.
+/// Appends what is told to the outbox at a moment, and lowers the subscriptions: those to which some
+/// are left are counted anew one after another, and those to which none is left go in one pass. It
+/// can't fail, as there is room for the notes, and a removal needs no memory.
 pub fn tell<T: Tree>(tree: &mut T, outbox: &mut Outbox, moment: u64, told: Told)
+    requires tree { IsTrue (is_tree (T.nodes tree.old)) }
     requires room { length told.notes.items ≤ outbox.old.room }
     requires order { AllByRecursion (λ (i : Item). i.since ≤ moment) outbox.old.items }
     ensures nodes { T.nodes tree.new
@@ -183,5 +162,6 @@ pub fn tell<T: Tree>(tree: &mut T, outbox: &mut Outbox, moment: u64, told: Told)
     ensures count { outbox.new.count ≡ numbered_after outbox.old.count told.notes.items }
 {
     append_all(outbox, moment, told.notes);
-    lower_all(tree, told.left, told.spent);
+    count_all_anew(tree, told.left);
+    remove_spent(tree, told.spent);
 }

@@ -1,6 +1,8 @@
 -- Lists that grow by one.
-use Rattle.std.proofs.Common.{◌≡◌, ℕ, ◌+◌, ◌<◌, List, [], ◌∷◌, ◌++◌, length, take, get_or, Option, Some, None, append-nil, append_assoc, ap, ◌∙◌}
+use Rattle.std.proofs.Common.{◌≡◌, ℕ, ◌+◌, ◌<◌, ◌==◌, false, List, [], ◌∷◌, ◌++◌, length, bytes_eq, take, get_or, Option, Some, None, append-nil, append_assoc, ap, ◌∙◌}
+use Rattle.std.proofs.lemmas.Bool.{both_ways, eq-eqb, false_from_ne_true}
 use Rattle.std.proofs.lemmas.List.{take_more}
+use Rattle.std.proofs.lemmas.Slice.Eq.{bytes_eq-Decides}
 use Rattle.std.proofs.lemmas.List.Elements.{filter_map-append}
 use Rattle.std.specs.List.{AllByRecursion, cons_option, filter_map}
 
@@ -18,3 +20,7 @@ next ys (Some y) zs = append_assoc ys (y ∷ []) zs
 -- what is taken of the next, and of those behind it
 pub filter_map-next : {X Y : Type 0} (f : X → Option Y) (ys : List Y) (x : X) (rest : List X) → (ys ++ filter_map f (x ∷ [])) ++ filter_map f rest ≡ ys ++ filter_map f (x ∷ rest)
 filter_map-next f ys x rest = next ys (f x) (filter_map f rest)
+
+-- bytes of which there aren't as many are others
+pub lengths_apart : (xs ys : List ℕ) → (length xs == length ys) ≡ false → bytes_eq xs ys ≡ false
+lengths_apart xs ys apart = false_from_ne_true _ (λ same. both_ways _ apart (eq-eqb (length xs) (length ys) (ap length ((bytes_eq-Decides xs ys).0 same))))

@@ -12,7 +12,7 @@ use crate::condition::{Condition, Sort};
 use crate::filter::{Filter, FilterParts, FilterUsage};
 use crate::values::{owned_text, read_type_number, value_at};
 use m2m_names::read_stamp;
-use m2m_value::{Labels, Node, Numbers, Text, Val, is_label_text};
+use m2m_value::{Labels, MemberKey, Node, Numbers, Text, Val, is_label_text};
 use std::alloc::{AllocError as OutOfMemory, Global};
 use std::slice;
 
@@ -63,7 +63,7 @@ fn is_of_sort(sort: Sort, value: &Val) -> bool
     }
 }
 
-fn is_condition(entry: &(Text, Val)) -> bool
+fn is_condition(entry: &(MemberKey, Val)) -> bool
     ensures { result ≡ spec.is_condition entry.now }
 {
     match Condition::named(entry.0.entries()) {
@@ -72,7 +72,7 @@ fn is_condition(entry: &(Text, Val)) -> bool
     }
 }
 
-fn are_conditions(entries: &[(Text, Val)]) -> bool
+fn are_conditions(entries: &[(MemberKey, Val)]) -> bool
     ensures { result ≡ list_all spec.is_condition entries.now }
 {
     entries.iter().all(|entry| is_condition(entry))

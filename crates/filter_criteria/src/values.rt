@@ -1,7 +1,7 @@
 //! Members of objects by their names, objects of the members that are there, and the kinds of
 //! values that filters share with the primitives around them.
 ghost use Rattle.std.specs.Prelude.{◌≡◌, ◌++◌, ◌∷◌, [], IfOk, IfSome, IsSome, OnErr, OnOk};
-ghost use Rattle.std.specs.Prelude.{IsUtf8, option_and_then};
+ghost use Rattle.std.specs.Prelude.{IsUtf8, bytes_eq, option_and_then};
 ghost use Rattle.std.specs.Option.{option_copied};
 ghost use Rattle.m2m_names.specs.Stamps.{timestamp};
 ghost use Rattle.m2m_value.specs.Data as plain;
@@ -12,11 +12,11 @@ ghost use Rattle.filter_criteria.specs.Bounds.{IsMoment};
 ghost use Rattle.filter_criteria.specs.Values as spec;
 
 use m2m_names::{is_type_number, write_stamp};
-use m2m_value::{Members, Node, Text, Val};
+use m2m_value::{MemberKey, Members, Node, Text, Val};
 use std::alloc::{AllocError as OutOfMemory, Global};
 
 /// The members of an object; any other value has none.
-pub fn members_in(value: &Val) -> &[(Text, Val)]
+pub fn members_in(value: &Val) -> &[(MemberKey, Val)]
     ensures { result.now ≡ spec.members_in value.now }
 {
     match value.as_obj() {
@@ -32,13 +32,21 @@ pub fn value_at<'a>(value: &'a Val, name: &str) -> Option<&'a Val>
     value_among(members_in(value), name.as_bytes())
 }
 
-/// The value that one of these members has whose name this is. It is sought from the first on, which
-/// is quicker than halving where they are as few as those of a request or of a content.
-pub fn value_among<'a>(members: &'a [(Text, Val)], name: &[u8]) -> Option<&'a Val>
+/// Whether two names are the same. Most aren't of one length, which is told without a look at them.
+#[tactic(auto, using(crate::proofs::Lists::lengths_apart))]
+fn is_same(one: &[u8], other: &[u8]) -> bool
+    ensures { result ≡ bytes_eq one.now other.now }
+{
+    one.len() == other.len() && one == other
+}
+
+/// The value that one of these members has whose name this is. It is sought from the first on,
+/// which is quicker than halving where they are as few as those of a request or of a content.
+pub fn value_among<'a>(members: &'a [(MemberKey, Val)], name: &[u8]) -> Option<&'a Val>
     ensures { option_copied result ≡ member_of name.now members.now }
 {
     for (key, value) in members {
-        if name == key.entries() {
+        if is_same(name, key.entries()) {
             return Some(value);
         }
     }
@@ -97,9 +105,8 @@ pub fn moment_value(alloc: Global, at: u64) -> Result<Val, OutOfMemory>
 
 /// Puts a member behind the others, where it has a value. Where memory runs out, the others stay.
 pub fn push_member(
-    alloc: Global,
-    entries: &mut Vec<(Text, Val)>,
-    name: &str,
+    entries: &mut Vec<(MemberKey, Val)>,
+    name: &'static str,
     value: Option<Val>,
 ) -> Result<(), OutOfMemory>
     ensures ok { OnOk result (entries.new.items
@@ -109,13 +116,13 @@ pub fn push_member(
     ensures memory { OnErr result (IsSome value) }
 {
     if let Some(value) = value {
-        entries.push((Text::from_slice(alloc, name.as_bytes())?, value))?;
+        entries.push((MemberKey::named(name), value))?;
     }
     Ok(())
 }
 
 /// The object of these members.
-pub fn sorted_object(entries: Vec<(Text, Val)>) -> Val
+pub fn sorted_object(entries: Vec<(MemberKey, Val)>) -> Val
     requires sorted { AreSorted entries.items }
     requires texts { HaveTextKeys entries.items }
     ensures { result ≡ plain.object (pairs_of entries.items) }

@@ -112,7 +112,7 @@ pub fn write_filter(alloc: Global, filter: &FilterParts) -> Result<Val, OutOfMem
     let mut entries = Vec::with_capacity(alloc, Condition::ALL.len())?;
     for condition in Condition::ALL {
         let value = condition_value(alloc, filter, condition)?;
-        push_member(alloc, &mut entries, condition.name(), value)?;
+        push_member(&mut entries, condition.name(), value)?;
     }
     Ok(sorted_object(entries))
 }

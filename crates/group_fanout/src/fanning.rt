@@ -190,7 +190,7 @@ fn fan_out<T: Tree>(
 
 // What is told of the operation on each member, and of how many.
 #[derive(Drop)]
-struct Asked {
+struct MemberReplies {
     replies: Vec<Val>,
     done: u32,
 }
@@ -203,7 +203,7 @@ fn ask_all<T: Tree>(
     originator: &[u8],
     request: &Request,
     addresses: Vec<Text>,
-) -> Result<Asked, Starved>
+) -> Result<MemberReplies, Starved>
     requires originator { IsTrue (is_originator originator.now) }
     requires claimed { claimed_originator entity.old.home request.now ≡ originator.now }
     requires fanned { IsTrue (spec.is_fanned request.now.op) }
@@ -230,7 +230,7 @@ fn ask_all<T: Tree>(
             return Err(Starved { done });
         }
     }
-    Ok(Asked { replies, done })
+    Ok(MemberReplies { replies, done })
 }
 
 // Puts what is told of the operation on one member behind others.

@@ -9,7 +9,7 @@ ghost use Rattle.group_fanout.specs.Fan as spec;
 use entity_model::reply_to;
 use filter_criteria::{push_member, sorted_object};
 use m2m_names::Rsc;
-use m2m_value::{Items, Members, Text, Val};
+use m2m_value::{Items, MemberKey, Members, Text, Val};
 use primitive_json::{Reply, ReplyParts, Request};
 use std::alloc::{AllocError as OutOfMemory, Global};
 
@@ -27,20 +27,20 @@ pub(crate) fn gathered_one(alloc: Global, reply: Reply, address: Text) -> Result
 {
     let ReplyParts { rsc, rqi, pc } = reply.into_parts();
     let mut entries = Vec::with_capacity(alloc, 4)?;
-    push_member(alloc, &mut entries, "pc", pc)?;
-    push_member(alloc, &mut entries, "rqi", rqi.map(Val::of_text))?;
-    push_member(alloc, &mut entries, "rsc", Some(status_value(rsc)))?;
-    push_member(alloc, &mut entries, "to", Some(Val::of_text(address)))?;
+    push_member(&mut entries, "pc", pc)?;
+    push_member(&mut entries, "rqi", rqi.map(Val::of_text))?;
+    push_member(&mut entries, "rsc", Some(status_value(rsc)))?;
+    push_member(&mut entries, "to", Some(Val::of_text(address)))?;
     Ok(sorted_object(entries))
 }
 
 // An object of one member.
 #[tactic(auto, using(crate::proofs::MemberLemmas::sorted_alone))]
-fn object_with(alloc: Global, key: &str, value: Val) -> Result<Val, OutOfMemory>
+fn object_with(alloc: Global, key: &'static str, value: Val) -> Result<Val, OutOfMemory>
     ensures { IfOk result (λ v. v ≡ spec.object_with key.now value) }
 {
     let mut members = Vec::with_capacity(alloc, 1)?;
-    members.push((Text::from_slice(alloc, key.as_bytes())?, value))?;
+    members.push((MemberKey::named(key), value))?;
     Ok(Val::of_obj(Members::of(members)))
 }
 

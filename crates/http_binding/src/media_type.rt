@@ -1,11 +1,11 @@
 //! What a line Content-Type says.
 ghost use Rattle.std.specs.Prelude.{◌≡◌, ◌≤◌, ◌==◌, Some, None, fold, length};
 ghost use Rattle.std.specs.List.{prefix_len, slice_split};
-ghost use Rattle.http_frames.specs.Lines.{is_same_name};
 ghost use Rattle.http_binding.specs.MediaTypes as spec;
 
 use crate::method::Method;
 use crate::names::{JSON_TYPE, TYPE_PARAMETER};
+use http_frames::is_same_name;
 use http_target::{before, behind};
 use httparse::is_token;
 use m2m_names::{are_digits, is_filled, is_type_number};
@@ -46,12 +46,6 @@ fn between_spaces(text: &[u8]) -> &[u8]
     ensures { result.now ≡ spec.between_spaces text.now }
 {
     before_spaces(behind_spaces(text))
-}
-
-fn is_same_name(text: &[u8], name: &[u8]) -> bool
-    ensures { result ≡ is_same_name text.now name.now }
-{
-    text.eq_ignore_ascii_case(name)
 }
 
 fn is_media_type(text: &[u8]) -> bool

@@ -53,16 +53,6 @@ fn object_only(value: Val) -> Result<Option<Val>, BindFault>
     }
 }
 
-/// The content that a body is.
-fn content_in(alloc: Global, room: &mut BodyRoom, body: &[u8]) -> Result<Option<Val>, BindFault>
-    ensures { ReadsAs (λ content. content) result (spec.content_in body.now) }
-{
-    if body.is_empty() {
-        return Err(BindFault::Missing(Text::from_slice(alloc, Member::Content.name().as_bytes())?));
-    }
-    object_only(value_in(alloc, room.lend(alloc)?, body)?)
-}
-
 /// The content that a body has, on an operation that has one.
 fn content_of(
     alloc: Global,
@@ -72,11 +62,13 @@ fn content_of(
 ) -> Result<Option<Val>, BindFault>
     ensures { ReadsAs (λ content. content) result (spec.content_of op body.now) }
 {
-    if primitive_json::has_content(op) {
-        content_in(alloc, room, body)
-    } else {
-        Ok(None)
+    if !primitive_json::has_content(op) {
+        return Ok(None);
     }
+    if body.is_empty() {
+        return Err(BindFault::Missing(Text::from_slice(alloc, Member::Content.name().as_bytes())?));
+    }
+    object_only(value_in(alloc, room.lend(alloc)?, body)?)
 }
 
 /// The number of the type that is to be created, on a Create.

@@ -40,14 +40,11 @@ impl ReplyRoom {
         }
     }
 
-    /// The buffer of the text, which stays without one until it is given back.
-    pub(crate) fn take_text(&mut self, alloc: Global) -> Vec<u8> {
-        replace(&mut self.text, Vec::new(alloc))
-    }
-
-    /// The buffer of the head, which stays without one until it is given back.
-    pub(crate) fn take_head(&mut self, alloc: Global) -> Vec<u8> {
-        replace(&mut self.head, Vec::new(alloc))
+    /// The buffers of the text and of the head. There are none until some are kept again.
+    pub(crate) fn take(&mut self, alloc: Global) -> (Vec<u8>, Vec<u8>) {
+        let text = replace(&mut self.text, Vec::new(alloc));
+        let head = replace(&mut self.head, Vec::new(alloc));
+        (text, head)
     }
 
     /// Keeps these buffers, if they are small.

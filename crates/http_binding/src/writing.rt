@@ -35,7 +35,7 @@ fn append_number(out: &mut Vec<u8>, n: u64) -> Result<(), OutOfMemory>
     out.extend_from_slice(Buffer::new().format(n).as_bytes())
 }
 
-/// Appends the line of an HTTP status.
+/// Appends the status line of a reply.
 fn append_status(out: &mut Vec<u8>, http: u16) -> Result<(), OutOfMemory>
     ensures { OnOk result (out.new.items ≡ out.old.items
         ++ (codes "HTTP/1.1 " ++ (decimal http ++ (codes " " ++ (phrase_of http ++ crlf_bytes))))) }
@@ -45,14 +45,6 @@ fn append_status(out: &mut Vec<u8>, http: u16) -> Result<(), OutOfMemory>
     out.extend_from_slice(b" ")?;
     out.extend_from_slice(phrase_of(http).as_bytes())?;
     out.extend_from_slice(b"\r\n")
-}
-
-/// Appends the status line of a reply.
-fn append_start(out: &mut Vec<u8>, reply: &ReplyParts) -> Result<(), OutOfMemory>
-    ensures { OnOk result (out.new.items ≡ out.old.items
-        ++ start_text (Answer (rsc_row reply.now.rsc).http written_minor)) }
-{
-    append_status(out, reply.rsc.http_status())
 }
 
 /// Appends the line that tells the status code.
@@ -116,7 +108,7 @@ fn append_primitive(out: &mut Vec<u8>, reply: &ReplyParts) -> Result<(), OutOfMe
         ++ (line_text (code_field, decimal (rsc_row reply.now.rsc).number)
         ++ flat_map line_text (id_lines reply.now.rqi)))) }
 {
-    append_start(out, reply)?;
+    append_status(out, reply.rsc.http_status())?;
     append_code(out, reply.rsc.number())?;
     append_id(out, &reply.rqi)
 }
@@ -226,11 +218,6 @@ impl ReplyBytes {
     {
         &self.buffer[self.start..]
     }
-
-    /// Gives the buffers back.
-    fn give_back(self, alloc: Global, room: &mut ReplyRoom) {
-        room.keep(alloc, self.buffer, self.spare);
-    }
 }
 
 /// Writes a head right before this place.
@@ -285,8 +272,9 @@ fn reply_bytes(
     ensures { IfOk result (λ bytes. bytes ≡ reply_text reply.now close) }
 {
     let parts = reply.parts();
-    let text = body_behind_room(room.take_text(alloc), &parts.pc)?;
-    let head = head_for(room.take_head(alloc), parts, text.len() - HEAD_ROOM, close)?;
+    let (buffer, spare) = room.take(alloc);
+    let text = body_behind_room(buffer, &parts.pc)?;
+    let head = head_for(spare, parts, text.len() - HEAD_ROOM, close)?;
     put_together(head, text)
 }
 
@@ -320,6 +308,6 @@ pub fn write_reply_text<K: Sink>(
 {
     let bytes = reply_bytes(alloc, reply, close, room)?;
     let put = sink.put(bytes.as_slice());
-    bytes.give_back(alloc, room);
+    room.keep(alloc, bytes.buffer, bytes.spare);
     Ok(put?)
 }

@@ -6,8 +6,8 @@ ghost use Rattle.http_frames.specs.Body.{framing_of_lengths, framing_of_coding};
 ghost use Rattle.http_frames.specs.Body.{framing_of_values, framing_of, minor_of};
 ghost use Rattle.http_frames.specs.Spans.{framing_as, start_at};
 
-use crate::Found;
 use crate::head::StartSpans;
+use crate::{Found, is_same_name};
 use httparse::spans::{HeaderSpan, Span};
 use m2m_names::number_spelled;
 
@@ -20,7 +20,7 @@ fn find_span(buf: &[u8], headers: &[HeaderSpan], name: &[u8]) -> Found<Span>
 {
     let mut found = Found::Absent;
     for header in headers {
-        if header.name.of(buf).eq_ignore_ascii_case(name) {
+        if is_same_name(header.name.of(buf), name) {
             found = found.and(header.value);
         }
     }

@@ -94,23 +94,6 @@ fn add_room(bytes: &mut Vec<u8>, end: usize) -> Result<(), AllocError>
     }
 }
 
-/// Makes room for a piece behind the bytes.
-fn make_room(bytes: &mut Vec<u8>, start: &mut usize, end: &mut usize) -> Result<(), AllocError>
-    requires ordered { start.old ≤ end.old }
-    requires within { end.old ≤ length bytes.old.items }
-    requires room { length bytes.old.items ≤ end.old + room_limit }
-    ensures bytes { drop start.new (take end.new bytes.new.items)
-        ≡ drop start.old (take end.old bytes.old.items) }
-    ensures ordered { start.new ≤ end.new }
-    ensures within { end.new ≤ length bytes.new.items }
-    ensures given { start.new ≤ start.old }
-    ensures ok { OnOk result (end.new + piece_limit ≤ length bytes.new.items) }
-    ensures room { length bytes.new.items ≤ end.new + room_limit }
-{
-    use_front(bytes, start, end);
-    add_room(bytes, *end)
-}
-
 /// Reads once, right behind the bytes, where there is room for a piece.
 fn read_behind<S: Source>(
     bytes: &mut [u8],
@@ -180,7 +163,8 @@ impl ReadBuffer {
             (S.faults src.new) }
         ensures other { result ≢ Err FrameFault.NoFrame }
     {
-        make_room(&mut self.bytes, &mut self.start, &mut self.end)?;
+        use_front(&mut self.bytes, &mut self.start, &mut self.end);
+        add_room(&mut self.bytes, self.end)?;
         read_behind(&mut self.bytes, &mut self.end, src)
     }
 

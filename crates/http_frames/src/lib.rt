@@ -35,5 +35,5 @@ pub use laws::{
     frames_are_unique, no_frame_begins_another, what_is_written_is_read,
     whole_chunk_lines_are_judged, whole_heads_are_judged,
 };
-pub use lines::{Found, Lines};
+pub use lines::{Found, Lines, is_same_name};
 pub use write::{frame_bytes, phrase_of, write_frame};

@@ -33,7 +33,7 @@ pub enum Found<T> {
 
 /// Whether two names of fields are the same, without regard to case (RFC 9110, section 5.1). Most
 /// are spelled alike.
-fn is_same_name(name: &[u8], wanted: &[u8]) -> bool
+pub fn is_same_name(name: &[u8], wanted: &[u8]) -> bool
     ensures { result ≡ is_same_name name.now wanted.now }
 {
     name == wanted || name.eq_ignore_ascii_case(wanted)

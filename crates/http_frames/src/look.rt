@@ -4,7 +4,7 @@ ghost use Rattle.http_frames.specs.ChunkLooks.{IsStop};
 ghost use Rattle.http_frames.specs.Body.{counted};
 ghost use Rattle.http_frames.specs.Frame.{lines_limit, body_limit, largest_body};
 ghost use Rattle.http_frames.specs.Looks.{IsLook};
-ghost use Rattle.http_frames.specs.Spans.{IsGoodHead, IsHeadAt, IsWalked, AreBehind, framing_at};
+ghost use Rattle.http_frames.specs.Spans.{IsGoodHead, IsWalked, AreBehind, framing_at};
 
 use crate::Side;
 use crate::body::{Coding, coding_of};
@@ -165,34 +165,10 @@ fn look_behind(
     }
 }
 
-/// What frame has the head that was found, whose length isn't judged yet.
-#[tactic(auto, using(crate::proofs::LookLemmas::head_cases))]
-fn look_at_head(
-    side: Side,
-    bytes: &[u8],
-    headers: &[HeaderSpan],
-    head: HeadSpans,
-    walked: &mut Walked,
-) -> Result<FrameStatus, AllocError>
-    requires at_front { IsHeadAt side bytes.now headers.now head }
-    requires room { length headers.now ≡ lines_limit }
-    requires head { walked.old.head ≡ None }
-    requires at { walked.old.at ≡ 0 }
-    requires body { walked.old.body.items ≡ [] }
-    ensures walked { IsWalked side bytes.now headers.now walked.new.head walked.new.at
-        walked.new.body.items }
-    ensures look { IfOk result (IsLook side bytes.now headers.now walked.new.body.items) }
-{
-    if head.len > HEAD_LIMIT {
-        return Ok(FrameStatus::Never);
-    }
-    look_behind(side, bytes, headers, head, walked)
-}
-
 /// What frame stands at the front, where no head was found yet. Where its lines are is written to
 /// `headers`. A head that is still coming is parsed anew after each read, since a read is made only
 /// where the bytes held may still become one, and that httparse tells of all of them alone.
-#[tactic(auto, using(crate::proofs::WaitLemmas::start_cases))]
+#[tactic(auto, using(crate::proofs::WaitLemmas::start_cases, crate::proofs::LookLemmas::head_cases))]
 fn look_from_start(
     side: Side,
     bytes: &[u8],
@@ -211,7 +187,8 @@ fn look_from_start(
         return Ok(FrameStatus::Short(1));
     }
     match look_for_head(side, bytes, headers) {
-        HeadLook::Whole(head) => look_at_head(side, bytes, headers, head, walked),
+        HeadLook::Whole(head) if head.len > HEAD_LIMIT => Ok(FrameStatus::Never),
+        HeadLook::Whole(head) => look_behind(side, bytes, headers, head, walked),
         HeadLook::NotYet if bytes.len() < HEAD_LIMIT => Ok(FrameStatus::Short(bytes.len() + 1)),
         HeadLook::NotYet | HeadLook::Never => Ok(FrameStatus::Never),
     }

@@ -2,7 +2,7 @@
 ghost use Rattle.std.specs.Prelude.{◌≡◌, nat_le};
 ghost use Rattle.m2m_value.specs.Data.{depth, elements_depth, elements_of, pairs_depth, pairs_of};
 
-use m2m_value::{Node, Text, Val};
+use m2m_value::{MemberKey, Node, Val};
 
 /// Whether lists and objects nest no deeper than this.
 #[cycle(shallow)]
@@ -32,7 +32,7 @@ fn are_items_within(values: &[Val], most: u64) -> bool
 
 #[cycle(shallow)]
 #[tactic(auto, using(crate::proofs::DepthLemmas::depth_rules))]
-fn are_members_within(members: &[(Text, Val)], most: u64) -> bool
+fn are_members_within(members: &[(MemberKey, Val)], most: u64) -> bool
     ensures { result ≡ nat_le (pairs_depth (pairs_of members.now)) most }
 {
     for member in members {

@@ -1,22 +1,26 @@
 -- What is known of bits, once more is known, and that a policy that an id names stands in the list.
 use Rattle.std.specs.Prelude.{nat_eq}
-use Rattle.std.proofs.Common.{◌≡◌, ℕ, List, cond, Option, Some, None, inl, inr, refl, sym, ap, ◌∙◌}
+use Rattle.std.proofs.Common.{◌≡◌, ℕ, List, [], ◌∷◌, ◌++◌, cond, Option, Some, None, option_map, true, inl, inr, refl, sym, ap, ◌∙◌}
 use Rattle.std.proofs.lemmas.Bool.{cases_Bool, eqb-true}
 use Rattle.std.proofs.lemmas.Option.{same_Some}
 use Rattle.std.specs.HashMap.{HashMap, get}
-use Rattle.std.specs.Option.{option_and_then}
+use Rattle.std.specs.Int.RustNames.{bit_or}
+use Rattle.std.specs.Option.{option_and_then, option_map_or}
 use Rattle.m2m_names.specs.declared.types.Ty.{Ty}
+use Rattle.m2m_names.specs.declared.attributes.Attr.TheVariants.{Pv}
 use Rattle.m2m_names.specs.declared.types.Ty.TheVariants.{AccessControlPolicy}
 use Rattle.m2m_names.specs.Ids.{id_parts}
+use Rattle.m2m_names.specs.Types.{ty_row}
 use Rattle.m2m_value.specs.Data.{Data}
 use Rattle.m2m_value.specs.View.{as_text}
 use Rattle.resource_model.specs.Home.{HomeData}
 use Rattle.resource_model.specs.Resource.{ResourceData, is_ty}
 use Rattle.tree_model.specs.Tree.{at, of_type, resource_of_id, typed_at}
 use Rattle.tree_model.proofs.TreeLemmas.{at_number}
-use Rattle.known_rights.specs.Tables.{AreBits, NotesOrStays}
-use Rattle.policy_eval.specs.Rights.{bits_by}
-use Rattle.policy_eval.specs.Rules.{Rule, policy_named, policy_of}
+use Rattle.known_rights.specs.Tables.{AreBits, AreLent, NotesOrStays, lent_rules, rules_by_id}
+use Rattle.known_rights.proofs.BesidesLemmas.{rules_besides}
+use Rattle.policy_eval.specs.Rights.{bits_by, with_rule, with_rules}
+use Rattle.policy_eval.specs.Rules.{Rule, policy_at, policy_named, policy_number, policy_of, rules_by}
 
 -- a table with the bits of one more resource
 pub bits_noted : {S : Type 0} (rules : ResourceData → List Rule) (home : HomeData) (nodes : List ResourceData) (o : List ℕ) (old new : HashMap ℕ ℕ S) (r : ResourceData) (number bits : ℕ) → AreBits rules home nodes o old → at r.number nodes ≡ Some r → number ≡ r.number → bits ≡ bits_by home o (rules r) → NotesOrStays old new number bits → AreBits rules home nodes o new
@@ -74,3 +78,98 @@ policy_there id nodes p found = by (as_text id) found
 -- what a number finds is found by its own
 pub at_itself : (n : ℕ) (nodes : List ResourceData) (r : ResourceData) → at n nodes ≡ Some r → at r.number nodes ≡ Some r
 at_itself n nodes r found = ap (λ k. at k nodes) (at_number n nodes r found) ∙ found
+
+-- ---- policies by their ids
+
+same_type : (t : Ty) → is_ty t AccessControlPolicy ≡ true → (o : Option ResourceData) → option_and_then (of_type t) o ≡ option_and_then (of_type AccessControlPolicy) o
+same_type t is None = refl
+same_type t is (Some r) = ap (λ n. cond (nat_eq (ty_row r.ty).number n) (Some r) None) (eqb-true (ty_row t).number (ty_row AccessControlPolicy).number is)
+
+typed_twice : (o : Option ResourceData) → option_and_then (of_type AccessControlPolicy) (option_and_then (of_type AccessControlPolicy) o) ≡ option_and_then (of_type AccessControlPolicy) o
+typed_twice None = refl
+typed_twice (Some r) = elim (cases_Bool (is_ty r.ty AccessControlPolicy)) [
+  | inl t ↦ rw (t, t) refl
+  | inr f ↦ rw f refl
+]
+
+-- the policy that an id names is that of its number
+named_by_number : (nodes : List ResourceData) (id : List ℕ) (n : ℕ) → policy_number id ≡ Some n → policy_named nodes id ≡ policy_at nodes n
+named_by_number nodes id n numbered = by (id_parts id) numbered
+  where
+    by : (o : Option (Ty × ℕ)) → option_and_then (λ (p : Ty × ℕ). cond (is_ty p.0 AccessControlPolicy) (Some p.1) None) o ≡ Some n → option_and_then (of_type AccessControlPolicy) (option_and_then (λ (p : Ty × ℕ). typed_at p.0 p.1 nodes) o) ≡ policy_at nodes n
+    by None e = absurd (let none : None ≡ Some n = e in cc)
+    by (Some p) e = elim (cases_Bool (is_ty p.0 AccessControlPolicy)) [
+      | inl t ↦
+          let same : p.1 ≡ n = same_Some p.1 n (rw t at e) in
+          ap (option_and_then (of_type AccessControlPolicy)) (same_type p.0 t (at p.1 nodes))
+          ∙ typed_twice (at p.1 nodes)
+          ∙ ap (policy_at nodes) same
+      | inr f ↦ absurd (let none : None ≡ Some n = rw f at e in cc)
+    ]
+
+-- what a policy is that an id names
+is_policy : (o : Option ResourceData) (p : ResourceData) → option_and_then (of_type AccessControlPolicy) o ≡ Some p → is_ty p.ty AccessControlPolicy ≡ true
+is_policy None p e = absurd (let none : None ≡ Some p = e in cc)
+is_policy (Some r) p e = elim (cases_Bool (is_ty r.ty AccessControlPolicy)) [
+  | inl t ↦ ap (λ (q : ResourceData). is_ty q.ty AccessControlPolicy) (sym (same_Some r p (rw t at e))) ∙ t
+  | inr f ↦ absurd (let none : None ≡ Some p = rw f at e in cc)
+]
+
+policy_is : (id : Data) (nodes : List ResourceData) (p : ResourceData) → policy_of nodes id ≡ Some p → is_ty p.ty AccessControlPolicy ≡ true
+policy_is id nodes p found = by (as_text id) found
+  where
+    by : (o : Option (List ℕ)) → option_and_then (policy_named nodes) o ≡ Some p → is_ty p.ty AccessControlPolicy ≡ true
+    by None e = absurd (let none : None ≡ Some p = e in cc)
+    by (Some text) e = is_policy (resource_of_id text nodes) p e
+
+-- a policy that an id names is that of its own number
+found_at : (id : Data) (nodes : List ResourceData) (p : ResourceData) → policy_of nodes id ≡ Some p → policy_at nodes p.number ≡ Some p
+found_at id nodes p found =
+    let is = policy_is id nodes p found in
+    ap (option_and_then (of_type AccessControlPolicy)) (policy_there id nodes p found) ∙ rw is refl
+
+-- a table with the bits of one more policy
+pub lent_noted : {S : Type 0} (home : HomeData) (nodes : List ResourceData) (o : List ℕ) (old new : HashMap ℕ ℕ S) (id : Data) (p : ResourceData) → AreLent home nodes o old → policy_of nodes id ≡ Some p → NotesOrStays old new p.number (bits_by home o (lent_rules p)) → AreLent home nodes o new
+lent_noted home nodes o old new id p had found puts n b e = elim (puts n) [
+  | inl noted ↦
+      let now : cond (nat_eq p.number n) (Some (bits_by home o (lent_rules p))) (get nat_eq old n) ≡ Some b = sym noted ∙ e in
+      elim (cases_Bool (nat_eq p.number n)) [
+        | inl t ↦
+            ap (λ k. option_map (λ q. bits_by home o (lent_rules q)) (policy_at nodes k)) (sym (eqb-true p.number n t))
+            ∙ ap (option_map (λ q. bits_by home o (lent_rules q))) (found_at id nodes p found)
+            ∙ (rw t at now)
+        | inr f ↦ had n b (rw f at now)
+      ]
+  | inr same ↦ had n b (sym same ∙ e)
+]
+
+-- what is known of the policy that an id names is what it gives
+given_by : (home : HomeData) (o : List ℕ) (found : Option ResourceData) (bits own : ℕ) → option_map (λ p. bits_by home o (lent_rules p)) found ≡ Some own → bit_or bits own ≡ with_rules home o bits (option_map_or lent_rules found [])
+given_by home o None bits own e = absurd (let none : None ≡ Some own = e in cc)
+given_by home o (Some p) bits own e =
+    ap (bit_or bits) (sym (same_Some (bits_by home o (lent_rules p)) own e)) ∙ sym (rules_besides home o bits (lent_rules p))
+
+pub known_gives : {S : Type 0} (home : HomeData) (nodes : List ResourceData) (o : List ℕ) (table : HashMap ℕ ℕ S) (id : Data) (bits own : ℕ) → AreLent home nodes o table → option_and_then (λ n. get nat_eq table n) (option_and_then policy_number (as_text id)) ≡ Some own → bit_or bits own ≡ with_rules home o bits (rules_by_id nodes id)
+known_gives home nodes o table id bits own lent e = by (as_text id) e
+  where
+    by_number : (text : List ℕ) (m : Option ℕ) → policy_number text ≡ m → option_and_then (λ n. get nat_eq table n) m ≡ Some own → bit_or bits own ≡ with_rules home o bits (option_map_or lent_rules (policy_named nodes text) [])
+    by_number text None is says = absurd (let none : None ≡ Some own = says in cc)
+    by_number text (Some n) is says =
+        given_by home o (policy_at nodes n) bits own (lent n own says)
+        ∙ ap (λ (found : Option ResourceData). with_rules home o bits (option_map_or lent_rules found [])) (sym (named_by_number nodes text n is))
+
+    by : (t : Option (List ℕ)) → option_and_then (λ n. get nat_eq table n) (option_and_then policy_number t) ≡ Some own → bit_or bits own ≡ with_rules home o bits (option_map_or lent_rules (option_and_then (policy_named nodes) t) [])
+    by None says = absurd (let none : None ≡ Some own = says in cc)
+    by (Some text) says = by_number text (policy_number text) refl says
+
+with_rules-append : (home : HomeData) (o : List ℕ) (bits : ℕ) (xs ys : List Rule) → with_rules home o bits (xs ++ ys) ≡ with_rules home o (with_rules home o bits xs) ys
+with_rules-append home o bits [] ys = refl
+with_rules-append home o bits (x ∷ xs) ys = with_rules-append home o (with_rule home o bits x) xs ys
+
+-- the rules of the policies that ids name are those of the first, and then those of the others
+pub one_id_more : (home : HomeData) (o : List ℕ) (nodes : List ResourceData) (bits : ℕ) (id : Data) (ids : List Data) → with_rules home o (with_rules home o bits (rules_by_id nodes id)) (rules_by Pv nodes ids) ≡ with_rules home o bits (rules_by Pv nodes (id ∷ ids))
+one_id_more home o nodes bits id ids = by (policy_of nodes id) refl
+  where
+    by : (found : Option ResourceData) → policy_of nodes id ≡ found → with_rules home o (with_rules home o bits (option_map_or lent_rules found [])) (rules_by Pv nodes ids) ≡ with_rules home o bits (rules_by Pv nodes (id ∷ ids))
+    by None is = rw is refl
+    by (Some p) is = rw is (sym (with_rules-append home o bits (lent_rules p) (rules_by Pv nodes ids)))

@@ -1,13 +1,15 @@
 -- Bits by rules, in tables by the numbers of resources.
-use Rattle.std.specs.Prelude.{◌≡◌, ◌⊎◌, ℕ, nat_eq, List, Some, if◌then◌else◌}
+use Rattle.std.specs.Prelude.{◌≡◌, ◌⊎◌, ℕ, nat_eq, List, [], Some, if◌then◌else◌, option_map}
 use Rattle.std.specs.HashMap.{HashMap, get}
+use Rattle.std.specs.Option.{option_map_or}
 use Rattle.m2m_names.specs.declared.attributes.Attr.TheVariants.{Pv}
+use Rattle.m2m_value.specs.Data.{Data}
 use Rattle.resource_model.specs.Attributes.{value_of}
 use Rattle.resource_model.specs.Home.{HomeData}
 use Rattle.resource_model.specs.Resource.{ResourceData}
 use Rattle.tree_model.specs.Tree.{at}
 use Rattle.policy_eval.specs.Rights.{bits_by}
-use Rattle.policy_eval.specs.Rules.{Rule, rules_in}
+use Rattle.policy_eval.specs.Rules.{Rule, policy_at, policy_of, rules_in}
 
 -- the rules by which a policy gives rights on what names it
 abbrev pub lent_rules : ResourceData → List Rule
@@ -19,6 +21,16 @@ abbrev pub AreBits : {S : Type 0} → (ResourceData → List Rule) → HomeData 
 AreBits rules home nodes originator table =
     (r : ResourceData) (bits : ℕ) → at r.number nodes ≡ Some r
     → get nat_eq table r.number ≡ Some bits → bits ≡ bits_by home originator (rules r)
+
+-- what a table has at a number are the bits that the policy of that number gives, which is there
+abbrev pub AreLent : {S : Type 0} → HomeData → List ResourceData → List ℕ → HashMap ℕ ℕ S → Type 0
+AreLent home nodes originator table =
+    (n bits : ℕ) → get nat_eq table n ≡ Some bits
+    → option_map (λ p. bits_by home originator (lent_rules p)) (policy_at nodes n) ≡ Some bits
+
+-- the rules by which the policy that an id names gives rights, where there is one
+abbrev pub rules_by_id : List ResourceData → Data → List Rule
+rules_by_id nodes id = option_map_or lent_rules (policy_of nodes id) []
 
 -- a table has these bits at the number besides, or has no room for them and is as it was
 abbrev pub NotesOrStays : {S : Type 0} → HashMap ℕ ℕ S → HashMap ℕ ℕ S → ℕ → ℕ → Type 0

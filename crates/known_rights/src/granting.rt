@@ -1,16 +1,18 @@
 //! The rights of an asker on many resources.
-ghost use Rattle.std.specs.Prelude.{◌≡◌, IsTrue, Some};
+ghost use Rattle.std.specs.Prelude.{◌≡◌, IsTrue, Some, nat_eq, option_and_then};
+ghost use Rattle.std.specs.HashMap.{get};
 ghost use Rattle.m2m_names.specs.declared.attributes.Attr.TheVariants.{Pv};
 ghost use Rattle.m2m_names.specs.Name.{is_originator};
+ghost use Rattle.m2m_value.specs.View.{as_text};
 ghost use Rattle.tree_model.specs.Tree.{at};
 ghost use Rattle.policy_eval.specs.Rights as spec;
 ghost use Rattle.policy_eval.specs.Rules as spec_rules;
 ghost use Rattle.known_rights.specs.Known.{IsKnown};
-ghost use Rattle.known_rights.specs.Tables.{lent_rules};
+ghost use Rattle.known_rights.specs.Tables.{lent_rules, rules_by_id, NotesOrStays};
 
 use crate::asker::Asker;
 use crate::known::{Known, bits_at, note_bits};
-use crate::rules::{bits_by_rules, policy_named, rules_in};
+use crate::rules::{bits_by_rules, policy_named, policy_number, rules_in};
 use m2m_names::{ALL_BITS, Attr, Ty};
 use m2m_value::Val;
 use policy_eval::{granted_on, listed_in};
@@ -23,37 +25,42 @@ fn read_bits(asker: &Asker, policy: &Resource) -> u32
     bits_by_rules(asker, rules_in(policy.attrs().get(Attr::Pv)))
 }
 
-// The same, where they aren't known.
-fn lent_bits<T: Tree>(tree: &T, asker: &Asker, policy: &Resource, known: &mut Known) -> u32
-    requires policy { at policy.now.number (T.nodes tree.now) ≡ Some policy.now }
-    requires known { IsKnown asker.now.home (T.nodes tree.now) asker.now.originator known.old }
-    ensures bits { result
-        ≡ spec.bits_by asker.now.home asker.now.originator (lent_rules policy.now) }
-    ensures known { IsKnown asker.now.home (T.nodes tree.now) asker.now.originator known.new }
-{
-    if let Some(bits) = bits_at(&known.policies, policy.number()) {
-        return bits;
-    }
-    let bits = read_bits(asker, policy);
-    note_bits(&mut known.policies, policy.number(), bits);
-    bits
-}
-
-// The bits, and those that a policy gives besides.
-fn with_policy<T: Tree>(
-    tree: &T,
-    asker: &Asker,
-    bits: u32,
-    policy: &Resource,
-    known: &mut Known,
-) -> u32
-    requires policy { at policy.now.number (T.nodes tree.now) ≡ Some policy.now }
-    requires known { IsKnown asker.now.home (T.nodes tree.now) asker.now.originator known.old }
+// The bits, and those that a policy gives besides, whose bits are known then.
+fn with_policy(asker: &Asker, bits: u32, policy: &Resource, known: &mut Known) -> u32
     ensures bits { result
         ≡ spec.with_rules asker.now.home asker.now.originator bits (lent_rules policy.now) }
+    ensures policies { NotesOrStays known.old.policies known.new.policies policy.now.number
+        (spec.bits_by asker.now.home asker.now.originator (lent_rules policy.now)) }
+    ensures linked { known.new.linked ≡ known.old.linked }
+{
+    let own = read_bits(asker, policy);
+    note_bits(&mut known.policies, policy.number(), own);
+    bits | own
+}
+
+// What is known of the policy that an id names.
+fn known_by_id(known: &Known, id: &Val) -> Option<u32>
+    ensures { result ≡ option_and_then (λ n. get nat_eq known.now.policies n)
+        (option_and_then spec_rules.policy_number (as_text id.now)) }
+{
+    bits_at(&known.policies, policy_number(id)?)
+}
+
+// The bits, and those that the policy which an id names gives besides. One that is known isn't
+// looked up.
+fn with_id<T: Tree>(tree: &T, asker: &Asker, bits: u32, id: &Val, known: &mut Known) -> u32
+    requires known { IsKnown asker.now.home (T.nodes tree.now) asker.now.originator known.old }
+    ensures bits { result ≡ spec.with_rules asker.now.home asker.now.originator bits
+        (rules_by_id (T.nodes tree.now) id.now) }
     ensures known { IsKnown asker.now.home (T.nodes tree.now) asker.now.originator known.new }
 {
-    bits | lent_bits(tree, asker, policy, known)
+    if let Some(own) = known_by_id(known, id) {
+        return bits | own;
+    }
+    match policy_named(tree, id) {
+        Some(policy) => with_policy(asker, bits, policy, known),
+        None => bits,
+    }
 }
 
 // The bits that the policies which ids name give by `pv`.
@@ -65,9 +72,7 @@ fn bits_by_ids<T: Tree>(tree: &T, asker: &Asker, ids: &[Val], known: &mut Known)
 {
     let mut bits = 0;
     for id in ids {
-        if let Some(policy) = policy_named(tree, id) {
-            bits = with_policy(tree, asker, bits, policy, known);
-        }
+        bits = with_id(tree, asker, bits, id, known);
     }
     bits
 }

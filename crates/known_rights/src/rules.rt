@@ -1,12 +1,13 @@
 //! Rules and policies as resources keep them, and whom they are for.
-ghost use Rattle.std.specs.Prelude.{◌≡◌, codes, map, option_map};
+ghost use Rattle.std.specs.Prelude.{◌≡◌, codes, map, option_and_then, option_map};
+ghost use Rattle.m2m_value.specs.View.{as_text};
 ghost use Rattle.policy_eval.specs.Originators.{does_name, fits_pattern};
 ghost use Rattle.policy_eval.specs.Rights.{is_subject, with_rule, with_rules};
 ghost use Rattle.policy_eval.specs.Rules as spec;
 ghost use Rattle.policy_eval.specs.Rules.{named, texts_of};
 
 use crate::asker::Asker;
-use m2m_names::{ALL_BITS, Ty};
+use m2m_names::{ALL_BITS, Ty, read_id};
 use m2m_value::Val;
 use policy_eval::listed_in;
 use tree_model::{Resource, Tree, of_type, resource_of_id};
@@ -56,6 +57,18 @@ fn sum_of_bits(n: i64) -> u32
         0
     } else {
         n as u32
+    }
+}
+
+/// The number in the resource id of a policy.
+pub(crate) fn policy_number(id: &Val) -> Option<u64>
+    ensures { result ≡ option_and_then spec.policy_number (as_text id.now) }
+{
+    let (ty, number) = read_id(id.as_text()?.entries())?;
+    if ty.number() == Ty::AccessControlPolicy.number() {
+        Some(number)
+    } else {
+        None
     }
 }
 

@@ -1,5 +1,5 @@
 //! The attributes of resources.
-ghost use Rattle.std.specs.Prelude.{◌≡◌, ◌≢◌, IfSome, IfNone, Some};
+ghost use Rattle.std.specs.Prelude.{◌≡◌, ◌≢◌, [], IfSome, IfNone, Some};
 ghost use Rattle.std.specs.Cmp.Lexicographic.{slice_cmp};
 ghost use Rattle.std.specs.Ordering.{nat_cmp};
 ghost use Rattle.m2m_names.specs.declared.attributes.Attr.{Attr};
@@ -112,12 +112,39 @@ const ALL: [Attr; 47] = [
     Attr::Ty,
 ];
 
+/// How a short name and a text stand, in the order of bytes. A short name has few bytes, so that
+/// one after another is quicker than what compares long texts.
+fn order_of(short: &[u8], text: &[u8]) -> Ordering
+    ensures { result ≡ slice_cmp nat_cmp short.now text.now }
+{
+    match short {
+        [] => order_behind(text),
+        [byte, behind @ ..] => match text {
+            [] => Ordering::Greater,
+            [own, left @ ..] => match byte.cmp(own) {
+                Ordering::Equal => order_of(behind, left),
+                order => order,
+            },
+        },
+    }
+}
+
+/// How nothing and a text stand.
+fn order_behind(text: &[u8]) -> Ordering
+    ensures { result ≡ slice_cmp nat_cmp [] text.now }
+{
+    match text {
+        [] => Ordering::Equal,
+        _ => Ordering::Less,
+    }
+}
+
 impl Attr {
     /// How its short name and a text stand, in the order of bytes.
     fn order_to(self, text: &[u8]) -> Ordering
         ensures { result ≡ slice_cmp nat_cmp (attr_short self) text.now }
     {
-        self.short().as_bytes().cmp(text)
+        order_of(self.short().as_bytes(), text)
     }
 
     /// The attribute that `ALL` has at a short name, found by halving.

@@ -1,5 +1,6 @@
 pub mod Data
 pub mod Code
+pub mod Keys
 pub mod Node
 pub mod Falls
 pub mod View

@@ -2,7 +2,7 @@
 //! result.
 ghost use Rattle.std.specs.Prelude.{◌≡◌, IfOk};
 
-use crate::text::Text;
+use crate::key::MemberKey;
 use crate::value::{Items, Members, Node, Val};
 use std::alloc::{AllocError as OutOfMemory, Global};
 
@@ -52,7 +52,7 @@ fn copied_members(alloc: Global, members: &Members) -> Result<Members, OutOfMemo
 }
 
 #[cycle(copy)]
-fn copied_member(alloc: Global, member: &(Text, Val)) -> Result<(Text, Val), OutOfMemory>
+fn copied_member(alloc: Global, member: &(MemberKey, Val)) -> Result<(MemberKey, Val), OutOfMemory>
     ensures { IfOk result (λ m. m ≡ member.now) }
 {
     Ok((member.0.copy(alloc)?, copied(alloc, &member.1)?))

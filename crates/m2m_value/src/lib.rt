@@ -27,6 +27,7 @@
 
 mod copy;
 mod fault;
+mod key;
 mod parsing;
 mod reading;
 mod same;
@@ -38,6 +39,7 @@ mod writing;
 
 pub use fault::ValFault;
 pub use json::Scratch;
+pub use key::MemberKey;
 pub use reading::{read, read_in};
 pub use shapes::{count_of, is_label_text};
 pub use std::alloc::AllocError as OutOfMemory;

@@ -7,6 +7,7 @@ ghost use Rattle.m2m_value.specs.Reading.{whole_of, value_kept, elements_in, pai
 ghost use Rattle.m2m_value.specs.Reading.{Gives, reading_depth};
 
 use crate::fault::ValFault;
+use crate::key::MemberKey;
 use crate::parsing::parse_in;
 use crate::text::Text;
 use crate::value::{Items, Members, Node, Val};
@@ -69,6 +70,13 @@ fn text(s: String) -> Text
     Text::of(s.into_bytes())
 }
 
+fn key_of(s: String) -> MemberKey
+    ensures value { result ≡ string_bytes s }
+    ensures utf8 { IsUtf8 (string_bytes s) }
+{
+    MemberKey::of(text(s))
+}
+
 #[cycle(kept)]
 fn kept_items(alloc: Global, items: Vec<Value>) -> Result<Items, ValFault>
     ensures { Gives elements_of result (elements_in (items_view items.items)) }
@@ -87,7 +95,7 @@ fn kept_members(alloc: Global, members: Map<String, Value>) -> Result<Members, V
 {
     let mut entries = Vec::with_capacity(alloc, members.len())?;
     for (key, member) in members {
-        entries.push((text(key), kept(alloc, member)?))?;
+        entries.push((key_of(key), kept(alloc, member)?))?;
     }
     Ok(Members::of(entries))
 }

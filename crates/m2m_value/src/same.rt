@@ -4,7 +4,7 @@ ghost use Rattle.std.specs.Cmp.{decided, partial_equiv_from_equiv};
 ghost use Rattle.m2m_value.specs.Same.{same, same_items, same_members};
 ghost use Rattle.m2m_value.specs.Same.{same-Decides, same_items-Decides, same_members-Decides};
 
-use crate::text::Text;
+use crate::key::MemberKey;
 use crate::value::{Items, Members, Node, Val};
 
 impl PartialEq for Val {
@@ -89,7 +89,7 @@ fn are_same_items(one: &[Val], other: &[Val]) -> bool
 }
 
 #[cycle(same)]
-fn are_same_members(one: &[(Text, Val)], other: &[(Text, Val)]) -> bool
+fn are_same_members(one: &[(MemberKey, Val)], other: &[(MemberKey, Val)]) -> bool
     ensures { result ≡ same_members one.now other.now }
 {
     if one.len() != other.len() {
@@ -104,8 +104,8 @@ fn are_same_members(one: &[(Text, Val)], other: &[(Text, Val)]) -> bool
 }
 
 #[cycle(same)]
-fn is_same_member(key: &Text, value: &Val, other_key: &Text, other: &Val) -> bool
+fn is_same_member(key: &MemberKey, value: &Val, other_key: &MemberKey, other: &Val) -> bool
     ensures { result ≡ (bytes_eq key.now other_key.now && same value.now other.now) }
 {
-    key == other_key && are_same(value, other)
+    key.entries() == other_key.entries() && are_same(value, other)
 }

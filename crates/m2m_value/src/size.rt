@@ -5,7 +5,7 @@ ghost use Rattle.m2m_value.specs.Data.{elements_of, pairs_of};
 ghost use Rattle.m2m_value.specs.Spelling.{escaped, quoted, comma_at, text_of, elements_from};
 ghost use Rattle.m2m_value.specs.Spelling.{pairs_from, size_of, capped};
 
-use crate::text::Text;
+use crate::key::MemberKey;
 use crate::value::{Items, Members, Node, Val};
 use crate::writing::short_escape;
 
@@ -65,7 +65,7 @@ fn members_len(members: &Members) -> u64
 
 /// With the colon.
 #[cycle(text_len)]
-fn member_len(key: &Text, value: &Val) -> u64
+fn member_len(key: &MemberKey, value: &Val) -> u64
     ensures { result ≡ capped (length (quoted key.now) + 1 + length (text_of value.now)) }
 {
     quoted_len(key.entries())

@@ -3,6 +3,7 @@ ghost use Rattle.std.specs.Prelude.{◌≡◌};
 ghost use Rattle.std.specs.Cmp.Lexicographic.{slice_cmp};
 ghost use Rattle.std.specs.Ordering.{nat_cmp};
 
+use crate::key::MemberKey;
 use crate::text::Text;
 use std::alloc::{AllocError as OutOfMemory, Global};
 use std::cmp::Ordering;
@@ -41,7 +42,7 @@ pub struct Items {
 #[cycle(value)]
 #[derive(Debug, Drop)]
 pub struct Members {
-    pub(crate) entries: Vec<(Text, Val)>,
+    pub(crate) entries: Vec<(MemberKey, Val)>,
 }
 
 impl Model for Val {
@@ -284,7 +285,7 @@ impl Members {
     ghost use Rattle.m2m_value.specs.View.{member_of, IsPlaceOf, IsGapFor};
 
     /// Takes no memory. The keys are distinct and in the order of their bytes.
-    pub fn of(entries: Vec<(Text, Val)>) -> Members
+    pub fn of(entries: Vec<(MemberKey, Val)>) -> Members
         requires { AreSorted entries.items }
         ensures { result ≡ entries.items }
     {
@@ -292,7 +293,7 @@ impl Members {
     }
 
     /// The members, in the order of their keys.
-    pub fn into_vec(self) -> Vec<(Text, Val)>
+    pub fn into_vec(self) -> Vec<(MemberKey, Val)>
         ensures entries { result.items ≡ self }
         ensures sorted { AreSorted self }
     {
@@ -300,7 +301,7 @@ impl Members {
     }
 
     /// The members, in the order of their keys.
-    pub fn entries(&self) -> &[(Text, Val)]
+    pub fn entries(&self) -> &[(MemberKey, Val)]
         ensures all { result.now ≡ self.now }
         ensures sorted { AreSorted self.now }
     {
@@ -328,7 +329,7 @@ impl Members {
 
     /// Puts the value at the key, in place of the one that is there, if any. The entries behind a
     /// new key move up by one. It takes memory only where the key is new.
-    pub fn put(&mut self, key: Text, value: Val) -> Result<(), OutOfMemory>
+    pub fn put(&mut self, key: MemberKey, value: Val) -> Result<(), OutOfMemory>
         ensures succeeds { IsSome (member_of key self.old) → IsOk result }
         ensures ok { OnOk result
             (self.new ≡ insert_entry (slice_cmp nat_cmp) self.old key value) }
@@ -370,7 +371,7 @@ impl Members {
 }
 
 /// How the entry's key and the key stand in the order of bytes.
-fn key_order(entry: &(Text, Val), key: &[u8]) -> Ordering
+fn key_order(entry: &(MemberKey, Val), key: &[u8]) -> Ordering
     ensures { result ≡ slice_cmp nat_cmp entry.now.0 key.now }
 {
     entry.0.entries().cmp(key)

@@ -10,7 +10,7 @@ ghost use Rattle.m2m_value.specs.Sound.{IsSound, AreSound, HaveSound, BeginsWith
 ghost use Rattle.m2m_value.specs.Spelling.{short_escape, escaped, is_plain, quoted, comma_at};
 ghost use Rattle.m2m_value.specs.Spelling.{text_of, elements_from, pairs_from};
 
-use crate::text::Text;
+use crate::key::MemberKey;
 use crate::value::{Items, Members, Node, Val};
 use itoa::Buffer;
 use std::alloc::AllocError as OutOfMemory;
@@ -88,7 +88,7 @@ fn write_members(members: &Members, out: &mut Vec<u8>) -> Result<(), OutOfMemory
 }
 
 #[cycle(write)]
-fn write_member(key: &Text, value: &Val, out: &mut Vec<u8>) -> Result<(), OutOfMemory>
+fn write_member(key: &MemberKey, value: &Val, out: &mut Vec<u8>) -> Result<(), OutOfMemory>
     ensures ok { OnOk result (out.new.items
         ≡ out.old.items ++ (quoted key.now ++ 58 ∷ text_of value.now)) }
     ensures err { OnErr result (BeginsWith out.old.items out.new.items) }

@@ -1,6 +1,6 @@
 -- Requests one after another, and how they are counted.
-use Rattle.std.proofs.Common.{◌≡◌, ◌<◌, ◌+◌, ◌-◌, ◌^◌, ◌∙◌, ℕ, Bool, cond, List, [], ◌∷◌, ◌++◌, length, refl, sym, ap, subst, arith, zero-add, take, get_or}
-use Rattle.std.specs.List.{All, count_by, sum_by}
+use Rattle.std.proofs.Common.{◌≡◌, ◌<◌, ◌+◌, ◌-◌, ◌^◌, ◌%◌, ◌==◌, ◌∙◌, ℕ, zero, suc, Bool, true, false, cond, if◌then◌else◌, List, [], ◌∷◌, ◌++◌, length, refl, sym, ap, subst, arith, zero-add, take, get_or}
+use Rattle.std.specs.List.{All, AllByRecursion, count_by, sum_by}
 use Rattle.std.proofs.lemmas.List.{map-append, length-map, length-take, take_more, get_or-map}
 use Rattle.std.proofs.lemmas.List.FromFn.{length-map-range_with_len, map-range_with_len_more}
 use Rattle.std.proofs.lemmas.List.Elements.{All-append, All-cons, All-nil}
@@ -18,7 +18,7 @@ use Rattle.cse_machine.specs.declared.event.Outcome.{Outcome}
 use Rattle.cse_machine.specs.declared.event.Outcome.TheVariants.{Starved}
 use Rattle.made_input.specs.Counts.{is_created, is_fanned, is_refused, is_retrieved, tally_of, with_one}
 use Rattle.made_input.specs.Making.{HasRoom, Makes, TakesOne}
-use Rattle.made_input.specs.Requests.{first_input, first_inputs, first_requests, group, made_input, made_inputs, made_request}
+use Rattle.made_input.specs.Requests.{IsMade, container_id, fan_point, first_input, first_inputs, first_requests, group, instance_at, made_input, made_inputs, made_request, newest, retrieval}
 use Rattle.made_input.specs.declared.tally.Tally.{Tally}
 
 -- ---- counts
@@ -110,3 +110,24 @@ pub made_more : (i : ℕ) (request : RequestParts) → request ≡ made_request 
     → made_inputs (i + 1) ≡ made_inputs i ++ (i, Ask request) ∷ []
 made_more i request is =
     map-range_with_len_more made_input 0 i i (zero-add i) ∙ ap (λ r. made_inputs i ++ (i, Ask r) ∷ []) (sym is)
+
+-- ---- each has the same maker and identifier
+
+made_at : (rs : List RequestParts) (place : ℕ) (d : RequestParts) → AllByRecursion IsMade rs → IsMade d → IsMade (get_or rs place d)
+made_at [] place d all own = own
+made_at (r ∷ rs) zero d all own = all.0
+made_at (r ∷ rs) (suc place) d all own = made_at rs place d all.1 own
+
+pub first_made : (place : ℕ) → IsMade (get_or first_requests place group)
+first_made place =
+    made_at first_requests place group
+    ((refl, refl), ((refl, refl), ((refl, refl), ((refl, refl), ((refl, refl), ((refl, refl), ((refl, refl), tt)))))))
+    (refl, refl)
+
+pub made_made : (i : ℕ) → IsMade (made_request i)
+made_made i = by_turn (i % 5 == 4) (i % 5 == 3)
+  where
+    by_turn : (fan read : Bool) → IsMade (if fan then instance_at fan_point i else if read then retrieval (newest i) else instance_at (container_id i) i)
+    by_turn true read = (refl, refl)
+    by_turn false true = (refl, refl)
+    by_turn false false = (refl, refl)

@@ -1,5 +1,6 @@
 -- The requests of the made input, and when each is asked (the profile's).
-use Rattle.std.specs.Prelude.{ℕ, ◌+◌, ◌%◌, ◌==◌, ℤ, pos, true, List, [], ◌∷◌, ◌++◌, map, codes}
+use Rattle.std.specs.Prelude.{◌≡◌, ℕ, ◌+◌, ◌%◌, ◌==◌, ℤ, pos, true, List, [], ◌∷◌, ◌++◌, map}
+use Rattle.std.specs.Prelude.{codes}
 use Rattle.std.specs.Prelude.{Option, Some, None, if◌then◌else◌}
 use Rattle.std.specs.Fmt.{decimal}
 use Rattle.std.specs.List.{range_with_len}
@@ -15,7 +16,8 @@ use Rattle.m2m_value.specs.Data.{text}
 use Rattle.primitive_json.specs.declared.request.RequestParts.{RequestParts}
 use Rattle.resource_model.specs.Home.{default_home}
 use Rattle.cse_machine.specs.declared.event.Event.{Event}
-use Rattle.cse_machine.specs.declared.event.Event.TheVariants.{Ask}
+use Rattle.cse_machine.specs.declared.event.Event.TheVariants.{Ask, Take, Tick}
+use Rattle.made_input.specs.declared.requests.Maker.{Maker}
 
 -- ---- one request
 
@@ -26,6 +28,20 @@ maker = codes "CGen"
 -- the identifier that each request has
 abbrev pub request_id : List ℕ
 request_id = codes "q"
+
+-- these are the texts that every request has
+abbrev pub IsMaker : Maker → Type 0
+IsMaker texts = (texts.fr ≡ maker) × (texts.rqi ≡ request_id)
+
+-- the request has them
+abbrev pub IsMade : RequestParts → Type 0
+IsMade request = (request.fr ≡ Some maker) × (request.rqi ≡ request_id)
+
+-- the event is a request that has them
+abbrev pub IsMadeEvent : Event → Type 0
+IsMadeEvent (Ask request) = IsMade request
+IsMadeEvent Take = Unit {0}
+IsMadeEvent Tick = Unit {0}
 
 -- A request of the maker: its operation and target, the number of the type that it creates, its
 -- content, and the result content that it wants.
@@ -139,13 +155,17 @@ first_inputs = map first_input first_requests
 abbrev pub container_number : ℕ → ℕ
 container_number i = 4 + i % 4
 
+-- the address of the container of a number
+abbrev pub address_of : ℕ → List ℕ
+address_of n = id_text Container n
+
 -- the address of that container
 abbrev pub container_id : ℕ → List ℕ
-container_id i = id_text Container (container_number i)
+container_id i = address_of (container_number i)
 
 -- the address of the newest instance of the container of a number
 abbrev pub newest_of : ℕ → List ℕ
-newest_of n = id_text Container n ++ codes "/la"
+newest_of n = address_of n ++ codes "/la"
 
 -- the address of the newest one of the container that the request of a number works with
 abbrev pub newest : ℕ → List ℕ

@@ -3,9 +3,9 @@ ghost use Rattle.std.specs.Prelude.{◌≡◌, ◌∷◌, [], IfOk};
 ghost use Rattle.m2m_value.specs.Data as json;
 ghost use Rattle.made_input.specs.Requests as spec;
 
+use itoa::Buffer;
 use m2m_names::Ty;
-use m2m_value::{Items, Members, Text, Val};
-use resource_model::numbered;
+use m2m_value::{Items, MemberKey, Members, Text, Val};
 use std::alloc::{AllocError as OutOfMemory, Global};
 
 fn text_of(alloc: Global, text: &str) -> Result<Val, OutOfMemory>
@@ -16,11 +16,11 @@ fn text_of(alloc: Global, text: &str) -> Result<Val, OutOfMemory>
 
 // An object of one member.
 #[tactic(auto, using(crate::proofs::ContentLemmas::sorted_alone))]
-fn object_of_one(alloc: Global, key: &str, value: Val) -> Result<Val, OutOfMemory>
+fn object_of_one(alloc: Global, key: &'static str, value: Val) -> Result<Val, OutOfMemory>
     ensures { IfOk result (λ v. v ≡ json.object (json.pairs_of ((key.now, value) ∷ []))) }
 {
     let mut members = Vec::with_capacity(alloc, 1)?;
-    members.push((Text::from_slice(alloc, key.as_bytes())?, value))?;
+    members.push((MemberKey::named(key), value))?;
     Ok(Val::of_obj(Members::of(members)))
 }
 
@@ -37,18 +37,9 @@ pub(crate) fn ae_attributes(alloc: Global) -> Result<Val, OutOfMemory>
     ensures { IfOk result (λ v. v ≡ spec.ae_attributes) }
 {
     let mut members = Vec::with_capacity(alloc, 3)?;
-    members.push((
-        Text::from_slice(alloc, "api".as_bytes())?,
-        text_of(alloc, "N1")?,
-    ))?;
-    members.push((
-        Text::from_slice(alloc, "rn".as_bytes())?,
-        text_of(alloc, "gen")?,
-    ))?;
-    members.push((
-        Text::from_slice(alloc, "rr".as_bytes())?,
-        Val::of_bool(true),
-    ))?;
+    members.push((MemberKey::named("api"), text_of(alloc, "N1")?))?;
+    members.push((MemberKey::named("rn"), text_of(alloc, "gen")?))?;
+    members.push((MemberKey::named("rr"), Val::of_bool(true)))?;
     Ok(Val::of_obj(Members::of(members)))
 }
 
@@ -58,11 +49,8 @@ pub(crate) fn container_attributes(alloc: Global, name: &str) -> Result<Val, Out
     ensures { IfOk result (λ v. v ≡ spec.container_attributes name.now) }
 {
     let mut members = Vec::with_capacity(alloc, 2)?;
-    members.push((Text::from_slice(alloc, "mni".as_bytes())?, Val::of_num(10)))?;
-    members.push((
-        Text::from_slice(alloc, "rn".as_bytes())?,
-        text_of(alloc, name)?,
-    ))?;
+    members.push((MemberKey::named("mni"), Val::of_num(10)))?;
+    members.push((MemberKey::named("rn"), text_of(alloc, name)?))?;
     Ok(Val::of_obj(Members::of(members)))
 }
 
@@ -91,9 +79,9 @@ pub(crate) fn subscription_attributes(alloc: Global) -> Result<Val, OutOfMemory>
     ensures { IfOk result (λ v. v ≡ spec.subscription_attributes) }
 {
     let mut members = Vec::with_capacity(alloc, 3)?;
-    members.push((Text::from_slice(alloc, "enc".as_bytes())?, criteria(alloc)?))?;
-    members.push((Text::from_slice(alloc, "nct".as_bytes())?, Val::of_num(3)))?;
-    members.push((Text::from_slice(alloc, "nu".as_bytes())?, listeners(alloc)?))?;
+    members.push((MemberKey::named("enc"), criteria(alloc)?))?;
+    members.push((MemberKey::named("nct"), Val::of_num(3)))?;
+    members.push((MemberKey::named("nu"), listeners(alloc)?))?;
     Ok(Val::of_obj(Members::of(members)))
 }
 
@@ -115,11 +103,8 @@ pub(crate) fn group_attributes(alloc: Global) -> Result<Val, OutOfMemory>
     ensures { IfOk result (λ v. v ≡ spec.group_attributes) }
 {
     let mut members = Vec::with_capacity(alloc, 2)?;
-    members.push((
-        Text::from_slice(alloc, "mid".as_bytes())?,
-        members_listed(alloc)?,
-    ))?;
-    members.push((Text::from_slice(alloc, "mnm".as_bytes())?, Val::of_num(4)))?;
+    members.push((MemberKey::named("mid"), members_listed(alloc)?))?;
+    members.push((MemberKey::named("mnm"), Val::of_num(4)))?;
     Ok(Val::of_obj(Members::of(members)))
 }
 
@@ -127,6 +112,5 @@ pub(crate) fn group_attributes(alloc: Global) -> Result<Val, OutOfMemory>
 pub(crate) fn instance_attributes(alloc: Global, number: u64) -> Result<Val, OutOfMemory>
     ensures { IfOk result (λ v. v ≡ spec.instance_attributes number) }
 {
-    let content = numbered(alloc, "", "", number)?;
-    object_of_one(alloc, "con", Val::of_text(content))
+    object_of_one(alloc, "con", text_of(alloc, Buffer::new().format(number))?)
 }

@@ -3,12 +3,13 @@ ghost use Rattle.std.specs.Prelude.{◌≡◌, ◌≢◌, ◌<◌, ◌+◌, ◌-
 ghost use Rattle.cse_server.specs.Outside.{EndsByFault, sink_told};
 ghost use Rattle.entity_model.specs.Opening.{opening};
 ghost use Rattle.resource_model.specs.Home.{default_home};
+ghost use Rattle.made_input.specs.Requests.{IsMade, IsMadeEvent, IsMaker};
 ghost use Rattle.made_input.specs.Requests.{first_inputs, made_inputs};
 ghost use Rattle.made_input.specs.Making.{Generates, IsMadeLine, Makes, MakesAll, TakesOne};
 ghost use Rattle.made_input.specs.Making.{HasRoom};
 
 use crate::line::line_of;
-use crate::requests::{FIRST, first_request, made_request};
+use crate::requests::{FIRST, Maker, first_request, made_request};
 use crate::tally::{NONE, Tally};
 use cse_machine::{Event, Outcome, step};
 use entity_model::Entity;
@@ -18,23 +19,38 @@ use resource_tree::IndexTree;
 use std::alloc::{AllocError as OutOfMemory, Global};
 use tree_model::{Home, Tree};
 
-// Puts a request to an entity at a reading, and counts what it is answered.
+// The texts of the request of an event.
+fn maker_of(alloc: Global, event: Event) -> Result<Maker, OutOfMemory>
+    requires { IsMadeEvent event }
+    ensures { IfOk result IsMaker }
+{
+    match event {
+        Event::Ask(request) => Maker::of(alloc, request),
+        Event::Take | Event::Tick => Maker::new(alloc),
+    }
+}
+
+// Puts a request to an entity at a reading, counts what it is answered, and gives back the texts
+// that the next one has too.
 fn take_request<T: Tree>(
     alloc: Global,
     entity: &mut Entity<T>,
     tally: &mut Tally,
     reading: u64,
     request: Request,
-) -> Result<(), OutOfMemory>
-    requires { HasRoom tally.old }
-    ensures { OnOk result (TakesOne reading request entity.old tally.old entity.new tally.new) }
+) -> Result<Maker, OutOfMemory>
+    requires room { HasRoom tally.old }
+    requires made { IsMade request }
+    ensures takes { OnOk result
+        (TakesOne reading request entity.old tally.old entity.new tally.new) }
+    ensures maker { IfOk result IsMaker }
 {
     let event = Event::Ask(request);
     match step(alloc, entity, reading, &event) {
         Outcome::Starved { .. } => Err(OutOfMemory),
         outcome => {
             *tally = tally.with(&event, &outcome);
-            Ok(())
+            Ok(maker_of(alloc, event)?)
         }
     }
 }
@@ -44,9 +60,10 @@ fn take_first<T: Tree>(alloc: Global, entity: &mut Entity<T>) -> Result<(), OutO
     ensures { OnOk result (MakesAll first_inputs entity.old entity.new) }
 {
     let mut uncounted = NONE;
+    let mut maker = Maker::new(alloc)?;
     for place in 0..FIRST {
-        let request = first_request(alloc, place)?;
-        take_request(alloc, entity, &mut uncounted, 0, request)?;
+        let request = first_request(alloc, maker, place)?;
+        maker = take_request(alloc, entity, &mut uncounted, 0, request)?;
     }
     Ok(())
 }
@@ -60,9 +77,10 @@ fn take_made<T: Tree>(
     ensures { IfOk result (λ tally. Makes (made_inputs requests) entity.old entity.new tally) }
 {
     let mut tally = NONE;
+    let mut maker = Maker::new(alloc)?;
     for i in 0..requests {
-        let request = made_request(alloc, i)?;
-        take_request(alloc, entity, &mut tally, i, request)?;
+        let request = made_request(alloc, maker, i)?;
+        maker = take_request(alloc, entity, &mut tally, i, request)?;
     }
     Ok(tally)
 }

@@ -13,8 +13,8 @@
 #![tactic(auto)]
 
 mod conn;
+mod exchanges;
 mod link;
-mod told;
 
+pub use exchanges::PastExchange;
 pub use link::PeerLink;
-pub use told::Told;

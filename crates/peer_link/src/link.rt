@@ -7,16 +7,20 @@ ghost use Rattle.m2m_io.specs.declared.fault.LinkFault.TheVariants.{OutOfMemory 
 ghost use Rattle.m2m_io.specs.Counts.{CountsFault, CountsFaults, after_call, after_fault};
 ghost use Rattle.m2m_io.specs.Counts.{fails_next, no_calls};
 ghost use Rattle.m2m_io.specs.Link.{TellsAnswer, TellsExchange, calls_after};
+ghost use Rattle.turn_desk.specs.Growth.{IsOwnRun};
+ghost use Rattle.cse_server.specs.Connection.{Serves};
+ghost use Rattle.cse_server.specs.Outside.{link_told, outside, sink_told};
 ghost use Rattle.peer_link.specs.PeerTalk.{AnswersTalking, PeerTalks};
 
 use crate::conn::MemPair;
-use crate::told::{Told, tell};
+use crate::exchanges::{PastExchange, tell};
+use cse_machine::{Event, Outcome};
 use cse_server::{Ended, Served, serve_connection};
 use entity_model::Entity;
-use m2m_io::{Clock, Failed, Link, LinkFault, MemLink, MemSink, MemSource, Source};
+use m2m_io::{Clock, Connection, Failed, Link, LinkFault, MemLink, MemSink, MemSource, Source};
 use std::alloc::{AllocError as OutOfMemory, Global};
 use tree_model::Tree;
-use turn_desk::{OwnDesk, OwnSeat};
+use turn_desk::{Object, OwnDesk, OwnSeat};
 
 /// A link in memory to another CSE. Its exchanges are told until memory runs out in one of them.
 #[derive(Drop)]
@@ -29,7 +33,7 @@ pub struct PeerLink<T: Tree, C: Clock> {
     /// exchange makes one read.
     pub turns: MemSource,
     /// The exchanges, in order.
-    pub told: Option<Vec<Told>>,
+    pub told: Option<Vec<PastExchange>>,
 }
 
 /// Counts one more exchange, and fails where it is one of those that are to fail.
@@ -44,6 +48,31 @@ fn count(turns: &mut MemSource) -> Result<(), Failed>
     Ok(())
 }
 
+/// Serves one connection at a seat that holds its object.
+fn serve_alone<O, X, C, L>(
+    alloc: Global,
+    seat: &mut OwnSeat<O>,
+    conn: &mut X,
+    clock: &mut C,
+    link: &mut L,
+) -> Ended
+where
+    O: Object<Event = Event, Outcome = Outcome>,
+    X: Connection,
+    C: Clock,
+    L: Link,
+    ensures { let old = outside (X.left conn.old)
+        (sink_told (X.written conn.old) (X.puts conn.old)) (C.readings clock.old)
+        (link_told (L.exchanges link.old) (L.faults link.old)) in
+        let new = outside (X.left conn.new)
+        (sink_told (X.written conn.new) (X.puts conn.new)) (C.readings clock.new)
+        (link_told (L.exchanges link.new) (L.faults link.new)) in
+        Serves (IsOwnRun O.step) seat.old seat.new old new result }
+{
+    let desk = OwnDesk::new();
+    serve_connection(alloc, &desk, seat, conn, clock, link)
+}
+
 /// What an entity writes to these bytes, which it serves as one connection.
 fn talk<T: Tree, C: Clock>(
     alloc: Global,
@@ -56,15 +85,14 @@ fn talk<T: Tree, C: Clock>(
 {
     let mut conn = MemPair::new(alloc, Vec::from_slice(alloc, bytes)?);
     let mut none = MemLink::new(Vec::new(alloc), Vec::new(alloc));
-    let desk = OwnDesk::new();
-    match serve_connection(alloc, &desk, seat, &mut conn, clock, &mut none) {
+    match serve_alone(alloc, seat, &mut conn, clock, &mut none) {
         Ended::Closed | Ended::NoFrame => Ok(conn.out),
         Ended::ReadFault | Ended::WriteFault | Ended::Memory => Err(OutOfMemory),
     }
 }
 
 /// Tells an exchange that failed, or from there on nothing, where memory runs out.
-fn tell_failure(alloc: Global, told: &mut Option<Vec<Told>>, host: &[u8], request: &[u8])
+fn tell_failure(alloc: Global, told: &mut Option<Vec<PastExchange>>, host: &[u8], request: &[u8])
     ensures { TellsExchange (option_map (λ t. t.items) told.old)
         (option_map (λ t. t.items) told.new)
         (record { host = host.now; request = request.now; answer = None }) }
@@ -76,7 +104,7 @@ fn tell_failure(alloc: Global, told: &mut Option<Vec<Told>>, host: &[u8], reques
 /// was, and nothing is told any more.
 fn hand_over(
     alloc: Global,
-    told: &mut Option<Vec<Told>>,
+    told: &mut Option<Vec<PastExchange>>,
     host: &[u8],
     request: &[u8],
     answer: &[u8],

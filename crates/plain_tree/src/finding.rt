@@ -2,12 +2,11 @@
 ghost use Rattle.std.specs.Prelude.{◌≡◌, ◌^◌, ◌<◌, length, find, reverse};
 ghost use Rattle.m2m_names.specs.Ids.{count_bound};
 ghost use Rattle.tree_model.specs.Tree.{is_child, is_kin, is_ae, is_cse, resource_number};
-ghost use Rattle.tree_model.specs.Tree.{next_after, number_at, AreAscending};
 ghost use Rattle.tree_model.specs.Tree.{last_number, children_of, child_of, ae_of, cse_of, kin_of};
-ghost use Rattle.tree_model.specs.Tree.{instances_of, instance_size, sizes_of, channel_of};
+ghost use Rattle.tree_model.specs.Tree.{instances_of, instance_size, number_at, sizes_of};
+ghost use Rattle.tree_model.specs.Tree.{channel_of};
 
 use m2m_names::{Attr, Ty};
-use resource_list::place_after;
 use resource_model::Resource;
 
 /// Whether a resource is the child of a name.
@@ -87,15 +86,6 @@ fn first_kin_in(resources: &[Resource], ty: Ty, parent: u64) -> Option<u64>
 {
     let found = resources.iter().find(|r| is_kin(r, ty, parent))?;
     Some(found.number())
-}
-
-/// The first child of a type that comes after a number.
-pub(crate) fn kin_after(resources: &[Resource], ty: Ty, parent: u64, number: u64) -> Option<u64>
-    requires { AreAscending resources.now }
-    ensures { result ≡ resource_number (next_after number (kin_of ty parent resources.now)) }
-{
-    let place = place_after(resources, number);
-    first_kin_in(&resources[place..], ty, parent)
 }
 
 /// The child at a place, from 0.

@@ -2,8 +2,7 @@
 ghost use Rattle.std.specs.Prelude.{◌≡◌, []};
 
 use crate::finding::{
-    ae_in, channel_in, child_in, count_of_instances, cse_in, kid_in, kin_after, kin_in,
-    last_kin_in, sizes_in,
+    ae_in, channel_in, child_in, count_of_instances, cse_in, kid_in, kin_in, last_kin_in, sizes_in,
 };
 use m2m_names::Ty;
 use m2m_value::Numbers;
@@ -93,8 +92,8 @@ impl Tree for ListTree {
         }
     }
 
-    fn instance_after(&self, container: u64, number: u64) -> Option<u64> {
-        kin_after(self.nodes.entries(), Ty::ContentInstance, container, number)
+    fn nth_instance(&self, container: u64, k: u64) -> Option<u64> {
+        kin_in(self.nodes.entries(), Ty::ContentInstance, container, k)
     }
 
     fn instance_count(&self, container: u64) -> u64 {

@@ -12,7 +12,7 @@ use crate::member::{Member, MemberKind, is_unread, retrieves};
 use crate::reply::{RQI, RSC};
 use filter_criteria::{is_filter, members_in, read_type_number, value_at};
 use m2m_names::Op;
-use m2m_value::{Text, Val};
+use m2m_value::{MemberKey, Val};
 
 /// Whether the operation is known, and retrieves.
 fn does_retrieve(op: Option<Op>) -> bool
@@ -46,7 +46,7 @@ fn is_of_kind(op: Option<Op>, kind: MemberKind, value: &Val) -> bool
     }
 }
 
-fn is_good(op: Option<Op>, entry: &(Text, Val)) -> bool
+fn is_good(op: Option<Op>, entry: &(MemberKey, Val)) -> bool
     ensures { result ≡ spec.is_good op entry.now }
 {
     match Member::named(entry.0.entries()) {
@@ -56,7 +56,7 @@ fn is_good(op: Option<Op>, entry: &(Text, Val)) -> bool
 }
 
 /// The first member that is none, or whose value is outside its kind.
-fn bad_entry(op: Option<Op>, value: &Val) -> Option<&(Text, Val)>
+fn bad_entry(op: Option<Op>, value: &Val) -> Option<&(MemberKey, Val)>
     ensures { option_copied result ≡ spec.bad_entry op (shared.members_in value.now) }
 {
     members_in(value).iter().find(|entry| !is_good(op, entry))

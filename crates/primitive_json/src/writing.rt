@@ -129,7 +129,7 @@ pub fn write_request(alloc: Global, request: &Request) -> Result<Val, OutOfMemor
     let mut entries = Vec::with_capacity(alloc, Member::ALL.len())?;
     for member in Member::ALL {
         let value = member_value(alloc, parts, member)?;
-        push_member(alloc, &mut entries, member.name(), value)?;
+        push_member(&mut entries, member.name(), value)?;
     }
     Ok(sorted_object(entries))
 }
@@ -141,9 +141,9 @@ pub fn reply_into(alloc: Global, reply: Reply) -> Result<Val, OutOfMemory>
 {
     let ReplyParts { rsc, rqi, pc } = reply.into_parts();
     let mut entries = Vec::with_capacity(alloc, 3)?;
-    push_member(alloc, &mut entries, PC, pc)?;
-    push_member(alloc, &mut entries, RQI, rqi.map(Val::of_text))?;
-    push_member(alloc, &mut entries, RSC, Some(status_value(rsc)))?;
+    push_member(&mut entries, PC, pc)?;
+    push_member(&mut entries, RQI, rqi.map(Val::of_text))?;
+    push_member(&mut entries, RSC, Some(status_value(rsc)))?;
     Ok(sorted_object(entries))
 }
 

@@ -1,5 +1,5 @@
 //! What a request on a line is answered, and its way to the sink.
-ghost use Rattle.std.specs.Prelude.{◌≡◌, Some, IfOk};
+ghost use Rattle.std.specs.Prelude.{◌≡◌, Some, OnOk};
 ghost use Rattle.cse_server.specs.Outside.{EndsByFault, link_told, sink_told};
 ghost use Rattle.primitive_json.specs.declared.request.RequestParts.{RequestParts};
 ghost use Rattle.cse_machine.specs.Answer.{starved};
@@ -54,15 +54,16 @@ pub(crate) fn put_request<T: Tree, L: Link>(
     }
 }
 
-/// The reply as a line.
-fn reply_text(alloc: Global, reply: Reply) -> Result<Vec<u8>, OutOfMemory>
-    ensures { IfOk result (λ text. text.items ≡ reply_line reply) }
+/// The reply as a line, in place of what stands in the text.
+fn write_reply_line(alloc: Global, text: &mut Vec<u8>, reply: Reply) -> Result<(), OutOfMemory>
+    ensures { OnOk result (text.new.items ≡ reply_line reply) }
 {
     let value = reply_into(alloc, reply)?;
-    let mut text = Vec::with_capacity(alloc, REPLY_ROOM)?;
-    write(&value, &mut text)?;
+    text.clear();
+    text.reserve(REPLY_ROOM)?;
+    write(&value, text)?;
     text.push(b'\n')?;
-    Ok(text)
+    Ok(())
 }
 
 /// Writes a line by one call of the sink. None where it was written.
@@ -80,16 +81,21 @@ pub(crate) fn put_line<O: Sink>(out: &mut O, line: &[u8]) -> Option<Status>
 }
 
 /// Writes the reply as a line, by one call of the sink. None where it was written. Where memory
-/// runs out, it isn't begun.
-pub(crate) fn put_reply<O: Sink>(alloc: Global, out: &mut O, reply: Reply) -> Option<Status>
+/// runs out, it isn't begun. The line is made in room that is kept from line to line.
+pub(crate) fn put_reply<O: Sink>(
+    alloc: Global,
+    room: &mut Vec<u8>,
+    out: &mut O,
+    reply: Reply,
+) -> Option<Status>
     ensures said { WritesText result (reply_line reply)
         (sink_told (O.written out.old) (O.puts out.old))
         (sink_told (O.written out.new) (O.puts out.new)) }
     ensures writes { EndsByFault (Some Status.WriteFault) result
         (O.faults out.old) (O.faults out.new) }
 {
-    let Ok(text) = reply_text(alloc, reply) else {
+    let Ok(()) = write_reply_line(alloc, room, reply) else {
         return Some(Status::Memory);
     };
-    put_line(out, &text)
+    put_line(out, room)
 }

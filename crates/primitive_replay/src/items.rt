@@ -1,5 +1,5 @@
 //! The items that are left in the outbox, and their way to the sink.
-ghost use Rattle.std.specs.Prelude.{◌≡◌, ◌≢◌, ◌++◌, [], IfOk, OnOk, Some};
+ghost use Rattle.std.specs.Prelude.{◌≡◌, ◌≢◌, ◌++◌, [], OnOk, Some};
 ghost use Rattle.cse_server.specs.Outside.{EndsByFault, sink_told};
 ghost use Rattle.primitive_replay.specs.Script.{WritesScript, dest_words, note_line};
 ghost use Rattle.primitive_replay.specs.Way.{WritesText};
@@ -40,32 +40,33 @@ fn push_dest(alloc: Global, text: &mut Vec<u8>, dest: &Dest) -> Result<(), OutOf
     }
 }
 
-/// The item as a line; the item is let go.
-fn note_text(alloc: Global, note: Note) -> Result<Vec<u8>, OutOfMemory>
-    ensures { IfOk result (λ text. text.items ≡ note_line note) }
+/// The item as a line, in place of what stands in the text; the item is let go.
+fn write_note_line(alloc: Global, text: &mut Vec<u8>, note: Note) -> Result<(), OutOfMemory>
+    ensures { OnOk result (text.new.items ≡ note_line note) }
 {
     let parts = note.into_parts();
-    let mut text = Vec::with_capacity(alloc, ITEM_ROOM)?;
-    push_dest(alloc, &mut text, &parts.dest)?;
+    text.clear();
+    text.reserve(ITEM_ROOM)?;
+    push_dest(alloc, text, &parts.dest)?;
     text.push(b' ')?;
-    push_request(alloc, &mut text, parts.request)?;
+    push_request(alloc, text, parts.request)?;
     text.push(b'\n')?;
-    Ok(text)
+    Ok(())
 }
 
 /// Writes the item as a line, by one call of the sink. None where it was written. Where memory runs
-/// out, it isn't begun.
-fn put_note<O: Sink>(alloc: Global, out: &mut O, note: Note) -> Option<Status>
+/// out, it isn't begun. The line is made in room that is kept from item to item.
+fn put_note<O: Sink>(alloc: Global, room: &mut Vec<u8>, out: &mut O, note: Note) -> Option<Status>
     ensures said { WritesText result (note_line note)
         (sink_told (O.written out.old) (O.puts out.old))
         (sink_told (O.written out.new) (O.puts out.new)) }
     ensures writes { EndsByFault (Some Status.WriteFault) result
         (O.faults out.old) (O.faults out.new) }
 {
-    let Ok(text) = note_text(alloc, note) else {
+    let Ok(()) = write_note_line(alloc, room, note) else {
         return Some(Status::Memory);
     };
-    put_line(out, &text)
+    put_line(out, room)
 }
 
 /// Takes the items out of the outbox, in order, and writes each as a line.
@@ -75,8 +76,9 @@ fn put_items<O: Sink>(alloc: Global, outbox: &mut Outbox, out: &mut O) -> Status
         (sink_told (O.written out.new) (O.puts out.new)) }
     ensures writes { EndsByFault Status.WriteFault result (O.faults out.old) (O.faults out.new) }
 {
+    let mut room = Vec::new(alloc);
     'items: while let Some(note) = outbox.take_first() {
-        if let Some(status) = put_note(alloc, out, note) {
+        if let Some(status) = put_note(alloc, &mut room, out, note) {
             return status;
         }
     }

@@ -27,6 +27,7 @@ fn take_line<T: Tree, O: Sink, L: Link>(
     alloc: Global,
     entity: &mut Entity<T>,
     reading: &mut u64,
+    room: &mut Vec<u8>,
     out: &mut O,
     link: &mut L,
     line: Line,
@@ -48,7 +49,7 @@ fn take_line<T: Tree, O: Sink, L: Link>(
         }
         Line::Ask(request) => {
             let reply = put_request(alloc, entity, link, *reading, request);
-            put_reply(alloc, out, reply)
+            put_reply(alloc, room, out, reply)
         }
     }
 }
@@ -71,6 +72,7 @@ fn replay_next<T: Tree, S: Source, O: Sink, L: Link>(
     scratch: &mut Scratch,
     held: &mut LineBuffer,
     reading: &mut u64,
+    room: &mut Vec<u8>,
     input: &mut S,
     out: &mut O,
     link: &mut L,
@@ -93,7 +95,7 @@ fn replay_next<T: Tree, S: Source, O: Sink, L: Link>(
         (O.faults out.old) (O.faults out.new) }
 {
     match next_line(alloc, scratch, held, input, place) {
-        Ok(Some(line)) => take_line(alloc, entity, reading, out, link, line),
+        Ok(Some(line)) => take_line(alloc, entity, reading, room, out, link, line),
         Ok(None) => Some(Status::Done),
         Err(fault) => Some(fault_status(fault, place)),
     }
@@ -136,6 +138,7 @@ fn replay_lines<T: Tree, S: Source, O: Sink, L: Link>(
         return Status::Memory;
     };
     let mut scratch = Scratch::new(alloc);
+    let mut room = Vec::new(alloc);
     let mut reading = 0;
     for place in 1..MOST_LINES + 2 {
         if let Some(status) = replay_next(
@@ -144,6 +147,7 @@ fn replay_lines<T: Tree, S: Source, O: Sink, L: Link>(
             &mut scratch,
             &mut held,
             &mut reading,
+            &mut room,
             input,
             out,
             link,
@@ -170,7 +174,8 @@ fn replay_lines<T: Tree, S: Source, O: Sink, L: Link>(
 /// its exchange gives its reply.
 ///
 /// A line is answered in time linear in it beside its event, and the bytes held and the room for
-/// reading one, which is kept from line to line, are at most some multiple of the longest line.
+/// reading one, which is kept from line to line, are at most some multiple of the longest line. So
+/// is the room for a reply, of the longest reply.
 pub fn replay<S: Source, O: Sink, L: Link>(
     alloc: Global,
     home: Home,

@@ -1,5 +1,5 @@
 -- What judging gives, by equal names.
-use Rattle.std.proofs.Common.{◌≡◌, ◌++◌, ℕ, List, Option, Some, None, Result, Err, sym, ap, ◌∙◌, subst}
+use Rattle.std.proofs.Common.{◌≡◌, ◌++◌, ℕ, List, Option, Some, None, Result, Ok, Err, sym, ap, ◌∙◌, subst}
 use Rattle.std.specs.Option.{option_map_or}
 use Rattle.m2m_names.specs.declared.codes.Rsc.{Rsc}
 use Rattle.m2m_names.specs.declared.codes.Rsc.TheVariants.{NotFound}
@@ -26,11 +26,13 @@ judges_at r op e o request n t P found judged =
     subst (λ (m : ℕ). Judges r (fault_at op e o request n) (P m)) (at_number n e.nodes t found)
     (subst (λ (f : Option Rsc). Judges r f (P t.number)) (sym (ap (λ (x : Option ResourceData). option_map_or (fault_on op e o request) x (Some NotFound)) found)) judged)
 
--- by an equal name of the fault
-pub judges_as : {X : Type 0} (r : Result X Refusal) (f g : Option Rsc) (P : X → Type 0) → f ≡ g → Judges r f P → Judges r g P
-judges_as r f g P same judged = subst (λ (x : Option Rsc). Judges r x P) same judged
-
 -- where it is refused, by the fault alone
 pub judges_refused : {X Y : Type 0} (why : Refusal) (f g : Option Rsc) (P : X → Type 0) (Q : Y → Type 0) → g ≡ f → Judges {X = X} (Err why) f P → Judges {X = Y} (Err why) g Q
 judges_refused (Fault r) f g P Q same judged = same ∙ judged
 judges_refused OutOfMemory f g P Q same judged = tt
+
+-- by an equal name of the fault, where what is given is so besides
+pub judges_further : {X : Type 0} (r : Result X Refusal) (f g : Option Rsc) (P Q : X → Type 0) → g ≡ f → ((x : X) → P x → Q x) → Judges r f P → Judges r g Q
+judges_further (Ok x) f g P Q same step judged = (same ∙ judged.0, step x judged.1)
+judges_further (Err (Fault r)) f g P Q same step judged = same ∙ judged
+judges_further (Err OutOfMemory) f g P Q same step judged = tt

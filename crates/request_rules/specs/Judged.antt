@@ -1,15 +1,20 @@
 -- What judging a request gives: why it is refused, or what it asks for.
-use Rattle.std.specs.Prelude.{◌≡◌, ℕ, List, Option, Some, None, Result, Ok, Err, ⊤}
+use Rattle.std.specs.Prelude.{◌≡◌, ◌≤◌, ℕ, List, Option, Some, None, Result, Ok, Err, IsUtf8, ⊤}
+use Rattle.m2m_names.specs.Stamps.{last_moment}
 use Rattle.m2m_names.specs.declared.codes.Rsc.{Rsc}
+use Rattle.m2m_names.specs.declared.types.Ty.{Ty}
+use Rattle.m2m_value.specs.Data.{Entry}
 use Rattle.primitive_json.specs.declared.request.RequestParts.{RequestParts}
+use Rattle.resource_model.specs.Resource.{ResourceData}
 use Rattle.tree_model.specs.Tree.{at}
 use Rattle.entity_model.specs.Entity.{EntityData}
 use Rattle.entity_model.specs.Sound.{IsSoundEntity}
 use Rattle.request_rules.specs.Asked.{Creation, creation_of}
+use Rattle.request_rules.specs.Creation.{name_for, size_named}
 use Rattle.request_rules.specs.Groups.{group_rows, membership_by, membership_edited}
-use Rattle.request_rules.specs.Requests.{child_ty, content_for}
-use Rattle.request_rules.specs.declared.judging.AllowedCreate.{AllowedCreate}
-use Rattle.request_rules.specs.declared.judging.AllowedUpdate.{AllowedUpdate}
+use Rattle.request_rules.specs.Requests.{child_ty, content_for, expiry_for}
+use Rattle.request_rules.specs.declared.allowed.AllowedCreate.{AllowedCreate}
+use Rattle.request_rules.specs.declared.allowed.AllowedUpdate.{AllowedUpdate}
 use Rattle.request_rules.specs.declared.judging.Refusal.{Refusal}
 use Rattle.request_rules.specs.declared.judging.Refusal.TheVariants.{Fault, OutOfMemory}
 
@@ -21,15 +26,34 @@ Judges (Err (Fault f)) fault IsSo = fault ≡ Some f
 Judges (Err OutOfMemory) fault IsSo = ⊤
 
 -- These are the parent and the type of the Create that a request asks for on the resource of a
--- number of a sound entity, the attributes that its content names, and what a group keeps of its
--- members.
+-- number of a sound entity, the attributes that its content names, the name, the expiry and the size
+-- of a content by these, and what a group keeps of its members.
 pub record IsCreateOf (e : EntityData) (request : RequestParts) (n : ℕ) (create : AllowedCreate)
     : Type 0 where
   pub sound : IsSoundEntity e
   pub parent : at n e.nodes ≡ Some create.parent.now
   pub ty : child_ty request ≡ Some create.ty
   pub named : content_for request create.ty ≡ Some create.named.now
+  pub name : create.name ≡ name_for create.ty e.next create.named.now
+  pub utf8 : IsUtf8 create.name
+  pub expiry : create.et ≡ expiry_for create.named.now
+  pub last : create.et ≤ last_moment
+  pub size : create.size ≡ size_named create.named.now
   pub members : create.members.items ≡ group_rows e (membership_by create.ty create.named.now)
+
+-- These are the parts of a Create of a resource of this type under this one, which names these
+-- attributes.
+pub record IsCreateBy (e : EntityData) (kind : Ty) (under : ResourceData) (es : List Entry)
+    (create : AllowedCreate) : Type 0 where
+  pub parent : create.parent.now ≡ under
+  pub ty : create.ty ≡ kind
+  pub named : create.named.now ≡ es
+  pub name : create.name ≡ name_for kind e.next es
+  pub utf8 : IsUtf8 create.name
+  pub expiry : create.et ≡ expiry_for es
+  pub last : create.et ≤ last_moment
+  pub size : create.size ≡ size_named es
+  pub members : create.members.items ≡ group_rows e (membership_by kind es)
 
 -- These are the resource of the Update that it asks for, the attributes that its content names, and
 -- what a group keeps of the members that this names.

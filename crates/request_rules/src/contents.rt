@@ -4,7 +4,7 @@ ghost use Rattle.m2m_names.specs.Stamps.{last_moment};
 ghost use Rattle.request_rules.specs.Requests as spec;
 
 use attribute_rules::{Writing, are_admitted, value_named};
-use m2m_names::{Attr, Ty, read_stamp};
+use m2m_names::{Attr, LAST_MOMENT, Ty, read_stamp};
 use m2m_value::Members;
 
 fn is_of_copy(name: &[u8]) -> bool
@@ -35,9 +35,18 @@ pub(crate) fn admits(writing: Writing, ty: Ty, named: &Members) -> bool
 }
 
 /// The moment of expiry that a content names, in seconds since 1970.
-pub fn named_expiry(members: &Members) -> Option<u64>
+pub(crate) fn named_expiry(members: &Members) -> Option<u64>
     ensures value { result ≡ spec.named_expiry members.now }
     ensures last { IfSome result (λ m. m ≤ last_moment) }
 {
     read_stamp(value_named(Attr::Et, members)?.as_text()?.entries())
+}
+
+/// The moment of expiry that a content names, in seconds since 1970, and the last one where it names
+/// none.
+pub fn expiry_for(members: &Members) -> u64
+    ensures value { result ≡ spec.expiry_for members.now }
+    ensures last { result ≤ last_moment }
+{
+    named_expiry(members).unwrap_or(LAST_MOMENT)
 }

@@ -260,7 +260,7 @@ fn is_of_other_type(of_type: u64, resource: Option<&Resource>) -> bool
 /// What is known of some members: those that the group keeps, whether one is of another type, and
 /// whether each that is kept names a live resource.
 #[derive(Drop)]
-struct Known {
+struct KnownMembers {
     kept: Vec<Val>,
     has_other: bool,
     are_live: bool,
@@ -272,7 +272,7 @@ fn learn_member<T: Tree>(
     entity: &Entity<T>,
     members: Membership<'_>,
     address: Text,
-    known: &mut Known,
+    known: &mut KnownMembers,
 ) -> Result<(), OutOfMemory>
     requires { IsUtf8 address }
     ensures kept { OnOk result (known.new.kept.items ≡ known.old.kept.items ++ map text
@@ -299,7 +299,7 @@ fn learn_members<T: Tree>(
     entity: &Entity<T>,
     members: Membership<'_>,
     texts: Vec<Text>,
-) -> Result<Known, OutOfMemory>
+) -> Result<KnownMembers, OutOfMemory>
     requires { AllByRecursion IsUtf8 texts.items }
     ensures kept { IfOk result (λ k. k.kept.items
         ≡ map text (spec.kept_among entity.now (membership_of members.entry) texts.items)) }
@@ -308,7 +308,7 @@ fn learn_members<T: Tree>(
     ensures live { IfOk result (λ k. k.are_live ≡ list_all (spec.is_live_member entity.now)
         (spec.kept_among entity.now (membership_of members.entry) texts.items)) }
 {
-    let mut known = Known {
+    let mut known = KnownMembers {
         kept: Vec::with_capacity(alloc, texts.len())?,
         has_other: false,
         are_live: true,
@@ -383,7 +383,7 @@ fn push_counts(
 fn member_rows(
     alloc: Global,
     members: Membership<'_>,
-    known: Known,
+    known: KnownMembers,
 ) -> Result<Vec<(Attr, Val)>, OutOfMemory>
     ensures { (e : EntityData) →
         known.kept.items ≡ map text (spec.members_kept e (membership_of members.entry))

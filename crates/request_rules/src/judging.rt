@@ -7,14 +7,15 @@ ghost use Rattle.tree_model.specs.Tree.{at, has};
 ghost use Rattle.entity_model.specs.Places.{first_fault};
 ghost use Rattle.entity_model.specs.Sound.{IsSoundEntity};
 ghost use Rattle.request_rules.specs.Asked.{creation_of};
-ghost use Rattle.request_rules.specs.Groups.{group_rows, membership_by, membership_edited};
-ghost use Rattle.request_rules.specs.Judged.{IsCreateOf, IsUpdateOf, Judges};
+ghost use Rattle.request_rules.specs.Groups.{group_rows, membership_edited};
+ghost use Rattle.request_rules.specs.Judged.{IsCreateBy, IsCreateOf, IsUpdateOf, Judges};
 ghost use Rattle.request_rules.specs.Order as spec;
 ghost use Rattle.request_rules.specs.Requests as requests;
 
+use crate::allowed::{AllowedCreate, AllowedUpdate};
 use crate::asking::{child_ty, find, is_for, takes_child};
 use crate::refusing::{judge_content, judge_creation, judge_edition};
-use crate::rights::{is_subscribing, may_do};
+use crate::rights::{is_subscribing, may_do_on};
 use attribute_rules::{Writing, attributes_in};
 use entity_model::Entity;
 use m2m_names::{Attr, Op, Rsc, Ty};
@@ -42,25 +43,6 @@ impl From<OutOfMemory> for Refusal {
     }
 }
 
-/// A Create that no place refuses: the parent of the new resource, its type, the attributes that
-/// the content names, and those in which a group keeps its members.
-#[derive(Drop)]
-pub struct AllowedCreate<'a> {
-    pub parent: &'a Resource,
-    pub ty: Ty,
-    pub named: &'a Members,
-    pub members: Vec<(Attr, Val)>,
-}
-
-/// An Update that no place refuses: the resource, the attributes that the content names, and those
-/// in which a group keeps the members that it is to have from now on.
-#[derive(Drop)]
-pub struct AllowedUpdate<'a> {
-    pub target: &'a Resource,
-    pub named: &'a Members,
-    pub members: Vec<(Attr, Val)>,
-}
-
 // ---- the target
 
 fn child_fault(request: &Request) -> Rsc
@@ -83,11 +65,12 @@ pub fn judge_target<T: Tree>(
     target: &Resource,
 ) -> Option<Rsc>
     requires originator { IsTrue (is_originator originator.now) }
-    requires resource { IsTrue (has target.now.number entity.now.nodes) }
+    requires there { IsTrue (has target.now.number entity.now.nodes) }
+    requires stands { at target.now.number entity.now.nodes ≡ Some target.now }
     ensures { result ≡ first_fault
         (spec.target_places op entity.now originator.now request.now target.now) }
 {
-    if !may_do(op, entity, originator, request, target.number()) {
+    if !may_do_on(op, entity, originator, request, target) {
         return Some(Rsc::NoPrivilege);
     }
     if !is_for(op, target.ty()) {
@@ -108,7 +91,8 @@ fn judge_parent<T: Tree>(
     parent: &Resource,
 ) -> Result<Ty, Rsc>
     requires originator { IsTrue (is_originator originator.now) }
-    requires resource { IsTrue (has parent.now.number entity.now.nodes) }
+    requires there { IsTrue (has parent.now.number entity.now.nodes) }
+    requires stands { at parent.now.number entity.now.nodes ≡ Some parent.now }
     ensures ok { OnOk result (first_fault
         (spec.target_places ops.Create entity.now originator.now request.now parent.now) ≡ None) }
     ensures child { IfOk result (λ ty. requests.child_ty request.now ≡ Some ty) }
@@ -116,7 +100,7 @@ fn judge_parent<T: Tree>(
         (spec.target_places ops.Create entity.now originator.now request.now parent.now)
         ≡ Some fault) }
 {
-    if !may_do(Op::Create, entity, originator, request, parent.number()) {
+    if !may_do_on(Op::Create, entity, originator, request, parent) {
         return Err(Rsc::NoPrivilege);
     }
     match child_ty(request) {
@@ -149,26 +133,9 @@ pub fn judge_create<'a, T: Tree>(
     ensures { Judges result (spec.fault_at ops.Create entity.now originator.now request.now parent)
         (IsCreateOf entity.now request.now parent) }
 {
-    match find(entity, parent) {
-        Some(parent) => judge_under(alloc, entity, originator, request, parent),
-        None => Err(Refusal::Fault(Rsc::NotFound)),
-    }
-}
-
-fn judge_under<'a, T: Tree>(
-    alloc: Global,
-    entity: &Entity<T>,
-    originator: &[u8],
-    request: &'a Request,
-    parent: &'a Resource,
-) -> Result<AllowedCreate<'a>, Refusal>
-    requires originator { IsTrue (is_originator originator.now) }
-    requires sound { IsSoundEntity entity.now }
-    requires stands { at parent.now.number entity.now.nodes ≡ Some parent.now }
-    ensures { Judges result
-        (spec.fault_on ops.Create entity.now originator.now request.now parent.now)
-        (IsCreateOf entity.now request.now parent.now.number) }
-{
+    let Some(parent) = find(entity, parent) else {
+        return Err(Refusal::Fault(Rsc::NotFound));
+    };
     match judge_parent(entity, originator, request, parent) {
         Ok(ty) => judge_child(alloc, entity, originator, request, parent, ty),
         Err(fault) => Err(Refusal::Fault(fault)),
@@ -196,30 +163,23 @@ fn judge_child<'a, T: Tree>(
     let Some(named) = content_for(request, ty) else {
         return Err(Refusal::Fault(Rsc::BadRequest));
     };
-    match judge_named(alloc, entity, originator, parent, ty, named) {
-        Ok(members) => Ok(AllowedCreate {
-            parent,
-            ty,
-            named,
-            members,
-        }),
-        Err(refusal) => Err(refusal),
-    }
+    judge_named(alloc, entity, originator, parent, ty, named)
 }
 
 // By the attributes that it names, and by what would be created.
-fn judge_named<T: Tree>(
+fn judge_named<'a, T: Tree>(
     alloc: Global,
     entity: &Entity<T>,
     originator: &[u8],
-    parent: &Resource,
+    parent: &'a Resource,
     ty: Ty,
-    named: &Members,
-) -> Result<Vec<(Attr, Val)>, Refusal>
-    requires { IsTrue (is_originator originator.now) }
+    named: &'a Members,
+) -> Result<AllowedCreate<'a>, Refusal>
+    requires originator { IsTrue (is_originator originator.now) }
+    requires stands { at parent.now.number entity.now.nodes ≡ Some parent.now }
     ensures { Judges result
         (spec.fault_creation (creation_of entity.now originator.now ty parent.now named.now))
-        (λ rows. rows.items ≡ group_rows entity.now (membership_by ty named.now)) }
+        (IsCreateBy entity.now ty parent.now named.now) }
 {
     if let Some(fault) = judge_content(alloc, entity, Writing::Create, ty, named)? {
         return Err(Refusal::Fault(fault));

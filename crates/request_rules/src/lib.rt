@@ -19,6 +19,7 @@
 //! ```
 #![tactic(auto)]
 
+mod allowed;
 mod asking;
 mod contents;
 mod groups;
@@ -31,13 +32,11 @@ mod refusing;
 mod rights;
 mod uniqueness;
 
+pub use allowed::{AllowedCreate, AllowedUpdate};
 pub use asking::{child_ty, find};
-pub use contents::named_expiry;
+pub use contents::expiry_for;
 pub use groups::{member_named, membership_edited, membership_new};
-pub use judging::{
-    AllowedCreate, AllowedUpdate, Refusal, judge_create, judge_target, judge_update,
-};
-pub use limiting::size_named;
+pub use judging::{Refusal, judge_create, judge_target, judge_update};
 pub use membership::Membership;
 pub use naming::{new_ae_id, new_name, new_owner};
 pub use policies::{listed, policy_ids};

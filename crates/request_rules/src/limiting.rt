@@ -1,11 +1,10 @@
 //! The limits on what is created.
-ghost use Rattle.std.specs.Prelude.{◌≡◌, ℕ, nat_lt, List, not, ◌||◌};
-ghost use Rattle.std.specs.Prelude.{IsTrue};
+ghost use Rattle.std.specs.Prelude.{◌≡◌, nat_lt, not, ◌&&◌, ◌||◌, IsTrue, Some};
 ghost use Rattle.m2m_names.specs.declared.types.Ty.TheVariants.{ContentInstance};
 ghost use Rattle.resource_model.specs.Resource.{is_ty};
-ghost use Rattle.tree_model.specs.Tree.{level_of, is_tree};
+ghost use Rattle.tree_model.specs.Tree.{at, level_of, is_well_formed};
+ghost use Rattle.entity_model.specs.Sound.{greatest_depth};
 ghost use Rattle.request_rules.specs.Creation as spec;
-ghost use Rattle.request_rules.specs.Creation.{creation_of};
 
 use attribute_rules::value_named;
 use container_limits::is_within;
@@ -23,22 +22,26 @@ const GREATEST_DEPTH: u64 = 32;
 /// How many resources there are at most.
 const GREATEST_COUNT: u64 = 100_000;
 
-// Whether a resource stands less deep than this.
+/// How deep an application entity stands: right below the CSEBase.
+const AE_DEPTH: u64 = 2;
+
+// Whether a resource stands less deep than this. No other is looked at above an application entity.
 fn is_less_deep<T: Tree>(tree: &T, number: u64, bound: u64) -> bool
-    requires { IsTrue (is_tree (T.nodes tree.now)) }
+    requires { IsTrue (is_well_formed (T.nodes tree.now)) }
     ensures { result ≡ nat_lt (level_of number (T.nodes tree.now)) bound }
 {
     if bound == 0 {
         return false;
     }
     match tree.get(number) {
+        Some(resource) if AE_DEPTH < bound && resource.is(Ty::Ae) => true,
         Some(resource) => is_less_deep(tree, resource.parent(), bound - 1),
         None => true,
     }
 }
 
-/// The size of a content, in bytes.
-pub fn size_named(members: &Members) -> u64
+/// The size of a content that is named, in bytes, and 0 where none is.
+pub(crate) fn size_named(members: &Members) -> u64
     ensures { result ≡ spec.size_named members.now }
 {
     match value_named(Attr::Con, members) {
@@ -67,32 +70,31 @@ fn takes_instance(container: &Resource, size: u64) -> bool
         && is_below(0, attrs.count(Attr::Mia))
 }
 
-fn is_small(ty: Ty, parent: &Resource, members: &Members) -> bool
-    ensures { result
-        ≡ (not (is_ty ty ContentInstance)
-        || spec.takes_instance parent.now (spec.size_named members.now)) }
+// Whether a resource that was found stands less deep than any may.
+fn is_above_the_deepest<T: Tree>(entity: &Entity<T>, resource: &Resource) -> bool
+    requires { at resource.now.number entity.now.nodes ≡ Some resource.now }
+    ensures { result ≡ nat_lt (level_of resource.now.number entity.now.nodes) greatest_depth }
 {
-    ty.number() != Ty::ContentInstance.number() || takes_instance(parent, size_named(members))
+    is_less_deep(&entity.tree, resource.parent(), GREATEST_DEPTH - 1)
 }
 
-// Whether there is room for one more resource below another.
+// Whether there is room for one more resource below another, which was found.
 fn has_place<T: Tree>(entity: &Entity<T>, parent: &Resource) -> bool
+    requires { at parent.now.number entity.now.nodes ≡ Some parent.now }
     ensures { result ≡ spec.has_place entity.now parent.now.number }
 {
     entity.tree.len() < GREATEST_COUNT
         && entity.next < LARGEST_COUNT
-        && is_less_deep(&entity.tree, parent.number(), GREATEST_DEPTH)
+        && is_above_the_deepest(entity, parent)
 }
 
-/// Whether a creation passes no limit.
-pub(crate) fn has_room<T: Tree>(
-    entity: &Entity<T>,
-    ty: Ty,
-    parent: &Resource,
-    members: &Members,
-) -> bool
-    ensures { (originator : List ℕ) → result
-        ≡ spec.has_room (creation_of entity.now originator ty parent.now members.now) }
+/// Whether a creation below a resource that was found, of a content of this size if of any, passes
+/// no limit.
+pub(crate) fn has_room<T: Tree>(entity: &Entity<T>, ty: Ty, parent: &Resource, size: u64) -> bool
+    requires { at parent.now.number entity.now.nodes ≡ Some parent.now }
+    ensures { result ≡ (spec.has_place entity.now parent.now.number
+        && (not (is_ty ty ContentInstance) || spec.takes_instance parent.now size)) }
 {
-    has_place(entity, parent) && is_small(ty, parent, members)
+    has_place(entity, parent)
+        && (ty.number() != Ty::ContentInstance.number() || takes_instance(parent, size))
 }

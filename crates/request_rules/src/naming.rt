@@ -1,6 +1,6 @@
 //! Names and identifiers of what is created.
 ghost use Rattle.std.specs.Prelude.{◌≡◌, ◌++◌, IfOk, IfSome, IsTrue, IsUtf8};
-ghost use Rattle.std.specs.Prelude.{option_map, unwrap_or};
+ghost use Rattle.std.specs.Prelude.{option_map};
 ghost use Rattle.m2m_names.specs.Ids as ids;
 ghost use Rattle.m2m_names.specs.Name.{is_originator};
 ghost use Rattle.m2m_names.specs.declared.types.Ty.TheVariants.{Ae};
@@ -12,14 +12,6 @@ use m2m_names::{Attr, Ty, is_name};
 use m2m_value::{Members, Text};
 use resource_model::{id_text, numbered};
 use std::alloc::{AllocError as OutOfMemory, Global};
-
-/// The name that a resource of a type and a number has where none is given.
-pub(crate) fn own_name(alloc: Global, ty: Ty, number: u64) -> Result<Text, OutOfMemory>
-    ensures value { IfOk result (λ t. t ≡ spec.own_name ty number) }
-    ensures utf8 { IfOk result (λ t. IsUtf8 t) }
-{
-    numbered(alloc, ty.word(), "_", number)
-}
 
 /// The text that a content names at an attribute.
 pub(crate) fn text_named(attr: Attr, members: &Members) -> Option<&Text>
@@ -84,19 +76,13 @@ pub fn new_owner(alloc: Global, originator: &[u8], ty: Ty, number: u64) -> Resul
     }
 }
 
-/// The name of a resource of a type and a number: the one that is given, else its own.
-pub fn new_name(
-    alloc: Global,
-    ty: Ty,
-    number: u64,
-    given: Option<Text>,
-) -> Result<Text, OutOfMemory>
-    requires { IfSome given (λ t. IsUtf8 t) }
-    ensures value { IfOk result (λ t. t ≡ unwrap_or given (spec.own_name ty number)) }
+/// The name of a resource of a type and a number: the one that a content names, else its own.
+pub fn new_name(alloc: Global, ty: Ty, number: u64, members: &Members) -> Result<Text, OutOfMemory>
+    ensures value { IfOk result (λ t. t ≡ spec.name_for ty number members.now) }
     ensures utf8 { IfOk result (λ t. IsUtf8 t) }
 {
-    match given {
-        Some(name) => Ok(name),
-        None => own_name(alloc, ty, number),
+    match text_named(Attr::Rn, members) {
+        Some(name) => name.copy(alloc),
+        None => numbered(alloc, ty.word(), "_", number),
     }
 }

@@ -1,16 +1,19 @@
 //! What a content names, and what it would create, in the order in which it is refused.
-ghost use Rattle.std.specs.Prelude.{◌≡◌, IfOk, IsTrue};
+ghost use Rattle.std.specs.Prelude.{◌≡◌, IfOk, IsTrue, Some};
 ghost use Rattle.m2m_names.specs.Name.{is_originator};
+ghost use Rattle.tree_model.specs.Tree.{at};
 ghost use Rattle.entity_model.specs.Places.{first_fault};
 ghost use Rattle.request_rules.specs.Asked.{creation_of};
-ghost use Rattle.request_rules.specs.Groups.{group_rows, membership_by, membership_edited};
-ghost use Rattle.request_rules.specs.Judged.{Judges};
+ghost use Rattle.request_rules.specs.Groups.{group_rows, membership_edited};
+ghost use Rattle.request_rules.specs.Judged.{IsCreateBy, Judges};
 ghost use Rattle.request_rules.specs.Order as spec;
 
-use crate::contents::{admits, named_expiry};
+use crate::allowed::AllowedCreate;
+use crate::contents::{admits, expiry_for, named_expiry};
 use crate::groups::{have_addresses, judge_group, membership_edited, membership_new};
 use crate::judging::Refusal;
-use crate::limiting::has_room;
+use crate::limiting::{has_room, size_named};
+use crate::naming::new_name;
 use crate::policies::links_live;
 use crate::uniqueness::is_unique;
 use attribute_rules::Writing;
@@ -29,23 +32,6 @@ fn expires_later<T: Tree>(entity: &Entity<T>, members: &Members) -> bool
     }
 }
 
-// By what an admitted content names.
-fn judge_named<T: Tree>(
-    alloc: Global,
-    entity: &Entity<T>,
-    members: &Members,
-) -> Result<Option<Rsc>, OutOfMemory>
-    ensures { IfOk result (λ f. f ≡ spec.fault_named entity.now members.now) }
-{
-    if !expires_later(entity, members) {
-        return Ok(Some(Rsc::BadRequest));
-    }
-    if !links_live(alloc, entity, members)? {
-        return Ok(Some(Rsc::BadRequest));
-    }
-    Ok(None)
-}
-
 /// The status with which a content refuses an operation that writes this: it isn't admitted, or by
 /// what it names.
 pub(crate) fn judge_content<T: Tree>(
@@ -57,38 +43,55 @@ pub(crate) fn judge_content<T: Tree>(
 ) -> Result<Option<Rsc>, OutOfMemory>
     ensures { IfOk result (λ f. f ≡ spec.fault_content writing entity.now ty named.now) }
 {
-    if !admits(writing, ty, named) {
+    if !admits(writing, ty, named) || !expires_later(entity, named) {
         return Ok(Some(Rsc::BadRequest));
     }
-    judge_named(alloc, entity, named)
+    if !links_live(alloc, entity, named)? {
+        return Ok(Some(Rsc::BadRequest));
+    }
+    Ok(None)
 }
 
-/// Judges a creation by the members that a group is to have, by what stands there, and by limits.
-/// What isn't refused gives the attributes in which a group keeps its members.
-pub(crate) fn judge_creation<T: Tree>(
+/// Judges a creation below a resource that was found: by the members that a group is to have, by what
+/// stands there, and by limits. What isn't refused hands on what was learned of it.
+pub(crate) fn judge_creation<'a, T: Tree>(
     alloc: Global,
     entity: &Entity<T>,
     originator: &[u8],
     ty: Ty,
-    parent: &Resource,
-    members: &Members,
-) -> Result<Vec<(Attr, Val)>, Refusal>
-    requires { IsTrue (is_originator originator.now) }
+    parent: &'a Resource,
+    named: &'a Members,
+) -> Result<AllowedCreate<'a>, Refusal>
+    requires originator { IsTrue (is_originator originator.now) }
+    requires stands { at parent.now.number entity.now.nodes ≡ Some parent.now }
     ensures { Judges result
-        (spec.fault_new (creation_of entity.now originator.now ty parent.now members.now))
-        (λ rows. rows.items ≡ group_rows entity.now (membership_by ty members.now)) }
+        (spec.fault_new (creation_of entity.now originator.now ty parent.now named.now))
+        (IsCreateBy entity.now ty parent.now named.now) }
 {
-    let group = membership_new(ty, members);
+    let group = membership_new(ty, named);
     if !have_addresses(alloc, &entity.home, group)? {
         return Err(Refusal::Fault(Rsc::BadRequest));
     }
-    if !is_unique(alloc, entity, originator, ty, parent, members)? {
+    let name = new_name(alloc, ty, entity.next, named)?;
+    if !is_unique(alloc, entity, originator, ty, parent, named, &name)? {
         return Err(Refusal::Fault(Rsc::Conflict));
     }
-    if !has_room(entity, ty, parent, members) {
+    let size = size_named(named);
+    if !has_room(entity, ty, parent, size) {
         return Err(Refusal::Fault(Rsc::NotAcceptable));
     }
-    judge_group(alloc, entity, group)
+    match judge_group(alloc, entity, group) {
+        Ok(members) => Ok(AllowedCreate {
+            parent,
+            ty,
+            named,
+            name,
+            et: expiry_for(named),
+            size,
+            members,
+        }),
+        Err(refusal) => Err(refusal),
+    }
 }
 
 /// Judges an Update by the members that a group is to have. What isn't refused gives the attributes

@@ -9,7 +9,7 @@ ghost use Rattle.tree_model.specs.Tree as trees;
 ghost use Rattle.request_rules.specs.Creation as spec;
 ghost use Rattle.request_rules.specs.Creation.{creation_of};
 
-use crate::naming::{new_ae_id, own_name, text_named};
+use crate::naming::{new_ae_id, text_named};
 use entity_model::Entity;
 use m2m_names::{Attr, Ty};
 use m2m_value::{Members, Text};
@@ -78,28 +78,7 @@ fn is_single<T: Tree>(
     }
 }
 
-// Whether no sibling has its name.
-fn has_free_name<T: Tree>(
-    alloc: Global,
-    entity: &Entity<T>,
-    ty: Ty,
-    parent: u64,
-    members: &Members,
-) -> Result<bool, OutOfMemory>
-    ensures { IfOk result (λ b. b
-        ≡ not (trees.has_child parent (spec.name_for ty entity.now.next members.now)
-        entity.now.nodes)) }
-{
-    match text_named(Attr::Rn, members) {
-        Some(name) => Ok(!has_child(&entity.tree, parent, name.entries())),
-        None => {
-            let name = own_name(alloc, ty, entity.next)?;
-            Ok(!has_child(&entity.tree, parent, name.entries()))
-        }
-    }
-}
-
-/// Whether nothing stands in the tree already that a creation alone may be.
+/// Whether nothing stands in the tree already that a creation of this name alone may be.
 pub(crate) fn is_unique<T: Tree>(
     alloc: Global,
     entity: &Entity<T>,
@@ -107,12 +86,14 @@ pub(crate) fn is_unique<T: Tree>(
     ty: Ty,
     parent: &Resource,
     members: &Members,
+    name: &Text,
 ) -> Result<bool, OutOfMemory>
-    requires { IsTrue (is_originator originator.now) }
+    requires originator { IsTrue (is_originator originator.now) }
+    requires name { name.now ≡ spec.name_for ty entity.now.next members.now }
     ensures { IfOk result (λ b. b
         ≡ spec.is_unique (creation_of entity.now originator.now ty parent.now members.now)) }
 {
-    if !has_free_name(alloc, entity, ty, parent.number(), members)? {
+    if has_child(&entity.tree, parent.number(), name.entries()) {
         return Ok(false);
     }
     is_single(alloc, entity, originator, ty, parent, members)

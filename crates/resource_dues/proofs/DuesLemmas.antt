@@ -30,7 +30,8 @@ use Rattle.tree_model.proofs.QuietLemmas.{all_by_number, due-append, due-replace
 use Rattle.tree_model.proofs.TreeLemmas.{at-append, at-replaced, at-replaced_other, at_has, at_none, at_number, filter_among, has-append, staying_wider}
 use Rattle.resource_store.proofs.LeafLemmas.{leaf_without, others}
 use Rattle.resource_store.proofs.NextLemmas.{until_end, until_next, until_zero}
-use Rattle.resource_dues.specs.Dues.{due_at, is_told, tells, AreTold, AreToldTo, HasDues, IsDueLeaf, TellsAll}
+use Rattle.m2m_names.specs.Stamps.{last_moment}
+use Rattle.resource_dues.specs.Dues.{due_at, is_listed, is_told, tells, AreTold, AreToldTo, HasDues, IsDueLeaf, TellsAll}
 use Rattle.resource_dues.specs.declared.dues.Dues.{Dues}
 
 -- ---- one entry more, or less
@@ -76,24 +77,47 @@ pub told_here : (moment n : ℕ) → tells moment n (moment, n) ≡ true
 told_here moment n = and_from _ _ (le-leb moment moment (omega arith)) (eq-eqb n n refl)
 
 -- an entry that isn't later than an earlier moment isn't later than this one
-pub told_later : (early late n : ℕ) (entries : List (ℕ × ℕ)) → early ≤ late → is_told early n entries ≡ true → is_told late n entries ≡ true
-told_later early late n [] less told = told
-told_later early late n (e ∷ entries) less told = elim (or_cases (tells early n e) _ told) [
+listed_later : (early late n : ℕ) (entries : List (ℕ × ℕ)) → early ≤ late → is_listed early n entries ≡ true → is_listed late n entries ≡ true
+listed_later early late n [] less told = told
+listed_later early late n (e ∷ entries) less told = elim (or_cases (tells early n e) _ told) [
   | inl here ↦
       let parts = and_parts (nat_le e.0 early) (nat_eq e.1 n) here in
       or_left _ _ (and_from _ _ (le-leb e.0 late (let l : e.0 ≤ early = leb-true e.0 early parts.0 in omega arith)) parts.1)
-  | inr later ↦ or_right _ _ (told_later early late n entries less later)
+  | inr later ↦ or_right _ _ (listed_later early late n entries less later)
+]
+
+pub told_later : (early late n : ℕ) (entries : List (ℕ × ℕ)) → early ≤ late → is_told early n entries ≡ true → is_told late n entries ≡ true
+told_later early late n entries less told = elim (or_cases (nat_le last_moment early) (is_listed early n entries) told) [
+  | inl last ↦ or_left _ _ (le-leb last_moment late (let l : last_moment ≤ early = leb-true last_moment early last in omega (arith, less, l)))
+  | inr listed ↦ or_right (nat_le last_moment late) _ (listed_later early late n entries less listed)
+]
+
+-- more entries tell what was told, where they have what told it
+pub told_by : (moment n : ℕ) (before after : List (ℕ × ℕ)) → (is_listed moment n before ≡ true → is_listed moment n after ≡ true) → is_told moment n before ≡ true → is_told moment n after ≡ true
+told_by moment n before after keeps told = elim (or_cases (nat_le last_moment moment) (is_listed moment n before) told) [
+  | inl last ↦ or_left _ _ last
+  | inr listed ↦ or_right (nat_le last_moment moment) _ (keeps listed)
+]
+
+-- before the last moment an entry has to tell
+pub listed_before : (early n : ℕ) (entries : List (ℕ × ℕ)) → early < last_moment → is_told early n entries ≡ true → is_listed early n entries ≡ true
+listed_before early n entries before told = elim (or_cases (nat_le last_moment early) (is_listed early n entries) told) [
+  | inl last ↦ absurd (let l : last_moment ≤ early = leb-true last_moment early last in omega (arith, before, l))
+  | inr listed ↦ listed
 ]
 
 -- the first one gone, the others tell of other numbers still
-pub told_rest : (moment n : ℕ) (first k : ℕ × ℕ) (before after : List (ℕ × ℕ)) → before ≡ k ∷ after → slice_get before 0 ≡ Some first → nat_eq first.1 n ≡ false → is_told moment n before ≡ true → is_told moment n after ≡ true
-told_rest moment n first k before after whole read apart told =
+listed_rest : (moment n : ℕ) (first k : ℕ × ℕ) (before after : List (ℕ × ℕ)) → before ≡ k ∷ after → slice_get before 0 ≡ Some first → nat_eq first.1 n ≡ false → is_listed moment n before ≡ true → is_listed moment n after ≡ true
+listed_rest moment n first k before after whole read apart told =
     let same : k ≡ first = same_Some k first (sym (ap (λ es. slice_get es 0) whole) ∙ read) in
     let other : nat_eq k.1 n ≡ false = ap (λ (e : ℕ × ℕ). nat_eq e.1 n) same ∙ apart in
-    elim (or_cases (tells moment n k) _ (sym (ap (is_told moment n) whole) ∙ told)) [
+    elim (or_cases (tells moment n k) _ (sym (ap (is_listed moment n) whole) ∙ told)) [
       | inl here ↦ absurd (both_ways _ other (and_parts (nat_le k.0 moment) (nat_eq k.1 n) here).1)
       | inr later ↦ later
     ]
+
+pub told_rest : (moment n : ℕ) (first k : ℕ × ℕ) (before after : List (ℕ × ℕ)) → before ≡ k ∷ after → slice_get before 0 ≡ Some first → nat_eq first.1 n ≡ false → is_told moment n before ≡ true → is_told moment n after ≡ true
+told_rest moment n first k before after whole read apart told = told_by moment n before after (listed_rest moment n first k before after whole read apart) told
 
 -- what stays of them tells what they told, where it has each that told it
 pub any_kept : (p q : ℕ × ℕ → Bool) (ks : List (ℕ × ℕ)) → ((e : ℕ × ℕ) → p e ≡ true → q e ≡ true) → list_any p ks ≡ true → list_any p (filter q ks) ≡ true
@@ -111,9 +135,11 @@ any_kept p q (k ∷ ks) within some = elim (cases_Bool (q k)) [
 
 pub told_left : (nodes : List ResourceData) (entries : List (ℕ × ℕ)) → AreTold nodes entries → AreTold nodes (filter (λ e. has e.1 nodes) entries)
 told_left nodes entries told r moment found when =
-    any_kept (tells moment r.number) (λ e. has e.1 nodes) entries (λ e passes.
+    told_by moment r.number entries (filter (λ e. has e.1 nodes) entries)
+    (any_kept (tells moment r.number) (λ e. has e.1 nodes) entries (λ e passes.
     let parts = and_parts (nat_le e.0 moment) (nat_eq e.1 r.number) passes in
-    ap (λ n. has n nodes) (eqb-true e.1 r.number parts.1) ∙ at_has r.number nodes r found) (told r moment found when)
+    ap (λ n. has n nodes) (eqb-true e.1 r.number parts.1) ∙ at_has r.number nodes r found))
+    (told r moment found when)
 
 -- ---- the first moment
 
@@ -124,7 +150,7 @@ least_first a b not_above = elim (cases_lt b.0 a.0) [
 ]
 
 -- where none is before the first, each that tells of a number is that late
-pub first_least : (f : ℕ × ℕ) (entries : List (ℕ × ℕ)) (moment n : ℕ) → ((k : ℕ) (d : ℕ × ℕ) → k < length entries → is_gt (entry_cmp f (slice_index_or entries k d)) ≡ false) → is_told moment n entries ≡ true → f.0 ≤ moment
+pub first_least : (f : ℕ × ℕ) (entries : List (ℕ × ℕ)) (moment n : ℕ) → ((k : ℕ) (d : ℕ × ℕ) → k < length entries → is_gt (entry_cmp f (slice_index_or entries k d)) ≡ false) → is_listed moment n entries ≡ true → f.0 ≤ moment
 first_least f [] moment n all told = absurd (both_ways _ refl told)
 first_least f (e ∷ entries) moment n all told = elim (or_cases (tells moment n e) _ told) [
   | inl here ↦
@@ -341,9 +367,9 @@ told_start nodes dues tree whole r moment low found due_then = absurd (let above
 pub told_end : (nodes : List ResourceData) (last : ℕ) (dues : Dues) → next_after last nodes ≡ None → AreToldTo last nodes dues → HasDues nodes dues
 told_end nodes last dues none told whole r moment found due_then = told whole r moment (until_end last nodes r none found) found due_then
 
-pub nothing_told : (moment n : ℕ) (entries : List (ℕ × ℕ)) → (0 < length entries → ⊥) → is_told moment n entries ≡ true → ⊥
-nothing_told moment n [] none told = both_ways _ refl told
-nothing_told moment n (e ∷ entries) none told = none (omega arith)
+pub nothing_listed : (moment n : ℕ) (entries : List (ℕ × ℕ)) → (0 < length entries → ⊥) → is_listed moment n entries ≡ true → ⊥
+nothing_listed moment n [] none told = both_ways _ refl told
+nothing_listed moment n (e ∷ entries) none told = none (omega arith)
 
 pub dues-replaced : (nodes : List ResourceData) (r : ResourceData) (before after : Dues) (number : ℕ) (when : Option ℕ) → is_tree nodes ≡ true → option_map standing (at r.number nodes) ≡ Some (standing r) → lowered_age (age_of (at r.number nodes)) (age_of (Some r)) ≡ None → HasDues nodes before → (after.whole ≡ true → before.whole ≡ true) → TellsAll before.moments.keys after.moments.keys → number ≡ r.number → when ≡ due nodes r → ((moment : ℕ) → after.whole ≡ true → when ≡ Some moment → is_told moment number after.moments.keys ≡ true) → HasDues (replaced r nodes) after
 dues-replaced nodes r before after number when tree stood age told same keeps is_number is_when noted whole = told-replaced nodes r before.moments.keys after.moments.keys tree stood age (told (same whole)) keeps (λ moment due_then. subst (λ n. is_told moment n after.moments.keys ≡ true) is_number (noted moment whole (is_when ∙ due_then)))
@@ -353,7 +379,7 @@ dues-replaced nodes r before after number when tree stood age told same keeps is
 less_first : (a b : ℕ × ℕ) → entry_cmp a b ≡ Less → a.0 ≤ b.0
 less_first a b less = least_first a b (ap is_gt less)
 
-none_by : (second : ℕ × ℕ) (rest : List (ℕ × ℕ)) (moment : ℕ) → moment < second.0 → AllByRecursion (λ e. entry_cmp second e ≡ Less) rest → (early n : ℕ) → early ≤ moment → is_told early n rest ≡ true → ⊥
+none_by : (second : ℕ × ℕ) (rest : List (ℕ × ℕ)) (moment : ℕ) → moment < second.0 → AllByRecursion (λ e. entry_cmp second e ≡ Less) rest → (early n : ℕ) → early ≤ moment → is_listed early n rest ≡ true → ⊥
 none_by second [] moment late all early n low told = both_ways _ refl told
 none_by second (e ∷ rest) moment late all early n low told = elim (or_cases (tells early n e) _ told) [
   | inl here ↦
@@ -370,18 +396,18 @@ pub nothing_first : (a : ℕ × ℕ) (es : List (ℕ × ℕ)) → [] ≡ a ∷ e
 nothing_first a es same = cc
 
 -- where the second entry is later, the first alone tells of moments until then
-pub sole_first : (entries rest : List (ℕ × ℕ)) (first : ℕ × ℕ) (moment : ℕ) → IsStrictlySortedBy entry_cmp entries → entries ≡ first ∷ rest → ((second : ℕ × ℕ) (more : List (ℕ × ℕ)) → rest ≡ second ∷ more → moment < second.0) → (early n : ℕ) → early ≤ moment → is_told early n entries ≡ true → first.1 ≡ n
+pub sole_first : (entries rest : List (ℕ × ℕ)) (first : ℕ × ℕ) (moment : ℕ) → IsStrictlySortedBy entry_cmp entries → entries ≡ first ∷ rest → ((second : ℕ × ℕ) (more : List (ℕ × ℕ)) → rest ≡ second ∷ more → moment < second.0) → (early n : ℕ) → early ≤ moment → is_listed early n entries ≡ true → first.1 ≡ n
 unfolding IsStrictlySortedBy
-sole_first entries rest first moment sorted whole late early n low told = elim (or_cases (tells early n first) _ (sym (ap (is_told early n) whole) ∙ told)) [
+sole_first entries rest first moment sorted whole late early n low told = elim (or_cases (tells early n first) _ (sym (ap (is_listed early n) whole) ∙ told)) [
   | inl here ↦ eqb-true first.1 n (and_parts (nat_le first.0 early) (nat_eq first.1 n) here).1
   | inr later ↦ absurd (by rest refl (subst (IsStrictlySortedBy entry_cmp) whole sorted) later)
 ]
   where
-    by : (es : List (ℕ × ℕ)) → rest ≡ es → IsStrictlySortedBy entry_cmp (first ∷ rest) → is_told early n rest ≡ true → ⊥
-    by [] is order some = both_ways _ refl (ap (is_told early n) (sym is) ∙ some)
+    by : (es : List (ℕ × ℕ)) → rest ≡ es → IsStrictlySortedBy entry_cmp (first ∷ rest) → is_listed early n rest ≡ true → ⊥
+    by [] is order some = both_ways _ refl (ap (is_listed early n) (sym is) ∙ some)
     by (second ∷ more) is order some =
         let after : moment < second.0 = late second more is in
-        elim (or_cases (tells early n second) _ (ap (is_told early n) (sym is) ∙ some)) [
+        elim (or_cases (tells early n second) _ (ap (is_listed early n) (sym is) ∙ some)) [
           | inl here ↦
               let parts = and_parts (nat_le second.0 early) (nat_eq second.1 n) here in
               (let below : second.0 ≤ early = leb-true second.0 early parts.0 in omega arith)

@@ -1,5 +1,7 @@
 -- Moments at which resources are due, with their numbers.
-use Rattle.std.specs.Prelude.{◌≡◌, ◌≤◌, ◌&&◌, ℕ, nat_eq, nat_le, List, [], Bool, true, false, Option, Some, option_and_then}
+use Rattle.std.specs.Prelude.{◌≡◌, ◌≤◌, ◌&&◌, ◌||◌, ℕ, nat_eq, nat_le, List, [], Bool, true, false}
+use Rattle.std.specs.Prelude.{Option, Some, option_and_then}
+use Rattle.m2m_names.specs.Stamps.{last_moment}
 use Rattle.std.specs.Option.{option_map_or}
 use Rattle.std.specs.List.{list_any}
 use Rattle.resource_model.specs.Resource.{ResourceData}
@@ -11,10 +13,14 @@ abbrev pub tells : ℕ → ℕ → ℕ × ℕ → Bool
 tells moment n entry = nat_le entry.0 moment && nat_eq entry.1 n
 
 -- one of the entries does
-abbrev pub is_told : ℕ → ℕ → List (ℕ × ℕ) → Bool
-is_told moment n entries = list_any (tells moment n) entries
+abbrev pub is_listed : ℕ → ℕ → List (ℕ × ℕ) → Bool
+is_listed moment n entries = list_any (tells moment n) entries
 
--- an entry tells of each resource that will be due, and isn't later
+-- the number is told of by then: no entry has to tell of the last moment that there is
+abbrev pub is_told : ℕ → ℕ → List (ℕ × ℕ) → Bool
+is_told moment n entries = nat_le last_moment moment || is_listed moment n entries
+
+-- an entry tells of each resource that will be due before the last moment, and isn't later
 abbrev pub AreTold : List ResourceData → List (ℕ × ℕ) → Type 0
 AreTold nodes entries = (r : ResourceData) (moment : ℕ) → at r.number nodes ≡ Some r
     → due nodes r ≡ Some moment → is_told moment r.number entries ≡ true

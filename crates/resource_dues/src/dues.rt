@@ -7,6 +7,7 @@ ghost use Rattle.tree_model.specs.Tree as tree;
 ghost use Rattle.tree_model.specs.Tree.{age_of, are_quiet, at, is_tree, replaced, standing};
 ghost use Rattle.resource_dues.specs.Dues.{due_at, is_told, AreTold, HasDues, TellsAll};
 
+use m2m_names::LAST_MOMENT;
 use resource_model::Resource;
 use resource_store::Store;
 use std::alloc::{AllocError as OutOfMemory, Global};
@@ -21,7 +22,8 @@ const MOST: u64 = 8;
 
 /// Moments with the numbers of the resources that are due then, the earliest first. A resource may
 /// have an entry that is too early, and never one that is too late; that of one that has gone stays
-/// for a while.
+/// for a while. What is due at the last moment that there is, as most resources are that nobody gave
+/// an expiry, has none.
 #[derive(Drop)]
 pub struct Dues {
     pub moments: BTreeSet<(u64, u64)>,
@@ -60,9 +62,13 @@ impl Dues {
         ensures ok { (moment : ℕ) → OnOk result (due ≡ Some moment
             → is_told moment number self.new.moments.keys ≡ true) }
     {
-        if let Some(moment) = due {
-            self.moments.insert((moment, number))?;
+        let Some(moment) = due else {
+            return Ok(());
+        };
+        if LAST_MOMENT <= moment {
+            return Ok(());
         }
+        self.moments.insert((moment, number))?;
         Ok(())
     }
 
@@ -143,11 +149,15 @@ impl Dues {
         let _first = self.moments.pop_first();
     }
 
-    /// The number of the only entry up to a moment. None where there are more, or none.
+    /// The number of the only entry up to a moment. None where there are more, or none, and at the
+    /// last moment.
     pub fn sole(&self, moment: u64) -> Option<u64>
         ensures { (number early n : ℕ) → result ≡ Some number → early ≤ moment
             → is_told early n self.now.moments.keys ≡ true → number ≡ n }
     {
+        if LAST_MOMENT <= moment {
+            return None;
+        }
         let mut entries = self.moments.iter();
         let first = entries.next()?;
         match entries.next() {
@@ -162,8 +172,8 @@ impl Dues {
             → AreTold nodes self.now.moments.keys → IsTrue (are_quiet result nodes) }
     {
         match self.moments.first() {
-            Some(entry) => entry.0,
-            None => u64::MAX,
+            Some(entry) => entry.0.min(LAST_MOMENT),
+            None => LAST_MOMENT,
         }
     }
 

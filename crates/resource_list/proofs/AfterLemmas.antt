@@ -1,14 +1,12 @@
 -- What comes after a number in a list whose numbers ascend.
 use Rattle.std.specs.Prelude.{nat_le, nat_lt}
-use Rattle.std.proofs.Common.{◌≡◌, ℕ, zero, suc, ◌-◌, ◌<◌, ◌≤◌, List, [], ◌∷◌, length, length-drop, take, drop, find, get_or, Bool, true, false, inl, inr, refl, sym, ap, ◌∙◌, arith}
+use Rattle.std.proofs.Common.{◌≡◌, ℕ, zero, suc, ◌<◌, ◌≤◌, List, [], ◌∷◌, length, drop, find, get_or, Bool, true, false, inl, inr, refl, sym, ap, ◌∙◌, arith}
 use Rattle.std.proofs.lemmas.Bool.{cases_Bool, cases_lt, leb-true, leb-false, lt-ltb, le-ltb}
-use Rattle.std.proofs.lemmas.List.{take_all}
 use Rattle.std.specs.List.{filter, slice_get}
 use Rattle.std.specs.List.Sorted.{IsNonDecreasingBy, IsPartitionPoint}
 use Rattle.resource_model.specs.Resource.{ResourceData}
-use Rattle.tree_model.specs.Tree.{all_after, comes_after, next_after, resource_number, AreAscending}
+use Rattle.tree_model.specs.Tree.{all_after, comes_after, next_after, AreAscending}
 use Rattle.resource_list.proofs.PlaceLemmas.{number_order}
-use Rattle.tree_model.proofs.RowLemmas.{filter_swap}
 
 -- ---- after a number
 
@@ -50,13 +48,3 @@ dropped_first (s ∷ nodes) (suc i) = dropped_first nodes i
 pub next_at : (n : ℕ) (nodes : List ResourceData) (i : ℕ) → all_after n nodes ≡ drop i nodes → slice_get nodes i ≡ next_after n nodes
 next_at n nodes i after =
     sym (first_passes (comes_after n) nodes ∙ ap (λ (ss : List ResourceData). slice_get ss 0) after ∙ dropped_first nodes i)
-
--- the first of a filter that comes after a number is the first behind that place
-pub next_of : (p : ResourceData → Bool) (n : ℕ) (nodes : List ResourceData) (i : ℕ) → all_after n nodes ≡ drop i nodes → resource_number (find p (take (length nodes - i) (drop i nodes))) ≡ resource_number (next_after n (filter p nodes))
-next_of p n nodes i after =
-    ap resource_number
-    (ap (find p) (take_all (length nodes - i) (drop i nodes) (omega (arith, length-drop i nodes)))
-    ∙ first_passes p (drop i nodes)
-    ∙ ap (λ (ss : List ResourceData). slice_get (filter p ss) 0) (sym after)
-    ∙ ap (λ (ss : List ResourceData). slice_get ss 0) (filter_swap p (comes_after n) nodes)
-    ∙ sym (first_passes (comes_after n) (filter p nodes)))

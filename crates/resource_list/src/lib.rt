@@ -18,4 +18,3 @@ mod placing;
 mod removing;
 
 pub use nodes::Nodes;
-pub use placing::place_after;

@@ -4,7 +4,7 @@ use std::alloc::{AllocError as OutOfMemory, Global};
 // Of a resource: the place of its parent, and the place that the last removal gave it, or where it
 // would stand if it hadn't gone.
 #[derive(Clone, Copy)]
-struct Place {
+struct ParentHint {
     parent: usize,
     own: usize,
 }
@@ -16,7 +16,7 @@ const NOWHERE: usize = usize::MAX;
 /// whether that stays or goes. They are hints: a wrong one costs a search, and changes no answer.
 #[derive(Drop)]
 pub(crate) struct Places {
-    places: Vec<Place>,
+    places: Vec<ParentHint>,
 }
 
 impl Places {
@@ -29,7 +29,7 @@ impl Places {
     /// Notes where the parent of the resource at a place stands, which is the last.
     pub(crate) fn note(&mut self, at: usize, parent: usize) -> Result<(), OutOfMemory> {
         self.places.truncate(at);
-        self.places.push(Place { parent, own: at })?;
+        self.places.push(ParentHint { parent, own: at })?;
         Ok(())
     }
 

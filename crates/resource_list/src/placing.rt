@@ -147,7 +147,7 @@ fn is_until(resource: &Resource, number: u64) -> bool
 }
 
 /// The place behind the resources with at most this number: those that come after it stand there.
-pub fn place_after(resources: &[Resource], number: u64) -> usize
+pub(crate) fn place_after(resources: &[Resource], number: u64) -> usize
     requires { AreAscending resources.now }
     ensures bound { result ≤ length resources.now }
     ensures value { all_after number resources.now ≡ drop result resources.now }

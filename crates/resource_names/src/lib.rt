@@ -7,7 +7,7 @@
 //! (`add`) and what has gone (`note_gone`), and owe that the list is a tree.
 //!
 //! ```text
-//! let mut named = Named::new(alloc);
+//! let mut named = Named::new(alloc, Seeded::of(seed));
 //! named.add(alloc, &list, &resource)?;
 //! named.child(&list, parent, b"lamp")
 //! ```

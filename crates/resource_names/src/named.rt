@@ -17,9 +17,8 @@ use m2m_names::read_digits;
 use m2m_value::Text;
 use plain_tree::{is_ae, is_child, is_cse};
 use resource_model::Resource;
-use resource_store::Store;
+use resource_store::{NumberMap, Seeded, Store};
 use std::alloc::{AllocError as OutOfMemory, Global};
-use std::collections::HashMap;
 
 // Most resources that go have no such id.
 const FEW: usize = 64;
@@ -28,18 +27,18 @@ const FEW: usize = 64;
 /// whose name tells its number, as that of most instances does, stands in no table.
 #[derive(Drop)]
 pub struct Named {
-    pub(crate) children: HashMap<u64, Names>,
+    pub(crate) children: NumberMap<Names>,
     pub(crate) aes: Names,
     pub(crate) cses: Names,
 }
 
 impl Named {
     /// That of no resource; it takes no memory.
-    pub fn new(alloc: Global) -> Named
+    pub fn new(alloc: Global, seeded: Seeded) -> Named
         ensures { IsNamed [] result }
     {
         Named {
-            children: HashMap::new(alloc),
+            children: NumberMap::with_hasher(alloc, seeded),
             aes: Names::new(alloc),
             cses: Names::new(alloc),
         }
@@ -129,7 +128,7 @@ fn tells_itself(resource: &Resource) -> bool
     }
 }
 
-fn find_child(children: &HashMap<u64, Names>, parent: u64, name: &[u8]) -> Option<u64>
+fn find_child(children: &NumberMap<Names>, parent: u64, name: &[u8]) -> Option<u64>
     ensures { result ≡ named_at children.now parent name.now }
 {
     match children.get(&parent) {
@@ -172,7 +171,7 @@ fn checked_cse(list: &Store, number: Option<u64>, csi: &[u8]) -> Option<u64>
 // Where its name tells its number, nothing is noted.
 fn add_child(
     alloc: Global,
-    children: &mut HashMap<u64, Names>,
+    children: &mut NumberMap<Names>,
     resource: &Resource,
 ) -> Result<(), OutOfMemory>
     ensures ok { (p : ℕ) (other : List ℕ) → OnOk result (named_at children.new p other
@@ -196,7 +195,7 @@ fn add_child(
 
 fn add_name(
     alloc: Global,
-    children: &mut HashMap<u64, Names>,
+    children: &mut NumberMap<Names>,
     parent: u64,
     name: &[u8],
     number: u64,
@@ -230,7 +229,7 @@ fn add_id(alloc: Global, ids: &mut Names, id: Option<&Text>, number: u64) -> Res
 }
 
 // Of the children of a parent those are found still that are in the list.
-fn let_go_children(children: &mut HashMap<u64, Names>, list: &Store, parent: u64)
+fn let_go_children(children: &mut NumberMap<Names>, list: &Store, parent: u64)
     ensures { (p : ℕ) (name : List ℕ) (n : ℕ) → named_at children.old p name ≡ Some n
         → has n list.now ≡ true → named_at children.new p name ≡ Some n }
 {
@@ -240,7 +239,7 @@ fn let_go_children(children: &mut HashMap<u64, Names>, list: &Store, parent: u64
 }
 
 // Whether the parent has a table of names, and none is left in it then.
-fn lets_names_go(children: &mut HashMap<u64, Names>, list: &Store, parent: u64) -> bool
+fn lets_names_go(children: &mut NumberMap<Names>, list: &Store, parent: u64) -> bool
     ensures kept { (p : ℕ) (name : List ℕ) (n : ℕ) → named_at children.old p name ≡ Some n
         → has n list.now ≡ true → named_at children.new p name ≡ Some n }
     ensures none { (name : List ℕ) → result ≡ true → named_at children.new parent name ≡ None }
@@ -254,7 +253,7 @@ fn lets_names_go(children: &mut HashMap<u64, Names>, list: &Store, parent: u64) 
     }
 }
 
-fn note_gone_child(children: &mut HashMap<u64, Names>, list: &Store, parent: u64)
+fn note_gone_child(children: &mut NumberMap<Names>, list: &Store, parent: u64)
     ensures { (p : ℕ) (name : List ℕ) (n : ℕ) → named_at children.old p name ≡ Some n
         → has n list.now ≡ true → named_at children.new p name ≡ Some n }
 {
@@ -264,7 +263,7 @@ fn note_gone_child(children: &mut HashMap<u64, Names>, list: &Store, parent: u64
 }
 
 // Whether the parent has a table of names, and none is left in it then.
-fn notes_child_gone(children: &mut HashMap<u64, Names>, list: &Store, parent: u64) -> bool
+fn notes_child_gone(children: &mut NumberMap<Names>, list: &Store, parent: u64) -> bool
     ensures kept { (p : ℕ) (name : List ℕ) (n : ℕ) → named_at children.old p name ≡ Some n
         → has n list.now ≡ true → named_at children.new p name ≡ Some n }
     ensures none { (name : List ℕ) → result ≡ true → named_at children.new parent name ≡ None }
@@ -279,7 +278,7 @@ fn notes_child_gone(children: &mut HashMap<u64, Names>, list: &Store, parent: u6
 }
 
 // The table of a parent goes, in which no name is left.
-fn forget_names(children: &mut HashMap<u64, Names>, parent: u64)
+fn forget_names(children: &mut NumberMap<Names>, parent: u64)
     requires { (name : List ℕ) → named_at children.old parent name ≡ None }
     ensures { (p : ℕ) (name : List ℕ) →
         named_at children.new p name ≡ named_at children.old p name }

@@ -10,7 +10,7 @@
 //! `overdue_numbers` fail for want of memory.
 //!
 //! ```text
-//! let mut store = Store::new(alloc);
+//! let mut store = Store::new(alloc, Seeded::of(seed));
 //! store.push(resource)?;
 //! store.after(1) // the first resource whose number is greater than 1
 //! ```
@@ -19,10 +19,12 @@
 mod gone;
 mod order;
 mod overdue;
+mod seeded;
 mod sizes;
 mod store;
 mod written;
 
 pub use overdue::overdue_numbers;
+pub use seeded::{NumberMap, Seeded};
 pub use sizes::instance_sizes;
 pub use store::Store;

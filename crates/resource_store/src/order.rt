@@ -4,15 +4,15 @@ ghost use Rattle.std.specs.Prelude.{length, option_map, slice_get, IsTrue, vec_l
 ghost use Rattle.tree_model.specs.Tree.{DoAscend};
 ghost use Rattle.resource_store.specs.Store.{resources_of, KeepsPresent};
 
+use crate::seeded::NumberMap;
 use resource_model::Resource;
-use std::collections::HashMap;
 
 // So many numbers may have gone before any is let go.
 const FEW: u64 = 64;
 
 /// The resource at place k among those of these numbers, from 0.
 pub(crate) fn nth_of<'a>(
-    resources: &'a HashMap<u64, Resource>,
+    resources: &'a NumberMap<Resource>,
     numbers: &[u64],
     k: u64,
 ) -> Option<&'a Resource>
@@ -61,7 +61,7 @@ pub(crate) fn put_last(order: &mut Vec<u64>, number: u64)
 }
 
 /// Lets numbers go whose resources have gone, where these come last, or are more than half.
-pub(crate) fn let_gaps_go(resources: &HashMap<u64, Resource>, order: &mut Vec<u64>, count: u64)
+pub(crate) fn let_gaps_go(resources: &NumberMap<Resource>, order: &mut Vec<u64>, count: u64)
     ensures { KeepsPresent resources.now order.old.items order.new.items }
 {
     while lets_last_go(resources, order) {}
@@ -71,7 +71,7 @@ pub(crate) fn let_gaps_go(resources: &HashMap<u64, Resource>, order: &mut Vec<u6
 }
 
 // Lets the last number go, where its resource has gone, and says so.
-fn lets_last_go(resources: &HashMap<u64, Resource>, order: &mut Vec<u64>) -> bool
+fn lets_last_go(resources: &NumberMap<Resource>, order: &mut Vec<u64>) -> bool
     ensures kept { KeepsPresent resources.now order.old.items order.new.items }
     ensures less { IsTrue result → length order.new.items < length order.old.items }
 {
@@ -85,7 +85,7 @@ fn lets_last_go(resources: &HashMap<u64, Resource>, order: &mut Vec<u64>) -> boo
     true
 }
 
-fn let_all_go(resources: &HashMap<u64, Resource>, order: &mut Vec<u64>)
+fn let_all_go(resources: &NumberMap<Resource>, order: &mut Vec<u64>)
     ensures { KeepsPresent resources.now order.old.items order.new.items }
 {
     order.retain(|number| resources.contains_key(number));

@@ -10,17 +10,17 @@ ghost use Rattle.tree_model.specs.Tree.{restamped_at, standing, without};
 
 use crate::gone::Gone;
 use crate::order::{let_gaps_go, nth_of, place_after, put_last};
+use crate::seeded::{NumberMap, Seeded};
 use crate::written::{recount_in, restamp_in, write_over};
 use resource_model::Resource;
 use std::alloc::{AllocError as OutOfMemory, Global};
-use std::collections::HashMap;
 use std::marker::Model;
 use tree_model::due_under;
 
 /// The resources of a tree, in order of their numbers.
 #[derive(Drop)]
 pub struct Store {
-    resources: HashMap<u64, Resource>,
+    resources: NumberMap<Resource>,
     // Their numbers in order, among some whose resources have gone.
     order: Vec<u64>,
     count: u64,
@@ -45,11 +45,11 @@ impl Model for Store {
 
 impl Store {
     /// No resource; it takes no memory.
-    pub fn new(alloc: Global) -> Store
+    pub fn new(alloc: Global, seeded: Seeded) -> Store
         ensures { result ≡ [] }
     {
         Store {
-            resources: HashMap::new(alloc),
+            resources: NumberMap::with_hasher(alloc, seeded),
             order: Vec::new(alloc),
             count: 0,
             gone: Gone::none(alloc),
@@ -125,6 +125,7 @@ impl Store {
         ensures back { IfErr result (λ e. e.0 ≡ resource) }
     {
         let number = resource.number();
+        self.gone.free_some();
         if let Err(_) = self.order.reserve(1) {
             return Err((resource, OutOfMemory));
         }
@@ -133,7 +134,6 @@ impl Store {
         }
         put_last(&mut self.order, number);
         self.count += 1;
-        self.gone.free_some();
         Ok(())
     }
 

@@ -9,13 +9,13 @@ ghost use Rattle.resource_model.specs.Attributes.{value_of};
 ghost use Rattle.resource_model.specs.Resource.{ResourceData};
 ghost use Rattle.tree_model.specs.Tree.{recounted, restamped};
 
+use crate::seeded::NumberMap;
 use m2m_names::Attr;
 use m2m_value::Val;
 use resource_model::Resource;
-use std::collections::HashMap;
 
 /// Puts the resource in the place of the one of its number, where there is one.
-pub(crate) fn write_over(resources: &mut HashMap<u64, Resource>, resource: Resource)
+pub(crate) fn write_over(resources: &mut NumberMap<Resource>, resource: Resource)
     ensures { (n : ℕ) → get nat_eq resources.new n ≡ option_map (λ r. if nat_eq resource.number n
         then resource else r) (get nat_eq resources.old n) }
 {
@@ -26,7 +26,7 @@ pub(crate) fn write_over(resources: &mut HashMap<u64, Resource>, resource: Resou
 }
 
 /// Sets the moment of the last change and the state tag of the resource of a number.
-pub(crate) fn restamp_in(resources: &mut HashMap<u64, Resource>, number: u64, lt: u64, st: u64)
+pub(crate) fn restamp_in(resources: &mut NumberMap<Resource>, number: u64, lt: u64, st: u64)
     requires there { (r : ResourceData) → get nat_eq resources.old number ≡ Some r
         → IsSome (value_of St r.attrs) }
     requires lt { lt ≤ last_moment }
@@ -51,7 +51,7 @@ fn restamp(resource: &mut Resource, lt: u64, st: u64)
 }
 
 /// Sets how many notifications are left to the subscription of a number.
-pub(crate) fn recount_in(resources: &mut HashMap<u64, Resource>, number: u64, left: u64)
+pub(crate) fn recount_in(resources: &mut NumberMap<Resource>, number: u64, left: u64)
     requires there { (r : ResourceData) → get nat_eq resources.old number ≡ Some r
         → IsSome (value_of Exc r.attrs) }
     requires left { left < count_bound }

@@ -1,12 +1,11 @@
 -- The queues and sums of a list that grows at its end, and of what stays of a list.
 use Rattle.std.specs.Prelude.{nat_eq, nat_lt}
-use Rattle.std.proofs.Common.{◌≡◌, ◌==◌, ℕ, zero, suc, ◌+◌, ◌-◌, ◌<◌, ◌≤◌, List, [], ◌∷◌, ◌++◌, map, length, take, drop, find, get_or, set, Bool, true, false, cond, pos, ◌&&◌, ◌||◌, Option, Some, None, option_map, unwrap_or, sum_by, inl, inr, refl, sym, ap, ◌∙◌, subst, arith, append_assoc, length-append, zero-add}
-use Rattle.std.proofs.lemmas.Bool.{cases_Bool, and_parts, or_parts, eq-eqb, ne_eqb, eqb-true, ltb-true}
-use Rattle.std.proofs.lemmas.List.{append-nil, drop_all, drop_more, length-drop, length-map, map-append, take-append-drop, take_all, take_more_set, drop-set-lt}
+use Rattle.std.proofs.Common.{◌≡◌, ◌==◌, ℕ, zero, suc, ◌+◌, ◌-◌, List, [], ◌∷◌, ◌++◌, map, length, take, find, set, Bool, true, false, cond, pos, ◌&&◌, Option, Some, None, option_map, unwrap_or, sum_by, inl, inr, refl, sym, ap, ◌∙◌, subst, arith, zero-add}
+use Rattle.std.proofs.lemmas.Bool.{cases_Bool, and_parts, or_parts, eq-eqb, eqb-true}
+use Rattle.std.proofs.lemmas.List.{append-nil, map-append}
 use Rattle.std.proofs.lemmas.List.Elements.{filter-append}
 use Rattle.std.proofs.lemmas.List.Sums.{sum_by-cons}
 use Rattle.std.proofs.lemmas.Option.{same_Some}
-use Rattle.std.proofs.Math.Numerals.{suc-eq-add-one}
 use Rattle.std.specs.HashMap.{HashMap, get}
 use Rattle.std.specs.List.{filter, list_all, remove, slice_get}
 use Rattle.std.specs.Option.{option_map_or, option_and_then}
@@ -17,18 +16,17 @@ use Rattle.m2m_names.specs.declared.types.Ty.TheVariants.{ContentInstance, Polli
 use Rattle.m2m_value.specs.Data.{Data, number as whole_number}
 use Rattle.m2m_value.specs.Shapes.{as_count}
 use Rattle.resource_model.specs.Resource.{ResourceData, has_number, is_ty}
-use Rattle.tree_model.specs.Tree.{are_below, at, children_of, has, instance_size, is_kin, is_tree, is_under, may_stand, next_after, numbers_of, replaced, recounted, recounted_at, resource_number, restamped, restamped_at, sizes_of, standing, without, without_all, is_spared, StandsAt}
+use Rattle.tree_model.specs.Tree.{are_below, at, children_of, has, instance_size, is_kin, is_tree, is_under, may_stand, numbers_of, replaced, recounted, recounted_at, resource_number, restamped, restamped_at, sizes_of, standing, without, is_spared}
 use Rattle.tree_model.proofs.ChangeLemmas.{sum-replaced, unpicked-replaced}
 use Rattle.resource_store.proofs.LeafLemmas.{missing_others, others}
 use Rattle.tree_model.proofs.GrowthLemmas.{below_lacks, has-without, next_fits, without-spared}
-use Rattle.tree_model.proofs.KeptLemmas.{map-replaced_same}
 use Rattle.tree_model.proofs.OrderLemmas.{above_lacks, ascend, ascend_parts, tree_ascends}
 use Rattle.tree_model.proofs.MarkLemmas.{marked, IsAside, exc_aside, st_aside, other_kept, stood_marked}
-use Rattle.tree_model.proofs.TreeLemmas.{at_none, at_number, has-append}
+use Rattle.tree_model.proofs.TreeLemmas.{at_none, at_number}
 use Rattle.resource_tree.specs.Index.{grown_sum, row_of, row_size, HasNumbers, HasSums, HasKin}
-use Rattle.resource_tree.specs.Queue.{first_after, queue_at, without_number}
+use Rattle.resource_tree.specs.Queue.{queue_at, without_number}
 use Rattle.resource_tree.specs.declared.kin.Kin.{Kin}
-use Rattle.resource_tree.specs.declared.kin.Row.{Row}
+use Rattle.resource_tree.specs.declared.kin.KinRow.{KinRow}
 
 -- ---- one more
 
@@ -278,7 +276,7 @@ takes_from r m n a b ea eb h p =
     ∙ ap (λ x. cond (nat_eq r.parent p) (without_number x (queue_at m p)) (queue_at m p)) ea
 
 -- a resource is taken from its parent in all queues and from its sum
-pub record TakesAll (row : Row) (before after : Kin) : Type 0 where
+pub record TakesAll (row : KinRow) (before after : Kin) : Type 0 where
   pub children : (p : ℕ) → queue_at after.children p ≡ cond (nat_eq row.parent p) (without_number row.number (queue_at before.children p)) (queue_at before.children p)
   pub instances : (p : ℕ) → queue_at after.instances p ≡ cond (nat_eq row.parent p) (without_number row.number (queue_at before.instances p)) (queue_at before.instances p)
   pub subs : (p : ℕ) → queue_at after.subs p ≡ cond (nat_eq row.parent p) (without_number row.number (queue_at before.subs p)) (queue_at before.subs p)
@@ -286,10 +284,10 @@ pub record TakesAll (row : Row) (before after : Kin) : Type 0 where
   pub sums : (p s : ℕ) → get nat_eq after.sums p ≡ Some s → option_map (λ t. t - cond (nat_eq row.parent p) row.size 0) (get nat_eq before.sums p) ≡ Some s
 
 -- what stays once one of a list is taken
-kin_taken : (xs ys : List ResourceData) (r : ResourceData) (row : Row) (before after : Kin) → has r.number xs ≡ false → has r.number ys ≡ false → row ≡ row_of r → HasKin (xs ++ r ∷ ys) before → TakesAll row before after → HasKin (xs ++ ys) after
+kin_taken : (xs ys : List ResourceData) (r : ResourceData) (row : KinRow) (before after : Kin) → has r.number xs ≡ false → has r.number ys ≡ false → row ≡ row_of r → HasKin (xs ++ r ∷ ys) before → TakesAll row before after → HasKin (xs ++ ys) after
 kin_taken xs ys r row before after none lacks is has_it takes =
-    let number : row.number ≡ r.number = ap (λ (x : Row). x.number) is in
-    let parent : row.parent ≡ r.parent = ap (λ (x : Row). x.parent) is in
+    let number : row.number ≡ r.number = ap (λ (x : KinRow). x.number) is in
+    let parent : row.parent ≡ r.parent = ap (λ (x : KinRow). x.parent) is in
     record {
       children = taken r before.children after.children is_under xs ys under_picks none lacks has_it.children (takes_from r before.children after.children row.number row.parent number parent takes.children);
       types = record {
@@ -297,7 +295,7 @@ kin_taken xs ys r row before after none lacks is has_it takes =
         subs = taken r before.subs after.subs (is_kin Subscription) xs ys (kin_picks Subscription) none lacks has_it.types.subs (takes_from r before.subs after.subs row.number row.parent number parent takes.subs);
         channels = taken r before.channels after.channels (is_kin PollingChannel) xs ys (kin_picks PollingChannel) none lacks has_it.types.channels (takes_from r before.channels after.channels row.number row.parent number parent takes.channels);
       };
-      sums = sums_taken r before.sums after.sums xs ys has_it.sums (λ p s e. ap (λ (x : Row). option_map (λ t. t - cond (nat_eq x.parent p) x.size 0) (get nat_eq before.sums p)) (sym is) ∙ takes.sums p s e);
+      sums = sums_taken r before.sums after.sums xs ys has_it.sums (λ p s e. ap (λ (x : KinRow). option_map (λ t. t - cond (nat_eq x.parent p) x.size 0) (get nat_eq before.sums p)) (sym is) ∙ takes.sums p s e);
     }
 
 -- ---- one more, and none more
@@ -328,7 +326,7 @@ module _ (nodes : List ResourceData) (r : ResourceData) (next : may_stand nodes 
   kin_undone ty is_one l m n is has_now adds takes = taken_back (is_kin ty) m n (kin_picks ty) (kin_grown ty is_one l m is has_now adds) takes
 
 -- one that was put last is taken back
-pub kin_back : (nodes : List ResourceData) (r : ResourceData) (row : Row) (before after : Kin) → may_stand nodes r ≡ true → row ≡ row_of r → HasKin (nodes ++ r ∷ []) before → TakesAll row before after → HasKin nodes after
+pub kin_back : (nodes : List ResourceData) (r : ResourceData) (row : KinRow) (before after : Kin) → may_stand nodes r ≡ true → row ≡ row_of r → HasKin (nodes ++ r ∷ []) before → TakesAll row before after → HasKin nodes after
 kin_back nodes r row before after next is has_it takes =
     subst (λ (xs : List ResourceData). HasKin xs after) (append-nil nodes)
     (kin_taken nodes [] r row before after (below_lacks r.number nodes (next_fits nodes r next).number) refl is has_it takes)
@@ -353,7 +351,7 @@ splits n (s ∷ nodes) r order found =
           (s ∷ rest.0, rest.1, ap (λ (rs : List ResourceData). s ∷ rs) rest.2, rw apart rest.3, rest.4, rw f (ap (λ (rs : List ResourceData). s ∷ rs) rest.5))
     ]
 
-pub kin_removed : (nodes : List ResourceData) (n : ℕ) (r : ResourceData) (row : Row) (before after : Kin) → is_tree nodes ≡ true → at n nodes ≡ Some r → row ≡ row_of r → HasKin nodes before → TakesAll row before after → HasKin (others n nodes) after
+pub kin_removed : (nodes : List ResourceData) (n : ℕ) (r : ResourceData) (row : KinRow) (before after : Kin) → is_tree nodes ≡ true → at n nodes ≡ Some r → row ≡ row_of r → HasKin nodes before → TakesAll row before after → HasKin (others n nodes) after
 kin_removed nodes n r row before after tree found is has_it takes =
     let parts = splits n nodes r (tree_ascends nodes tree) found in
     subst (λ (rs : List ResourceData). HasKin rs after) (sym parts.5)
@@ -458,15 +456,6 @@ no_children nodes m n has_it none = by (children_of n nodes) (sym (ap length (ha
     by : (xs : List ResourceData) → length (numbers_of xs) ≡ 0 → xs ≡ []
     by [] nothing = refl
     by (x ∷ xs) some = absurd (omega arith)
-
--- ---- the first after a number
-
-pub first-numbers : (n : ℕ) (rs : List ResourceData) → first_after n (numbers_of rs) ≡ resource_number (next_after n rs)
-first-numbers n [] = refl
-first-numbers n (r ∷ rs) = elim (cases_Bool (nat_lt n r.number)) [
-  | inl t ↦ rw t refl
-  | inr f ↦ rw f (first-numbers n rs)
-]
 
 -- the first of a test's is the first that passes it
 pub first_passes : (p : ResourceData → Bool) (nodes : List ResourceData) → slice_get (numbers_of (filter p nodes)) 0 ≡ resource_number (find p nodes)

@@ -1,16 +1,16 @@
 -- Numbers that ascend.
-use Rattle.std.specs.Prelude.{nat_le, nat_lt}
-use Rattle.std.proofs.Common.{◌≡◌, ◌≢◌, ◌==◌, ℕ, zero, suc, ◌<◌, ◌≤◌, List, [], ◌∷◌, ◌++◌, length, get_or, Bool, true, false, not, Some, Err, Less, Equal, cond, inl, inr, refl, sym, ap, ◌∙◌, subst, arith}
-use Rattle.std.proofs.lemmas.Bool.{cases_lt, and_parts, eq-eqb, ne_eqb, leb-true, leb-false, lt-ltb, le-ltb}
+use Rattle.std.specs.Prelude.{nat_lt}
+use Rattle.std.proofs.Common.{◌≡◌, ◌≢◌, ◌==◌, ℕ, zero, suc, ◌<◌, List, [], ◌∷◌, ◌++◌, length, get_or, Bool, true, false, not, Some, Err, Less, Equal, cond, inl, inr, refl, sym, ap, ◌∙◌, subst, arith}
+use Rattle.std.proofs.lemmas.Bool.{cases_lt, and_parts, eq-eqb, ne_eqb}
 use Rattle.std.proofs.lemmas.List.Kept.{IsStrictlySortedBy-filter}
 use Rattle.std.proofs.lemmas.Map.Keys.{below_from_sorted}
 use Rattle.std.proofs.lemmas.Option.{get_or_from_slice_get, slice_get-get_or, slice_get_within}
 use Rattle.std.specs.List.{AllByRecursion, list_all, remove, slice_get}
-use Rattle.std.specs.List.Sorted.{IsBinarySearchResult, IsPartitionPoint, IsStrictlySortedBy}
+use Rattle.std.specs.List.Sorted.{IsBinarySearchResult, IsStrictlySortedBy}
 use Rattle.std.specs.Ordering.{nat_cmp}
 use Rattle.tree_model.specs.Tree.{DoAscend}
 use Rattle.tree_model.proofs.NumberLemmas.{equal_is, greater_is, less_is, searchable}
-use Rattle.resource_tree.specs.Queue.{first_after, without_number}
+use Rattle.resource_tree.specs.Queue.{without_number}
 
 pub none_ascend : (numbers : List ℕ) → numbers ≡ [] → DoAscend numbers
 unfolding IsStrictlySortedBy
@@ -42,22 +42,6 @@ ascend_push (m ∷ ms) n sorted below = (all_pushed m n ms sorted.0 below.0, asc
 pub pushed : (numbers now : List ℕ) (n : ℕ) (b : Bool) → DoAscend numbers → list_all (λ m. nat_lt m n) numbers ≡ true → now ≡ cond b (numbers ++ n ∷ []) numbers → DoAscend now
 pushed numbers now n true sorted below is = subst DoAscend (sym is) (ascend_push numbers n sorted (all_less n numbers below))
 pushed numbers now n false sorted below is = subst DoAscend (sym is) sorted
-
--- ---- the first after a number
-
-pub after_from : (n : ℕ) (numbers : List ℕ) (i : ℕ) → ((k d : ℕ) → k < i → nat_le (get_or numbers k d) n ≡ true) → ((k d : ℕ) → i ≤ k → k < length numbers → nat_le (get_or numbers k d) n ≡ false) → i ≤ length numbers → first_after n numbers ≡ slice_get numbers i
-after_from n [] zero until behind within = refl
-after_from n [] (suc i) until behind within = absurd (omega arith)
-after_from n (m ∷ numbers) zero until behind within =
-    let later : nat_lt n m ≡ true = lt-ltb n m (leb-false m n (behind 0 m (omega arith) (omega arith))) in
-    rw later refl
-after_from n (m ∷ numbers) (suc i) until behind within =
-    let low : m ≤ n = leb-true m n (until 0 m (omega arith)) in
-    let earlier : nat_lt n m ≡ false = le-ltb n m low in
-    rw earlier (after_from n numbers i (λ k d less. until (suc k) d (omega arith)) (λ k d least inside. behind (suc k) d (omega arith) (omega arith)) (omega arith))
-
-pub after_place : (n : ℕ) (numbers : List ℕ) (i : ℕ) → i ≤ length numbers → IsPartitionPoint (λ (m : ℕ). nat_le m n ≡ true) (λ m. nat_le m n ≡ false) numbers i → first_after n numbers ≡ slice_get numbers i
-after_place n numbers i within parted = after_from n numbers i (λ k d low. parted.0 k d (omega arith) low) (λ k d least inside. parted.1 k d least inside) within
 
 -- ---- one less
 

@@ -9,7 +9,7 @@ use Rattle.resource_model.specs.Resource.{ResourceData, is_ty}
 use Rattle.tree_model.specs.Tree.{instance_size, is_kin, is_under, numbers_of}
 use Rattle.tree_model.specs.Tree.{sizes_of}
 use Rattle.resource_tree.specs.declared.kin.Kin.{Kin}
-use Rattle.resource_tree.specs.declared.kin.Row.{Row}
+use Rattle.resource_tree.specs.declared.kin.KinRow.{KinRow}
 use Rattle.resource_tree.specs.Queue.{queue_at}
 
 -- the size of an instance in bytes; other resources have none
@@ -17,7 +17,7 @@ abbrev pub row_size : ResourceData → ℕ
 row_size r = if is_ty r.ty ContentInstance then instance_size r else 0
 
 -- its number, that of its parent, and its size
-abbrev pub row_of : ResourceData → Row
+abbrev pub row_of : ResourceData → KinRow
 row_of r = record { number = r.number; parent = r.parent; size = row_size r }
 
 -- each parent has the numbers of those that a test picks for it, in order of creation

@@ -1,13 +1,13 @@
 //! The tree with an index.
 ghost use Rattle.std.specs.Prelude.{◌≡◌, [], ◌∷◌, IfOk};
 
-use crate::kin::{Kin, count_of_kin, kin_after, kin_at, kin_last};
+use crate::kin::{Kin, count_of_kin, kin_at, kin_last};
 use crate::sums::known_sum;
 use m2m_value::Numbers;
 use resource_dues::{Dues, due_of, has_come};
 use resource_model::Resource;
 use resource_names::Named;
-use resource_store::{Store, instance_sizes, overdue_numbers};
+use resource_store::{Seeded, Store, instance_sizes, overdue_numbers};
 use std::alloc::{AllocError as OutOfMemory, Global};
 use std::marker::Model;
 use std::sync::ledger::Ledger;
@@ -41,15 +41,24 @@ impl Model for IndexTree {
 }
 
 impl IndexTree {
-    /// No resource; it takes no memory.
+    /// No resource; it takes no memory. Its tables are those of one seed that anybody may know.
     pub fn new(alloc: Global) -> IndexTree
         ensures { result ≡ [] }
     {
+        IndexTree::seeded(alloc, 0)
+    }
+
+    /// The same, with tables by a seed: nobody who doesn't know it can choose resources that are
+    /// slow to find.
+    pub fn seeded(alloc: Global, seed: u64) -> IndexTree
+        ensures { result ≡ [] }
+    {
+        let seeded = Seeded::of(seed);
         IndexTree {
             alloc,
-            list: Store::new(alloc),
-            kin: Kin::new(alloc),
-            named: Named::new(alloc),
+            list: Store::new(alloc, seeded),
+            kin: Kin::new(alloc, seeded),
+            named: Named::new(alloc, seeded),
             dues: Dues::new(alloc),
         }
     }
@@ -302,8 +311,8 @@ impl Tree for IndexTree {
         }
     }
 
-    fn instance_after(&self, container: u64, number: u64) -> Option<u64> {
-        kin_after(&self.kin.instances, container, number)
+    fn nth_instance(&self, container: u64, k: u64) -> Option<u64> {
+        kin_at(&self.kin.instances, container, k)
     }
 
     fn instance_count(&self, container: u64) -> u64 {

@@ -9,29 +9,28 @@ ghost use Rattle.m2m_names.specs.declared.types.Ty.TheVariants.{ContentInstance}
 ghost use Rattle.tree_model.specs.Tree.{at, instance_size, is_tree, may_stand, replaced, standing};
 ghost use Rattle.resource_tree.specs.Index as spec;
 ghost use Rattle.resource_tree.specs.Index.{HasTypes, HasKin};
-ghost use Rattle.resource_tree.specs.Queue.{first_after, queue_at, without_number};
+ghost use Rattle.resource_tree.specs.Queue.{queue_at, without_number};
 
 use crate::queue::Queue;
 use crate::sums::{add_sum, forget_sum, take_sum};
 use m2m_names::{Attr, Ty};
 use resource_model::Resource;
-use resource_store::Store;
+use resource_store::{NumberMap, Seeded, Store};
 use std::alloc::{AllocError as OutOfMemory, Global};
-use std::collections::HashMap;
 
 /// Of a resource its number, that of its parent, and of an instance its size in bytes.
 #[derive(Clone, Copy)]
-pub(crate) struct Row {
+pub(crate) struct KinRow {
     pub(crate) number: u64,
     pub(crate) parent: u64,
     pub(crate) size: u64,
 }
 
 /// The row of a resource.
-pub(crate) fn row_of(resource: &Resource) -> Row
+pub(crate) fn row_of(resource: &Resource) -> KinRow
     ensures { result ≡ spec.row_of resource.now }
 {
-    Row {
+    KinRow {
         number: resource.number(),
         parent: resource.parent(),
         size: row_size(resource),
@@ -58,25 +57,25 @@ fn size_of(resource: &Resource) -> u64
 /// its polling channels; and what the sizes of its instances add up to.
 #[derive(Drop)]
 pub(crate) struct Kin {
-    pub(crate) children: HashMap<u64, Queue>,
-    pub(crate) instances: HashMap<u64, Queue>,
-    pub(crate) subs: HashMap<u64, Queue>,
-    pub(crate) channels: HashMap<u64, Queue>,
+    pub(crate) children: NumberMap<Queue>,
+    pub(crate) instances: NumberMap<Queue>,
+    pub(crate) subs: NumberMap<Queue>,
+    pub(crate) channels: NumberMap<Queue>,
     // A container whose sum isn't here has no instance, or else they are added up when it is asked.
-    pub(crate) sums: HashMap<u64, u128>,
+    pub(crate) sums: NumberMap<u128>,
 }
 
 impl Kin {
     /// That of no resource; it takes no memory.
-    pub(crate) fn new(alloc: Global) -> Kin
+    pub(crate) fn new(alloc: Global, seeded: Seeded) -> Kin
         ensures { HasKin [] result }
     {
         Kin {
-            children: HashMap::new(alloc),
-            instances: HashMap::new(alloc),
-            subs: HashMap::new(alloc),
-            channels: HashMap::new(alloc),
-            sums: HashMap::new(alloc),
+            children: NumberMap::with_hasher(alloc, seeded),
+            instances: NumberMap::with_hasher(alloc, seeded),
+            subs: NumberMap::with_hasher(alloc, seeded),
+            channels: NumberMap::with_hasher(alloc, seeded),
+            sums: NumberMap::with_hasher(alloc, seeded),
         }
     }
 
@@ -197,7 +196,7 @@ impl Kin {
     }
 
     /// Takes a resource from its parent.
-    pub(crate) fn take(&mut self, row: Row)
+    pub(crate) fn take(&mut self, row: KinRow)
         ensures children { (p : ℕ) → queue_at self.new.children p
             ≡ if nat_eq row.parent p then without_number row.number (queue_at self.old.children p)
             else queue_at self.old.children p }
@@ -226,7 +225,7 @@ impl Kin {
 }
 
 /// The number of the child of a parent at a place, from 0.
-pub(crate) fn kin_at(kin: &HashMap<u64, Queue>, parent: u64, k: u64) -> Option<u64>
+pub(crate) fn kin_at(kin: &NumberMap<Queue>, parent: u64, k: u64) -> Option<u64>
     ensures { result ≡ slice_get (queue_at kin.now parent) k }
 {
     match kin.get(&parent) {
@@ -236,7 +235,7 @@ pub(crate) fn kin_at(kin: &HashMap<u64, Queue>, parent: u64, k: u64) -> Option<u
 }
 
 /// The number of the last child of a parent.
-pub(crate) fn kin_last(kin: &HashMap<u64, Queue>, parent: u64) -> Option<u64>
+pub(crate) fn kin_last(kin: &NumberMap<Queue>, parent: u64) -> Option<u64>
     ensures { result
         ≡ slice_get (queue_at kin.now parent) (length (queue_at kin.now parent) - 1) }
 {
@@ -246,18 +245,8 @@ pub(crate) fn kin_last(kin: &HashMap<u64, Queue>, parent: u64) -> Option<u64>
     }
 }
 
-/// The first child of a parent whose number is greater than this one.
-pub(crate) fn kin_after(kin: &HashMap<u64, Queue>, parent: u64, number: u64) -> Option<u64>
-    ensures { result ≡ first_after number (queue_at kin.now parent) }
-{
-    match kin.get(&parent) {
-        Some(queue) => queue.after(number),
-        None => None,
-    }
-}
-
 /// How many children a parent has.
-pub(crate) fn count_of_kin(kin: &HashMap<u64, Queue>, parent: u64) -> u64
+pub(crate) fn count_of_kin(kin: &NumberMap<Queue>, parent: u64) -> u64
     ensures { result ≡ length (queue_at kin.now parent) }
 {
     match kin.get(&parent) {
@@ -269,7 +258,7 @@ pub(crate) fn count_of_kin(kin: &HashMap<u64, Queue>, parent: u64) -> u64
 /// One more child of a parent, whose number is greater than those of all others.
 pub(crate) fn add_kin(
     alloc: Global,
-    kin: &mut HashMap<u64, Queue>,
+    kin: &mut NumberMap<Queue>,
     parent: u64,
     number: u64,
 ) -> Result<(), OutOfMemory>
@@ -290,7 +279,7 @@ pub(crate) fn add_kin(
 /// The same, where it is one of these.
 pub(crate) fn add_if(
     alloc: Global,
-    kin: &mut HashMap<u64, Queue>,
+    kin: &mut NumberMap<Queue>,
     is_one: bool,
     parent: u64,
     number: u64,
@@ -307,7 +296,7 @@ pub(crate) fn add_if(
 }
 
 /// One child of a parent less, where it is there. A parent without any takes no room.
-pub(crate) fn take_kin(kin: &mut HashMap<u64, Queue>, parent: u64, number: u64)
+pub(crate) fn take_kin(kin: &mut NumberMap<Queue>, parent: u64, number: u64)
     ensures { (p : ℕ) → queue_at kin.new p
         ≡ if nat_eq parent p then without_number number (queue_at kin.old p)
         else queue_at kin.old p }
@@ -318,7 +307,7 @@ pub(crate) fn take_kin(kin: &mut HashMap<u64, Queue>, parent: u64, number: u64)
 }
 
 // Whether none is left then.
-fn take_from(kin: &mut HashMap<u64, Queue>, parent: u64, number: u64) -> bool
+fn take_from(kin: &mut NumberMap<Queue>, parent: u64, number: u64) -> bool
     ensures queues { (p : ℕ) → queue_at kin.new p
         ≡ if nat_eq parent p then without_number number (queue_at kin.old p)
         else queue_at kin.old p }

@@ -6,7 +6,7 @@
 //! `IndexTree` keeps the resources by their numbers (`resource_store`). Beside them stands for each
 //! parent a queue of the numbers of its children, and of those of three types (`Queue`, which only
 //! grows at its end), with the sum of the sizes of its instances. `kid`, `sub`, `channel`,
-//! `instance`, `instance_after`, `instance_count` and `instance_sizes` ask these. `child`, `ae` and
+//! `instance`, `nth_instance`, `instance_count` and `instance_sizes` ask these. `child`, `ae` and
 //! `cse` ask tables of names (`resource_names`). `quiet_until`, `due_numbers` and `expire` ask
 //! moments in order (`resource_dues`). What goes, goes one by one, each resource after all that
 //! stands below it, so that a removal looks at no other than those that go. The invariant says that

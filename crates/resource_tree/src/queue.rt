@@ -2,7 +2,7 @@
 ghost use Rattle.std.specs.Prelude.{◌≡◌, ◌++◌, [], ◌∷◌, OnOk, OnErr, IsTrue, nat_lt, length};
 ghost use Rattle.std.specs.Prelude.{slice_get, Some, MatchOption};
 ghost use Rattle.std.specs.List.{list_all};
-ghost use Rattle.resource_tree.specs.Queue.{first_after, without_number};
+ghost use Rattle.resource_tree.specs.Queue.{without_number};
 
 use std::alloc::{AllocError as OutOfMemory, Global};
 use std::collections::VecDeque;
@@ -47,20 +47,6 @@ impl Queue {
         ensures { result ≡ slice_get self.now k }
     {
         self.numbers.get(k as usize).copied()
-    }
-
-    /// The first that is greater than a number.
-    pub fn after(&self, number: u64) -> Option<u64>
-        ensures { result ≡ first_after number self.now }
-    {
-        self.numbers.get(self.place_after(number)).copied()
-    }
-
-    // How many are at most a number.
-    fn place_after(&self, number: u64) -> usize
-        ensures { first_after number self.now ≡ slice_get self.now result }
-    {
-        self.numbers.partition_point(|own| *own <= number)
     }
 
     /// Puts a number last, which is greater than all.

@@ -11,7 +11,7 @@ use crate::references::references;
 use crate::replies;
 use entity_model::wanted_content;
 use known_rights::{Asker, Known};
-use m2m_value::{Members, Text, Val};
+use m2m_value::{MemberKey, Members, Val};
 use primitive_json::Request;
 use std::alloc::{AllocError as OutOfMemory, Global};
 use tree_model::{Home, Resource, Tree, attributes, under_type};
@@ -118,7 +118,7 @@ fn with_references<T: Tree>(
 {
     let mut shown = object_members(alloc, look, target)?;
     let children = references(alloc, look, target)?;
-    shown.put(Text::from_slice(alloc, b"ch")?, children)?;
+    shown.put(MemberKey::named("ch"), children)?;
     under_type(alloc, target.ty(), shown)
 }
 
@@ -134,14 +134,18 @@ fn references_alone<T: Tree>(
         (T.nodes look.now.tree.now) look.now.asker.now.originator look.now.by_id target.now) }
 {
     let children = references(alloc, look, target)?;
-    under_type(alloc, target.ty(), only_member(alloc, b"ch", children)?)
+    under_type(alloc, target.ty(), only_member(alloc, "ch", children)?)
 }
 
 /// The members of an object that has one.
-pub(crate) fn only_member(alloc: Global, key: &[u8], value: Val) -> Result<Members, OutOfMemory>
+pub(crate) fn only_member(
+    alloc: Global,
+    key: &'static str,
+    value: Val,
+) -> Result<Members, OutOfMemory>
     ensures { IfOk result (λ m. m ≡ (key.now, value) ∷ []) }
 {
     let mut members = Vec::with_capacity(alloc, 1)?;
-    members.push((Text::from_slice(alloc, key)?, value))?;
+    members.push((MemberKey::named(key), value))?;
     Ok(Members::of(members))
 }

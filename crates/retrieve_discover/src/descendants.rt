@@ -14,7 +14,7 @@ ghost use Rattle.retrieve_discover.specs.Descendants.{reached_forest};
 use crate::look::{Viewer, may_retrieve, object_members};
 use known_rights::Known;
 use m2m_names::Ty;
-use m2m_value::{Items, Members, Node, Text, Val};
+use m2m_value::{Items, MemberKey, Members, Node, Val};
 use std::alloc::{AllocError as OutOfMemory, Global};
 use tree_model::{Resource, Tree, child_at};
 
@@ -101,7 +101,7 @@ fn add_last(alloc: Global, members: &mut Members, ty: Ty, object: Val) -> Result
         ≡ spec.with_last (ty_member ty) object members.old) }
     ensures keys { OnOk result (HaveTextKeys members.old → HaveTextKeys members.new) }
 {
-    let key = Text::from_slice(alloc, ty.member().as_bytes())?;
+    let key = MemberKey::named(ty.member());
     let mut objects = taken_elements(alloc, members.take(key.entries()));
     objects.push(object)?;
     members.put(key, Val::of_list(Items::of(objects)))

@@ -7,14 +7,14 @@ ghost use Rattle.retrieve_discover.specs.Findings as spec;
 ghost use Rattle.retrieve_discover.specs.Replies.{discovered};
 
 use crate::asked::Asked;
-use crate::finding::{Wanted, find_below};
+use crate::finding::{Discovery, find_below};
 use crate::paths::path_to;
 use crate::references::MOST_LISTED;
 use crate::replies::{is_by_id, succeed};
 use entity_model::refuse;
 use known_rights::{Asker, Known};
 use m2m_names::{DISCOVERY_BIT, Rsc};
-use m2m_value::{Items, Members, Text, Val};
+use m2m_value::{Items, MemberKey, Members, Val};
 use policy_eval::granted;
 use primitive_json::{Filter, FilterParts, Reply, Request};
 use std::alloc::{AllocError as OutOfMemory, Global};
@@ -108,7 +108,7 @@ fn addresses_for<T: Tree>(
     ensures { IfOk result (λ v. v.items ≡ map (spec.address by_id (T.nodes tree.now))
         (spec.found asker.now.home (T.nodes tree.now) asker.now.originator asked.now target)) }
 {
-    let wanted = Wanted {
+    let wanted = Discovery {
         tree,
         asker,
         filter: asked,
@@ -127,7 +127,7 @@ fn limit(filter: &FilterParts) -> usize
 
 fn from_target<T: Tree>(
     alloc: Global,
-    wanted: &Wanted<T>,
+    wanted: &Discovery<T>,
     target: u64,
 ) -> Result<Vec<Val>, OutOfMemory>
     requires originator { IsTrue (is_originator wanted.now.asker.now.originator) }
@@ -145,7 +145,7 @@ fn from_target<T: Tree>(
 
 fn from_resource<T: Tree>(
     alloc: Global,
-    wanted: &Wanted<T>,
+    wanted: &Discovery<T>,
     target: &Resource,
 ) -> Result<Vec<Val>, OutOfMemory>
     requires tree { IsTrue (is_tree (T.nodes wanted.now.tree.now)) }
@@ -174,7 +174,7 @@ fn from_resource<T: Tree>(
 fn address_list(alloc: Global, addresses: Vec<Val>) -> Result<Val, OutOfMemory>
     ensures { IfOk result (λ v. v ≡ spec.address_list addresses.items) }
 {
-    let key = Text::from_slice(alloc, b"m2m:uril")?;
+    let key = MemberKey::named("m2m:uril");
     let mut members = Vec::with_capacity(alloc, 1)?;
     members.push((key, Val::of_list(Items::of(addresses))))?;
     Ok(Val::of_obj(Members::of(members)))

@@ -20,7 +20,7 @@ use tree_model::{Resource, Tree, child_at};
 
 /// What a discovery looks for, by whom, in which form, and how many at most.
 #[derive(Drop)]
-pub(crate) struct Wanted<'a, T: Tree> {
+pub(crate) struct Discovery<'a, T: Tree> {
     pub tree: &'a T,
     pub asker: &'a Asker<'a>,
     pub filter: &'a Asked<'a>,
@@ -32,7 +32,7 @@ pub(crate) struct Wanted<'a, T: Tree> {
 #[cycle(finding)]
 pub(crate) fn find_below<T: Tree>(
     alloc: Global,
-    wanted: &Wanted<T>,
+    wanted: &Discovery<T>,
     parent: u64,
     path: &mut Vec<u8>,
     found: &mut Vec<Val>,
@@ -70,7 +70,7 @@ pub(crate) fn find_below<T: Tree>(
 #[cycle(finding)]
 fn visit<T: Tree>(
     alloc: Global,
-    wanted: &Wanted<T>,
+    wanted: &Discovery<T>,
     child: &Resource,
     path: &mut Vec<u8>,
     found: &mut Vec<Val>,
@@ -109,7 +109,7 @@ fn visit<T: Tree>(
 // Adds the address of a child, behind whose parent's path this is, where it is found.
 fn add_found<T: Tree>(
     alloc: Global,
-    wanted: &Wanted<T>,
+    wanted: &Discovery<T>,
     child: &Resource,
     path: &mut Vec<u8>,
     found: &mut Vec<Val>,
@@ -143,7 +143,7 @@ fn add_found<T: Tree>(
 }
 
 // Its filter is tried before the right, which costs more.
-fn is_found<T: Tree>(wanted: &Wanted<T>, resource: &Resource, known: &mut Known) -> bool
+fn is_found<T: Tree>(wanted: &Discovery<T>, resource: &Resource, known: &mut Known) -> bool
     requires originator { IsTrue (is_originator wanted.now.asker.now.originator) }
     requires resource { at resource.now.number (T.nodes wanted.now.tree.now) ≡ Some resource.now }
     requires known { IsKnown wanted.now.asker.now.home (T.nodes wanted.now.tree.now)
@@ -156,7 +156,7 @@ fn is_found<T: Tree>(wanted: &Wanted<T>, resource: &Resource, known: &mut Known)
     meets(wanted.tree, wanted.filter, resource) && may_discover(wanted, resource, known)
 }
 
-fn may_discover<T: Tree>(wanted: &Wanted<T>, resource: &Resource, known: &mut Known) -> bool
+fn may_discover<T: Tree>(wanted: &Discovery<T>, resource: &Resource, known: &mut Known) -> bool
     requires originator { IsTrue (is_originator wanted.now.asker.now.originator) }
     requires resource { at resource.now.number (T.nodes wanted.now.tree.now) ≡ Some resource.now }
     requires known { IsKnown wanted.now.asker.now.home (T.nodes wanted.now.tree.now)

@@ -90,7 +90,7 @@ fn handed_on(alloc: Global, note: &Note) -> Result<Val, OutOfMemory>
     ensures { IfOk result (λ v. v ≡ spec.handed_on note.now) }
 {
     let request = write_request(alloc, &note.parts().request)?;
-    Ok(Val::of_obj(only_member(alloc, b"m2m:rqp", request)?))
+    Ok(Val::of_obj(only_member(alloc, "m2m:rqp", request)?))
 }
 
 // Removes the first item that waits for the channel.

@@ -11,7 +11,7 @@ ghost use Rattle.retrieve_discover.specs.Contents as spec;
 use crate::look::{Viewer, may_retrieve};
 use crate::paths::{address, go_down, path_to};
 use known_rights::Known;
-use m2m_value::{Items, Members, Text, Val};
+use m2m_value::{Items, MemberKey, Members, Val};
 use std::alloc::{AllocError as OutOfMemory, Global};
 use tree_model::{Resource, Tree, child_at};
 
@@ -112,13 +112,13 @@ fn reference<T: Tree>(
     ensures { IfOk result (λ v. v ≡ spec.reference by_id (T.nodes tree.now) resource.now) }
 {
     let mut members = Vec::with_capacity(alloc, 3)?;
-    members.push((Text::from_slice(alloc, b"nm")?, name_of(alloc, resource)?))?;
+    members.push((MemberKey::named("nm"), name_of(alloc, resource)?))?;
     members.push((
-        Text::from_slice(alloc, b"typ")?,
+        MemberKey::named("typ"),
         Val::of_num(resource.ty().number() as i64),
     ))?;
     members.push((
-        Text::from_slice(alloc, b"val")?,
+        MemberKey::named("val"),
         address(alloc, tree, by_id, resource, path)?,
     ))?;
     Ok(Val::of_obj(Members::of(members)))

@@ -6,3 +6,5 @@ pub mod WatchingLemmas
 pub mod HeardLemmas
 pub mod MarkLemmas
 pub mod StepLemmas
+pub mod NamingLemmas
+pub mod UncountedLemmas

@@ -1,12 +1,12 @@
 -- The members of what is told stand in order.
-use Rattle.std.proofs.Common.{◌≡◌, List, [], ◌∷◌, ◌++◌, codes, filter, inl, inr, refl, sym, ap, subst}
+use Rattle.std.proofs.Common.{◌≡◌, ℕ, List, [], ◌∷◌, ◌++◌, IsUtf8, codes, filter, inl, inr, refl, sym, ap, ◌∙◌, subst}
 use Rattle.std.proofs.lemmas.Bool.{cases_Bool}
 use Rattle.std.proofs.lemmas.List.Kept.{IsStrictlySortedBy-filter}
 use Rattle.std.specs.List.Sorted.{IsStrictlySortedBy}
 use Rattle.std.specs.Map.{keys_of}
 use Rattle.m2m_names.specs.declared.attributes.Attr.{Attr}
 use Rattle.m2m_value.specs.Data.{Data, Entry}
-use Rattle.m2m_value.specs.Node.{AreSorted}
+use Rattle.m2m_value.specs.Node.{AreSorted, HaveTextKeys}
 use Rattle.resource_model.specs.Attributes.{Row, AreInOrder, attr_cmp}
 use Rattle.subscription_match.specs.Notices.{is_modified, is_modified_at}
 use Rattle.tree_model.proofs.ShownLemmas.{one_sorted}
@@ -34,6 +34,15 @@ deletion_sorted a b = ((refl, tt), (tt, tt))
 
 pub sorted_deletion : (es : List Entry) (a b : Data) → es ≡ ([] ++ (codes "sud", a) ∷ []) ++ (codes "sur", b) ∷ [] → AreSorted es
 sorted_deletion es a b is = subst AreSorted (sym is) (deletion_sorted a b)
+
+-- two members that are pushed one after another, whose keys are UTF-8
+pub two_texts : (none one two all : List Entry) (j k : List ℕ) (a b : Data) → none ≡ [] → one ≡ none ++ (j, a) ∷ [] → two ≡ one ++ (k, b) ∷ [] → all ≡ two → IsUtf8 j → IsUtf8 k → HaveTextKeys all
+two_texts none one two all j k a b first second third same left right =
+    let f : Entry = (j, a) in
+    let s : Entry = (k, b) in
+    let is : all ≡ f ∷ s ∷ [] =
+    same ∙ third ∙ ap (λ (es : List Entry). es ++ s ∷ []) (second ∙ ap (λ (es : List Entry). es ++ f ∷ []) first) in
+    subst HaveTextKeys (sym is) (left, (right, tt))
 
 -- ---- rows in order
 

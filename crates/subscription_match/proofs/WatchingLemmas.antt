@@ -9,24 +9,12 @@ use Rattle.m2m_names.specs.declared.types.Ty.TheVariants.{Subscription}
 use Rattle.resource_model.specs.Resource.{ResourceData, is_ty}
 use Rattle.tree_model.specs.Tree.{is_kin, is_tree}
 use Rattle.tree_model.proofs.OrderLemmas.{are_above, ascend, tree_ascends, above_filter}
-use Rattle.tree_model.proofs.StepLemmas.{drop_step}
+use Rattle.tree_model.proofs.StepLemmas.{dropped_none, dropped_some}
 use Rattle.tree_model.specs.Changes.{ChangeData, created, updated, deleted}
 use Rattle.resource_model.specs.Home.{HomeData}
 use Rattle.subscription_match.specs.Matching.{above_of, does_hear, event_for, heard_above, is_heard, is_sub_of, is_sub_of_either, own_of}
 use Rattle.subscription_match.specs.Notices.{told, told_as, told_to_all}
 use Rattle.subscription_match.specs.Watching.{by_number, comes_next, subs_under, unless_same}
-
--- ---- the first of a list, and what follows it
-
-dropped_some : (rs : List ResourceData) (k : ℕ) (r : ResourceData) → slice_get rs k ≡ Some r → drop k rs ≡ r ∷ drop (k + 1) rs
-dropped_some rs k r found =
-    drop_step rs k ∙ ap (λ (o : Option ResourceData). option_to_list o ++ drop (k + 1) rs) found
-
-dropped_none : (rs : List ResourceData) (k : ℕ) → slice_get rs k ≡ None → drop k rs ≡ []
-dropped_none [] zero none = refl
-dropped_none [] (suc k) none = refl
-dropped_none (r ∷ rs) zero none = absurd (let e : Some r ≡ None = none in cc)
-dropped_none (r ∷ rs) (suc k) none = dropped_none rs k none
 
 -- ---- which of two lists goes on
 

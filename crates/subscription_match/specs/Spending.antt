@@ -28,7 +28,11 @@ left_at nodes n = option_and_then left_to (at n nodes)
 abbrev pub is_for : ℕ → DraftParts → Bool
 is_for n draft = option_map_or (λ m. nat_eq m n) draft.subscription false
 
--- how many of these are
+-- a draft is for a subscription that counts
+abbrev pub is_counted : List ResourceData → DraftParts → Bool
+is_counted nodes draft = option_map_or (λ n. is_some (left_at nodes n)) draft.subscription false
+
+-- how many of these are for the one of a number
 abbrev pub count_for : ℕ → List DraftParts → ℕ
 count_for n drafts = length (filter (is_for n) drafts)
 

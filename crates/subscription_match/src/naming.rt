@@ -1,8 +1,10 @@
 //! How this CSE and its subscriptions are named.
-ghost use Rattle.std.specs.Prelude.{◌≡◌, IfOk, IsUtf8};
+ghost use Rattle.std.specs.Prelude.{◌≡◌, ◌++◌, IfOk, IsUtf8, OnOk};
+ghost use Rattle.resource_model.specs.Resource.{id_of};
 ghost use Rattle.subscription_match.specs.Notices as spec;
 ghost use Rattle.tree_model.specs.Shown.{own_cse_id};
 
+use itoa::Buffer;
 use m2m_value::Text;
 use std::alloc::{AllocError as OutOfMemory, Global};
 use tree_model::{Home, Resource};
@@ -20,15 +22,26 @@ pub(crate) fn own_cse_id(alloc: Global, home: &Home, room: usize) -> Result<Text
     Ok(Text::of(bytes))
 }
 
+/// Room for the slash and the resource id of a subscription, in bytes.
+const ID_ROOM: usize = 24;
+
+// Appends the resource id.
+fn push_id(bytes: &mut Vec<u8>, resource: &Resource) -> Result<(), OutOfMemory>
+    ensures value { OnOk result (bytes.new.items ≡ bytes.old.items ++ id_of resource.now) }
+    ensures utf8 { IsUtf8 (id_of resource.now) }
+{
+    let number = resource.number();
+    bytes.extend_from_slice(resource.ty().word().as_bytes())?;
+    bytes.extend_from_slice(Buffer::new().format(number).as_bytes())
+}
+
 /// A subscription as its notifications name it: the CSE-ID, `/`, and its resource id.
 pub(crate) fn reference_of(alloc: Global, home: &Home, sub: &Resource) -> Result<Text, OutOfMemory>
     ensures value { IfOk result (λ t. t ≡ spec.reference_of home.now sub.now) }
     ensures utf8 { IfOk result (λ t. IsUtf8 t) }
 {
-    let id = sub.id(alloc)?;
-    let room = id.entries().len().saturating_add(1);
-    let mut bytes = own_cse_id(alloc, home, room)?.into_vec();
+    let mut bytes = own_cse_id(alloc, home, ID_ROOM)?.into_vec();
     bytes.push(b'/')?;
-    bytes.extend_from_slice(id.entries())?;
+    push_id(&mut bytes, sub)?;
     Ok(Text::of(bytes))
 }

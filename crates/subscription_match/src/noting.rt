@@ -1,6 +1,6 @@
 //! What is told of changes.
 ghost use Rattle.std.specs.Prelude.{◌≡◌, ◌++◌, ◌+◌, ◌<◌, ◌≤◌, filter, length, IfOk, OnOk};
-ghost use Rattle.std.specs.List.{filter_map};
+ghost use Rattle.std.specs.List.{filter_map, list_any};
 ghost use Rattle.subscription_match.specs.Matching as matching;
 ghost use Rattle.subscription_match.specs.Matching.{is_sub_of_either, steps_of_all, watching};
 ghost use Rattle.subscription_match.specs.Notices as spec;
@@ -40,20 +40,17 @@ fn above_of(change: Change<'_>) -> Option<u64>
     }
 }
 
-// Whether a subscription under the resource of this number is told of the deletion of a child.
+// Whether one of those that are left is told of the deletion of a child.
 fn is_any_told<T: Tree, L: Ledger>(
-    tree: &T,
     going: &[u64],
-    parent: u64,
+    subs: &mut Under<'_, T>,
     steps: &mut Steps<L>,
 ) -> bool
     requires { DoAscend going.now }
-    ensures value { result ≡ matching.is_heard going.now (T.nodes tree.now) parent }
+    ensures value { result ≡ list_any (matching.does_hear going.now) subs.old }
     ensures counted { steps.old ≤ steps.new }
-    ensures cost { steps.new
-        ≤ steps.old + length (subs_under (Some parent) (T.nodes tree.now)) + 1 }
+    ensures cost { steps.new ≤ steps.old + length subs.old }
 {
-    let mut subs = Under::of(tree, Some(parent), steps);
     'subs: while let Some(sub) = subs.take(steps) {
         if does_hear(going, sub) {
             return true;
@@ -62,8 +59,9 @@ fn is_any_told<T: Tree, L: Ledger>(
     false
 }
 
-// The same as `is_any_told`, which is found once for each resource and then noted.
-#[tactic(auto, using(crate::proofs::HeardLemmas::one_noted))]
+// Whether a subscription under the resource of this number is told of the deletion of a child: that
+// is found once for each resource and then noted. Where none stands under it, nothing is noted.
+#[tactic(auto, using(crate::proofs::HeardLemmas::heard_of))]
 fn is_heard<T: Tree, L: Ledger>(
     tree: &T,
     going: &[u64],
@@ -83,7 +81,11 @@ fn is_heard<T: Tree, L: Ledger>(
     if let Some(known) = heard.get(&parent) {
         return Ok(*known);
     }
-    let found = is_any_told(tree, going, parent, steps);
+    let mut subs = Under::of(tree, Some(parent), steps);
+    if subs.is_empty() {
+        return Ok(false);
+    }
+    let found = is_any_told(going, &mut subs, steps);
     heard.insert(parent, found)?;
     Ok(found)
 }

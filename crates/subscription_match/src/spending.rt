@@ -1,7 +1,7 @@
 //! Subscriptions that count what they are told.
 ghost use Rattle.std.specs.Prelude.{◌≡◌, ◌<◌, ◌≤◌, ℕ, [], nat_lt, length, true, vec_capacity};
-ghost use Rattle.std.specs.Prelude.{IfOk, IfSome, OnOk, OnErr};
-ghost use Rattle.std.specs.List.{items_where_true};
+ghost use Rattle.std.specs.Prelude.{IfOk, IfSome, OnOk, OnErr, is_some};
+ghost use Rattle.std.specs.List.{items_where_true, list_any};
 ghost use Rattle.std.specs.List.Sorted.{IsStrictlySortedBy};
 ghost use Rattle.std.specs.Map.{keys_of};
 ghost use Rattle.std.specs.Option.{option_map_or};
@@ -71,6 +71,32 @@ fn is_kept<T: Tree>(
     }
 }
 
+// Whether the subscription of a number counts.
+fn is_counting<T: Tree>(tree: &T, number: u64) -> bool
+    ensures { result ≡ is_some (spec.left_at (T.nodes tree.now) number) }
+{
+    match tree.get(number) {
+        Some(sub) => left_to(sub).is_some(),
+        None => false,
+    }
+}
+
+// Whether a draft is for a subscription that counts.
+fn is_counted<T: Tree>(tree: &T, draft: &Draft) -> bool
+    ensures { result ≡ spec.is_counted (T.nodes tree.now) draft.now }
+{
+    match draft.parts().subscription {
+        Some(number) => is_counting(tree, number),
+        None => false,
+    }
+}
+
+fn is_any_counted<T: Tree>(tree: &T, drafts: &[Draft]) -> bool
+    ensures { result ≡ list_any (spec.is_counted (T.nodes tree.now)) drafts.now }
+{
+    drafts.iter().any(|draft| is_counted(tree, draft))
+}
+
 fn rows_of(alloc: Global, left: BTreeMap<u64, u64>) -> Result<Vec<(u64, u64)>, OutOfMemory>
     ensures rows { IfOk result (λ v. v.items ≡ left.entries) }
     ensures order { IfOk result (λ v. IsStrictlySortedBy nat_cmp (keys_of v.items)) }
@@ -121,7 +147,9 @@ fn put_marked(kept: &mut Vec<Draft>, drafts: Vec<Draft>, marks: &[bool])
 /// Keeps of an operation's drafts, in their order, those that are to be kept, and gives what is left
 /// to each subscription that counts and is told something: the numbers of these, in order of
 /// creation, each with how many notifications are left to it, none where it goes. The tree is the
-/// one before the operation. Where memory runs out, the drafts are as they were.
+/// one before the operation. Where memory runs out, the drafts are as they were. Where no
+/// subscription counts, no memory is taken.
+#[tactic(auto, using(crate::proofs::UncountedLemmas::none_counted))]
 pub fn spend<T: Tree>(
     alloc: Global,
     tree: &T,
@@ -134,6 +162,9 @@ pub fn spend<T: Tree>(
     ensures order { IfOk result (λ v. IsStrictlySortedBy nat_cmp (keys_of v.items)) }
     ensures err { OnErr result (drafts.new.items ≡ drafts.old.items) }
 {
+    if !is_any_counted(tree, drafts) {
+        return Ok(Vec::new(alloc));
+    }
     let mut left = BTreeMap::new(alloc);
     let marks = count(alloc, tree, &mut left, drafts)?;
     let rows = rows_of(alloc, left)?;

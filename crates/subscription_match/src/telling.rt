@@ -10,7 +10,7 @@ use crate::drafts::{Draft, DraftParts};
 use crate::events::EventKind;
 use crate::naming::reference_of;
 use m2m_names::{Attr, Ty};
-use m2m_value::{Members, Text, Val};
+use m2m_value::{MemberKey, Members, Text, Val};
 use policy_eval::listed_in;
 use std::alloc::{AllocError as OutOfMemory, Global};
 use tree_model::{AttrSet, Attrs, Change, Home, Resource, Tree, attributes, content, shown};
@@ -19,11 +19,11 @@ use tree_model::{AttrSet, Attrs, Change, Home, Resource, Tree, attributes, conte
 
 // An object of one member.
 #[tactic(auto, using(crate::proofs::TellingLemmas::sorted_alone))]
-fn object_of_one(alloc: Global, key: &str, value: Val) -> Result<Val, OutOfMemory>
+fn object_of_one(alloc: Global, key: &'static str, value: Val) -> Result<Val, OutOfMemory>
     ensures { IfOk result (λ v. v ≡ json.object (json.pairs_of ((key.now, value) ∷ []))) }
 {
     let mut members = Vec::with_capacity(alloc, 1)?;
-    members.push((Text::from_slice(alloc, key.as_bytes())?, value))?;
+    members.push((MemberKey::named(key), value))?;
     Ok(Val::of_obj(Members::of(members)))
 }
 
@@ -34,8 +34,8 @@ fn event_told(alloc: Global, kind: EventKind, shown: Val) -> Result<Val, OutOfMe
 {
     let mut members = Vec::with_capacity(alloc, 2)?;
     let number = Val::of_num(kind.number() as i64);
-    members.push((Text::from_slice(alloc, "net".as_bytes())?, number))?;
-    members.push((Text::from_slice(alloc, "rep".as_bytes())?, shown))?;
+    members.push((MemberKey::named("net"), number))?;
+    members.push((MemberKey::named("rep"), shown))?;
     Ok(Val::of_obj(Members::of(members)))
 }
 
@@ -47,11 +47,8 @@ fn framed_event(alloc: Global, event: Val, reference: Text) -> Result<Val, OutOf
         ((codes "nev", event) ∷ (codes "sur", json.text reference) ∷ [])) }
 {
     let mut members = Vec::with_capacity(alloc, 2)?;
-    members.push((Text::from_slice(alloc, "nev".as_bytes())?, event))?;
-    members.push((
-        Text::from_slice(alloc, "sur".as_bytes())?,
-        Val::of_text(reference),
-    ))?;
+    members.push((MemberKey::named("nev"), event))?;
+    members.push((MemberKey::named("sur"), Val::of_text(reference)))?;
     object_of_one(alloc, "m2m:sgn", Val::of_obj(Members::of(members)))
 }
 
@@ -62,14 +59,8 @@ fn framed_deletion(alloc: Global, reference: Text) -> Result<Val, OutOfMemory>
         ((codes "sud", json.boolean true) ∷ (codes "sur", json.text reference) ∷ [])) }
 {
     let mut members = Vec::with_capacity(alloc, 2)?;
-    members.push((
-        Text::from_slice(alloc, "sud".as_bytes())?,
-        Val::of_bool(true),
-    ))?;
-    members.push((
-        Text::from_slice(alloc, "sur".as_bytes())?,
-        Val::of_text(reference),
-    ))?;
+    members.push((MemberKey::named("sud"), Val::of_bool(true)))?;
+    members.push((MemberKey::named("sur"), Val::of_text(reference)))?;
     object_of_one(alloc, "m2m:sgn", Val::of_obj(Members::of(members)))
 }
 

@@ -59,6 +59,16 @@ impl<'a, T: Tree> Under<'a, T> {
         }
     }
 
+    /// Whether none is left.
+    pub(crate) fn is_empty(&self) -> bool
+        ensures { IsTrue result → self.now ≡ [] }
+    {
+        match self.first {
+            Some(_) => false,
+            None => true,
+        }
+    }
+
     fn first(&self) -> Option<&'a Resource>
         ensures { option_map (λ r. r.now) result ≡ slice_get self.now 0 }
     {

@@ -1,3 +1,3 @@
 pub mod Failing
-pub mod Heard
+pub mod SendOutcomes
 pub mod Places

@@ -1,6 +1,6 @@
 //! One request over a connection, and its answer.
 ghost use Rattle.std.specs.Prelude.{◌≡◌, ◌≤◌, IfOk, length};
-ghost use Rattle.tcp_link.specs.Heard.{HasFew};
+ghost use Rattle.tcp_link.specs.SendOutcomes.{HasFew};
 ghost use Rattle.std.specs.Io.{ReadsAtMost};
 
 use devices::time_left;
@@ -67,7 +67,7 @@ impl Pace {
 }
 
 /// What came of a request that was sent.
-pub(crate) enum Heard {
+pub(crate) enum SendOutcome {
     /// An answer.
     Answer(Vec<u8>),
     /// The beginning of one, which wasn't whole in time, or is too long.
@@ -78,7 +78,7 @@ pub(crate) enum Heard {
 
 /// A connection at which one request is sent and one answer is read: the bytes that came are kept.
 #[derive(Drop)]
-pub(crate) struct Asked<R> {
+pub(crate) struct ExchangeConn<R> {
     rt: R,
     stream: TcpStream,
     pace: Pace,
@@ -170,7 +170,7 @@ fn says_its_end(frame: &Frame) -> bool {
         || have_field(&frame.lines, "Transfer-Encoding")
 }
 
-impl<R: Clock + Copy> Source for Asked<R> {
+impl<R: Clock + Copy> Source for ExchangeConn<R> {
     ghost use Rattle.std.specs.Prelude.{None};
     ghost use Rattle.m2m_io.specs.Sides.{no_side};
 
@@ -191,10 +191,10 @@ impl<R: Clock + Copy> Source for Asked<R> {
     }
 }
 
-impl<R: Clock + Copy> Asked<R> {
+impl<R: Clock + Copy> ExchangeConn<R> {
     /// A connection on which nothing was said yet, in an exchange that began at this moment.
     pub(crate) fn new(rt: R, alloc: Global, stream: TcpStream, pace: Pace, begun: u64) -> Self {
-        Asked {
+        ExchangeConn {
             rt,
             stream,
             pace,
@@ -286,26 +286,26 @@ impl<R: Clock + Copy> Asked<R> {
     }
 
     /// Sends the request, and hears what comes of it.
-    pub(crate) fn asked(mut self, alloc: Global, request: &[u8]) -> Result<Heard, LinkFault>
+    pub(crate) fn asked(mut self, alloc: Global, request: &[u8]) -> Result<SendOutcome, LinkFault>
         ensures { IfOk result (λ heard. HasFew heard) }
     {
         self.send(request)?;
         match self.hear_in_time(alloc) {
-            Ok(()) => Ok(Heard::Answer(self.into_parts().0)),
+            Ok(()) => Ok(SendOutcome::Answer(self.into_parts().0)),
             Err(LinkFault::Failed) if self.is_awaited() => Ok(self.heard_in_part()),
             Err(fault) => Err(fault),
         }
     }
 
     /// What came where the answer isn't whole.
-    fn heard_in_part(self) -> Heard
+    fn heard_in_part(self) -> SendOutcome
         ensures { HasFew result }
     {
         let (heard, stream) = self.into_parts();
         if heard.is_empty() {
-            Heard::Nothing(stream)
+            SendOutcome::Nothing(stream)
         } else {
-            Heard::Part
+            SendOutcome::Part
         }
     }
 
@@ -313,7 +313,7 @@ impl<R: Clock + Copy> Asked<R> {
     fn into_parts(self) -> (Vec<u8>, TcpStream)
         ensures { length result.0.items ≤ MOST_BYTES }
     {
-        let Asked {
+        let ExchangeConn {
             rt: _,
             stream,
             pace: _,

@@ -3,7 +3,7 @@ ghost use Rattle.std.specs.Prelude.{◌≡◌, min, nat_le};
 ghost use Rattle.tcp_link.specs.Failing.{later};
 
 use crate::answering::PATIENCE;
-use crate::connecting::Place;
+use crate::connecting::HostPort;
 use std::alloc::{AllocError as OutOfMemory, Global};
 use std::io::{ErrorKind, Read};
 use std::net::TcpStream;
@@ -40,25 +40,25 @@ pub(crate) struct Awaited {
 }
 
 impl Awaited {
-    /// An answer of this place that is awaited from this moment on.
+    /// An answer of this host that is awaited from this moment on.
     fn new(
         alloc: Global,
-        place: Place,
+        host_port: HostPort,
         stream: TcpStream,
         since: u64,
     ) -> Result<Self, OutOfMemory> {
         Ok(Awaited {
-            name: String::from_str(alloc, place.name)?,
-            port: place.port,
+            name: String::from_str(alloc, host_port.name)?,
+            port: host_port.port,
             stream,
             since,
             fate: Fate::Open,
         })
     }
 
-    /// The place that was asked.
-    pub(crate) fn place(&self) -> Place<'_> {
-        Place {
+    /// The host that was asked.
+    pub(crate) fn host_port(&self) -> HostPort<'_> {
+        HostPort {
             name: self.name.as_str(),
             port: self.port,
         }
@@ -111,37 +111,37 @@ impl Awaiting {
         }
     }
 
-    /// How many answers of this place are awaited.
-    fn count_at(&self, place: Place) -> usize {
+    /// How many answers of this host are awaited.
+    fn count_at(&self, host_port: HostPort) -> usize {
         self.list
             .iter()
-            .filter(|one| one.place().is_at(place))
+            .filter(|one| one.host_port().is_at(host_port))
             .count()
     }
 
-    /// Whether an answer of this place is awaited.
-    pub(crate) fn has(&self, place: Place) -> bool {
-        self.count_at(place) > 0
+    /// Whether an answer of this host is awaited.
+    pub(crate) fn has(&self, host_port: HostPort) -> bool {
+        self.count_at(host_port) > 0
     }
 
-    /// Whether as many answers of this place are awaited as may be.
-    pub(crate) fn is_full_at(&self, place: Place) -> bool {
-        self.count_at(place) >= MOST_OF_ONE
+    /// Whether as many answers of this host are awaited as may be.
+    pub(crate) fn is_full_at(&self, host_port: HostPort) -> bool {
+        self.count_at(host_port) >= MOST_OF_ONE
     }
 
-    /// Awaits an answer of this place from this moment on, at a connection. Tells whether there is
+    /// Awaits an answer of this host from this moment on, at a connection. Tells whether there is
     /// room for it.
     pub(crate) fn keep(
         &mut self,
         alloc: Global,
-        place: Place,
+        host_port: HostPort,
         stream: TcpStream,
         since: u64,
     ) -> bool {
         if self.list.len() >= MOST_AWAITED || stream.set_nonblocking(true).is_err() {
             return false;
         }
-        match Awaited::new(alloc, place, stream, since) {
+        match Awaited::new(alloc, host_port, stream, since) {
             Ok(one) => self.list.push(one).is_ok(),
             Err(_) => false,
         }

@@ -17,15 +17,15 @@ const MOST_TRIED: usize = 4;
 
 /// A host and a port.
 #[derive(Clone, Copy, Debug)]
-pub(crate) struct Place<'a> {
+pub(crate) struct HostPort<'a> {
     pub name: &'a str,
     pub port: u16,
 }
 
-impl Place<'_> {
+impl HostPort<'_> {
     /// Whether that is the same host and port.
-    pub(crate) fn is_at(self, place: Place) -> bool {
-        self.port == place.port && self.name.eq_ignore_ascii_case(place.name)
+    pub(crate) fn is_at(self, host_port: HostPort) -> bool {
+        self.port == host_port.port && self.name.eq_ignore_ascii_case(host_port.name)
     }
 }
 
@@ -39,14 +39,14 @@ fn port_in(digits: Option<&str>) -> Option<u16>
     }
 }
 
-/// The place that a host stands for, as it stands in a URL, with its port or without.
-pub(crate) fn place_of(host: &[u8]) -> Option<Place<'_>> {
+/// The host and the port that a host in a URL stands for, which names a port or none.
+pub(crate) fn host_port_of(host: &[u8]) -> Option<HostPort<'_>> {
     let host = str::from_utf8(host).ok()?;
     let (name, digits) = match host.rsplit_once(':') {
         None => (host, None),
         Some((name, digits)) => (name, Some(digits)),
     };
-    Some(Place {
+    Some(HostPort {
         name,
         port: port_in(digits)?,
     })
@@ -56,14 +56,14 @@ fn unreachable_host() -> io::Error {
     io::Error::from(ErrorKind::HostUnreachable)
 }
 
-/// The addresses of a place, by the system's resolver.
+/// The addresses of a host, by the system's resolver.
 pub(crate) fn addresses<R: Net>(
     rt: &R,
     alloc: Global,
-    place: Place,
+    host_port: HostPort,
 ) -> io::Result<Vec<SocketAddr>> {
     let mut found = Vec::new(alloc);
-    for address in (place.name, place.port).to_socket_addrs(rt)? {
+    for address in (host_port.name, host_port.port).to_socket_addrs(rt)? {
         if found.len() < MOST_TRIED {
             found.push(address)?;
         }

@@ -3,7 +3,7 @@ ghost use Rattle.std.specs.Prelude.{◌≡◌, ◌<◌, ◌≤◌, ◌+◌, ◌-
 ghost use Rattle.std.specs.Prelude.{None, IfSome, vec_len, if◌then◌else◌};
 ghost use Rattle.tcp_link.specs.Failing as spec;
 
-use crate::connecting::Place;
+use crate::connecting::HostPort;
 use std::alloc::{AllocError as OutOfMemory, Global};
 
 /// For so many milliseconds a destination is left alone that failed for the first time,
@@ -42,10 +42,10 @@ fn next_wait(wait: u64) -> u64
 
 impl Destination {
     /// A destination of which nothing is known.
-    fn new(alloc: Global, place: Place) -> Result<Self, OutOfMemory> {
+    fn new(alloc: Global, host_port: HostPort) -> Result<Self, OutOfMemory> {
         Ok(Destination {
-            name: String::from_str(alloc, place.name)?,
-            port: place.port,
+            name: String::from_str(alloc, host_port.name)?,
+            port: host_port.port,
             wait: 0,
             until: 0,
             failed: 0,
@@ -64,12 +64,12 @@ impl Destination {
         self.port
     }
 
-    fn is_at(&self, place: Place) -> bool {
-        let own = Place {
+    fn is_at(&self, host_port: HostPort) -> bool {
+        let own = HostPort {
             name: self.name.as_str(),
             port: self.port,
         };
-        own.is_at(place)
+        own.is_at(host_port)
     }
 
     /// Whether it is to be left alone at this moment.
@@ -152,25 +152,29 @@ impl Failing {
         }
     }
 
-    /// Whether this place is to be left alone at this moment.
-    pub(crate) fn is_left_alone(&self, place: Place, now: u64) -> bool {
-        self.list.iter().any(|destination| destination.is_at(place)
+    /// Whether this host is to be left alone at this moment.
+    pub(crate) fn is_left_alone(&self, host_port: HostPort, now: u64) -> bool {
+        self.list.iter().any(|destination| destination.is_at(host_port)
             && destination.is_left_alone(now))
     }
 
-    /// An exchange with this place succeeded.
-    pub(crate) fn welcome(&mut self, place: Place) {
+    /// An exchange with this host succeeded.
+    pub(crate) fn welcome(&mut self, host_port: HostPort) {
         for destination in &mut self.list {
-            if destination.is_at(place) {
+            if destination.is_at(host_port) {
                 destination.welcome();
             }
         }
     }
 
-    /// Remembers this place, if there is memory. The destination that has to make room for it comes
+    /// Remembers this host, if there is memory. The destination that has to make room for it comes
     /// back, where there are too many.
-    fn remember(&mut self, alloc: Global, place: Place) -> Option<Destination> {
-        if self.list.iter().any(|destination| destination.is_at(place)) {
+    fn remember(&mut self, alloc: Global, host_port: HostPort) -> Option<Destination> {
+        if self
+            .list
+            .iter()
+            .any(|destination| destination.is_at(host_port))
+        {
             return None;
         }
         let oldest = if self.list.len() < MOST_DESTINATIONS {
@@ -178,30 +182,35 @@ impl Failing {
         } else {
             Some(self.list.remove(0))
         };
-        if let Ok(destination) = Destination::new(alloc, place) {
+        if let Ok(destination) = Destination::new(alloc, host_port) {
             let _ = self.list.push(destination);
         }
         oldest
     }
 
-    /// Counts an exchange with this place that wasn't tried. A destination of which nothing more is
+    /// Counts an exchange with this host that wasn't tried. A destination of which nothing more is
     /// remembered comes back.
-    pub(crate) fn count(&mut self, alloc: Global, place: Place) -> Option<Destination> {
-        let oldest = self.remember(alloc, place);
+    pub(crate) fn count(&mut self, alloc: Global, host_port: HostPort) -> Option<Destination> {
+        let oldest = self.remember(alloc, host_port);
         for destination in &mut self.list {
-            if destination.is_at(place) {
+            if destination.is_at(host_port) {
                 destination.count();
             }
         }
         oldest
     }
 
-    /// An exchange with this place was tried, and failed at this moment: it is left alone, unless
+    /// An exchange with this host was tried, and failed at this moment: it is left alone, unless
     /// it is already. A destination of which nothing more is remembered comes back.
-    pub(crate) fn fail(&mut self, alloc: Global, place: Place, now: u64) -> Option<Destination> {
-        let oldest = self.count(alloc, place);
+    pub(crate) fn fail(
+        &mut self,
+        alloc: Global,
+        host_port: HostPort,
+        now: u64,
+    ) -> Option<Destination> {
+        let oldest = self.count(alloc, host_port);
         for destination in &mut self.list {
-            if destination.is_at(place) && !destination.is_left_alone(now) {
+            if destination.is_at(host_port) && !destination.is_left_alone(now) {
                 destination.leave_alone(now);
             }
         }

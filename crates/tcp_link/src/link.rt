@@ -3,13 +3,13 @@ ghost use Rattle.std.specs.Prelude.{◌≡◌, ◌≤◌, ◌+◌, None, OnOk, O
 ghost use Rattle.std.specs.Prelude.{IfOk, length};
 ghost use Rattle.m2m_io.specs.Link.{Exchange, TellsAnswer, TellsExchange};
 ghost use Rattle.m2m_io.specs.Counts.{CountsFault};
-ghost use Rattle.tcp_link.specs.Heard.{HasFew};
+ghost use Rattle.tcp_link.specs.SendOutcomes.{HasFew};
 ghost use Rattle.m2m_io.specs.declared.fault.LinkFault.TheVariants.{Failed as failed};
 ghost use Rattle.m2m_io.specs.declared.fault.LinkFault.TheVariants.{OutOfMemory as starved};
 
-use crate::answering::{Asked, Heard, MOST_BYTES, Pace};
+use crate::answering::{ExchangeConn, MOST_BYTES, Pace, SendOutcome};
 use crate::awaiting::{Awaiting, Fate};
-use crate::connecting::{Place, addresses, connected, place_of};
+use crate::connecting::{HostPort, addresses, connected, host_port_of};
 use crate::failing::{Destination, Failing};
 use devices::{Log, millis_now};
 use m2m_io::{Link, LinkFault};
@@ -77,21 +77,21 @@ impl<R: Clock + Eprint + Copy> TcpLink<R> {
         self.failing.tidy(now);
     }
 
-    /// Counts an exchange with a place that isn't tried.
-    fn count(&mut self, alloc: Global, place: Place)
+    /// Counts an exchange with a host that isn't tried.
+    fn count(&mut self, alloc: Global, host_port: HostPort)
         ensures { self.new.faults ≡ self.old.faults }
     {
-        if let Some(oldest) = self.failing.count(alloc, place) {
+        if let Some(oldest) = self.failing.count(alloc, host_port) {
             say_unsaid(&self.log, &oldest);
         }
     }
 
-    /// An exchange with a place was tried, and failed.
-    fn fail(&mut self, alloc: Global, place: Place)
+    /// An exchange with a host was tried, and failed.
+    fn fail(&mut self, alloc: Global, host_port: HostPort)
         ensures { self.new.faults ≡ self.old.faults }
     {
         let now = millis_now(&self.log.runtime());
-        if let Some(oldest) = self.failing.fail(alloc, place, now) {
+        if let Some(oldest) = self.failing.fail(alloc, host_port, now) {
             say_unsaid(&self.log, &oldest);
         }
     }
@@ -106,10 +106,10 @@ impl<R: Clock + Eprint + Copy> TcpLink<R> {
         for one in self.awaiting.all() {
             match one.fate() {
                 Fate::Open => {}
-                Fate::Answered => self.failing.welcome(one.place()),
+                Fate::Answered => self.failing.welcome(one.host_port()),
                 Fate::Failed => {
                     let at = one.failed_at(now);
-                    if let Some(oldest) = self.failing.fail(alloc, one.place(), at) {
+                    if let Some(oldest) = self.failing.fail(alloc, one.host_port(), at) {
                         say_unsaid(&self.log, &oldest);
                     }
                 }
@@ -118,59 +118,59 @@ impl<R: Clock + Eprint + Copy> TcpLink<R> {
         self.awaiting.tidy();
     }
 
-    /// A request was sent to a place, and isn't answered yet: its answer is awaited at this
-    /// connection, since this moment. Where there is no room for it, it failed; so did the place,
+    /// A request was sent to a host, and isn't answered yet: its answer is awaited at this
+    /// connection, since this moment. Where there is no room for it, it failed; so did the host,
     /// unless another answer of it is awaited.
-    fn wait_for(&mut self, alloc: Global, place: Place, stream: TcpStream, since: u64)
+    fn wait_for(&mut self, alloc: Global, host_port: HostPort, stream: TcpStream, since: u64)
         ensures { self.new.faults ≡ self.old.faults }
     {
-        if self.awaiting.keep(alloc, place, stream, since) {
+        if self.awaiting.keep(alloc, host_port, stream, since) {
             self.settle(alloc);
-        } else if self.awaiting.has(place) {
-            self.count(alloc, place);
+        } else if self.awaiting.has(host_port) {
+            self.count(alloc, host_port);
         } else {
-            self.fail(alloc, place);
+            self.fail(alloc, host_port);
         }
     }
 
-    /// How long an exchange with a place waits.
-    fn pace(&self, place: Place) -> Pace {
+    /// How long an exchange with a host waits.
+    fn pace(&self, host_port: HostPort) -> Pace {
         if self.is_patient {
             Pace::Patient
-        } else if self.awaiting.has(place) {
+        } else if self.awaiting.has(host_port) {
             Pace::AtOnce
         } else {
             Pace::Impatient
         }
     }
 
-    /// Whether a request to a place isn't sent at this moment: the place is left alone, or so much
+    /// Whether a request to a host isn't sent at this moment: the host is left alone, or so much
     /// is awaited of it that nothing more is asked.
-    fn is_passed_over(&self, place: Place, now: u64) -> bool {
-        self.failing.is_left_alone(place, now) || self.awaiting.is_full_at(place)
+    fn is_passed_over(&self, host_port: HostPort, now: u64) -> bool {
+        self.failing.is_left_alone(host_port, now) || self.awaiting.is_full_at(host_port)
     }
 }
 
-/// One exchange with a place, over a connection of its own.
+/// One exchange with a host, over a connection of its own.
 fn exchange_at<R>(
     rt: R,
     alloc: Global,
-    place: Place,
+    host_port: HostPort,
     pace: Pace,
     request: &[u8],
-) -> Result<Heard, LinkFault>
+) -> Result<SendOutcome, LinkFault>
 where
     R: Net<Listener = TcpListener, Stream = TcpStream> + Clock + Copy,
     ensures { IfOk result HasFew }
 {
-    let Ok(found) = addresses(&rt, alloc, place) else {
+    let Ok(found) = addresses(&rt, alloc, host_port) else {
         return Err(LinkFault::Failed);
     };
     let begun = millis_now(&rt);
     let Ok(stream) = connected(&rt, &found, begun, pace.of_a_step()) else {
         return Err(LinkFault::Failed);
     };
-    Asked::new(rt, alloc, stream, pace, begun).asked(alloc, request)
+    ExchangeConn::new(rt, alloc, stream, pace, begun).asked(alloc, request)
 }
 
 impl<R> TcpLink<R>
@@ -212,32 +212,37 @@ where
         TcpLink::made(log, false)
     }
 
-    /// One exchange with a place, unless that is passed over.
-    fn ask(&mut self, alloc: Global, place: Place, request: &[u8]) -> Result<Vec<u8>, LinkFault>
+    /// One exchange with a host, unless that is passed over.
+    fn ask(
+        &mut self,
+        alloc: Global,
+        host_port: HostPort,
+        request: &[u8],
+    ) -> Result<Vec<u8>, LinkFault>
         ensures few { IfOk result (λ answer. length answer.items ≤ MOST_BYTES) }
         ensures faults { self.new.faults ≡ self.old.faults }
     {
         let rt = self.log.runtime();
         let now = millis_now(&rt);
-        if self.is_passed_over(place, now) {
-            self.count(alloc, place);
+        if self.is_passed_over(host_port, now) {
+            self.count(alloc, host_port);
             return Err(LinkFault::Failed);
         }
-        match exchange_at(rt, alloc, place, self.pace(place), request) {
-            Ok(Heard::Answer(answer)) => {
-                self.failing.welcome(place);
+        match exchange_at(rt, alloc, host_port, self.pace(host_port), request) {
+            Ok(SendOutcome::Answer(answer)) => {
+                self.failing.welcome(host_port);
                 Ok(answer)
             }
-            Ok(Heard::Part) => {
-                self.failing.welcome(place);
+            Ok(SendOutcome::Part) => {
+                self.failing.welcome(host_port);
                 Err(LinkFault::Failed)
             }
-            Ok(Heard::Nothing(stream)) => {
-                self.wait_for(alloc, place, stream, now);
+            Ok(SendOutcome::Nothing(stream)) => {
+                self.wait_for(alloc, host_port, stream, now);
                 Err(LinkFault::Failed)
             }
             Err(LinkFault::Failed) => {
-                self.fail(alloc, place);
+                self.fail(alloc, host_port);
                 Err(LinkFault::Failed)
             }
             Err(fault) => Err(fault),
@@ -249,11 +254,11 @@ where
         ensures few { IfOk result (λ answer. length answer.items ≤ MOST_BYTES) }
         ensures faults { self.new.faults ≡ self.old.faults }
     {
-        let Some(place) = place_of(host) else {
+        let Some(host_port) = host_port_of(host) else {
             return Err(LinkFault::Failed);
         };
         self.settle(alloc);
-        let answered = self.ask(alloc, place, request);
+        let answered = self.ask(alloc, host_port, request);
         let now = millis_now(&self.log.runtime());
         self.say_faults(now);
         answered

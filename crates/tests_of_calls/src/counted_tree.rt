@@ -81,8 +81,8 @@ impl<T: Tree> Tree for CountedTree<T> {
         self.counted().instance(container, newest)
     }
 
-    fn instance_after(&self, container: u64, number: u64) -> Option<u64> {
-        self.counted().instance_after(container, number)
+    fn nth_instance(&self, container: u64, k: u64) -> Option<u64> {
+        self.counted().nth_instance(container, k)
     }
 
     fn instance_count(&self, container: u64) -> u64 {

@@ -1,9 +1,7 @@
-//! The tests of subscription_match and notify_outbox: who is told what of a change, where that
-//! leads, which item leaves next, and when one is dropped. Their answers were worked out by hand.
+//! The tests of notify_outbox: which item leaves next, and when one is dropped. Their answers were
+//! worked out by hand; who is told what of a change, and where that leads, is shown by cases.
 //! Without its tests this library is empty, and no crate stands on it.
 #![tactic(auto)]
 
 #[cfg(test)]
 mod of_notify_outbox;
-#[cfg(test)]
-mod of_subscription_match;

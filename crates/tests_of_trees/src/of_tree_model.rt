@@ -48,14 +48,14 @@ fn at_places(tree: &ListTree, parent: u64, place: u64) -> [Option<u64>; 4] {
     ]
 }
 
-// The first instance, the next after it, the first resource after a number, and the one after that.
+// The first two instances, the first resource after a number, and the second instance again.
 fn afterwards(tree: &ListTree, parent: u64, after: u64) -> [Option<u64>; 4] {
     let mut oldest = over_instances(tree, parent);
     [
         number(oldest.next()),
         number(oldest.next()),
         number(tree.after(after)),
-        tree.instance_after(parent, after),
+        tree.nth_instance(parent, 1),
     ]
 }
 

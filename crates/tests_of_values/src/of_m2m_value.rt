@@ -101,7 +101,8 @@ fn depth(alloc: Global, text: &str) -> Result<String, OutOfMemory> {
 }
 
 fn put(alloc: Global, members: &mut Members, key: &str, n: i64) -> Result<(), OutOfMemory> {
-    members.put(Text::from_slice(alloc, key.as_bytes())?, Val::of_num(n))
+    let key = MemberKey::of(Text::from_slice(alloc, key.as_bytes())?);
+    members.put(key, Val::of_num(n))
 }
 
 /// A member that is written twice.

@@ -1,14 +1,14 @@
 -- What comes after a number, where numbers ascend.
 use Rattle.std.specs.Prelude.{nat_lt, unwrap_or, IfSome}
-use Rattle.std.proofs.Common.{◌≡◌, ℕ, zero, suc, ◌+◌, ◌<◌, ◌≤◌, List, [], ◌∷◌, length, find, Bool, true, false, Option, Some, None, Bor, option_map, inl, inr, refl, sym, ap, ◌∙◌, arith}
+use Rattle.std.proofs.Common.{◌≡◌, ℕ, zero, suc, ◌+◌, ◌<◌, ◌≤◌, List, [], ◌∷◌, length, Bool, true, false, Option, Some, None, Bor, inl, inr, refl, sym, ap, ◌∙◌, arith}
 use Rattle.std.proofs.lemmas.Bool.{and_parts, cases_Bool, ltb-true, ltb-false, lt-ltb, le-ltb}
 use Rattle.std.proofs.lemmas.Option.{same_Some}
 use Rattle.std.specs.Iterator.{YieldsFirstRef, MakesProgress, item_count}
 use Rattle.std.specs.List.{filter, slice_get}
 use Rattle.resource_model.specs.Resource.{ResourceData}
-use Rattle.tree_model.specs.Tree.{at, number_at, resource_number, comes_after, all_after, all_behind, next_after, is_tree, may_stand}
+use Rattle.tree_model.specs.Tree.{number_at, comes_after, all_after, all_behind, next_after, is_tree, may_stand}
 use Rattle.tree_model.proofs.GrowthLemmas.{growth, next_fits, next_above_parent}
-use Rattle.tree_model.proofs.OrderLemmas.{are_above, ascend, tree_ascends, ascend_filter, above_filter, above_push, number_some, placed_stands, ascend_parts}
+use Rattle.tree_model.proofs.OrderLemmas.{are_above, ascend, tree_ascends, ascend_filter, above_filter, above_push, number_some, ascend_parts}
 use Rattle.m2m_names.proofs.ListLemmas.{all_weaker, filter_whole}
 
 above_lower : (m n : ℕ) (rs : List ResourceData) → m < n → are_above n rs ≡ true → are_above m rs ≡ true
@@ -66,39 +66,6 @@ step_none n rs left is found = sym is ∙ none_after n rs (sym found)
 pub none_left : (n : ℕ) (rs : List ResourceData) → None ≡ next_after n rs → all_after n rs ≡ []
 none_left n rs found = none_after n rs (sym found)
 
-no_number : (o : Option ResourceData) → None ≡ resource_number o → None ≡ o
-no_number None none = refl
-no_number (Some r) none = cc
-
-pub step_no_number : (n : ℕ) (rs left : List ResourceData) → all_after n rs ≡ left → None ≡ resource_number (next_after n rs) → left ≡ []
-step_no_number n rs left is none = step_none n rs left is (no_number (next_after n rs) none)
-
-pub no_number_left : (n : ℕ) (rs : List ResourceData) → None ≡ resource_number (next_after n rs) → all_after n rs ≡ []
-no_number_left n rs none = none_left n rs (no_number (next_after n rs) none)
-
--- what is found stands at a place
-found_place : (q : ResourceData → Bool) (rs : List ResourceData) (r : ResourceData) → find q rs ≡ Some r → (k : ℕ) × (slice_get rs k ≡ Some r)
-found_place q [] r found = cc
-found_place q (s ∷ rs) r found = elim (cases_Bool (q s)) [
-  | inl t ↦ (zero, rw t at found)
-  | inr f ↦ (let later = found_place q rs r (rw f at found) in (suc later.0, later.1))
-]
-
--- the same by the number of the first of a filter, which is looked up
-pub step_number : (p : ResourceData → Bool) (nodes : List ResourceData) (n m : ℕ) (left : List ResourceData) (o : Option (Bor ResourceData)) → is_tree nodes ≡ true → all_after n (filter p nodes) ≡ left → Some m ≡ resource_number (next_after n (filter p nodes)) → option_map (λ r. r.now) o ≡ at m nodes → YieldsFirstRef (λ rest. rest) left o (all_after m (filter p nodes))
-step_number p nodes n m left o tree is found got =
-    let there = number_some (next_after n (filter p nodes)) m found in
-    let place = found_place (comes_after n) (filter p nodes) there.0 there.1 in
-    let stands : at m nodes ≡ Some there.0 = ap (λ (k : ℕ). at k nodes) (sym there.2) ∙ placed_stands p nodes place.0 there.0 tree place.1 in
-    let split : left ≡ there.0 ∷ all_after m (filter p nodes) =
-    step_some n (filter p nodes) left there.0 (ascend_filter p nodes (tree_ascends nodes tree)) is (sym there.1)
-    ∙ ap (λ (k : ℕ). there.0 ∷ all_after k (filter p nodes)) there.2 in
-    given o (got ∙ stands) split
-  where
-    given : {r : ResourceData} {left rest : List ResourceData} (o : Option (Bor ResourceData)) → option_map (λ r. r.now) o ≡ Some r → left ≡ r ∷ rest → YieldsFirstRef (λ (x : List ResourceData). x) left o rest
-    given None got split = cc
-    given {r = r} {rest = rest} (Some x) got split = split ∙ ap (λ (y : ResourceData). y ∷ rest) (sym (same_Some x.now r got))
-
 -- every number of a tree is above 0
 above_zero : (nodes : List ResourceData) → is_tree nodes ≡ true → are_above 0 nodes ≡ true
 above_zero = growth may_stand (λ nodes. are_above 0 nodes ≡ true) refl (λ before r grew next holds.
@@ -107,9 +74,6 @@ above_zero = growth may_stand (λ nodes. are_above 0 nodes ≡ true) refl (λ be
 
 pub all_after_zero : (nodes : List ResourceData) → is_tree nodes ≡ true → nodes ≡ all_after 0 nodes
 all_after_zero nodes tree = sym (above_all 0 nodes (above_zero nodes tree))
-
-pub filtered_after_zero : (p : ResourceData → Bool) (nodes : List ResourceData) → is_tree nodes ≡ true → filter p nodes ≡ all_after 0 (filter p nodes)
-filtered_after_zero p nodes tree = sym (above_all 0 (filter p nodes) (above_filter p 0 nodes (above_zero nodes tree)))
 
 place_above : (m : ℕ) (rs : List ResourceData) (k : ℕ) (r : ResourceData) → ascend rs ≡ true → are_above m rs ≡ true → slice_get rs k ≡ Some r → m + k < r.number
 place_above m [] k r order above got = cc

@@ -15,8 +15,8 @@
 //!
 //! Callers owe the conditions of `insert` and `replace`, which `may_insert` and `may_replace` test
 //! by look-ups, and that a resource which they remove stands in the tree (`stands_in`). Only
-//! `insert` and what builds values take memory. Steps are counted by `Steps`, on a ledger of the
-//! caller's, at no cost; who counts none asks `child_named`.
+//! `insert`, `due_numbers` and what builds values fail for want of memory. Steps are counted by
+//! `Steps`, on a ledger of the caller's, at no cost; who counts none asks `child_named`.
 //!
 //! ```text
 //! let containers = over(tree).filter(|r| r.is(Ty::Container)).count();

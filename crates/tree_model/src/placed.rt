@@ -1,6 +1,6 @@
 //! The children of a resource, one by one.
 ghost use Rattle.std.specs.Prelude.{◌≡◌, ◌+◌, ◌^◌, ◌<◌, IfSome, IsTrue, Some, option_map, slice_get};
-ghost use Rattle.tree_model.specs.Tree.{at, children_of, is_tree, subs_of};
+ghost use Rattle.tree_model.specs.Tree.{at, children_of, instances_of, is_tree, subs_of};
 
 use crate::tree::Tree;
 use resource_model::Resource;
@@ -27,5 +27,15 @@ pub fn subscription_at<T: Tree>(tree: &T, parent: u64, k: u64) -> Option<&Resour
     ensures tree { IsTrue (is_tree (T.nodes tree.now)) }
 {
     let number = tree.sub(parent, k)?;
+    tree.get(number)
+}
+
+/// The instance of a container at place k, the oldest first, from 0.
+pub(crate) fn instance_at<T: Tree>(tree: &T, container: u64, k: u64) -> Option<&Resource>
+    ensures value { option_map (λ r. r.now) result
+        ≡ slice_get (instances_of container (T.nodes tree.now)) k }
+    ensures few { IfSome result (λ _. k + 1 < 2 ^ 64) }
+{
+    let number = tree.nth_instance(container, k)?;
     tree.get(number)
 }

@@ -16,7 +16,7 @@ ghost use Rattle.tree_model.specs.Shown as spec;
 
 use crate::tree::Tree;
 use m2m_names::{Attr, LARGEST_COUNT, Ty, write_stamp};
-use m2m_value::{Items, Members, Text, Val};
+use m2m_value::{Items, MemberKey, Members, Text, Val};
 use resource_model::{Attrs, Home, Resource};
 use std::alloc::{AllocError as OutOfMemory, Global};
 
@@ -90,7 +90,7 @@ pub fn under_type(alloc: Global, ty: Ty, members: Members) -> Result<Val, OutOfM
     requires { HaveTextKeys members }
     ensures { IfOk result (λ v. v ≡ spec.under_type ty members) }
 {
-    let name = Text::from_slice(alloc, ty.member().as_bytes())?;
+    let name = MemberKey::named(ty.member());
     let mut whole = Vec::with_capacity(alloc, 1)?;
     whole.push((name, Val::of_obj(members)))?;
     Ok(Val::of_obj(Members::of(whole)))
@@ -104,22 +104,22 @@ pub fn members_of(alloc: Global, attrs: Attrs) -> Result<Members, OutOfMemory>
     Ok(Members::of(named(alloc, attrs)?))
 }
 
-// Each key is a text that owns its bytes, so that each takes memory of its own.
-fn named(alloc: Global, attrs: Attrs) -> Result<Vec<(Text, Val)>, OutOfMemory>
+// The keys are names that stand in the program, so that none takes memory.
+fn named(alloc: Global, attrs: Attrs) -> Result<Vec<(MemberKey, Val)>, OutOfMemory>
     ensures value { IfOk result (λ v. v.items ≡ spec.members_of attrs) }
     ensures order { IfOk result (λ v. AreSorted v.items) }
 {
     let mut members = Vec::with_capacity(alloc, attrs.entries().len())?;
     for (attr, value) in attrs.into_vec() {
-        members.push((key(alloc, attr)?, value))?;
+        members.push((key(attr), value))?;
     }
     Ok(members)
 }
 
-fn key(alloc: Global, attr: Attr) -> Result<Text, OutOfMemory>
-    ensures { IfOk result (λ t. t ≡ attr_short attr) }
+fn key(attr: Attr) -> MemberKey
+    ensures { result ≡ attr_short attr }
 {
-    Text::from_slice(alloc, attr.short().as_bytes())
+    MemberKey::named(attr.short())
 }
 
 // What every resource shows, but for its type, which stands last.

@@ -10,7 +10,7 @@ ghost use Rattle.tree_model.specs.Tree.{channel_of};
 ghost use Rattle.tree_model.specs.Tree.{are_quiet, live, replaced, restamped_at, has_state};
 ghost use Rattle.tree_model.specs.Tree.{recounted_at, has_counter};
 ghost use Rattle.tree_model.specs.Tree.{without, may_stand, is_tree, standing, DoAscend};
-ghost use Rattle.tree_model.specs.Tree.{next_after, overdue_numbers, resource_number, without_all};
+ghost use Rattle.tree_model.specs.Tree.{next_after, overdue_numbers, without_all};
 
 use crate::steps::Steps;
 use m2m_value::Numbers;
@@ -68,10 +68,9 @@ pub trait Tree: Drop {
     fn instance(&self, container: u64, newest: bool) -> Option<u64>
         ensures { result ≡ instance_of newest container (nodes self.now) };
 
-    /// The number of the oldest instance of a container whose number is greater than this one.
-    fn instance_after(&self, container: u64, number: u64) -> Option<u64>
-        ensures value { result ≡ resource_number
-            (next_after number (instances_of container (nodes self.now))) }
+    /// The number of the instance of a container at place k, the oldest first, from 0.
+    fn nth_instance(&self, container: u64, k: u64) -> Option<u64>
+        ensures value { result ≡ number_at k (instances_of container (nodes self.now)) }
         ensures tree { IsTrue (is_tree (nodes self.now)) };
 
     /// How many instances a container has.

@@ -3,6 +3,7 @@ ghost use Rattle.std.specs.Prelude.{◌≡◌};
 ghost use Rattle.std.specs.Iterator.{YieldsFirstRef, item_count};
 ghost use Rattle.tree_model.specs.Tree.{instances_of};
 
+use crate::placed::instance_at;
 use crate::tree::Tree;
 use resource_model::Resource;
 use std::marker::Model;
@@ -55,32 +56,32 @@ impl<'a, T: Tree> Iterator for Walk<'a, T> {
 pub struct Instances<'a, T: Tree> {
     tree: &'a T,
     container: u64,
-    // The number of the last one that was given.
-    last: Option<u64>,
+    // The place of the first of them.
+    place: u64,
 }
 
 impl<'a, T: Tree> Model for Instances<'a, T> {
-    ghost use Rattle.std.specs.Prelude.{List};
+    ghost use Rattle.std.specs.Prelude.{List, drop};
     ghost use Rattle.std.specs.Coded.{coded_list};
     ghost use Rattle.resource_model.specs.Resource.{ResourceData};
     ghost use Rattle.resource_model.specs.Codes.{resource_code};
-    ghost use Rattle.tree_model.specs.Tree.{all_behind, instances_of};
+    ghost use Rattle.tree_model.specs.Tree.{instances_of};
 
     ghost Value = { List ResourceData };
 
     ghost coded = { coded_list resource_code };
 
-    ghost view = { λ o. all_behind o.last (instances_of o.container (T.nodes o.tree.now)) };
+    ghost view = { λ o. drop o.place (instances_of o.container (T.nodes o.tree.now)) };
 }
 
-/// Goes over the instances of a container, oldest first: one look-up for each.
+/// Goes over the instances of a container, oldest first: each is found by its place.
 pub fn over_instances<T: Tree>(tree: &T, container: u64) -> Instances<'_, T>
     ensures { result ≡ instances_of container (T.nodes tree.now) }
 {
     Instances {
         tree,
         container,
-        last: None,
+        place: 0,
     }
 }
 
@@ -92,9 +93,8 @@ impl<'a, T: Tree> Iterator for Instances<'a, T> {
     ghost remaining = { item_count (λ rest. rest) };
 
     fn next(&mut self) -> Option<&'a Resource> {
-        let last = self.last.unwrap_or(0);
-        let number = self.tree.instance_after(self.container, last)?;
-        self.last = Some(number);
-        self.tree.get(number)
+        let next = instance_at(self.tree, self.container, self.place)?;
+        self.place += 1;
+        Some(next)
     }
 }

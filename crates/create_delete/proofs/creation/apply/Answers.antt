@@ -1,4 +1,4 @@
-use Rattle.std.proofs.Common.{◌≤◌, refl, sym, ap, ◌∙◌, subst}
+use Rattle.std.proofs.Common.{◌≡◌, ◌≤◌, true, refl, sym, ap, ◌∙◌, subst}
 use Rattle.std.specs.List.{AllByRecursion}
 use Rattle.notify_outbox.specs.declared.item.Item.{Item}
 use Rattle.entity_model.specs.Entity.{EntityData}
@@ -7,6 +7,10 @@ use Rattle.entity_model.proofs.WaitingLemmas.{waiting_each}
 use Rattle.create_delete.specs.Joining.{MayJoin}
 use Rattle.create_delete.specs.Telling.{joined_told}
 use Rattle.create_delete.proofs.CarriedLemmas.{appended, joined_ascend, joined_carried, joined_sound}
+use Rattle.tree_model.specs.Tree.{is_tree}
+use Rattle.tree_model.proofs.GrowthLemmas.{tree_from_well_formed}
+use Rattle.create_delete.specs.Changing.{nodes_joined}
+use Rattle.create_delete.proofs.RightCreateLemmas.{joins_sound}
 use Rattle.create_delete.proofs.creation.apply.Goals as goal
 
 pub prepare_creation-requires : goal.prepare_creation-requires
@@ -46,3 +50,12 @@ returns-clause-after g c =
     let may : MayJoin before r f = subst (λ (e : EntityData). MayJoin e r f) (sym c.entity.view_is) c.requires in
     joined_carried before r f c.in_ok-told.told c.entity.invariant may c.in_ok-told.ensures.told _ _ _ _ c.in_ok-put_new_resource.ensures.ok c.tell.ensures.nodes (appended before _ _ _ _ _ c.prepare_creation.ensures.items c.prepare_creation.ensures.count c.tell.ensures.items c.tell.ensures.count)
     ∙ ap (λ (e : EntityData). joined_told e r f) c.entity.view_is
+
+pub tell-requires-clause-tree : goal.tell-requires-clause-tree
+tell-requires-clause-tree g c =
+    let before : EntityData = record { home = c.entity.inside.home; nodes = g.T.Tree.nodes c.entity.inside.tree; next = c.entity.inside.next; last = c.entity.inside.last; items = c.entity.inside.outbox.items; numbered = c.entity.inside.outbox.count } in
+    let r = c.args.prepared.resource in
+    let f = c.args.prepared.update in
+    let may : MayJoin before r f = subst (λ (e : EntityData). MayJoin e r f) (sym c.entity.view_is) c.requires in
+    subst (λ nodes. is_tree nodes ≡ true) (sym c.in_ok-put_new_resource.ensures.ok)
+    (tree_from_well_formed (nodes_joined before.last before.nodes r f) (joins_sound before r f c.entity.invariant may).tree)

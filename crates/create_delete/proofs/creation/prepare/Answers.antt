@@ -14,18 +14,18 @@ use Rattle.create_delete.proofs.creation.prepare.Goals as goal
 pub created_content-requires : goal.created_content-requires
 created_content-requires g c =
     subst (λ (r : ResourceData). has r.parent c.args.entity.now.nodes ≡ true) (sym c.in_ok-resource.ensures)
-    (at_has c.args.create.now.parent.now.number c.args.entity.now.nodes c.args.create.now.parent.now c.requires.allowed.parent)
+    (at_has c.args.create.parent.now.number c.args.entity.now.nodes c.args.create.parent.now c.requires.allowed.parent)
 
 -- it may join as it is defined
 pub returns-clause-may : goal.returns-clause-may
 returns-clause-may g c =
-    let made : Creation = creation_for c.args.entity.now c.args.originator.now c.args.create.now in
+    let made : Creation = creation_for c.args.entity.now c.args.originator.now c.args.create in
     let joins : MayJoin made.e (new_resource made) (container_update_of made) = may_join made c.requires.sound c.requires.originator c.requires.allowed in
     subst (λ (r : ResourceData). MayJoin made.e r c.in_ok-update.update) (sym c.in_ok-resource.ensures)
     (subst (λ (f : Option ContainerUpdate). MayJoin made.e (new_resource made) f) (sym (c.in_ok-update.ensures c.args.originator.now)) joins)
 
 pub returns-clause-after : goal.returns-clause-after
 returns-clause-after g c =
-    let made : Creation = creation_for c.args.entity.now c.args.originator.now c.args.create.now in
+    let made : Creation = creation_for c.args.entity.now c.args.originator.now c.args.create in
     ap (λ (r : ResourceData). after_joining made.e r c.in_ok-update.update) c.in_ok-resource.ensures
     ∙ ap (after_joining made.e (new_resource made)) (c.in_ok-update.ensures c.args.originator.now)

@@ -7,6 +7,10 @@ use Rattle.entity_model.proofs.WaitingLemmas.{waiting_each}
 use Rattle.create_delete.specs.Telling.{removed_told}
 use Rattle.create_delete.proofs.CarriedLemmas.{appended, removed_carried, removed_told_sound}
 use Rattle.create_delete.proofs.DeletionLemmas.{is_deletable, deletable_there, deletable_spared}
+use Rattle.resource_model.specs.Resource.{has_number}
+use Rattle.tree_model.specs.Tree.{is_tree}
+use Rattle.tree_model.proofs.GrowthLemmas.{tree_from_well_formed}
+use Rattle.tree_model.proofs.KeptLemmas.{is_tree-without}
 use Rattle.create_delete.proofs.deletion.apply.Goals as goal
 
 pub prepare_deletion-requires-clause-there : goal.prepare_deletion-requires-clause-there
@@ -42,3 +46,9 @@ returns-clause-ok g c =
     let may : is_deletable c.args.target before ≡ true = subst (λ (e : EntityData). is_deletable c.args.target e ≡ true) (sym c.entity.view_is) c.requires in
     removed_carried before c.args.target c.in_ok-told.told c.entity.invariant (deletable_spared c.args.target before c.entity.invariant may) c.in_ok-told.ensures.told _ _ _ _ c.remove_subtree.ensures c.tell.ensures.nodes (appended before _ _ _ _ _ c.prepare_deletion.ensures.items c.prepare_deletion.ensures.count c.tell.ensures.items c.tell.ensures.count)
     ∙ ap (λ (e : EntityData). removed_told e c.args.target) c.entity.view_is
+
+pub tell-requires-clause-tree : goal.tell-requires-clause-tree
+tell-requires-clause-tree g c =
+    let nodes = g.T.Tree.nodes c.entity.inside.tree in
+    subst (λ nodes. is_tree nodes ≡ true) (sym c.remove_subtree.ensures)
+    (is_tree-without (has_number c.args.target) nodes (tree_from_well_formed nodes c.entity.invariant.tree))

@@ -1,33 +1,25 @@
-use Rattle.std.proofs.Common.{◌≡◌, ◌≤◌, ℕ, List, Some, sym, ap, ◌∙◌, subst}
+use Rattle.std.proofs.Common.{◌≡◌, ◌≤◌, ℕ, List, Some, true, sym, ap, ◌∙◌, subst}
 use Rattle.std.specs.List.{AllByRecursion}
 use Rattle.notify_outbox.specs.declared.item.Item.{Item}
 use Rattle.subscription_match.specs.Notices.{notes_of_all}
 use Rattle.tree_model.specs.Changes.{update_changes}
-use Rattle.tree_model.specs.Tree.{at, DoAscend}
+use Rattle.tree_model.specs.Tree.{at, is_tree, DoAscend}
 use Rattle.tree_model.proofs.GrowthLemmas.{tree_from_well_formed}
 use Rattle.entity_model.specs.Entity.{EntityData}
 use Rattle.entity_model.specs.Sound.{IsSoundEntity}
 use Rattle.entity_model.specs.Telling.{IsTold}
 use Rattle.entity_model.proofs.WaitingLemmas.{waiting_each}
-use Rattle.create_delete.specs.Changing.{pushed_by}
+use Rattle.create_delete.specs.Changing.{nodes_updated, pushed_by}
 use Rattle.create_delete.specs.NewResource.{IsReplacement}
 use Rattle.create_delete.specs.Telling.{updated_told}
 use Rattle.create_delete.proofs.CarriedLemmas.{appended, updated_carried, updated_told_sound}
 use Rattle.create_delete.proofs.PushingLemmas.{pushed_ascend}
-use Rattle.create_delete.proofs.ReplacedLemmas.{still_there, stood_there}
-use Rattle.create_delete.proofs.UpdatedLemmas.{updated_after}
+use Rattle.create_delete.proofs.ReplacedLemmas.{stood_there}
+use Rattle.create_delete.proofs.UpdatedLemmas.{sound_updated, updated_after}
 use Rattle.create_delete.proofs.updating.apply.Goals as goal
 
-pub prepare_update-requires-clause-there : goal.prepare_update-requires-clause-there
-prepare_update-requires-clause-there g c =
-    let before : EntityData = record { home = c.entity.inside.home; nodes = g.T.Tree.nodes c.entity.inside.tree; next = c.entity.inside.next; last = c.entity.inside.last; items = c.entity.inside.outbox.items; numbered = c.entity.inside.outbox.count } in
-    let now = c.args.prepared.resource in
-    let may : IsReplacement before now = subst (λ (e : EntityData). IsReplacement e now) (sym c.entity.view_is) c.requires.may in
-    let gone : c.args.prepared.gone ≡ pushed_by before now = subst (λ (e : EntityData). c.args.prepared.gone ≡ pushed_by e now) (sym c.entity.view_is) c.requires.gone in
-    still_there before.nodes now may.stood
-
-pub prepare_update-requires-clause-order : goal.prepare_update-requires-clause-order
-prepare_update-requires-clause-order g c =
+pub prepare_update-requires : goal.prepare_update-requires
+prepare_update-requires g c =
     let before : EntityData = record { home = c.entity.inside.home; nodes = g.T.Tree.nodes c.entity.inside.tree; next = c.entity.inside.next; last = c.entity.inside.last; items = c.entity.inside.outbox.items; numbered = c.entity.inside.outbox.count } in
     let now = c.args.prepared.resource in
     let may : IsReplacement before now = subst (λ (e : EntityData). IsReplacement e now) (sym c.entity.view_is) c.requires.may in
@@ -69,3 +61,12 @@ returns-clause-after g c r found =
     let first = updated_after before now _ _ _ c.replace.ensures (c.entries-2.ensures ∙ gone) c.remove_all.ensures in
     updated_carried before r now c.args.prepared.named c.args.prepared.gone c.in_ok-told.told c.entity.invariant may gone told _ _ _ _ first c.tell.ensures.nodes (appended before _ _ _ _ _ c.prepare_update.ensures.items c.prepare_update.ensures.count c.tell.ensures.items c.tell.ensures.count)
     ∙ ap (λ (e : EntityData). updated_told e r now c.args.prepared.named c.args.prepared.gone) c.entity.view_is
+
+pub tell-requires-clause-tree : goal.tell-requires-clause-tree
+tell-requires-clause-tree g c =
+    let before : EntityData = record { home = c.entity.inside.home; nodes = g.T.Tree.nodes c.entity.inside.tree; next = c.entity.inside.next; last = c.entity.inside.last; items = c.entity.inside.outbox.items; numbered = c.entity.inside.outbox.count } in
+    let now = c.args.prepared.resource in
+    let may : IsReplacement before now = subst (λ (e : EntityData). IsReplacement e now) (sym c.entity.view_is) c.requires.may in
+    let gone : c.args.prepared.gone ≡ pushed_by before now = subst (λ (e : EntityData). c.args.prepared.gone ≡ pushed_by e now) (sym c.entity.view_is) c.requires.gone in
+    subst (λ nodes. is_tree nodes ≡ true) (sym (updated_after before now _ _ _ c.replace.ensures (c.entries-2.ensures ∙ gone) c.remove_all.ensures))
+    (tree_from_well_formed (nodes_updated before now) (sound_updated before now c.entity.invariant may).tree)

@@ -4,17 +4,17 @@ use Rattle.cse_cli.proofs.http.send_behind.Goals as goal
 
 pub returns-in-Ok-clause-sends : goal.returns-in-Ok-clause-sends
 returns-in-Ok-clause-sends g c = λ left out. record {
-  result = c.send_notes.result;
-  sends = c.send_notes.ensures.sends;
+  result = c.send_alone.result;
+  sends = c.send_alone.ensures;
   left = refl;
   out = refl;
   status_is = sym (ap (status_behind c.args.whole) c.in-Ok.is);
 }
 
-pub returns-clause-sends : goal.returns-clause-sends
-returns-clause-sends g c = λ left out. record {
-  result = c.send_notes.result;
-  sends = c.send_notes.ensures.sends;
+pub returns-in-Err-clause-sends : goal.returns-in-Err-clause-sends
+returns-in-Err-clause-sends g c = λ left out. record {
+  result = c.send_alone.result;
+  sends = c.send_alone.ensures;
   left = refl;
   out = refl;
   status_is = sym (ap (status_behind c.args.whole) c.in-Err.is);

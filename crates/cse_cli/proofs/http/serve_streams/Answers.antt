@@ -17,7 +17,7 @@ returns-in_default-clause-runs g c = record {
 
 pub returns-clause-runs : goal.returns-clause-runs
 returns-clause-runs g c =
-    let served = c.serve_connection-ended in
+    let served = c.serve_alone-ended in
     let wire = c.new-wire in
     let read_name = first_name _ _ _ _ served.ensures.holds in
     let put_name = second_name _ _ _ _ served.ensures.holds in
@@ -45,7 +45,7 @@ returns-clause-runs g c =
 
 pub returns-clause-reads : goal.returns-clause-reads
 returns-clause-reads g c =
-    let served = c.serve_connection-ended in
+    let served = c.serve_alone-ended in
     let wire = c.new-wire in
     let now = g.S.Source.faults served.new.conn.input.now in
     after_lent (λ i. EndsByFault ReadFault c.finish.result (g.S.Source.faults c.args.input.now) (g.S.Source.faults i))
@@ -56,7 +56,7 @@ returns-clause-reads g c =
 
 pub returns-clause-writes : goal.returns-clause-writes
 returns-clause-writes g c =
-    let served = c.serve_connection-ended in
+    let served = c.serve_alone-ended in
     let wire = c.new-wire in
     let now = g.O.Sink.faults served.new.conn.out.now in
     after_lent (λ o. EndsByFault WriteFault c.finish.result (g.O.Sink.faults c.args.out.now) (g.O.Sink.faults o))

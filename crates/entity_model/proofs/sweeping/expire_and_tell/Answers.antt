@@ -1,8 +1,8 @@
-use Rattle.std.proofs.Common.{◌≡◌, ◌≤◌, sym, ap, ◌∙◌, subst, arith}
+use Rattle.std.proofs.Common.{◌≡◌, ◌≤◌, true, sym, ap, ◌∙◌, subst, arith}
 use Rattle.std.specs.List.{AllByRecursion}
 use Rattle.notify_outbox.specs.Outbox.{OutboxData}
 use Rattle.notify_outbox.specs.declared.item.Item.{Item}
-use Rattle.tree_model.specs.Tree.{has, live, overdue_numbers, DoAscend}
+use Rattle.tree_model.specs.Tree.{has, is_tree, live, overdue_numbers, DoAscend}
 use Rattle.std.specs.Prelude.{not}
 use Rattle.tree_model.proofs.GrowthLemmas.{ascending_from_tree, tree_from_well_formed}
 use Rattle.tree_model.proofs.ManyLemmas.{ascending_filter}
@@ -54,3 +54,10 @@ returns-clause-ok g c =
     let count : c.age.new.outbox.count ≡ before.numbered = ap (λ (o : OutboxData). o.count) c.age.ensures.items ∙ c.prepare_expiry.ensures.count in
     told_by_expiry before moment c.args.gone.now c.in_ok-told.told sound (tree_from_well_formed before.nodes c.entity.invariant.tree) gone c.in_ok-told.ensures.told _ _ _ _ _ _ c.age.ensures.nodes c.tell.ensures.nodes waiting count c.tell.ensures.items c.tell.ensures.count
     ∙ ap (expired_told moment) c.entity.view_is
+
+pub tell-requires-clause-tree : goal.tell-requires-clause-tree
+tell-requires-clause-tree g c =
+    let before : EntityData = record { home = c.entity.inside.home; nodes = g.T.Tree.nodes c.entity.inside.tree; next = c.entity.inside.next; last = c.entity.inside.last; items = c.entity.inside.outbox.items; numbered = c.entity.inside.outbox.count } in
+    let moment = c.args.moment in
+    let sound = sound_expired moment before (omega (arith, c.requires.later, ap (λ (e : EntityData). e.last) c.entity.view_is)) c.requires.last c.entity.invariant in
+    subst (λ nodes. is_tree nodes ≡ true) (sym c.age.ensures.nodes) (tree_from_well_formed (live moment before.nodes) sound.tree)

@@ -1,10 +1,15 @@
-use Rattle.std.proofs.Common.{ap, sym, ◌∙◌}
+use Rattle.std.proofs.Common.{ℕ, ap, sym, ◌∙◌, subst}
 use Rattle.std.specs.Int.RustNames.{bit_or}
-use Rattle.known_rights.specs.Tables.{lent_rules}
+use Rattle.known_rights.specs.Tables.{lent_rules, NotesOrStays}
 use Rattle.known_rights.proofs.BesidesLemmas.{rules_besides}
 use Rattle.known_rights.proofs.granting.with_policy.Goals as goal
 
 pub returns-clause-bits : goal.returns-clause-bits
-returns-clause-bits g c =
-    ap (bit_or c.args.bits) c.lent_bits.ensures.bits
+returns-clause-bits c =
+    ap (bit_or c.args.bits) c.read_bits-own.ensures
     ∙ sym (rules_besides c.args.asker.now.home c.args.asker.now.originator c.args.bits (lent_rules c.args.policy.now))
+
+pub returns-clause-policies : goal.returns-clause-policies
+returns-clause-policies c =
+    subst (λ (bits : ℕ). NotesOrStays c.args.known.now.policies c.note_bits.new.table c.args.policy.now.number bits) c.read_bits-own.ensures
+    (subst (λ (n : ℕ). NotesOrStays c.args.known.now.policies c.note_bits.new.table n c.read_bits-own.result) c.number.ensures.value c.note_bits.ensures)

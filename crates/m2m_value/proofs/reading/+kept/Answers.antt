@@ -61,10 +61,10 @@ kept_members-loop-key-preserved t c =
     let rest = c.next.new.self in
     let v = c.in_ok-kept.field-0 in
     let step : l.key-iterator ≡ e ∷ rest = grind (arith, common_steps) in
-    let pushed : c.push.new.self.items ≡ l.entries.items ++ (string_bytes e.0, v) ∷ [] = rw (← c.text.ensures.value) c.in_ok-push.ensures.items in (
+    let pushed : c.push.new.self.items ≡ l.entries.items ++ (string_bytes e.0, v) ∷ [] = rw (← c.key_of.ensures.value) c.in_ok-push.ensures.items in (
       l.invariant.0 ∙ ap (λ es. pairs_after_kept l.entries.items (pairs_in (members_view es))) step
           ∙ pair_kept l.entries.items c.push.new.self.items (string_bytes e.0) (view e.1) (members_view rest) v c.in_ok-kept.ensures pushed,
-      subst (λ es. AllByRecursion IsUtf8 (keys_of es)) (sym pushed) (text_keys-push l.entries.items (string_bytes e.0, v) l.invariant.1 c.text.ensures.utf8),
+      subst (λ es. AllByRecursion IsUtf8 (keys_of es)) (sym pushed) (text_keys-push l.entries.items (string_bytes e.0, v) l.invariant.1 c.key_of.ensures.utf8),
       l.invariant.2 ∙ ap (λ es. keys_of l.entries.items ++ map string_bytes (keys_of es)) step
           ∙ keys_of-push l.entries.items (string_bytes e.0, v) (map string_bytes (keys_of rest))
           ∙ ap (λ es. keys_of es ++ map string_bytes (keys_of rest)) (sym pushed),

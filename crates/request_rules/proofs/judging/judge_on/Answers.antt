@@ -24,5 +24,5 @@ returns-in-None g c =
     let back : List Check = content_places Update e c.args.request.now target ++ creation_places Update e c.args.originator.now c.args.request.now target in
     judges_rest c.judge_edit.result front back (IsUpdateOf e c.args.request.now target.number) (sym c.in-None.ensures) c.judge_edit.ensures
 
-pub judge_target-requires-clause-resource : goal.judge_target-requires-clause-resource
-judge_target-requires-clause-resource g c = at_has c.args.target.now.number c.args.entity.now.nodes c.args.target.now c.requires.stands
+pub judge_target-requires-clause-there : goal.judge_target-requires-clause-there
+judge_target-requires-clause-there g c = at_has c.args.target.now.number c.args.entity.now.nodes c.args.target.now c.requires.stands

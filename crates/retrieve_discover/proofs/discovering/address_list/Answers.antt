@@ -6,7 +6,7 @@ use Rattle.retrieve_discover.proofs.discovering.address_list.Goals as goal
 
 pub of-requires-2 : goal.of-requires-2
 of-requires-2 c =
-    let one : Entry = (c.in_ok-key.key, c.of_list.result) in
+    let one : Entry = (c.named-key.result, c.of_list.result) in
     let pushed : c.push.new.self.items ≡ c.in_ok-members.members.items ++ one ∷ [] = c.in_ok-push.ensures.items in
     let is : c.push.new.self.items ≡ one ∷ [] = pushed ∙ ap (λ (es : List Entry). es ++ one ∷ []) c.in_ok-members.ensures.items in
     subst AreSorted (sym is) (one_sorted one)

@@ -11,9 +11,9 @@ of-requires g c =
     let val : Data = c.in_ok-address.field-0 in
     let is : c.push-3.new.self.items ≡ (codes "nm", name) ∷ (codes "typ", typ) ∷ (codes "val", val) ∷ [] =
     pushed_three c.in_ok-members.members.items c.push.new.self.items c.push-2.new.self.items c.push-3.new.self.items (codes "nm", name) (codes "typ", typ) (codes "val", val) c.in_ok-members.ensures.items
-    (c.in_ok-push.ensures.items ∙ ap (λ (k : List ℕ). c.in_ok-members.members.items ++ (k, name) ∷ []) c.in_ok-from_slice.ensures)
-    (c.in_ok-push-2.ensures.items ∙ ap (λ (k : List ℕ). c.push.new.self.items ++ (k, typ) ∷ []) c.in_ok-from_slice-2.ensures)
-    (c.in_ok-push-3.ensures.items ∙ ap (λ (k : List ℕ). c.push-2.new.self.items ++ (k, val) ∷ []) c.in_ok-from_slice-3.ensures) in
+    (c.in_ok-push.ensures.items ∙ ap (λ (k : List ℕ). c.in_ok-members.members.items ++ (k, name) ∷ []) c.named.ensures)
+    (c.in_ok-push-2.ensures.items ∙ ap (λ (k : List ℕ). c.push.new.self.items ++ (k, typ) ∷ []) c.named-2.ensures)
+    (c.in_ok-push-3.ensures.items ∙ ap (λ (k : List ℕ). c.push-2.new.self.items ++ (k, val) ∷ []) c.named-3.ensures) in
     subst AreSorted (sym is) (reference_sorted name typ val)
 
 pub of_obj-requires : goal.of_obj-requires
@@ -23,7 +23,7 @@ of_obj-requires g c =
     let val : Data = c.in_ok-address.field-0 in
     let is : c.push-3.new.self.items ≡ (codes "nm", name) ∷ (codes "typ", typ) ∷ (codes "val", val) ∷ [] =
     pushed_three c.in_ok-members.members.items c.push.new.self.items c.push-2.new.self.items c.push-3.new.self.items (codes "nm", name) (codes "typ", typ) (codes "val", val) c.in_ok-members.ensures.items
-    (c.in_ok-push.ensures.items ∙ ap (λ (k : List ℕ). c.in_ok-members.members.items ++ (k, name) ∷ []) c.in_ok-from_slice.ensures)
-    (c.in_ok-push-2.ensures.items ∙ ap (λ (k : List ℕ). c.push.new.self.items ++ (k, typ) ∷ []) c.in_ok-from_slice-2.ensures)
-    (c.in_ok-push-3.ensures.items ∙ ap (λ (k : List ℕ). c.push-2.new.self.items ++ (k, val) ∷ []) c.in_ok-from_slice-3.ensures) in
+    (c.in_ok-push.ensures.items ∙ ap (λ (k : List ℕ). c.in_ok-members.members.items ++ (k, name) ∷ []) c.named.ensures)
+    (c.in_ok-push-2.ensures.items ∙ ap (λ (k : List ℕ). c.push.new.self.items ++ (k, typ) ∷ []) c.named-2.ensures)
+    (c.in_ok-push-3.ensures.items ∙ ap (λ (k : List ℕ). c.push-2.new.self.items ++ (k, val) ∷ []) c.named-3.ensures) in
     subst HaveTextKeys (sym (c.of.ensures ∙ is)) (reference_texts name typ val)

@@ -6,7 +6,7 @@ use Rattle.tree_model.proofs.showing.under_type.Goals as goal
 
 pub of-requires : goal.of-requires
 of-requires c =
-    let one : Entry = (c.in_ok-name.name, c.of_obj.result) in
+    let one : Entry = (c.named-name.result, c.of_obj.result) in
     let pushed : c.push.new.self.items ≡ c.in_ok-whole.whole.items ++ one ∷ [] = c.in_ok-push.ensures.items in
     let is : c.push.new.self.items ≡ one ∷ [] = pushed ∙ ap (λ (es : List Entry). es ++ one ∷ []) c.in_ok-whole.ensures.items in
     subst AreSorted (sym is) (one_sorted one)

@@ -7,4 +7,4 @@ use Rattle.resource_store.proofs.StoreLemmas.{empty_store}
 use Rattle.resource_store.proofs.store.Store.new.Goals as goal
 
 pub invariant_of-result : goal.invariant_of-result
-invariant_of-result c = empty_store c.new.result c.new-2.result.items c.new.ensures.empty c.new-2.ensures.items
+invariant_of-result c = empty_store c.with_hasher.result c.new.result.items c.with_hasher.ensures.empty c.new.ensures.items

@@ -1,6 +1,0 @@
-use Rattle.std.proofs.Common.{sym}
-use Rattle.tree_model.proofs.QuietLemmas.{quiet_live}
-use Rattle.entity_model.proofs.sweeping.expire.Goals as goal
-
-pub returns-then-moment-quiet : goal.returns-then-moment-quiet
-returns-then-moment-quiet g c = sym (quiet_live (g.T.Tree.nodes c.args.tree.now) c.quiet_until-quiet.result c.args.moment c.requires c.quiet_until-quiet.ensures c.if-moment-quiet.true)

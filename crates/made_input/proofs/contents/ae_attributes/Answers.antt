@@ -1,0 +1,13 @@
+use Rattle.std.proofs.Common.{IsUtf8, codes, refl, sym, subst}
+use Rattle.m2m_names.proofs.NameLemmas.{graphic_is_utf8}
+use Rattle.made_input.proofs.ContentLemmas.{three_texts}
+use Rattle.made_input.proofs.contents.ae_attributes.Goals as goal
+
+pub of_obj-requires : goal.of_obj-requires
+of_obj-requires c =
+    three_texts c.in_ok-members.members.items c.push.new.self.items c.push-2.new.self.items c.push-3.new.self.items c.of.result
+    c.named.result c.named-2.result c.named-3.result c.in_ok-text_of.field-0 c.in_ok-text_of-2.field-0 c.of_bool.result
+    c.in_ok-members.ensures.items c.in_ok-push.ensures.items c.in_ok-push-2.ensures.items c.in_ok-push-3.ensures.items c.of.ensures
+    (subst IsUtf8 (sym c.named.ensures) (graphic_is_utf8 (codes "api") refl))
+    (subst IsUtf8 (sym c.named-2.ensures) (graphic_is_utf8 (codes "rn") refl))
+    (subst IsUtf8 (sym c.named-3.ensures) (graphic_is_utf8 (codes "rr") refl))
