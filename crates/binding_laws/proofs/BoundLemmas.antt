@@ -1,50 +1,19 @@
 -- The frame of a request to another CSE binds to that request.
-use Rattle.std.proofs.Common.{◌≡◌, ℕ, ◌≤◌, true, false, not, cond, List, [], ◌∷◌, ◌++◌, map, length, codes, Option, Some, None, IfSome, IsTrue, IsUtf8, inl, inr, refl, sym, ap, subst, ◌∙◌, arith, length-append, append_assoc}
-use Rattle.std.specs.Prelude.{All, ℤ, pos, Ok, Err, Result, is_some, option_map, option_and_then}
-use Rattle.std.specs.Fmt.{decimal, signed_decimal}
-use Rattle.std.specs.List.{AllByRecursion, flat_map, list_all}
-use Rattle.std.specs.Option.{option_map_or}
-use Rattle.std.proofs.lemmas.Bool.{cond-true, cond-false, false≢true, lt-ltb, cases_Bool}
-use Rattle.m2m_names.specs.declared.operations.Op.{Op}
-use Rattle.m2m_names.specs.declared.operations.Op.TheVariants.{Create, Retrieve, Update, Notify, Delete as Removal}
-use Rattle.m2m_value.specs.Data.{Data, null, boolean, number, text, list, object, depth}
+use Rattle.binding_laws.proofs.Words.{◌≡◌, ℕ, ◌≤◌, Bool, true, false, not, cond, List, [], ◌∷◌, ◌++◌, map, length, codes, Option, Some, None, IfSome, IsTrue, IsUtf8, inl, inr, refl, sym, ap, subst, ◌∙◌, arith, length-append, append_assoc, All, ℤ, pos, Ok, Err, Result, is_some, option_map, option_and_then, decimal, signed_decimal, AllByRecursion, flat_map, list_all, option_map_or}
+use Rattle.binding_laws.proofs.Terms.{Op, Create, Retrieve, Update, Notify, Removal, Data, null, boolean, number, text, list, object, depth, asked_of, no_conditions, sort_of_condition, IsFilterOfKinds, IsValueOfKind, Condition, CreatedAfter, CreatedBefore, ExpireAfter, ExpireBefore, Usage, OneLabel, Limit, ModifiedSince, StateTagBigger, StateTagSmaller, SizeAbove, SizeBelow, OneType, UnmodifiedSince, OfEachCondition, ValueOf, Sort, FilterParts, address_forms, is_among, result_contents, only_where, head_text, Ask, When, is_type_number, where_it, and_then, Pair, decoded_pairs, form_spelled, result_spelled, with_form, with_result, query_said, said_by, target_of, Query, binding, caller_of, content_of, created_type, kept_result, method_of, object_only, request_of, value_in, is_some_text, body_of, admits_type, request_frame, target_text, filter_pairs, pairs_at, query_pairs, query_part, query_text, whole_texts, written_order, host_of, path_of_address}
+use Rattle.binding_laws.proofs.Facts.{cond-true, cond-false, false≢true, lt-ltb}
 use Rattle.m2m_value.specs.Reading.{reading, reading_depth}
 use Rattle.m2m_value.specs.Sound.{IsSound}
 use Rattle.m2m_value.specs.Spelling as json
 use Rattle.m2m_value.specs.View.{as_object}
 use Rattle.m2m_value.proofs.RoundTrip.{reading-text_of}
-use Rattle.filter_criteria.specs.Conditions.{asked_of, no_conditions, sort_of_condition}
-use Rattle.filter_criteria.specs.Laws.{IsFilterOfKinds, IsValueOfKind}
-use Rattle.filter_criteria.specs.declared.condition.Condition.{Condition}
-use Rattle.filter_criteria.specs.declared.condition.Condition.TheVariants.{CreatedAfter, CreatedBefore, ExpireAfter, ExpireBefore, Usage, OneLabel, Limit, ModifiedSince, StateTagBigger, StateTagSmaller, SizeAbove, SizeBelow, OneType, UnmodifiedSince}
-use Rattle.filter_criteria.specs.Conditions.{OfEachCondition, ValueOf}
-use Rattle.filter_criteria.specs.declared.condition.Sort.{Sort}
-use Rattle.filter_criteria.specs.declared.filter.FilterParts.{FilterParts}
 use Rattle.primitive_json.specs.Form.{has_fit_result, is_only_read}
-use Rattle.primitive_json.specs.Kinds.{address_forms, is_among, result_contents}
 use Rattle.primitive_json.specs.Members.{creates, has_content, has_result, retrieves}
-use Rattle.primitive_json.specs.Writing.{only_where}
 use Rattle.primitive_json.specs.declared.request.RequestParts.{RequestParts}
 use Rattle.primitive_json.proofs.FormLemmas.{KindByKind, kinds_apart}
-use Rattle.http_frames.specs.Text.{head_text}
 use Rattle.http_frames.specs.declared.frame.Frame.{Frame}
-use Rattle.http_frames.specs.declared.frame.Start.TheVariants.{Ask}
-use Rattle.primitive_json.specs.declared.request.When.{When}
-use Rattle.m2m_names.specs.Types.{is_type_number}
-use Rattle.filter_criteria.specs.Values.{where_it}
-use Rattle.http_target.specs.Chain.{and_then}
-use Rattle.http_target.specs.Queries.{Pair, decoded_pairs, form_spelled, result_spelled, with_form, with_result}
-use Rattle.http_target.specs.Said.{query_said, said_by, target_of}
 use Rattle.http_target.specs.declared.fault.BindFault.TheVariants as bind
-use Rattle.http_target.specs.declared.query.Query.{Query}
-use Rattle.http_binding.specs.Binding.{binding, caller_of, content_of, created_type, kept_result, method_of, object_only, request_of, value_in}
-use Rattle.http_binding.specs.Headers.{is_some_text}
 use Rattle.http_binding.specs.Methods.{method_text, operation_of}
-use Rattle.http_binding.specs.Replying.{body_of}
-use Rattle.http_binding.specs.MediaTypes.{admits_type}
-use Rattle.http_client_binding.specs.Asking.{request_frame, target_text}
-use Rattle.http_client_binding.specs.QueryWriting.{filter_pairs, pairs_at, query_pairs, query_part, query_text, whole_texts, written_order}
-use Rattle.http_client_binding.specs.TargetWriting.{host_of, path_of_address}
 use Rattle.http_client_binding.specs.declared.target.Aim.TheVariants.{Peer}
 use Rattle.binding_laws.specs.ReadBack.{AreAlike, IsTellable, SaysAll, RequestIsBoundBack}
 use Rattle.binding_laws.proofs.FilterLemmas.{IsFilled, SaysFilter, filter_back, query_with}
@@ -210,12 +179,14 @@ created_same : (op : Op) (ty : Option ℕ) → is_some ty ≡ creates op → cre
 created_same op None there = cond-false _ _ _ (sym there)
 created_same op (Some n) there = cond-true _ _ _ (sym there)
 
+-- a parameter that is read where it is there is left as it is
+only_read : {A : Type 0} (reads : Bool) (value : Option A) → is_only_read reads value ≡ true → only_where reads value ≡ value
+only_read true value read = refl
+only_read false None read = refl
+only_read false (Some x) read = absurd (false≢true read)
+
 kept_same : (op : Op) (rcn : Option ℤ) → is_only_read (has_result op) rcn ≡ true → kept_result op rcn ≡ rcn
-kept_same op None read = elim (cases_Bool (has_result op)) [ inl t ↦ cond-true _ _ _ t | inr f ↦ cond-false _ _ _ f ]
-kept_same op (Some z) read = elim (cases_Bool (has_result op)) [
-  | inl t ↦ cond-true _ _ _ t
-  | inr f ↦ absurd (false≢true (rw f at read))
-]
+kept_same op rcn read = only_read (has_result op) rcn read
 
 creates_content : (op : Op) → creates op ≡ true → has_content op ≡ true
 creates_content Create h = refl

@@ -1,10 +1,8 @@
 -- Texts cut at a byte.
-use Rattle.std.proofs.Common.{◌≡◌, ℕ, suc, ◌+◌, ◌<◌, ◌==◌, Bool, true, false, not, cond, List, [], ◌∷◌, ◌++◌, length, take, drop, Option, Some, None, refl, sym, ap, ◌∙◌, arith, length-append}
-use Rattle.std.specs.Prelude.{nat_lt}
-use Rattle.std.specs.List.{list_all, onto_first, prefix_len, slice_split}
-use Rattle.std.proofs.lemmas.Bool.{and_parts, cond-true, cond-false, lt-ltb, le-ltb, not-true}
-use Rattle.std.proofs.lemmas.List.{take_all}
-use Rattle.http_uri.specs.ByteClasses.{index_of, split_once_front, split_once_back}
+use Rattle.binding_laws.proofs.Words.{◌≡◌, ℕ, suc, ◌+◌, ◌<◌, ◌==◌, Bool, true, false, not, cond, List, [], ◌∷◌, ◌++◌, length, take, drop, Option, Some, None, refl, sym, ap, ◌∙◌, arith, length-append, nat_lt, list_all, onto_first, prefix_len, slice_split}
+use Rattle.binding_laws.proofs.Terms.{index_of, split_once_front, split_once_back}
+use Rattle.binding_laws.proofs.Facts.{cond-true, cond-false, lt-ltb, le-ltb, not-true, take_all}
+use Rattle.binding_laws.proofs.EachLemmas.{each_parts}
 
 -- a byte that isn't this one
 abbrev pub is_other : ℕ → ℕ → Bool
@@ -14,17 +12,17 @@ is_other byte b = not (b == byte)
 index_at : (byte : ℕ) (xs ys : List ℕ) → (byte == byte) ≡ true → list_all (is_other byte) xs ≡ true → index_of byte (xs ++ byte ∷ ys) ≡ length xs
 index_at byte [] ys same none = ap (λ t. cond (not t) (1 + index_of byte ys) 0) same
 index_at byte (x ∷ xs) ys same none =
-    let parts = and_parts (is_other byte x) (list_all (is_other byte) xs) none in
-    let later = index_at byte xs ys same parts.1 in
-    ap (λ t. cond t (1 + index_of byte (xs ++ byte ∷ ys)) 0) parts.0 ∙ omega (arith, later)
+    let parts = each_parts (is_other byte) x xs none in
+    let later = index_at byte xs ys same parts.rest in
+    ap (λ t. cond t (1 + index_of byte (xs ++ byte ∷ ys)) 0) parts.first ∙ omega (arith, later)
 
 -- it stands nowhere
 index_none : (byte : ℕ) (xs : List ℕ) → list_all (is_other byte) xs ≡ true → index_of byte xs ≡ length xs
 index_none byte [] none = refl
 index_none byte (x ∷ xs) none =
-    let parts = and_parts (is_other byte x) (list_all (is_other byte) xs) none in
-    let later = index_none byte xs parts.1 in
-    ap (λ t. cond t (1 + index_of byte xs) 0) parts.0 ∙ omega (arith, later)
+    let parts = each_parts (is_other byte) x xs none in
+    let later = index_none byte xs parts.rest in
+    ap (λ t. cond t (1 + index_of byte xs) 0) parts.first ∙ omega (arith, later)
 
 take_front : (xs ys : List ℕ) → take (length xs) (xs ++ ys) ≡ xs
 take_front [] ys = refl
@@ -57,5 +55,5 @@ back_none byte xs none =
 pub split_none : (byte : ℕ) (xs : List ℕ) → list_all (is_other byte) xs ≡ true → slice_split (λ b. b == byte) xs ≡ xs ∷ []
 split_none byte [] none = refl
 split_none byte (x ∷ xs) none =
-    let parts = and_parts (is_other byte x) (list_all (is_other byte) xs) none in
-    cond-false _ _ _ (not-true (x == byte) parts.0) ∙ ap (onto_first x) (split_none byte xs parts.1)
+    let parts = each_parts (is_other byte) x xs none in
+    cond-false _ _ _ (not-true (x == byte) parts.first) ∙ ap (onto_first x) (split_none byte xs parts.rest)

@@ -1,33 +1,13 @@
 -- The conditions of a filter are read from the pairs that are written of it.
-use Rattle.std.proofs.Common.{◌≡◌, ℕ, ◌<◌, ◌^◌, true, List, [], ◌∷◌, ◌++◌, map, Option, Some, None, IfSome, IsTrue, ◌⊎◌, inl, inr, refl, sym, ap, subst, ◌∙◌, append-nil, append_assoc, arith}
-use Rattle.std.specs.Prelude.{ℤ, pos, Ok, Err, option_map, option_and_then, unwrap_or}
-use Rattle.std.specs.Fmt.{decimal, signed_decimal}
-use Rattle.std.specs.List.{AllByRecursion, flat_map}
-use Rattle.std.specs.Option.{option_map_or}
-use Rattle.std.proofs.lemmas.Bool.{and_parts}
+use Rattle.binding_laws.proofs.Words.{◌≡◌, ℕ, ◌<◌, ◌^◌, true, List, [], ◌∷◌, ◌++◌, map, Option, Some, None, IfSome, IsTrue, ◌⊎◌, inl, inr, refl, sym, ap, subst, ◌∙◌, append-nil, append_assoc, arith, ℤ, pos, Ok, Err, option_map, option_and_then, unwrap_or, decimal, signed_decimal, AllByRecursion, flat_map, option_map_or}
+use Rattle.binding_laws.proofs.Terms.{timestamp, Retrieve, number_spelled, is_type_number, is_label_text, IsMoment, ValueOf, FilterField, filter_field, asked_of, name_of_condition, sort_of_condition, no_conditions, usage_number, usage_numbered, IsValueOfKind, are_labels, are_type_numbers, Condition, CreatedAfter, CreatedBefore, ExpireAfter, ExpireBefore, Usage, OneLabel, Limit, ModifiedSince, StateTagBigger, StateTagSmaller, SizeAbove, SizeBelow, OneType, UnmodifiedSince, Sort, Moment, Count, Labels, Types, Use, FilterParts, Discovery, Conditional, and_then, Pair, labels_spelled, pair_said, placed, said_more, types_spelled, usage_spelled, with_condition, with_filter, with_text, said_by, Query, condition_pairs, condition_texts, filter_pairs, pairs_at, texts_of_sort, written_order}
+use Rattle.binding_laws.proofs.Facts.{moment_at-timestamp}
 use Rattle.std.proofs.lemmas.Option.{same_Some}
 use Rattle.m2m_names.specs.StampReading.{moment_at}
-use Rattle.m2m_names.specs.Stamps.{timestamp}
-use Rattle.m2m_names.specs.declared.operations.Op.TheVariants.{Retrieve}
-use Rattle.m2m_names.proofs.StampReadingLemmas.{moment_at-timestamp}
-use Rattle.m2m_names.specs.Ids.{number_spelled}
-use Rattle.filter_criteria.specs.Bounds.{IsMoment}
-use Rattle.filter_criteria.specs.Conditions.{ValueOf, FilterField, filter_field, asked_of, name_of_condition, sort_of_condition, no_conditions, usage_number, usage_numbered}
-use Rattle.filter_criteria.specs.Laws.{IsValueOfKind, are_labels, are_type_numbers}
-use Rattle.filter_criteria.specs.declared.condition.Condition.{Condition}
-use Rattle.filter_criteria.specs.declared.condition.Condition.TheVariants.{CreatedAfter, CreatedBefore, ExpireAfter, ExpireBefore, Usage, OneLabel, Limit, ModifiedSince, StateTagBigger, StateTagSmaller, SizeAbove, SizeBelow, OneType, UnmodifiedSince}
-use Rattle.filter_criteria.specs.declared.condition.Sort.{Sort}
-use Rattle.filter_criteria.specs.declared.condition.Sort.TheVariants.{Moment, Count, Labels, Types, Use}
-use Rattle.filter_criteria.specs.declared.filter.FilterParts.{FilterParts}
 use Rattle.filter_criteria.specs.declared.filter.FilterUsage.{FilterUsage}
-use Rattle.filter_criteria.specs.declared.filter.FilterUsage.TheVariants.{Discovery, Conditional}
-use Rattle.http_target.specs.Chain.{and_then}
-use Rattle.http_target.specs.Queries.{Pair, labels_spelled, pair_said, placed, said_more, types_spelled, usage_spelled, with_condition, with_filter, with_text}
-use Rattle.http_target.specs.Said.{said_by}
 use Rattle.http_target.specs.declared.fault.BindFault.TheVariants as bind
-use Rattle.http_target.specs.declared.query.Query.{Query}
-use Rattle.http_client_binding.specs.QueryWriting.{condition_pairs, condition_texts, filter_pairs, pairs_at, texts_of_sort, written_order}
 use Rattle.binding_laws.specs.ReadBack.{IsOneWord, IsTellable}
+use Rattle.binding_laws.proofs.EachLemmas.{each_parts}
 use Rattle.binding_laws.proofs.TextLemmas.{label_back, number_back, short_by, type_back, whole_back}
 
 -- ---- fields
@@ -79,11 +59,11 @@ labels_on : (field : FilterField (List (List ℕ))) → IsField field → (label
     → said_texts Labels field labels p ≡ Some (field.with_value (field.value p ++ labels) p)
 labels_on field law [] p kinds words = ap Some (sym (law.same p) ∙ ap (λ v. field.with_value v p) (sym (append-nil (field.value p))))
 labels_on field law (label ∷ labels) p kinds words =
-    let parts = and_parts _ (are_labels labels) kinds in
+    let parts = each_parts is_label_text label labels kinds in
     let next : FilterParts = field.with_value (field.value p ++ label ∷ []) p in
-    let said : labels_spelled label ≡ Some (label ∷ []) = label_back label parts.0 words.0.utf8 words.0.word in
+    let said : labels_spelled label ≡ Some (label ∷ []) = label_back label parts.first words.0.utf8 words.0.word in
     ap (λ (more : Option (List (List ℕ))). option_and_then (said_texts Labels field labels) (option_map (λ values. field.with_value (field.value p ++ values) p) more)) said
-    ∙ labels_on field law labels next parts.1 words.1
+    ∙ labels_on field law labels next parts.rest words.1
     ∙ ap Some (law.again (field.value next ++ labels) (field.value p ++ label ∷ []) p)
     ∙ ap (λ v. Some (field.with_value (v ++ labels) p)) (law.told (field.value p ++ label ∷ []) p)
     ∙ ap (λ v. Some (field.with_value v p)) (append_assoc (field.value p) (label ∷ []) labels)
@@ -92,11 +72,11 @@ types_on : (field : FilterField (List ℕ)) → IsField field → (types : List 
     → said_texts Types field (map decimal types) p ≡ Some (field.with_value (field.value p ++ types) p)
 types_on field law [] p kinds = ap Some (sym (law.same p) ∙ ap (λ v. field.with_value v p) (sym (append-nil (field.value p))))
 types_on field law (n ∷ types) p kinds =
-    let parts = and_parts _ (are_type_numbers types) kinds in
+    let parts = each_parts is_type_number n types kinds in
     let next : FilterParts = field.with_value (field.value p ++ n ∷ []) p in
-    let said : types_spelled (decimal n) ≡ Some (n ∷ []) = type_back n parts.0 in
+    let said : types_spelled (decimal n) ≡ Some (n ∷ []) = type_back n parts.first in
     ap (λ (more : Option (List ℕ)). option_and_then (said_texts Types field (map decimal types)) (option_map (λ values. field.with_value (field.value p ++ values) p) more)) said
-    ∙ types_on field law types next parts.1
+    ∙ types_on field law types next parts.rest
     ∙ ap Some (law.again (field.value next ++ types) (field.value p ++ n ∷ []) p)
     ∙ ap (λ v. Some (field.with_value (v ++ types) p)) (law.told (field.value p ++ n ∷ []) p)
     ∙ ap (λ v. Some (field.with_value v p)) (append_assoc (field.value p) (n ∷ []) types)

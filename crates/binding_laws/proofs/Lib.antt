@@ -1,3 +1,7 @@
+pub mod Words
+pub mod Terms
+pub mod Facts
+pub mod EachLemmas
 pub mod TextLemmas
 pub mod CutLemmas
 pub mod TypeLemmas

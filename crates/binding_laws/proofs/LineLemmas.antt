@@ -1,29 +1,12 @@
 -- The caller that the lines of a request name is the one that they were written of.
-use Rattle.std.proofs.Common.{◌≡◌, ℕ, ◌<◌, ◌^◌, ◌==◌, Bool, true, false, not, ◌&&◌, ◌||◌, cond, List, [], ◌∷◌, ◌++◌, length, codes, Option, Some, None, IfSome, IsTrue, refl, sym, ap, ◌∙◌, arith}
-use Rattle.std.specs.Prelude.{Ok, Result, is_some, option_map, option_and_then}
-use Rattle.std.specs.Fmt.{decimal}
-use Rattle.std.specs.Option.{option_map_or, option_to_list}
-use Rattle.std.specs.List.{list_all}
-use Rattle.std.proofs.lemmas.Bool.{cond-true, false≢true, lt-ltb}
-use Rattle.m2m_names.specs.Name.{is_originator}
-use Rattle.m2m_names.specs.Types.{is_type_number}
-use Rattle.m2m_value.specs.Data.{Data}
+use Rattle.binding_laws.proofs.Words.{◌≡◌, ℕ, ◌<◌, ◌^◌, ◌==◌, Bool, true, false, not, ◌&&◌, ◌||◌, cond, List, [], ◌∷◌, ◌++◌, length, codes, Option, Some, None, IfSome, IsTrue, refl, sym, ap, ◌∙◌, arith, Ok, Result, is_some, option_map, option_and_then, decimal, option_map_or, option_to_list, list_all}
+use Rattle.binding_laws.proofs.Terms.{is_originator, is_type_number, Data, expiry_spelled, expiry_text, When, Line, values_named, and_then, caller_of, header_values, unless_empty, is_some_text, origin_field, id_field, expiry_field, type_field, length_field, admits_type, is_short_number, json_type, type_number, type_said, content_lines, content_type, close_lines, id_lines, Op, Create, Retrieve, Update, Notify, Removal, host_field, origin_lines, expiry_lines}
+use Rattle.binding_laws.proofs.Facts.{cond-true, false≢true, lt-ltb}
 use Rattle.primitive_json.specs.Bounds.{is_request_id}
-use Rattle.primitive_json.specs.Kinds.{expiry_spelled}
 use Rattle.primitive_json.specs.Laws.{IsShortWhen, IsWhenOfKind}
-use Rattle.primitive_json.specs.Writing.{expiry_text}
-use Rattle.primitive_json.specs.declared.request.When.{When}
 use Rattle.primitive_json.proofs.KindLemmas.{expiry_back}
-use Rattle.http_frames.specs.Lines.{Line, is_same_name, values_named}
-use Rattle.http_target.specs.Chain.{and_then}
+use Rattle.http_frames.specs.Lines.{is_same_name}
 use Rattle.http_target.specs.declared.fault.BindFault.{BindFault}
-use Rattle.http_binding.specs.Binding.{caller_of, header_values, unless_empty}
-use Rattle.http_binding.specs.Headers.{is_some_text, origin_field, id_field, expiry_field, type_field, length_field}
-use Rattle.http_binding.specs.MediaTypes.{admits_type, is_short_number, json_type, type_number, type_said}
-use Rattle.http_binding.specs.Replying.{content_lines, content_type, close_lines, id_lines}
-use Rattle.m2m_names.specs.declared.operations.Op.{Op}
-use Rattle.m2m_names.specs.declared.operations.Op.TheVariants.{Create, Retrieve, Update, Notify, Delete as Removal}
-use Rattle.http_client_binding.specs.Asking.{host_field, origin_lines, expiry_lines}
 use Rattle.binding_laws.proofs.TypeLemmas.{type_back_said}
 
 -- the lines of a request

@@ -1,33 +1,12 @@
 -- The pairs of a query are read from its text.
-use Rattle.std.proofs.Common.{◌≡◌, ℕ, ◌<◌, ◌^◌, true, List, [], ◌∷◌, ◌++◌, map, Option, Some, None, IfSome, IsUtf8, refl, ap, subst, sym, ◌∙◌, arith}
-use Rattle.std.specs.Prelude.{All, ℤ, nat_lt}
-use Rattle.std.specs.Fmt.{decimal, signed_decimal}
-use Rattle.std.specs.Int.{IsInRange}
-use Rattle.std.specs.List.{AllByRecursion, flat_map, list_all}
+use Rattle.binding_laws.proofs.Words.{◌≡◌, ℕ, ◌<◌, ◌^◌, true, List, [], ◌∷◌, ◌++◌, map, Option, Some, None, IfSome, IsUtf8, refl, ap, subst, sym, ◌∙◌, arith, All, ℤ, nat_lt, decimal, signed_decimal, IsInRange, AllByRecursion, flat_map, list_all}
+use Rattle.binding_laws.proofs.Terms.{decode, extend_pairs, raw_pairs, timestamp, IsMoment, ValueOf, asked_of, name_of_condition, sort_of_condition, usage_number, IsValueOfKind, are_type_numbers, Condition, CreatedAfter, CreatedBefore, ExpireAfter, ExpireBefore, Usage, OneLabel, Limit, ModifiedSince, StateTagBigger, StateTagSmaller, SizeAbove, SizeBelow, OneType, UnmodifiedSince, Sort, Moment, Count, Labels, Types, Use, FilterParts, Discovery, Conditional, is_type_number, Pair, decoded_pair, decoded_pairs, condition_pairs, condition_texts, pairs_at, texts_of_sort, whole_texts}
+use Rattle.binding_laws.proofs.Facts.{lt-ltb, ltb-true, All-nil, All-cons, IsUtf8-from_ascii, utf8_lossy-IsUtf8, IsAscii-from_all, IsBytePair, round_trip, timestamp_is}
 use Rattle.std.specs.Str.Lossy.{utf8_lossy}
-use Rattle.std.proofs.lemmas.Bool.{and_from, and_parts, lt-ltb, ltb-true}
-use Rattle.std.proofs.lemmas.List.Elements.{All-nil, All-cons}
-use Rattle.std.proofs.lemmas.Str.{IsUtf8-from_ascii, utf8_lossy-IsUtf8}
-use Rattle.std.proofs.lemmas.Str.Ascii.{IsAscii-from_all}
 use Rattle.percent_encoding.proofs.PercentLemmas.{IsByte}
-use Rattle.form_urlencoded.specs.Form.{decode, extend_pairs, raw_pairs}
-use Rattle.form_urlencoded.proofs.FormLemmas.{IsBytePair, round_trip}
-use Rattle.m2m_names.specs.Stamps.{timestamp}
-use Rattle.m2m_names.proofs.StampReadingLemmas.{timestamp_is}
 use Rattle.m2m_names.proofs.StampTextLemmas.{each_of_timestamp}
-use Rattle.filter_criteria.specs.Bounds.{IsMoment}
-use Rattle.filter_criteria.specs.Conditions.{ValueOf, asked_of, name_of_condition, sort_of_condition, usage_number}
-use Rattle.filter_criteria.specs.Laws.{IsValueOfKind, are_type_numbers}
-use Rattle.filter_criteria.specs.declared.condition.Condition.{Condition}
-use Rattle.filter_criteria.specs.declared.condition.Condition.TheVariants.{CreatedAfter, CreatedBefore, ExpireAfter, ExpireBefore, Usage, OneLabel, Limit, ModifiedSince, StateTagBigger, StateTagSmaller, SizeAbove, SizeBelow, OneType, UnmodifiedSince}
-use Rattle.filter_criteria.specs.declared.condition.Sort.{Sort}
-use Rattle.filter_criteria.specs.declared.condition.Sort.TheVariants.{Moment, Count, Labels, Types, Use}
-use Rattle.filter_criteria.specs.declared.filter.FilterParts.{FilterParts}
-use Rattle.filter_criteria.specs.declared.filter.FilterUsage.TheVariants.{Discovery, Conditional}
-use Rattle.m2m_names.specs.Types.{is_type_number}
-use Rattle.http_target.specs.Queries.{Pair, decoded_pair, decoded_pairs}
-use Rattle.http_client_binding.specs.QueryWriting.{condition_pairs, condition_texts, pairs_at, texts_of_sort, whole_texts}
 use Rattle.binding_laws.specs.ReadBack.{IsOneWord, IsTellable}
+use Rattle.binding_laws.proofs.EachLemmas.{each_parts}
 use Rattle.binding_laws.proofs.TextLemmas.{IsShort, decimal_bytes, decimal_utf8, short_by, type_small}
 
 -- ---- what is decoded
@@ -70,8 +49,8 @@ pairs_back pairs plain =
 below : (n : ℕ) (text : List ℕ) → list_all (λ b. nat_lt b n) text ≡ true → AllByRecursion (λ (b : ℕ). b < n) text
 below n [] h = tt
 below n (b ∷ text) h =
-    let parts = and_parts (nat_lt b n) (list_all (λ c. nat_lt c n) text) h in
-    (ltb-true b n parts.0, below n text parts.1)
+    let parts = each_parts (λ c. nat_lt c n) b text h in
+    (ltb-true b n parts.first, below n text parts.rest)
 
 ascii_all : (text : List ℕ) → AllByRecursion (λ (b : ℕ). b < 128) text → All (λ (b : ℕ). b < 128) text
 ascii_all [] h = All-nil (λ (b : ℕ). b < 128)
@@ -115,8 +94,8 @@ texts_plain Types types kind told = types_plain types kind
     types_plain : (types : List ℕ) → are_type_numbers types ≡ true → AllByRecursion IsPlain (map decimal types)
     types_plain [] kind = tt
     types_plain (n ∷ types) kind =
-        let parts = and_parts (is_type_number n) (are_type_numbers types) kind in
-        (decimal_plain n (type_small n parts.0), types_plain types parts.1)
+        let parts = each_parts is_type_number n types kind in
+        (decimal_plain n (type_small n parts.first), types_plain types parts.rest)
 texts_plain Use None kind told = tt
 texts_plain Use (Some Discovery) kind told = (short_plain (usage_number Discovery) (short_by 1 (omega arith)), tt)
 texts_plain Use (Some Conditional) kind told = (short_plain (usage_number Conditional) (short_by 2 (omega arith)), tt)

@@ -1,81 +1,67 @@
 -- The target of a request to another CSE says its address and its query.
-use Rattle.std.proofs.Common.{◌≡◌, ℕ, ◌≤◌, ◌==◌, ◌&&◌, Bool, true, not, cond, nat_eq, nat_lt, List, [], ◌∷◌, ◌++◌, length, drop, codes, Option, Some, IsTrue, IsUtf8, inl, inr, refl, sym, ap, subst, ◌∙◌, arith, append-nil}
-use Rattle.std.specs.Prelude.{Ok, Err, unwrap_or}
-use Rattle.std.specs.List.{list_all, starts_with}
-use Rattle.std.specs.Option.{option_map_or}
-use Rattle.std.proofs.lemmas.Bool.{and_from, and_parts, cases_Bool, cond-true, cond-false, le-leb, lt-ltb, ne_eqb}
-use Rattle.std.proofs.lemmas.Bool.Decides.{nat_tests}
-use Rattle.std.proofs.lemmas.List.Elements.{All-weaker}
-use Rattle.std.proofs.lemmas.List.Sums.{list_all-from_AllPass}
-use Rattle.std.proofs.lemmas.Str.{is_utf8-from_IsUtf8}
-use Rattle.form_urlencoded.specs.Form.{append_pair, byte_serialize, extend_pairs, is_nonempty, separator, serialize_pair}
-use Rattle.form_urlencoded.proofs.FormLemmas.{IsSerializedByte, All-byte_serialize}
-use Rattle.http_uri.specs.ByteClasses.{is_path_byte, is_query_byte, percent_sign, slash, split_once_front, split_once_back}
+use Rattle.binding_laws.proofs.Words.{◌≡◌, ℕ, ◌<◌, ◌≤◌, ◌==◌, ◌&&◌, Bool, true, not, cond, nat_eq, List, [], ◌∷◌, ◌++◌, length, drop, codes, Option, Some, IsTrue, IsUtf8, inl, inr, refl, sym, ap, subst, ◌∙◌, arith, append-nil, Ok, Err, unwrap_or, list_all, starts_with, option_map_or}
+use Rattle.binding_laws.proofs.Terms.{append_pair, byte_serialize, extend_pairs, is_nonempty, separator, serialize_pair, is_path_byte, is_query_byte, percent_sign, slash, split_once_front, split_once_back, is_filled, Ask, Pair, said_by_target, target_of, is_some_text, target_limit, query_part, has_own_path, path_of_address}
+use Rattle.binding_laws.proofs.Facts.{and_from, and_parts, cond_both, cond-true, cond-false, le-leb, lt-ltb, ltb-true, ne_eqb, nat_tests, All-weaker, list_all-from_AllPass, is_utf8-from_IsUtf8, IsSerializedByte, All-byte_serialize, all_weaker}
+use Rattle.std.proofs.Common.{nat_lt}
+use Rattle.std.proofs.lemmas.List.Folds.{list_all-append}
 use Rattle.http_uri.specs.Grammar.{or_slash, path_of, without_fragment}
-use Rattle.m2m_names.specs.Name.{is_filled}
-use Rattle.http_frames.specs.declared.frame.Start.TheVariants.{Ask}
 use Rattle.http_target.specs.declared.fault.BindFault.TheVariants as bind
-use Rattle.http_target.specs.Queries.{Pair}
-use Rattle.http_target.specs.Said.{said_by_target, target_of}
 use Rattle.http_target.specs.Targets.{TargetValues, address_of_path, is_origin_form, is_path_and_query, is_target, is_uncoded_byte, split_target, target_parts, target_values, with_tildes}
 use Rattle.http_target.proofs.TargetLemmas.{tildes_kept}
-use Rattle.http_binding.specs.Headers.{is_some_text}
-use Rattle.primitive_json.specs.Kinds.{target_limit}
-use Rattle.http_client_binding.specs.QueryWriting.{query_part}
-use Rattle.http_client_binding.specs.TargetWriting.{has_own_path, path_of_address}
 use Rattle.http_client_binding.proofs.AddressLemmas.{address_back}
 use Rattle.binding_laws.specs.ReadBack.{is_address_byte}
+use Rattle.binding_laws.proofs.EachLemmas.{each_parts}
 use Rattle.binding_laws.proofs.CutLemmas.{back_at, back_none, front_at, front_none, is_other}
 
 -- ---- bytes
 
 -- what holds of each byte of two texts
 pub all_append : (p : ℕ → Bool) (xs ys : List ℕ) → list_all p xs ≡ true → list_all p ys ≡ true → list_all p (xs ++ ys) ≡ true
-all_append p [] ys a b = b
-all_append p (x ∷ xs) ys a b =
-    let parts = and_parts (p x) (list_all p xs) a in
-    and_from _ _ parts.0 (all_append p xs ys parts.1 b)
-
-pub all_weaker : (p q : ℕ → Bool) → ((b : ℕ) → p b ≡ true → q b ≡ true) → (xs : List ℕ) → list_all p xs ≡ true → list_all q xs ≡ true
-all_weaker p q f [] a = refl
-all_weaker p q f (x ∷ xs) a =
-    let parts = and_parts (p x) (list_all p xs) a in
-    and_from _ _ (f x parts.0) (all_weaker p q f xs parts.1)
+all_append p xs ys a b = list_all-append p xs ys ∙ and_from _ _ a b
 
 pub all_drop : (p : ℕ → Bool) (xs : List ℕ) → list_all p xs ≡ true → list_all p (drop 1 xs) ≡ true
 all_drop p [] a = refl
-all_drop p (x ∷ xs) a = (and_parts (p x) (list_all p xs) a).1
+all_drop p (x ∷ xs) a = (each_parts p x xs a).rest
 
--- the path of an address
+-- a byte that passes a test, and is ASCII
+pub record IsAsciiOf (p : ℕ → Bool) (b : ℕ) : Type 0 where
+  pub passes : p b ≡ true
+  pub ascii : b < 128
+
+pub ascii_parts : (p : ℕ → Bool) (b : ℕ) → (p b && nat_lt b 128) ≡ true → IsAsciiOf p b
+ascii_parts p b h =
+    let parts = and_parts (p b) (nat_lt b 128) h in
+    record { passes = parts.0; ascii = ltb-true b 128 parts.1 }
+
+-- a byte of an address is one of a path, and stands for itself
+record IsAddressByte (b : ℕ) : Type 0 where
+  path : is_path_byte b ≡ true
+  uncoded : is_uncoded_byte b ≡ true
+
+address_parts : (b : ℕ) → is_address_byte b ≡ true → IsAddressByte b
+address_parts b h =
+    let parts = and_parts (is_path_byte b) (not (b == percent_sign)) h in
+    record { path = parts.0; uncoded = parts.1 }
+
+-- the path of an address is one of three texts, and what holds of each holds of it
+pub path_holds : (P : List ℕ → Type 0) (to : List ℕ) → P (codes "/_" ++ drop 1 to) → P (codes "/~" ++ to) → P (slash ∷ to) → P (path_of_address to)
+path_holds P to two one none =
+    cond_both (starts_with nat_eq to (codes "//")) _ _ P (λ is. two) (λ other. cond_both (starts_with nat_eq to (codes "/")) _ _ P (λ is. one) (λ still. none))
+
 path_bytes : (to : List ℕ) → list_all is_address_byte to ≡ true → list_all is_address_byte (path_of_address to) ≡ true
-path_bytes to h = elim (cases_Bool (starts_with nat_eq to (codes "//"))) [
-  | inl two ↦ rw two (all_append is_address_byte (codes "/_") (drop 1 to) refl (all_drop is_address_byte to h))
-  | inr other ↦ rw other (elim (cases_Bool (starts_with nat_eq to (codes "/"))) [
-    | inl one ↦ rw one (all_append is_address_byte (codes "/~") to refl h)
-    | inr none ↦ rw none h
-  ])
-]
+path_bytes to h =
+    path_holds (λ (path : List ℕ). list_all is_address_byte path ≡ true) to
+    (all_append is_address_byte (codes "/_") (drop 1 to) refl (all_drop is_address_byte to h)) (all_append is_address_byte (codes "/~") to refl h) h
 
 pub path_begins : (to : List ℕ) → (rest : List ℕ) × (path_of_address to ≡ slash ∷ rest)
-path_begins to = elim (cases_Bool (starts_with nat_eq to (codes "//"))) [
-  | inl two ↦ rw two (95 ∷ drop 1 to, refl)
-  | inr other ↦ rw other (elim (cases_Bool (starts_with nat_eq to (codes "/"))) [
-    | inl one ↦ rw one (126 ∷ to, refl)
-    | inr none ↦ rw none (to, refl)
-  ])
-]
-
-address_path : (b : ℕ) → is_address_byte b ≡ true → is_path_byte b ≡ true
-address_path b h = (and_parts (is_path_byte b) (not (b == percent_sign)) h).0
-
-address_uncoded : (b : ℕ) → is_address_byte b ≡ true → is_uncoded_byte b ≡ true
-address_uncoded b h = (and_parts (is_path_byte b) (not (b == percent_sign)) h).1
+path_begins to =
+    path_holds (λ (path : List ℕ). (rest : List ℕ) × (path ≡ slash ∷ rest)) to (95 ∷ drop 1 to, refl) (126 ∷ to, refl) (to, refl)
 
 path_no_mark : (b : ℕ) → is_address_byte b ≡ true → is_other 63 b ≡ true
-path_no_mark b h = let p = address_path b h in grind (arith, nat_tests)
+path_no_mark b h = let p = (address_parts b h).path in grind (arith, nat_tests)
 
 path_no_hash : (b : ℕ) → is_address_byte b ≡ true → is_other 35 b ≡ true
-path_no_hash b h = let p = address_path b h in grind (arith, nat_tests)
+path_no_hash b h = let p = (address_parts b h).path in grind (arith, nat_tests)
 
 -- ---- the bytes of a query
 
@@ -96,7 +82,7 @@ query_text_byte bs =
     (All-weaker IsSerializedByte (λ b. IsTrue (is_form_byte b)) query_serialized (byte_serialize bs) (All-byte_serialize bs))
 
 query_separator : (form : List ℕ) → list_all is_form_byte (separator form) ≡ true
-query_separator form = elim (cases_Bool (is_nonempty form)) [ inl some ↦ rw some refl | inr none ↦ rw none refl ]
+query_separator form = cond_both (is_nonempty form) _ _ (λ (text : List ℕ). list_all is_form_byte text ≡ true) (λ some. refl) (λ none. refl)
 
 query_pair : (form key value : List ℕ) → list_all is_form_byte form ≡ true → list_all is_form_byte (append_pair form key value) ≡ true
 query_pair form key value h =
@@ -109,11 +95,8 @@ pub form_bytes : (form : List ℕ) (pairs : List Pair) → list_all is_form_byte
 form_bytes form [] h = h
 form_bytes form (pair ∷ pairs) h = form_bytes (append_pair form pair.0 pair.1) pairs (query_pair form pair.0 pair.1 h)
 
-form_query : (b : ℕ) → is_form_byte b ≡ true → is_query_byte b ≡ true
-form_query b h = (and_parts (is_query_byte b) (nat_lt b 128) h).0
-
 pub query_bytes : (pairs : List Pair) → list_all is_query_byte (extend_pairs [] pairs) ≡ true
-query_bytes pairs = all_weaker is_form_byte is_query_byte form_query (extend_pairs [] pairs) (form_bytes [] pairs refl)
+query_bytes pairs = all_weaker is_form_byte is_query_byte (λ b h. (ascii_parts is_query_byte b h).passes) (extend_pairs [] pairs) (form_bytes [] pairs refl)
 
 query_no_hash : (b : ℕ) → is_query_byte b ≡ true → is_other 35 b ≡ true
 query_no_hash b h = grind (arith, nat_tests)
@@ -176,7 +159,7 @@ origin to query fits c =
     let slashed : starts_with nat_eq text (codes "/") ≡ true = ap (λ p. starts_with nat_eq (p ++ query_part query) (codes "/")) begins.1 in
     let kept : without_fragment text ≡ text = front_none 35 text c.no_hash in
     let path : list_all is_path_byte (split_once_front 63 text) ≡ true =
-    ap (list_all is_path_byte) c.front ∙ all_weaker is_address_byte is_path_byte address_path (path_of_address to) (path_bytes to fits.path) in
+    ap (list_all is_path_byte) c.front ∙ all_weaker is_address_byte is_path_byte (λ b h. (address_parts b h).path) (path_of_address to) (path_bytes to fits.path) in
     and_from _ _ (and_from _ _ slashed (le-leb (length text) 65534 fits.few))
     (ap is_path_and_query kept ∙ and_from _ _ (and_from _ _ path c.bytes) (is_utf8-from_IsUtf8 text fits.utf8))
 
@@ -196,7 +179,7 @@ target_said method to query minor fits =
     let path : path_of text ≡ path_of_address to =
     ap or_slash c.front ∙ ap or_slash begins.1 ∙ slash_some slash begins.0 ∙ sym begins.1 in
     let tildes : with_tildes (path_of_address to) ≡ path_of_address to =
-    tildes_kept (path_of_address to) (all_weaker is_address_byte is_uncoded_byte address_uncoded (path_of_address to) (path_bytes to fits.path)) in
+    tildes_kept (path_of_address to) (all_weaker is_address_byte is_uncoded_byte (λ b h. (address_parts b h).uncoded) (path_of_address to) (path_bytes to fits.path)) in
     let address : address_of_path (with_tildes (path_of text)) ≡ to = ap (λ p. address_of_path (with_tildes p)) path ∙ ap address_of_path tildes ∙ address_back to fits.own in
     let values : target_values (split_target text) ≡ record { to = to; query = query } = λ i. record { to = address i; query = c.told i } in
     let good : is_target (record { to = to; query = query }) ≡ true = and_from _ _ fits.filled (is_utf8-from_IsUtf8 to fits.to_utf8) in

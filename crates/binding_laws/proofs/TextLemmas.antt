@@ -1,25 +1,12 @@
 -- Numbers, words and values in texts.
-use Rattle.std.proofs.Common.{◌≡◌, ℕ, ◌<◌, ◌^◌, ◌==◌, ◌&&◌, Bool, true, false, not, cond, List, [], ◌∷◌, length, Option, Some, None, IsUtf8, inl, inr, refl, sym, ap, subst, ◌∙◌, arith}
-use Rattle.std.specs.Prelude.{ℤ, pos, is_some, nat_lt, option_map}
+use Rattle.binding_laws.proofs.Words.{◌≡◌, ℕ, ◌<◌, ◌^◌, ◌==◌, ◌&&◌, Bool, true, false, not, cond, List, [], ◌∷◌, length, Option, Some, None, IsUtf8, inl, inr, refl, sym, ap, subst, ◌∙◌, arith, ℤ, pos, is_some, nat_lt, option_map, decimal, signed_decimal, IsInRange, AllByRecursion, list_all, onto_first, cons_option, filter_map, AllDigits}
+use Rattle.binding_laws.proofs.Terms.{is_numeral, number_spelled, is_type_number, where_it, is_label_text, is_among, words_of, whole_spelled, spells_label, labels_spelled, type_spelled, is_type_text, types_spelled}
+use Rattle.binding_laws.proofs.Facts.{and_from, cases_Bool, cond-true, cond-false, false≢true, le-leb, leb-true, lt-ltb, ne_eqb, not-true, Decides-int_eq, decimal_is_IsNumeral, length-decimal-le, IsAscii-decimal, IsUtf8-from_ascii, is_utf8-from_IsUtf8}
 use Rattle.std.specs.Char.{is_ascii_digit}
-use Rattle.std.specs.Fmt.{decimal, signed_decimal}
-use Rattle.std.specs.Int.{IsInRange}
-use Rattle.std.specs.List.{AllByRecursion, list_all, onto_first, cons_option, filter_map}
 use Rattle.std.specs.Ordering.{int_eq}
-use Rattle.std.specs.Str.Parse.{AllDigits}
-use Rattle.std.proofs.lemmas.Bool.{and_from, and_parts, cases_Bool, cond-true, cond-false, false≢true, le-leb, leb-true, lt-ltb, ne_eqb, not-true}
-use Rattle.std.proofs.lemmas.Bool.Decides.{Decides-int_eq}
-use Rattle.std.proofs.lemmas.Fmt.{decimal_is_IsNumeral, length-decimal-le, IsAscii-decimal}
-use Rattle.std.proofs.lemmas.Str.{IsUtf8-from_ascii, is_utf8-from_IsUtf8}
 use Rattle.std.proofs.lemmas.Str.Parse.{digit_from_value}
-use Rattle.m2m_names.specs.Name.{is_numeral}
-use Rattle.m2m_names.specs.Ids.{number_spelled}
-use Rattle.m2m_names.specs.Types.{is_type_number}
-use Rattle.filter_criteria.specs.Values.{where_it}
-use Rattle.m2m_value.specs.Shapes.{is_label_text}
-use Rattle.primitive_json.specs.Kinds.{is_among}
-use Rattle.http_target.specs.Queries.{words_of, whole_spelled, spells_label, labels_spelled, type_spelled, is_type_text, types_spelled}
 use Rattle.binding_laws.specs.ReadBack.{is_no_space}
+use Rattle.binding_laws.proofs.EachLemmas.{each_parts}
 
 -- ---- digits
 
@@ -62,8 +49,8 @@ decimal_word n small = digits_pass is_no_space digit_word (decimal n) (decimal_i
 pub word_alone : (text : List ℕ) → list_all is_no_space text ≡ true → words_of text ≡ text ∷ []
 word_alone [] h = refl
 word_alone (b ∷ text) h =
-    let parts = and_parts (is_no_space b) (list_all is_no_space text) h in
-    cond-false _ _ _ (not-true (b == 32) parts.0) ∙ ap (onto_first b) (word_alone text parts.1)
+    let parts = each_parts is_no_space b text h in
+    cond-false _ _ _ (not-true (b == 32) parts.first) ∙ ap (onto_first b) (word_alone text parts.rest)
 
 pub label_back : (label : List ℕ) → is_label_text label ≡ true → IsUtf8 label → list_all is_no_space label ≡ true → labels_spelled label ≡ Some (label ∷ [])
 label_back label kind utf8 word =

@@ -1,23 +1,10 @@
 -- The type of a content, with the number of a type, is read back.
-use Rattle.std.proofs.Common.{◌≡◌, ℕ, ◌+◌, ◌-◌, ◌<◌, ◌^◌, ◌==◌, Bool, true, false, not, cond, List, [], ◌∷◌, ◌++◌, length, take, drop, codes, reverse, Option, Some, None, IfSome, IsTrue, refl, sym, ap, ◌∙◌, arith}
-use Rattle.std.specs.Prelude.{fold}
-use Rattle.std.specs.Fmt.{decimal}
-use Rattle.std.specs.Int.{IsInRange}
-use Rattle.std.specs.Option.{option_map_or}
-use Rattle.std.specs.List.{list_all, onto_first, prefix_len, slice_split, suffix_len}
-use Rattle.std.specs.Str.Parse.{digits_value}
-use Rattle.std.proofs.lemmas.Bool.{and_from, and_parts, cond-true, le-leb, lt-ltb, ne_eqb, leb-true, not-true}
-use Rattle.std.proofs.lemmas.Fmt.{decimal_is_IsNumeral, length-decimal-le}
-use Rattle.std.proofs.lemmas.List.{take_all}
-use Rattle.m2m_names.specs.Name.{is_decimal}
-use Rattle.m2m_names.specs.Types.{is_type_number}
-use Rattle.std.proofs.lemmas.List.Sums.{AllPass-from_list_all, list_all-from_AllPass}
-use Rattle.httparse.proofs.TrimLemmas.{AllPass-reverse}
-use Rattle.http_uri.specs.ByteClasses.{split_once_front, split_once_back}
-use Rattle.http_binding.specs.MediaTypes.{before_spaces, between_spaces, equals_sign, front_of, is_media_type, is_space, is_type_digits, json_type, next_said, parameter_said, parameters_of, piece_said, semicolon, type_digits_said, type_parameter, type_said}
+use Rattle.binding_laws.proofs.Words.{◌≡◌, ℕ, ◌+◌, ◌-◌, ◌<◌, ◌^◌, ◌==◌, Bool, true, false, not, cond, List, [], ◌∷◌, ◌++◌, length, take, drop, codes, reverse, Option, Some, None, IfSome, IsTrue, refl, sym, ap, ◌∙◌, arith, fold, decimal, IsInRange, option_map_or, list_all, onto_first, prefix_len, slice_split, suffix_len, digits_value}
+use Rattle.binding_laws.proofs.Terms.{is_decimal, is_type_number, split_once_front, split_once_back, before_spaces, between_spaces, equals_sign, front_of, is_media_type, is_space, is_type_digits, json_type, next_said, parameter_said, parameters_of, piece_said, semicolon, type_digits_said, type_parameter, type_said, content_type}
+use Rattle.binding_laws.proofs.Facts.{and_from, cond-true, le-leb, lt-ltb, ne_eqb, leb-true, not-true, decimal_is_IsNumeral, length-decimal-le, take_all, all_reversed}
 use Rattle.http_frames.specs.Lines.{is_same_name}
-use Rattle.http_binding.specs.Replying.{content_type}
 use Rattle.binding_laws.specs.ReadBack.{is_no_space}
+use Rattle.binding_laws.proofs.EachLemmas.{each_parts}
 use Rattle.binding_laws.proofs.CutLemmas.{back_at, front_at, is_other, split_none}
 use Rattle.binding_laws.proofs.TextLemmas.{decimal_word, digit_is, digits_pass}
 
@@ -42,17 +29,12 @@ digit_parts c h = ap not (ne_eqb c 59 (λ e. omega (arith, e, h.1)))
 none_before : (text : List ℕ) → list_all is_no_space text ≡ true → prefix_len is_space text ≡ 0
 none_before [] h = refl
 none_before (b ∷ text) h =
-    let parts = and_parts (is_no_space b) (list_all is_no_space text) h in
-    ap (λ t. cond t (1 + prefix_len is_space text) 0) (not-true (b == 32) parts.0)
-
--- what holds of each byte does so from the end
-reversed : (text : List ℕ) → list_all is_no_space text ≡ true → list_all is_no_space (reverse text) ≡ true
-reversed text h = list_all-from_AllPass is_no_space (reverse text) (AllPass-reverse is_no_space text (AllPass-from_list_all is_no_space text h))
+    ap (λ t. cond t (1 + prefix_len is_space text) 0) (not-true (b == 32) (each_parts is_no_space b text h).first)
 
 words_stay : (text : List ℕ) → list_all is_no_space text ≡ true → between_spaces text ≡ text
 words_stay text h =
     ap before_spaces (ap (λ n. drop n text) (none_before text h))
-    ∙ ap (λ n. take (length text - n) text) (none_before (reverse text) (reversed text h))
+    ∙ ap (λ n. take (length text - n) text) (none_before (reverse text) (all_reversed is_no_space text h))
     ∙ take_all (length text - 0) text (omega arith)
 
 -- what a type of content says, without a number and with one

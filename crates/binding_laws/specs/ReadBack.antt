@@ -44,9 +44,9 @@ abbrev pub is_address_byte : ℕ → Bool
 is_address_byte b = is_path_byte b && not (b == percent_sign)
 
 -- The frame of a request to another CSE says all that the request has, and nothing that is read
--- otherwise: the URL has no path but `/`; the address has a path of its own; how the reply is wanted
--- isn't said; numbers have at most 18 digits; labels have no space; and the content is no deeper
--- than a text is read.
+-- otherwise: the URL has no path but `/`; the address has a path of its own; how the reply is
+-- wanted isn't said; numbers have at most 18 digits; labels have no space; and the content is no
+-- deeper than a text is read.
 pub record SaysAll (r : RequestParts) (url : List ℕ) : Type 0 where
   pub sendable : IsSendable r url Peer
   pub root : root_path url ≡ []

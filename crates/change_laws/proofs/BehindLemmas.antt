@@ -1,20 +1,10 @@
 -- What is done is told behind it.
-use Rattle.std.proofs.Common.{◌≡◌, ℕ, List, [], Option, Some, None, refl, sym, ap, ◌∙◌}
-use Rattle.std.specs.Option.{option_map_or}
-use Rattle.m2m_names.specs.declared.codes.Rsc.{Rsc}
-use Rattle.m2m_names.specs.declared.operations.Op.{Op}
-use Rattle.primitive_json.specs.declared.request.RequestParts.{RequestParts}
+use Rattle.change_laws.proofs.Words.{◌≡◌, ℕ, List, [], Option, Some, None, refl, sym, ap, ◌∙◌, option_map_or}
+use Rattle.change_laws.proofs.Terms.{Rsc, Op, RequestParts, EntityData, telling, Effect, IsSoundEntity, fault_at, changes_at, changes_by, effect_at}
+use Rattle.change_laws.proofs.Facts.{found_at, refused_at, told_after, told_refused_at, told_reply}
 use Rattle.tree_model.specs.Changes.{ChangeData}
-use Rattle.entity_model.specs.Entity.{EntityData, telling}
-use Rattle.entity_model.specs.Places.{Effect}
-use Rattle.entity_model.specs.Sound.{IsSoundEntity}
 use Rattle.entity_model.proofs.TellingLemmas.{nothing_told}
-use Rattle.request_rules.specs.Order.{fault_at}
-use Rattle.request_rules.proofs.OrderLemmas.{found_at}
-use Rattle.create_delete.specs.Changes.{changes_at, changes_by}
-use Rattle.create_delete.specs.Changing.{effect_at}
 use Rattle.create_delete.specs.Telling.{gone_numbers, told_effect_at}
-use Rattle.create_delete.proofs.EffectLemmas.{refused_at, told_after, told_refused_at, told_reply}
 
 pub reply_behind : (op : Op) (e : EntityData) (o : List ℕ) (request : RequestParts) (n : ℕ) → (told_effect_at op e o request n).reply ≡ (effect_at op e o request n).reply
 reply_behind op e o request n = by_fault (fault_at op e o request n) refl

@@ -1,30 +1,9 @@
 -- No place refuses what an originator may do.
-use Rattle.std.proofs.Common.{◌≡◌, ℕ, List, [], ◌∷◌, true, false, Option, Some, None, unwrap_or, refl, ap, ◌∙◌}
-use Rattle.std.proofs.lemmas.Bool.{and_parts, and_from}
-use Rattle.std.specs.List.{list_all}
-use Rattle.std.specs.Option.{option_map_or}
+use Rattle.change_laws.proofs.Words.{◌≡◌, ℕ, List, [], ◌∷◌, true, false, Option, Some, None, unwrap_or, refl, ap, ◌∙◌, list_all, option_map_or}
+use Rattle.change_laws.proofs.Terms.{BadChild, NotFound, Op, Create, Update, Delete, Ty, Entry, RequestParts, ResourceData, at, Creating, Updating, EntityData, Check, first_fault, refused, creation_of, admits_members, membership_edited, membership_new, creation_by, creation_places, expires_later, fault_at, fault_on, places, links_live, admits_content, is_content_for, named_by, takes_child, create_effect, delete_effect, effect_at, update_effect}
+use Rattle.change_laws.proofs.Facts.{and_parts, and_from, AreAdmitted, members_parts, named_is, new_is, done_at}
 use Rattle.m2m_names.specs.Types.{does_take}
-use Rattle.m2m_names.specs.declared.codes.Rsc.TheVariants.{BadChild, NotFound}
-use Rattle.m2m_names.specs.declared.operations.Op.{Op}
-use Rattle.m2m_names.specs.declared.operations.Op.TheVariants.{Create, Update, Delete}
-use Rattle.m2m_names.specs.declared.types.Ty.{Ty}
-use Rattle.m2m_value.specs.Data.{Entry}
-use Rattle.primitive_json.specs.declared.request.RequestParts.{RequestParts}
-use Rattle.resource_model.specs.Resource.{ResourceData}
-use Rattle.tree_model.specs.Tree.{at}
-use Rattle.attribute_rules.specs.declared.table.Writing.TheVariants.{Create as Creating, Update as Updating}
-use Rattle.entity_model.specs.Entity.{EntityData}
-use Rattle.entity_model.specs.Places.{Check, first_fault, refused}
-use Rattle.request_rules.specs.Creation.{creation_of}
-use Rattle.request_rules.proofs.OrderLemmas.{AreAdmitted, members_parts}
-use Rattle.request_rules.specs.Groups.{admits_members, membership_edited, membership_new}
-use Rattle.request_rules.specs.Order.{creation_by, creation_places, expires_later, fault_at, fault_on, places}
-use Rattle.request_rules.specs.Policies.{links_live}
-use Rattle.request_rules.specs.Requests.{admits_content, is_content_for, named_by, takes_child}
-use Rattle.request_rules.proofs.CreatingLemmas.{named_is, new_is}
 use Rattle.request_rules.proofs.EditingLemmas.{content_admits}
-use Rattle.create_delete.specs.Changing.{create_effect, delete_effect, effect_at, update_effect}
-use Rattle.create_delete.proofs.EffectLemmas.{done_at}
 use Rattle.change_laws.specs.Served.{MayCreate, MayDelete, MayUpdate}
 
 -- where each place holds, none refuses

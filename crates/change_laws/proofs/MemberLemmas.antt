@@ -1,56 +1,29 @@
 -- What a group keeps of the members that it is asked to have.
+use Rattle.change_laws.proofs.Words.{◌≡◌, ℕ, ◌≤◌, List, [], ◌∷◌, ◌++◌, length, map, filter, pos, Bool, true, false, cond, not, ◌&&◌, ◌||◌, bytes_eq, Option, Some, None, unwrap_or, if◌then◌else◌, inl, inr, refl, sym, ap, ◌∙◌, subst, arith, list_all, list_any, option_map_or}
+use Rattle.change_laws.proofs.Terms.{Data, boolean, elements_of, list, number, text, ResourceData, EntityData, are_distinct, MembershipData, abandon_member, abandon_group, any_type, are_few, differs_from, distinct_texts, has_other_type, is_consistent, is_left_out, is_live_member, is_of_other_type, kept_among, member_limit, member_named, member_rows, members_kept, new_after, set_mixed, type_kept, Updating, Check, IsSoundEntity, Create, Update, Ty, Group, Entry, RequestParts, is_ty, at, Creation, creation_of, creator_rows, new_resource, new_rows, does_edit_members, group_rows, have_addresses, members_edited, members_wanted, membership_edited, creation_by, fault_at, fault_on, member_places, link_row, child_ty, content_for, named_by, named_for, own_rows, state_row, updated_by, updated_resource, IsAllowed}
+use Rattle.change_laws.proofs.Facts.{cases_Bool, cond_both, and_parts, and_from, or_parts, or_from, or_left, or_right, both_ways, false_from_ne_true, not_from_false, not-true, leb-true, eqb-true, at_number, new_is, IsUnrefusedNew, new_parts, nothing_on, places_parts, allowed, names_attributes}
 use Rattle.std.specs.Prelude.{◌==◌, nat_le, min}
-use Rattle.std.proofs.Common.{◌≡◌, ℕ, ◌≤◌, List, [], ◌∷◌, ◌++◌, length, map, filter, pos, Bool, true, false, cond, not, ◌&&◌, ◌||◌, bytes_eq, Option, Some, None, unwrap_or, if◌then◌else◌, inl, inr, refl, sym, ap, ◌∙◌, subst, arith}
-use Rattle.std.proofs.lemmas.Bool.{cases_Bool, and_parts, and_from, or_parts, or_from, or_left, or_right, both_ways, false_from_ne_true, not_from_false, not-true, leb-true, eqb-true}
 use Rattle.std.proofs.lemmas.Bool.Decides.{nat_tests}
 use Rattle.std.proofs.lemmas.List.Folds.{list_any-append}
 use Rattle.std.proofs.lemmas.List.Sums.{count_by-le-length, length-filter}
 use Rattle.std.proofs.lemmas.Slice.Eq.{bytes_eq-Decides}
 use Rattle.std.specs.Int.{is_in_range}
-use Rattle.std.specs.List.{list_all, list_any}
-use Rattle.std.specs.Option.{option_map_or}
 use Rattle.m2m_names.specs.declared.attributes.Attr.{Attr}
 use Rattle.m2m_names.specs.declared.attributes.Attr.TheVariants.{Cnm, Csy, Mid, Mt, Mtv}
-use Rattle.m2m_value.specs.Data.{Data, boolean, elements_of, list, number, text}
 use Rattle.resource_model.specs.Attributes.{Row, value_of, with_value}
-use Rattle.resource_model.specs.Resource.{ResourceData}
 use Rattle.resource_model.proofs.AttributeLemmas.{value-with_value_same}
 use Rattle.tree_model.specs.Shown.{with_rows}
 use Rattle.attribute_rules.proofs.ContentsLemmas.{same_text}
 use Rattle.policy_eval.specs.Rules.{texts_of}
-use Rattle.entity_model.specs.Entity.{EntityData}
-use Rattle.entity_model.specs.Sound.{are_distinct}
-use Rattle.request_rules.specs.Groups.{MembershipData, abandon_member, abandon_group, any_type, are_few, differs_from, distinct_texts, has_other_type, is_consistent, is_left_out, is_live_member, is_of_other_type, kept_among, member_limit, member_named, member_rows, members_kept, new_after, set_mixed, type_kept}
 use Rattle.attribute_rules.specs.Admission.{are_admitted}
 use Rattle.attribute_rules.specs.Contents.{edit_in, edited, wanted_in}
 use Rattle.attribute_rules.specs.Kinds.{are_kinds, have_kinds}
-use Rattle.attribute_rules.specs.declared.table.Writing.TheVariants.{Update as Updating}
-use Rattle.entity_model.specs.Places.{Check}
-use Rattle.entity_model.specs.Sound.{IsSoundEntity}
 use Rattle.m2m_names.specs.declared.attributes.Attr.TheVariants.{Acpi, Cr, Macp}
-use Rattle.m2m_names.specs.declared.operations.Op.TheVariants.{Create, Update}
-use Rattle.m2m_names.specs.declared.types.Ty.{Ty}
-use Rattle.m2m_names.specs.declared.types.Ty.TheVariants.{Group}
 use Rattle.m2m_names.proofs.TypeLemmas.{same_type}
-use Rattle.m2m_value.specs.Data.{Entry}
-use Rattle.primitive_json.specs.declared.request.RequestParts.{RequestParts}
 use Rattle.resource_model.specs.Attributes.{is_attr}
-use Rattle.resource_model.specs.Resource.{is_ty}
-use Rattle.tree_model.specs.Tree.{at}
 use Rattle.tree_model.proofs.QuietLemmas.{number_passes}
 use Rattle.tree_model.proofs.ShownLemmas.{with_rows-append}
-use Rattle.tree_model.proofs.TreeLemmas.{at_number}
-use Rattle.request_rules.specs.Creation.{Creation, creation_of, creator_rows, new_resource, new_rows}
-use Rattle.request_rules.specs.Groups.{does_edit_members, group_rows, have_addresses, members_edited, members_wanted, membership_edited}
-use Rattle.request_rules.specs.Order.{creation_by, fault_at, fault_on, member_places}
-use Rattle.request_rules.specs.Policies.{link_row}
-use Rattle.request_rules.specs.Requests.{child_ty, content_for, named_by, named_for}
-use Rattle.request_rules.proofs.CreatingLemmas.{new_is}
-use Rattle.request_rules.proofs.OrderLemmas.{IsUnrefusedNew, new_parts, nothing_on, places_parts}
-use Rattle.create_delete.specs.Changing.{own_rows, state_row, updated_by, updated_resource}
-use Rattle.create_delete.specs.Joining.{IsAllowed}
 use Rattle.create_delete.specs.Updating.{IsUpdatable}
-use Rattle.create_delete.proofs.CreatableLemmas.{allowed, names_attributes}
 use Rattle.create_delete.proofs.MemberLemmas.{AreFit, edited_fit, wanted_fit}
 use Rattle.create_delete.proofs.NewResourceLemmas.{lacks_creator, lacks_link}
 use Rattle.create_delete.proofs.UpdatableLemmas.{updatable, updates_attributes}
@@ -69,49 +42,42 @@ among_more a x seen = list_any-append (bytes_eq a) seen (x ∷ [])
 -- what stood before isn't new
 none_again : (a : List ℕ) (seen xs : List (List ℕ)) → list_any (bytes_eq a) seen ≡ true → list_any (bytes_eq a) (new_after seen xs) ≡ false
 none_again a seen [] old = refl
-none_again a seen (x ∷ xs) old = elim (cases_Bool (list_any (bytes_eq x) seen)) [
-  | inl t ↦ rw t (none_again a seen xs old)
-  | inr f ↦
-      let apart : bytes_eq a x ≡ false = false_from_ne_true _ (λ same. both_ways _ f (ap (λ (y : List ℕ). list_any (bytes_eq y) seen) (sym (same_text a x same)) ∙ old)) in
-      rw f (or_from _ _ apart (none_again a (seen ++ x ∷ []) xs (among_more a x seen ∙ or_left _ _ old)))
-]
+none_again a seen (x ∷ xs) old =
+    cond_both (list_any (bytes_eq x) seen) (new_after seen xs) (x ∷ new_after (seen ++ x ∷ []) xs) (λ (ys : List (List ℕ)). list_any (bytes_eq a) ys ≡ false)
+    (λ t. none_again a seen xs old)
+    (λ f.
+    let apart : bytes_eq a x ≡ false = false_from_ne_true _ (λ same. both_ways _ f (ap (λ (y : List ℕ). list_any (bytes_eq y) seen) (sym (same_text a x same)) ∙ old)) in
+    or_from _ _ apart (none_again a (seen ++ x ∷ []) xs (among_more a x seen ∙ or_left _ _ old)))
 
 new_once : (seen xs : List (List ℕ)) → are_distinct (new_after seen xs) ≡ true
 new_once seen [] = refl
-new_once seen (x ∷ xs) = elim (cases_Bool (list_any (bytes_eq x) seen)) [
-  | inl t ↦ rw t (new_once seen xs)
-  | inr f ↦
-      rw f (and_from _ _ (not_from_false _ (none_again x (seen ++ x ∷ []) xs (among_more x x seen ∙ or_right _ _ (or_left _ _ (itself x)))))
-      (new_once (seen ++ x ∷ []) xs))
-]
+new_once seen (x ∷ xs) =
+    cond_both (list_any (bytes_eq x) seen) (new_after seen xs) (x ∷ new_after (seen ++ x ∷ []) xs) (λ (ys : List (List ℕ)). are_distinct ys ≡ true)
+    (λ t. new_once seen xs)
+    (λ f. and_from _ _ (not_from_false _ (none_again x (seen ++ x ∷ []) xs (among_more x x seen ∙ or_right _ _ (or_left _ _ (itself x)))))
+    (new_once (seen ++ x ∷ []) xs))
 
 none_kept : (q p : List ℕ → Bool) (xs : List (List ℕ)) → list_any q xs ≡ false → list_any q (filter p xs) ≡ false
 none_kept q p [] none = refl
 none_kept q p (x ∷ xs) none =
     let parts = or_parts (q x) (list_any q xs) none in
-    elim (cases_Bool (p x)) [
-      | inl t ↦ rw t (or_from _ _ parts.0 (none_kept q p xs parts.1))
-      | inr f ↦ rw f (none_kept q p xs parts.1)
-    ]
+    cond_both (p x) (x ∷ filter p xs) (filter p xs) (λ (ys : List (List ℕ)). list_any q ys ≡ false)
+    (λ t. or_from _ _ parts.0 (none_kept q p xs parts.1)) (λ f. none_kept q p xs parts.1)
 
 kept_once : (p : List ℕ → Bool) (xs : List (List ℕ)) → are_distinct xs ≡ true → are_distinct (filter p xs) ≡ true
 kept_once p [] once = refl
 kept_once p (x ∷ xs) once =
     let parts = and_parts (not (list_any (bytes_eq x) xs)) (are_distinct xs) once in
-    elim (cases_Bool (p x)) [
-      | inl t ↦ rw t (and_from _ _ (not_from_false _ (none_kept (bytes_eq x) p xs (not-true _ parts.0))) (kept_once p xs parts.1))
-      | inr f ↦ rw f (kept_once p xs parts.1)
-    ]
+    cond_both (p x) (x ∷ filter p xs) (filter p xs) (λ (ys : List (List ℕ)). are_distinct ys ≡ true)
+    (λ t. and_from _ _ (not_from_false _ (none_kept (bytes_eq x) p xs (not-true _ parts.0))) (kept_once p xs parts.1)) (λ f. kept_once p xs parts.1)
 
 -- what is new was there
 new_among : (a : List ℕ) (seen xs : List (List ℕ)) → list_any (bytes_eq a) xs ≡ false → list_any (bytes_eq a) (new_after seen xs) ≡ false
 new_among a seen [] none = refl
 new_among a seen (x ∷ xs) none =
     let parts = or_parts (bytes_eq a x) (list_any (bytes_eq a) xs) none in
-    elim (cases_Bool (list_any (bytes_eq x) seen)) [
-      | inl t ↦ rw t (new_among a seen xs parts.1)
-      | inr f ↦ rw f (or_from _ _ parts.0 (new_among a (seen ++ x ∷ []) xs parts.1))
-    ]
+    cond_both (list_any (bytes_eq x) seen) (new_after seen xs) (x ∷ new_after (seen ++ x ∷ []) xs) (λ (ys : List (List ℕ)). list_any (bytes_eq a) ys ≡ false)
+    (λ t. new_among a seen xs parts.1) (λ f. or_from _ _ parts.0 (new_among a (seen ++ x ∷ []) xs parts.1))
 
 -- what was there is new, or stood before
 all_new : (a : List ℕ) (seen xs : List (List ℕ)) → list_any (bytes_eq a) xs ≡ true → list_any (bytes_eq a) seen ≡ false → list_any (bytes_eq a) (new_after seen xs) ≡ true
@@ -307,6 +273,16 @@ links_alike e es rows = record { mid = unset Mid refl refl; cnm = unset Cnm refl
         value_unset a (link_row e es Macp) (with_rows (link_row e es Acpi) rows) (lacks_link a Macp e es macp)
         ∙ value_unset a (link_row e es Acpi) rows (lacks_link a Acpi e es acpi)
 
+-- what the places of a group's members say of them
+record AreTaken (e : EntityData) (m : MembershipData) : Type 0 where
+  few : are_few m ≡ true
+  consistent : is_consistent e m ≡ true
+
+taken_parts : (e : EntityData) (m : MembershipData) → list_all (λ (p : Check). p.holds) (member_places e (Some m)) ≡ true → AreTaken e m
+taken_parts e m all =
+    let few = and_parts (are_few m) (is_consistent e m && true) all in
+    record { few = few.0; consistent = (and_parts (is_consistent e m) true few.1).0 }
+
 -- ---- a Create
 
 module _ (e : EntityData) (o : List ℕ) (request : RequestParts) (parent : ResourceData) (none : fault_on Create e o request parent ≡ None) (there : at parent.number e.nodes ≡ Some parent) (child : child_ty request ≡ Some Group) where
@@ -315,8 +291,7 @@ module _ (e : EntityData) (o : List ℕ) (request : RequestParts) (parent : Reso
       let c : Creation = creation_of e o Group parent es in
       let may : IsAllowed c = allowed e o request parent Group es none there child whole in
       let new : IsUnrefusedNew c = new_parts c (sym (ap (list_all (λ (p : Check). p.holds)) (new_is e o request parent Group es child whole)) ∙ (places_parts Create e o request parent none).new) in
-      let members = and_parts (are_few (members_wanted es)) (is_consistent e (members_wanted es) && true) new.members in
-      let consistent : is_consistent e (members_wanted es) ≡ true = (and_parts (is_consistent e (members_wanted es)) true members.1).0 in
+      let members = taken_parts e (members_wanted es) new.members in
       let fit : AreFit (members_wanted es) = wanted_fit es may.sorted may.admitted in
       let given : List Row = member_rows e (members_wanted es) in
       let wanted : List Row = (wanted_in es).attrs in
@@ -327,7 +302,7 @@ module _ (e : EntityData) (o : List ℕ) (request : RequestParts) (parent : Reso
       ∙ ap (with_rows (link_row e es Acpi)) (with_rows-append given creator wanted)) in
       subst (KeepsMembers e (members_wanted es)) (sym rows)
       (keeps_alike e (members_wanted es) _ (with_rows given wanted) (creates_alike c (with_rows given wanted))
-      (keeps_members e (members_wanted es) wanted fit.strategy members.0 consistent))
+      (keeps_members e (members_wanted es) wanted fit.strategy members.few members.consistent))
 
   by_names : (x : Option (List Entry)) → content_for request Group ≡ x → KeepsMembers e (members_wanted (unwrap_or x [])) (new_rows (creation_of e o Group parent (unwrap_or x [])))
   by_names None is = absurd (names_attributes e o request parent Group none child is)
@@ -354,9 +329,7 @@ module _ (e : EntityData) (o : List ℕ) (request : RequestParts) (r : ResourceD
       ap (λ (x : Option (List Entry)). membership_edited r (unwrap_or x [])) whole ∙ wants in
       let places : (have_addresses e.home (Some m) && (are_few m && (is_consistent e m && true))) ≡ true =
       ap (λ (x : Option MembershipData). have_addresses e.home x && list_all (λ (p : Check). p.holds) (member_places e x)) (sym asked) ∙ (places_parts Update e o request r none).new in
-      let addresses = and_parts (have_addresses e.home (Some m)) (are_few m && (is_consistent e m && true)) places in
-      let members = and_parts (are_few m) (is_consistent e m && true) addresses.1 in
-      let consistent : is_consistent e m ≡ true = (and_parts (is_consistent e m) true members.1).0 in
+      let members = taken_parts e m (and_parts (have_addresses e.home (Some m)) _ places).1 in
       let kinds : are_kinds r ≡ true = number_passes are_kinds r.number e.nodes r sound.kinds there in
       let fit : AreFit m = edited_fit r es may.sorted (ap (λ (k : Ty). are_admitted Updating k es) (sym ty) ∙ may.admitted) (ap (λ (k : Ty). have_kinds k r.attrs) (sym ty) ∙ kinds) in
       let kept : List Row = edited (edit_in es) r.attrs in
@@ -368,7 +341,7 @@ module _ (e : EntityData) (o : List ℕ) (request : RequestParts) (r : ResourceD
       rows_are e es r ∙ ap (λ (x : List Row). with_rows (link_row e es Macp) (with_rows (link_row e es Acpi) x)) own in
       subst (KeepsMembers e m) (sym rows)
       (keeps_alike e m _ (with_rows (member_rows e m) base) (links_alike e es (with_rows (member_rows e m) base))
-      (keeps_members e m base fit.strategy members.0 consistent))
+      (keeps_members e m base fit.strategy members.few members.consistent))
 
   by_edited : (x : Option (List Entry)) → content_for request r.ty ≡ x → does_edit_members r (unwrap_or x []) ≡ true → KeepsMembers e (members_edited r (unwrap_or x [])) (updated_resource e (unwrap_or x []) r).attrs
   by_edited None is edits = absurd (updates_attributes e o request r none is)

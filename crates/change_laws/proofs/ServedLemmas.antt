@@ -1,42 +1,17 @@
 -- What a Create and an Update change where they are served.
-use Rattle.std.proofs.Common.{◌≡◌, ℕ, ◌+◌, List, [], length, true, false, Option, Some, None, inl, inr, refl, sym, ap, ◌∙◌, subst, arith}
-use Rattle.std.proofs.lemmas.Bool.{cases_Bool, cases_eq, both_ways}
+use Rattle.change_laws.proofs.Words.{◌≡◌, ℕ, ◌+◌, List, [], length, true, false, Option, Some, None, inl, inr, refl, sym, ap, ◌∙◌, subst, arith, option_map_or}
+use Rattle.change_laws.proofs.Terms.{Rsc, BadChild, Op, Create, Retrieve, Update, Delete, Notify, Ty, ContentInstance, Entry, RequestParts, ResourceData, is_ty, at, has, is_instance, is_tree, restamped, EntityData, Effect, refused, IsSoundEntity, Creation, new_resource, new_size, next_state, creation_by, fault_at, fault_on, child_ty, changes_at, creation_changes, named_attrs, only_in, update_changes, after_joining, create_effect, container_update_of, nodes_updated, effect_at, pushed_by, pushed_out, updated_by, updated_resource, with_new_resource, gone_by, IsAllowed, MayJoinContainer, MayJoin}
+use Rattle.change_laws.proofs.Facts.{cases_Bool, cases_eq, both_ways, at_has, at_number, at-replaced_other, found_at, nothing_on, c_left, created_are, fresh, gone_are, none_false, nothing_apart, only_last, updated_are, names_type, deletion_keeps, delete_done, done_at, refused_at}
 use Rattle.std.proofs.lemmas.Option.{same_Some}
-use Rattle.std.specs.Option.{option_map_or}
 use Rattle.m2m_names.specs.Name.{is_originator}
 use Rattle.m2m_names.specs.StatusCodes.{is_success}
-use Rattle.m2m_names.specs.declared.codes.Rsc.{Rsc}
-use Rattle.m2m_names.specs.declared.codes.Rsc.TheVariants.{BadChild}
-use Rattle.m2m_names.specs.declared.operations.Op.{Op}
-use Rattle.m2m_names.specs.declared.operations.Op.TheVariants.{Create, Retrieve, Update, Delete, Notify}
-use Rattle.m2m_names.specs.declared.types.Ty.{Ty}
-use Rattle.m2m_names.specs.declared.types.Ty.TheVariants.{ContentInstance}
-use Rattle.m2m_value.specs.Data.{Entry}
-use Rattle.primitive_json.specs.declared.request.RequestParts.{RequestParts}
-use Rattle.resource_model.specs.Resource.{ResourceData, is_ty}
-use Rattle.tree_model.specs.Tree.{at, has, is_instance, is_tree, restamped}
 use Rattle.tree_model.proofs.GrowthLemmas.{tree_from_well_formed}
-use Rattle.tree_model.proofs.TreeLemmas.{at_has, at_number, at-replaced_other}
-use Rattle.entity_model.specs.Entity.{EntityData}
-use Rattle.entity_model.specs.Places.{Effect, refused}
-use Rattle.entity_model.specs.Sound.{IsSoundEntity}
-use Rattle.request_rules.specs.Creation.{Creation, new_resource, new_size, next_state}
-use Rattle.request_rules.specs.Order.{creation_by, fault_at, fault_on}
-use Rattle.request_rules.specs.Requests.{child_ty}
-use Rattle.request_rules.proofs.OrderLemmas.{found_at, nothing_on}
 use Rattle.request_rules.proofs.RefusalLemmas.{refuses_at}
-use Rattle.create_delete.specs.Changes.{changes_at, creation_changes, named_attrs, only_in, update_changes}
-use Rattle.create_delete.specs.Changing.{after_joining, create_effect, container_update_of, nodes_updated, effect_at, pushed_by, pushed_out, updated_by, updated_resource, with_new_resource}
 use Rattle.create_delete.specs.Guard.{IsChanged, IsGone}
-use Rattle.create_delete.specs.Joining.{gone_by, IsAllowed, MayJoinContainer, MayJoin}
 use Rattle.create_delete.specs.NewResource.{IsNewInstance, IsNewResource, IsReplacement}
 use Rattle.change_laws.specs.Served.{AddsOne, ChangesOne, ServesCreate, ServesDelete, ServesUpdate}
-use Rattle.create_delete.proofs.ChangesLemmas.{c_left, created_are, fresh, gone_are, none_false, nothing_apart, only_last, updated_are}
-use Rattle.create_delete.proofs.CreatableLemmas.{names_type}
-use Rattle.create_delete.proofs.DeletionLemmas.{deletion_keeps, delete_done}
 use Rattle.create_delete.proofs.GrownLemmas.{nothing_picked}
 use Rattle.create_delete.proofs.JoiningLemmas.{filled_is}
-use Rattle.create_delete.proofs.EffectLemmas.{done_at, refused_at}
 use Rattle.create_delete.proofs.ReplacementLemmas.{replacement}
 use Rattle.create_delete.proofs.RightCreateLemmas.{after_is, changed_is, create, itself, joins, made_sound, named, nodes_filled, older_there, removed, IsCreate}
 use Rattle.create_delete.proofs.RightLemmas.{stays_sound}

@@ -14,11 +14,11 @@ ghost use Rattle.request_rules.specs.Requests.{child_ty, named_by, named_for};
 ghost use Rattle.create_delete.specs.Changing.{updated_by};
 ghost use Rattle.change_laws.specs.Groups.{KeepsMembers};
 
-/// A group keeps of the members that it is asked to have each once, and only those: by its creation,
-/// and by an Update that names them or how many there may be. Who was asked for stays, but for a
-/// member of another type where such members are left out. A group of a type has no member that
-/// names a live resource of another one. It shows how many its members are, and whether each names
-/// a live resource.
+/// A group keeps of the members that it is asked to have each once, and only those: by its
+/// creation, and by an Update that names them or how many there may be. Who was asked for stays,
+/// but for a member of another type where such members are left out. A group of a type has no
+/// member that names a live resource of another one. It shows how many its members are, and whether
+/// each names a live resource.
 pub fn a_group_keeps_its_members_once()
     ensures created { (e : EntityData) (originator : List ℕ) (request : RequestParts) (n : ℕ)
         (parent : ResourceData)

@@ -6,9 +6,9 @@
 //! its target with all that stands below it. A Create and an Update remove besides at most
 //! instances that a container pushes out. The next number rises by just as many as are new. The
 //! changes that an operation makes, one after another, are those that it prepares. A group keeps
-//! each member that it is asked to have once, and none of another type than its own. All this is said
-//! of what an operation does before anybody is told (`effect_at`); what is told comes behind, with
-//! the same reply.
+//! each member that it is asked to have once, and none of another type than its own. All this is
+//! said of what an operation does before anybody is told (`effect_at`); what is told comes behind,
+//! with the same reply.
 #![tactic(auto)]
 
 mod changes;

@@ -3,7 +3,9 @@ use Rattle.std.specs.Prelude.{nat_eq}
 use Rattle.std.proofs.Common.{◌≡◌, ℕ, List, [], ◌∷◌, ◌++◌, cond, Option, Some, None, option_map, true, inl, inr, refl, sym, ap, ◌∙◌}
 use Rattle.std.proofs.lemmas.Bool.{cases_Bool, eqb-true}
 use Rattle.std.proofs.lemmas.Option.{same_Some}
-use Rattle.std.specs.HashMap.{HashMap, get}
+use Rattle.std.specs.BTreeMap.{BTreeMap, get, is_at}
+use Rattle.std.specs.Cmp.{Equal-is}
+use Rattle.std.specs.Ordering.{nat_cmp}
 use Rattle.std.specs.Int.RustNames.{bit_or}
 use Rattle.std.specs.Option.{option_and_then, option_map_or}
 use Rattle.m2m_names.specs.declared.types.Ty.{Ty}
@@ -16,20 +18,25 @@ use Rattle.m2m_value.specs.View.{as_text}
 use Rattle.resource_model.specs.Home.{HomeData}
 use Rattle.resource_model.specs.Resource.{ResourceData, is_ty}
 use Rattle.tree_model.specs.Tree.{at, of_type, resource_of_id, typed_at}
+use Rattle.tree_model.proofs.NumberLemmas.{equal_is}
 use Rattle.tree_model.proofs.TreeLemmas.{at_number}
 use Rattle.known_rights.specs.Tables.{AreBits, AreLent, NotesOrStays, lent_rules, rules_by_id}
 use Rattle.known_rights.proofs.BesidesLemmas.{rules_besides}
 use Rattle.policy_eval.specs.Rights.{bits_by, with_rule, with_rules}
 use Rattle.policy_eval.specs.Rules.{Rule, policy_at, policy_named, policy_number, policy_of, rules_by}
 
+-- a key that a number finds is that number
+at_number_is : (m n : ℕ) → is_at (nat_cmp m) n ≡ true → m ≡ n
+at_number_is m n t = equal_is m n ((Equal-is (nat_cmp m n)).0 t)
+
 -- a table with the bits of one more resource
-pub bits_noted : {S : Type 0} (rules : ResourceData → List Rule) (home : HomeData) (nodes : List ResourceData) (o : List ℕ) (old new : HashMap ℕ ℕ S) (r : ResourceData) (number bits : ℕ) → AreBits rules home nodes o old → at r.number nodes ≡ Some r → number ≡ r.number → bits ≡ bits_by home o (rules r) → NotesOrStays old new number bits → AreBits rules home nodes o new
+pub bits_noted : (rules : ResourceData → List Rule) (home : HomeData) (nodes : List ResourceData) (o : List ℕ) (old new : BTreeMap ℕ ℕ) (r : ResourceData) (number bits : ℕ) → AreBits rules home nodes o old → at r.number nodes ≡ Some r → number ≡ r.number → bits ≡ bits_by home o (rules r) → NotesOrStays old new number bits → AreBits rules home nodes o new
 bits_noted rules home nodes o old new r number bits had there is gives puts s b stands e = elim (puts s.number) [
   | inl noted ↦
-      let now : cond (nat_eq number s.number) (Some bits) (get nat_eq old s.number) ≡ Some b = sym noted ∙ e in
-      elim (cases_Bool (nat_eq number s.number)) [
+      let now : cond (is_at (nat_cmp number) s.number) (Some bits) (get nat_cmp old s.number) ≡ Some b = sym noted ∙ e in
+      elim (cases_Bool (is_at (nat_cmp number) s.number)) [
         | inl t ↦
-            let at_one : r.number ≡ s.number = sym is ∙ eqb-true number s.number t in
+            let at_one : r.number ≡ s.number = sym is ∙ at_number_is number s.number t in
             let one : r ≡ s = same_Some r s (sym there ∙ ap (λ n. at n nodes) at_one ∙ stands) in
             let same : bits ≡ b = same_Some bits b (rw t at now) in
             sym same ∙ gives ∙ ap (λ q. bits_by home o (rules q)) one
@@ -129,13 +136,13 @@ found_at id nodes p found =
     ap (option_and_then (of_type AccessControlPolicy)) (policy_there id nodes p found) ∙ rw is refl
 
 -- a table with the bits of one more policy
-pub lent_noted : {S : Type 0} (home : HomeData) (nodes : List ResourceData) (o : List ℕ) (old new : HashMap ℕ ℕ S) (id : Data) (p : ResourceData) → AreLent home nodes o old → policy_of nodes id ≡ Some p → NotesOrStays old new p.number (bits_by home o (lent_rules p)) → AreLent home nodes o new
+pub lent_noted : (home : HomeData) (nodes : List ResourceData) (o : List ℕ) (old new : BTreeMap ℕ ℕ) (id : Data) (p : ResourceData) → AreLent home nodes o old → policy_of nodes id ≡ Some p → NotesOrStays old new p.number (bits_by home o (lent_rules p)) → AreLent home nodes o new
 lent_noted home nodes o old new id p had found puts n b e = elim (puts n) [
   | inl noted ↦
-      let now : cond (nat_eq p.number n) (Some (bits_by home o (lent_rules p))) (get nat_eq old n) ≡ Some b = sym noted ∙ e in
-      elim (cases_Bool (nat_eq p.number n)) [
+      let now : cond (is_at (nat_cmp p.number) n) (Some (bits_by home o (lent_rules p))) (get nat_cmp old n) ≡ Some b = sym noted ∙ e in
+      elim (cases_Bool (is_at (nat_cmp p.number) n)) [
         | inl t ↦
-            ap (λ k. option_map (λ q. bits_by home o (lent_rules q)) (policy_at nodes k)) (sym (eqb-true p.number n t))
+            ap (λ k. option_map (λ q. bits_by home o (lent_rules q)) (policy_at nodes k)) (sym (at_number_is p.number n t))
             ∙ ap (option_map (λ q. bits_by home o (lent_rules q))) (found_at id nodes p found)
             ∙ (rw t at now)
         | inr f ↦ had n b (rw f at now)
@@ -149,16 +156,16 @@ given_by home o None bits own e = absurd (let none : None ≡ Some own = e in cc
 given_by home o (Some p) bits own e =
     ap (bit_or bits) (sym (same_Some (bits_by home o (lent_rules p)) own e)) ∙ sym (rules_besides home o bits (lent_rules p))
 
-pub known_gives : {S : Type 0} (home : HomeData) (nodes : List ResourceData) (o : List ℕ) (table : HashMap ℕ ℕ S) (id : Data) (bits own : ℕ) → AreLent home nodes o table → option_and_then (λ n. get nat_eq table n) (option_and_then policy_number (as_text id)) ≡ Some own → bit_or bits own ≡ with_rules home o bits (rules_by_id nodes id)
+pub known_gives : (home : HomeData) (nodes : List ResourceData) (o : List ℕ) (table : BTreeMap ℕ ℕ) (id : Data) (bits own : ℕ) → AreLent home nodes o table → option_and_then (λ n. get nat_cmp table n) (option_and_then policy_number (as_text id)) ≡ Some own → bit_or bits own ≡ with_rules home o bits (rules_by_id nodes id)
 known_gives home nodes o table id bits own lent e = by (as_text id) e
   where
-    by_number : (text : List ℕ) (m : Option ℕ) → policy_number text ≡ m → option_and_then (λ n. get nat_eq table n) m ≡ Some own → bit_or bits own ≡ with_rules home o bits (option_map_or lent_rules (policy_named nodes text) [])
+    by_number : (text : List ℕ) (m : Option ℕ) → policy_number text ≡ m → option_and_then (λ n. get nat_cmp table n) m ≡ Some own → bit_or bits own ≡ with_rules home o bits (option_map_or lent_rules (policy_named nodes text) [])
     by_number text None is says = absurd (let none : None ≡ Some own = says in cc)
     by_number text (Some n) is says =
         given_by home o (policy_at nodes n) bits own (lent n own says)
         ∙ ap (λ (found : Option ResourceData). with_rules home o bits (option_map_or lent_rules found [])) (sym (named_by_number nodes text n is))
 
-    by : (t : Option (List ℕ)) → option_and_then (λ n. get nat_eq table n) (option_and_then policy_number t) ≡ Some own → bit_or bits own ≡ with_rules home o bits (option_map_or lent_rules (option_and_then (policy_named nodes) t) [])
+    by : (t : Option (List ℕ)) → option_and_then (λ n. get nat_cmp table n) (option_and_then policy_number t) ≡ Some own → bit_or bits own ≡ with_rules home o bits (option_map_or lent_rules (option_and_then (policy_named nodes) t) [])
     by None says = absurd (let none : None ≡ Some own = says in cc)
     by (Some text) says = by_number text (policy_number text) refl says
 

@@ -1,6 +1,7 @@
 -- Bits by rules, in tables by the numbers of resources.
-use Rattle.std.specs.Prelude.{◌≡◌, ◌⊎◌, ℕ, nat_eq, List, [], Some, if◌then◌else◌, option_map}
-use Rattle.std.specs.HashMap.{HashMap, get}
+use Rattle.std.specs.Prelude.{◌≡◌, ◌⊎◌, ℕ, List, [], Some, if◌then◌else◌, option_map}
+use Rattle.std.specs.BTreeMap.{BTreeMap, get, is_at}
+use Rattle.std.specs.Ordering.{nat_cmp}
 use Rattle.std.specs.Option.{option_map_or}
 use Rattle.m2m_names.specs.declared.attributes.Attr.TheVariants.{Pv}
 use Rattle.m2m_value.specs.Data.{Data}
@@ -16,16 +17,16 @@ abbrev pub lent_rules : ResourceData → List Rule
 lent_rules policy = rules_in (value_of Pv policy.attrs)
 
 -- what a table has at the number of a resource are the bits that these rules of it give
-abbrev pub AreBits : {S : Type 0} → (ResourceData → List Rule) → HomeData → List ResourceData →
-    List ℕ → HashMap ℕ ℕ S → Type 0
+abbrev pub AreBits : (ResourceData → List Rule) → HomeData → List ResourceData →
+    List ℕ → BTreeMap ℕ ℕ → Type 0
 AreBits rules home nodes originator table =
     (r : ResourceData) (bits : ℕ) → at r.number nodes ≡ Some r
-    → get nat_eq table r.number ≡ Some bits → bits ≡ bits_by home originator (rules r)
+    → get nat_cmp table r.number ≡ Some bits → bits ≡ bits_by home originator (rules r)
 
 -- what a table has at a number are the bits that the policy of that number gives, which is there
-abbrev pub AreLent : {S : Type 0} → HomeData → List ResourceData → List ℕ → HashMap ℕ ℕ S → Type 0
+abbrev pub AreLent : HomeData → List ResourceData → List ℕ → BTreeMap ℕ ℕ → Type 0
 AreLent home nodes originator table =
-    (n bits : ℕ) → get nat_eq table n ≡ Some bits
+    (n bits : ℕ) → get nat_cmp table n ≡ Some bits
     → option_map (λ p. bits_by home originator (lent_rules p)) (policy_at nodes n) ≡ Some bits
 
 -- the rules by which the policy that an id names gives rights, where there is one
@@ -33,7 +34,7 @@ abbrev pub rules_by_id : List ResourceData → Data → List Rule
 rules_by_id nodes id = option_map_or lent_rules (policy_of nodes id) []
 
 -- a table has these bits at the number besides, or has no room for them and is as it was
-abbrev pub NotesOrStays : {S : Type 0} → HashMap ℕ ℕ S → HashMap ℕ ℕ S → ℕ → ℕ → Type 0
+abbrev pub NotesOrStays : BTreeMap ℕ ℕ → BTreeMap ℕ ℕ → ℕ → ℕ → Type 0
 NotesOrStays old new number bits =
-    (n : ℕ) → (get nat_eq new n ≡ (if nat_eq number n then Some bits else get nat_eq old n))
-    ⊎ (get nat_eq new n ≡ get nat_eq old n)
+    (n : ℕ) → (get nat_cmp new n ≡ (if is_at (nat_cmp number) n then Some bits else get nat_cmp old n))
+    ⊎ (get nat_cmp new n ≡ get nat_cmp old n)

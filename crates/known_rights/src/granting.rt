@@ -1,6 +1,7 @@
 //! The rights of an asker on many resources.
-ghost use Rattle.std.specs.Prelude.{◌≡◌, IsTrue, Some, nat_eq, option_and_then};
-ghost use Rattle.std.specs.HashMap.{get};
+ghost use Rattle.std.specs.Prelude.{◌≡◌, IsTrue, Some, option_and_then};
+ghost use Rattle.std.specs.BTreeMap.{get};
+ghost use Rattle.std.specs.Ordering.{nat_cmp};
 ghost use Rattle.m2m_names.specs.declared.attributes.Attr.TheVariants.{Pv};
 ghost use Rattle.m2m_names.specs.Name.{is_originator};
 ghost use Rattle.m2m_value.specs.View.{as_text};
@@ -40,7 +41,7 @@ fn with_policy(asker: &Asker, bits: u32, policy: &Resource, known: &mut Known) -
 
 // What is known of the policy that an id names.
 fn known_by_id(known: &Known, id: &Val) -> Option<u32>
-    ensures { result ≡ option_and_then (λ n. get nat_eq known.now.policies n)
+    ensures { result ≡ option_and_then (λ n. get nat_cmp known.now.policies n)
         (option_and_then spec_rules.policy_number (as_text id.now)) }
 {
     bits_at(&known.policies, policy_number(id)?)

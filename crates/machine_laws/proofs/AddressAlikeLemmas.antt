@@ -1,45 +1,10 @@
 -- Two entities of which an originator sees the same give what is seen alike at whatever the address of
 -- its request names, where they do so at each resource.
-use Rattle.std.proofs.Common.{◌≡◌, ℕ, List, [], ◌∷◌, map, Bool, true, false, cond, ◌&&◌, Option, Some, None, is_some, option_map, Result, Ok, Err, refl, sym, ap, ap₂, subst, ◌∙◌}
-use Rattle.std.specs.Option.{option_and_then, option_map_or}
-use Rattle.std.proofs.lemmas.Bool.{false≢true}
-use Rattle.std.proofs.lemmas.Option.{none-some, same_Some}
-use Rattle.m2m_names.specs.Operations.{op_row}
-use Rattle.m2m_names.specs.declared.codes.Rsc.{Rsc}
-use Rattle.m2m_names.specs.declared.codes.Rsc.TheVariants.{BadRequest, NoPrivilege, NotAllowed, NotFound}
-use Rattle.m2m_names.specs.declared.operations.Op.{Op}
-use Rattle.m2m_names.specs.declared.operations.Op.TheVariants.{Create, Retrieve, Update, Delete, Notify}
-use Rattle.m2m_names.specs.declared.types.Ty.TheVariants.{Group}
-use Rattle.primitive_json.specs.declared.request.RequestParts.{RequestParts}
-use Rattle.resource_model.specs.Home.{HomeData}
-use Rattle.resource_model.specs.Resource.{ResourceData, is_ty}
-use Rattle.tree_model.specs.Tree.{at, has, is_well_formed}
-use Rattle.tree_model.proofs.GrowthLemmas.{tree_from_well_formed}
-use Rattle.tree_model.proofs.TreeLemmas.{at_number, has-map}
-use Rattle.addressing.specs.Addresses.{address_of}
-use Rattle.addressing.specs.Names.{is_at, spot_of}
-use Rattle.addressing.specs.declared.addr.Addr.{Addr}
-use Rattle.addressing.specs.declared.addr.Addr.TheVariants.{Local, Foreign, OtherProvider}
-use Rattle.addressing.specs.declared.addr.AddrFault.{AddrFault}
-use Rattle.addressing.specs.declared.spot.Spot.{Spot}
-use Rattle.addressing.specs.declared.spot.Spot.TheVariants.{Resource, Fan, Poll}
-use Rattle.policy_eval.specs.Rights.{delete_bit, do_give, fan_grants, grants, notify_bit, relinks, update_bit}
-use Rattle.policy_eval.specs.Rules.{fan_rules}
-use Rattle.policy_laws.specs.Seen.{seen, seen_list}
-use Rattle.policy_laws.proofs.SeenLemmas.{fan_grants-seen, grants-seen, relinks-seen}
+use Rattle.machine_laws.proofs.Words.{◌≡◌, ℕ, List, [], ◌∷◌, map, Bool, true, false, cond, ◌&&◌, Option, Some, None, is_some, option_map, Result, Ok, Err, refl, sym, ap, ap₂, subst, ◌∙◌, option_and_then, option_map_or}
+use Rattle.machine_laws.proofs.Terms.{op_row, Rsc, BadRequest, NoPrivilege, NotAllowed, NotFound, Op, Create, Retrieve, Update, Delete, Notify, Group, RequestParts, HomeData, ResourceData, is_ty, at, has, is_well_formed, address_of, is_at, spot_of, Addr, Local, Foreign, OtherProvider, AddrFault, Spot, Resource, Fan, Poll, delete_bit, do_give, fan_grants, grants, notify_bit, relinks, update_bit, fan_rules, seen, seen_list, cse_named, first_url, EntityData, Effect, first_fault, on_found, refused, unless, create_bits, is_relink, may_do, retrieve_bits, comes_from_cse, routed_to, Done, EventEffect, address_effect, as_done, effect_of, first_places, has_answer, onward_effect, point_of, poll_effect, route_effect, spot_effect, fan_effect, fan_effect_at, fanned, is_fanned, listed_members, may_fan, member_effect, member_effect_at, member_effect_by, member_requests, requests_to, rest_of, sent_to, with_rest, resource_effect, claimed_originator, has_right}
+use Rattle.machine_laws.proofs.Facts.{false≢true, none-some, same_Some, tree_from_well_formed, at_number, has-map, fan_grants-seen, grants-seen, relinks-seen, AreSeenAlike, FoundAlike, by_fault, found_alike, found_both, not_found, same_home, seen_same}
 use Rattle.retrieve_laws.proofs.SpotLemmas.{spot_of-seen}
-use Rattle.subscription_match.specs.Destinations.{cse_named, first_url}
-use Rattle.entity_model.specs.Entity.{EntityData}
-use Rattle.entity_model.specs.Places.{Effect, first_fault, on_found, refused, unless}
-use Rattle.request_rules.specs.Rights.{create_bits, is_relink, may_do, retrieve_bits}
-use Rattle.retarget.specs.Routes.{comes_from_cse, routed_to}
 use Rattle.retarget.specs.declared.routing.Route.TheVariants as to
-use Rattle.cse_machine.specs.declared.event.Outcome.TheVariants.{Done}
-use Rattle.cse_machine.specs.Answer.{EventEffect, address_effect, as_done, effect_of, first_places, has_answer, onward_effect, point_of, poll_effect, route_effect, spot_effect}
-use Rattle.group_fanout.specs.Fan.{fan_effect, fan_effect_at, fanned, is_fanned, listed_members, may_fan, member_effect, member_effect_at, member_effect_by, member_requests, requests_to, rest_of, sent_to, with_rest}
-use Rattle.group_fanout.specs.Operations.{resource_effect}
-use Rattle.group_fanout.specs.Rights.{claimed_originator, has_right}
-use Rattle.sight_laws.proofs.SeenAlikeLemmas.{AreSeenAlike, FoundAlike, by_fault, found_alike, found_both, not_found, same_home, seen_same}
 use Rattle.machine_laws.specs.Sight.{AreCsesInOrder, does_poll, leads_away, names_poll, sight}
 use Rattle.machine_laws.proofs.FanSightLemmas.{fan_alike, fan_named, group_there, members_seen}
 use Rattle.machine_laws.proofs.PollSightLemmas.{first_false, poll_named}

@@ -1,27 +1,12 @@
 -- Entities of which an originator sees the same, one step after another.
-use Rattle.std.proofs.Common.{◌≡◌, ℕ, List, [], ◌∷◌, true, refl, sym, ap, subst, ◌∙◌}
-use Rattle.std.specs.List.{All, list_any}
-use Rattle.std.proofs.lemmas.Bool.{or_left, or_right}
-use Rattle.std.proofs.lemmas.List.Elements.{All-head, All-tail}
-use Rattle.turn_desk.specs.Entries.{readings_of, events_of, outcomes_of}
-use Rattle.primitive_json.specs.declared.request.RequestParts.{RequestParts}
-use Rattle.resource_model.specs.Home.{HomeData}
-use Rattle.entity_model.specs.Entity.{EntityData, swept}
-use Rattle.entity_model.specs.Sound.{IsSoundEntity}
-use Rattle.cse_machine.specs.declared.event.Event.{Event}
-use Rattle.cse_machine.specs.declared.event.Event.TheVariants.{Ask, Take, Tick}
-use Rattle.cse_machine.specs.declared.event.Outcome.{Outcome}
-use Rattle.cse_machine.specs.declared.event.Outcome.TheVariants.{Done, Forward, Item, Ticked, Starved}
-use Rattle.cse_machine.specs.Answer.{ComesOf, effect_of}
-use Rattle.cse_machine.specs.History.{History, HistoryLeaves, IsDone}
+use Rattle.machine_laws.proofs.Words.{◌≡◌, ℕ, List, [], ◌∷◌, true, refl, sym, ap, subst, ◌∙◌, All, list_any}
+use Rattle.machine_laws.proofs.Terms.{readings_of, events_of, outcomes_of, RequestParts, HomeData, EntityData, swept, IsSoundEntity, Event, Ask, Take, Tick, Outcome, Done, Forward, Item, Ticked, Starved, ComesOf, effect_of, History, HistoryLeaves, IsDone, Step}
+use Rattle.machine_laws.proofs.Facts.{or_left, or_right, All-head, All-tail, sound_swept, sound_counts}
 use Rattle.machine_laws.specs.Sight.{AreCsesInOrder, FindsUrls, IsBy, IsRequestBy, goes_away, sight}
-use Rattle.cse_machine.specs.Step.{Step}
-use Rattle.entity_model.proofs.TellingLemmas.{sound_swept}
 use Rattle.machine_laws.proofs.CseOrderLemmas.{effect_ordered}
 use Rattle.machine_laws.proofs.HistoryLemmas.{none_some, same_entity, same_first, same_rest, sound_step}
 use Rattle.machine_laws.proofs.RouteSightLemmas.{order_swept}
 use Rattle.machine_laws.proofs.SightLemmas.{left-alike, outcomes-alike, passed-alike}
-use Rattle.sight_laws.proofs.ToldLemmas.{sound_counts}
 
 -- what steps of both leave
 record AreStillAlike (o : List ℕ) (one other after left : EntityData) (mine theirs : Outcome) : Type 0 where

@@ -1,33 +1,12 @@
 -- What a request that was served changes.
+use Rattle.machine_laws.proofs.Words.{◌≡◌, ℕ, List, length, true, Some, None, refl, sym, ap, subst, ◌∙◌, arith}
+use Rattle.machine_laws.proofs.Terms.{is_originator, Fine, Op, Create, Retrieve, Update, Delete, Notify, ReplyParts, RequestParts, ResourceData, notes_of_all, EntityData, swept, at, Effect, refusal, reply_alone, fault_on, IsSoundEntity, changes_by, only_in, effect_at, effect_by, gone_numbers, told_effect_at, change_effect, operation_effect, reading_reply, claimed_originator}
+use Rattle.machine_laws.proofs.Facts.{true≢false, sound_swept, done_at, stays_sound, changing_at}
 use Rattle.std.specs.Prelude.{◌+◌}
-use Rattle.std.proofs.Common.{◌≡◌, ℕ, List, length, true, Some, None, refl, sym, ap, subst, ◌∙◌, arith}
-use Rattle.std.proofs.lemmas.Bool.{true≢false}
-use Rattle.m2m_names.specs.Name.{is_originator}
-use Rattle.m2m_names.specs.declared.codes.Rsc.TheVariants.{Ok as Fine}
-use Rattle.m2m_names.specs.declared.operations.Op.{Op}
-use Rattle.m2m_names.specs.declared.operations.Op.TheVariants.{Create, Retrieve, Update, Delete, Notify}
-use Rattle.primitive_json.specs.declared.reply.ReplyParts.{ReplyParts}
-use Rattle.primitive_json.specs.declared.request.RequestParts.{RequestParts}
-use Rattle.resource_model.specs.Resource.{ResourceData}
-use Rattle.subscription_match.specs.Notices.{notes_of_all}
-use Rattle.entity_model.specs.Entity.{EntityData, swept}
-use Rattle.tree_model.specs.Tree.{at}
-use Rattle.entity_model.specs.Places.{Effect, refusal, reply_alone}
-use Rattle.request_rules.specs.Order.{fault_on}
-use Rattle.entity_model.specs.Sound.{IsSoundEntity}
-use Rattle.entity_model.proofs.TellingLemmas.{sound_swept}
-use Rattle.create_delete.specs.Changes.{changes_by, only_in}
-use Rattle.create_delete.specs.Changing.{effect_at, effect_by}
-use Rattle.create_delete.specs.Telling.{gone_numbers, told_effect_at}
-use Rattle.create_delete.proofs.EffectLemmas.{done_at}
-use Rattle.create_delete.proofs.RightLemmas.{stays_sound}
 use Rattle.create_delete.proofs.ChangesLemmas.{nothing_apart}
 use Rattle.change_laws.proofs.ServedLemmas.{creation_adds_one, next_rises, update_alone}
-use Rattle.group_fanout.specs.Operations.{change_effect, operation_effect, reading_reply}
-use Rattle.group_fanout.proofs.OperationLemmas.{changing_at}
 use Rattle.machine_laws.specs.Asked.{CreatesAddOne, DeletesTakeTheirTarget, IsServedStep, NumbersRiseByWhatIsNew, UpdatesChangeTheirTarget, told_of}
 use Rattle.machine_laws.specs.Guard.{is_fan_point, is_success}
-use Rattle.group_fanout.specs.Rights.{claimed_originator}
 use Rattle.machine_laws.proofs.ChangingLemmas.{comes_at, fault_there, told_done, unrefused}
 use Rattle.machine_laws.proofs.GuardLemmas.{Served, comes, performed_is, served_after, served_on, served_reply}
 use Rattle.machine_laws.proofs.HistoryLemmas.{done_holds}

@@ -1,23 +1,10 @@
 -- What comes of a Create or an Update to two sound entities of which its originator sees the same is
 -- seen alike.
-use Rattle.std.proofs.Common.{◌≡◌, ℕ, List, true, false, Option, Some, None, refl, sym, ap, subst, ◌∙◌}
-use Rattle.m2m_names.specs.Name.{is_originator}
-use Rattle.m2m_names.specs.declared.operations.Op.{Op}
-use Rattle.m2m_names.specs.declared.operations.Op.TheVariants.{Create, Update}
-use Rattle.primitive_json.specs.declared.request.RequestParts.{RequestParts}
-use Rattle.resource_model.specs.Home.{HomeData}
-use Rattle.resource_model.specs.Resource.{ResourceData}
-use Rattle.tree_model.specs.Tree.{at}
-use Rattle.tree_model.proofs.TreeLemmas.{at_number}
-use Rattle.addressing.specs.Addresses.{address_of}
-use Rattle.entity_model.specs.Entity.{EntityData}
-use Rattle.create_delete.specs.Telling.{told_effect_on}
-use Rattle.cse_machine.specs.Answer.{effect_of}
-use Rattle.group_fanout.specs.Fan.{sent_to}
-use Rattle.group_fanout.specs.Operations.{change_effect, found_effect, operation_effect, resource_effect}
-use Rattle.group_fanout.specs.Rights.{claimed_originator}
+use Rattle.machine_laws.proofs.Words.{◌≡◌, ℕ, List, true, false, Option, Some, None, refl, sym, ap, subst, ◌∙◌}
+use Rattle.machine_laws.proofs.Terms.{is_originator, Op, Create, Update, RequestParts, HomeData, ResourceData, at, address_of, EntityData, told_effect_on, effect_of, sent_to, found_effect, operation_effect, resource_effect, claimed_originator}
+use Rattle.machine_laws.proofs.Facts.{at_number, AreSeenAlike, FoundAlike, found_alike, found_both, not_found}
+use Rattle.group_fanout.specs.Operations.{change_effect}
 use Rattle.sight_laws.proofs.CreatedLemmas.{created-alike}
-use Rattle.sight_laws.proofs.SeenAlikeLemmas.{AreSeenAlike, FoundAlike, found_alike, found_both, not_found}
 use Rattle.sight_laws.proofs.UpdateAlikeLemmas.{updated-alike}
 use Rattle.machine_laws.specs.Sight.{AreCsesInOrder, IsCalm, is_polling, leads_away, sight}
 use Rattle.machine_laws.proofs.AddressAlikeLemmas.{AreAnsweredAlike, effect_alike}

@@ -1,50 +1,18 @@
 -- What comes of a request that may change an entity.
-use Rattle.std.specs.Prelude.{Contains, ℤ, pos, ◌++◌, map, codes, unwrap_or}
-use Rattle.std.proofs.Common.{◌≡◌, ℕ, ◌≤◌, List, [], ◌∷◌, true, false, Option, Some, None, inl, inr, refl, sym, ap, subst, ◌∙◌, arith}
-use Rattle.std.proofs.lemmas.Bool.{cases_Bool, false≢true, true≢false}
-use Rattle.std.specs.Option.{option_map_or}
+use Rattle.machine_laws.proofs.Words.{Contains, ℤ, pos, codes, unwrap_or, ◌≡◌, ℕ, ◌≤◌, List, [], ◌∷◌, true, false, Option, Some, None, inl, inr, refl, sym, ap, subst, ◌∙◌, arith, option_map_or}
+use Rattle.machine_laws.proofs.Terms.{is_originator, does_take, ty_member, Ty, Rsc, BadChild, Created, Deleted, NoPrivilege, NotFound, Updated, Op, Create, Update, Delete, Data, object, text, pairs_of, Entry, ReplyParts, RequestParts, ResourceData, Row, at, structured_of, EntityData, Effect, refusal, refused, reply_alone, reply_to, IsSoundEntity, fault_at, fault_on, creation_by, child_ty, named_by, takes_child, may_do, OthersAreShownByRight, changes_by, create_effect, created_content, told_rows, update_effect, updated_content, updated_resource, drafts_at, told_effect, told_effect_at, told_effect_by, addressed, claimed_originator}
+use Rattle.machine_laws.proofs.Facts.{cases_Bool, false≢true, true≢false, append-nil, places_parts, addresses_under, ids_under, references_under, told_done_at, told_refused_at, told_by_right}
+use Rattle.std.specs.Prelude.{◌++◌, map}
 use Rattle.std.specs.Ordering.{int_eq}
-use Rattle.std.proofs.lemmas.List.{append-nil}
-use Rattle.m2m_names.specs.Name.{is_originator}
-use Rattle.m2m_names.specs.Types.{does_take, ty_member}
-use Rattle.m2m_names.specs.declared.types.Ty.{Ty}
-use Rattle.m2m_names.specs.declared.codes.Rsc.{Rsc}
-use Rattle.m2m_names.specs.declared.codes.Rsc.TheVariants.{BadChild, Created, Deleted, NoPrivilege, NotFound, Updated}
-use Rattle.m2m_names.specs.declared.operations.Op.{Op}
-use Rattle.m2m_names.specs.declared.operations.Op.TheVariants.{Create, Update, Delete}
-use Rattle.m2m_value.specs.Data.{Data, object, text, pairs_of, Entry}
 use Rattle.m2m_value.specs.View.{entries, member_of}
 use Rattle.m2m_value.proofs.Levels.{entries-pairs_of}
-use Rattle.primitive_json.specs.declared.reply.ReplyParts.{ReplyParts}
-use Rattle.primitive_json.specs.declared.request.RequestParts.{RequestParts}
-use Rattle.resource_model.specs.Resource.{ResourceData}
-use Rattle.resource_model.specs.Attributes.{Row}
 use Rattle.tree_model.specs.Shown.{members_of, shown_rows, wrapped}
-use Rattle.tree_model.specs.Tree.{at}
-use Rattle.addressing.specs.Names.{structured_of}
-use Rattle.entity_model.specs.Entity.{EntityData}
-use Rattle.entity_model.specs.Places.{Effect, refusal, refused, reply_alone, reply_to}
-use Rattle.entity_model.specs.Sound.{IsSoundEntity}
-use Rattle.request_rules.specs.Order.{fault_at, fault_on}
-use Rattle.request_rules.proofs.OrderLemmas.{places_parts}
 use Rattle.request_rules.proofs.RefusalLemmas.{refuses_at}
 use Rattle.request_rules.specs.Creation.{new_resource}
-use Rattle.request_rules.specs.Order.{creation_by}
-use Rattle.request_rules.specs.Requests.{child_ty, named_by, takes_child}
-use Rattle.request_rules.specs.Rights.{may_do}
-use Rattle.retrieve_laws.specs.Guard.{OthersAreShownByRight}
 use Rattle.retrieve_laws.specs.Told.{addresses_in, ids_below, listed_parts, references_in, shown_id, shown_reference, values_under}
-use Rattle.retrieve_laws.proofs.RightLemmas.{addresses_under, ids_under, references_under}
 use Rattle.retrieve_laws.proofs.ToldLemmas.{none_referred, none_under}
-use Rattle.create_delete.specs.Changes.{changes_by}
-use Rattle.create_delete.specs.Changing.{create_effect, created_content, told_rows, update_effect, updated_content, updated_resource}
 use Rattle.create_delete.specs.Guard.{ChangesByRight}
-use Rattle.create_delete.proofs.EffectLemmas.{told_done_at, told_refused_at}
-use Rattle.create_delete.proofs.RightLemmas.{told_by_right}
-use Rattle.create_delete.specs.Telling.{drafts_at, told_effect, told_effect_at, told_effect_by}
-use Rattle.cse_machine.specs.Answer.{addressed}
 use Rattle.machine_laws.specs.Guard.{is_success, DoesShow, HasRight, IsGuardedAlone}
-use Rattle.group_fanout.specs.Rights.{claimed_originator}
 
 -- ---- a refusal
 

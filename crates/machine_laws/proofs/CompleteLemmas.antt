@@ -1,55 +1,14 @@
 -- What nothing speaks against is served.
-use Rattle.std.proofs.Common.{◌≡◌, ◌⊎◌, ℕ, List, [], ◌∷◌, ◌++◌, All, Bool, true, false, find, Option, Some, None, is_some, Result, Ok, Err, inl, inr, refl, sym, ap, subst, ◌∙◌}
-use Rattle.std.specs.Option.{option_and_then, option_map_or}
-use Rattle.std.proofs.lemmas.Bool.{and_parts, cases_Bool, cond-true, cond-false, false≢true}
-use Rattle.std.proofs.lemmas.List.Elements.{All-head, All-tail}
-use Rattle.std.proofs.lemmas.Option.{none-some}
-use Rattle.m2m_names.specs.declared.codes.Rsc.{Rsc}
-use Rattle.m2m_names.specs.declared.codes.Rsc.TheVariants.{NotFound}
-use Rattle.m2m_names.specs.declared.operations.Op.{Op}
-use Rattle.m2m_names.specs.declared.operations.Op.TheVariants.{Create, Retrieve, Update, Delete, Notify}
-use Rattle.m2m_names.specs.Types.{does_take}
-use Rattle.m2m_names.specs.declared.types.Ty.{Ty}
-use Rattle.primitive_json.specs.declared.request.RequestParts.{RequestParts}
-use Rattle.resource_model.specs.Resource.{ResourceData}
-use Rattle.tree_model.specs.Tree.{at, cse_of, has}
-use Rattle.tree_model.proofs.TreeLemmas.{at_number}
-use Rattle.addressing.specs.Addresses.{address_of}
-use Rattle.addressing.specs.Laws.{named_here}
-use Rattle.addressing.specs.Names.{spot_of}
-use Rattle.addressing.specs.declared.addr.Addr.{Addr}
-use Rattle.addressing.specs.declared.addr.Addr.TheVariants.{Local, Foreign, OtherProvider}
-use Rattle.addressing.specs.declared.addr.AddrFault.{AddrFault}
-use Rattle.addressing.specs.declared.spot.Spot.{Spot}
-use Rattle.addressing.specs.declared.spot.Spot.TheVariants.{Resource, Fan, Poll}
-use Rattle.policy_eval.specs.Rights.{grants}
-use Rattle.entity_model.specs.Entity.{EntityData, swept}
-use Rattle.entity_model.specs.Places.{Effect, first_fault, on_found, reading_bit, refused, refusal}
-use Rattle.request_rules.proofs.OrderLemmas.{members_parts}
+use Rattle.machine_laws.proofs.Words.{◌≡◌, ◌⊎◌, ℕ, List, [], ◌∷◌, ◌++◌, Bool, true, false, find, Option, Some, None, is_some, Result, Ok, Err, inl, inr, refl, sym, ap, subst, ◌∙◌, option_and_then, option_map_or}
+use Rattle.machine_laws.proofs.Terms.{Rsc, NotFound, Op, Create, Retrieve, Update, Delete, Notify, does_take, Ty, RequestParts, ResourceData, at, cse_of, has, address_of, named_here, spot_of, Addr, Local, Foreign, OtherProvider, AddrFault, Spot, Resource, Fan, Poll, grants, EntityData, swept, Effect, first_fault, on_found, reading_bit, refused, refusal, creation_by, creation_places, fault_on, fault_new, new_places, child_ty, named_by, is_discovery, retrieved_of, effect_by, told_effect_by, Ask, Outcome, Done, Forward, Item, Ticked, Starved, first_url, is_url, leading_cse_id, EventEffect, address_effect, addressed, as_done, does_serve, effect_of, onward_effect, point_of, poll_effect, resource_at, route_effect, spot_effect, operation_effect, reading_reply, relay_effect, resource_effect, forwarded, routed, routed_to, polled, Step, fan_effect, may_fan, rest_of, claimed_originator}
+use Rattle.machine_laws.proofs.Facts.{and_parts, cases_Bool, cond-true, cond-false, false≢true, All-head, All-tail, none-some, at_number, members_parts, poll_there, reading_found, reading_shown}
+use Rattle.std.proofs.Common.{All}
 use Rattle.request_rules.specs.Groups.{membership_edited, membership_new}
-use Rattle.request_rules.specs.Order.{creation_by, creation_places, fault_on, fault_new, new_places}
-use Rattle.request_rules.specs.Requests.{child_ty, named_by}
-use Rattle.request_rules.specs.Rights.{is_discovery}
-use Rattle.retrieve_discover.specs.Replies.{retrieved_of}
-use Rattle.create_delete.specs.Changing.{effect_by}
-use Rattle.create_delete.specs.Telling.{told_effect_by}
-use Rattle.cse_machine.specs.declared.event.Event.TheVariants.{Ask}
-use Rattle.cse_machine.specs.declared.event.Outcome.{Outcome}
-use Rattle.cse_machine.specs.declared.event.Outcome.TheVariants.{Done, Forward, Item, Ticked, Starved}
-use Rattle.subscription_match.specs.Destinations.{first_url, is_url, leading_cse_id}
-use Rattle.cse_machine.specs.Answer.{EventEffect, address_effect, addressed, as_done, does_serve, effect_of, onward_effect, point_of, poll_effect, resource_at, route_effect, spot_effect}
-use Rattle.group_fanout.specs.Operations.{change_effect, operation_effect, reading_reply, relay_effect, resource_effect}
-use Rattle.retarget.specs.Routes.{forwarded, routed, routed_to}
+use Rattle.group_fanout.specs.Operations.{change_effect}
 use Rattle.retarget.specs.declared.routing.Route.{Route}
 use Rattle.retarget.specs.declared.routing.Route.TheVariants as to
-use Rattle.retrieve_discover.specs.Polling.{polled}
-use Rattle.cse_machine.specs.Step.{Step}
-use Rattle.cse_machine.proofs.OutcomeLemmas.{poll_there}
-use Rattle.group_fanout.specs.Fan.{fan_effect, may_fan, rest_of}
 use Rattle.machine_laws.specs.Complete.{IsStarved, IsSuccess, MayBeDone, MayBeHeard, WhatIsAnsweredIsTaken, WhatMayBeFannedOutIsFannedOut, WhatMayBeServedIsServed, WhatMayGoOnGoesOn, WhatWaitsIsGiven}
 use Rattle.machine_laws.specs.Guard.{spot_asked}
-use Rattle.group_fanout.specs.Rights.{claimed_originator}
-use Rattle.group_fanout.proofs.OperationLemmas.{reading_found, reading_shown}
 use Rattle.machine_laws.proofs.RelayLemmas.{relay_unrefused}
 use Rattle.machine_laws.proofs.WayLemmas.{fanned_by, given_note, heard, taken_answer}
 

@@ -1,29 +1,10 @@
 -- The attributes of registered CSEs stay in order through requests.
-use Rattle.std.proofs.Common.{◌≡◌, ℕ, List, true, Option, Some, None, refl, sym, ap, subst, ◌∙◌}
-use Rattle.std.specs.Option.{option_map_or}
-use Rattle.m2m_names.specs.Name.{is_originator}
-use Rattle.m2m_names.specs.declared.codes.Rsc.{Rsc}
-use Rattle.m2m_names.specs.declared.operations.Op.{Op}
-use Rattle.m2m_names.specs.declared.operations.Op.TheVariants.{Create, Retrieve, Update, Delete, Notify}
-use Rattle.primitive_json.specs.declared.request.RequestParts.{RequestParts}
-use Rattle.resource_model.specs.Home.{HomeData}
-use Rattle.resource_model.specs.Resource.{ResourceData, has_number}
-use Rattle.tree_model.specs.Tree.{at, is_well_formed, without}
-use Rattle.tree_model.proofs.GrowthLemmas.{tree_from_well_formed}
-use Rattle.tree_model.proofs.KeptLemmas.{is_well_formed-without}
-use Rattle.entity_model.specs.Entity.{EntityData}
-use Rattle.entity_model.specs.Places.{refused}
-use Rattle.entity_model.specs.Sound.{IsSoundEntity}
-use Rattle.request_rules.specs.Order.{fault_on}
-use Rattle.create_delete.specs.Telling.{told_effect_by}
-use Rattle.cse_machine.specs.Answer.{effect_of}
-use Rattle.group_fanout.specs.Fan.{member_effect, sent_to}
-use Rattle.group_fanout.specs.Operations.{change_effect, operation_effect}
-use Rattle.group_fanout.specs.Rights.{claimed_originator}
+use Rattle.machine_laws.proofs.Words.{◌≡◌, ℕ, List, true, Option, Some, None, refl, sym, ap, subst, ◌∙◌, option_map_or}
+use Rattle.machine_laws.proofs.Terms.{is_originator, Rsc, Op, Create, Retrieve, Update, Delete, Notify, RequestParts, HomeData, ResourceData, has_number, at, is_well_formed, without, EntityData, refused, IsSoundEntity, fault_on, told_effect_by, effect_of, member_effect, sent_to, operation_effect, claimed_originator}
+use Rattle.machine_laws.proofs.Facts.{tree_from_well_formed, is_well_formed-without, order_left, order_spent, sound_counts, without_counts}
+use Rattle.group_fanout.specs.Operations.{change_effect}
 use Rattle.sight_laws.proofs.CreatedOrderLemmas.{created_order}
 use Rattle.sight_laws.proofs.UpdatedOrderLemmas.{updated_order}
-use Rattle.sight_laws.proofs.CseOrderLemmas.{order_left, order_spent}
-use Rattle.sight_laws.proofs.ToldLemmas.{sound_counts, without_counts}
 use Rattle.machine_laws.specs.Sight.{AreCsesInOrder}
 use Rattle.machine_laws.proofs.GuardLemmas.{comes, left_by, may_send}
 use Rattle.machine_laws.proofs.MemberLemmas.{IsSoundAt, MaySend, member_sound, members_leave, of_member}

@@ -1,26 +1,10 @@
 -- Where memory runs out in a fan-out, so many of its members are done.
-use Rattle.std.proofs.Common.{◌≡◌, ℕ, ◌≤◌, List, [], ◌∷◌, take, length, Bool, true, false, Option, Some, None, refl, sym, ap, ◌∙◌, arith}
-use Rattle.std.specs.Option.{option_map_or}
+use Rattle.machine_laws.proofs.Words.{◌≡◌, ℕ, ◌≤◌, List, [], ◌∷◌, take, length, Bool, true, false, Option, Some, None, refl, sym, ap, ◌∙◌, arith, option_map_or}
+use Rattle.machine_laws.proofs.Terms.{is_originator, Rsc, NoPrivilege, NotAllowed, RequestParts, ResourceData, at, Spot, Resource, Fan, Poll, EntityData, first_fault, unless, does_serve, first_places, has_originator, IsCutShort, heard_members, after_members, fanned_requests, is_fanned, may_fan, member_requests, requests_to, rest_of, served_members, claimed_originator}
+use Rattle.machine_laws.proofs.Facts.{at_number, claimed_valid}
 use Rattle.std.proofs.Math.Seq.{take-nil}
-use Rattle.m2m_names.specs.Name.{is_originator}
-use Rattle.m2m_names.specs.declared.codes.Rsc.{Rsc}
-use Rattle.m2m_names.specs.declared.codes.Rsc.TheVariants.{BadRequest, NoPrivilege, NotAllowed}
-use Rattle.primitive_json.specs.Form.{has_form}
-use Rattle.primitive_json.specs.declared.request.RequestParts.{RequestParts}
-use Rattle.resource_model.specs.Resource.{ResourceData}
-use Rattle.tree_model.specs.Tree.{at}
-use Rattle.tree_model.proofs.TreeLemmas.{at_number}
-use Rattle.addressing.specs.declared.spot.Spot.{Spot}
-use Rattle.addressing.specs.declared.spot.Spot.TheVariants.{Resource, Fan, Poll}
-use Rattle.entity_model.specs.Entity.{EntityData}
-use Rattle.entity_model.specs.Places.{first_fault, unless}
-use Rattle.request_rules.proofs.OrderLemmas.{first_holds}
-use Rattle.cse_machine.specs.Answer.{address_places, does_serve, first_places, form_places, has_originator, is_served, originator_places}
-use Rattle.cse_machine.specs.Step.{IsCutShort, heard_members}
-use Rattle.cse_machine.proofs.PlaceLemmas.{claimed_valid}
-use Rattle.group_fanout.specs.Fan.{after_members, fanned_requests, is_fanned, may_fan, member_requests, requests_to, rest_of, served_members}
-use Rattle.group_fanout.specs.Rights.{claimed_originator}
 use Rattle.machine_laws.specs.Guard.{is_fan_point, spot_asked}
+use Rattle.machine_laws.proofs.JudgedLemmas.{heard_facts}
 use Rattle.machine_laws.proofs.MemberLemmas.{MaySend, members_kept, take_requests}
 use Rattle.machine_laws.proofs.WayLemmas.{member_addresses}
 
@@ -68,22 +52,10 @@ module _ (e : EntityData) (request : RequestParts) where
   on_spot (Some (Fan n place)) served by is = on_fan n place (at n e.nodes) served by is refl
   on_spot (Some (Poll channel)) served by is = no_fan refl
 
-  -- it is one that is served, and says who asks
-  pub record IsHeard : Type 0 where
-    pub served : does_serve request.op request ≡ true
-    pub originator : has_originator e.home request ≡ true
-
-  pub heard_facts : first_fault (first_places e request) ≡ None → IsHeard
-  heard_facts is =
-      let first = first_holds (unless (is_served request) BadRequest) (form_places e request) is in
-      let second = first_holds (unless (has_form request) BadRequest) (originator_places e request) first.1 in
-      let third = first_holds (unless (has_originator e.home request) BadRequest) (address_places e request) second.1 in
-      record { served = first.0; originator = third.0 }
-
   by_place : (fault : Option Rsc) → first_fault (first_places e request) ≡ fault → Heard e request (option_map_or (λ (f : Rsc). []) fault (served_members e request (spot_asked e request)))
   by_place (Some fault) is = no_fan refl
   by_place None is =
-      let heard = heard_facts is in
+      let heard = heard_facts e request is in
       on_spot (spot_asked e request) heard.served heard.originator refl
 
   pub heard_by : Heard e request (heard_members e request)

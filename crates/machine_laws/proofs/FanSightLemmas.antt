@@ -1,37 +1,14 @@
 -- A fan-out gives what is seen alike: whoever may fan out to a group sees its members, and what
 -- comes of a request to each of them is seen alike.
-use Rattle.std.proofs.Common.{◌≡◌, ℕ, ◌+◌, List, [], ◌∷◌, ◌++◌, map, true, false, Option, Some, None, option_map, inl, inr, refl, ap, ap₂, subst, ◌∙◌, arith}
-use Rattle.std.specs.Prelude.{nat_lt}
-use Rattle.std.specs.Option.{option_and_then}
-use Rattle.std.proofs.lemmas.Bool.{and_from, and_parts, both_ways, cases_Bool, or_right}
-use Rattle.std.proofs.lemmas.Bool.Decides.{nat_tests}
-use Rattle.m2m_names.specs.Operations.{op_row}
-use Rattle.m2m_names.specs.declared.attributes.Attr.TheVariants.{Mid}
-use Rattle.m2m_names.specs.declared.codes.Rsc.TheVariants.{Ok as Fine}
-use Rattle.m2m_names.specs.declared.operations.Op.{Op}
-use Rattle.m2m_names.specs.declared.operations.Op.TheVariants.{Create, Retrieve, Update, Delete, Notify}
-use Rattle.m2m_names.specs.declared.types.Ty.TheVariants.{Group}
-use Rattle.m2m_value.specs.Data.{Data, text}
+use Rattle.machine_laws.proofs.Words.{◌≡◌, ℕ, ◌+◌, List, [], ◌∷◌, ◌++◌, map, true, false, Option, Some, None, option_map, inl, inr, refl, sym, ap, ap₂, subst, ◌∙◌, arith, nat_lt, option_and_then}
+use Rattle.machine_laws.proofs.Terms.{op_row, Mid, Fine, Op, Create, Retrieve, Update, Delete, Notify, Group, Data, text, ReplyParts, RequestParts, HomeData, ResourceData, is_ty, at, bits_by, do_give, has_bits, fan_rules, listed_in, texts_of, may_use, seen, base_of, first_named, is_at, next_named, poll_point, spot_from, spot_of, Resource, Fan, EntityData, reply_to, after_members, fanned, gathered_one, gathering, listed_members, member_effect, requests_to, sent_to, singles_of}
+use Rattle.machine_laws.proofs.Facts.{and_from, both_ways, cases_Bool, or_right, nat_tests, seen_shows, AreSeenAlike}
 use Rattle.filter_criteria.specs.Values.{object_of}
 use Rattle.primitive_json.specs.Members.{name_of_member}
 use Rattle.primitive_json.specs.Writing.{reply_rows}
 use Rattle.primitive_json.specs.declared.member.Member.TheVariants.{Target}
-use Rattle.primitive_json.specs.declared.reply.ReplyParts.{ReplyParts}
-use Rattle.primitive_json.specs.declared.request.RequestParts.{RequestParts}
-use Rattle.resource_model.specs.Home.{HomeData}
-use Rattle.resource_model.specs.Resource.{ResourceData, is_ty}
-use Rattle.tree_model.specs.Tree.{at}
-use Rattle.policy_eval.specs.Rights.{bits_by, do_give, has_bits}
-use Rattle.policy_eval.specs.Rules.{fan_rules, listed_in, texts_of}
-use Rattle.policy_laws.specs.Seen.{may_use, seen}
-use Rattle.policy_laws.proofs.SeenLemmas.{seen_shows}
-use Rattle.addressing.specs.Names.{base_of, first_named, is_at, is_fan, is_poll, next_named, poll_point, spot_from, spot_of}
-use Rattle.addressing.specs.declared.spot.Spot.TheVariants.{Resource, Fan}
-use Rattle.entity_model.specs.Entity.{EntityData}
-use Rattle.entity_model.specs.Places.{reply_to}
-use Rattle.group_fanout.specs.Fan.{after_members, fanned, gathered_one, gathering, listed_members, member_effect, requests_to, sent_to, singles_of}
 use Rattle.machine_laws.specs.Sight.{sight}
-use Rattle.sight_laws.proofs.SeenAlikeLemmas.{AreSeenAlike}
+use Rattle.machine_laws.proofs.SpotLemmas.{a_fan_point, a_poll_point, a_resource, leads_to}
 
 -- ---- a fan-out point is that of a group
 
@@ -47,14 +24,10 @@ same_group n m place other same = cc
 
 fan_from : (place n : ℕ) (names : List (List ℕ)) (nodes : List ResourceData) (group rest : ℕ) → spot_from place n names nodes ≡ Some (Fan group rest) → is_at Group group nodes ≡ true
 fan_from place n [] nodes group rest is = absurd (resource_fan n group rest is)
-fan_from place n (name ∷ names) nodes group rest is = elim (cases_Bool (is_fan n name nodes)) [
-  | inl t ↦
-      let same : Some (Fan n (place + 1)) ≡ Some (Fan group rest) = rw t at is in
-      subst (λ (m : ℕ). is_at Group m nodes ≡ true) (same_group n group (place + 1) rest same) (and_parts _ (is_at Group n nodes) t).1
-  | inr f ↦ elim (cases_Bool (is_poll n name nodes)) [
-    | inl t ↦ absurd (poll_fan n group rest names (rw (f, t) at is))
-    | inr g ↦ by (next_named n name nodes) (λ m. fan_from (place + 1) m names nodes group rest) (rw (f, g) at is)
-  ]
+fan_from place n (name ∷ names) nodes group rest is = elim (leads_to place n name names nodes) [
+  | a_fan_point at_group here ↦ subst (λ (m : ℕ). is_at Group m nodes ≡ true) (same_group n group (place + 1) rest (sym here ∙ is)) at_group
+  | a_poll_point named here ↦ absurd (poll_fan n group rest names (sym here ∙ is))
+  | a_resource here ↦ by (next_named n name nodes) (λ m. fan_from (place + 1) m names nodes group rest) (sym here ∙ is)
 ]
   where
     by : (next : Option ℕ) → ((m : ℕ) → spot_from (place + 1) m names nodes ≡ Some (Fan group rest) → is_at Group group nodes ≡ true) → option_and_then (λ (m : ℕ). spot_from (place + 1) m names nodes) next ≡ Some (Fan group rest) → is_at Group group nodes ≡ true

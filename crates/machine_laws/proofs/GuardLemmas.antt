@@ -1,38 +1,8 @@
 -- Nothing is shown or changed but by a grant.
-use Rattle.std.proofs.Common.{◌≡◌, ℕ, List, true, false, Option, Some, None, option_map, inl, inr, refl, sym, ap, subst, ◌∙◌, arith}
-use Rattle.std.specs.Prelude.{⊤}
-use Rattle.std.proofs.lemmas.Bool.{true≢false}
-use Rattle.std.proofs.lemmas.Option.{none-some, same_Some}
-use Rattle.std.specs.Option.{option_and_then}
-use Rattle.m2m_names.specs.Operations.{op_row}
-use Rattle.notify_outbox.specs.Items.{waits_for}
-use Rattle.entity_model.proofs.SoundLemmas.{sound_taken}
-use Rattle.m2m_names.specs.Name.{is_originator}
-use Rattle.m2m_names.specs.declared.codes.Rsc.{Rsc}
-use Rattle.m2m_names.specs.declared.codes.Rsc.TheVariants.{Ok as Fine}
-use Rattle.m2m_names.specs.declared.operations.Op.{Op}
-use Rattle.m2m_names.specs.declared.operations.Op.TheVariants.{Retrieve, Notify}
-use Rattle.primitive_json.specs.declared.reply.ReplyParts.{ReplyParts}
-use Rattle.primitive_json.specs.declared.request.RequestParts.{RequestParts}
-use Rattle.resource_model.specs.Resource.{ResourceData}
-use Rattle.tree_model.specs.Tree.{at}
-use Rattle.policy_eval.specs.Rights.{grants}
-use Rattle.entity_model.specs.Entity.{EntityData}
-use Rattle.entity_model.specs.Places.{Effect, refusal, refused, reply_to}
-use Rattle.entity_model.specs.Sound.{IsSoundEntity}
-use Rattle.request_rules.specs.Rights.{may_do}
-use Rattle.retrieve_discover.specs.Polling.{handed_on}
-use Rattle.addressing.specs.declared.spot.Spot.{Spot}
-use Rattle.addressing.specs.declared.spot.Spot.TheVariants.{Resource, Fan, Poll}
-use Rattle.create_delete.specs.Telling.{told_effect_at}
-use Rattle.cse_machine.specs.declared.event.Outcome.TheVariants.{Done, Forward}
-use Rattle.cse_machine.specs.Answer.{EventEffect, addressed, as_done, does_serve, effect_of, resource_at}
-use Rattle.group_fanout.specs.Fan.{is_fanned, member_effect, requests_to, sent_to, singles_of}
-use Rattle.group_fanout.specs.Operations.{change_effect, operation_effect}
+use Rattle.machine_laws.proofs.Words.{◌≡◌, ℕ, List, true, false, Option, Some, None, option_map, inl, inr, refl, sym, ap, subst, ◌∙◌, arith, ⊤, option_and_then}
+use Rattle.machine_laws.proofs.Terms.{op_row, waits_for, is_originator, Rsc, Fine, Op, Retrieve, Notify, ReplyParts, RequestParts, ResourceData, at, grants, EntityData, Effect, refusal, refused, reply_to, IsSoundEntity, may_do, handed_on, Spot, Resource, Fan, Poll, told_effect_at, Done, Forward, EventEffect, addressed, as_done, does_serve, effect_of, resource_at, is_fanned, member_effect, requests_to, sent_to, singles_of, change_effect, operation_effect, claimed_originator}
+use Rattle.machine_laws.proofs.Facts.{true≢false, none-some, same_Some, sound_taken, same_reply, changing_at}
 use Rattle.machine_laws.specs.Guard.{is_success, IsGuardedAt, IsGuarded, spot_asked}
-use Rattle.group_fanout.specs.Rights.{claimed_originator}
-use Rattle.cse_machine.proofs.OutcomeLemmas.{same_reply}
-use Rattle.group_fanout.proofs.OperationLemmas.{changing_at}
 use Rattle.machine_laws.proofs.ChangingLemmas.{IsKept, shows_none, still_kept}
 use Rattle.machine_laws.proofs.RelayLemmas.{relay_nodes}
 use Rattle.machine_laws.proofs.MemberLemmas.{IsSoundAt, MaySend, members_guarded, members_kept, members_sound, members_still, of_member}

@@ -1,27 +1,9 @@
 -- Steps one after another.
-use Rattle.std.proofs.Common.{◌≡◌, ◌⊎◌, ℕ, List, [], ◌∷◌, ◌++◌, false, length, get_or, drop, take, inl, inr, refl, sym, ap, subst, ◌∙◌, arith}
-use Rattle.std.specs.List.{All}
-use Rattle.std.proofs.lemmas.List.Elements.{All-head, All-tail}
-use Rattle.turn_desk.specs.Entries.{entry_of, readings_of, events_of, outcomes_of}
+use Rattle.machine_laws.proofs.Words.{◌≡◌, ◌⊎◌, ℕ, List, [], ◌∷◌, ◌++◌, false, length, get_or, drop, take, inl, inr, refl, sym, ap, subst, ◌∙◌, arith, All}
+use Rattle.machine_laws.proofs.Terms.{entry_of, readings_of, events_of, outcomes_of, ReplyParts, RequestParts, is_to_send, EntityData, swept, Effect, IsSoundEntity, Event, Ask, Take, Tick, Outcome, Done, Forward, Item, Ticked, Starved, Single, requests_to, singles_of, EventEffect, History, HistoryLeaves, IsDone, IsUnswept, Step}
+use Rattle.machine_laws.proofs.Facts.{All-head, All-tail, sound_taken, sound_swept, same_reply}
 use Rattle.turn_desk.specs.Joins.{Runs-append}
-use Rattle.primitive_json.specs.declared.reply.ReplyParts.{ReplyParts}
-use Rattle.primitive_json.specs.declared.request.RequestParts.{RequestParts}
-use Rattle.notify_outbox.specs.Items.{is_to_send}
-use Rattle.entity_model.specs.Entity.{EntityData, swept}
-use Rattle.entity_model.specs.Places.{Effect}
-use Rattle.entity_model.specs.Sound.{IsSoundEntity}
-use Rattle.entity_model.proofs.SoundLemmas.{sound_taken}
-use Rattle.entity_model.proofs.TellingLemmas.{sound_swept}
-use Rattle.cse_machine.specs.declared.event.Event.{Event}
-use Rattle.cse_machine.specs.declared.event.Event.TheVariants.{Ask, Take, Tick}
-use Rattle.cse_machine.specs.declared.event.Outcome.{Outcome}
-use Rattle.cse_machine.specs.declared.event.Outcome.TheVariants.{Done, Forward, Item, Ticked, Starved}
-use Rattle.group_fanout.specs.Fan.{Single, requests_to, singles_of}
 use Rattle.machine_laws.specs.Guard.{AreGuarded, IsGuarded, IsGuardedShort, IsSameEntity, is_fan_point, spot_asked}
-use Rattle.cse_machine.specs.Answer.{EventEffect}
-use Rattle.cse_machine.specs.History.{History, HistoryLeaves, IsDone}
-use Rattle.cse_machine.specs.Step.{IsUnswept, Step}
-use Rattle.cse_machine.proofs.OutcomeLemmas.{same_reply}
 use Rattle.machine_laws.proofs.ChangingLemmas.{IsKept}
 use Rattle.machine_laws.proofs.CutLemmas.{IsLeftShort, alone_undone, first_undone, left_short, short_send, some_done, undone}
 use Rattle.machine_laws.proofs.GuardLemmas.{Came, answered_here, guarded, kept, onward_still, replied, sound_effect, went_on}

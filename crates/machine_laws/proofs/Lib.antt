@@ -1,4 +1,9 @@
+pub mod Words
+pub mod Terms
+pub mod Facts
 pub mod OwnLemmas
+pub mod JudgedLemmas
+pub mod SpotLemmas
 pub mod WayLemmas
 pub mod ChangingLemmas
 pub mod RelayLemmas

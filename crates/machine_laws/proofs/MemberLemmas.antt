@@ -1,32 +1,7 @@
 -- What comes of requests to the members of a group, one after another.
-use Rattle.std.proofs.Common.{◌≡◌, ◌⊎◌, ℕ, zero, suc, ◌≤◌, List, [], ◌∷◌, take, true, false, Option, Some, None, Result, Ok, Err, inl, inr, refl, sym, ap, subst, ◌∙◌, arith}
-use Rattle.std.specs.Option.{option_and_then}
-use Rattle.std.proofs.lemmas.List.{take-map}
-use Rattle.m2m_names.specs.Name.{is_originator}
-use Rattle.m2m_names.specs.declared.codes.Rsc.{Rsc}
-use Rattle.m2m_names.specs.declared.codes.Rsc.TheVariants.{NotAllowed, NotFound, NotReachable}
-use Rattle.m2m_names.specs.declared.operations.Op.{Op}
-use Rattle.m2m_names.specs.declared.operations.Op.TheVariants.{Create, Retrieve, Update, Delete, Notify}
-use Rattle.primitive_json.specs.declared.request.RequestParts.{RequestParts}
-use Rattle.resource_model.specs.Home.{HomeData}
-use Rattle.resource_model.specs.Resource.{ResourceData}
-use Rattle.tree_model.specs.Tree.{at}
-use Rattle.tree_model.proofs.TreeLemmas.{at_number}
-use Rattle.addressing.specs.Addresses.{address_of}
-use Rattle.addressing.specs.Laws.{named_here}
-use Rattle.addressing.specs.Names.{spot_of}
-use Rattle.addressing.specs.declared.addr.Addr.{Addr}
-use Rattle.addressing.specs.declared.addr.Addr.TheVariants.{Local, Foreign, OtherProvider}
-use Rattle.addressing.specs.declared.addr.AddrFault.{AddrFault}
-use Rattle.addressing.specs.declared.spot.Spot.{Spot}
-use Rattle.addressing.specs.declared.spot.Spot.TheVariants.{Resource, Fan, Poll}
-use Rattle.entity_model.specs.Entity.{EntityData}
-use Rattle.entity_model.specs.Places.{Effect, refusal, refused}
-use Rattle.entity_model.specs.Sound.{IsSoundEntity}
-use Rattle.cse_machine.specs.Answer.{addressed, does_serve, resource_at}
-use Rattle.group_fanout.specs.Fan.{Single, after_members, member_effect, member_effect_at, member_effect_by, requests_to, sent_to, single_of, singles_of}
-use Rattle.group_fanout.specs.Operations.{operation_effect, resource_effect}
-use Rattle.group_fanout.specs.Rights.{claimed_originator}
+use Rattle.machine_laws.proofs.Words.{◌≡◌, ◌⊎◌, ℕ, zero, suc, ◌≤◌, List, [], ◌∷◌, take, true, false, Option, Some, None, Result, Ok, Err, inl, inr, refl, sym, ap, subst, ◌∙◌, arith, option_and_then}
+use Rattle.machine_laws.proofs.Terms.{is_originator, Rsc, NotAllowed, NotFound, NotReachable, Op, Create, Retrieve, Update, Delete, Notify, RequestParts, HomeData, ResourceData, at, address_of, named_here, spot_of, Addr, Local, Foreign, OtherProvider, AddrFault, Spot, Resource, Fan, Poll, EntityData, Effect, refusal, refused, IsSoundEntity, addressed, does_serve, resource_at, Single, after_members, member_effect, member_effect_at, member_effect_by, requests_to, sent_to, single_of, singles_of, operation_effect, resource_effect, claimed_originator}
+use Rattle.machine_laws.proofs.Facts.{take-map, at_number}
 use Rattle.machine_laws.specs.Guard.{AreGuarded, is_success, spot_asked}
 use Rattle.machine_laws.proofs.ChangingLemmas.{IsKept, still_kept}
 use Rattle.machine_laws.proofs.OperatedLemmas.{IsGuardedIn, operated_guarded, operated_kept, operated_sound, refused_guarded}

@@ -1,27 +1,8 @@
 -- What an operation on a resource gives is guarded, sound and of the same entity.
-use Rattle.std.proofs.Common.{◌≡◌, ℕ, List, Bool, true, false, cond, Some, inl, refl, sym, ap, subst, ◌∙◌}
-use Rattle.m2m_names.specs.Name.{is_originator}
-use Rattle.m2m_names.specs.declared.codes.Rsc.{Rsc}
-use Rattle.m2m_names.specs.declared.operations.Op.{Op}
-use Rattle.m2m_names.specs.declared.operations.Op.TheVariants.{Create, Retrieve, Update, Delete, Notify}
-use Rattle.primitive_json.specs.declared.reply.ReplyParts.{ReplyParts}
-use Rattle.primitive_json.specs.declared.request.RequestParts.{RequestParts}
-use Rattle.resource_model.specs.Resource.{ResourceData}
-use Rattle.tree_model.specs.Tree.{at}
-use Rattle.policy_eval.specs.Rights.{grants}
-use Rattle.entity_model.specs.Entity.{EntityData}
-use Rattle.entity_model.specs.Places.{reading_bit, refusal, refused, Effect}
-use Rattle.entity_model.specs.Sound.{IsSoundEntity}
-use Rattle.request_rules.specs.Rights.{is_discovery, may_do}
-use Rattle.retrieve_discover.specs.Replies.{discovered, retrieved}
-use Rattle.retrieve_laws.proofs.RightLemmas.{discovered_by_right, retrieved_by_right}
-use Rattle.create_delete.specs.Telling.{told_effect_at}
-use Rattle.create_delete.proofs.RightLemmas.{told_stays_sound}
-use Rattle.cse_machine.specs.Answer.{addressed, does_serve}
-use Rattle.group_fanout.specs.Operations.{change_effect, operation_effect, reading_reply}
+use Rattle.machine_laws.proofs.Words.{◌≡◌, ℕ, List, Bool, true, false, cond, Some, inl, refl, sym, ap, subst, ◌∙◌}
+use Rattle.machine_laws.proofs.Terms.{is_originator, Rsc, Op, Create, Retrieve, Update, Delete, Notify, ReplyParts, RequestParts, ResourceData, at, grants, EntityData, reading_bit, refusal, refused, Effect, IsSoundEntity, is_discovery, may_do, discovered, retrieved, told_effect_at, addressed, does_serve, change_effect, operation_effect, reading_reply, claimed_originator, has_right}
+use Rattle.machine_laws.proofs.Facts.{discovered_by_right, retrieved_by_right, told_stays_sound, changing_at}
 use Rattle.machine_laws.specs.Guard.{is_success, DoesShow, HasRight, IsGuardedAlone}
-use Rattle.group_fanout.specs.Rights.{claimed_originator, has_right}
-use Rattle.group_fanout.proofs.OperationLemmas.{changing_at}
 use Rattle.machine_laws.proofs.ChangingLemmas.{IsToldByRight, tells_nothing, shows_none, IsKept, still_kept, change_guarded, create_kept, create_told, delete_kept, delete_told, update_kept, update_told}
 use Rattle.machine_laws.proofs.OwnLemmas.{apart_addresses}
 use Rattle.machine_laws.proofs.RelayLemmas.{relay_guarded, relay_kept, relay_sound}

@@ -1,24 +1,8 @@
 -- The order of refusals holds of a Retrieve.
-use Rattle.std.proofs.Common.{◌≡◌, ℕ, List, Bool, true, false, Option, Some, None, inl, inr, refl, sym, ap, ◌∙◌}
-use Rattle.std.proofs.lemmas.Bool.{cases_Bool}
-use Rattle.std.proofs.lemmas.Option.{same_Some}
-use Rattle.std.specs.Option.{option_map_or}
-use Rattle.m2m_names.specs.declared.codes.Rsc.{Rsc}
-use Rattle.m2m_names.specs.declared.codes.Rsc.TheVariants.{NoPrivilege, NotFound}
-use Rattle.m2m_names.specs.declared.operations.Op.TheVariants.{Retrieve}
-use Rattle.primitive_json.specs.declared.request.RequestParts.{RequestParts}
-use Rattle.resource_model.specs.Resource.{ResourceData}
-use Rattle.tree_model.specs.Tree.{at}
-use Rattle.policy_eval.specs.Rights.{grants}
-use Rattle.entity_model.specs.Entity.{EntityData}
-use Rattle.entity_model.specs.Places.{reading_bit, refusal}
-use Rattle.request_rules.specs.Order.{fault_on}
-use Rattle.request_rules.specs.Rights.{is_discovery, may_do}
-use Rattle.retrieve_discover.specs.Replies.{retrieved_of}
-use Rattle.group_fanout.specs.Operations.{reading_reply}
+use Rattle.machine_laws.proofs.Words.{◌≡◌, ℕ, List, Bool, true, false, Option, Some, None, inl, inr, refl, sym, ap, ◌∙◌, option_map_or}
+use Rattle.machine_laws.proofs.Terms.{Rsc, NoPrivilege, NotFound, Retrieve, RequestParts, ResourceData, at, grants, EntityData, reading_bit, refusal, fault_on, is_discovery, may_do, retrieved_of, reading_reply, claimed_originator}
+use Rattle.machine_laws.proofs.Facts.{cases_Bool, same_Some, reading_found, reading_shown}
 use Rattle.machine_laws.specs.Order.{RetrievesAreRefusedInOrder}
-use Rattle.group_fanout.specs.Rights.{claimed_originator}
-use Rattle.group_fanout.proofs.OperationLemmas.{reading_found, reading_shown}
 
 module _ (e : EntityData) (request : RequestParts) (r : ResourceData) (there : at r.number e.nodes ≡ Some r) where
   abbrev o : List ℕ

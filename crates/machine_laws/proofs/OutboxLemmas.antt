@@ -1,52 +1,11 @@
 -- The outbox holds what was appended, less what was given away or dropped.
-use Rattle.std.proofs.Common.{◌≡◌, ℕ, ◌≤◌, List, [], ◌∷◌, ◌++◌, append_assoc, map, find, take, Bool, true, false, cond, not, ◌&&◌, Option, Some, None, is_some, option_map, Result, Ok, Err, inl, inr, refl, sym, ap, subst, ◌∙◌, arith}
-use Rattle.std.proofs.lemmas.Bool.{and_from, and_parts, cases_Bool, or_cases, or_left, or_right}
-use Rattle.std.proofs.lemmas.Bool.Decides.{nat_tests}
-use Rattle.std.proofs.lemmas.List.{append-nil}
-use Rattle.std.specs.List.{list_all}
-use Rattle.std.specs.Option.{option_and_then, option_map_or}
-use Rattle.m2m_names.specs.declared.codes.Rsc.{Rsc}
-use Rattle.m2m_names.specs.declared.codes.Rsc.TheVariants.{BadChild, BadRequest, NoPrivilege, NotFound, RequestTimeout}
-use Rattle.m2m_names.specs.declared.operations.Op.{Op}
-use Rattle.m2m_names.specs.declared.operations.Op.TheVariants.{Create, Retrieve, Update, Delete, Notify}
-use Rattle.m2m_names.specs.declared.types.Ty.{Ty}
-use Rattle.primitive_json.specs.declared.note.NoteParts.{NoteParts}
-use Rattle.primitive_json.specs.declared.request.RequestParts.{RequestParts}
-use Rattle.resource_model.specs.Home.{HomeData}
-use Rattle.resource_model.specs.Resource.{ResourceData}
-use Rattle.addressing.specs.Addresses.{address_of}
-use Rattle.addressing.specs.Laws.{named_here}
-use Rattle.addressing.specs.Names.{spot_of}
-use Rattle.addressing.specs.declared.addr.Addr.{Addr}
-use Rattle.addressing.specs.declared.addr.Addr.TheVariants.{Local, Foreign, OtherProvider}
-use Rattle.addressing.specs.declared.addr.AddrFault.{AddrFault}
-use Rattle.addressing.specs.declared.spot.Spot.{Spot}
-use Rattle.addressing.specs.declared.spot.Spot.TheVariants.{Resource, Fan, Poll}
-use Rattle.policy_eval.specs.Rights.{grants, retrieve_bit}
-use Rattle.tree_model.specs.Tree.{at, has}
-use Rattle.notify_outbox.specs.Items.{is_to_send, still_waits, waits_for}
+use Rattle.machine_laws.proofs.Words.{◌≡◌, ℕ, ◌≤◌, List, [], ◌∷◌, ◌++◌, append_assoc, map, find, take, Bool, true, false, cond, not, ◌&&◌, Option, Some, None, is_some, option_map, Result, Ok, Err, inl, inr, refl, sym, ap, subst, ◌∙◌, arith, list_all, option_and_then, option_map_or}
+use Rattle.machine_laws.proofs.Terms.{Rsc, BadChild, BadRequest, NoPrivilege, NotFound, RequestTimeout, Op, Create, Retrieve, Update, Delete, Notify, Ty, NoteParts, RequestParts, HomeData, ResourceData, address_of, named_here, spot_of, Addr, Local, Foreign, OtherProvider, AddrFault, Spot, Resource, Fan, Poll, grants, retrieve_bit, at, has, is_to_send, still_waits, waits_for, EntityData, event_moment, items_from, still_waiting, swept, first_fault, on_found, refused, unless, creation_by, fault_on, child_ty, changes_by, create_effect, effect_by, gone_numbers, told_effect_by, told_effect_on, Event, Ask, Take, Tick, Outcome, Done, Forward, Given, Ticked, Starved, address_effect, addressed, as_done, effect_of, first_places, has_answer, onward_effect, point_of, poll_effect, resource_at, route_effect, spot_effect, after_members, fan_effect, fan_places, fanned, fanned_requests, member_effect, member_effect_at, member_effect_by, member_requests, rest_of, cse_named, first_url, comes_from_cse, routed_to, found_effect, operation_effect, History, HistoryLeaves, claimed_originator, has_right, IsCutShort, IsUnswept, Step, heard_members}
+use Rattle.machine_laws.proofs.Facts.{and_from, and_parts, cases_Bool, or_cases, or_left, or_right, nat_tests, append-nil}
 use Rattle.notify_outbox.specs.Outbox.{without_first}
 use Rattle.notify_outbox.specs.declared.item.Item.{Item}
-use Rattle.entity_model.specs.Entity.{EntityData, event_moment, items_from, still_waiting, swept}
-use Rattle.entity_model.specs.Places.{first_fault, on_found, refused, unless}
-use Rattle.request_rules.specs.Order.{creation_by, fault_on}
-use Rattle.request_rules.specs.Requests.{child_ty}
-use Rattle.create_delete.specs.Changes.{changes_by}
-use Rattle.create_delete.specs.Changing.{create_effect, effect_by}
-use Rattle.create_delete.specs.Telling.{gone_numbers, told_effect_by, told_effect_on}
-use Rattle.cse_machine.specs.declared.event.Event.{Event}
-use Rattle.cse_machine.specs.declared.event.Event.TheVariants.{Ask, Take, Tick}
-use Rattle.cse_machine.specs.declared.event.Outcome.{Outcome}
-use Rattle.cse_machine.specs.declared.event.Outcome.TheVariants.{Done, Forward, Item as Given, Ticked, Starved}
-use Rattle.cse_machine.specs.Answer.{address_effect, addressed, as_done, effect_of, first_places, has_answer, onward_effect, point_of, poll_effect, resource_at, route_effect, spot_effect}
-use Rattle.group_fanout.specs.Fan.{after_members, fan_effect, fan_places, fanned, fanned_requests, member_effect, member_effect_at, member_effect_by, member_requests, rest_of}
-use Rattle.subscription_match.specs.Destinations.{cse_named, first_url}
-use Rattle.retarget.specs.Routes.{comes_from_cse, routed_to}
 use Rattle.retarget.specs.declared.routing.Route.TheVariants as to
-use Rattle.group_fanout.specs.Operations.{change_effect, found_effect, operation_effect}
-use Rattle.cse_machine.specs.History.{History, HistoryLeaves}
-use Rattle.group_fanout.specs.Rights.{claimed_originator, has_right}
-use Rattle.cse_machine.specs.Step.{IsCutShort, IsUnswept, Step, heard_members}
+use Rattle.group_fanout.specs.Operations.{change_effect}
 use Rattle.machine_laws.specs.Outbox.{Account, AccountStep, Accounted, Accounts, OutboxesAreAccounted, Waits, aged, aged_line, change_notes, channel_at, channel_polled, does_wait, done_notes, expired_account, expiry_items, found_items, given, is_dropped, is_justly_dropped, is_too_old, member_items, noted, notes_told, operation_notes, polled_by, request_items, requested_account, short_account, spot_items, waiting_of}
 use Rattle.machine_laws.proofs.CutLemmas.{short_last}
 use Rattle.machine_laws.proofs.HistoryLemmas.{done_keeps, onward_leaves}

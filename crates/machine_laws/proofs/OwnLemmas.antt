@@ -1,20 +1,12 @@
 -- In a sound entity no two resources have one address.
-use Rattle.std.specs.Prelude.{bytes_eq, find, nat_lt}
-use Rattle.std.proofs.Common.{◌≡◌, ℕ, ◌<◌, ◌^◌, Bool, true, false, List, [], ◌∷◌, ◌++◌, Some, None, inl, inr, refl, sym, ap, ap₂, ◌∙◌, arith}
-use Rattle.std.specs.Option.{option_map, option_or}
-use Rattle.std.proofs.lemmas.Bool.{both_ways, cases_Bool, eqb-true, false_from_ne_true, lt-ltb, ltb-true, or_cases}
-use Rattle.std.proofs.lemmas.List.Folds.{find-append}
+use Rattle.machine_laws.proofs.Words.{bytes_eq, nat_lt, ◌≡◌, ℕ, ◌<◌, ◌^◌, Bool, true, false, List, [], ◌∷◌, ◌++◌, Some, None, inl, inr, refl, sym, ap, ap₂, ◌∙◌, arith, option_or}
+use Rattle.machine_laws.proofs.Terms.{ResourceData, are_below, at, child_of, may_stand, has, is_child, is_root, is_tree, is_under, EntityData, IsSoundEntity, begins_with_base, HasOwnAddresses}
+use Rattle.machine_laws.proofs.Facts.{both_ways, cases_Bool, eqb-true, false_from_ne_true, lt-ltb, ltb-true, or_cases, find-append, growth, next_fits, tree_from_well_formed, zero_lacks, base_parts, all_weaker}
+use Rattle.std.specs.Prelude.{find}
+use Rattle.std.specs.Option.{option_map}
 use Rattle.std.proofs.lemmas.Slice.Eq.{bytes_eq-Decides}
-use Rattle.resource_model.specs.Resource.{ResourceData}
-use Rattle.tree_model.specs.Tree.{are_below, at, child_of, may_stand, has, is_child, is_root, is_tree, is_under}
-use Rattle.tree_model.proofs.GrowthLemmas.{growth, next_fits, tree_from_well_formed, zero_lacks}
 use Rattle.addressing.proofs.NameLemmas.{child_of_its_name}
-use Rattle.entity_model.specs.Entity.{EntityData}
-use Rattle.entity_model.specs.Sound.{IsSoundEntity, begins_with_base}
-use Rattle.retrieve_laws.specs.Guard.{HasOwnAddresses}
 use Rattle.retrieve_laws.proofs.OwnLemmas.{own_addresses}
-use Rattle.entity_model.proofs.SoundLemmas.{base_parts}
-use Rattle.m2m_names.proofs.ListLemmas.{all_weaker}
 
 -- ---- under nothing stands the first resource alone
 

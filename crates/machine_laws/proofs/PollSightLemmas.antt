@@ -1,12 +1,9 @@
 -- Which addresses lead to a poll point.
-use Rattle.std.proofs.Common.{◌≡◌, ℕ, ◌+◌, List, [], ◌∷◌, Bool, true, false, ◌&&◌, Option, Some, None, option_map, inl, inr, refl}
-use Rattle.std.specs.List.{list_any}
-use Rattle.std.specs.Option.{option_and_then}
-use Rattle.std.proofs.lemmas.Bool.{and_parts, both_ways, cases_Bool, or_left, or_right}
-use Rattle.resource_model.specs.Resource.{ResourceData}
-use Rattle.addressing.specs.Names.{base_of, first_named, is_fan, is_poll, next_named, spot_from, spot_of}
-use Rattle.addressing.specs.declared.spot.Spot.TheVariants.{Resource, Fan, Poll}
+use Rattle.machine_laws.proofs.Words.{◌≡◌, ℕ, ◌+◌, List, [], ◌∷◌, Bool, true, false, ◌&&◌, Option, Some, None, option_map, refl, sym, ◌∙◌, list_any, option_and_then}
+use Rattle.machine_laws.proofs.Terms.{ResourceData, base_of, first_named, next_named, spot_from, spot_of, Resource, Fan, Poll}
+use Rattle.machine_laws.proofs.Facts.{both_ways, or_left, or_right}
 use Rattle.machine_laws.specs.Sight.{is_poll_segment}
+use Rattle.machine_laws.proofs.SpotLemmas.{a_fan_point, a_poll_point, a_resource, leads_to}
 
 -- where both don't hold, and the second does, the first doesn't
 pub first_false : (a b : Bool) → (a && b) ≡ false → b ≡ true → a ≡ false
@@ -22,12 +19,10 @@ resource_poll n c same = cc
 
 from_named : (place n : ℕ) (names : List (List ℕ)) (nodes : List ResourceData) (c : ℕ) → spot_from place n names nodes ≡ Some (Poll c) → list_any is_poll_segment names ≡ true
 from_named place n [] nodes c is = absurd (resource_poll n c is)
-from_named place n (name ∷ names) nodes c is = elim (cases_Bool (is_fan n name nodes)) [
-  | inl t ↦ absurd (fan_poll n (place + 1) c (rw t at is))
-  | inr f ↦ elim (cases_Bool (is_poll n name nodes)) [
-    | inl t ↦ or_left _ _ (and_parts (is_poll_segment name) _ t).0
-    | inr g ↦ or_right _ _ (by (next_named n name nodes) (λ m. from_named (place + 1) m names nodes c) (rw (f, g) at is))
-  ]
+from_named place n (name ∷ names) nodes c is = elim (leads_to place n name names nodes) [
+  | a_fan_point group here ↦ absurd (fan_poll n (place + 1) c (sym here ∙ is))
+  | a_poll_point named here ↦ or_left _ _ named
+  | a_resource here ↦ or_right _ _ (by (next_named n name nodes) (λ m. from_named (place + 1) m names nodes c) (sym here ∙ is))
 ]
   where
     by : (next : Option ℕ) → ((m : ℕ) → spot_from (place + 1) m names nodes ≡ Some (Poll c) → list_any is_poll_segment names ≡ true) → option_and_then (λ (m : ℕ). spot_from (place + 1) m names nodes) next ≡ Some (Poll c) → list_any is_poll_segment names ≡ true

@@ -1,26 +1,9 @@
 -- What comes of a Notify to a resource.
-use Rattle.std.proofs.Common.{◌≡◌, ℕ, List, [], ◌∷◌, ◌++◌, true, false, Option, Some, None, inl, refl, sym, ap, subst, ◌∙◌, arith}
-use Rattle.std.specs.Option.{option_map_or}
-use Rattle.std.proofs.lemmas.Bool.{true≢false}
-use Rattle.std.proofs.lemmas.List.{append-nil}
-use Rattle.m2m_names.specs.declared.codes.Rsc.{Rsc}
-use Rattle.m2m_names.specs.declared.codes.Rsc.TheVariants.{Ok as Fine}
-use Rattle.m2m_names.specs.declared.operations.Op.{Op}
-use Rattle.m2m_names.specs.declared.operations.Op.TheVariants.{Notify}
-use Rattle.primitive_json.specs.declared.request.RequestParts.{RequestParts}
-use Rattle.resource_model.specs.Resource.{ResourceData}
-use Rattle.tree_model.specs.Tree.{at}
-use Rattle.entity_model.specs.Entity.{EntityData, items_from}
-use Rattle.entity_model.specs.Places.{Effect, refusal, refused}
-use Rattle.entity_model.specs.Sound.{IsSoundEntity}
-use Rattle.request_rules.specs.Order.{fault_on}
-use Rattle.request_rules.specs.Rights.{may_do}
-use Rattle.request_rules.proofs.OrderLemmas.{places_parts}
-use Rattle.create_delete.specs.Relaying.{notify_effect, notify_on, relayed}
+use Rattle.machine_laws.proofs.Words.{◌≡◌, ℕ, List, [], ◌∷◌, ◌++◌, true, false, Option, Some, None, inl, refl, sym, ap, subst, ◌∙◌, arith, option_map_or}
+use Rattle.machine_laws.proofs.Terms.{Rsc, Fine, Op, Notify, RequestParts, ResourceData, at, EntityData, items_from, Effect, refusal, refused, IsSoundEntity, fault_on, may_do, notify_effect, notify_on, relayed, addressed, claimed_originator, has_right}
+use Rattle.machine_laws.proofs.Facts.{true≢false, append-nil, places_parts}
 use Rattle.create_delete.proofs.RelayingLemmas.{sound_noted}
-use Rattle.cse_machine.specs.Answer.{addressed}
 use Rattle.group_fanout.specs.Operations.{relay_effect}
-use Rattle.group_fanout.specs.Rights.{claimed_originator, has_right}
 use Rattle.machine_laws.specs.Guard.{is_success, DoesShow, HasRight, IsGuardedAlone}
 use Rattle.machine_laws.specs.Outbox.{relay_notes}
 use Rattle.machine_laws.proofs.ChangingLemmas.{IsKept, IsToldByRight, refuses_on, shows_none, still_kept, tells_nothing}

@@ -1,34 +1,16 @@
 -- As many resources are new after what an operation changed is told as before: who is told stood
 -- there already, and nothing stands below a subscription that goes.
-use Rattle.std.specs.Prelude.{◌==◌, nat_eq}
-use Rattle.std.proofs.Common.{◌≡◌, ℕ, suc, ◌+◌, ◌-◌, List, [], ◌∷◌, ◌++◌, map, length, length-append, filter, Bool, true, false, cond, not, ◌&&◌, ◌||◌, Option, Some, None, option_map, inl, inr, refl, sym, ap, ap₂, ◌∙◌}
-use Rattle.std.proofs.lemmas.Bool.{and_parts, both_ways, cases_Bool, eqb-true, or_cases, or_left, or_parts, or_right}
-use Rattle.std.proofs.lemmas.List.Elements.{filter-append}
-use Rattle.std.proofs.lemmas.List.Folds.{list_all-append}
-use Rattle.std.proofs.lemmas.Option.{same_Some}
-use Rattle.std.specs.List.{cons_option, list_all}
-use Rattle.std.specs.Option.{option_map_or}
-use Rattle.m2m_names.proofs.ListLemmas.{all_weaker}
+use Rattle.machine_laws.proofs.Words.{◌==◌, nat_eq, ◌≡◌, ℕ, ◌+◌, ◌-◌, List, [], ◌∷◌, ◌++◌, map, length, length-append, filter, Bool, true, false, cond, not, ◌&&◌, ◌||◌, Option, Some, None, option_map, inl, inr, refl, sym, ap, ap₂, ◌∙◌, cons_option, list_all, option_map_or}
+use Rattle.machine_laws.proofs.Terms.{does_take, Ty, CseBase, Subscription, HomeData, ResourceData, has_number, is_ty, ChangeData, at, fits_in, grows, has, is_root, is_taken, is_well_formed, may_stand, staying, without, notes_of_all, DraftParts, only_in}
+use Rattle.machine_laws.proofs.Facts.{length-map, and_parts, both_ways, cases_Bool, eqb-true, or_cases, or_left, or_parts, or_right, filter-append, list_all-append, same_Some, all_weaker, growth, next_fits, has_at, staying-append, count_whom, numbers_told, numbers_told_all, times, whom_all}
 use Rattle.m2m_names.proofs.TypeLemmas.{same_type}
-use Rattle.m2m_names.specs.Types.{does_take}
-use Rattle.m2m_names.specs.declared.types.Ty.{Ty}
-use Rattle.m2m_names.specs.declared.types.Ty.TheVariants.{CseBase, Subscription}
-use Rattle.resource_model.specs.Home.{HomeData}
-use Rattle.resource_model.specs.Resource.{ResourceData, has_number, is_ty}
 use Rattle.attribute_rules.specs.Kinds.{are_kinds}
-use Rattle.tree_model.specs.Changes.{ChangeData}
-use Rattle.tree_model.specs.Tree.{at, fits_in, grows, has, is_root, is_taken, is_well_formed, may_stand, staying, without}
-use Rattle.tree_model.proofs.GrowthLemmas.{growth, next_fits}
 use Rattle.tree_model.proofs.QuietLemmas.{number_passes}
-use Rattle.tree_model.proofs.TreeLemmas.{has_at, staying-append}
 use Rattle.subscription_match.specs.Matching.{event_for}
-use Rattle.subscription_match.specs.Notices.{notes_of_all}
 use Rattle.subscription_match.specs.Spending.{count_for, is_spent, left_to, lowered, nodes_spent}
-use Rattle.subscription_match.specs.declared.drafts.DraftParts.{DraftParts}
 use Rattle.subscription_match.specs.declared.events.EventKind.{EventKind}
 use Rattle.entity_model.proofs.SpentLemmas.{counts_to, lowered_stands}
-use Rattle.create_delete.specs.Changes.{only_in}
-use Rattle.sight_laws.proofs.ToldLemmas.{count_whom, numbers_told, numbers_told_all, times, whom_all}
+use Rattle.policy_laws.proofs.ChoiceLemmas.{filter_image}
 
 -- ---- a removal of subscriptions takes nothing else
 
@@ -135,11 +117,9 @@ module _ (nodes : List ResourceData) (going : List ℕ) (n : ℕ) where
 
 -- a map that keeps numbers
 as_many : (g : ResourceData → ResourceData) → ((r : ResourceData) → (g r).number ≡ r.number) → (rs others : List ResourceData) → length (only_in (map g rs) others) ≡ length (only_in rs others)
-as_many g keeps [] others = refl
-as_many g keeps (r ∷ rs) others = elim (cases_Bool (has r.number others)) [
-  | inl t ↦ rw (keeps r, t) (as_many g keeps rs others)
-  | inr f ↦ rw (keeps r, f) (ap suc (as_many g keeps rs others))
-]
+as_many g keeps rs others =
+    ap length (filter_image g (λ (s : ResourceData). not (has s.number others)) (λ (r : ResourceData). not (has r.number others)) (λ r. ap (λ (n : ℕ). not (has n others)) (keeps r)) rs)
+    ∙ length-map (only_in rs others) g
 
 -- without what isn't new
 new_stays : (picks : ResourceData → Bool) (others : List ResourceData) → ((r : ResourceData) → has r.number others ≡ false → picks r ≡ false) → (rs : List ResourceData) → only_in (filter (λ r. not (picks r)) rs) others ≡ only_in rs others

@@ -1,38 +1,17 @@
 -- Where a request goes that is sent to another CSE is the same on what an originator sees.
-use Rattle.std.specs.Prelude.{codes, find, nat_eq}
-use Rattle.std.proofs.Common.{◌≡◌, ℕ, List, [], ◌∷◌, map, Bool, true, false, ◌&&◌, Option, Some, None, is_some, option_map, inl, inr, refl, sym, ap, subst, ◌∙◌}
-use Rattle.std.specs.List.{AllByRecursion, cons_option, filter_map, starts_with}
+use Rattle.machine_laws.proofs.Words.{codes, nat_eq, ◌≡◌, ℕ, List, [], ◌∷◌, map, Bool, true, false, ◌&&◌, Option, Some, None, is_some, option_map, inl, inr, refl, sym, ap, subst, ◌∙◌, AllByRecursion, cons_option, filter_map, starts_with, option_and_then}
+use Rattle.machine_laws.proofs.Terms.{Poa, RemoteCse, Data, AreInOrder, Row, value_of, HomeData, ResourceData, is_ty, at, cse_of, is_cse, is_due, is_tree, is_well_formed, live, overdue_numbers, resource_number, same_text, is_shown, only_point, seen, seen_list, seen_value, way_in, first_of, cse_named, first_url, leading_cse_id, notes_of_all, EntityData, event_moment, swept, expiry_changes, comes_from_cse}
+use Rattle.machine_laws.proofs.Facts.{both_ways, cases_Bool, same_Some, tree_from_well_formed, is_well_formed-without, at-seen, cse_id-seen, first_passes, one_point, seen_shows, shown_kept, way-in_order, order_left, order_spent, OnlySubsCount, without_counts}
+use Rattle.std.specs.Prelude.{find}
 use Rattle.std.specs.declared.cmp.Ordering.TheVariants.{Less}
-use Rattle.std.specs.Option.{option_and_then}
-use Rattle.std.proofs.lemmas.Bool.{both_ways, cases_Bool}
-use Rattle.std.proofs.lemmas.Option.{same_Some}
 use Rattle.m2m_names.specs.Attributes.{attr_cmp}
 use Rattle.m2m_names.specs.declared.attributes.Attr.{Attr}
-use Rattle.m2m_names.specs.declared.attributes.Attr.TheVariants.{Poa}
-use Rattle.m2m_names.specs.declared.types.Ty.TheVariants.{RemoteCse}
-use Rattle.m2m_value.specs.Data.{Data}
-use Rattle.resource_model.specs.Attributes.{AreInOrder, Row, value_of}
 use Rattle.std.specs.List.Sorted.{IsStrictlySortedBy}
 use Rattle.std.specs.Map.{keys_of}
-use Rattle.resource_model.specs.Home.{HomeData}
-use Rattle.resource_model.specs.Resource.{ResourceData, is_ty}
-use Rattle.tree_model.specs.Tree.{at, cse_of, is_cse, is_due, is_tree, is_well_formed, live, overdue_numbers, resource_number, same_text}
-use Rattle.tree_model.proofs.GrowthLemmas.{tree_from_well_formed}
-use Rattle.tree_model.proofs.KeptLemmas.{is_well_formed-without}
-use Rattle.policy_laws.specs.Seen.{is_shown, only_point, seen, seen_list, seen_value, way_in}
-use Rattle.policy_laws.specs.Seen.{first_url as first_of}
 use Rattle.policy_laws.proofs.ReplaceLemmas.{kept_row}
-use Rattle.policy_laws.proofs.SeenLemmas.{at-seen, cse_id-seen, first_passes, one_point, seen_shows, shown_kept, way-in_order}
-use Rattle.subscription_match.specs.Destinations.{cse_named, first_url, leading_cse_id}
-use Rattle.subscription_match.specs.Notices.{notes_of_all}
-use Rattle.entity_model.specs.Entity.{EntityData, event_moment, swept}
-use Rattle.entity_model.specs.Expiry.{expiry_changes}
 use Rattle.retrieve_discover.proofs.OrderLemmas.{in_order-tree}
 use Rattle.retrieve_laws.proofs.FoundLemmas.{Each, IsFound, each_found}
-use Rattle.retarget.specs.Routes.{comes_from_cse}
 use Rattle.machine_laws.specs.Sight.{AreCsesInOrder}
-use Rattle.sight_laws.proofs.CseOrderLemmas.{order_left, order_spent}
-use Rattle.sight_laws.proofs.ToldLemmas.{OnlySubsCount, without_counts}
 
 -- ---- what is found is there
 

@@ -1,60 +1,22 @@
 -- An originator is answered the same on what it sees, and sees the same of what is left.
-use Rattle.std.proofs.Common.{◌≡◌, ◌⊎◌, ◌||◌, ℕ, List, [], ◌∷◌, map, Bool, true, false, cond, Option, Some, None, option_map, inl, inr, refl, sym, ap, ap₂, subst, ◌∙◌}
-use Rattle.std.specs.Option.{option_map_or}
+use Rattle.machine_laws.proofs.Words.{◌≡◌, ◌⊎◌, ◌||◌, ℕ, List, [], ◌∷◌, map, Bool, true, false, cond, Option, Some, None, option_map, inl, inr, refl, sym, ap, ap₂, subst, ◌∙◌, option_map_or, list_any}
+use Rattle.machine_laws.proofs.Terms.{op_row, Rsc, BadRequest, NoPrivilege, NotAllowed, Op, Create, Retrieve, Update, Delete, Notify, RequestParts, HomeData, ResourceData, has_number, deleted, at, is_due, is_well_formed, live, numbers_of, overdue_numbers, without, address_of, fanned, member_effect, sent_to, seen, seen_list, notes_of_all, DraftParts, EntityData, event_moment, expired, expired_told, swept, expiry_changes, refused, IsSoundEntity, fault_on, is_for, discovered, retrieved, only_in, delete_effect, notify_effect, notify_on, told_effect_by, told_effect_on, EventEffect, as_done, first_places, does_serve, is_served, effect_of, operation_effect, found_effect, reading_reply, resource_effect, is_discovery, claimed_originator, first_fault}
+use Rattle.machine_laws.proofs.Facts.{both_ways, cases_Bool, false≢true, not-true, or_cases, or_left, tree_from_well_formed, KeepsStanding, is_well_formed-map, is_well_formed-without, ae_id-seen, at-seen, cse_id-seen, grants-seen, AreSeenAlike, by_fault, same_home, same_last, same_seen, spent_alike, through_sight, claimed_valid, sound_swept, OnlySubsCount, expiry_seen, for_whom, numbers_seen, numbers_told_all, only_seen, removal_seen, sight_counts, sound_counts, spent_counts, spent_well, whom_all, without_counts}
 use Rattle.std.specs.Prelude.{not}
-use Rattle.std.specs.List.{list_any}
-use Rattle.std.proofs.lemmas.Bool.{both_ways, cases_Bool, false≢true, not-true, or_cases, or_left}
-use Rattle.m2m_names.specs.Operations.{op_row}
-use Rattle.m2m_names.specs.declared.codes.Rsc.{Rsc}
-use Rattle.m2m_names.specs.declared.codes.Rsc.TheVariants.{BadRequest, NoPrivilege, NotAllowed}
-use Rattle.m2m_names.specs.declared.operations.Op.{Op}
-use Rattle.m2m_names.specs.declared.operations.Op.TheVariants.{Create, Retrieve, Update, Delete, Notify}
-use Rattle.primitive_json.specs.declared.request.RequestParts.{RequestParts}
-use Rattle.resource_model.specs.Home.{HomeData}
-use Rattle.resource_model.specs.Resource.{ResourceData, has_number}
-use Rattle.tree_model.specs.Changes.{deleted}
-use Rattle.tree_model.specs.Tree.{at, is_due, is_well_formed, live, numbers_of, overdue_numbers, without}
-use Rattle.tree_model.proofs.GrowthLemmas.{tree_from_well_formed}
-use Rattle.tree_model.proofs.KeptLemmas.{KeepsStanding, is_well_formed-map, is_well_formed-without}
 use Rattle.tree_model.proofs.LiveLemmas.{without_none}
-use Rattle.addressing.specs.Addresses.{address_of}
-use Rattle.group_fanout.specs.Fan.{fanned, member_effect, sent_to}
-use Rattle.policy_laws.specs.Seen.{seen, seen_list}
-use Rattle.policy_laws.proofs.SeenLemmas.{ae_id-seen, at-seen, cse_id-seen, grants-seen}
 use Rattle.policy_laws.proofs.ShapeLemmas.{sight_shape}
 use Rattle.policy_laws.proofs.TwiceLemmas.{left-seen, live-same, seen_list-twice}
-use Rattle.subscription_match.specs.Notices.{notes_of_all}
-use Rattle.subscription_match.specs.declared.drafts.DraftParts.{DraftParts}
-use Rattle.entity_model.specs.Entity.{EntityData, event_moment, expired, expired_told, swept}
-use Rattle.entity_model.specs.Expiry.{expiry_changes}
-use Rattle.entity_model.specs.Places.{refused}
-use Rattle.entity_model.specs.Sound.{IsSoundEntity}
-use Rattle.request_rules.specs.Order.{fault_on}
-use Rattle.request_rules.specs.Requests.{is_for}
-use Rattle.retrieve_discover.specs.Replies.{discovered, retrieved}
 use Rattle.retrieve_laws.proofs.AnswerLemmas.{retrieved-seen}
 use Rattle.retrieve_laws.proofs.SightLemmas.{discovered-seen}
-use Rattle.create_delete.specs.Changes.{only_in}
-use Rattle.create_delete.specs.Changing.{delete_effect}
-use Rattle.create_delete.specs.Relaying.{notify_effect, notify_on}
-use Rattle.create_delete.specs.Telling.{told_effect_by, told_effect_on}
-use Rattle.cse_machine.specs.Answer.{EventEffect, address_effect, as_done, first_places, does_serve, is_served, effect_of}
-use Rattle.group_fanout.specs.Operations.{change_effect, operation_effect, found_effect, reading_reply, relay_effect, resource_effect}
-use Rattle.request_rules.specs.Rights.{is_discovery}
-use Rattle.group_fanout.specs.Rights.{claimed_originator}
+use Rattle.group_fanout.specs.Operations.{change_effect, relay_effect}
 use Rattle.machine_laws.proofs.MemberLemmas.{MaySend, member_kept, of_member, served_sent}
 use Rattle.machine_laws.proofs.RelayLemmas.{relay_nodes}
-use Rattle.sight_laws.proofs.SeenAlikeLemmas.{AreSeenAlike, by_fault, same_home, same_last, same_seen, spent_alike, through_sight}
 use Rattle.machine_laws.proofs.AddressAlikeLemmas.{AreAnsweredAlike, effect_alike}
 use Rattle.machine_laws.proofs.ChangeAlikeLemmas.{create_alike, update_alike}
-use Rattle.machine_laws.proofs.CutLemmas.{heard_facts}
-use Rattle.cse_machine.proofs.PlaceLemmas.{claimed_valid}
-use Rattle.entity_model.proofs.TellingLemmas.{sound_swept}
-use Rattle.entity_model.specs.Places.{first_fault}
+use Rattle.machine_laws.proofs.JudgedLemmas.{heard_facts, refused_effect}
 use Rattle.retarget.specs.declared.routing.Route.TheVariants as to
 use Rattle.machine_laws.proofs.RouteSightLemmas.{order_seen, order_swept}
 use Rattle.machine_laws.specs.Sight.{sight, shape, asks_sight_alone, is_polling, leads_away, AreCsesInOrder, FindsUrls, IsRequestBy, SightHasItsShape, EqualSightsHaveOneShape}
-use Rattle.sight_laws.proofs.ToldLemmas.{OnlySubsCount, expiry_seen, for_whom, numbers_seen, numbers_told_all, only_seen, removal_seen, sight_counts, sound_counts, spent_counts, spent_well, whom_all, without_counts}
 
 -- ---- what is seen of a well-formed list is one
 
@@ -372,10 +334,8 @@ heard_alike one other o request sound sounds same by finds find =
     by_place_first : (fault : Option Rsc) → first_fault (first_places one request) ≡ fault → AreAnsweredAlike o (effect_of one request) (effect_of other request)
     by_place_first (Some fault) is =
         let too : first_fault (first_places other request) ≡ Some fault = sym (ap (λ (e : EntityData). first_fault (first_places e request)) same) ∙ is in
-        let mine : effect_of one request ≡ as_done (refused one request fault) = ap (λ (f : Option Rsc). option_map_or (λ (x : Rsc). as_done (refused one request x)) f (address_effect one request (address_of one.home request.to))) is in
-        let theirs : effect_of other request ≡ as_done (refused other request fault) = ap (λ (f : Option Rsc). option_map_or (λ (x : Rsc). as_done (refused other request x)) f (address_effect other request (address_of other.home request.to))) too in
-        subst (λ (x : EventEffect). AreAnsweredAlike o x (effect_of other request)) (sym mine)
-        (subst (AreAnsweredAlike o (as_done (refused one request fault))) (sym theirs) (record { outcome = refl; after = same }))
+        subst (λ (x : EventEffect). AreAnsweredAlike o x (effect_of other request)) (sym (refused_effect one request fault is))
+        (subst (AreAnsweredAlike o (as_done (refused one request fault))) (sym (refused_effect other request fault too)) (record { outcome = refl; after = same }))
     by_place_first None is =
         let heard = heard_facts one request is in
         by_way heard.served

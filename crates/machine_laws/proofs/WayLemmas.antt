@@ -1,42 +1,10 @@
 -- What comes of a request: a refusal, or what its operation on a resource gives.
-use Rattle.std.proofs.Common.{◌≡◌, ℕ, List, [], ◌∷◌, map, Bool, true, false, cond, Option, Some, None, is_some, Result, Ok, Err, inl, inr, refl, sym, ap, subst, ◌∙◌}
-use Rattle.std.specs.Option.{option_and_then, option_map_or}
-use Rattle.std.proofs.lemmas.Bool.{cases_Bool}
-use Rattle.m2m_names.specs.declared.codes.Rsc.{Rsc}
-use Rattle.m2m_names.specs.declared.codes.Rsc.TheVariants.{BadRequest, NonBlocking, NotAllowed, NotFound, NoPrivilege, NotReachable, Ok as Fine, RequestTimeout}
-use Rattle.m2m_names.specs.Name.{is_originator}
-use Rattle.m2m_names.specs.declared.operations.Op.{Op}
-use Rattle.m2m_names.specs.declared.operations.Op.TheVariants.{Create, Retrieve, Update, Delete, Notify}
-use Rattle.primitive_json.specs.declared.note.NoteParts.{NoteParts}
-use Rattle.primitive_json.specs.declared.reply.ReplyParts.{ReplyParts}
-use Rattle.primitive_json.specs.declared.request.RequestParts.{RequestParts}
-use Rattle.resource_model.specs.Resource.{ResourceData}
-use Rattle.tree_model.specs.Tree.{at, has}
-use Rattle.tree_model.proofs.TreeLemmas.{at_number}
-use Rattle.addressing.specs.Addresses.{address_of}
-use Rattle.addressing.specs.Laws.{named_here}
-use Rattle.addressing.specs.Names.{spot_of}
-use Rattle.addressing.specs.declared.addr.Addr.{Addr}
-use Rattle.addressing.specs.declared.addr.Addr.TheVariants.{Local, Foreign, OtherProvider}
-use Rattle.addressing.specs.declared.addr.AddrFault.{AddrFault}
-use Rattle.addressing.specs.declared.spot.Spot.{Spot}
-use Rattle.addressing.specs.declared.spot.Spot.TheVariants.{Resource, Fan, Poll}
-use Rattle.policy_eval.specs.Rights.{grants, discovery_bit, retrieve_bit}
-use Rattle.entity_model.specs.Entity.{EntityData}
-use Rattle.entity_model.specs.Places.{Effect, first_fault, on_found, refusal, refused, reply_alone, reply_to, unless}
-use Rattle.retrieve_discover.specs.Polling.{first_waiting, handed_on, without_waiting}
-use Rattle.retrieve_discover.specs.Replies.{discovered, retrieved, retrieved_of, success}
-use Rattle.cse_machine.specs.Answer.{does_serve, has_answer, is_served, has_originator, has_address, is_in_time, is_blocking, EventEffect, as_done, address_effect, goes_on, onward_effect, point_of, poll_effect, resource_at, route_effect, addressed, spot_effect, effect_of}
-use Rattle.group_fanout.specs.Operations.{operation_effect, reading_reply, resource_effect}
-use Rattle.primitive_json.specs.Form.{has_form}
-use Rattle.subscription_match.specs.Destinations.{cse_named, first_url}
-use Rattle.retarget.specs.Routes.{comes_from_cse, routed_to}
+use Rattle.machine_laws.proofs.Words.{◌≡◌, ℕ, List, [], ◌∷◌, map, Bool, true, false, cond, Option, Some, None, is_some, Result, Ok, Err, inl, inr, refl, sym, ap, subst, ◌∙◌, option_and_then, option_map_or}
+use Rattle.machine_laws.proofs.Terms.{Rsc, BadRequest, NotAllowed, NotFound, NoPrivilege, NotReachable, Fine, RequestTimeout, is_originator, Op, Create, Retrieve, Update, Delete, Notify, NoteParts, ReplyParts, RequestParts, ResourceData, at, has, address_of, named_here, spot_of, Addr, Local, Foreign, OtherProvider, AddrFault, Spot, Resource, Fan, Poll, grants, discovery_bit, retrieve_bit, EntityData, Effect, first_fault, on_found, refusal, refused, reply_alone, reply_to, unless, first_waiting, handed_on, without_waiting, discovered, retrieved, retrieved_of, success, does_serve, has_answer, is_served, has_originator, has_address, is_in_time, is_blocking, EventEffect, as_done, address_effect, goes_on, onward_effect, point_of, poll_effect, resource_at, route_effect, addressed, spot_effect, effect_of, operation_effect, reading_reply, resource_effect, has_form, cse_named, first_url, comes_from_cse, routed_to, fan_effect, fanned, is_fanned, listed_members, may_fan, member_requests, requests_to, rest_of, with_rest, is_discovery, claimed_originator, has_right}
+use Rattle.machine_laws.proofs.Facts.{cases_Bool, at_number, claimed_valid}
 use Rattle.retarget.specs.declared.routing.Route.TheVariants as to
-use Rattle.group_fanout.specs.Fan.{fan_effect, fanned, is_fanned, listed_members, may_fan, member_requests, requests_to, rest_of, with_rest}
 use Rattle.machine_laws.specs.Guard.{is_success, spot_asked}
-use Rattle.request_rules.specs.Rights.{is_discovery}
-use Rattle.group_fanout.specs.Rights.{claimed_originator, has_right}
-use Rattle.cse_machine.proofs.PlaceLemmas.{claimed_valid}
+use Rattle.machine_laws.proofs.JudgedLemmas.{heard_effect, is_heard, judged, refused_effect, turned_down}
 
 -- ---- a request
 
@@ -219,24 +187,9 @@ module _ (e : EntityData) (request : RequestParts) where
   heard s k o a t b = rw (s, k, o, a, t, b) refl
 
   pub way_of : Way e request (effect_of e request)
-  way_of = elim (cases_Bool (is_served request)) [
-    | inr f ↦ refuses (BadRequest, refl, rw f refl)
-    | inl s ↦ elim (cases_Bool (has_form request)) [
-      | inr f ↦ refuses (BadRequest, refl, rw (s, f) refl)
-      | inl k ↦ elim (cases_Bool (has_originator e.home request)) [
-        | inr f ↦ refuses (BadRequest, refl, rw (s, k, f) refl)
-        | inl o ↦ elim (cases_Bool (has_address e.home request)) [
-          | inr f ↦ refuses (BadRequest, refl, rw (s, k, o, f) refl)
-          | inl a ↦ elim (cases_Bool (is_in_time e request)) [
-            | inr f ↦ refuses (RequestTimeout, refl, rw (s, k, o, a, f) refl)
-            | inl t ↦ elim (cases_Bool (is_blocking request)) [
-              | inr f ↦ refuses (NonBlocking, refl, rw (s, k, o, a, t, f) refl)
-              | inl b ↦ subst (Way e request) (sym (heard s k o a t b)) (by_address address_is s o refl)
-            ]
-          ]
-        ]
-      ]
-    ]
+  way_of = elim (judged e request) [
+    | turned_down fault other is ↦ refuses (fault, other, refused_effect e request fault is)
+    | is_heard none facts ↦ subst (Way e request) (sym (heard_effect e request none)) (by_address address_is facts.served facts.originator refl)
   ]
 
 -- ---- reading

@@ -228,9 +228,9 @@ short_account reading request before done account =
     (expired_account reading before account)
 
 -- What a step makes of it: a request polls, or appends its items behind those of the expiry, or
--- goes on; the first item that waits for no polling channel is given away; and where memory runs out,
--- nothing is done but by the expiry and by so many members of a fan-out, and not even that where it
--- ran out in the expiry.
+-- goes on; the first item that waits for no polling channel is given away; and where memory runs
+-- out, nothing is done but by the expiry and by so many members of a fan-out, and not even that
+-- where it ran out in the expiry.
 abbrev pub AccountStep : ℕ → Event → EntityData → Outcome → EntityData → Account → Account → Type 0
 AccountStep reading (Ask request) before (Done reply) after account next =
     next ≡ requested_account (swept reading before) request

@@ -1,29 +1,9 @@
 -- Rights on lists by which an originator is judged alike, and changes that keep lists alike.
-use Rattle.std.specs.Prelude.{◌==◌}
-use Rattle.std.proofs.Common.{◌≡◌, ℕ, List, [], ◌∷◌, ◌++◌, map, Bool, true, false, Option, Some, None, inl, inr, refl, sym, ap, ◌∙◌, arith}
-use Rattle.std.proofs.lemmas.Bool.{cases_Bool, and_parts, eqb-true, or_left, or_right}
-use Rattle.std.proofs.lemmas.List.Folds.{list_any-append}
-use Rattle.std.proofs.lemmas.List.Elements.{AllZip-push}
-use Rattle.std.proofs.lemmas.Nat.Bits.{bit_at_or, bit_at-zero, same_from_bits}
-use Rattle.std.specs.Int.RustNames.{bit_or}
-use Rattle.std.specs.List.{AllZip, cons_option, flat_map, list_all}
-use Rattle.std.specs.Option.{option_and_then, option_map_or, option_or}
-use Rattle.m2m_names.specs.Types.{ty_row}
-use Rattle.m2m_names.specs.declared.attributes.Attr.{Attr}
-use Rattle.m2m_names.specs.declared.attributes.Attr.TheVariants.{Acpi, Aei, Csi, Macp, Pv, Pvs}
-use Rattle.m2m_names.specs.Ids.{id_parts}
-use Rattle.m2m_names.specs.declared.types.Ty.{Ty}
-use Rattle.m2m_names.specs.declared.types.Ty.TheVariants.{AccessControlPolicy, Ae, ContentInstance, PollingChannel, RemoteCse}
-use Rattle.m2m_value.specs.Data.{Data}
-use Rattle.m2m_value.specs.View.{as_text}
-use Rattle.resource_model.specs.Attributes.{is_attr, value_of}
-use Rattle.resource_model.specs.Home.{HomeData}
-use Rattle.resource_model.specs.Resource.{ResourceData, is_ty, has_number, ae_id, cse_id}
-use Rattle.tree_model.specs.Tree.{at, has, is_child, child_of, of_type, replaced, resource_of_id, stays, staying, typed_at, without}
+use Rattle.policy_laws.proofs.Words.{◌==◌, ◌≡◌, ℕ, List, [], ◌∷◌, ◌++◌, map, Bool, true, false, Option, Some, None, inl, inr, refl, sym, ap, subst, ◌∙◌, arith, cond, bit_or, AllZip, cons_option, flat_map, list_all, option_and_then, option_map_or, option_or}
+use Rattle.policy_laws.proofs.Terms.{ty_row, Attr, Acpi, Aei, Csi, Macp, Pv, Pvs, id_parts, Ty, AccessControlPolicy, Ae, ContentInstance, PollingChannel, RemoteCse, Data, as_text, is_attr, value_of, HomeData, ResourceData, is_ty, has_number, ae_id, cse_id, at, has, is_child, child_of, of_type, replaced, resource_number, resource_of_id, stays, staying, typed_at, without, all_bits, is_attr_in, only, Rule, rule_for, rules_in, policy_named, policy_of, policies_of, rules_by, listed_in, ids_at, lists_ids, registree, linked_rules, channel_rules, rules_of, fan_rules, link_rules, is_subject, with_rule, with_rules, bits_by, do_give, update_bit, grants, relinks, fan_grants}
+use Rattle.policy_laws.proofs.Facts.{cases_Bool, and_parts, eqb-true, or_left, or_right, cond_both, list_any-append, AllZip-push, bit_at_or, bit_at-zero, same_from_bits}
 use Rattle.policy_laws.specs.Alike.{id_attrs, told_attrs, shape_attrs, Alike, AreAlike, FindAlike}
-use Rattle.m2m_names.specs.Operations.{all_bits}
-use Rattle.policy_eval.specs.Rules.{is_attr_in, only, Rule, rule_for, rules_in, policy_named, policy_of, policies_of, rules_by, listed_in, ids_at, lists_ids, registree, linked_rules, channel_rules, rules_of, fan_rules, link_rules}
-use Rattle.policy_eval.specs.Rights.{is_subject, with_rule, with_rules, bits_by, do_give, update_bit, grants, relinks, fan_grants}
+use Rattle.policy_laws.proofs.ChoiceLemmas.{both_chosen, same_chosen}
 use Rattle.policy_laws.proofs.UnionLemmas.{with_rules-append}
 
 -- ---- bits that are joined from the left are a union
@@ -72,10 +52,7 @@ module _ (R : ResourceData → ResourceData → Type 0) (number : (s r : Resourc
   replaced-zip s r rel (t ∷ ss) [] zip = absurd zip
   replaced-zip s r rel (t ∷ ss) (u ∷ rs) zip =
       let same : has_number s.number t ≡ has_number r.number u = ap (λ (m : ℕ). t.number == m) (number s r rel) ∙ number_test r.number t u zip.0 in
-      elim (cases_Bool (has_number r.number u)) [
-        | inl t ↦ rw (same ∙ t, t) (rel, zip.1)
-        | inr f ↦ rw (same ∙ f, f) (zip.0, replaced-zip s r rel ss rs zip.1)
-      ]
+      same_chosen (AllZip R) _ _ _ _ _ _ same (λ t. (rel, zip.1)) (λ f. (zip.0, replaced-zip s r rel ss rs zip.1))
 
   module _ (parent : (s r : ResourceData) → R s r → s.parent ≡ r.parent) (p q : ResourceData → Bool) where
     stays-zip : (s r : ResourceData) → R s r → p s ≡ q r → (before older : List ResourceData) → AllZip R before older → stays p before s ≡ stays q older r
@@ -87,10 +64,9 @@ module _ (R : ResourceData → ResourceData → Type 0) (number : (s r : Resourc
     staying-zip (s ∷ ss) [] zip before older stood = absurd zip
     staying-zip (s ∷ ss) (r ∷ rs) zip before older stood =
         let same : stays p before s ≡ stays q older r = stays-zip s r zip.0.0 zip.0.1 before older stood in
-        elim (cases_Bool (stays q older r)) [
-          | inl t ↦ rw (same ∙ t, t) (zip.0.0, staying-zip ss rs zip.1 (before ++ s ∷ []) (older ++ r ∷ []) (AllZip-push R before older s r stood zip.0.0))
-          | inr f ↦ rw (same ∙ f, f) (staying-zip ss rs zip.1 before older stood)
-        ]
+        same_chosen (AllZip R) _ _ _ _ _ _ same
+        (λ t. (zip.0.0, staying-zip ss rs zip.1 (before ++ s ∷ []) (older ++ r ∷ []) (AllZip-push R before older s r stood zip.0.0)))
+        (λ f. staying-zip ss rs zip.1 before older stood)
 
     -- a removal by picks that agree
     pub without-zip : (ss rs : List ResourceData) → AllZip (λ s r. R s r × (p s ≡ q r)) ss rs → AllZip R (without p ss) (without q rs)
@@ -148,6 +124,11 @@ module _ (home : HomeData) (o : List ℕ) where
 no_both : (ty : Ty) → is_ty ty Ae ≡ true → is_ty ty RemoteCse ≡ true → ⊥
 no_both ty ae cse = omega (arith, eqb-true (ty_row ty).number 2 ae, eqb-true (ty_row ty).number 16 cse)
 
+-- what holds of the attributes that name an AE, of those that name a remote CSE, and of none, holds of those of each type
+pub id_attrs_hold : (P : List Attr → Type 0) (ty : Ty) → (is_ty ty Ae ≡ true → P (Aei ∷ [])) → (is_ty ty RemoteCse ≡ true → P (Csi ∷ [])) → P [] → P (id_attrs ty)
+id_attrs_hold P ty ae cse none =
+    cond_both (is_ty ty Ae) (Aei ∷ []) (cond (is_ty ty RemoteCse) (Csi ∷ []) []) P ae (λ other. cond_both (is_ty ty RemoteCse) (Csi ∷ []) [] P cse (λ neither. none))
+
 -- a remote CSE is named by its CSE-ID
 pub cse_named : (ty : Ty) → is_ty ty RemoteCse ≡ true → is_attr_in (id_attrs ty) Csi ≡ true
 cse_named ty cse = elim (cases_Bool (is_ty ty Ae)) [
@@ -193,16 +174,14 @@ module _ (home : HomeData) (o : List ℕ) where
   ids-alike attr s r same = ap listed_in same
 
   pub ae_id-alike : (s r : ResourceData) → Alike home o s r → ae_id s ≡ ae_id r
-  ae_id-alike s r alike = elim (cases_Bool (is_ty r.ty Ae)) [
-    | inl t ↦ rw (ty-alike s r alike Ae ∙ t, t) (ap (option_and_then as_text) (alike.shape Aei (ids_in_shape r.ty Aei (rw t refl))))
-    | inr f ↦ rw (ty-alike s r alike Ae ∙ f, f) refl
-  ]
+  ae_id-alike s r alike =
+      same_chosen (λ (x y : Option (List ℕ)). x ≡ y) _ _ _ _ _ _ (ty-alike s r alike Ae)
+      (λ t. ap (option_and_then as_text) (alike.shape Aei (ids_in_shape r.ty Aei (rw t refl)))) (λ f. refl)
 
   pub cse_id-alike : (s r : ResourceData) → Alike home o s r → cse_id s ≡ cse_id r
-  cse_id-alike s r alike = elim (cases_Bool (is_ty r.ty RemoteCse)) [
-    | inl t ↦ rw (ty-alike s r alike RemoteCse ∙ t, t) (ap (option_and_then as_text) (alike.shape Csi (ids_in_shape r.ty Csi (cse_named r.ty t))))
-    | inr f ↦ rw (ty-alike s r alike RemoteCse ∙ f, f) refl
-  ]
+  cse_id-alike s r alike =
+      same_chosen (λ (x y : Option (List ℕ)). x ≡ y) _ _ _ _ _ _ (ty-alike s r alike RemoteCse)
+      (λ t. ap (option_and_then as_text) (alike.shape Csi (ids_in_shape r.ty Csi (cse_named r.ty t)))) (λ f. refl)
 
   pub registree-alike : (s r : ResourceData) → Alike home o s r → registree s ≡ registree r
   registree-alike s r alike = same_ids (ae_id s) (ae_id r) (cse_id s) (cse_id r) (ae_id-alike s r alike) (cse_id-alike s r alike)
@@ -213,10 +192,7 @@ module _ (home : HomeData) (o : List ℕ) where
   at-alike (s ∷ ss) [] alike n = absurd alike
   at-alike (s ∷ ss) (r ∷ rs) alike n =
       let same : has_number n s ≡ has_number n r = ap (λ (m : ℕ). m == n) alike.0.number in
-      elim (cases_Bool (has_number n r)) [
-        | inl t ↦ rw (same ∙ t, t) alike.0
-        | inr f ↦ rw (same ∙ f, f) (at-alike ss rs alike.1 n)
-      ]
+      same_chosen (FindAlike home o) _ _ _ _ _ _ same (λ t. alike.0) (λ f. at-alike ss rs alike.1 n)
 
   pub child-alike : (ss rs : List ResourceData) → AreAlike home o ss rs → (parent : ℕ) (name : List ℕ) → child_of parent name ss ≡ child_of parent name rs
   child-alike [] [] alike parent name = refl
@@ -224,10 +200,8 @@ module _ (home : HomeData) (o : List ℕ) where
   child-alike (s ∷ ss) [] alike parent name = absurd alike
   child-alike (s ∷ ss) (r ∷ rs) alike parent name =
       let same : is_child parent name s ≡ is_child parent name r = rw (alike.0.parent, alike.0.name) refl in
-      elim (cases_Bool (is_child parent name r)) [
-        | inl t ↦ rw (same ∙ t, t) (ap (λ n. Some n) alike.0.number)
-        | inr f ↦ rw (same ∙ f, f) (child-alike ss rs alike.1 parent name)
-      ]
+      same_chosen (λ (x y : Option ResourceData). resource_number x ≡ resource_number y) _ _ _ _ _ _ same
+      (λ t. ap (λ n. Some n) alike.0.number) (λ f. child-alike ss rs alike.1 parent name)
 
   -- two look-ups find alike policies, or both find none
   abbrev FindPolicies : Option ResourceData → Option ResourceData → Type 0
@@ -242,10 +216,7 @@ module _ (home : HomeData) (o : List ℕ) where
   type_alike ty (Some s) None found = absurd found
   type_alike ty (Some s) (Some r) found =
       let same = ty-alike s r found ty in
-      elim (cases_Bool (is_ty r.ty ty)) [
-        | inl t ↦ rw (same ∙ t, t) found
-        | inr f ↦ rw (same ∙ f, f) tt
-      ]
+      same_chosen (FindAlike home o) _ _ _ _ _ _ same (λ t. found) (λ f. tt)
 
   policy_alike : (p q : Option ResourceData) → FindAlike home o p q → FindPolicies (option_and_then (of_type AccessControlPolicy) p) (option_and_then (of_type AccessControlPolicy) q)
   policy_alike None None found = tt
@@ -253,10 +224,7 @@ module _ (home : HomeData) (o : List ℕ) where
   policy_alike (Some s) None found = absurd found
   policy_alike (Some s) (Some r) found =
       let same = ty-alike s r found AccessControlPolicy in
-      elim (cases_Bool (is_ty r.ty AccessControlPolicy)) [
-        | inl t ↦ rw (same ∙ t, t) (found, t)
-        | inr f ↦ rw (same ∙ f, f) tt
-      ]
+      same_chosen FindPolicies _ _ _ _ _ _ same (λ t. (found, t)) (λ f. tt)
 
   same_owner : (s r : ResourceData) → Alike home o s r → GiveSame home o (rule_for (only s.owner) all_bits ∷ []) (rule_for (only r.owner) all_bits ∷ [])
   same_owner s r alike = record { bits = λ a. rw alike.owned refl }
@@ -310,28 +278,23 @@ module _ (home : HomeData) (o : List ℕ) where
         same_policies (by_list attr) same (policy_of ss id) (policy_of rs id) (policy_of-alike id) (policies_of ss ids) (policies_of rs ids) (same_joined attr same ids) a
 
     pub linked-alike : (attr : Attr) → ((s r : ResourceData) → Alike home o s r → is_ty r.ty AccessControlPolicy ≡ true → GiveSame home o (by_list attr s) (by_list attr r)) → (s r : ResourceData) → Alike home o s r → GiveSame home o (linked_rules attr ss s) (linked_rules attr rs r)
-    linked-alike attr same s r alike = rw (ids-alike Acpi s r (alike.shape Acpi refl)) (elim (cases_Bool (lists_ids Acpi r)) [
-      | inl t ↦ rw t (record { bits = same_joined attr same (ids_at Acpi r) })
-      | inr f ↦ rw f (same_owner s r alike)
-    ])
+    linked-alike attr same s r alike = rw (ids-alike Acpi s r (alike.shape Acpi refl)) (both_chosen (GiveSame home o) (lists_ids Acpi r) _ _ _ _ (λ t. record { bits = same_joined attr same (ids_at Acpi r) }) (λ f. same_owner s r alike))
+
+    -- what stands above alike resources is alike
+    above-alike : (s r : ResourceData) → Alike home o s r → FindAlike home o (at s.parent ss) (at r.parent rs)
+    above-alike s r alike = subst (λ (n : ℕ). FindAlike home o (at n ss) (at r.parent rs)) (sym alike.parent) (at-alike ss rs all r.parent)
 
     pub rules-alike : (s r : ResourceData) → Alike home o s r → GiveSame home o (rules_of ss s) (rules_of rs r)
-    rules-alike s r alike = elim (cases_Bool (is_ty r.ty AccessControlPolicy)) [
-      | inl t ↦ rw (ty-alike s r alike AccessControlPolicy ∙ t, t) (same_pvs s r alike t)
-      | inr f ↦ rw (ty-alike s r alike AccessControlPolicy ∙ f, f) (elim (cases_Bool (is_ty r.ty ContentInstance)) [
-        | inl t ↦ rw (ty-alike s r alike ContentInstance ∙ t, t) (rw alike.parent (same_above (linked_rules Pv ss) (linked_rules Pv rs) (linked-alike Pv same_pv) (at r.parent ss) (at r.parent rs) (at-alike ss rs all r.parent)))
-        | inr f ↦ rw (ty-alike s r alike ContentInstance ∙ f, f) (elim (cases_Bool (is_ty r.ty PollingChannel)) [
-          | inl t ↦ rw (ty-alike s r alike PollingChannel ∙ t, t) (rw alike.parent (same_above channel_rules channel_rules same_channel (at r.parent ss) (at r.parent rs) (at-alike ss rs all r.parent)))
-          | inr f ↦ rw (ty-alike s r alike PollingChannel ∙ f, f) (linked-alike Pv same_pv s r alike)
-        ])
-      ])
-    ]
+    rules-alike s r alike =
+        same_chosen (GiveSame home o) _ _ _ _ _ _ (ty-alike s r alike AccessControlPolicy) (same_pvs s r alike)
+        (λ f. same_chosen (GiveSame home o) _ _ _ _ _ _ (ty-alike s r alike ContentInstance)
+        (λ t. same_above (linked_rules Pv ss) (linked_rules Pv rs) (linked-alike Pv same_pv) (at s.parent ss) (at r.parent rs) (above-alike s r alike))
+        (λ g. same_chosen (GiveSame home o) _ _ _ _ _ _ (ty-alike s r alike PollingChannel)
+        (λ t. same_above channel_rules channel_rules same_channel (at s.parent ss) (at r.parent rs) (above-alike s r alike))
+        (λ h. linked-alike Pv same_pv s r alike)))
 
     pub fan_rules-alike : (s r : ResourceData) → Alike home o s r → GiveSame home o (fan_rules ss s) (fan_rules rs r)
-    fan_rules-alike s r alike = rw (ids-alike Macp s r (alike.shape Macp refl)) (elim (cases_Bool (lists_ids Macp r)) [
-      | inl t ↦ rw t (record { bits = same_joined Pv same_pv (ids_at Macp r) })
-      | inr f ↦ rw f (rules-alike s r alike)
-    ])
+    fan_rules-alike s r alike = rw (ids-alike Macp s r (alike.shape Macp refl)) (both_chosen (GiveSame home o) (lists_ids Macp r) _ _ _ _ (λ t. record { bits = same_joined Pv same_pv (ids_at Macp r) }) (λ f. rules-alike s r alike))
 
     pub grants-alike : (bit n : ℕ) → grants home ss o bit n ≡ grants home rs o bit n
     grants-alike bit n = same_rights bit (rules_of ss) (rules_of rs) rules-alike (at n ss) (at n rs) (at-alike ss rs all n)

@@ -1,35 +1,15 @@
 -- Equal sights stay equal where the same resource is appended.
-use Rattle.std.specs.Prelude.{nat_lt}
-use Rattle.std.proofs.Common.{◌≡◌, ℕ, ◌<◌, List, [], ◌∷◌, ◌++◌, map, Bool, true, false, ◌&&◌, ◌||◌, Option, Some, None, is_some, inl, inr, refl, sym, ap, ◌∙◌, subst, arith}
-use Rattle.std.proofs.lemmas.Bool.{cases_Bool, both_ways, and_from, and_parts, or_cases, or_left, or_right, or_parts, ne_eqb}
-use Rattle.std.proofs.lemmas.List.{map-append}
-use Rattle.std.proofs.lemmas.Option.{same_Some}
-use Rattle.std.specs.List.{list_any}
-use Rattle.std.specs.Option.{option_and_then, option_map_or, option_or}
-use Rattle.m2m_names.specs.declared.attributes.Attr.TheVariants.{Acpi, Macp}
-use Rattle.m2m_names.specs.Ids.{id_parts}
-use Rattle.m2m_names.specs.declared.types.Ty.{Ty}
-use Rattle.m2m_names.specs.declared.types.Ty.TheVariants.{AccessControlPolicy, Container, ContentInstance, Group}
-use Rattle.m2m_value.specs.Data.{Data}
-use Rattle.m2m_value.specs.View.{as_text}
-use Rattle.resource_model.specs.Attributes.{value_of}
-use Rattle.resource_model.specs.Home.{HomeData}
-use Rattle.resource_model.specs.Resource.{ResourceData, is_ty, has_number}
-use Rattle.tree_model.specs.Tree.{at, due, due_under, fits_in, is_well_formed, of_type, typed_at}
-use Rattle.tree_model.proofs.GrowthLemmas.{IsNext, below_has, grows-append, next_fits, stands, tree_from_well_formed, FitsIn, fits_parts}
-use Rattle.tree_model.proofs.TreeLemmas.{at-append, at_has, at_number}
+use Rattle.policy_laws.proofs.Words.{nat_lt, ◌≡◌, ℕ, ◌<◌, List, [], ◌∷◌, ◌++◌, map, Bool, true, false, ◌&&◌, ◌||◌, Option, Some, None, is_some, inl, inr, refl, sym, ap, ◌∙◌, subst, arith, list_any, option_and_then, option_map_or, option_or}
+use Rattle.policy_laws.proofs.Terms.{Acpi, Macp, id_parts, Ty, AccessControlPolicy, Container, ContentInstance, Group, Data, as_text, value_of, HomeData, ResourceData, is_ty, has_number, at, due, due_under, fits_in, is_well_formed, of_type, typed_at, listed_in, fan_rules, policy_named, policy_of, bits_by, has_bits, update_bit}
+use Rattle.policy_laws.proofs.Facts.{cases_Bool, both_ways, and_from, and_parts, or_cases, or_left, or_right, or_parts, ne_eqb, map-append, same_Some, IsNext, below_has, grows-append, next_fits, stands, tree_from_well_formed, FitsIn, fits_parts, at-append, at_has, at_number, option_or-None, due_plain}
 use Rattle.policy_laws.specs.Alike.{Alike, AreAlike, FindAlike}
 use Rattle.policy_laws.specs.Changes.{is_id_of, does_link, is_linked, learns_limits}
-use Rattle.policy_eval.specs.Rules.{listed_in, fan_rules, policy_named, policy_of}
-use Rattle.policy_eval.specs.Rights.{bits_by, has_bits, update_bit}
 use Rattle.policy_laws.specs.Seen.{create_bit, retrieve_bit, has_bit, fills, is_filled_in, seen, seen_list}
 use Rattle.policy_laws.proofs.AlikeLemmas.{alike_itself, append-alike, at-alike, fan_rules-alike, map_from_zip, rules-alike, ty-alike}
 use Rattle.policy_laws.proofs.DueLemmas.{in_container, same_fill, same_may}
 use Rattle.policy_laws.proofs.EqualLemmas.{same_alike}
 use Rattle.policy_laws.proofs.LookupLemmas.{FindSame, FindsSame, MaySame, find_itself, judge_itself, may_the_same, seen_found, seen_same}
 use Rattle.policy_laws.proofs.TwiceLemmas.{zip-found}
-use Rattle.m2m_names.proofs.LookupLemmas.{option_or-None}
-use Rattle.tree_model.proofs.QuietLemmas.{due_plain}
 
 -- what has the type and is a policy; that of an id's type and number
 abbrev policy_of_type : Ty → Option ResourceData → Option ResourceData

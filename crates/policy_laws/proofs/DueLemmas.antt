@@ -1,31 +1,14 @@
 -- What is due and what is live is the same on what an originator sees.
-use Rattle.std.specs.Prelude.{nat_le, unwrap_or}
-use Rattle.std.proofs.Common.{◌≡◌, ℕ, ◌+◌, ◌==◌, List, map, Bool, true, false, cond, ◌||◌, Option, Some, None, option_map, inl, inr, refl, sym, ap, ◌∙◌, subst}
-use Rattle.std.proofs.lemmas.Bool.{cases_Bool, both_ways, and_left, and_right, or_cases, or_from, or_left, or_parts, or_right, cond-true, cond-false, eqb-true}
-use Rattle.std.proofs.lemmas.List.Folds.{list_any-append}
-use Rattle.std.specs.List.{list_any}
-use Rattle.std.specs.Option.{option_and_then, option_map_or}
-use Rattle.m2m_names.specs.Types.{does_take, ty_row}
-use Rattle.m2m_names.specs.declared.attributes.Attr.TheVariants.{Mia, Pv}
-use Rattle.m2m_names.specs.declared.types.Ty.{Ty}
-use Rattle.m2m_names.specs.declared.types.Ty.TheVariants.{Ae, Container, ContentInstance, CseBase, RemoteCse, Subscription}
-use Rattle.m2m_value.specs.Data.{Data}
+use Rattle.policy_laws.proofs.Words.{nat_le, unwrap_or, ◌≡◌, ℕ, ◌+◌, List, map, Bool, true, false, cond, ◌||◌, Option, Some, None, option_map, inl, inr, refl, sym, ap, ◌∙◌, subst, list_any, option_and_then, option_map_or}
+use Rattle.policy_laws.proofs.Terms.{does_take, ty_row, Attr, Mia, Pv, Ty, Container, ContentInstance, CseBase, Subscription, Data, is_attr, value_of, HomeData, ResourceData, is_ty, at, due, due_under, lesser, is_due, live, is_taken, is_well_formed, is_attr_in, Rule, linked_rules, rules_of, bits_by, has_bits, do_give, grants, relinks, fan_grants}
+use Rattle.policy_laws.proofs.Facts.{cases_Bool, both_ways, and_left, and_right, or_cases, or_from, or_left, or_parts, or_right, cond_both, cond-true, cond-false, eqb-true, list_any-append, tree_from_well_formed, at-map, number_passes, all_taken}
+use Rattle.std.proofs.Common.{◌==◌}
 use Rattle.m2m_value.specs.Shapes.{as_count}
-use Rattle.resource_model.specs.Attributes.{is_attr, value_of}
-use Rattle.resource_model.specs.Home.{HomeData}
-use Rattle.resource_model.specs.Resource.{ResourceData, is_ty}
-use Rattle.tree_model.specs.Tree.{at, due, due_under, lesser, is_due, live, is_taken, is_well_formed}
-use Rattle.tree_model.proofs.GrowthLemmas.{tree_from_well_formed}
-use Rattle.tree_model.proofs.TreeLemmas.{at-map}
-use Rattle.tree_model.proofs.QuietLemmas.{number_passes}
 use Rattle.policy_laws.specs.Alike.{AreAlike, id_attrs, told_attrs, shape_attrs}
-use Rattle.policy_eval.specs.Rules.{is_attr_in, Rule, linked_rules, rules_of}
-use Rattle.policy_eval.specs.Rights.{bits_by, has_bits, do_give, grants, relinks, fan_grants}
 use Rattle.policy_laws.specs.Seen.{retrieve_bit, has_bit, fills, is_filled_in, is_shown, seen_ct, seen_et, with_seen_owner, seen, seen_list}
-use Rattle.policy_laws.proofs.AlikeLemmas.{without-zip, zip-map, map_from_zip, grants-alike, relinks-alike, fan_grants-alike}
+use Rattle.policy_laws.proofs.AlikeLemmas.{id_attrs_hold, without-zip, zip-map, map_from_zip, grants-alike, relinks-alike, fan_grants-alike}
 use Rattle.policy_laws.proofs.RemovalLemmas.{keeps_without, grants_before}
 use Rattle.policy_laws.proofs.SeenLemmas.{at-seen, seen_map_alike, seen_shows}
-use Rattle.tree_model.proofs.TakenLemmas.{all_taken}
 
 -- ---- the types of an instance and of what it stands in
 
@@ -44,19 +27,10 @@ in_container nodes r p taken instance found =
 
 -- the greatest age isn't always seen
 names_none : (t : Ty) → is_attr_in (id_attrs t) Mia ≡ false
-names_none t = elim (cases_Bool (is_ty t Ae)) [
-  | inl is ↦ rw is refl
-  | inr f ↦ elim (cases_Bool (is_ty t RemoteCse)) [
-    | inl is ↦ rw (f, is) refl
-    | inr g ↦ rw (f, g) refl
-  ]
-]
+names_none t = id_attrs_hold (λ (attrs : List Attr). is_attr_in attrs Mia ≡ false) t (λ is. refl) (λ is. refl) refl
 
 tells_none : (t : Ty) → is_attr_in (told_attrs t) Mia ≡ false
-tells_none t = elim (cases_Bool (is_ty t Subscription)) [
-  | inl is ↦ rw is refl
-  | inr f ↦ rw f refl
-]
+tells_none t = cond_both (is_ty t Subscription) _ _ (λ (attrs : List Attr). is_attr_in attrs Mia ≡ false) (λ is. refl) (λ other. refl)
 
 no_shape : (t : Ty) → is_attr_in (shape_attrs t) Mia ≡ false
 no_shape t =

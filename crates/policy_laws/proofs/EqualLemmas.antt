@@ -1,21 +1,8 @@
 -- Lists of which an originator sees the same show it the same.
-use Rattle.std.specs.Prelude.{nat_lt}
-use Rattle.std.proofs.Common.{◌≡◌, ℕ, List, Bool, true, false, ◌&&◌, ◌||◌, map, Option, Some, None, option_map, refl, sym, ap, ◌∙◌}
-use Rattle.std.proofs.lemmas.Option.{same_Some}
-use Rattle.std.specs.Option.{option_map_or}
-use Rattle.m2m_names.specs.declared.attributes.Attr.{Attr}
-use Rattle.m2m_names.specs.declared.attributes.Attr.TheVariants.{Poa, Pv, Pvs}
-use Rattle.m2m_names.specs.declared.types.Ty.{Ty}
-use Rattle.m2m_names.specs.declared.types.Ty.TheVariants.{AccessControlPolicy, Container, ContentInstance, Group, RemoteCse}
-use Rattle.resource_model.specs.Attributes.{value_of}
-use Rattle.resource_model.specs.Home.{HomeData}
-use Rattle.resource_model.specs.Resource.{ResourceData, is_ty}
-use Rattle.tree_model.specs.Tree.{at, has}
-use Rattle.tree_model.proofs.TreeLemmas.{at-map, has-map}
+use Rattle.policy_laws.proofs.Words.{nat_lt, ◌≡◌, ℕ, List, Bool, true, false, ◌&&◌, ◌||◌, map, Option, Some, None, option_map, refl, sym, ap, ◌∙◌, option_map_or}
+use Rattle.policy_laws.proofs.Terms.{Attr, Poa, Pv, Pvs, Ty, AccessControlPolicy, Container, ContentInstance, Group, RemoteCse, value_of, HomeData, ResourceData, is_ty, at, has, is_same, is_attr_in, rules_in, fan_rules, bits_by, has_bits}
+use Rattle.policy_laws.proofs.Facts.{same_Some, at-map, has-map}
 use Rattle.policy_laws.specs.Alike.{Alike, shape_attrs}
-use Rattle.policy_eval.specs.Originators.{is_same}
-use Rattle.policy_eval.specs.Rules.{is_attr_in, rules_in, fan_rules}
-use Rattle.policy_eval.specs.Rights.{bits_by, has_bits}
 use Rattle.policy_laws.specs.Seen.{create_bit, update_bit, retrieve_bit, discovery_bit, has_bit, fills, is_filled_in, may_use, found_attrs, limit_attrs, size_attrs, member_attrs, is_shown, is_policy_rules, is_way, way_in, seen, seen_list, Shows}
 use Rattle.policy_laws.proofs.AlikeLemmas.{rules-alike, fan_rules-alike}
 use Rattle.policy_laws.proofs.SeenLemmas.{at-seen, seen_alike, seen_map_alike, seen_shows}

@@ -1,3 +1,7 @@
+pub mod Words
+pub mod Terms
+pub mod Facts
+pub mod ChoiceLemmas
 pub mod UnionLemmas
 pub mod RemovalLemmas
 pub mod AlikeLemmas

@@ -1,24 +1,10 @@
 -- A resource is seen the same in lists where what it is judged by is found the same.
-use Rattle.std.specs.Prelude.{nat_lt, unwrap_or}
-use Rattle.std.proofs.Common.{◌≡◌, ℕ, List, [], ◌∷◌, ◌++◌, length, Bool, false, cond, ◌&&◌, ◌||◌, Option, Some, None, option_map, inl, inr, refl, sym, ap, ◌∙◌}
-use Rattle.std.proofs.lemmas.List.Folds.{list_any-append}
-use Rattle.std.proofs.lemmas.Bool.{cases_Bool, or_parts}
-use Rattle.std.specs.List.{cons_option, filter_map, flat_map, list_any}
-use Rattle.std.specs.Option.{option_map_or}
-use Rattle.m2m_names.specs.declared.attributes.Attr.{Attr}
-use Rattle.m2m_names.specs.declared.attributes.Attr.TheVariants.{Acpi, Macp, Poa, Pv, Pvs}
-use Rattle.m2m_names.specs.declared.types.Ty.{Ty}
-use Rattle.m2m_names.specs.declared.types.Ty.TheVariants.{AccessControlPolicy, Container, ContentInstance, Group, PollingChannel, RemoteCse}
-use Rattle.m2m_value.specs.Data.{Data}
-use Rattle.resource_model.specs.Attributes.{Row, is_attr, value_of}
-use Rattle.resource_model.specs.Home.{HomeData}
-use Rattle.resource_model.specs.Resource.{ResourceData, is_ty}
-use Rattle.tree_model.specs.Tree.{at, due}
+use Rattle.policy_laws.proofs.Words.{nat_lt, unwrap_or, ◌≡◌, ℕ, List, [], ◌∷◌, ◌++◌, length, Bool, false, cond, ◌&&◌, ◌||◌, Option, Some, None, option_map, refl, sym, ap, ◌∙◌, cons_option, filter_map, flat_map, list_any, option_map_or}
+use Rattle.policy_laws.proofs.Terms.{Attr, Acpi, Macp, Poa, Pv, Pvs, Ty, AccessControlPolicy, Container, ContentInstance, Group, PollingChannel, RemoteCse, Data, Row, is_attr, value_of, HomeData, ResourceData, is_ty, at, due, all_bits, is_attr_in, only, Rule, rule_for, rules_in, policy_of, policies_of, rules_by, listed_in, ids_at, linked_ids, owner_rules, registree, linked_rules, channel_rules, rules_of, fan_rules, bits_by, has_bits}
+use Rattle.policy_laws.proofs.Facts.{list_any-append, or_parts}
 use Rattle.policy_laws.specs.Alike.{shape_attrs}
-use Rattle.m2m_names.specs.Operations.{all_bits}
-use Rattle.policy_eval.specs.Rules.{is_attr_in, only, Rule, rule_for, rules_in, policy_of, policies_of, rules_by, listed_in, ids_at, linked_ids, owner_rules, registree, linked_rules, channel_rules, rules_of, fan_rules}
-use Rattle.policy_eval.specs.Rights.{bits_by, has_bits}
 use Rattle.policy_laws.specs.Seen.{create_bit, update_bit, retrieve_bit, discovery_bit, has_bit, fills, is_filled_in, may_use, found_attrs, limit_attrs, size_attrs, member_attrs, is_shown, seen_value, seen_row, seen_owner, seen, is_policy_rules, is_way}
+use Rattle.policy_laws.proofs.ChoiceLemmas.{both_chosen}
 use Rattle.policy_laws.proofs.TwiceLemmas.{made, value_by}
 
 -- ---- rules
@@ -175,10 +161,8 @@ filter_map_same f g same (x ∷ xs) =
 
 module _ (home : HomeData) (o : List ℕ) (zs xs : List ResourceData) (r : ResourceData) (both : MaySame home o zs xs r r) (end : (has_bit home xs o retrieve_bit r || is_filled_in home xs o r) ≡ false → due zs r ≡ due xs r) where
   et_same : cond (has_bit home xs o retrieve_bit r || is_filled_in home xs o r) r.et (unwrap_or (due zs r) 0) ≡ cond (has_bit home xs o retrieve_bit r || is_filled_in home xs o r) r.et (unwrap_or (due xs r) 0)
-  et_same = elim (cases_Bool (has_bit home xs o retrieve_bit r || is_filled_in home xs o r)) [
-    | inl t ↦ rw t refl
-    | inr f ↦ ap (λ (d : Option ℕ). cond (has_bit home xs o retrieve_bit r || is_filled_in home xs o r) r.et (unwrap_or d 0)) (end f)
-  ]
+  et_same =
+      both_chosen (λ (x y : ℕ). x ≡ y) (has_bit home xs o retrieve_bit r || is_filled_in home xs o r) _ _ _ _ (λ t. refl) (λ f. ap (λ (d : Option ℕ). unwrap_or d 0) (end f))
 
   -- by the two rights and the place by which the moments are seen
   abbrev seen_by : Bool → Bool → Bool → List Row → ResourceData

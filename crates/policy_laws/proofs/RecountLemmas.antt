@@ -1,22 +1,8 @@
 -- Equal sights stay equal where subscriptions are counted anew.
-use Rattle.std.specs.Prelude.{unwrap_or}
-use Rattle.std.proofs.Common.{◌≡◌, ℕ, List, map, Bool, true, false, cond, ◌||◌, Option, Some, None, is_some, option_map, pos, refl, sym, ap, ◌∙◌}
-use Rattle.std.proofs.lemmas.Option.{same_Some}
-use Rattle.std.proofs.lemmas.Simd.{map-map}
-use Rattle.std.specs.List.{filter_map}
-use Rattle.std.specs.Option.{option_and_then, option_map_or}
-use Rattle.m2m_names.specs.declared.attributes.Attr.{Attr}
-use Rattle.m2m_names.specs.declared.attributes.Attr.TheVariants.{Acpi, Aei, Csi, Exc, Macp, Pv, Pvs}
-use Rattle.m2m_names.specs.declared.types.Ty.TheVariants.{Ae, RemoteCse, Subscription}
-use Rattle.m2m_value.specs.Data.{Data, number}
-use Rattle.m2m_value.specs.View.{as_text}
-use Rattle.resource_model.specs.Attributes.{Row, is_attr, value_of, with_value}
-use Rattle.resource_model.specs.Home.{HomeData}
-use Rattle.resource_model.specs.Resource.{ResourceData, is_ty, ae_id, cse_id}
-use Rattle.tree_model.specs.Tree.{at, due, due_under, is_well_formed, recounted}
-use Rattle.tree_model.proofs.GrowthLemmas.{tree_from_well_formed}
+use Rattle.policy_laws.proofs.Words.{unwrap_or, ◌≡◌, ℕ, List, map, Bool, true, false, cond, ◌||◌, Option, Some, None, is_some, option_map, pos, refl, sym, ap, ◌∙◌, filter_map, option_and_then, option_map_or}
+use Rattle.policy_laws.proofs.Terms.{Attr, Acpi, Aei, Csi, Exc, Macp, Pv, Pvs, Ae, RemoteCse, Subscription, Data, number, as_text, Row, is_attr, value_of, with_value, HomeData, ResourceData, is_ty, ae_id, cse_id, at, due, due_under, is_well_formed, recounted}
+use Rattle.policy_laws.proofs.Facts.{same_Some, map-map, tree_from_well_formed, at-map, at_number}
 use Rattle.tree_model.proofs.MarkLemmas.{due_below, exc_aside, other_kept}
-use Rattle.tree_model.proofs.TreeLemmas.{at-map, at_number}
 use Rattle.policy_laws.specs.Changes.{CountsSubscriptions, counted_anew, with_change}
 use Rattle.policy_laws.specs.Seen.{retrieve_bit, discovery_bit, has_bit, is_filled_in, is_shown, seen_value, seen_row, seen_owner, seen, seen_list}
 use Rattle.policy_laws.proofs.AlikeLemmas.{map_from_zip, same_ids, told_in_shape}

@@ -1,24 +1,9 @@
 -- What a removal leaves of rights.
-use Rattle.std.proofs.Common.{◌≡◌, ℕ, List, [], ◌∷◌, Bool, true, false, Option, Some, None, inl, inr, refl, sym, ◌∙◌}
-use Rattle.std.proofs.lemmas.Bool.{cases_Bool, both_ways}
-use Rattle.std.proofs.lemmas.Option.{same_Some}
-use Rattle.std.specs.List.{cons_option, flat_map}
-use Rattle.std.specs.Option.{option_and_then, option_map_or}
-use Rattle.m2m_value.specs.View.{as_text}
-use Rattle.m2m_names.specs.declared.attributes.Attr.{Attr}
-use Rattle.m2m_names.specs.declared.attributes.Attr.TheVariants.{Acpi, Macp, Pv, Pvs}
-use Rattle.m2m_names.specs.Ids.{id_parts}
-use Rattle.m2m_names.specs.declared.types.Ty.{Ty}
-use Rattle.m2m_names.specs.declared.types.Ty.TheVariants.{AccessControlPolicy, ContentInstance, PollingChannel}
-use Rattle.m2m_value.specs.Data.{Data}
-use Rattle.resource_model.specs.Attributes.{value_of}
-use Rattle.resource_model.specs.Home.{HomeData}
-use Rattle.resource_model.specs.Resource.{ResourceData, is_ty}
-use Rattle.tree_model.specs.Tree.{at, is_spared, is_tree, of_type, resource_of_id, typed_at, without}
-use Rattle.tree_model.proofs.GrowthLemmas.{at-without}
-use Rattle.policy_eval.specs.Rules.{Rule, rules_in, policy_named, policy_of, policies_of, rules_by, ids_at, lists_ids, linked_rules, channel_rules, rules_of, fan_rules, link_rules}
-use Rattle.policy_eval.specs.Rights.{with_rules, bits_by, do_give, update_bit, grants, relinks, fan_grants}
+use Rattle.policy_laws.proofs.Words.{◌≡◌, ℕ, List, [], ◌∷◌, Bool, true, false, Option, Some, None, refl, sym, ◌∙◌, cons_option, flat_map, option_and_then, option_map_or}
+use Rattle.policy_laws.proofs.Terms.{as_text, Attr, Acpi, Macp, Pv, Pvs, id_parts, Ty, AccessControlPolicy, ContentInstance, PollingChannel, Data, value_of, HomeData, ResourceData, is_ty, at, is_spared, is_tree, of_type, resource_of_id, typed_at, without, Rule, rules_in, policy_named, policy_of, policies_of, rules_by, ids_at, lists_ids, linked_rules, owner_rules, channel_rules, rules_of, fan_rules, link_rules, with_rules, bits_by, do_give, update_bit, grants, relinks, fan_grants}
+use Rattle.policy_laws.proofs.Facts.{both_ways, same_Some, at-without}
 use Rattle.policy_laws.specs.Laws.{IsNeverGained}
+use Rattle.policy_laws.proofs.ChoiceLemmas.{both_chosen, found_where}
 use Rattle.policy_laws.proofs.UnionLemmas.{IsBelow, below_itself, below_through, zero_below, with_rules_adds, with_rules_more, with_rules-append, has_more}
 
 -- what the one list has at a number, the other has there
@@ -27,12 +12,7 @@ pub record Keeps (less more : List ResourceData) : Type 0 where
 
 pub keeps_without : (picks : ResourceData → Bool) (nodes : List ResourceData) → is_tree nodes ≡ true → Keeps (without picks nodes) nodes
 keeps_without picks nodes tree = record {
-  found = λ n r here.
-      let left = sym (at-without picks n nodes tree) ∙ here in
-      elim (cases_Bool (is_spared picks nodes n)) [
-        | inl t ↦ rw t at left
-        | inr f ↦ let none : None ≡ Some r = rw f at left in cc
-      ];
+  found = λ n r here. (found_where (is_spared picks nodes n) (at n nodes) r (sym (at-without picks n nodes tree) ∙ here)).1;
 }
 
 then_kept : {A B : Type 0} (f g : A → Option B) (o : Option A) (b : B) → ((x : A) → f x ≡ Some b → g x ≡ Some b) → option_and_then f o ≡ Some b → option_and_then g o ≡ Some b
@@ -72,33 +52,31 @@ joined_below home o attr less more keeps (id ∷ ids) a b ab =
 pub record GiveLess (home : HomeData) (o : List ℕ) (less more : List Rule) : Type 0 where
   pub bits : IsBelow (bits_by home o less) (bits_by home o more)
 
+less_itself : (home : HomeData) (o : List ℕ) (rules : List Rule) → GiveLess home o rules rules
+less_itself home o rules = record { bits = below_itself (bits_by home o rules) }
+
 linked_less : (home : HomeData) (o : List ℕ) (attr : Attr) (less more : List ResourceData) → Keeps less more → (r : ResourceData) → GiveLess home o (linked_rules attr less r) (linked_rules attr more r)
-linked_less home o attr less more keeps r = elim (cases_Bool (lists_ids Acpi r)) [
-  | inl t ↦ rw t (record { bits = joined_below home o attr less more keeps (ids_at Acpi r) 0 0 (below_itself 0) })
-  | inr f ↦ rw f (record { bits = below_itself _ })
-]
+linked_less home o attr less more keeps r =
+    both_chosen (GiveLess home o) (lists_ids Acpi r) _ _ _ _
+    (λ t. record { bits = joined_below home o attr less more keeps (ids_at Acpi r) 0 0 (below_itself 0) }) (λ f. less_itself home o (owner_rules r))
 
 above_less : (home : HomeData) (o : List ℕ) (f g : ResourceData → List Rule) (p q : Option ResourceData) → ((r : ResourceData) → p ≡ Some r → q ≡ Some r) → ((r : ResourceData) → GiveLess home o (f r) (g r)) → GiveLess home o (option_map_or f p []) (option_map_or g q [])
 above_less home o f g None q kept less = record { bits = zero_below _ }
 above_less home o f g (Some r) q kept less = rw (kept r refl) (less r)
 
 pub rules_less : (home : HomeData) (o : List ℕ) (less more : List ResourceData) → Keeps less more → (r : ResourceData) → GiveLess home o (rules_of less r) (rules_of more r)
-rules_less home o less more keeps r = elim (cases_Bool (is_ty r.ty AccessControlPolicy)) [
-  | inl t ↦ rw t (record { bits = below_itself _ })
-  | inr f ↦ rw f (elim (cases_Bool (is_ty r.ty ContentInstance)) [
-    | inl t ↦ rw t (above_less home o (linked_rules Pv less) (linked_rules Pv more) (at r.parent less) (at r.parent more) (keeps.found r.parent) (linked_less home o Pv less more keeps))
-    | inr f ↦ rw f (elim (cases_Bool (is_ty r.ty PollingChannel)) [
-      | inl t ↦ rw t (above_less home o channel_rules channel_rules (at r.parent less) (at r.parent more) (keeps.found r.parent) (λ p. record { bits = below_itself _ }))
-      | inr f ↦ rw f (linked_less home o Pv less more keeps r)
-    ])
-  ])
-]
+rules_less home o less more keeps r =
+    both_chosen (GiveLess home o) (is_ty r.ty AccessControlPolicy) _ _ _ _ (λ t. less_itself home o (rules_in (value_of Pvs r.attrs)))
+    (λ f. both_chosen (GiveLess home o) (is_ty r.ty ContentInstance) _ _ _ _
+    (λ t. above_less home o (linked_rules Pv less) (linked_rules Pv more) (at r.parent less) (at r.parent more) (keeps.found r.parent) (linked_less home o Pv less more keeps))
+    (λ g. both_chosen (GiveLess home o) (is_ty r.ty PollingChannel) _ _ _ _
+    (λ t. above_less home o channel_rules channel_rules (at r.parent less) (at r.parent more) (keeps.found r.parent) (λ p. less_itself home o (channel_rules p)))
+    (λ h. linked_less home o Pv less more keeps r)))
 
 pub fan_less : (home : HomeData) (o : List ℕ) (less more : List ResourceData) → Keeps less more → (r : ResourceData) → GiveLess home o (fan_rules less r) (fan_rules more r)
-fan_less home o less more keeps r = elim (cases_Bool (lists_ids Macp r)) [
-  | inl t ↦ rw t (record { bits = joined_below home o Pv less more keeps (ids_at Macp r) 0 0 (below_itself 0) })
-  | inr f ↦ rw f (rules_less home o less more keeps r)
-]
+fan_less home o less more keeps r =
+    both_chosen (GiveLess home o) (lists_ids Macp r) _ _ _ _
+    (λ t. record { bits = joined_below home o Pv less more keeps (ids_at Macp r) 0 0 (below_itself 0) }) (λ f. rules_less home o less more keeps r)
 
 -- who has rights by fewer rules at a number had them
 gives_more : (home : HomeData) (o : List ℕ) (wanted : ℕ) (f g : ResourceData → List Rule) (p q : Option ResourceData) → ((r : ResourceData) → p ≡ Some r → q ≡ Some r) → ((r : ResourceData) → GiveLess home o (f r) (g r)) → option_map_or (λ r. do_give home o wanted (f r)) p false ≡ true → option_map_or (λ r. do_give home o wanted (g r)) q false ≡ true

@@ -1,39 +1,17 @@
 -- Equal sights stay equal where a resource gets the same changes.
-use Rattle.std.specs.Prelude.{◌==◌, unwrap_or}
-use Rattle.std.proofs.Common.{◌≡◌, ℕ, ◌≢◌, List, [], ◌∷◌, ◌++◌, map, Bool, true, false, cond, ◌&&◌, ◌||◌, Option, Some, None, option_map, inl, inr, refl, sym, ap, ◌∙◌, subst}
-use Rattle.std.proofs.lemmas.List.Folds.{list_any-append}
-use Rattle.std.proofs.lemmas.Bool.{cases_Bool, both_ways, and_from, eq-eqb, eqb-true, or_from, or_left, or_parts, or_right}
-use Rattle.std.proofs.lemmas.List.Elements.{filter_map-append}
-use Rattle.std.proofs.lemmas.Option.{same_Some}
-use Rattle.std.specs.List.{cons_option, filter, filter_map, list_any}
-use Rattle.std.specs.Option.{option_and_then}
-use Rattle.std.specs.Ordering.{is_lt}
-use Rattle.m2m_names.specs.declared.attributes.Attr.{Attr}
-use Rattle.m2m_names.specs.declared.attributes.Attr.TheVariants.{Acpi, Aei, Csi, Macp, Mia, Pv, Pvs}
-use Rattle.m2m_names.specs.Ids.{id_parts}
-use Rattle.m2m_names.specs.declared.types.Ty.{Ty}
-use Rattle.m2m_names.specs.declared.types.Ty.TheVariants.{AccessControlPolicy, Ae, Container, ContentInstance, CseBase, Group, RemoteCse}
-use Rattle.m2m_value.specs.Data.{Data}
-use Rattle.m2m_value.specs.View.{as_text}
-use Rattle.resource_model.specs.Attributes.{Row, attr_cmp, is_attr, rows_before, rows_after, value_of}
-use Rattle.resource_model.specs.Home.{HomeData}
-use Rattle.resource_model.specs.Resource.{ResourceData, is_ty, ae_id, cse_id}
-use Rattle.resource_model.proofs.AttributeLemmas.{is_attr-itself, is_attr-same, value-with_value_other, value-without_value_other}
-use Rattle.tree_model.specs.Tree.{at, due, due_under, is_taken, is_well_formed, of_type, replaced, resource_of_id, typed_at}
-use Rattle.tree_model.proofs.GrowthLemmas.{tree_from_well_formed}
-use Rattle.tree_model.proofs.TreeLemmas.{at-replaced, at-replaced_other, at_has, at_number, map-replaced}
-use Rattle.tree_model.proofs.QuietLemmas.{number_passes, due_plain}
+use Rattle.policy_laws.proofs.Words.{◌==◌, unwrap_or, ◌≡◌, ℕ, ◌≢◌, List, [], ◌∷◌, ◌++◌, map, Bool, true, false, cond, ◌&&◌, ◌||◌, Option, Some, None, option_map, inl, inr, refl, sym, ap, ◌∙◌, subst, cons_option, filter_map, list_any, option_and_then, is_lt}
+use Rattle.policy_laws.proofs.Terms.{Attr, Acpi, Aei, Csi, Macp, Mia, Pv, Pvs, id_parts, Ty, AccessControlPolicy, Ae, Container, ContentInstance, CseBase, Group, RemoteCse, Data, as_text, Row, attr_cmp, is_attr, rows_before, rows_after, value_of, HomeData, ResourceData, is_ty, ae_id, cse_id, at, due, due_under, is_taken, is_well_formed, of_type, replaced, resource_of_id, typed_at, is_attr_in, ids_at, policy_named, update_bit}
+use Rattle.policy_laws.proofs.Facts.{list_any-append, cases_Bool, both_ways, and_from, eq-eqb, eqb-true, or_from, or_left, or_parts, or_right, filter_map-append, same_Some, is_attr-itself, is_attr-same, value-with_value_other, value-without_value_other, tree_from_well_formed, at-replaced, at-replaced_other, at_has, at_number, map-replaced, number_passes, due_plain, all_taken}
+use Rattle.std.specs.List.{filter}
 use Rattle.policy_laws.specs.Changes.{NewValue, ShowNoMore, changed, do_judge, do_reach, does_judge, seen_changes, with_change, with_changes}
-use Rattle.policy_eval.specs.Rules.{is_attr_in, ids_at, policy_named}
-use Rattle.policy_eval.specs.Rights.{update_bit}
 use Rattle.policy_laws.specs.Seen.{retrieve_bit, discovery_bit, has_bit, fills, is_filled_in, may_use, seen_value, seen_row, seen_owner, seen, seen_list}
+use Rattle.policy_laws.proofs.ChoiceLemmas.{both_chosen, same_chosen}
 use Rattle.policy_laws.proofs.AlikeLemmas.{cse_named, map_from_zip, same_ids}
 use Rattle.policy_laws.proofs.DueLemmas.{due_base, due_instance, due_other, end_of, in_container, same_fill}
 use Rattle.policy_laws.proofs.EqualLemmas.{same_by, may-seen, fills-seen, is_filled_in-seen, may_use-seen}
 use Rattle.policy_laws.proofs.LookupLemmas.{FindSame, FindsSame, JudgeSame, MaySame, filter_map_same, find_itself, may_same, may_same_but, row_same, seen_found, use_same, value_same}
 use Rattle.policy_laws.proofs.SeenLemmas.{at-seen}
 use Rattle.policy_laws.proofs.TwiceLemmas.{made, zip-found}
-use Rattle.tree_model.proofs.TakenLemmas.{all_taken}
 
 -- ---- changes of rows
 
@@ -146,10 +124,7 @@ type_same ty None (Some r) found = absurd found
 type_same ty (Some s) None found = absurd found
 type_same ty (Some s) (Some r) found =
     let same : is_ty s.ty ty ≡ is_ty r.ty ty = ap (λ own. is_ty own ty) found.ty in
-    elim (cases_Bool (is_ty r.ty ty)) [
-      | inl t ↦ rw (same ∙ t, t) found
-      | inr f ↦ rw (same ∙ f, f) tt
-    ]
+    same_chosen FindSame _ _ _ _ _ _ same (λ t. found) (λ f. tt)
 
 abbrev pub no_id : Data → Bool
 no_id id = false
@@ -204,16 +179,12 @@ module _ (home : HomeData) (o : List ℕ) (xs : List ResourceData) (well : is_we
   kept b none = changes_kept b changes none r.attrs
 
   ae_same : ae_id (changed changes lt et r) ≡ ae_id r
-  ae_same = elim (cases_Bool (is_ty r.ty Ae)) [
-    | inl t ↦ rw t (ap (option_and_then as_text) (kept Aei (judge_kept r.ty changes free Aei (rw t refl))))
-    | inr f ↦ rw f refl
-  ]
+  ae_same =
+      both_chosen (λ (x y : Option (List ℕ)). x ≡ y) (is_ty r.ty Ae) _ _ _ _ (λ t. ap (option_and_then as_text) (kept Aei (judge_kept r.ty changes free Aei (rw t refl)))) (λ f. refl)
 
   cse_same : cse_id (changed changes lt et r) ≡ cse_id r
-  cse_same = elim (cases_Bool (is_ty r.ty RemoteCse)) [
-    | inl t ↦ rw t (ap (option_and_then as_text) (kept Csi (judge_kept r.ty changes free Csi (cse_named r.ty t))))
-    | inr f ↦ rw f refl
-  ]
+  cse_same =
+      both_chosen (λ (x y : Option (List ℕ)). x ≡ y) (is_ty r.ty RemoteCse) _ _ _ _ (λ t. ap (option_and_then as_text) (kept Csi (judge_kept r.ty changes free Csi (cse_named r.ty t)))) (λ f. refl)
 
   judge : JudgeSame (changed changes lt et r) r
   judge = record {

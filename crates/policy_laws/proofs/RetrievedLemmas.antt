@@ -1,30 +1,17 @@
 -- What an originator may retrieve has the same attributes on what it sees.
-use Rattle.std.specs.Prelude.{unwrap_or}
-use Rattle.std.proofs.Common.{◌≡◌, ℕ, ◌+◌, List, [], ◌∷◌, map, length, filter, fold, Bool, true, cond, Option, Some, None, option_map, inl, inr, refl, ap, ◌∙◌}
-use Rattle.std.proofs.lemmas.Bool.{cases_Bool}
-use Rattle.std.specs.Option.{option_map_or}
-use Rattle.m2m_names.specs.declared.attributes.Attr.TheVariants.{Cs}
-use Rattle.m2m_names.specs.declared.types.Ty.TheVariants.{Container, ContentInstance, CseBase}
-use Rattle.resource_model.specs.Attributes.{Row, count_at}
-use Rattle.resource_model.specs.Home.{HomeData}
-use Rattle.resource_model.specs.Resource.{ResourceData, is_ty, id_of}
+use Rattle.policy_laws.proofs.Words.{unwrap_or, ◌≡◌, ℕ, ◌+◌, List, [], ◌∷◌, map, length, filter, fold, Bool, true, cond, Option, Some, None, option_map, inl, inr, refl, ap, ◌∙◌, option_map_or}
+use Rattle.policy_laws.proofs.Terms.{Cs, Container, ContentInstance, CseBase, Row, count_at, HomeData, ResourceData, is_ty, id_of, at, is_due, is_instance, is_well_formed, live, instance_size, grants}
+use Rattle.policy_laws.proofs.Facts.{cases_Bool, length-map, at-map, at_number, kin_parts, tree_from_well_formed}
 use Rattle.tree_model.specs.Shown.{parent_id, container_rows, added_rows, attributes_of, with_rows, wrapped}
-use Rattle.tree_model.specs.Tree.{at, is_due, is_instance, is_well_formed, live, instance_size}
-use Rattle.tree_model.proofs.TreeLemmas.{at-map, at_number, kin_parts}
-use Rattle.tree_model.proofs.GrowthLemmas.{tree_from_well_formed}
-use Rattle.policy_eval.specs.Rights.{grants}
 use Rattle.policy_laws.specs.Seen.{retrieve_bit, has_bit, with_seen_owner, seen, seen_list}
+use Rattle.policy_laws.proofs.ChoiceLemmas.{both_chosen, filter_image}
 use Rattle.policy_laws.proofs.RemovalLemmas.{keeps_without}
 use Rattle.policy_laws.proofs.SeenLemmas.{seen_shows}
 use Rattle.policy_laws.proofs.DueLemmas.{same_may, live-seen, live_may, seen_whole}
 
 -- the same is filtered of an image, and counted and summed
 counted : (g : ResourceData → ResourceData) (p : ResourceData → Bool) → ((r : ResourceData) → p (g r) ≡ p r) → (rs : List ResourceData) → length (filter p (map g rs)) ≡ length (filter p rs)
-counted g p same [] = refl
-counted g p same (r ∷ rs) = elim (cases_Bool (p r)) [
-  | inl t ↦ rw (same r ∙ t, t, counted g p same rs) refl
-  | inr f ↦ rw (same r ∙ f, f) (counted g p same rs)
-]
+counted g p same rs = ap length (filter_image g p p same rs) ∙ length-map (filter p rs) g
 
 summed : (g : ResourceData → ResourceData) (p : ResourceData → Bool) (w : ResourceData → ℕ) → ((r : ResourceData) → p (g r) ≡ p r) → ((r : ResourceData) → p r ≡ true → w (g r) ≡ w r) → (rs : List ResourceData) (a : ℕ) → fold (λ n r. n + w r) a (filter p (map g rs)) ≡ fold (λ n r. n + w r) a (filter p rs)
 summed g p w same weigh [] a = refl
@@ -54,10 +41,7 @@ module _ (home : HomeData) (nodes : List ResourceData) (o : List ℕ) (r : Resou
       rw (summed (seen home nodes o) (is_instance r.number) instance_size (λ s. refl) (size_seen container) rs 0, counted (seen home nodes o) (is_instance r.number) (λ s. refl) rs) refl
 
   holding_seen : (rs : List ResourceData) → cond (is_ty r.ty Container) (container_rows (map (seen home nodes o) rs) r) [] ≡ cond (is_ty r.ty Container) (container_rows rs r) []
-  holding_seen rs = elim (cases_Bool (is_ty r.ty Container)) [
-    | inl t ↦ rw t (container_seen rs t)
-    | inr f ↦ rw f refl
-  ]
+  holding_seen rs = both_chosen (λ (xs ys : List Row). xs ≡ ys) (is_ty r.ty Container) _ _ _ _ (container_seen rs) (λ f. refl)
 
   added_seen : (rs : List ResourceData) → added_rows home (map (seen home nodes o) rs) (with_seen_owner home o r) ≡ added_rows home rs r
   added_seen rs = rw (parent_seen rs, holding_seen rs) refl

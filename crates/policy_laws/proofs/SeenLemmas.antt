@@ -1,35 +1,16 @@
 -- What an originator sees keeps its rights.
-use Rattle.std.specs.Prelude.{codes, nat_eq, nat_le}
-use Rattle.std.proofs.Common.{◌≡◌, ℕ, ◌<◌, List, [], ◌∷◌, ◌++◌, map, length, Bool, true, false, cond, Option, Some, None, option_map, inl, inr, refl, sym, ap, ◌∙◌, subst, arith, append_assoc, length-append}
-use Rattle.std.proofs.lemmas.Bool.{cases_Bool, le-leb, leb-true, false_from_ne_true, or_cases, or_left, or_right, or_from, and_from, and_parts, and_right, cond-true, cond-false}
+use Rattle.policy_laws.proofs.Words.{codes, nat_eq, nat_le, ◌≡◌, ℕ, ◌<◌, List, [], ◌∷◌, ◌++◌, map, length, Bool, true, false, cond, Option, Some, None, option_map, inl, inr, refl, sym, ap, ◌∙◌, subst, arith, append_assoc, length-append, AllByRecursion, cons_option, filter_map, starts_with, option_and_then, option_map_or, option_or, is_eq, ℤ, negsuc}
+use Rattle.policy_laws.proofs.Terms.{Attr, Poa, Pv, Pvs, AccessControlPolicy, RemoteCse, Data, AreInOrder, Row, attr_cmp, is_attr, value_of, HomeData, ResourceData, is_ty, ae_id, cse_id, at, child_of, full_form, own_lead, is_same, all_bits, is_attr_in, texts_of, member_at, member_number, sum_of_bits, stated_rule, rules_in, listed_in, is_subject, with_rule, with_rules, bits_by, grants, relinks, fan_grants}
+use Rattle.policy_laws.proofs.Facts.{cases_Bool, cond_both, le-leb, leb-true, false_from_ne_true, or_cases, or_left, or_right, or_from, and_from, and_parts, and_right, cond-true, cond-false, bit_at_or, bit_at-zero, same_from_bits, is_attr-same, at-map, found_is}
 use Rattle.std.proofs.lemmas.Nat.{or_lt}
-use Rattle.std.proofs.lemmas.Nat.Bits.{bit_at_or, bit_at-zero, same_from_bits}
 use Rattle.std.proofs.lemmas.Slice.Eq.{bytes_eq-Decides}
-use Rattle.std.specs.List.{AllByRecursion, cons_option, filter_map, starts_with}
-use Rattle.std.specs.Option.{option_and_then, option_map_or, option_or}
 use Rattle.std.specs.List.Sorted.{IsStrictlySortedBy}
 use Rattle.std.specs.Map.{keys_of}
-use Rattle.std.specs.Ordering.{is_eq}
-use Rattle.std.specs.Prelude.{ℤ, pos, negsuc}
+use Rattle.std.specs.Prelude.{pos}
 use Rattle.std.specs.declared.cmp.Ordering.TheVariants.{Less}
-use Rattle.m2m_names.specs.declared.attributes.Attr.{Attr}
-use Rattle.m2m_names.specs.declared.attributes.Attr.TheVariants.{Poa, Pv, Pvs}
-use Rattle.m2m_names.specs.declared.types.Ty.TheVariants.{AccessControlPolicy, RemoteCse}
-use Rattle.m2m_value.specs.Data.{Data}
-use Rattle.resource_model.specs.Attributes.{AreInOrder, Row, attr_cmp, is_attr, value_of}
-use Rattle.resource_model.specs.Home.{HomeData}
-use Rattle.resource_model.specs.Resource.{ResourceData, is_ty, ae_id, cse_id}
-use Rattle.tree_model.specs.Tree.{at, child_of}
-use Rattle.resource_model.proofs.AttributeLemmas.{is_attr-same}
-use Rattle.tree_model.proofs.TreeLemmas.{at-map}
-use Rattle.policy_eval.specs.Originators.{full_form, own_lead, is_same}
-use Rattle.m2m_names.specs.Operations.{all_bits}
-use Rattle.policy_eval.specs.Rules.{is_attr_in, texts_of, member_at, member_number, sum_of_bits, stated_rule, rules_in, listed_in}
-use Rattle.policy_eval.specs.Rights.{is_subject, with_rule, with_rules, bits_by, grants, relinks, fan_grants}
 use Rattle.policy_laws.specs.Alike.{shape_attrs, Alike, AreAlike}
 use Rattle.policy_laws.specs.Seen.{is_url, first_url, only_point, seen_points, way_in, retrieve_bit, discovery_bit, has_bit, fills, is_filled_in, may_use, found_attrs, limit_attrs, size_attrs, member_attrs, Shows, is_shown, plain_rules, seen_rules, is_policy_rules, is_way, seen_value, another, seen_owner, seen_ct, seen_lt, seen_et, seen, seen_list}
 use Rattle.policy_laws.proofs.AlikeLemmas.{GiveSame, same_itself, same_from_by, alike-map, child-alike, ae_id-alike, cse_id-alike, grants-alike, relinks-alike, fan_grants-alike}
-use Rattle.m2m_names.proofs.LookupLemmas.{found_is}
 
 -- ---- values
 
@@ -69,10 +50,9 @@ rule_below d = by_number (member_number (codes "acop") d)
 
 with_below : (home : HomeData) (o : List ℕ) (a : ℕ) (ds : List Data) → a < 64 → with_rules home o a (map stated_rule ds) < 64
 with_below home o a [] small = small
-with_below home o a (d ∷ ds) small = with_below home o (with_rule home o a (stated_rule d)) ds (elim (cases_Bool (is_subject home o (stated_rule d).subjects)) [
-  | inl t ↦ rw t (or_lt 6 a (stated_rule d).bits small (rule_below d))
-  | inr f ↦ rw f small
-])
+with_below home o a (d ∷ ds) small =
+    with_below home o (with_rule home o a (stated_rule d)) ds
+    (cond_both (is_subject home o (stated_rule d).subjects) _ _ (λ (n : ℕ). n < 64) (λ t. or_lt 6 a (stated_rule d).bits small (rule_below d)) (λ f. small))
 
 pub bits_below : (home : HomeData) (o : List ℕ) (d : Option Data) → bits_by home o (rules_in d) < 64
 bits_below home o d = with_below home o 0 (listed_in (option_and_then (member_at (codes "acr")) d)) (omega arith)

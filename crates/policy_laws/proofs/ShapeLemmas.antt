@@ -1,16 +1,7 @@
 -- What an originator sees of a list has the shape of the list.
-use Rattle.std.specs.Prelude.{unwrap_or}
-use Rattle.std.proofs.Common.{◌≡◌, ℕ, List, map, true, Option, Some, None, option_map, refl, sym, ap, ◌∙◌}
-use Rattle.std.proofs.lemmas.Bool.{or_left}
-use Rattle.std.proofs.lemmas.Simd.{map-map}
-use Rattle.std.specs.Option.{option_and_then}
-use Rattle.m2m_names.specs.declared.attributes.Attr.{Attr}
-use Rattle.m2m_value.specs.Data.{Data}
-use Rattle.resource_model.specs.Home.{HomeData}
-use Rattle.resource_model.specs.Resource.{ResourceData}
-use Rattle.tree_model.specs.Tree.{at, due, is_well_formed}
-use Rattle.tree_model.proofs.GrowthLemmas.{tree_from_well_formed}
-use Rattle.policy_eval.specs.Rules.{is_attr_in}
+use Rattle.policy_laws.proofs.Words.{unwrap_or, ◌≡◌, ℕ, List, map, true, Option, Some, None, option_map, refl, sym, ap, ◌∙◌, option_and_then}
+use Rattle.policy_laws.proofs.Terms.{Attr, Data, HomeData, ResourceData, at, due, is_well_formed, is_attr_in}
+use Rattle.policy_laws.proofs.Facts.{or_left, map-map, tree_from_well_formed}
 use Rattle.policy_laws.specs.Alike.{shape_attrs}
 use Rattle.policy_laws.specs.Seen.{is_shown, is_policy_rules, is_way, seen_value, seen_row, seen_owner, seen, seen_list}
 use Rattle.policy_laws.specs.Shape.{shape_value, shape_row, shape_of, SightHasShape}

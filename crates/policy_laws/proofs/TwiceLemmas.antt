@@ -1,28 +1,11 @@
 -- What an originator sees of what is left of its sight is what it sees of what is left.
-use Rattle.std.specs.Prelude.{nat_lt, unwrap_or}
-use Rattle.std.proofs.Common.{◌≡◌, ℕ, List, [], ◌∷◌, ◌++◌, map, Bool, true, false, cond, ◌&&◌, ◌||◌, Option, Some, None, option_map, inl, inr, refl, sym, ap, ◌∙◌, subst, arith}
-use Rattle.std.proofs.lemmas.Bool.{cases_Bool, both_ways, and_from, and_parts, eq-eqb, or_cases, or_left, or_right, ltb-false}
-use Rattle.std.proofs.lemmas.List.{map-append}
-use Rattle.std.proofs.lemmas.List.Elements.{AllZip-push}
-use Rattle.std.proofs.lemmas.Nat.Bits.{bit_at-zero, same_from_bits}
-use Rattle.std.proofs.lemmas.Simd.{map-map}
-use Rattle.std.specs.Int.{bit_at}
-use Rattle.std.specs.List.{AllZip, cons_option, filter_map}
-use Rattle.std.specs.Option.{option_and_then, option_map_or, option_or}
-use Rattle.m2m_names.specs.declared.attributes.Attr.{Attr}
-use Rattle.m2m_value.specs.Data.{Data}
-use Rattle.resource_model.specs.Attributes.{Row}
-use Rattle.resource_model.specs.Home.{HomeData}
-use Rattle.resource_model.specs.Resource.{ResourceData}
-use Rattle.tree_model.specs.Tree.{at, due, due_under, may_stand, is_due, is_spared, is_tree, is_well_formed, live, without}
-use Rattle.tree_model.proofs.GrowthLemmas.{at-without, below_lacks, growth, next_fits, tree_from_well_formed}
+use Rattle.policy_laws.proofs.Words.{nat_lt, unwrap_or, ◌≡◌, ℕ, List, [], ◌∷◌, ◌++◌, map, Bool, true, false, cond, ◌&&◌, ◌||◌, Option, Some, None, option_map, inl, inr, refl, sym, ap, ◌∙◌, subst, arith, bit_at, AllZip, cons_option, filter_map, option_and_then, option_map_or, option_or}
+use Rattle.policy_laws.proofs.Terms.{Attr, Data, Row, HomeData, ResourceData, at, due, due_under, may_stand, is_due, is_spared, is_tree, is_well_formed, live, without, is_same, rules_in, bits_by}
+use Rattle.policy_laws.proofs.Facts.{cases_Bool, both_ways, and_from, and_parts, eq-eqb, or_cases, or_left, or_right, ltb-false, map-append, AllZip-push, bit_at-zero, same_from_bits, map-map, at-without, below_lacks, growth, next_fits, tree_from_well_formed, at-append, at-map, at_none}
 use Rattle.tree_model.proofs.KeptLemmas.{is_tree-without}
 use Rattle.tree_model.proofs.LiveLemmas.{at-without_parent, due-without}
-use Rattle.tree_model.proofs.TreeLemmas.{at-append, at-map, at_none}
-use Rattle.policy_eval.specs.Originators.{is_same}
-use Rattle.policy_eval.specs.Rules.{rules_in}
-use Rattle.policy_eval.specs.Rights.{bits_by}
 use Rattle.policy_laws.specs.Seen.{retrieve_bit, discovery_bit, create_bit, update_bit, has_bit, fills, is_filled_in, may_use, is_shown, is_url, first_url, only_point, plain_rules, seen_rules, seen_points, is_policy_rules, is_way, seen_value, seen_row, another, seen_owner, seen_ct, seen_lt, seen_et, seen, seen_list}
+use Rattle.policy_laws.proofs.ChoiceLemmas.{found_where}
 use Rattle.policy_laws.proofs.AlikeLemmas.{without-zip, map_from_zip}
 use Rattle.policy_laws.proofs.UnionLemmas.{IsBelow, has_more}
 use Rattle.policy_laws.proofs.RemovalLemmas.{Keeps, keeps_without, rules_less, fan_less}
@@ -212,11 +195,7 @@ module _ (home : HomeData) (nodes : List ResourceData) (o : List ℕ) (well : is
     there = keeps.found r.number r found
 
     spared : is_spared picks nodes r.number ≡ true
-    spared = by_test (is_spared picks nodes r.number) (sym (at-without picks r.number nodes tree) ∙ found)
-      where
-        by_test : (b : Bool) → cond b (at r.number nodes) None ≡ Some r → b ≡ true
-        by_test true e = refl
-        by_test false e = cc
+    spared = (found_where (is_spared picks nodes r.number) (at r.number nodes) r (sym (at-without picks r.number nodes tree) ∙ found)).0
 
     -- it is due when it was
     due-had : due (map (seen home nodes o) (without picks nodes)) (seen home nodes o r) ≡ due nodes r

@@ -1,12 +1,8 @@
 -- The bits that rules give, place by place.
-use Rattle.std.proofs.Common.{◌≡◌, ℕ, ◌≤◌, min, List, [], ◌∷◌, ◌++◌, true, inl, inr, refl, sym, ap, ◌∙◌, arith}
-use Rattle.std.proofs.lemmas.Bool.{cases_Bool, eqb-true, eq-eqb}
-use Rattle.std.proofs.lemmas.Nat.Bits.{bit_at_and, bit_at_or, bit_at-zero, same_from_bits}
-use Rattle.std.specs.Int.{bit_at}
-use Rattle.std.specs.Int.RustNames.{bit_and, bit_or}
-use Rattle.resource_model.specs.Home.{HomeData}
-use Rattle.policy_eval.specs.Rules.{Rule}
-use Rattle.policy_eval.specs.Rights.{is_subject, with_rule, with_rules, has_bits}
+use Rattle.policy_laws.proofs.Words.{◌≡◌, ℕ, ◌≤◌, min, List, [], ◌∷◌, ◌++◌, true, refl, sym, ap, ◌∙◌, arith, bit_at, bit_and, bit_or}
+use Rattle.policy_laws.proofs.Terms.{HomeData, Rule, is_subject, with_rule, with_rules, has_bits}
+use Rattle.policy_laws.proofs.Facts.{cond_both, eqb-true, eq-eqb, bit_at_and, bit_at_or, bit_at-zero, same_from_bits}
+use Rattle.policy_laws.proofs.ChoiceLemmas.{both_chosen}
 
 -- every bit of the one is a bit of the other
 pub record IsBelow (a b : ℕ) : Type 0 where
@@ -29,16 +25,12 @@ below_or a more = record { places = λ i. omega (arith, bit_at_or a more i) }
 
 -- a rule adds to what was there, and more to more
 with_rule_adds : (home : HomeData) (o : List ℕ) (a : ℕ) (rule : Rule) → IsBelow a (with_rule home o a rule)
-with_rule_adds home o a rule = elim (cases_Bool (is_subject home o rule.subjects)) [
-  | inl t ↦ rw t (below_or a rule.bits)
-  | inr f ↦ rw f (below_itself a)
-]
+with_rule_adds home o a rule =
+    cond_both (is_subject home o rule.subjects) _ _ (IsBelow a) (λ t. below_or a rule.bits) (λ f. below_itself a)
 
 with_rule_more : (home : HomeData) (o : List ℕ) (a b : ℕ) (rule : Rule) → IsBelow a b → IsBelow (with_rule home o a rule) (with_rule home o b rule)
-with_rule_more home o a b rule ab = elim (cases_Bool (is_subject home o rule.subjects)) [
-  | inl t ↦ rw t (or_below a b rule.bits ab)
-  | inr f ↦ rw f ab
-]
+with_rule_more home o a b rule ab =
+    both_chosen IsBelow (is_subject home o rule.subjects) _ _ _ _ (λ t. or_below a b rule.bits ab) (λ f. ab)
 
 pub with_rules_adds : (home : HomeData) (o : List ℕ) (a : ℕ) (rules : List Rule) → IsBelow a (with_rules home o a rules)
 with_rules_adds home o a [] = below_itself a

@@ -1,37 +1,8 @@
 -- A Retrieve is answered the same on what the originator sees.
-use Rattle.std.proofs.Common.{◌≡◌, ℕ, ℤ, pos, List, [], ◌∷◌, map, take, codes, Bool, true, false, cond, not, Option, Some, None, option_map, refl, sym, ap, ◌∙◌}
-use Rattle.std.specs.List.{filter}
-use Rattle.std.specs.Option.{option_map_or}
-use Rattle.std.specs.Ordering.{int_eq}
-use Rattle.std.proofs.lemmas.List.{take-map}
-use Rattle.m2m_names.specs.Types.{ty_member}
-use Rattle.m2m_names.specs.declared.attributes.Attr.TheVariants.{Cs, Lbl, St}
-use Rattle.m2m_names.specs.declared.codes.Rsc.TheVariants.{NoPrivilege, NotFound}
-use Rattle.m2m_value.specs.Data.{Data, Entry, Pairs, null, boolean, number, text, list, object, no_pairs, pair, elements_of, pairs_of}
-use Rattle.m2m_value.specs.View.{entries}
-use Rattle.m2m_value.proofs.Levels.{entries-pairs_of}
-use Rattle.filter_criteria.specs.declared.filter.FilterParts.{FilterParts}
-use Rattle.primitive_json.specs.declared.reply.ReplyParts.{ReplyParts}
-use Rattle.primitive_json.specs.declared.request.RequestParts.{RequestParts}
-use Rattle.resource_model.specs.Attributes.{value_of}
-use Rattle.resource_model.specs.Home.{HomeData}
-use Rattle.resource_model.specs.Resource.{ResourceData}
-use Rattle.tree_model.specs.Shown.{shown_ty, under_type}
-use Rattle.tree_model.specs.Tree.{at, children_of, is_well_formed}
-use Rattle.tree_model.proofs.GrowthLemmas.{tree_from_well_formed}
-use Rattle.tree_model.proofs.TreeLemmas.{at_number}
-use Rattle.policy_eval.specs.Rights.{retrieve_bit}
-use Rattle.policy_laws.specs.Seen.{has_bit, seen, seen_list}
-use Rattle.policy_laws.proofs.DueLemmas.{due-seen}
+use Rattle.retrieve_laws.proofs.Words.{◌≡◌, ℕ, ℤ, pos, List, [], ◌∷◌, map, take, codes, Bool, true, false, cond, not, Option, Some, None, option_map, refl, sym, ap, ◌∙◌, filter, option_map_or, int_eq}
+use Rattle.retrieve_laws.proofs.Terms.{ty_member, Cs, Lbl, St, NoPrivilege, NotFound, Data, Entry, Pairs, null, boolean, number, text, list, object, no_pairs, pair, elements_of, pairs_of, entries, FilterParts, ReplyParts, RequestParts, value_of, HomeData, ResourceData, shown_ty, under_type, at, children_of, is_well_formed, retrieve_bit, has_bit, seen, seen_list, meets_any, wanted_content, content, may_retrieve, members, most_shown, reference, references, references_alone, referred, shown_forest, whole, with_forest, with_last, with_member, with_references, most_listed, Forest, bare, rooted, cut_forest, forest_of, is_by_id, refusal, retrieved, retrieved_of, success}
+use Rattle.retrieve_laws.proofs.Facts.{take-map, entries-pairs_of, tree_from_well_formed, at_number, due-seen, at-seen, grants-seen, seen_shows, in_order-tree}
 use Rattle.policy_laws.proofs.RetrievedLemmas.{attributes-seen}
-use Rattle.policy_laws.proofs.SeenLemmas.{at-seen, grants-seen, seen_shows}
-use Rattle.retrieve_discover.specs.Conditions.{meets_any}
-use Rattle.entity_model.specs.Places.{wanted_content}
-use Rattle.retrieve_discover.specs.Contents.{content, may_retrieve, members, most_shown, reference, references, references_alone, referred, shown_forest, whole, with_forest, with_last, with_member, with_references}
-use Rattle.retrieve_discover.specs.Findings.{most_listed}
-use Rattle.retrieve_discover.specs.Descendants.{Forest, bare, rooted, cut_forest, forest_of}
-use Rattle.retrieve_discover.specs.Replies.{is_by_id, refusal, retrieved, retrieved_of, success}
-use Rattle.retrieve_discover.proofs.OrderLemmas.{in_order-tree}
 use Rattle.retrieve_laws.proofs.FoundLemmas.{Each, IsFound, each_found}
 use Rattle.retrieve_laws.proofs.CutLemmas.{AllIn, all-cut, all-forest_of}
 use Rattle.retrieve_laws.proofs.ConditionLemmas.{LooksAlike, meets-alike}

@@ -1,20 +1,7 @@
 -- What the conditions of a filter look at.
-use Rattle.std.proofs.Common.{◌≡◌, ℕ, List, Bool, true, false, ◌||◌, Option, Some, None, cond, refl, sym, ap, ◌∙◌, length}
-use Rattle.std.specs.Prelude.{◌==◌, option_and_then}
-use Rattle.std.specs.List.{list_all, list_any}
-use Rattle.std.specs.Option.{option_map_or}
-use Rattle.m2m_names.specs.Types.{ty_row}
-use Rattle.m2m_names.specs.declared.attributes.Attr.TheVariants.{Cs, Lbl, St}
-use Rattle.m2m_names.specs.declared.types.Ty.{Ty}
-use Rattle.m2m_names.specs.declared.types.Ty.TheVariants.{ContentInstance}
-use Rattle.m2m_value.specs.Data.{Data}
+use Rattle.retrieve_laws.proofs.Words.{◌≡◌, ℕ, List, Bool, true, false, ◌||◌, Option, Some, None, cond, refl, sym, ap, ◌∙◌, length, ◌==◌, option_and_then, list_all, list_any, option_map_or}
+use Rattle.retrieve_laws.proofs.Terms.{ty_row, Cs, Lbl, St, Ty, ContentInstance, Data, as_list, FilterParts, value_of, ResourceData, is_ty, due, is_over_bound, is_under_bound, is_from_bound, is_that_label, meets}
 use Rattle.m2m_value.specs.Shapes.{as_count}
-use Rattle.m2m_value.specs.View.{as_list}
-use Rattle.filter_criteria.specs.declared.filter.FilterParts.{FilterParts}
-use Rattle.resource_model.specs.Attributes.{value_of}
-use Rattle.resource_model.specs.Resource.{ResourceData, is_ty}
-use Rattle.tree_model.specs.Tree.{due}
-use Rattle.retrieve_discover.specs.Conditions.{is_over_bound, is_under_bound, is_from_bound, is_that_label, meets}
 use Rattle.filter_criteria.specs.Conditions.{all_conditions}
 use Rattle.filter_criteria.specs.declared.condition.Condition.{Condition}
 use Rattle.filter_criteria.specs.declared.condition.Condition.TheVariants.{Limit, Usage, CreatedAfter, CreatedBefore, ExpireAfter, ExpireBefore, ModifiedSince, OneLabel, OneType, SizeAbove, SizeBelow, StateTagBigger, StateTagSmaller, UnmodifiedSince}

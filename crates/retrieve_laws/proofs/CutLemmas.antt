@@ -1,11 +1,7 @@
 -- Forests: what the first of one are, and what holds of each resource of one.
-use Rattle.std.specs.Prelude.{◌==◌}
-use Rattle.std.proofs.Common.{◌≡◌, ℕ, zero, suc, ◌-◌, ◌<◌, List, [], ◌∷◌, ◌++◌, length, take, Bool, true, false, inl, inr, refl, sym, ap, ◌∙◌, arith}
-use Rattle.std.proofs.lemmas.Bool.{cases_Bool, eqb-true}
-use Rattle.std.proofs.lemmas.Bool.Decides.{nat_tests}
-use Rattle.resource_model.specs.Resource.{ResourceData}
-use Rattle.tree_model.specs.Tree.{is_under}
-use Rattle.retrieve_discover.specs.Descendants.{Forest, bare, rooted, cut_forest, forest_of, preorder, forest_size}
+use Rattle.retrieve_laws.proofs.Words.{◌==◌, ◌≡◌, ℕ, zero, suc, ◌-◌, ◌<◌, List, [], ◌∷◌, ◌++◌, length, take, Bool, true, false, ◌&&◌, refl, sym, ap, ◌∙◌, arith}
+use Rattle.retrieve_laws.proofs.Terms.{ResourceData, is_under, Forest, bare, rooted, cut_forest, forest_of, preorder, forest_size}
+use Rattle.retrieve_laws.proofs.Facts.{and_parts, cond_both, eqb-true, nat_tests}
 use Rattle.retrieve_laws.proofs.FoundLemmas.{Each}
 
 -- ---- the first of a forest
@@ -38,15 +34,13 @@ above_zero m f = grind (arith, nat_tests)
 -- they are the first of its list
 pub preorder-cut : (f : Forest) (m : ℕ) → preorder (cut_forest f m) ≡ take m (preorder f)
 preorder-cut bare m = sym (take_of_none m)
-preorder-cut (rooted r kids more) m = elim (cases_Bool (m == 0)) [
-  | inl t ↦ (let nothing : 0 ≡ m = sym (eqb-true m 0 t) in rw t (ap (λ k. take k (r ∷ (preorder kids ++ preorder more))) nothing))
-  | inr f ↦
-      let some : 0 < m = above_zero m f in
-      rw f (ap (λ rs. r ∷ (rs ++ preorder (cut_forest more (m - 1 - forest_size kids)))) (preorder-cut kids (m - 1))
-      ∙ ap (λ rs. r ∷ (take (m - 1) (preorder kids) ++ rs)) (preorder-cut more (m - 1 - forest_size kids))
-      ∙ ap (λ rs. r ∷ rs) (sym (take-both (m - 1) (preorder kids) (preorder more)))
-      ∙ sym (take_first m r (preorder kids ++ preorder more) some))
-]
+preorder-cut (rooted r kids more) m =
+    cond_both (m == 0) bare (rooted r (cut_forest kids (m - 1)) (cut_forest more (m - 1 - forest_size kids))) (λ (f : Forest). preorder f ≡ take m (r ∷ (preorder kids ++ preorder more)))
+    (λ t. ap (λ (k : ℕ). take k (r ∷ (preorder kids ++ preorder more))) (sym (eqb-true m 0 t)))
+    (λ f. ap (λ (rs : List ResourceData). r ∷ (rs ++ preorder (cut_forest more (m - 1 - forest_size kids)))) (preorder-cut kids (m - 1))
+    ∙ ap (λ (rs : List ResourceData). r ∷ (take (m - 1) (preorder kids) ++ rs)) (preorder-cut more (m - 1 - forest_size kids))
+    ∙ ap (λ (rs : List ResourceData). r ∷ rs) (sym (take-both (m - 1) (preorder kids) (preorder more)))
+    ∙ sym (take_first m r (preorder kids ++ preorder more) (above_zero m f)))
 
 -- ---- what holds of each resource of a forest
 
@@ -56,17 +50,23 @@ AllIn P (rooted r kids more) = P r × (AllIn P kids × AllIn P more)
 
 pub all-cut : (P : ResourceData → Type 0) (f : Forest) (m : ℕ) → AllIn P f → AllIn P (cut_forest f m)
 all-cut P bare m all = tt
-all-cut P (rooted r kids more) m all = elim (cases_Bool (m == 0)) [
-  | inl t ↦ rw t tt
-  | inr f ↦ rw f (all.0, (all-cut P kids (m - 1) all.1.0, all-cut P more (m - 1 - forest_size kids) all.1.1))
-]
+all-cut P (rooted r kids more) m all =
+    cond_both (m == 0) bare (rooted r (cut_forest kids (m - 1)) (cut_forest more (m - 1 - forest_size kids))) (AllIn P) (λ t. tt)
+    (λ f. (all.0, (all-cut P kids (m - 1) all.1.0, all-cut P more (m - 1 - forest_size kids) all.1.1)))
+
+-- a child that may be gone to
+pub record IsReached (may : ResourceData → Bool) (n : ℕ) (r : ResourceData) : Type 0 where
+  pub under : is_under n r ≡ true
+  pub goes : may r ≡ true
+
+pub reached_parts : (may : ResourceData → Bool) (n : ℕ) (r : ResourceData) → (is_under n r && may r) ≡ true → IsReached may n r
+reached_parts may n r is =
+    let parts = and_parts (is_under n r) (may r) is in
+    record { under = parts.0; goes = parts.1 }
 
 pub all-forest_of : (P : ResourceData → Type 0) (goes : ResourceData → Bool) (rs : List ResourceData) (n : ℕ) → Each P rs → AllIn (λ r. P r × (goes r ≡ true)) (forest_of goes n rs)
 all-forest_of P goes [] n each = tt
-all-forest_of P goes (r ∷ rs) n each = elim (cases_Bool (is_under n r)) [
-  | inl u ↦ elim (cases_Bool (goes r)) [
-    | inl t ↦ rw (u, t) ((each.0, t), (all-forest_of P goes rs r.number each.1, all-forest_of P goes rs n each.1))
-    | inr f ↦ rw (u, f) (all-forest_of P goes rs n each.1)
-  ]
-  | inr v ↦ rw v (all-forest_of P goes rs n each.1)
-]
+all-forest_of P goes (r ∷ rs) n each =
+    cond_both (is_under n r && goes r) (rooted r (forest_of goes r.number rs) (forest_of goes n rs)) (forest_of goes n rs) (AllIn (λ r. P r × (goes r ≡ true)))
+    (λ t. ((each.0, (reached_parts goes n r t).goes), (all-forest_of P goes rs r.number each.1, all-forest_of P goes rs n each.1)))
+    (λ f. all-forest_of P goes rs n each.1)

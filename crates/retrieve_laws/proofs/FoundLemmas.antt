@@ -1,10 +1,7 @@
 -- Each resource of a list in order is found by its number.
-use Rattle.std.proofs.Common.{◌≡◌, ◌<◌, List, [], ◌∷◌, Bool, true, false, Some, inl, inr, refl, arith}
-use Rattle.std.specs.List.{AllByRecursion, filter}
-use Rattle.std.proofs.lemmas.Bool.{cases_Bool, eq-eqb, ne_eqb}
-use Rattle.resource_model.specs.Resource.{ResourceData, has_number}
-use Rattle.tree_model.specs.Tree.{at}
-use Rattle.retrieve_discover.proofs.OrderLemmas.{in_order, first_of}
+use Rattle.retrieve_laws.proofs.Words.{◌≡◌, ◌<◌, List, [], ◌∷◌, Bool, true, false, Some, refl, arith, AllByRecursion, filter}
+use Rattle.retrieve_laws.proofs.Terms.{ResourceData, has_number, at}
+use Rattle.retrieve_laws.proofs.Facts.{cond_both, eq-eqb, ne_eqb, in_order, first_of}
 use Rattle.tree_model.proofs.OrderLemmas.{above_parts, are_above}
 
 abbrev pub Each : (ResourceData → Type 0) → List ResourceData → Type 0
@@ -32,7 +29,5 @@ each_found (r ∷ later) order =
 -- what holds of each holds of each that a filter leaves, and those pass it
 pub each-filter : (P : ResourceData → Type 0) (p : ResourceData → Bool) (nodes : List ResourceData) → Each P nodes → Each (λ r. P r × (p r ≡ true)) (filter p nodes)
 each-filter P p [] each = tt
-each-filter P p (r ∷ nodes) each = elim (cases_Bool (p r)) [
-  | inl t ↦ rw t ((each.0, t), each-filter P p nodes each.1)
-  | inr f ↦ rw f (each-filter P p nodes each.1)
-]
+each-filter P p (r ∷ nodes) each =
+    cond_both (p r) (r ∷ filter p nodes) (filter p nodes) (Each (λ r. P r × (p r ≡ true))) (λ t. ((each.0, t), each-filter P p nodes each.1)) (λ f. each-filter P p nodes each.1)

@@ -1,35 +1,16 @@
 -- Nothing is shown, referred to or found without a grant.
-use Rattle.std.proofs.Common.{◌≡◌, ℕ, List, [], ◌∷◌, Bool, true, false, cond, get_or, not, inl, inr, ap, ◌∙◌}
-use Rattle.std.specs.List.{All, filter}
-use Rattle.std.specs.Option.{option_map_or}
-use Rattle.std.proofs.lemmas.Bool.{cases_Bool}
-use Rattle.std.proofs.lemmas.List.Elements.{All-append, All-cons, All-nil, All-take, filter_passes}
-use Rattle.m2m_names.specs.declared.codes.Rsc.TheVariants.{NoPrivilege, NotFound}
-use Rattle.filter_criteria.specs.declared.filter.FilterParts.{FilterParts}
-use Rattle.primitive_json.specs.declared.request.RequestParts.{RequestParts}
-use Rattle.resource_model.specs.Home.{HomeData}
-use Rattle.resource_model.specs.Resource.{ResourceData}
-use Rattle.tree_model.specs.Tree.{children_of, has, is_under}
-use Rattle.tree_model.proofs.TreeLemmas.{has_at}
-use Rattle.policy_eval.specs.Rights.{grants, discovery_bit, retrieve_bit}
-use Rattle.retrieve_discover.specs.Conditions.{meets_any}
-use Rattle.retrieve_discover.specs.Contents.{content, may_retrieve, most_shown, referred, shown_forest}
-use Rattle.retrieve_discover.specs.Descendants.{below, forest_of, preorder}
-use Rattle.retrieve_discover.specs.Findings.{address_list, all_found, found, found_addresses, is_found, most_listed, most_of}
-use Rattle.retrieve_discover.specs.Replies.{discovered, is_by_id, refusal, retrieved, retrieved_of, success}
-use Rattle.retrieve_laws.proofs.CutLemmas.{preorder-cut}
-use Rattle.retrieve_discover.proofs.FindingLemmas.{found_parts}
+use Rattle.retrieve_laws.proofs.Words.{◌≡◌, ℕ, List, [], ◌∷◌, Bool, true, false, cond, get_or, not, ◌&&◌, ap, ◌∙◌, All, filter, option_map_or}
+use Rattle.retrieve_laws.proofs.Terms.{NoPrivilege, NotFound, FilterParts, RequestParts, HomeData, ResourceData, children_of, has, is_under, grants, discovery_bit, retrieve_bit, meets_any, content, may_retrieve, most_shown, referred, shown_forest, Forest, below, forest_of, preorder, rooted, address_list, all_found, found, found_addresses, is_found, most_listed, most_of, discovered, is_by_id, refusal, retrieved, retrieved_of, success}
+use Rattle.retrieve_laws.proofs.Facts.{cond_both, All-append, All-cons, All-nil, All-take, filter_passes, has_at, found_parts}
+use Rattle.retrieve_laws.proofs.CutLemmas.{preorder-cut, reached_parts}
 
 -- what holds of every resource that may be gone to holds of all that are reached
 all_reached : (P : ResourceData → Type 0) (goes : ResourceData → Bool) → ((r : ResourceData) → goes r ≡ true → P r) → (rs : List ResourceData) (n : ℕ) → All P (preorder (forest_of goes n rs))
 all_reached P goes holds [] n = All-nil P
-all_reached P goes holds (r ∷ rs) n = elim (cases_Bool (is_under n r)) [
-  | inl u ↦ elim (cases_Bool (goes r)) [
-    | inl t ↦ rw (u, t) (All-cons P r _ (holds r t) (All-append P (preorder (forest_of goes r.number rs)) (preorder (forest_of goes n rs)) (all_reached P goes holds rs r.number) (all_reached P goes holds rs n)))
-    | inr f ↦ rw (u, f) (all_reached P goes holds rs n)
-  ]
-  | inr v ↦ rw v (all_reached P goes holds rs n)
-]
+all_reached P goes holds (r ∷ rs) n =
+    cond_both (is_under n r && goes r) (rooted r (forest_of goes r.number rs) (forest_of goes n rs)) (forest_of goes n rs) (λ (f : Forest). All P (preorder f))
+    (λ t. All-cons P r _ (holds r (reached_parts goes n r t).goes) (All-append P (preorder (forest_of goes r.number rs)) (preorder (forest_of goes n rs)) (all_reached P goes holds rs r.number) (all_reached P goes holds rs n)))
+    (λ f. all_reached P goes holds rs n)
 
 -- the originator has the bit on the resource
 abbrev pub Grants : HomeData → List ResourceData → List ℕ → ℕ → ResourceData → Type 0

@@ -1,3 +1,6 @@
+pub mod Words
+pub mod Terms
+pub mod Facts
 pub mod SpotLemmas
 pub mod FoundLemmas
 pub mod CutLemmas

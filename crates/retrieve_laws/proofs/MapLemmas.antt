@@ -1,22 +1,15 @@
 -- What a map of resources keeps that keeps numbers and parents.
-use Rattle.std.specs.Prelude.{◌==◌}
-use Rattle.std.proofs.Common.{◌≡◌, ℕ, ◌-◌, List, [], ◌∷◌, ◌++◌, length, map, reverse, Bool, inl, inr, refl, sym, ap, ◌∙◌}
-use Rattle.std.specs.List.{filter}
-use Rattle.std.proofs.lemmas.Bool.{cases_Bool}
-use Rattle.std.proofs.lemmas.List.{length-map, map-append, reverse-append}
-use Rattle.resource_model.specs.Resource.{ResourceData, has_number}
-use Rattle.tree_model.specs.Tree.{children_of, is_under, line_from, line_of}
-use Rattle.retrieve_discover.specs.Descendants.{Forest, bare, rooted, below, cut_forest, forest_of, preorder, forest_size}
+use Rattle.retrieve_laws.proofs.Words.{◌==◌, ◌≡◌, ℕ, ◌-◌, List, [], ◌∷◌, ◌++◌, length, map, reverse, Bool, ◌&&◌, refl, sym, ap, ap₂, ◌∙◌, filter}
+use Rattle.retrieve_laws.proofs.Terms.{ResourceData, has_number, children_of, is_under, line_from, line_of, Forest, bare, rooted, below, cut_forest, forest_of, preorder, forest_size}
+use Rattle.retrieve_laws.proofs.Facts.{length-map, map-append, reverse-append, both_chosen, same_chosen}
 use Rattle.retrieve_laws.proofs.FoundLemmas.{Each}
 
 module _ (g : ResourceData → ResourceData) where
   -- a filter by a test that the map keeps
   pub filter-map : (q p : ResourceData → Bool) (rs : List ResourceData) → Each (λ r. q (g r) ≡ p r) rs → filter q (map g rs) ≡ map g (filter p rs)
   filter-map q p [] each = refl
-  filter-map q p (r ∷ rs) each = elim (cases_Bool (p r)) [
-    | inl t ↦ rw (each.0 ∙ t, t) (ap (λ xs. g r ∷ xs) (filter-map q p rs each.1))
-    | inr f ↦ rw (each.0 ∙ f, f) (filter-map q p rs each.1)
-  ]
+  filter-map q p (r ∷ rs) each =
+      same_chosen (λ (us vs : List ResourceData). us ≡ map g vs) _ _ _ _ _ _ each.0 (λ t. ap (λ (xs : List ResourceData). g r ∷ xs) (filter-map q p rs each.1)) (λ f. filter-map q p rs each.1)
 
   reverse-map : (rs : List ResourceData) → reverse (map g rs) ≡ map g (reverse rs)
   reverse-map [] = refl
@@ -42,13 +35,11 @@ module _ (g : ResourceData → ResourceData) where
 
   pub cut-map : (f : Forest) (m : ℕ) → cut_forest (map_forest f) m ≡ map_forest (cut_forest f m)
   cut-map bare m = refl
-  cut-map (rooted r kids more) m = elim (cases_Bool (m == 0)) [
-    | inl t ↦ rw t refl
-    | inr f ↦ rw f (
-        ap (λ k. rooted (g r) (cut_forest (map_forest kids) (m - 1)) (cut_forest (map_forest more) (m - 1 - k))) (size-map kids)
-        ∙ ap (λ x. rooted (g r) x (cut_forest (map_forest more) (m - 1 - forest_size kids))) (cut-map kids (m - 1))
-        ∙ ap (rooted (g r) (map_forest (cut_forest kids (m - 1)))) (cut-map more (m - 1 - forest_size kids)))
-  ]
+  cut-map (rooted r kids more) m =
+      both_chosen (λ (x y : Forest). x ≡ map_forest y) (m == 0) _ _ _ _ (λ t. refl)
+      (λ f. ap (λ (k : ℕ). rooted (g r) (cut_forest (map_forest kids) (m - 1)) (cut_forest (map_forest more) (m - 1 - k))) (size-map kids)
+      ∙ ap (λ (x : Forest). rooted (g r) x (cut_forest (map_forest more) (m - 1 - forest_size kids))) (cut-map kids (m - 1))
+      ∙ ap (rooted (g r) (map_forest (cut_forest kids (m - 1)))) (cut-map more (m - 1 - forest_size kids)))
 
   module _ (number : (r : ResourceData) → (g r).number ≡ r.number) (parent : (r : ResourceData) → (g r).parent ≡ r.parent) where
     under-map : (n : ℕ) (r : ResourceData) → is_under n (g r) ≡ is_under n r
@@ -56,14 +47,13 @@ module _ (g : ResourceData → ResourceData) where
 
     pub below-map : (rs : List ResourceData) (n : ℕ) → below n (map g rs) ≡ map g (below n rs)
     below-map [] n = refl
-    below-map (r ∷ rs) n = elim (cases_Bool (is_under n r)) [
-      | inl t ↦ rw (under-map n r ∙ t, t) (
-          ap (λ k. g r ∷ (below k (map g rs) ++ below n (map g rs))) (number r)
-          ∙ ap (λ xs. g r ∷ (xs ++ below n (map g rs))) (below-map rs r.number)
-          ∙ ap (λ xs. g r ∷ (map g (below r.number rs) ++ xs)) (below-map rs n)
-          ∙ ap (λ xs. g r ∷ xs) (sym (map-append g (below r.number rs) (below n rs))))
-      | inr f ↦ rw (under-map n r ∙ f, f) (below-map rs n)
-    ]
+    below-map (r ∷ rs) n =
+        same_chosen (λ (us vs : List ResourceData). us ≡ map g vs) _ _ _ _ _ _ (under-map n r)
+        (λ t. ap (λ (k : ℕ). g r ∷ (below k (map g rs) ++ below n (map g rs))) (number r)
+        ∙ ap (λ (xs : List ResourceData). g r ∷ (xs ++ below n (map g rs))) (below-map rs r.number)
+        ∙ ap (λ (xs : List ResourceData). g r ∷ (map g (below r.number rs) ++ xs)) (below-map rs n)
+        ∙ ap (λ (xs : List ResourceData). g r ∷ xs) (sym (map-append g (below r.number rs) (below n rs))))
+        (λ f. below-map rs n)
 
     each_under : (n : ℕ) (rs : List ResourceData) → Each (λ r. is_under n (g r) ≡ is_under n r) rs
     each_under n [] = tt
@@ -76,23 +66,18 @@ module _ (g : ResourceData → ResourceData) where
     line_from-map [] n = refl
     line_from-map (r ∷ rs) n =
         let same : has_number n (g r) ≡ has_number n r = ap (λ (m : ℕ). m == n) (number r) in
-        elim (cases_Bool (has_number n r)) [
-          | inl t ↦ rw (same ∙ t, t) (ap (λ k. g r ∷ line_from k (map g rs)) (parent r) ∙ ap (λ xs. g r ∷ xs) (line_from-map rs r.parent))
-          | inr f ↦ rw (same ∙ f, f) (line_from-map rs n)
-        ]
+        same_chosen (λ (us vs : List ResourceData). us ≡ map g vs) _ _ _ _ _ _ same
+        (λ t. ap (λ (k : ℕ). g r ∷ line_from k (map g rs)) (parent r) ∙ ap (λ (xs : List ResourceData). g r ∷ xs) (line_from-map rs r.parent))
+        (λ f. line_from-map rs n)
 
     pub line-map : (rs : List ResourceData) (n : ℕ) → line_of n (map g rs) ≡ map g (line_of n rs)
     line-map rs n = ap (line_from n) (reverse-map rs) ∙ line_from-map (reverse rs) n
 
     pub forest_of-map : (goes had : ResourceData → Bool) → ((r : ResourceData) → goes (g r) ≡ had r) → (rs : List ResourceData) (n : ℕ) → forest_of goes n (map g rs) ≡ map_forest (forest_of had n rs)
     forest_of-map goes had same [] n = refl
-    forest_of-map goes had same (r ∷ rs) n = elim (cases_Bool (is_under n r)) [
-      | inl u ↦ elim (cases_Bool (had r)) [
-        | inl t ↦ rw (under-map n r ∙ u, u, same r ∙ t, t) (
-            ap (λ k. rooted (g r) (forest_of goes k (map g rs)) (forest_of goes n (map g rs))) (number r)
-            ∙ ap (λ x. rooted (g r) x (forest_of goes n (map g rs))) (forest_of-map goes had same rs r.number)
-            ∙ ap (rooted (g r) (map_forest (forest_of had r.number rs))) (forest_of-map goes had same rs n))
-        | inr f ↦ rw (under-map n r ∙ u, u, same r ∙ f, f) (forest_of-map goes had same rs n)
-      ]
-      | inr v ↦ rw (under-map n r ∙ v, v) (forest_of-map goes had same rs n)
-    ]
+    forest_of-map goes had same (r ∷ rs) n =
+        same_chosen (λ (x y : Forest). x ≡ map_forest y) _ _ _ _ _ _ (ap₂ (λ (a b : Bool). a && b) (under-map n r) (same r))
+        (λ t. ap (λ (k : ℕ). rooted (g r) (forest_of goes k (map g rs)) (forest_of goes n (map g rs))) (number r)
+        ∙ ap (λ (x : Forest). rooted (g r) x (forest_of goes n (map g rs))) (forest_of-map goes had same rs r.number)
+        ∙ ap (rooted (g r) (map_forest (forest_of had r.number rs))) (forest_of-map goes had same rs n))
+        (λ f. forest_of-map goes had same rs n)

@@ -1,25 +1,9 @@
 -- An address is that of one resource.
-use Rattle.std.specs.Prelude.{bytes_eq, is_none, nat_lt}
-use Rattle.std.proofs.Common.{◌≡◌, ℕ, zero, suc, ◌<◌, ◌≤◌, ◌^◌, List, [], ◌∷◌, length, map, reverse, Bool, true, false, cond, Option, Some, None, inl, inr, refl, sym, ap, ◌∙◌, arith}
-use Rattle.std.specs.List.{list_all, list_any}
-use Rattle.std.proofs.lemmas.Bool.{and_from, and_parts, cases_Bool, ltb-false, ltb-true, or_cases, or_left, or_right}
-use Rattle.std.proofs.lemmas.List.{length-reverse, reverse-reverse}
-use Rattle.std.proofs.lemmas.Option.{same_Some}
-use Rattle.std.proofs.lemmas.Slice.Eq.{bytes_eq-Decides}
-use Rattle.m2m_names.specs.Name.{is_free_name, is_name}
-use Rattle.resource_model.specs.Home.{HomeData}
-use Rattle.resource_model.specs.Resource.{ResourceData, has_number, id_of}
-use Rattle.tree_model.specs.Tree.{at, child_of, has, is_tree, line_of}
-use Rattle.tree_model.proofs.GrowthLemmas.{stands, zero_lacks}
-use Rattle.tree_model.proofs.TreeLemmas.{has_at, line_all}
-use Rattle.tree_model.proofs.QuietLemmas.{number_passes}
-use Rattle.policy_eval.specs.Rights.{grants}
+use Rattle.retrieve_laws.proofs.Words.{bytes_eq, is_none, nat_lt, ◌≡◌, ℕ, zero, suc, ◌<◌, ◌≤◌, ◌^◌, List, [], ◌∷◌, length, map, reverse, Bool, true, false, cond, Option, Some, None, inl, inr, refl, sym, ap, ◌∙◌, arith, list_all, list_any}
+use Rattle.retrieve_laws.proofs.Terms.{is_free_name, is_name, HomeData, ResourceData, has_number, id_of, at, child_of, has, is_tree, line_of, grants, are_names, between_slashes, joined, have_free_names, spot_named, structured_of, Resource, Fan, Poll}
+use Rattle.retrieve_laws.proofs.Facts.{and_from, and_parts, cases_Bool, ltb-false, ltb-true, or_cases, or_left, or_right, length-reverse, reverse-reverse, same_Some, bytes_eq-Decides, stands, zero_lacks, has_at, line_all, number_passes}
 use Rattle.m2m_names.specs.Urls.{point_limit}
-use Rattle.addressing.specs.Addresses.{are_names, between_slashes, joined}
-use Rattle.addressing.specs.Laws.{have_free_names, spot_named}
-use Rattle.addressing.specs.Names.{structured_of}
 use Rattle.addressing.specs.declared.spot.Spot.{Spot}
-use Rattle.addressing.specs.declared.spot.Spot.TheVariants.{Resource, Fan, Poll}
 use Rattle.addressing.proofs.NameLemmas.{child_of_its_name, line_of_none, named_by_id, spot_named_structured}
 use Rattle.addressing.proofs.PartLemmas.{between_slashes-joined}
 use Rattle.retrieve_laws.specs.Guard.{HasOwnAddresses, IsNamedByRight, is_address_of, is_no_name}

@@ -1,30 +1,16 @@
 -- In which trees no two resources have one address.
-use Rattle.std.specs.Prelude.{bytes_eq, is_none, nat_eq, nat_lt, option_map}
-use Rattle.std.proofs.Common.{◌≡◌, ℕ, ◌+◌, ◌<◌, ◌^◌, List, [], ◌∷◌, ◌++◌, length, Bool, true, false, Option, Some, inl, inr, refl, sym, ap, ◌∙◌, arith}
+use Rattle.retrieve_laws.proofs.Words.{bytes_eq, is_none, nat_eq, nat_lt, ◌≡◌, ℕ, ◌+◌, ◌<◌, ◌^◌, List, [], ◌∷◌, ◌++◌, length, Bool, true, false, Option, Some, inl, inr, refl, sym, ap, ◌∙◌, arith, list_all, list_any, starts_with}
+use Rattle.retrieve_laws.proofs.Terms.{is_numbered, is_resource_id, all_types, ty_row, Ty, AccessControlPolicy, Ae, Container, ContentInstance, CseBase, Group, PollingChannel, RemoteCse, Subscription, AccessControlPolicyAnnc, AeAnnc, ContainerAnnc, ContentInstanceAnnc, GroupAnnc, HomeData, IsHome, ResourceData, id_of, are_below, at, is_child, is_tree, have_free_names}
+use Rattle.retrieve_laws.proofs.Facts.{and_from, both_ways, eq-eqb, false_from_ne_true, lt-ltb, ltb-true, or_cases, or_from, or_left, or_right, nat_tests, length-append, bytes_eq-Decides, number_passes, in_order-tree, child_parts}
+use Rattle.std.specs.Prelude.{option_map}
 use Rattle.std.specs.Char.{is_ascii_digit}
 use Rattle.std.specs.Fmt.{decimal}
-use Rattle.std.specs.List.{list_all, list_any, starts_with}
 use Rattle.std.proofs.Math.Seq.{drop-append_seam}
-use Rattle.std.proofs.lemmas.Bool.{and_from, both_ways, eq-eqb, false_from_ne_true, lt-ltb, ltb-true, or_cases, or_from, or_left, or_right}
-use Rattle.std.proofs.lemmas.Bool.Decides.{nat_tests}
 use Rattle.std.proofs.lemmas.Fmt.{decimal_nonempty}
-use Rattle.std.proofs.lemmas.List.{length-append}
-use Rattle.std.proofs.lemmas.Slice.Eq.{bytes_eq-Decides}
-use Rattle.m2m_names.specs.Name.{is_numbered, is_resource_id}
-use Rattle.m2m_names.specs.Types.{all_types, ty_row}
-use Rattle.m2m_names.specs.declared.types.Ty.{Ty}
-use Rattle.m2m_names.specs.declared.types.Ty.TheVariants.{AccessControlPolicy, Ae, Container, ContentInstance, CseBase, Group, PollingChannel, RemoteCse, Subscription, AccessControlPolicyAnnc, AeAnnc, ContainerAnnc, ContentInstanceAnnc, GroupAnnc}
 use Rattle.m2m_names.proofs.NumeralLemmas.{decimal_passes}
 use Rattle.m2m_names.proofs.StatusLemmas.{find_none}
-use Rattle.resource_model.specs.Home.{HomeData, IsHome}
-use Rattle.resource_model.specs.Resource.{ResourceData, id_of}
-use Rattle.tree_model.specs.Tree.{are_below, at, is_child, is_tree}
-use Rattle.addressing.specs.Laws.{have_free_names}
 use Rattle.retrieve_laws.specs.Guard.{HasOwnAddresses, is_no_name}
-use Rattle.tree_model.proofs.QuietLemmas.{number_passes}
-use Rattle.retrieve_discover.proofs.OrderLemmas.{in_order-tree}
 use Rattle.retrieve_laws.proofs.FoundLemmas.{Each, IsFound, each_found}
-use Rattle.tree_model.proofs.TreeLemmas.{child_parts}
 use Rattle.resource_model.proofs.HomeLemmas.{base_name_parts, home_parts}
 
 -- ---- a resource id has the form of one

@@ -1,16 +1,8 @@
 -- What is shown is what is reached by going down through what the originator may retrieve.
-use Rattle.std.proofs.Common.{◌≡◌, ℕ, ◌<◌, List, [], ◌∷◌, ◌++◌, Bool, true, false, cond, ◌&&◌, Some, inl, inr, refl, sym, ap, ◌∙◌, arith}
-use Rattle.std.specs.List.{filter, list_all}
-use Rattle.std.proofs.lemmas.Bool.{cases_Bool, eq-eqb, eqb-true, ne_eqb, and_right}
-use Rattle.std.proofs.lemmas.List.{append_assoc}
-use Rattle.std.proofs.lemmas.List.Elements.{filter-append}
+use Rattle.retrieve_laws.proofs.Words.{◌≡◌, ℕ, ◌<◌, List, [], ◌∷◌, ◌++◌, Bool, true, false, cond, ◌&&◌, Some, inl, inr, refl, sym, ap, ◌∙◌, arith, filter, list_all}
+use Rattle.retrieve_laws.proofs.Terms.{ResourceData, at, is_tree, is_under, line_of, below, forest_of, line_up_to, line_below, preorder}
+use Rattle.retrieve_laws.proofs.Facts.{cases_Bool, cond_both, eq-eqb, eqb-true, ne_eqb, and_right, append_assoc, filter-append, stands, at_number, in_order-tree}
 use Rattle.std.proofs.lemmas.List.Folds.{list_all-append}
-use Rattle.resource_model.specs.Resource.{ResourceData}
-use Rattle.tree_model.specs.Tree.{at, is_tree, is_under, line_of}
-use Rattle.tree_model.proofs.GrowthLemmas.{stands}
-use Rattle.tree_model.proofs.TreeLemmas.{at_number}
-use Rattle.retrieve_discover.specs.Descendants.{below, forest_of, line_up_to, line_below, preorder}
-use Rattle.retrieve_discover.proofs.OrderLemmas.{in_order-tree}
 use Rattle.retrieve_laws.proofs.FoundLemmas.{Each, IsFound, each_found}
 use Rattle.std.proofs.Math.Bool.{and-true}
 
@@ -21,10 +13,10 @@ each-append P (x ∷ xs) ys first second = (first.0, each-append P xs ys first.1
 
 each-below : (P : ResourceData → Type 0) (nodes : List ResourceData) (n : ℕ) → Each P nodes → Each P (below n nodes)
 each-below P [] n each = tt
-each-below P (r ∷ later) n each = elim (cases_Bool (is_under n r)) [
-  | inl t ↦ rw t (each.0, each-append P (below r.number later) (below n later) (each-below P later r.number each.1) (each-below P later n each.1))
-  | inr f ↦ rw f (each-below P later n each.1)
-]
+each-below P (r ∷ later) n each =
+    cond_both (is_under n r) (r ∷ (below r.number later ++ below n later)) (below n later) (Each P)
+    (λ t. (each.0, each-append P (below r.number later) (below n later) (each-below P later r.number each.1) (each-below P later n each.1)))
+    (λ f. each-below P later n each.1)
 
 pub filter-each : (p q : ResourceData → Bool) (rs : List ResourceData) → Each (λ r. p r ≡ q r) rs → filter p rs ≡ filter q rs
 filter-each p q [] each = refl

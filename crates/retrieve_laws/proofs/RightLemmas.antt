@@ -1,46 +1,17 @@
 -- What replies tell of other resources is told by right.
-use Rattle.std.proofs.Common.{◌≡◌, ℕ, zero, suc, ℤ, pos, List, [], ◌∷◌, ◌++◌, map, take, Bool, true, false, cond, not, Option, Some, None, codes, refl, sym, ap, subst, ◌∙◌, arith}
-use Rattle.std.specs.Prelude.{Contains, unwrap_or}
-use Rattle.std.specs.BTreeMap.{insert_entry}
-use Rattle.std.specs.List.{AllByRecursion, filter}
-use Rattle.std.specs.Option.{option_map_or}
-use Rattle.std.specs.Ordering.{int_eq}
-use Rattle.std.proofs.lemmas.List.{append-nil}
-use Rattle.std.proofs.lemmas.List.Elements.{All-contains, All-from_recursion}
-use Rattle.m2m_names.specs.Attributes.{attr_short}
+use Rattle.retrieve_laws.proofs.Words.{◌≡◌, ℕ, zero, suc, ℤ, pos, List, [], ◌∷◌, ◌++◌, map, take, Bool, true, false, cond, not, Option, Some, None, codes, refl, sym, ap, subst, ◌∙◌, arith, Contains, unwrap_or, insert_entry, AllByRecursion, filter, option_map_or, int_eq}
+use Rattle.retrieve_laws.proofs.Terms.{attr_short, Ri, NoPrivilege, NotFound, Ty, Data, Entry, elements_of, object, pairs_of, as_text, entries, member_of, text_or_empty, FilterParts, ReplyParts, RequestParts, HomeData, ResourceData, id_of, shown_rows, under_type, at, children_of, is_under, discovery_bit, grants, retrieve_bit, meets_any, wanted_content, content, may_retrieve, members, most_shown, reference, references, references_alone, referred, shown_forest, whole, with_forest, with_references, Forest, below, forest_of, address, address_in, address_list, found, found_addresses, is_found, most_listed, most_of, discovered, is_by_id, refusal, retrieved, retrieved_of, success}
+use Rattle.retrieve_laws.proofs.Facts.{append-nil, All-contains, All-from_recursion, elements-elements_of, entries-pairs_of, compared, member_of-put, in_order-tree, found_parts}
 use Rattle.m2m_names.specs.Members.{rce_name, uril_name}
-use Rattle.m2m_names.specs.declared.attributes.Attr.TheVariants.{Ri}
 use Rattle.m2m_names.specs.declared.codes.Rsc.{Rsc}
-use Rattle.m2m_names.specs.declared.codes.Rsc.TheVariants.{NoPrivilege, NotFound}
-use Rattle.m2m_names.specs.declared.types.Ty.{Ty}
-use Rattle.m2m_value.specs.Data.{Data, Entry, elements_of, object, pairs_of}
-use Rattle.m2m_value.specs.View.{as_text, entries, member_of, text_or_empty}
-use Rattle.m2m_value.proofs.Levels.{elements-elements_of, entries-pairs_of}
-use Rattle.m2m_value.proofs.Lookup.{compared, member_of-put}
-use Rattle.filter_criteria.specs.declared.filter.FilterParts.{FilterParts}
-use Rattle.primitive_json.specs.declared.reply.ReplyParts.{ReplyParts}
-use Rattle.primitive_json.specs.declared.request.RequestParts.{RequestParts}
-use Rattle.resource_model.specs.Home.{HomeData}
-use Rattle.resource_model.specs.Resource.{ResourceData, id_of}
-use Rattle.tree_model.specs.Shown.{shown_rows, under_type}
-use Rattle.tree_model.specs.Tree.{at, children_of, is_under}
 use Rattle.tree_model.proofs.ShownLemmas.{shown_value}
-use Rattle.policy_eval.specs.Rights.{discovery_bit, grants, retrieve_bit}
-use Rattle.retrieve_discover.specs.Conditions.{meets_any}
-use Rattle.entity_model.specs.Places.{wanted_content}
-use Rattle.retrieve_discover.specs.Contents.{content, may_retrieve, members, most_shown, reference, references, references_alone, referred, shown_forest, whole, with_forest, with_references}
-use Rattle.retrieve_discover.specs.Descendants.{Forest, below, forest_of}
-use Rattle.retrieve_discover.specs.Findings.{address, address_in, address_list, found, found_addresses, is_found, most_listed, most_of}
 use Rattle.retrieve_laws.specs.Guard.{AreNamedByRight, HasOwnAddresses, IsNamedByRight, IsShownByRight, OthersAreShownByRight}
-use Rattle.retrieve_discover.specs.Replies.{discovered, is_by_id, refusal, retrieved, retrieved_of, success}
 use Rattle.retrieve_laws.specs.Told.{addresses_in, ids_below, ids_shown, is_object, listed_parts, references_in, references_shown, shown_id, shown_reference, unframed, values_among, values_under}
 use Rattle.retrieve_laws.proofs.CutLemmas.{all-cut, all-forest_of}
 use Rattle.retrieve_laws.proofs.NamedLemmas.{its_address, named_by_right}
-use Rattle.retrieve_discover.proofs.OrderLemmas.{in_order-tree}
 use Rattle.retrieve_laws.proofs.FoundLemmas.{Each, IsFound, each-filter, each_found}
 use Rattle.retrieve_laws.proofs.ReachLemmas.{each_below_found}
 use Rattle.retrieve_laws.proofs.ToldLemmas.{AllOf, AllUnder, kept_beside, member_of-members_of, no_type_name, none_referred, none_under, off_types, under_forest, under_put}
-use Rattle.retrieve_discover.proofs.FindingLemmas.{found_parts}
 
 -- ---- what an object under the name of a type tells
 

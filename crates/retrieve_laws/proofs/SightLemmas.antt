@@ -1,26 +1,7 @@
 -- A discovery is answered the same on what the originator sees.
-use Rattle.std.proofs.Common.{◌≡◌, ℕ, List, [], ◌∷◌, map, take, reverse, Bool, true, false, cond, ◌&&◌, Option, Some, None, refl, ap, ap₂, ◌∙◌}
-use Rattle.std.specs.List.{filter}
-use Rattle.std.proofs.lemmas.List.{take-map}
-use Rattle.m2m_names.specs.declared.attributes.Attr.TheVariants.{Cs, Lbl, St}
-use Rattle.m2m_names.specs.declared.codes.Rsc.TheVariants.{NoPrivilege}
-use Rattle.m2m_value.specs.Data.{text}
-use Rattle.filter_criteria.specs.declared.filter.FilterParts.{FilterParts}
-use Rattle.primitive_json.specs.declared.request.RequestParts.{RequestParts}
-use Rattle.resource_model.specs.Home.{HomeData}
-use Rattle.resource_model.specs.Resource.{ResourceData}
-use Rattle.tree_model.specs.Tree.{is_well_formed, line_of}
-use Rattle.tree_model.proofs.GrowthLemmas.{tree_from_well_formed}
-use Rattle.policy_eval.specs.Rights.{grants, discovery_bit}
-use Rattle.policy_laws.specs.Seen.{has_bit, seen, seen_list}
-use Rattle.policy_laws.proofs.DueLemmas.{due-seen}
-use Rattle.policy_laws.proofs.SeenLemmas.{grants-seen, seen_shows}
-use Rattle.addressing.specs.Addresses.{joined}
-use Rattle.addressing.specs.Names.{structured_of}
-use Rattle.retrieve_discover.specs.Conditions.{meets}
-use Rattle.retrieve_discover.specs.Descendants.{below}
-use Rattle.retrieve_discover.specs.Findings.{address, address_list, all_found, found, found_addresses, is_found, most_of}
-use Rattle.retrieve_discover.specs.Replies.{discovered, is_by_id, refusal, success}
+use Rattle.retrieve_laws.proofs.Words.{◌≡◌, ℕ, List, [], ◌∷◌, map, take, reverse, Bool, true, false, cond, ◌&&◌, Option, Some, None, refl, ap, ap₂, ◌∙◌, filter}
+use Rattle.retrieve_laws.proofs.Terms.{Cs, Lbl, St, NoPrivilege, text, FilterParts, RequestParts, HomeData, ResourceData, is_well_formed, line_of, grants, discovery_bit, has_bit, seen, seen_list, joined, structured_of, meets, below, address, address_list, all_found, found, found_addresses, is_found, most_of, discovered, is_by_id, refusal, success}
+use Rattle.retrieve_laws.proofs.Facts.{take-map, tree_from_well_formed, due-seen, grants-seen, seen_shows}
 use Rattle.retrieve_laws.proofs.ConditionLemmas.{LooksAlike, meets-alike}
 use Rattle.retrieve_laws.proofs.MapLemmas.{below-map, filter-map, line-map}
 use Rattle.retrieve_laws.proofs.FoundLemmas.{Each, IsFound}

@@ -1,35 +1,11 @@
 -- What an address names is the same on a list that keeps numbers, parents, types, names and AE-IDs.
-use Rattle.std.specs.Prelude.{bytes_eq, codes, filter, slice_get}
-use Rattle.std.proofs.Common.{◌≡◌, ℕ, ◌+◌, ◌-◌, ◌==◌, Bool, true, false, cond, ◌&&◌, List, [], ◌∷◌, length, map, find, Option, Some, None, is_some, inl, inr, refl, ap, ap₂, ◌∙◌}
-use Rattle.std.specs.Option.{option_and_then, option_map, option_or}
-use Rattle.std.proofs.lemmas.Bool.{cases_Bool}
-use Rattle.std.proofs.lemmas.List.{length-map}
-use Rattle.std.proofs.lemmas.Option.{slice_get-map}
+use Rattle.retrieve_laws.proofs.Words.{bytes_eq, slice_get, ◌≡◌, ℕ, ◌+◌, ◌-◌, Bool, true, false, cond, ◌&&◌, List, [], ◌∷◌, length, map, find, Option, Some, None, is_some, refl, ap, ap₂, ◌∙◌, option_or}
+use Rattle.retrieve_laws.proofs.Terms.{Ty, ContentInstance, Group, PollingChannel, HomeData, ResourceData, ae_id, is_ty, ae_of, at, child_of, children_of, first_number, instance_of, instances_of, is_ae, is_child, is_instance, is_under, last_number, number_at, of_type, resource_number, same_text, typed_at, seen, seen_list, base_named, base_of, first_named, id_named, is_at, next_named, poll_point, fan_point, spot_from, spot_of, Resource}
+use Rattle.retrieve_laws.proofs.Facts.{length-map, slice_get-map, at-map, filter_image, find_image, same_chosen, ae_id-seen}
+use Rattle.std.specs.Prelude.{codes}
+use Rattle.std.proofs.Common.{◌==◌}
+use Rattle.std.specs.Option.{option_and_then, option_map}
 use Rattle.m2m_names.specs.Ids.{id_parts}
-use Rattle.m2m_names.specs.declared.types.Ty.{Ty}
-use Rattle.m2m_names.specs.declared.types.Ty.TheVariants.{ContentInstance, Group, PollingChannel}
-use Rattle.resource_model.specs.Home.{HomeData}
-use Rattle.resource_model.specs.Resource.{ResourceData, ae_id, is_ty}
-use Rattle.tree_model.specs.Tree.{ae_of, at, child_of, children_of, first_number, instance_of, instances_of, is_ae, is_child, is_instance, is_under, last_number, number_at, of_type, resource_number, same_text, typed_at}
-use Rattle.tree_model.proofs.TreeLemmas.{at-map}
-use Rattle.policy_laws.specs.Seen.{seen, seen_list}
-use Rattle.policy_laws.proofs.SeenLemmas.{ae_id-seen}
-use Rattle.addressing.specs.Names.{base_named, base_of, first_named, id_named, is_at, next_named, poll_point, fan_point, spot_from, spot_of}
-use Rattle.addressing.specs.declared.spot.Spot.TheVariants.{Resource}
-
-filter-kept : (g : ResourceData → ResourceData) (p : ResourceData → Bool) → ((r : ResourceData) → p (g r) ≡ p r) → (rs : List ResourceData) → filter p (map g rs) ≡ map g (filter p rs)
-filter-kept g p same [] = refl
-filter-kept g p same (r ∷ rs) = elim (cases_Bool (p r)) [
-  | inl t ↦ rw (same r, t) (ap (λ rest. g r ∷ rest) (filter-kept g p same rs))
-  | inr f ↦ rw (same r, f) (filter-kept g p same rs)
-]
-
-find-kept : (g : ResourceData → ResourceData) (p : ResourceData → Bool) → ((r : ResourceData) → p (g r) ≡ p r) → (rs : List ResourceData) → find p (map g rs) ≡ option_map g (find p rs)
-find-kept g p same [] = refl
-find-kept g p same (r ∷ rs) = elim (cases_Bool (p r)) [
-  | inl t ↦ rw (same r, t) refl
-  | inr f ↦ rw (same r, f) (find-kept g p same rs)
-]
 
 module _ (g : ResourceData → ResourceData) (number : (r : ResourceData) → (g r).number ≡ r.number) (parent : (r : ResourceData) → (g r).parent ≡ r.parent) (ty : (r : ResourceData) → (g r).ty ≡ r.ty) (name : (r : ResourceData) → (g r).name ≡ r.name) (aei : (r : ResourceData) → ae_id (g r) ≡ ae_id r) where
   number_of-kept : (o : Option ResourceData) → resource_number (option_map g o) ≡ resource_number o
@@ -43,20 +19,20 @@ module _ (g : ResourceData → ResourceData) (number : (r : ResourceData) → (g
   under-kept n r = ap (λ (m : ℕ). m == n) (parent r)
 
   base_of-kept : (nodes : List ResourceData) → base_of (map g nodes) ≡ base_of nodes
-  base_of-kept nodes = ap first_number (filter-kept g (is_under 0) (under-kept 0) nodes) ∙ number_at-kept 0 (children_of 0 nodes)
+  base_of-kept nodes = ap first_number (filter_image g (is_under 0) (is_under 0) (under-kept 0) nodes) ∙ number_at-kept 0 (children_of 0 nodes)
 
   child_of-kept : (n : ℕ) (s : List ℕ) (nodes : List ResourceData) → child_of n s (map g nodes) ≡ child_of n s nodes
   child_of-kept n s nodes =
-      ap resource_number (find-kept g (is_child n s) (λ r. ap₂ (λ a b. a && b) (under-kept n r) (ap (λ t. bytes_eq t s) (name r))) nodes)
+      ap resource_number (find_image g (is_child n s) (is_child n s) (λ r. ap₂ (λ a b. a && b) (under-kept n r) (ap (λ t. bytes_eq t s) (name r))) nodes)
       ∙ number_of-kept (find (is_child n s) nodes)
 
   ae_of-kept : (s : List ℕ) (nodes : List ResourceData) → ae_of s (map g nodes) ≡ ae_of s nodes
   ae_of-kept s nodes =
-      ap resource_number (find-kept g (is_ae s) (λ r. ap (λ o. same_text o (Some s)) (aei r)) nodes)
+      ap resource_number (find_image g (is_ae s) (is_ae s) (λ r. ap (λ o. same_text o (Some s)) (aei r)) nodes)
       ∙ number_of-kept (find (is_ae s) nodes)
 
   instances_of-kept : (n : ℕ) (nodes : List ResourceData) → instances_of n (map g nodes) ≡ map g (instances_of n nodes)
-  instances_of-kept n nodes = filter-kept g (is_instance n) (λ r. ap₂ (λ a b. a && b) (under-kept n r) (ap (λ (t : Ty). is_ty t ContentInstance) (ty r))) nodes
+  instances_of-kept n nodes = filter_image g (is_instance n) (is_instance n) (λ r. ap₂ (λ a b. a && b) (under-kept n r) (ap (λ (t : Ty). is_ty t ContentInstance) (ty r))) nodes
 
   instance_of-kept : (newest : Bool) (n : ℕ) (nodes : List ResourceData) → instance_of newest n (map g nodes) ≡ instance_of newest n nodes
   instance_of-kept true n nodes =
@@ -72,10 +48,7 @@ module _ (g : ResourceData → ResourceData) (number : (r : ResourceData) → (g
       by_found None = refl
       by_found (Some r) =
           let same : is_ty (g r).ty t ≡ is_ty r.ty t = ap (λ (u : Ty). is_ty u t) (ty r) in
-          elim (cases_Bool (is_ty r.ty t)) [
-            | inl h ↦ rw (same ∙ h, h) refl
-            | inr h ↦ rw (same ∙ h, h) refl
-          ]
+          same_chosen (λ (x y : Option ResourceData). x ≡ option_map g y) _ _ _ _ _ _ same (λ is. refl) (λ other. refl)
 
   is_at-kept : (t : Ty) (n : ℕ) (nodes : List ResourceData) → is_at t n (map g nodes) ≡ is_at t n nodes
   is_at-kept t n nodes = ap is_some (typed_at-kept t n nodes) ∙ by_found (typed_at t n nodes)

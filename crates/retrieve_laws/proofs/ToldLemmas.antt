@@ -1,27 +1,12 @@
 -- What the members of an object tell of the resources below it.
-use Rattle.std.proofs.Common.{◌≡◌, ℕ, List, [], ◌∷◌, ◌++◌, Bool, true, false, cond, not, ◌&&◌, bytes_eq, codes, Some, None, Ordering, Less, Equal, Greater, inl, inr, refl, sym, ap, subst, ◌∙◌}
-use Rattle.std.proofs.lemmas.Bool.{and_parts, cases_Bool, false_from_ne_true, not-true, true≢false}
-use Rattle.std.proofs.lemmas.List.{append_assoc}
+use Rattle.retrieve_laws.proofs.Words.{◌≡◌, ℕ, List, [], ◌∷◌, ◌++◌, Bool, true, false, cond, not, ◌&&◌, codes, Some, None, Ordering, Less, Equal, Greater, inl, inr, refl, sym, ap, subst, ◌∙◌, insert_entry, AllByRecursion, match_ordering}
+use Rattle.retrieve_laws.proofs.Terms.{all_attrs, attr_short, ty_member, Ty, AccessControlPolicy, Ae, Container, ContentInstance, CseBase, Group, PollingChannel, RemoteCse, Subscription, AccessControlPolicyAnnc, AeAnnc, ContainerAnnc, ContentInstanceAnnc, GroupAnnc, Data, Elements, Entry, boolean, element, elements_of, list, no_elements, null, number, object, pairs_of, text, elements, member_of, Row, is_attr, value_of, ResourceData, members_of, with_forest, with_last, Forest, bare, rooted}
+use Rattle.retrieve_laws.proofs.Facts.{and_parts, cases_Bool, false_from_ne_true, not-true, true≢false, append_assoc, bytes_eq-Decides, compared, member_of-put_other}
+use Rattle.std.proofs.Common.{bytes_eq}
 use Rattle.std.proofs.lemmas.Map.Text.{is_eq-slice_cmp}
-use Rattle.std.proofs.lemmas.Slice.Eq.{bytes_eq-Decides}
-use Rattle.std.specs.BTreeMap.{insert_entry}
-use Rattle.std.specs.List.{AllByRecursion}
-use Rattle.std.specs.Ordering.{match_ordering}
-use Rattle.m2m_names.specs.Attributes.{all_attrs, attr_short}
-use Rattle.m2m_names.specs.Types.{ty_member}
 use Rattle.m2m_names.specs.declared.attributes.Attr.{Attr}
-use Rattle.m2m_names.specs.declared.types.Ty.{Ty}
-use Rattle.m2m_names.specs.declared.types.Ty.TheVariants.{AccessControlPolicy, Ae, Container, ContentInstance, CseBase, Group, PollingChannel, RemoteCse, Subscription, AccessControlPolicyAnnc, AeAnnc, ContainerAnnc, ContentInstanceAnnc, GroupAnnc}
 use Rattle.m2m_names.proofs.AttributeLemmas.{attr_again, equal_texts}
-use Rattle.m2m_value.specs.Data.{Data, Elements, Entry, boolean, element, elements_of, list, no_elements, null, number, object, pairs_of, text}
-use Rattle.m2m_value.specs.View.{elements, member_of}
-use Rattle.m2m_value.proofs.Lookup.{compared, member_of-put_other}
-use Rattle.resource_model.specs.Attributes.{Row, is_attr, value_of}
-use Rattle.resource_model.specs.Resource.{ResourceData}
-use Rattle.tree_model.specs.Shown.{members_of}
 use Rattle.policy_eval.specs.Rules.{listed_in}
-use Rattle.retrieve_discover.specs.Contents.{with_forest, with_last}
-use Rattle.retrieve_discover.specs.Descendants.{Forest, bare, rooted}
 use Rattle.retrieve_laws.proofs.CutLemmas.{AllIn}
 use Rattle.retrieve_laws.specs.Told.{is_type_name, values_among, values_in, values_under}
 use Rattle.m2m_names.proofs.LookupLemmas.{found_passes}

@@ -1,20 +1,8 @@
 -- What is carried over two links that answer alike.
-use Rattle.std.proofs.Common.{◌≡◌, ℕ, true, false, List, [], ◌∷◌, ◌++◌, Option, Some, None, IfSome, inl, inr, refl, sym, ap, subst, ◌∙◌}
-use Rattle.std.specs.List.{All}
-use Rattle.std.specs.Option.{option_map, option_to_list}
-use Rattle.std.proofs.lemmas.Bool.{true≢false}
-use Rattle.std.proofs.lemmas.List.Elements.{All-head, All-tail}
-use Rattle.std.proofs.lemmas.Option.{same_Some}
-use Rattle.m2m_io.specs.Link.{Carrying, Exchange, made_in}
-use Rattle.primitive_json.specs.declared.reply.ReplyParts.{ReplyParts}
-use Rattle.primitive_json.specs.declared.request.RequestParts.{RequestParts}
-use Rattle.http_client_binding.specs.declared.target.Aim.TheVariants.{Peer}
-use Rattle.retarget.specs.Answers.{Carried}
+use Rattle.service_laws.proofs.Words.{◌≡◌, ℕ, true, false, List, [], ◌∷◌, ◌++◌, Option, Some, None, IfSome, inl, inr, refl, sym, ap, subst, ◌∙◌, All, option_map, option_to_list}
+use Rattle.service_laws.proofs.Terms.{Carrying, Exchange, made_in, ReplyParts, RequestParts, Peer, Carried, Outcome, Done, Forward, Item, Ticked, Starved, GivesReply, GivesReplies, GoesOn, RepliesBy}
+use Rattle.service_laws.proofs.Facts.{true≢false, All-head, All-tail, same_Some, one_reply}
 use Rattle.retarget.specs.Sending.{IsFor}
-use Rattle.retarget.proofs.AnswerLemmas.{one_reply}
-use Rattle.cse_machine.specs.declared.event.Outcome.{Outcome}
-use Rattle.cse_machine.specs.declared.event.Outcome.TheVariants.{Done, Forward, Item, Ticked, Starved}
-use Rattle.cse_server.specs.Replies.{GivesReply, GivesReplies, GoesOn, RepliesBy}
 use Rattle.service_laws.specs.Laws.{AnswerAlike, HadMemory}
 
 -- what was made for one request, over two links that answer alike

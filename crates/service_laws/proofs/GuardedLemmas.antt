@@ -1,19 +1,9 @@
 -- The request of a reply stands behind a history of the requests before it.
-use Rattle.std.proofs.Common.{◌≡◌, ℕ, List, [], ◌∷◌, ◌++◌, length, map, refl, sym, ap, subst, ◌∙◌, arith}
-use Rattle.primitive_json.specs.declared.reply.ReplyParts.{ReplyParts}
-use Rattle.primitive_json.specs.declared.request.RequestParts.{RequestParts}
-use Rattle.turn_desk.specs.Entries.{readings_of, events_of, outcomes_of}
-use Rattle.turn_desk.proofs.GrowthLemmas.{Grew-runs}
-use Rattle.entity_model.specs.Entity.{EntityData, swept}
+use Rattle.service_laws.proofs.Words.{◌≡◌, ℕ, List, [], ◌∷◌, ◌++◌, length, map, refl, sym, ap, subst, ◌∙◌, arith}
+use Rattle.service_laws.proofs.Terms.{ReplyParts, RequestParts, readings_of, events_of, outcomes_of, EntityData, swept, Event, Ask, Outcome, Done, History, HistoryLeaves, Step}
+use Rattle.service_laws.proofs.Facts.{Grew-runs, none_some, same_first, same_rest, sound_step, step_guarded}
 use Rattle.entity_model.specs.Sound.{IsSoundEntity}
-use Rattle.cse_machine.specs.declared.event.Event.{Event}
-use Rattle.cse_machine.specs.declared.event.Event.TheVariants.{Ask}
-use Rattle.cse_machine.specs.declared.event.Outcome.{Outcome}
-use Rattle.cse_machine.specs.declared.event.Outcome.TheVariants.{Done}
 use Rattle.machine_laws.specs.Guard.{IsGuarded}
-use Rattle.cse_machine.specs.History.{History, HistoryLeaves}
-use Rattle.cse_machine.specs.Step.{Step}
-use Rattle.machine_laws.proofs.HistoryLemmas.{none_some, same_first, same_rest, sound_step, step_guarded}
 use Rattle.service_laws.specs.Laws.{ServesGuarded}
 
 no_request : (o : Outcome) (before : List Outcome) → length {A = RequestParts} [] ≡ length (o ∷ before) → ⊥

@@ -1,11 +1,7 @@
 -- Proofs of the laws.
-use Rattle.std.proofs.Common.{◌≡◌, ℕ, ◌+◌, true, false, List, [], ◌∷◌, ◌++◌, inl, inr, refl, ap}
-use Rattle.std.proofs.lemmas.Bool.{cases_Bool, false≢true}
-use Rattle.http_frames.specs.declared.frame.Frame.{Frame}
-use Rattle.http_binding.specs.Replying.{reply_text}
-use Rattle.primitive_json.specs.declared.reply.ReplyParts.{ReplyParts}
-use Rattle.cse_server.specs.Closing.{closes}
-use Rattle.cse_server.specs.Talk.{request_in, reply_for, replies_behind, reply_texts, some_closes}
+use Rattle.service_laws.proofs.Words.{◌≡◌, ℕ, ◌+◌, true, false, List, [], ◌∷◌, ◌++◌, inl, inr, refl, ap}
+use Rattle.service_laws.proofs.Terms.{Frame, reply_text, ReplyParts, closes, request_in, reply_for, replies_behind, reply_texts, some_closes}
+use Rattle.service_laws.proofs.Facts.{cases_Bool, false≢true}
 
 pub nothing_behind : (frames more : List Frame) (place : ℕ) (replies : List ReplyParts)
     → some_closes frames place ≡ true → reply_texts (frames ++ more) place replies ≡ reply_texts frames place replies

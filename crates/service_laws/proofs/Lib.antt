@@ -1,3 +1,6 @@
+pub mod Words
+pub mod Terms
+pub mod Facts
 pub mod LawLemmas
 pub mod GuardedLemmas
 pub mod CarriedLemmas

@@ -1,35 +1,13 @@
 -- A stream is answered in one way.
-use Rattle.std.proofs.Common.{◌≡◌, ◌≢◌, ℕ, ◌+◌, Bool, true, false, List, [], ◌∷◌, ◌++◌, map, Option, Some, IsTrue, inl, inr, refl, sym, ap, subst, ◌∙◌, arith}
-use Rattle.std.specs.List.{All, list_any}
-use Rattle.std.proofs.lemmas.Bool.{cases_Bool, true≢false, false≢true}
-use Rattle.std.proofs.lemmas.List.{append_cancel_left}
-use Rattle.std.proofs.lemmas.List.Elements.{All-map}
-use Rattle.primitive_json.specs.declared.reply.ReplyParts.{ReplyParts}
-use Rattle.cse_server.specs.Outside.{sink_told}
-use Rattle.turn_desk.specs.Entries.{readings_of, events_of, outcomes_of}
+use Rattle.service_laws.proofs.Words.{◌≡◌, ◌≢◌, ℕ, ◌+◌, Bool, true, false, List, [], ◌∷◌, ◌++◌, map, Option, Some, IsTrue, inl, inr, refl, sym, ap, subst, ◌∙◌, arith, All, list_any}
+use Rattle.service_laws.proofs.Terms.{ReplyParts, sink_told, readings_of, events_of, outcomes_of, Frame, Request, BeginsWithFrames, BeginsWithFrame, HasNoFrame, EntityData, Event, Ask, Outcome, History, IsDone, Step, Ended, Closed, NoFrame, ReadFault, WriteFault, Memory, closes, requests_in, talk, some_closes, ends_at_close, RefusesRightly, EndsRightly, Says, AsksFrames, GivesReplies}
+use Rattle.service_laws.proofs.Facts.{cases_Bool, true≢false, false≢true, append_cancel_left, All-map, Grew-runs, one_way}
 use Rattle.turn_desk.specs.Growth.{IsOwnRun}
-use Rattle.turn_desk.proofs.GrowthLemmas.{Grew-runs}
-use Rattle.http_frames.specs.declared.frame.Frame.{Frame}
-use Rattle.http_frames.specs.declared.frame.Side.TheVariants.{Request}
-use Rattle.http_frames.specs.Stream.{BeginsWithFrames, BeginsWithFrame, HasNoFrame}
 use Rattle.http_frames.proofs.FrameLemmas.{BeginsWith_unique}
 use Rattle.http_frames.proofs.InboxLemmas.{none_within}
 use Rattle.http_frames.proofs.LookLemmas.{some_bytes}
-use Rattle.entity_model.specs.Entity.{EntityData}
-use Rattle.cse_machine.specs.declared.event.Event.{Event}
-use Rattle.cse_machine.specs.declared.event.Event.TheVariants.{Ask}
-use Rattle.cse_machine.specs.declared.event.Outcome.{Outcome}
-use Rattle.cse_machine.specs.History.{History, IsDone}
 use Rattle.machine_laws.specs.Sight.{IsBy, goes_away}
-use Rattle.cse_machine.specs.Step.{Step}
 use Rattle.machine_laws.proofs.AlikeLemmas.{stay_alike}
-use Rattle.machine_laws.proofs.HistoryLemmas.{one_way}
-use Rattle.cse_server.specs.declared.connection.Ended.{Ended}
-use Rattle.cse_server.specs.declared.connection.Ended.TheVariants.{Closed, NoFrame, ReadFault, WriteFault, Memory}
-use Rattle.cse_server.specs.Closing.{closes}
-use Rattle.cse_server.specs.Talk.{requests_in, talk, some_closes, ends_at_close}
-use Rattle.cse_server.specs.Connection.{RefusesRightly, EndsRightly, Says, AsksFrames}
-use Rattle.cse_server.specs.Replies.{GivesReplies}
 use Rattle.service_laws.specs.Laws.{IsFaultless, ServesBoth, AreServedAlike, IsAnsweredInOneWay, EqualSightsAreServedAlike}
 use Rattle.service_laws.proofs.CarriedLemmas.{replies_alike}
 

@@ -1,17 +1,13 @@
 -- What goes on to another CSE says all that was asked.
-use Rattle.std.proofs.Common.{◌≡◌, ℕ, ◌<◌, ◌≤◌, ◌==◌, ◌&&◌, Bool, true, false, cond, nat_eq, nat_lt, List, [], ◌∷◌, ◌++◌, length, drop, codes, Option, Some, None, IfSome, IsTrue, Result, Ok, Err, is_some, inl, inr, refl, sym, ap, subst, ◌∙◌, arith}
+use Rattle.service_laws.proofs.Words.{◌≡◌, ℕ, ◌<◌, ◌≤◌, ◌==◌, ◌&&◌, Bool, true, false, cond, nat_eq, nat_lt, List, [], ◌∷◌, ◌++◌, length, drop, codes, Option, Some, None, IfSome, IsTrue, Result, Ok, Err, is_some, inl, inr, refl, sym, ap, subst, ◌∙◌, arith, AllByRecursion, after_first, before_first, list_all, position_or_len, starts_with, option_and_then, option_map_or, result_unwrap_or}
+use Rattle.service_laws.proofs.Terms.{ReplyParts, RequestParts, target_text, has_own_path, path_of_address, Peer, Carried, handed_on, EntityData, swept, Outcome, Done, Forward, Item, Ticked, Starved}
+use Rattle.service_laws.proofs.Facts.{and_from, cases_Bool, false≢true, le-leb, lt-ltb, ltb-false, take_all, same_Some, one_reply, told_is_carried}
 use Rattle.std.specs.Char.{is_ascii_graphic}
-use Rattle.std.specs.List.{AllByRecursion, after_first, before_first, list_all, position_or_len, starts_with}
-use Rattle.std.specs.Option.{option_and_then, option_map_or}
-use Rattle.std.specs.Result.{result_unwrap_or}
 use Rattle.std.specs.Str.{bytes_eq}
-use Rattle.std.proofs.lemmas.Bool.{and_from, cases_Bool, false≢true, le-leb, lt-ltb, ltb-false}
 use Rattle.std.proofs.lemmas.Bool.Decides.{nat_tests}
-use Rattle.std.proofs.lemmas.List.{take_all}
-use Rattle.std.proofs.lemmas.Option.{same_Some}
 use Rattle.m2m_names.specs.Name.{is_name, is_originator, is_unreserved, originator_limit}
-use Rattle.m2m_names.specs.declared.codes.Rsc.TheVariants.{BadRequest, NonBlocking, RequestTimeout}
 use Rattle.m2m_names.specs.UrlReading.{host_end_at}
+use Rattle.m2m_names.proofs.ListLemmas.{all_weaker}
 use Rattle.m2m_names.proofs.LookupLemmas.{find_passes}
 use Rattle.m2m_names.proofs.NameLemmas.{free_name_parts, name_parts, printable_parts, starts_rest}
 use Rattle.m2m_names.proofs.UrlLemmas.{url_found}
@@ -21,8 +17,6 @@ use Rattle.filter_criteria.specs.Conditions.{OfEachCondition}
 use Rattle.filter_criteria.specs.declared.filter.FilterParts.{FilterParts}
 use Rattle.primitive_json.specs.Form.{has_form}
 use Rattle.primitive_json.specs.Notes.{IsSomeUrl}
-use Rattle.primitive_json.specs.declared.reply.ReplyParts.{ReplyParts}
-use Rattle.primitive_json.specs.declared.request.RequestParts.{RequestParts}
 use Rattle.resource_model.specs.Attributes.{value_of}
 use Rattle.resource_model.specs.Home.{HomeData, IsHome}
 use Rattle.resource_model.specs.Resource.{ResourceData}
@@ -39,29 +33,21 @@ use Rattle.addressing.proofs.PartLemmas.{joined-between_slashes, names_parts, pa
 use Rattle.subscription_match.specs.Destinations.{cse_named, first_url, is_url}
 use Rattle.http_uri.specs.ByteClasses.{split_once_back}
 use Rattle.http_target.specs.Targets.{has_provider, has_segment}
-use Rattle.http_client_binding.specs.Asking.{target_text}
 use Rattle.http_client_binding.specs.Laws.{IsSendable}
 use Rattle.http_client_binding.specs.QueryWriting.{query_pairs, query_part, query_text}
-use Rattle.http_client_binding.specs.TargetWriting.{has_own_path, path_of_address}
-use Rattle.http_client_binding.specs.declared.target.Aim.TheVariants.{Peer}
 use Rattle.http_frames.specs.Text.{IsTarget}
-use Rattle.retarget.specs.Answers.{Carried, handed_on}
-use Rattle.retarget.proofs.AnswerLemmas.{one_reply, told_is_carried}
 use Rattle.retarget.specs.Routes.{comes_from_cse, forwarded, routed_to}
 use Rattle.retarget.specs.declared.routing.Route.{Route}
 use Rattle.retarget.specs.declared.routing.Route.TheVariants as to
-use Rattle.entity_model.specs.Entity.{EntityData, swept}
 use Rattle.entity_model.specs.Places.{refusal}
 use Rattle.entity_model.proofs.TellingLemmas.{sound_swept}
 use Rattle.group_fanout.specs.Rights.{claimed_originator}
-use Rattle.cse_machine.specs.Answer.{EventEffect, address_effect, effect_of, has_address, has_originator, is_blocking, is_in_time, is_served, onward_effect, point_of, route_effect}
-use Rattle.cse_machine.specs.declared.event.Outcome.{Outcome}
-use Rattle.cse_machine.specs.declared.event.Outcome.TheVariants.{Done, Forward, Item, Ticked, Starved}
+use Rattle.cse_machine.specs.Answer.{EventEffect, address_effect, effect_of, has_originator, onward_effect, point_of, route_effect}
 use Rattle.cse_machine.proofs.PlaceLemmas.{claimed_valid}
-use Rattle.machine_laws.proofs.WayLemmas.{heard}
+use Rattle.machine_laws.proofs.JudgedLemmas.{heard_effect, is_heard, judged, refused_effect, turned_down}
 use Rattle.binding_laws.specs.ReadBack.{IsOneWord, IsTellable, SaysAll, is_no_space}
 use Rattle.binding_laws.proofs.PlainLemmas.{is_part_byte, parts_address, parts_target, parts_utf8}
-use Rattle.binding_laws.proofs.TargetLemmas.{all_append, all_weaker, target_with}
+use Rattle.binding_laws.proofs.TargetLemmas.{all_append, target_with}
 use Rattle.service_laws.specs.Onward.{CanBeSaid, GoesOnSaid, IsAsRead, IsSayable, IsText, WhatGoesOnIsAnsweredThere, WhatGoesOnSaysAll}
 use Rattle.service_laws.proofs.PeerLemmas.{answered_there}
 
@@ -290,24 +276,9 @@ module _ (e : EntityData) (request : RequestParts) (url : List ℕ) (sent : Requ
   by_address (Err fault) form by is goes = absurd (no_reply _ url sent goes)
 
   went_on : Goes (effect_of e request).outcome → WentOn e request url sent
-  went_on is = elim (cases_Bool (is_served request)) [
-    | inr f ↦ absurd (no_reply (refusal request BadRequest) url sent (rw f at is))
-    | inl s ↦ elim (cases_Bool (has_form request)) [
-      | inr f ↦ absurd (no_reply (refusal request BadRequest) url sent (rw (s, f) at is))
-      | inl k ↦ elim (cases_Bool (has_originator e.home request)) [
-        | inr f ↦ absurd (no_reply (refusal request BadRequest) url sent (rw (s, k, f) at is))
-        | inl o ↦ elim (cases_Bool (has_address e.home request)) [
-          | inr f ↦ absurd (no_reply (refusal request BadRequest) url sent (rw (s, k, o, f) at is))
-          | inl a ↦ elim (cases_Bool (is_in_time e request)) [
-            | inr f ↦ absurd (no_reply (refusal request RequestTimeout) url sent (rw (s, k, o, a, f) at is))
-            | inl t ↦ elim (cases_Bool (is_blocking request)) [
-              | inr f ↦ absurd (no_reply (refusal request NonBlocking) url sent (rw (s, k, o, a, t, f) at is))
-              | inl b ↦ by_address (address_of e.home request.to) k o refl (is ∙ ap (λ (x : EventEffect). x.outcome) (heard e request s k o a t b))
-            ]
-          ]
-        ]
-      ]
-    ]
+  went_on is = elim (judged e request) [
+    | turned_down fault other at ↦ absurd (no_reply (refusal request fault) url sent (is ∙ ap (λ (x : EventEffect). x.outcome) (refused_effect e request fault at)))
+    | is_heard none facts ↦ by_address (address_of e.home request.to) facts.form facts.originator refl (is ∙ ap (λ (x : EventEffect). x.outcome) (heard_effect e request none))
   ]
 
 -- ---- its originator

@@ -1,50 +1,21 @@
 -- The answer of another CSE to one request.
-use Rattle.std.proofs.Common.{◌≡◌, ◌≢◌, ℕ, true, false, List, [], ◌∷◌, ◌++◌, length, map, if◌then◌else◌, Option, Some, None, Result, Ok, Err, IfSome, IsTrue, ◌⊎◌, inl, inr, refl, sym, ap, subst, ◌∙◌, append-nil, arith}
-use Rattle.std.specs.List.{cons_option, list_any}
+use Rattle.service_laws.proofs.Words.{◌≡◌, ◌≢◌, ℕ, true, false, List, [], ◌∷◌, ◌++◌, length, map, if◌then◌else◌, Option, Some, None, Result, Ok, Err, IfSome, IsTrue, ◌⊎◌, inl, inr, refl, sym, ap, subst, ◌∙◌, append-nil, arith, cons_option, list_any, result_ok}
+use Rattle.service_laws.proofs.Terms.{Carrying, ReplyParts, RequestParts, Runs, readings_of, events_of, outcomes_of, Frame, Request, BeginsWithFrame, BeginsWithFrames, HasNoFrame, reply_text, close_lines, content_lines, id_lines, request_frame, request_text, caller_lines, expiry_lines, host_field, origin_lines, host_of, Peer, Carried, handed_on, EntityData, History, Event, Ask, Outcome, Step, Ended, Closed, NoFrame, asks_by, asks_to_close, closes, Says, SinkTold, sink_told, GivesReply, GivesReplies, malformed, reply_for, request_in, requests_in, talk}
+use Rattle.service_laws.proofs.Facts.{cases_Bool, cond-true, cond-false, false≢true, true≢false, Grew-runs, one_reply, told_is_carried, none_some, same_first}
 use Rattle.std.specs.Fmt.{decimal}
-use Rattle.std.specs.Result.{result_ok}
-use Rattle.std.proofs.lemmas.Bool.{cases_Bool, cond-true, cond-false, false≢true, true≢false}
 use Rattle.m2m_value.specs.Data.{Data}
 use Rattle.m2m_names.specs.declared.operations.Op.{Op}
 use Rattle.m2m_names.specs.declared.operations.Op.TheVariants.{Create, Retrieve, Update, Notify, Delete as Removal}
-use Rattle.m2m_io.specs.Link.{Carrying}
 use Rattle.m2m_io.specs.Told.{Tells}
 use Rattle.primitive_json.specs.Bounds.{is_request_id}
-use Rattle.primitive_json.specs.declared.reply.ReplyParts.{ReplyParts}
-use Rattle.primitive_json.specs.declared.request.RequestParts.{RequestParts}
 use Rattle.primitive_json.specs.declared.request.When.{When}
-use Rattle.turn_desk.specs.Entries.{Runs, readings_of, events_of, outcomes_of}
-use Rattle.turn_desk.proofs.GrowthLemmas.{Grew-runs}
-use Rattle.http_frames.specs.declared.frame.Frame.{Frame}
 use Rattle.http_frames.specs.declared.frame.Start.{Start}
-use Rattle.http_frames.specs.declared.frame.Side.TheVariants.{Request}
 use Rattle.http_frames.specs.Lines.{Line, is_same_name}
-use Rattle.http_frames.specs.Stream.{BeginsWithFrame, BeginsWithFrames, HasNoFrame}
 use Rattle.http_target.specs.declared.fault.BindFault.{BindFault}
 use Rattle.http_binding.specs.Binding.{binding, echo_of, created_type}
 use Rattle.http_binding.specs.Headers.{length_field}
 use Rattle.http_binding.proofs.BackLemmas.{reply_sound}
-use Rattle.http_binding.specs.Replying.{reply_text, close_lines, content_lines, id_lines}
-use Rattle.http_client_binding.specs.Asking.{request_frame, request_text, caller_lines, expiry_lines, host_field, origin_lines}
-use Rattle.http_client_binding.specs.TargetWriting.{host_of}
-use Rattle.http_client_binding.specs.declared.target.Aim.TheVariants.{Peer}
 use Rattle.http_client_binding.proofs.AskLemmas.{request_back}
-use Rattle.retarget.specs.Answers.{Carried, handed_on}
-use Rattle.retarget.proofs.AnswerLemmas.{one_reply, told_is_carried}
-use Rattle.entity_model.specs.Entity.{EntityData}
-use Rattle.cse_machine.specs.History.{History}
-use Rattle.cse_machine.specs.declared.event.Event.{Event}
-use Rattle.cse_machine.specs.declared.event.Event.TheVariants.{Ask}
-use Rattle.cse_machine.specs.declared.event.Outcome.{Outcome}
-use Rattle.cse_machine.specs.Step.{Step}
-use Rattle.cse_server.specs.declared.connection.Ended.{Ended}
-use Rattle.cse_server.specs.declared.connection.Ended.TheVariants.{Closed, NoFrame}
-use Rattle.cse_server.specs.Closing.{asks_by, asks_to_close, closes}
-use Rattle.cse_server.specs.Connection.{Says}
-use Rattle.cse_server.specs.Outside.{SinkTold, sink_told}
-use Rattle.cse_server.specs.Replies.{GivesReply, GivesReplies}
-use Rattle.cse_server.specs.Talk.{malformed, reply_for, request_in, requests_in, talk}
-use Rattle.machine_laws.proofs.HistoryLemmas.{none_some, same_first}
 use Rattle.binding_laws.proofs.BoundLemmas.{bound_back}
 use Rattle.peer_link.specs.PeerTalk.{PeerTalks}
 use Rattle.service_laws.specs.Laws.{IsFaultless}

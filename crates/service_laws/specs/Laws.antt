@@ -128,8 +128,8 @@ IsAnsweredInOneWay =
 
 -- Equal sights are served alike: so are two connections that are served by sound entities of which
 -- an originator sees the same, where each request that was heard is one that is covered and is by
--- that originator, or isn't served, whoever asks; and it sees the same of what they leave. Where one
--- of them goes to another CSE, the attributes of those that are registered stand in order.
+-- that originator, or isn't served, whoever asks; and it sees the same of what they leave. Where
+-- one of them goes to another CSE, the attributes of those that are registered stand in order.
 abbrev pub EqualSightsAreServedAlike : Type 0
 EqualSightsAreServedAlike =
     (left right after other : EntityData) (originator : List ℕ)

@@ -1,14 +1,7 @@
 -- Rows after changes, and those of some attributes among them.
-use Rattle.std.proofs.Common.{◌≡◌, List, [], ◌∷◌, ◌++◌, map, filter, Bool, true, false, cond, not, ◌&&◌, ◌||◌, Option, Some, None, inl, inr, refl, sym, ap, ap₂, subst, ◌∙◌}
-use Rattle.std.specs.List.{list_any}
-use Rattle.std.specs.Ordering.{is_lt}
-use Rattle.std.proofs.lemmas.Bool.{both_ways, cases_Bool, false_from_ne_true}
-use Rattle.std.proofs.lemmas.List.Elements.{filter-append}
-use Rattle.m2m_names.specs.declared.attributes.Attr.{Attr}
-use Rattle.m2m_value.specs.Data.{Data}
-use Rattle.resource_model.specs.Attributes.{Row, attr_cmp, is_attr, rows_after, rows_before, value_of}
-use Rattle.resource_model.proofs.AttributeLemmas.{attr_itself, is_attr-itself, is_attr-same, value-with_value_other, value-with_value_same, value-without_value_other, value-without_value_same}
-use Rattle.policy_laws.specs.Changes.{NewValue, with_change, with_changes}
+use Rattle.sight_laws.proofs.Words.{◌≡◌, List, [], ◌∷◌, ◌++◌, map, filter, Bool, true, false, cond, not, ◌&&◌, ◌||◌, Option, Some, None, inl, inr, refl, sym, ap, ap₂, subst, ◌∙◌, list_any, is_lt}
+use Rattle.sight_laws.proofs.Terms.{Attr, Data, Row, attr_cmp, is_attr, rows_after, rows_before, value_of, NewValue, with_change, with_changes}
+use Rattle.sight_laws.proofs.Facts.{both_ways, cases_Bool, cond_both, false_from_ne_true, filter-append, filter_same, attr_itself, is_attr-itself, is_attr-same, value-with_value_other, value-with_value_same, value-without_value_other, value-without_value_same}
 
 -- one of the changes is of the attribute
 abbrev pub is_touched : List NewValue → Attr → Bool
@@ -34,15 +27,8 @@ fused p q (x ∷ xs) = elim (cases_Bool (q x)) [
   ]
 ]
 
-alike : {X : Type 0} (p q : X → Bool) → ((x : X) → p x ≡ q x) → (xs : List X) → filter p xs ≡ filter q xs
-alike p q same [] = refl
-alike p q same (x ∷ xs) = elim (cases_Bool (q x)) [
-  | inl t ↦ rw (same x ∙ t, t) (ap (λ ys. x ∷ ys) (alike p q same xs))
-  | inr f ↦ rw (same x ∙ f, f) (alike p q same xs)
-]
-
 swapped : {X : Type 0} (p q : X → Bool) (xs : List X) → filter p (filter q xs) ≡ filter q (filter p xs)
-swapped p q xs = fused p q xs ∙ alike (λ x. q x && p x) (λ x. p x && q x) (λ x. turned (q x) (p x)) xs ∙ sym (fused q p xs)
+swapped p q xs = fused p q xs ∙ filter_same (λ x. q x && p x) (λ x. p x && q x) (λ x. turned (q x) (p x)) xs ∙ sym (fused q p xs)
   where
     turned : (a b : Bool) → (a && b) ≡ (b && a)
     turned true true = refl
@@ -52,7 +38,7 @@ swapped p q xs = fused p q xs ∙ alike (λ x. q x && p x) (λ x. p x && q x) (�
 
 -- of those that pass a test, those that pass another one
 within : {X : Type 0} (p q r : X → Bool) → ((x : X) → p x ≡ true → q x ≡ r x) → (xs : List X) → filter p (filter q xs) ≡ filter p (filter r xs)
-within {X = X} p q r same xs = fused p q xs ∙ alike (λ x. q x && p x) (λ x. r x && p x) (λ x. by x (p x) refl) xs ∙ sym (fused p r xs)
+within {X = X} p q r same xs = fused p q xs ∙ filter_same (λ x. q x && p x) (λ x. r x && p x) (λ x. by x (p x) refl) xs ∙ sym (fused p r xs)
   where
     none : (a b : Bool) → (a && false) ≡ (b && false)
     none true true = refl
@@ -83,10 +69,7 @@ told_change p a x rows = by x
     cleared = filter-append (λ (row : Row). p row.0) (rows_before a rows) (rows_after a rows) ∙ ap₂ (λ xs ys. xs ++ ys) fronts backs
 
     by : (x : Option Data) → rows_of p (with_change a x rows) ≡ with_change a (cond (p a) x None) (rows_of p rows)
-    by None = elim (cases_Bool (p a)) [
-      | inl t ↦ rw t cleared
-      | inr f ↦ rw f cleared
-    ]
+    by None = cond_both (p a) None None (λ (x : Option Data). rows_of p (with_change a None rows) ≡ with_change a x (rows_of p rows)) (λ t. cleared) (λ f. cleared)
     by (Some d) =
         filter-append (λ (row : Row). p row.0) (rows_before a rows) ((a, d) ∷ rows_after a rows)
         ∙ elim (cases_Bool (p a)) [

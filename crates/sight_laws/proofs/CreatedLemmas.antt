@@ -1,39 +1,8 @@
 -- Two sound entities of which an originator sees the same are seen alike after its Create.
-use Rattle.std.specs.Prelude.{◌+◌, unwrap_or}
-use Rattle.std.proofs.Common.{◌≡◌, ℕ, List, [], ◌∷◌, ◌++◌, true, Option, Some, None, inl, inr, refl, sym, ap, ap₂, subst, ◌∙◌}
-use Rattle.std.specs.Option.{option_map_or}
-use Rattle.std.proofs.lemmas.Bool.{and_parts, cases_Bool, or_left}
-use Rattle.m2m_names.specs.Name.{is_originator}
-use Rattle.m2m_names.specs.declared.codes.Rsc.{Rsc}
-use Rattle.m2m_names.specs.declared.codes.Rsc.TheVariants.{BadChild, NotFound}
-use Rattle.m2m_names.specs.declared.operations.Op.TheVariants.{Create}
-use Rattle.m2m_names.specs.declared.types.Ty.{Ty}
-use Rattle.m2m_names.specs.declared.types.Ty.TheVariants.{Container, ContentInstance}
-use Rattle.m2m_value.specs.Data.{Entry}
-use Rattle.primitive_json.specs.declared.request.RequestParts.{RequestParts}
-use Rattle.resource_model.specs.Home.{HomeData}
-use Rattle.resource_model.specs.Resource.{ResourceData, is_ty}
-use Rattle.tree_model.specs.Changes.{ChangeData, creation_changes}
-use Rattle.tree_model.specs.Tree.{at, fits_in, is_well_formed}
-use Rattle.tree_model.proofs.GrowthLemmas.{grown}
-use Rattle.policy_laws.specs.Changes.{learns_limits}
-use Rattle.policy_laws.specs.Seen.{fills, seen, seen_list}
-use Rattle.subscription_match.specs.Notices.{notes_of_all}
-use Rattle.subscription_match.specs.Spending.{nodes_spent}
-use Rattle.subscription_match.specs.declared.drafts.DraftParts.{DraftParts}
-use Rattle.entity_model.specs.Entity.{EntityData, telling}
-use Rattle.entity_model.specs.Places.{Effect, refused}
-use Rattle.entity_model.specs.Sound.{IsSoundEntity}
-use Rattle.request_rules.specs.Asked.{Creation, creation_of}
-use Rattle.request_rules.specs.Creation.{new_resource, new_size, next_state}
-use Rattle.request_rules.specs.Order.{creation_by as created_by, fault_on}
-use Rattle.request_rules.specs.Requests.{child_ty, content_for, named_for}
-use Rattle.create_delete.specs.Changes.{changes_by}
-use Rattle.create_delete.specs.Changing.{pushed_out, after_joining, container_update_of, create_effect, effect_at, effect_by, nodes_joined}
+use Rattle.sight_laws.proofs.Words.{◌+◌, unwrap_or, ◌≡◌, ℕ, List, [], ◌∷◌, ◌++◌, true, Option, Some, None, inl, inr, refl, sym, ap, ap₂, subst, ◌∙◌, option_map_or}
+use Rattle.sight_laws.proofs.Terms.{is_originator, Rsc, BadChild, NotFound, Create, Ty, Container, ContentInstance, Entry, RequestParts, HomeData, ResourceData, is_ty, ChangeData, creation_changes, at, fits_in, is_well_formed, learns_limits, fills, seen, seen_list, notes_of_all, nodes_spent, DraftParts, EntityData, telling, Effect, refused, IsSoundEntity, Creation, creation_of, new_resource, new_size, next_state, created_by, fault_on, child_ty, content_for, named_for, changes_by, pushed_out, after_joining, container_update_of, create_effect, effect_at, effect_by, nodes_joined, IsNewResource, gone_numbers, told_effect_by, told_effect_on}
+use Rattle.sight_laws.proofs.Facts.{and_parts, cases_Bool, or_left, grown, join_gone, join_makes_changes}
 use Rattle.create_delete.specs.Joining.{IsAllowed, MayJoin, gone_by}
-use Rattle.create_delete.specs.NewResource.{IsNewResource}
-use Rattle.create_delete.specs.Telling.{gone_numbers, told_effect_by, told_effect_on}
-use Rattle.create_delete.proofs.ChangesLemmas.{join_gone, join_makes_changes}
 use Rattle.create_delete.proofs.CreatableLemmas.{allowed, names_attributes, names_type}
 use Rattle.create_delete.proofs.CreatedLemmas.{may_join, newcomer}
 use Rattle.create_delete.proofs.EffectLemmas.{done_at}

@@ -1,29 +1,7 @@
 -- The attributes of registered CSEs stay in order through a Create.
-use Rattle.std.proofs.Common.{◌≡◌, ℕ, List, true, Option, Some, None, inl, inr, refl, sym, subst}
-use Rattle.std.specs.Option.{option_map_or}
-use Rattle.std.proofs.lemmas.Bool.{cases_Bool}
-use Rattle.m2m_names.specs.Name.{is_originator}
-use Rattle.m2m_names.specs.declared.codes.Rsc.{Rsc}
-use Rattle.m2m_names.specs.declared.operations.Op.TheVariants.{Create}
-use Rattle.m2m_names.specs.declared.types.Ty.{Ty}
-use Rattle.m2m_names.specs.declared.types.Ty.TheVariants.{ContentInstance, RemoteCse}
-use Rattle.primitive_json.specs.declared.request.RequestParts.{RequestParts}
-use Rattle.resource_model.specs.Attributes.{AreInOrder}
-use Rattle.resource_model.specs.Resource.{ResourceData, is_ty}
-use Rattle.tree_model.specs.Tree.{at}
-use Rattle.tree_model.proofs.GrowthLemmas.{tree_from_well_formed}
-use Rattle.subscription_match.specs.Notices.{notes_of_all}
-use Rattle.subscription_match.specs.declared.drafts.DraftParts.{DraftParts}
-use Rattle.entity_model.specs.Entity.{EntityData, telling}
-use Rattle.entity_model.specs.Places.{Effect, refused}
-use Rattle.entity_model.specs.Sound.{IsSoundEntity}
-use Rattle.request_rules.specs.Asked.{Creation, creation_of}
-use Rattle.request_rules.specs.Creation.{new_resource, new_size, next_state}
-use Rattle.request_rules.specs.Order.{fault_on}
-use Rattle.request_rules.specs.Requests.{child_ty, named_for}
-use Rattle.create_delete.specs.Changes.{changes_by}
-use Rattle.create_delete.specs.Changing.{after_joining, container_update_of, pushed_out}
-use Rattle.create_delete.specs.Telling.{gone_numbers, told_effect_by, told_effect_on}
+use Rattle.sight_laws.proofs.Words.{◌≡◌, ℕ, List, true, Option, Some, None, inl, inr, refl, sym, subst, option_map_or}
+use Rattle.sight_laws.proofs.Terms.{is_originator, Rsc, Create, Ty, ContentInstance, RemoteCse, RequestParts, AreInOrder, ResourceData, is_ty, at, notes_of_all, DraftParts, EntityData, telling, Effect, refused, IsSoundEntity, Creation, creation_of, new_resource, new_size, next_state, fault_on, child_ty, named_for, changes_by, after_joining, container_update_of, pushed_out, gone_numbers, told_effect_by, told_effect_on}
+use Rattle.sight_laws.proofs.Facts.{cases_Bool, tree_from_well_formed}
 use Rattle.sight_laws.specs.Sight.{AreCsesInOrder}
 use Rattle.sight_laws.proofs.CreatedLemmas.{IsCreation, creates_some, creation_by, effect_is, grown_well, left_sound}
 use Rattle.sight_laws.proofs.CseOrderLemmas.{new_order, order_appended, order_filled, order_spent}

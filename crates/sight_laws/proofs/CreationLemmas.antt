@@ -1,39 +1,8 @@
 -- What a Create makes is the same on what its originator sees.
-use Rattle.std.specs.Prelude.{ℤ}
-use Rattle.std.proofs.Common.{◌≡◌, ℕ, pos, ◌<◌, List, [], ◌∷◌, ◌++◌, map, true, false, cond, not, Option, Some, None, option_map, inl, inr, refl, sym, ap, ap₂, ◌∙◌, arith}
-use Rattle.std.specs.List.{list_all}
-use Rattle.std.specs.Option.{option_map_or}
-use Rattle.std.proofs.lemmas.Bool.{cases_Bool, eq-eqb, ne_eqb}
-use Rattle.std.proofs.lemmas.List.{map-append}
-use Rattle.m2m_names.specs.declared.attributes.Attr.TheVariants.{Acpi, Cs, Macp, St}
-use Rattle.m2m_names.specs.declared.codes.Rsc.{Rsc}
-use Rattle.m2m_names.specs.declared.codes.Rsc.TheVariants.{BadChild, Created}
-use Rattle.m2m_names.specs.declared.operations.Op.TheVariants.{Create}
-use Rattle.m2m_names.specs.declared.types.Ty.{Ty}
-use Rattle.m2m_names.specs.declared.types.Ty.TheVariants.{ContentInstance, CseBase, Group}
-use Rattle.m2m_value.specs.Data.{Entry, number, text}
-use Rattle.primitive_json.specs.declared.request.RequestParts.{RequestParts}
-use Rattle.resource_model.specs.Attributes.{Row}
-use Rattle.resource_model.specs.Resource.{ResourceData, has_number, id_of, is_ty}
-use Rattle.tree_model.specs.Shown.{parent_id, shown_rows}
-use Rattle.tree_model.specs.Tree.{are_below, at, instances_of, is_instance, is_tree}
-use Rattle.tree_model.proofs.GrowthLemmas.{below_parts, tree_from_well_formed}
-use Rattle.addressing.specs.Names.{structured_of}
-use Rattle.container_limits.specs.Limits.{evicted, limits_of}
-use Rattle.policy_laws.specs.Seen.{fills, seen, seen_list}
-use Rattle.policy_laws.proofs.SeenLemmas.{at-seen, seen_shows}
+use Rattle.sight_laws.proofs.Words.{ℤ, ◌≡◌, ℕ, pos, ◌<◌, List, [], ◌∷◌, ◌++◌, map, true, false, cond, not, Option, Some, None, option_map, inl, inr, refl, sym, ap, ap₂, ◌∙◌, arith, list_all, option_map_or}
+use Rattle.sight_laws.proofs.Terms.{Acpi, Cs, Macp, St, Rsc, BadChild, Created, Create, Ty, ContentInstance, CseBase, Group, Entry, number, text, RequestParts, Row, ResourceData, has_number, id_of, is_ty, parent_id, shown_rows, are_below, at, instances_of, is_instance, is_tree, structured_of, evicted, limits_of, fills, seen, seen_list, EntityData, refused, reply_to, wanted_content, IsSoundEntity, creation_of, given_rows, new_resource, new_rows, new_size, next_state, membership_new, creation_by, fault_on, child_ty, named_for, address_last, container_update_of, create_effect, created_content, pushed_out, told_effect_by, told_effect_on}
+use Rattle.sight_laws.proofs.Facts.{cases_Bool, cond_both, eq-eqb, ne_eqb, map-append, below_parts, tree_from_well_formed, filter_image, at-seen, seen_shows, places_parts}
 use Rattle.retrieve_laws.proofs.SightLemmas.{structured_of-map}
-use Rattle.entity_model.specs.Entity.{EntityData}
-use Rattle.entity_model.specs.Places.{refused, reply_to, wanted_content}
-use Rattle.entity_model.specs.Sound.{IsSoundEntity}
-use Rattle.request_rules.specs.Asked.{creation_of}
-use Rattle.request_rules.specs.Creation.{given_rows, new_resource, new_rows, new_size, next_state}
-use Rattle.request_rules.specs.Groups.{membership_new}
-use Rattle.request_rules.specs.Order.{creation_by, fault_on}
-use Rattle.request_rules.specs.Requests.{child_ty, named_for}
-use Rattle.request_rules.proofs.OrderLemmas.{places_parts}
-use Rattle.create_delete.specs.Changing.{address_last, container_update_of, create_effect, created_content, pushed_out}
-use Rattle.create_delete.specs.Telling.{told_effect_by, told_effect_on}
 use Rattle.create_delete.proofs.GrownLemmas.{IsOlder, all_turned, nothing_picked}
 use Rattle.sight_laws.specs.Sight.{sight}
 use Rattle.sight_laws.proofs.EvictionLemmas.{evicted-seen}
@@ -108,15 +77,8 @@ module _ (e : EntityData) (o : List ℕ) (sound : IsSoundEntity e) (r : Resource
   bare : instances_of r.number e.nodes ≡ []
   bare = none_under e.nodes r (tree_from_well_formed e.nodes sound.tree) below
 
-  instances_of_seen : (n : ℕ) (rs : List ResourceData) → instances_of n rs ≡ [] → instances_of n (map view rs) ≡ []
-  instances_of_seen n [] none = refl
-  instances_of_seen n (s ∷ rs) none = elim (cases_Bool (is_instance n s)) [
-    | inl t ↦ (let some : s ∷ instances_of n rs ≡ [] = rw t at none in cc)
-    | inr f ↦ (let rest : instances_of n rs ≡ [] = rw f at none in rw f (instances_of_seen n rs rest))
-  ]
-
   bare_seen : instances_of r.number (seen_list e.home e.nodes o) ≡ []
-  bare_seen = instances_of_seen r.number e.nodes bare
+  bare_seen = filter_image view (is_instance r.number) (is_instance r.number) (λ s. refl) e.nodes ∙ ap (map view) bare
 
   parent_seen : parent_id (seen_list e.home e.nodes o) r ≡ parent_id e.nodes r
   parent_seen = ap (λ (p : Option ResourceData). cond (is_ty r.ty CseBase) [] (option_map_or id_of p [])) (at-seen e.home e.nodes o r.parent) ∙ by (at r.parent e.nodes)
@@ -133,22 +95,13 @@ module _ (e : EntityData) (o : List ℕ) (sound : IsSoundEntity e) (r : Resource
   mine s = cond (has_number r.number s) s (view s)
 
   mine_number : (s : ResourceData) → (mine s).number ≡ s.number
-  mine_number s = elim (cases_Bool (has_number r.number s)) [
-    | inl t ↦ rw t refl
-    | inr f ↦ rw f refl
-  ]
+  mine_number s = cond_both (has_number r.number s) s (view s) (λ (x : ResourceData). x.number ≡ s.number) (λ t. refl) (λ f. refl)
 
   mine_parent : (s : ResourceData) → (mine s).parent ≡ s.parent
-  mine_parent s = elim (cases_Bool (has_number r.number s)) [
-    | inl t ↦ rw t refl
-    | inr f ↦ rw f refl
-  ]
+  mine_parent s = cond_both (has_number r.number s) s (view s) (λ (x : ResourceData). x.parent ≡ s.parent) (λ t. refl) (λ f. refl)
 
   mine_name : (s : ResourceData) → (mine s).name ≡ s.name
-  mine_name s = elim (cases_Bool (has_number r.number s)) [
-    | inl t ↦ rw t refl
-    | inr f ↦ rw f refl
-  ]
+  mine_name s = cond_both (has_number r.number s) s (view s) (λ (x : ResourceData). x.name ≡ s.name) (λ t. refl) (λ f. refl)
 
   mine_others : (rs : List ResourceData) → are_below r.number rs ≡ true → map mine rs ≡ map view rs
   mine_others [] all = refl

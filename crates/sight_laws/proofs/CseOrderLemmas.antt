@@ -1,34 +1,9 @@
 -- The attributes of registered CSEs stay in order through what a Create does.
-use Rattle.std.specs.Prelude.{◌==◌}
-use Rattle.std.proofs.Common.{◌≡◌, ℕ, pos, Bool, List, [], ◌∷◌, ◌++◌, map, true, false, Option, Some, None, option_map, inl, inr, refl, sym, ap, subst, ◌∙◌}
-use Rattle.std.specs.Option.{option_map_or, option_or}
-use Rattle.std.proofs.lemmas.Bool.{both_ways, cases_Bool, eq-eqb, eqb-true}
-use Rattle.std.proofs.lemmas.Option.{same_Some}
-use Rattle.m2m_names.specs.declared.attributes.Attr.TheVariants.{St}
-use Rattle.m2m_names.specs.declared.operations.Op.TheVariants.{Create}
-use Rattle.m2m_names.specs.declared.types.Ty.{Ty}
-use Rattle.m2m_names.specs.declared.types.Ty.TheVariants.{RemoteCse, Subscription}
-use Rattle.m2m_names.proofs.TypeLemmas.{same_type}
-use Rattle.m2m_value.specs.Data.{number}
-use Rattle.resource_model.specs.Attributes.{AreInOrder}
-use Rattle.resource_model.proofs.AttributeLemmas.{in_order-with_value}
-use Rattle.resource_model.specs.Resource.{ResourceData, has_number, is_ty}
-use Rattle.m2m_value.specs.Node.{AreSorted}
-use Rattle.request_rules.specs.Asked.{Creation}
-use Rattle.request_rules.specs.Creation.{new_resource, rows_besides}
-use Rattle.create_delete.specs.Changing.{without_all}
-use Rattle.attribute_rules.specs.Contents.{kept_row, wanted_in}
-use Rattle.attribute_rules.proofs.ContentsLemmas.{kept_attr, rows_in_order}
-use Rattle.tree_model.specs.Tree.{at, has, is_numbered_in, is_tree, is_well_formed, replaced, restamped, restamped_at, standing, without}
-use Rattle.tree_model.proofs.GrowthLemmas.{tree_from_well_formed}
-use Rattle.tree_model.proofs.KeptLemmas.{is_tree-replaced}
+use Rattle.sight_laws.proofs.Words.{◌==◌, ◌≡◌, ℕ, pos, Bool, List, [], ◌∷◌, ◌++◌, map, true, false, Option, Some, None, option_map, inl, inr, refl, sym, ap, subst, ◌∙◌, option_map_or, option_or}
+use Rattle.sight_laws.proofs.Terms.{St, Create, Ty, RemoteCse, Subscription, number, AreInOrder, ResourceData, has_number, is_ty, AreSorted, Creation, new_resource, rows_besides, without_all, kept_row, wanted_in, at, has, is_numbered_in, is_tree, is_well_formed, replaced, restamped, restamped_at, standing, without, is_spent, lowered, nodes_spent, DraftParts}
+use Rattle.sight_laws.proofs.Facts.{both_ways, cases_Bool, eq-eqb, eqb-true, same_Some, same_type, in_order-with_value, kept_attr, rows_in_order, tree_from_well_formed, is_tree-replaced, standing-restamped, at-append, at-map, at-replaced, at-replaced_other, at_none, at_number, replaced_missing, lowered_stands}
 use Rattle.tree_model.proofs.ShownLemmas.{in_order-with_rows}
-use Rattle.tree_model.proofs.StampLemmas.{standing-restamped}
-use Rattle.tree_model.proofs.TreeLemmas.{at-append, at-map, at-replaced, at-replaced_other, at_none, at_number, replaced_missing}
 use Rattle.policy_laws.proofs.RemovalLemmas.{keeps_without}
-use Rattle.subscription_match.specs.Spending.{is_spent, lowered, nodes_spent}
-use Rattle.subscription_match.specs.declared.drafts.DraftParts.{DraftParts}
-use Rattle.entity_model.proofs.SpentLemmas.{lowered_stands}
 use Rattle.sight_laws.specs.Sight.{AreCsesInOrder}
 use Rattle.sight_laws.proofs.ToldLemmas.{OnlySubsCount, uncounted, unlowered, without_counts}
 

@@ -1,28 +1,10 @@
 -- An update of a resource as changes, by what a content names.
-use Rattle.std.proofs.Common.{◌≡◌, ℕ, List, [], ◌∷◌, ◌++◌, map, Bool, true, false, cond, ◌||◌, Option, Some, None, is_some, inl, inr, refl, sym, ap, ap₂, ◌∙◌, bytes_eq}
-use Rattle.std.specs.List.{cons_option, filter_map, list_any}
-use Rattle.std.specs.Option.{option_and_then, option_map_or}
-use Rattle.std.proofs.lemmas.Bool.{both_ways, cases_Bool, or_cases, or_from, or_left, or_right}
-use Rattle.std.proofs.lemmas.List.Folds.{list_any-append}
-use Rattle.m2m_names.specs.Attributes.{attr_of_short, attr_short}
-use Rattle.m2m_names.specs.declared.attributes.Attr.{Attr}
-use Rattle.m2m_names.specs.declared.attributes.Attr.TheVariants.{Et}
-use Rattle.m2m_names.specs.declared.types.Ty.{Ty}
-use Rattle.m2m_value.specs.Data.{Data, Entry, null}
-use Rattle.m2m_value.specs.Node.{AreSorted}
-use Rattle.m2m_value.specs.View.{member_of}
+use Rattle.sight_laws.proofs.Words.{◌≡◌, ℕ, List, [], ◌∷◌, ◌++◌, map, Bool, true, false, cond, ◌||◌, Option, Some, None, is_some, inl, inr, refl, sym, ap, ap₂, ◌∙◌, bytes_eq, cons_option, filter_map, list_any, option_and_then, option_map_or}
+use Rattle.sight_laws.proofs.Terms.{attr_of_short, attr_short, Attr, Et, Ty, Data, Entry, null, AreSorted, member_of, Row, is_attr, value_of, with_value, without_value, with_rows, are_admitted, is_named, clear_all, cleared_attr, does_clear, edit_in, edited, set_all, set_row, value_updated, may_name, Updating, NewValue, with_change, with_changes}
+use Rattle.sight_laws.proofs.Facts.{both_ways, cases_Bool, or_cases, or_from, or_left, or_right, list_any-append, is_attr-itself, set_attr, short_of}
 use Rattle.m2m_value.proofs.Lookup.{bytes_eq_itself}
-use Rattle.resource_model.specs.Attributes.{Row, is_attr, value_of, with_value, without_value}
-use Rattle.resource_model.proofs.AttributeLemmas.{is_attr-itself}
-use Rattle.tree_model.specs.Shown.{with_rows}
-use Rattle.attribute_rules.specs.Admission.{are_admitted, is_named}
-use Rattle.attribute_rules.specs.Contents.{clear_all, cleared_attr, does_clear, edit_in, edited, set_all, set_row, value_updated}
-use Rattle.attribute_rules.specs.Laws.{may_name}
-use Rattle.attribute_rules.specs.declared.table.Writing.TheVariants.{Update as Updating}
 use Rattle.attribute_rules.proofs.AdmittedLemmas.{members_leave}
-use Rattle.attribute_rules.proofs.ContentsLemmas.{set_attr, short_of}
 use Rattle.attribute_rules.proofs.ValueLemmas.{cleared_at, here, value_edited}
-use Rattle.policy_laws.specs.Changes.{NewValue, with_change, with_changes}
 use Rattle.sight_laws.proofs.ChangeRowsLemmas.{is_touched}
 
 -- ---- rows that are given, set and cleared, as changes

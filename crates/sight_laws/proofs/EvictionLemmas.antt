@@ -1,21 +1,8 @@
 -- What a container pushes out is the same on what is seen of its instances by who may fill it.
-use Rattle.std.specs.Prelude.{find, option_to_list, unwrap_or}
-use Rattle.std.proofs.Common.{◌≡◌, ℕ, ◌+◌, List, [], ◌∷◌, map, filter, fold, length, Bool, true, false, not, Option, Some, None, option_map, inl, inr, refl, ap, ap₂, ◌∙◌}
-use Rattle.std.specs.Option.{option_and_then, option_map_or}
-use Rattle.std.proofs.lemmas.Bool.{and_from, cases_Bool}
-use Rattle.std.proofs.lemmas.List.{length-map}
-use Rattle.m2m_names.specs.declared.attributes.Attr.TheVariants.{Cs}
-use Rattle.m2m_names.specs.declared.types.Ty.TheVariants.{ContentInstance}
-use Rattle.m2m_value.specs.Data.{Data}
-use Rattle.m2m_value.specs.Shapes.{as_count}
-use Rattle.resource_model.specs.Home.{HomeData}
-use Rattle.resource_model.specs.Resource.{ResourceData}
-use Rattle.tree_model.specs.Tree.{at, has, instance_size, instances_of, is_instance, numbers_of}
-use Rattle.tree_model.proofs.TreeLemmas.{has-map, kin_parts}
-use Rattle.container_limits.specs.Limits.{are_within, do_fit, evicted, kept, lasts, longest_fit, suffixes}
-use Rattle.container_limits.specs.declared.limits.Limits.{Limits}
-use Rattle.policy_laws.specs.Seen.{fills, is_filled_in, seen, seen_list}
-use Rattle.policy_laws.proofs.SeenLemmas.{seen_shows}
+use Rattle.sight_laws.proofs.Words.{find, option_to_list, unwrap_or, ◌≡◌, ℕ, List, [], ◌∷◌, map, filter, fold, length, Bool, true, false, not, Option, Some, None, option_map, refl, ap, ap₂, ◌∙◌, option_and_then, option_map_or}
+use Rattle.sight_laws.proofs.Terms.{Cs, ContentInstance, Data, as_count, HomeData, ResourceData, at, has, instance_size, instances_of, is_instance, numbers_of, are_within, do_fit, evicted, kept, lasts, longest_fit, suffixes, Limits, fills, is_filled_in, seen, seen_list}
+use Rattle.sight_laws.proofs.Facts.{and_from, cond_both, length-map, has-map, kin_parts, both_chosen, filter_image, same_chosen, seen_shows}
+use Rattle.std.proofs.Common.{◌+◌}
 use Rattle.retrieve_laws.proofs.FoundLemmas.{Each}
 
 module _ (home : HomeData) (nodes : List ResourceData) (o : List ℕ) where
@@ -34,19 +21,13 @@ module _ (home : HomeData) (nodes : List ResourceData) (o : List ℕ) where
       record { size = ap (λ (d : Option Data). unwrap_or (option_and_then as_count d) 0) (shown.0 Cs refl); ct = shown.1; et = shown.2 }
 
   instances_seen : (n : ℕ) (rs : List ResourceData) → instances_of n (map see rs) ≡ map see (instances_of n rs)
-  instances_seen n [] = refl
-  instances_seen n (r ∷ rs) = elim (cases_Bool (is_instance n r)) [
-    | inl t ↦ rw t (ap (λ (ss : List ResourceData). see r ∷ ss) (instances_seen n rs))
-    | inr f ↦ rw f (instances_seen n rs)
-  ]
+  instances_seen n rs = filter_image see (is_instance n) (is_instance n) (λ r. refl) rs
 
   -- those of a container that the originator may fill
   whole_in : (p : ResourceData) → at p.number nodes ≡ Some p → fills home nodes o p ≡ true → (rs : List ResourceData) → Each IsSeenWhole (instances_of p.number rs)
   whole_in p there may [] = tt
-  whole_in p there may (r ∷ rs) = elim (cases_Bool (is_instance p.number r)) [
-    | inl t ↦ rw t (one t, whole_in p there may rs)
-    | inr f ↦ rw f (whole_in p there may rs)
-  ]
+  whole_in p there may (r ∷ rs) =
+      cond_both (is_instance p.number r) (r ∷ instances_of p.number rs) (instances_of p.number rs) (Each IsSeenWhole) (λ t. (one t, whole_in p there may rs)) (λ f. whole_in p there may rs)
     where
       one : is_instance p.number r ≡ true → IsSeenWhole r
       one inside =
@@ -62,18 +43,13 @@ module _ (home : HomeData) (nodes : List ResourceData) (o : List ℕ) where
   lasting_seen : (mia : Option ℕ) (m : ℕ) (rs : List ResourceData) → Each IsSeenWhole rs → filter (lasts mia m) (map see rs) ≡ map see (filter (lasts mia m) rs)
   lasting_seen mia m [] each = refl
   lasting_seen mia m (r ∷ rs) each =
-      let same = lasts_seen mia m r each.0 in
-      elim (cases_Bool (lasts mia m r)) [
-        | inl t ↦ rw (same ∙ t, t) (ap (λ (ss : List ResourceData). see r ∷ ss) (lasting_seen mia m rs each.1))
-        | inr f ↦ rw (same ∙ f, f) (lasting_seen mia m rs each.1)
-      ]
+      same_chosen (λ (us vs : List ResourceData). us ≡ map see vs) _ _ _ _ _ _ (lasts_seen mia m r each.0)
+      (λ t. ap (λ (ss : List ResourceData). see r ∷ ss) (lasting_seen mia m rs each.1)) (λ f. lasting_seen mia m rs each.1)
 
   lasting_whole : (p : ResourceData → Bool) (rs : List ResourceData) → Each IsSeenWhole rs → Each IsSeenWhole (filter p rs)
   lasting_whole p [] each = tt
-  lasting_whole p (r ∷ rs) each = elim (cases_Bool (p r)) [
-    | inl t ↦ rw t (each.0, lasting_whole p rs each.1)
-    | inr f ↦ rw f (lasting_whole p rs each.1)
-  ]
+  lasting_whole p (r ∷ rs) each =
+      cond_both (p r) (r ∷ filter p rs) (filter p rs) (Each IsSeenWhole) (λ t. (each.0, lasting_whole p rs each.1)) (λ f. lasting_whole p rs each.1)
 
   sizes_seen : (rs : List ResourceData) (a : ℕ) → Each IsSeenWhole rs → fold (λ (n : ℕ) (r : ResourceData). n + instance_size r) a (map see rs) ≡ fold (λ (n : ℕ) (r : ResourceData). n + instance_size r) a rs
   sizes_seen [] a each = refl
@@ -86,16 +62,10 @@ module _ (home : HomeData) (nodes : List ResourceData) (o : List ℕ) where
       ap₂ (λ (count sizes : ℕ). are_within limits (count + length (option_to_list new)) (sizes + unwrap_or new 0)) (length-map rs see) (sizes_seen rs 0 each)
 
   found_seen : (limits : Limits) (new : Option ℕ) (rs : List ResourceData) → Each IsSeenWhole rs → find (do_fit limits new) (suffixes (map see rs)) ≡ option_map (map see) (find (do_fit limits new) (suffixes rs))
-  found_seen limits new [] each = elim (cases_Bool (do_fit limits new [])) [
-    | inl t ↦ rw t refl
-    | inr f ↦ rw f refl
-  ]
+  found_seen limits new [] each =
+      both_chosen (λ (x y : Option (List ResourceData)). x ≡ option_map (map see) y) (do_fit limits new []) _ _ _ _ (λ t. refl) (λ f. refl)
   found_seen limits new (r ∷ rs) each =
-      let same = fit_seen limits new (r ∷ rs) each in
-      elim (cases_Bool (do_fit limits new (r ∷ rs))) [
-        | inl t ↦ rw (same ∙ t, t) refl
-        | inr f ↦ rw (same ∙ f, f) (found_seen limits new rs each.1)
-      ]
+      same_chosen (λ (x y : Option (List ResourceData)). x ≡ option_map (map see) y) _ _ _ _ _ _ (fit_seen limits new (r ∷ rs) each) (λ t. refl) (λ f. found_seen limits new rs each.1)
 
   longest_seen : (limits : Limits) (new : Option ℕ) (rs : List ResourceData) → Each IsSeenWhole rs → longest_fit limits new (map see rs) ≡ map see (longest_fit limits new rs)
   longest_seen limits new rs each = ap (λ (x : Option (List ResourceData)). unwrap_or x []) (found_seen limits new rs each) ∙ by (find (do_fit limits new) (suffixes rs))
@@ -112,11 +82,8 @@ module _ (home : HomeData) (nodes : List ResourceData) (o : List ℕ) where
   gone_seen : (stay : List ResourceData) (rs : List ResourceData) → numbers_of (filter (λ (r : ResourceData). not (has r.number (map see stay))) (map see rs)) ≡ numbers_of (filter (λ (r : ResourceData). not (has r.number stay)) rs)
   gone_seen stay [] = refl
   gone_seen stay (r ∷ rs) =
-      let same : has r.number (map see stay) ≡ has r.number stay = has-map see (λ s. refl) r.number stay in
-      elim (cases_Bool (has r.number stay)) [
-        | inl t ↦ rw (same ∙ t, t) (gone_seen stay rs)
-        | inr f ↦ rw (same ∙ f, f) (ap (λ (ns : List ℕ). r.number ∷ ns) (gone_seen stay rs))
-      ]
+      same_chosen (λ (us vs : List ResourceData). numbers_of us ≡ numbers_of vs) _ _ _ _ _ _ (ap not (has-map see (λ s. refl) r.number stay))
+      (λ t. ap (λ (ns : List ℕ). r.number ∷ ns) (gone_seen stay rs)) (λ f. gone_seen stay rs)
 
   evicted_seen : (limits : Limits) (new : Option ℕ) (m : ℕ) (rs : List ResourceData) → Each IsSeenWhole rs → evicted limits new m (map see rs) ≡ evicted limits new m rs
   evicted_seen limits new m rs each =

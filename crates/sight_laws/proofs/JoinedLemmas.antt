@@ -1,31 +1,11 @@
 -- Two lists of which an originator sees the same are seen alike after the same resource joins them.
-use Rattle.std.specs.Prelude.{◌++◌, nat_eq, nat_lt}
-use Rattle.std.proofs.Common.{◌≡◌, ℕ, pos, ◌<◌, List, [], ◌∷◌, Bool, true, false, cond, Option, Some, None, option_map, is_some, inl, inr, refl, sym, ap, ◌∙◌, arith}
-use Rattle.std.specs.List.{list_all, list_any}
-use Rattle.std.specs.Option.{option_and_then, option_map_or, option_or}
-use Rattle.std.proofs.lemmas.Bool.{and_parts, both_ways, cases_Bool, eqb-true, ne_eqb}
+use Rattle.sight_laws.proofs.Words.{nat_eq, nat_lt, ◌≡◌, ℕ, pos, ◌<◌, List, [], ◌∷◌, Bool, true, false, cond, Option, Some, None, option_map, is_some, inl, inr, refl, sym, ap, ◌∙◌, arith, list_all, list_any, option_and_then, option_map_or, option_or}
+use Rattle.sight_laws.proofs.Terms.{St, Ty, AccessControlPolicy, Container, ContentInstance, Data, number, as_text, HomeData, ResourceData, has_number, is_ty, at, is_well_formed, of_type, replaced, restamped, restamped_at, standing, without, linked_ids, policy_named, policy_number, ShowNoMore, do_judge, does_link, is_id_of, is_linked, learns_limits, seen_list, has_known_ids, is_known_id, without_all}
+use Rattle.sight_laws.proofs.Facts.{and_parts, both_ways, cases_Bool, eqb-true, ne_eqb, same_type, is_well_formed-replaced, standing-restamped, at-append, at_number, replace-same, without-same}
+use Rattle.std.specs.Prelude.{◌++◌}
 use Rattle.std.proofs.lemmas.Bool.Decides.{nat_tests}
-use Rattle.m2m_names.proofs.TypeLemmas.{same_type}
 use Rattle.m2m_names.specs.Ids.{id_parts}
-use Rattle.m2m_names.specs.declared.attributes.Attr.TheVariants.{St}
-use Rattle.m2m_names.specs.declared.types.Ty.{Ty}
-use Rattle.m2m_names.specs.declared.types.Ty.TheVariants.{AccessControlPolicy, Container, ContentInstance}
-use Rattle.m2m_value.specs.Data.{Data, number}
-use Rattle.m2m_value.specs.View.{as_text}
-use Rattle.resource_model.specs.Home.{HomeData}
-use Rattle.resource_model.specs.Resource.{ResourceData, has_number, is_ty}
-use Rattle.tree_model.specs.Tree.{at, is_well_formed, of_type, replaced, restamped, restamped_at, standing, without}
-use Rattle.tree_model.proofs.KeptLemmas.{is_well_formed-replaced}
-use Rattle.tree_model.proofs.StampLemmas.{standing-restamped}
-use Rattle.tree_model.proofs.TreeLemmas.{at-append, at_number}
-use Rattle.policy_eval.specs.Rules.{linked_ids, policy_named, policy_number}
-use Rattle.policy_laws.specs.Changes.{ShowNoMore, do_judge, does_link, is_id_of, is_linked, learns_limits}
-use Rattle.policy_laws.specs.Seen.{seen_list}
 use Rattle.policy_laws.proofs.AppendLemmas.{append-same}
-use Rattle.policy_laws.proofs.ReplaceLemmas.{replace-same}
-use Rattle.policy_laws.proofs.TwiceLemmas.{without-same}
-use Rattle.entity_model.specs.Sound.{has_known_ids, is_known_id}
-use Rattle.create_delete.specs.Changing.{without_all}
 
 -- ---- no resource names what is new
 

@@ -1,19 +1,8 @@
 -- What holds on a resource holds on that of a number.
-use Rattle.std.proofs.Common.{◌≡◌, ℕ, List, true, Option, Some, None, option_map, refl, sym, ap, subst, ◌∙◌}
-use Rattle.std.specs.Option.{option_map_or}
-use Rattle.m2m_names.specs.declared.codes.Rsc.TheVariants.{NotFound}
+use Rattle.sight_laws.proofs.Words.{◌≡◌, ℕ, List, true, Option, Some, None, option_map, refl, sym, ap, subst, ◌∙◌, option_map_or}
+use Rattle.sight_laws.proofs.Terms.{NotFound, Create, Update, RequestParts, ResourceData, at, seen, EntityData, Effect, on_found, fault_at, fault_on, told_effect_at, told_effect_on}
+use Rattle.sight_laws.proofs.Facts.{at_number, at-seen}
 use Rattle.m2m_names.specs.declared.operations.Op.{Op}
-use Rattle.m2m_names.specs.declared.operations.Op.TheVariants.{Create, Update}
-use Rattle.primitive_json.specs.declared.request.RequestParts.{RequestParts}
-use Rattle.resource_model.specs.Resource.{ResourceData}
-use Rattle.tree_model.specs.Tree.{at}
-use Rattle.tree_model.proofs.TreeLemmas.{at_number}
-use Rattle.policy_laws.specs.Seen.{seen}
-use Rattle.policy_laws.proofs.SeenLemmas.{at-seen}
-use Rattle.entity_model.specs.Entity.{EntityData}
-use Rattle.entity_model.specs.Places.{Effect, on_found}
-use Rattle.request_rules.specs.Order.{fault_at, fault_on}
-use Rattle.create_delete.specs.Telling.{told_effect_at, told_effect_on}
 use Rattle.sight_laws.specs.Laws.{CreatesAreSeenAlike, UpdatesAreSeenAlike}
 use Rattle.sight_laws.specs.Sight.{sight}
 use Rattle.sight_laws.proofs.CreatedLemmas.{created-alike}

@@ -1,3 +1,6 @@
+pub mod Words
+pub mod Terms
+pub mod Facts
 pub mod ToldLemmas
 pub mod SeenAlikeLemmas
 pub mod CseOrderLemmas

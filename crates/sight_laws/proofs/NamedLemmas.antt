@@ -1,43 +1,15 @@
 -- What a text names, and what a content names by it, is the same on what an originator sees.
-use Rattle.std.specs.Prelude.{◌==◌}
-use Rattle.std.proofs.Common.{◌≡◌, ℕ, List, [], ◌∷◌, map, filter, length, Bool, false, cond, not, ◌&&◌, ◌||◌, Option, Some, None, is_some, option_map, Result, Ok, Err, inl, inr, refl, ap, ap₂, ◌∙◌}
-use Rattle.std.specs.List.{cons_option, filter_map, list_all}
-use Rattle.std.specs.Option.{option_and_then, option_map_or}
-use Rattle.std.proofs.lemmas.Bool.{cases_Bool}
-use Rattle.m2m_names.specs.declared.attributes.Attr.{Attr}
-use Rattle.m2m_names.specs.declared.attributes.Attr.TheVariants.{Acpi, Macp}
-use Rattle.m2m_names.specs.declared.codes.Rsc.TheVariants.{TooManyMembers, WrongMember}
-use Rattle.m2m_names.specs.declared.types.Ty.{Ty}
-use Rattle.m2m_names.specs.declared.types.Ty.TheVariants.{AccessControlPolicy}
-use Rattle.m2m_value.specs.Data.{Data, Entry, text, list, elements_of}
-use Rattle.m2m_value.specs.View.{as_text}
-use Rattle.resource_model.specs.Resource.{ResourceData, id_of, is_ty}
-use Rattle.tree_model.specs.Tree.{at, of_type, typed_at}
-use Rattle.tree_model.proofs.TreeLemmas.{list_any-same, list_all-same}
+use Rattle.sight_laws.proofs.Words.{◌==◌, ◌≡◌, ℕ, List, [], ◌∷◌, map, length, Bool, false, cond, not, ◌&&◌, ◌||◌, Option, Some, None, is_some, option_map, Result, Ok, Err, refl, ap, ap₂, ◌∙◌, cons_option, filter_map, list_all, option_and_then, option_map_or}
+use Rattle.sight_laws.proofs.Terms.{Attr, Acpi, Macp, TooManyMembers, WrongMember, Ty, AccessControlPolicy, Data, Entry, text, list, elements_of, as_text, ResourceData, id_of, is_ty, at, of_type, typed_at, spot_resource, policy_at, seen, seen_list, EntityData, first_fault, unless, MembershipData, abandon_group, abandon_member, any_type, are_few, are_validated, differs_from, distinct_texts, group_rows, has_other_type, is_consistent, is_left_out, is_of_other_type, member_named, member_rows, members_kept, set_mixed, type_kept, member_places, link_row, links_live, listed, policy_addressed, policy_ids, policy_meant, policy_on}
+use Rattle.sight_laws.proofs.Facts.{list_any-same, list_all-same, at-seen, filter_same, both_chosen}
 use Rattle.addressing.specs.Addresses.{address_of}
 use Rattle.addressing.specs.Laws.{named_here, spot_named}
-use Rattle.addressing.specs.Names.{spot_resource}
 use Rattle.addressing.specs.declared.addr.Addr.{Addr}
 use Rattle.addressing.specs.declared.addr.Addr.TheVariants.{Local, Foreign, OtherProvider}
 use Rattle.addressing.specs.declared.addr.AddrFault.{AddrFault}
 use Rattle.addressing.specs.declared.spot.Spot.{Spot}
-use Rattle.policy_eval.specs.Rules.{policy_at}
-use Rattle.policy_laws.specs.Seen.{seen, seen_list}
-use Rattle.policy_laws.proofs.SeenLemmas.{at-seen}
 use Rattle.retrieve_laws.proofs.SpotLemmas.{spot_of-seen}
-use Rattle.entity_model.specs.Entity.{EntityData}
-use Rattle.entity_model.specs.Places.{first_fault, unless}
-use Rattle.request_rules.specs.Groups.{MembershipData, abandon_group, abandon_member, any_type, are_few, are_validated, differs_from, distinct_texts, group_rows, has_other_type, is_consistent, is_left_out, is_of_other_type, member_named, member_rows, members_kept, set_mixed, type_kept}
-use Rattle.request_rules.specs.Order.{member_places}
-use Rattle.request_rules.specs.Policies.{link_row, links_live, listed, policy_addressed, policy_ids, policy_meant, policy_on}
 use Rattle.sight_laws.specs.Sight.{sight}
-
-filter_same : {X : Type 0} (p q : X → Bool) → ((x : X) → p x ≡ q x) → (xs : List X) → filter p xs ≡ filter q xs
-filter_same p q same [] = refl
-filter_same p q same (x ∷ xs) = elim (cases_Bool (q x)) [
-  | inl t ↦ rw (same x ∙ t, t) (ap (λ ys. x ∷ ys) (filter_same p q same xs))
-  | inr f ↦ rw (same x ∙ f, f) (filter_same p q same xs)
-]
 
 module _ (e : EntityData) (o : List ℕ) where
   abbrev seeing : EntityData
@@ -68,10 +40,7 @@ module _ (e : EntityData) (o : List ℕ) where
     where
       by : (p : Option ResourceData) → option_and_then (of_type ty) (option_map see p) ≡ option_map see (option_and_then (of_type ty) p)
       by None = refl
-      by (Some r) = elim (cases_Bool (is_ty r.ty ty)) [
-        | inl t ↦ rw t refl
-        | inr f ↦ rw f refl
-      ]
+      by (Some r) = both_chosen (λ (x y : Option ResourceData). x ≡ option_map see y) (is_ty r.ty ty) _ _ _ _ (λ t. refl) (λ f. refl)
 
   on_spot : (spot : Option Spot) → option_and_then (policy_on (seen_list e.home e.nodes o)) spot ≡ option_map see (option_and_then (policy_on e.nodes) spot)
   on_spot None = refl

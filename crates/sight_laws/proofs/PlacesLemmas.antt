@@ -1,43 +1,10 @@
 -- A Create and an Update are refused by the same place on what their originator sees.
-use Rattle.std.specs.Prelude.{◌+◌, bytes_eq, ◌==◌, nat_le, nat_lt}
-use Rattle.std.proofs.Common.{◌≡◌, ℕ, List, [], length, Bool, true, false, cond, not, ◌&&◌, Option, Some, None, inl, inr, refl, sym, ap, ap₂, ◌∙◌}
-use Rattle.std.specs.Option.{option_and_then, option_map_or}
-use Rattle.std.proofs.lemmas.Bool.{and_from, and_parts, both_ways, cases_Bool, eqb-true, or_left}
-use Rattle.std.proofs.lemmas.List.{length-map}
+use Rattle.sight_laws.proofs.Words.{◌+◌, ◌==◌, nat_le, nat_lt, ◌≡◌, ℕ, List, [], length, Bool, true, false, cond, not, ◌&&◌, Option, Some, None, inl, inr, refl, sym, ap, ap₂, ◌∙◌, option_and_then, option_map_or}
+use Rattle.sight_laws.proofs.Terms.{Csy, Csi, Mbs, Mia, Mid, Mni, Mnm, Mt, Rsc, BadRequest, Conflict, NoPrivilege, NotAcceptable, NotAllowed, Create, Update, Ty, Ae, Container, ContentInstance, Group, PollingChannel, RemoteCse, Subscription, Entry, RequestParts, ResourceData, is_ty, is_named, named_text, at, is_channel, level_of, is_within, limits_of, Limits, create_bit, grants, retrieve_bit, update_bit, fills, has_bit, may_use, seen, seen_list, EntityData, first_fault, creation_of, largest_count, greatest_count, greatest_depth, largest_size, own_cse_id, has_place, is_below, has_room, is_free_cse_id, is_single, is_small, is_unique, new_ae_id, new_name, new_size, takes_instance, MembershipData, does_edit_members, have_addresses, membership_edited, membership_new, child_fault, creation_by, creation_places, edit_places, expires_later, fault_new, fault_on, member_places, new_places, links_live, admits_content, child_ty, content_for, is_for, named_by, named_for, takes_child, create_bits, is_relink, is_subscribing, may_do}
+use Rattle.sight_laws.proofs.Facts.{and_from, and_parts, both_ways, cases_Bool, eqb-true, or_left, length-map, same_type, KeepsStanding, has_ae_id-map, has_child-map, has_cse_id-map, list_any-map, ae_id-seen, cse_id-seen, grants-seen, relinks-seen, seen_shows, names_link}
+use Rattle.std.specs.Prelude.{bytes_eq}
 use Rattle.m2m_names.specs.Types.{does_take, ty_of_number, ty_row}
-use Rattle.m2m_names.specs.declared.attributes.Attr.TheVariants.{Csy, Csi, Mbs, Mia, Mid, Mni, Mnm, Mt}
-use Rattle.m2m_names.specs.declared.codes.Rsc.{Rsc}
-use Rattle.m2m_names.specs.declared.codes.Rsc.TheVariants.{BadRequest, Conflict, NoPrivilege, NotAcceptable, NotAllowed}
-use Rattle.m2m_names.specs.declared.operations.Op.TheVariants.{Create, Update}
-use Rattle.m2m_names.specs.declared.types.Ty.{Ty}
-use Rattle.m2m_names.specs.declared.types.Ty.TheVariants.{Ae, Container, ContentInstance, Group, PollingChannel, RemoteCse, Subscription}
-use Rattle.m2m_names.proofs.TypeLemmas.{same_type}
-use Rattle.m2m_value.specs.Data.{Entry}
-use Rattle.primitive_json.specs.declared.request.RequestParts.{RequestParts}
-use Rattle.resource_model.specs.Resource.{ResourceData, is_ty}
-use Rattle.attribute_rules.specs.Admission.{is_named}
-use Rattle.attribute_rules.specs.Contents.{named_text}
-use Rattle.tree_model.specs.Tree.{at, is_channel, level_of}
-use Rattle.tree_model.proofs.KeptLemmas.{KeepsStanding, has_ae_id-map, has_child-map, has_cse_id-map, list_any-map}
-use Rattle.container_limits.specs.Limits.{is_within, limits_of}
-use Rattle.container_limits.specs.declared.limits.Limits.{Limits}
-use Rattle.policy_eval.specs.Rights.{create_bit, grants, retrieve_bit, update_bit}
-use Rattle.policy_laws.specs.Seen.{fills, has_bit, may_use, seen, seen_list}
-use Rattle.policy_laws.proofs.SeenLemmas.{ae_id-seen, cse_id-seen, grants-seen, relinks-seen, seen_shows}
 use Rattle.retrieve_laws.proofs.MapLemmas.{line-map}
-use Rattle.entity_model.specs.Entity.{EntityData}
-use Rattle.entity_model.specs.Places.{first_fault}
-use Rattle.request_rules.specs.Asked.{creation_of}
-use Rattle.m2m_value.specs.Shapes.{largest_count}
-use Rattle.entity_model.specs.Sound.{greatest_count, greatest_depth, largest_size}
-use Rattle.tree_model.specs.Shown.{own_cse_id}
-use Rattle.request_rules.specs.Creation.{has_place, is_below, has_room, is_free_cse_id, is_single, is_small, is_unique, new_ae_id, new_name, new_size, takes_instance}
-use Rattle.request_rules.specs.Groups.{MembershipData, does_edit_members, have_addresses, membership_edited, membership_new}
-use Rattle.request_rules.specs.Order.{child_fault, creation_by, creation_places, edit_places, expires_later, fault_new, fault_on, member_places, new_places}
-use Rattle.request_rules.specs.Policies.{links_live}
-use Rattle.request_rules.specs.Requests.{admits_content, child_ty, content_for, is_for, named_by, named_for, takes_child}
-use Rattle.request_rules.specs.Rights.{create_bits, is_relink, is_subscribing, may_do}
-use Rattle.create_delete.proofs.RelinkLemmas.{names_link}
 use Rattle.sight_laws.specs.Sight.{sight}
 use Rattle.sight_laws.proofs.NamedLemmas.{links-seen, member_places-seen}
 

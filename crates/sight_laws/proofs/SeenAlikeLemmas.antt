@@ -1,18 +1,7 @@
 -- Effects that an originator sees alike.
-use Rattle.std.proofs.Common.{◌≡◌, ℕ, List, true, Option, Some, None, option_map, refl, sym, ap, ◌∙◌}
-use Rattle.std.proofs.lemmas.Option.{none-some, same_Some}
-use Rattle.std.specs.Option.{option_map_or}
-use Rattle.m2m_names.specs.declared.codes.Rsc.{Rsc}
-use Rattle.primitive_json.specs.declared.request.RequestParts.{RequestParts}
-use Rattle.resource_model.specs.Home.{HomeData}
-use Rattle.resource_model.specs.Resource.{ResourceData}
-use Rattle.tree_model.specs.Tree.{at, is_well_formed}
-use Rattle.policy_laws.specs.Seen.{seen, seen_list}
-use Rattle.policy_laws.proofs.SeenLemmas.{at-seen}
-use Rattle.subscription_match.specs.Spending.{nodes_spent}
-use Rattle.subscription_match.specs.declared.drafts.DraftParts.{DraftParts}
-use Rattle.entity_model.specs.Entity.{EntityData}
-use Rattle.entity_model.specs.Places.{Effect, refused}
+use Rattle.sight_laws.proofs.Words.{◌≡◌, ℕ, List, true, Option, Some, None, option_map, refl, sym, ap, ◌∙◌, option_map_or}
+use Rattle.sight_laws.proofs.Terms.{Rsc, RequestParts, HomeData, ResourceData, at, is_well_formed, seen, seen_list, nodes_spent, DraftParts, EntityData, Effect, refused}
+use Rattle.sight_laws.proofs.Facts.{none-some, same_Some, at-seen}
 use Rattle.sight_laws.specs.Sight.{sight}
 use Rattle.sight_laws.proofs.ToldLemmas.{OnlySubsCount, for_whom, spent-same}
 

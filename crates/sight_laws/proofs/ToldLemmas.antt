@@ -1,47 +1,18 @@
 -- What is told of changes leaves equal sights equal: who is told how often, and what is left to whom
 -- then, is the same on what an originator sees.
-use Rattle.std.specs.Prelude.{◌==◌, codes, nat_eq}
-use Rattle.std.proofs.Common.{◌≡◌, ℕ, suc, ◌-◌, List, [], ◌∷◌, ◌++◌, map, length, filter, Bool, true, false, cond, not, ◌&&◌, ◌||◌, Option, Some, None, is_some, option_map, inl, inr, refl, sym, ap, ap₂, ◌∙◌}
-use Rattle.std.proofs.lemmas.Bool.{and_parts, and_right, both_ways, cases_Bool, or_right}
-use Rattle.std.proofs.lemmas.List.{append-nil}
-use Rattle.std.proofs.lemmas.List.Elements.{filter_map-append}
-use Rattle.std.specs.List.{cons_option, filter_map, flat_map, list_all}
-use Rattle.std.specs.Option.{option_and_then, option_map_or, option_or}
-use Rattle.m2m_names.proofs.ListLemmas.{all_weaker}
-use Rattle.m2m_names.specs.declared.attributes.Attr.{Attr}
-use Rattle.m2m_names.specs.declared.attributes.Attr.TheVariants.{Enc, Exc, Su}
-use Rattle.m2m_names.specs.declared.types.Ty.TheVariants.{Subscription}
-use Rattle.m2m_value.specs.Data.{Data}
-use Rattle.m2m_value.specs.Shapes.{as_count}
-use Rattle.resource_model.specs.Attributes.{text_at, value_of}
-use Rattle.resource_model.specs.Home.{HomeData}
-use Rattle.resource_model.specs.Resource.{ResourceData, is_ty}
+use Rattle.sight_laws.proofs.Words.{◌==◌, codes, nat_eq, ◌≡◌, ℕ, suc, ◌-◌, List, [], ◌∷◌, ◌++◌, map, length, filter, Bool, true, false, cond, not, ◌&&◌, ◌||◌, Option, Some, None, is_some, option_map, inl, inr, refl, sym, ap, ap₂, ◌∙◌, cons_option, filter_map, flat_map, list_all, option_and_then, option_map_or, option_or}
+use Rattle.sight_laws.proofs.Terms.{Attr, Enc, Exc, Su, Subscription, Data, as_count, text_at, value_of, HomeData, ResourceData, is_ty, ChangeData, created, updated, deleted, creation_changes, those_of, update_changes, at, has, is_kin, is_numbered_in, is_tree, is_under, is_well_formed, live, numbers_of, overdue_numbers, recounted, without, member_at, CountsSubscriptions, counted_anew, is_shown, seen, seen_list, notes_of, notes_of_all, notice_of, notice_to, notices, told, told_as, count_for, is_spent, left_at, left_to, lowered, nodes_spent, spent, DraftParts, EntityData, IsSoundEntity, only_in}
+use Rattle.sight_laws.proofs.Facts.{and_parts, and_right, both_ways, cases_Bool, or_right, append-nil, filter_map-append, all_weaker, tree_from_well_formed, is_well_formed-map, is_well_formed-without, list_all-map, has-map, staying_all, both_chosen, filter_image, map_from_zip, told_in_shape, at-seen, seen_alike, seen_shows, shown_kept, seen_list-twice, zip-found, counts_to, lowered_stands}
 use Rattle.attribute_rules.specs.Kinds.{are_kinds}
-use Rattle.tree_model.specs.Changes.{ChangeData, created, updated, deleted, creation_changes, those_of, update_changes}
-use Rattle.tree_model.specs.Tree.{at, has, is_kin, is_numbered_in, is_tree, is_under, is_well_formed, live, numbers_of, overdue_numbers, recounted, without}
-use Rattle.tree_model.proofs.GrowthLemmas.{tree_from_well_formed}
-use Rattle.tree_model.proofs.KeptLemmas.{is_well_formed-map, is_well_formed-without, list_all-map}
 use Rattle.tree_model.proofs.QuietLemmas.{number_passes}
-use Rattle.tree_model.proofs.TreeLemmas.{has-map, staying_all}
-use Rattle.policy_eval.specs.Rules.{member_at}
-use Rattle.policy_laws.specs.Changes.{CountsSubscriptions, counted_anew}
-use Rattle.policy_laws.specs.Seen.{is_shown, seen, seen_list}
-use Rattle.policy_laws.proofs.AlikeLemmas.{map_from_zip, told_in_shape}
 use Rattle.policy_laws.proofs.DueLemmas.{live-seen}
 use Rattle.policy_laws.proofs.RecountLemmas.{counted-same}
-use Rattle.policy_laws.proofs.SeenLemmas.{at-seen, seen_alike, seen_shows, shown_kept}
-use Rattle.policy_laws.proofs.TwiceLemmas.{seen_list-twice, zip-found}
 use Rattle.subscription_match.specs.Matching.{event_for, event_number, event_where, is_sub_of, is_update, lists_number, lists_one_of, looks_at}
-use Rattle.subscription_match.specs.Notices.{listed, notes_of, notes_of_all, notice_of, notice_to, notices, told, told_as}
-use Rattle.subscription_match.specs.Spending.{count_for, is_for, is_spent, left_at, left_to, lowered, nodes_spent, spent}
-use Rattle.subscription_match.specs.declared.drafts.DraftParts.{DraftParts}
+use Rattle.subscription_match.specs.Notices.{listed}
+use Rattle.subscription_match.specs.Spending.{is_for}
 use Rattle.subscription_match.specs.declared.events.EventKind.{EventKind}
 use Rattle.subscription_match.specs.declared.events.EventKind.TheVariants.{CreateOfChild, DeleteOfChild, DeleteOfResource, UpdateOfResource}
-use Rattle.entity_model.specs.Entity.{EntityData}
 use Rattle.entity_model.specs.Expiry.{expiry_changes}
-use Rattle.entity_model.specs.Sound.{IsSoundEntity}
-use Rattle.entity_model.proofs.SpentLemmas.{counts_to, lowered_stands}
-use Rattle.create_delete.specs.Changes.{only_in}
 
 -- ---- for whom drafts are
 
@@ -58,10 +29,7 @@ count_whom n (d ∷ drafts) = by d.subscription (count_whom n drafts)
   where
     by : (x : Option ℕ) → count_for n drafts ≡ times n (for_whom drafts) → length (cond (option_map_or (λ m. nat_eq m n) x false) (d ∷ filter (is_for n) drafts) (filter (is_for n) drafts)) ≡ times n (cons_option x (for_whom drafts))
     by None rest = rest
-    by (Some m) rest = elim (cases_Bool (nat_eq m n)) [
-      | inl t ↦ rw t (ap suc rest)
-      | inr f ↦ rw f rest
-    ]
+    by (Some m) rest = both_chosen (λ (xs : List DraftParts) (ys : List ℕ). length xs ≡ length ys) (nat_eq m n) _ _ _ _ (λ t. ap suc rest) (λ f. rest)
 
 -- drafts for the same are as many for each
 pub same_counts : (drafts others : List DraftParts) → for_whom drafts ≡ for_whom others → (n : ℕ) → count_for n drafts ≡ count_for n others
@@ -188,11 +156,8 @@ module _ (home : HomeData) (nodes : List ResourceData) (o : List ℕ) where
 
   -- what stands in the one list alone
   pub only_seen : (rs others : List ResourceData) → only_in (map see rs) (map see others) ≡ map see (only_in rs others)
-  only_seen [] others = refl
-  only_seen (r ∷ rs) others = elim (cases_Bool (has r.number others)) [
-    | inl t ↦ rw (has-map see (λ s. refl) r.number others, t) (only_seen rs others)
-    | inr f ↦ rw (has-map see (λ s. refl) r.number others, f) (ap (λ (ss : List ResourceData). see r ∷ ss) (only_seen rs others))
-  ]
+  only_seen rs others =
+      filter_image see (λ (s : ResourceData). not (has s.number (map see others))) (λ (r : ResourceData). not (has r.number others)) (λ r. ap not (has-map see (λ s. refl) r.number others)) rs
 
   pub numbers_seen : (rs : List ResourceData) → numbers_of (map see rs) ≡ numbers_of rs
   numbers_seen [] = refl

@@ -1,47 +1,7 @@
 -- Two sound entities of which an originator sees the same are seen alike after its Update.
-use Rattle.std.specs.Prelude.{nat_eq, unwrap_or}
-use Rattle.std.proofs.Common.{◌≡◌, ℕ, List, [], ◌∷◌, true, false, Bool, Option, Some, None, inl, inr, refl, sym, ap, subst, ◌∙◌}
-use Rattle.std.specs.List.{list_any}
-use Rattle.std.specs.Option.{option_map_or}
-use Rattle.std.proofs.lemmas.Bool.{both_ways, cases_Bool, not-true, or_parts}
-use Rattle.m2m_names.specs.declared.attributes.Attr.{Attr}
-use Rattle.m2m_names.specs.declared.codes.Rsc.{Rsc}
-use Rattle.m2m_names.specs.declared.codes.Rsc.TheVariants.{Updated}
-use Rattle.m2m_names.specs.declared.operations.Op.TheVariants.{Update}
-use Rattle.m2m_names.specs.declared.types.Ty.{Ty}
-use Rattle.m2m_names.specs.declared.types.Ty.TheVariants.{ContentInstance, CseBase}
-use Rattle.m2m_value.specs.Data.{Entry}
-use Rattle.primitive_json.specs.declared.request.RequestParts.{RequestParts}
-use Rattle.resource_model.specs.Home.{HomeData}
-use Rattle.resource_model.specs.Resource.{ResourceData, is_ty}
-use Rattle.tree_model.specs.Changes.{update_changes}
-use Rattle.tree_model.specs.Tree.{at, is_well_formed, replaced}
-use Rattle.tree_model.proofs.KeptLemmas.{is_well_formed-replaced}
-use Rattle.policy_eval.specs.Rights.{grants, update_bit}
-use Rattle.policy_laws.specs.Changes.{NewValue, ShowNoMore, changed}
-use Rattle.policy_laws.specs.Seen.{has_bit, seen, seen_list}
-use Rattle.policy_laws.proofs.ReplaceLemmas.{replace-same}
-use Rattle.policy_laws.proofs.TwiceLemmas.{without-same}
-use Rattle.subscription_match.specs.Notices.{notes_of_all}
-use Rattle.subscription_match.specs.Spending.{nodes_spent}
-use Rattle.subscription_match.specs.declared.drafts.DraftParts.{DraftParts}
-use Rattle.entity_model.specs.Entity.{EntityData}
-use Rattle.entity_model.specs.Places.{refused, reply_to, wanted_content}
-use Rattle.entity_model.specs.Sound.{IsSoundEntity}
-use Rattle.request_rules.specs.Order.{fault_on}
-use Rattle.request_rules.specs.Requests.{content_for, named_by, named_for}
-use Rattle.request_rules.specs.Rights.{is_relink, may_do}
-use Rattle.request_rules.proofs.OrderLemmas.{places_parts}
-use Rattle.create_delete.specs.Changes.{changes_by, named_attrs}
-use Rattle.create_delete.specs.Changing.{nodes_updated, pushed_by, updated_resource, without_all}
-use Rattle.create_delete.specs.NewResource.{IsReplacement}
-use Rattle.create_delete.specs.Telling.{gone_numbers, told_effect_by, told_effect_on}
-use Rattle.create_delete.specs.Updating.{IsUpdatable}
-use Rattle.create_delete.proofs.ChangesLemmas.{updating_changes, updating_gone}
-use Rattle.create_delete.proofs.RelinkLemmas.{names_link}
-use Rattle.create_delete.proofs.ReplacementLemmas.{replacement}
-use Rattle.create_delete.proofs.UpdatableLemmas.{updatable, updates_attributes}
-use Rattle.create_delete.proofs.UpdatedLemmas.{sound_updated}
+use Rattle.sight_laws.proofs.Words.{nat_eq, unwrap_or, ◌≡◌, ℕ, List, [], ◌∷◌, true, false, Bool, Option, Some, None, inl, inr, refl, sym, ap, subst, ◌∙◌, list_any, option_map_or}
+use Rattle.sight_laws.proofs.Terms.{Attr, Rsc, Updated, Update, Ty, ContentInstance, CseBase, Entry, RequestParts, HomeData, ResourceData, is_ty, update_changes, at, is_well_formed, replaced, grants, update_bit, NewValue, ShowNoMore, changed, has_bit, seen, seen_list, notes_of_all, nodes_spent, DraftParts, EntityData, refused, reply_to, wanted_content, IsSoundEntity, fault_on, content_for, named_by, named_for, is_relink, may_do, changes_by, named_attrs, nodes_updated, pushed_by, updated_resource, without_all, IsReplacement, gone_numbers, told_effect_by, told_effect_on, IsUpdatable}
+use Rattle.sight_laws.proofs.Facts.{both_ways, cases_Bool, not-true, or_parts, is_well_formed-replaced, replace-same, without-same, places_parts, updating_changes, updating_gone, names_link, replacement, updatable, updates_attributes, sound_updated}
 use Rattle.sight_laws.specs.Laws.{IsCalm, names_rules}
 use Rattle.sight_laws.specs.Sight.{sight}
 use Rattle.sight_laws.proofs.PlacesLemmas.{update_refused}

@@ -1,49 +1,9 @@
 -- What an Update makes and replies is the same on what its originator sees.
-use Rattle.std.specs.Prelude.{ℤ, ◌==◌}
-use Rattle.std.proofs.Common.{◌≡◌, ℕ, pos, List, [], ◌∷◌, ◌++◌, length, Bool, true, false, cond, ◌||◌, Option, Some, None, is_some, inl, inr, refl, sym, ap, ap₂, ◌∙◌}
-use Rattle.std.specs.List.{list_any}
-use Rattle.std.specs.Ordering.{int_eq}
-use Rattle.std.proofs.lemmas.Bool.{and_from, both_ways, cases_Bool, eqb-true, false_from_ne_true, not-true, or_cases, or_from, or_left, or_parts, or_right}
-use Rattle.std.proofs.lemmas.List.{map-append}
-use Rattle.std.proofs.lemmas.List.Folds.{list_any-append}
-use Rattle.m2m_names.specs.Attributes.{attr_short}
-use Rattle.m2m_names.specs.declared.attributes.Attr.{Attr}
-use Rattle.m2m_names.specs.declared.attributes.Attr.TheVariants.{Acpi, Aei, Cbs, Cni, Cnm, Csi, Csy, Ct, Et, Lt, Macp, Mbs, Mia, Mid, Mni, Mt, Mtv, Pi, Pv, Pvs, Ri, Rn, St}
-use Rattle.m2m_names.specs.declared.attributes.Attr.TheVariants.{Ty as TyAttr}
-use Rattle.m2m_names.specs.declared.operations.Op.TheVariants.{Update}
-use Rattle.m2m_names.specs.declared.types.Ty.{Ty}
-use Rattle.m2m_names.specs.declared.types.Ty.TheVariants.{Ae, Container, ContentInstance, CseBase, Group, RemoteCse}
-use Rattle.m2m_names.proofs.TypeLemmas.{same_type}
-use Rattle.m2m_value.specs.Data.{Data, Entry, elements_of, list, number, text}
-use Rattle.m2m_value.specs.Node.{AreSorted}
-use Rattle.m2m_value.specs.View.{member_of}
+use Rattle.sight_laws.proofs.Words.{ℤ, ◌==◌, ◌≡◌, ℕ, pos, List, [], ◌∷◌, ◌++◌, length, Bool, true, false, cond, ◌||◌, Option, Some, None, is_some, inl, inr, refl, sym, ap, ap₂, ◌∙◌, list_any, int_eq}
+use Rattle.sight_laws.proofs.Terms.{attr_short, Attr, Acpi, Aei, Cbs, Cni, Cnm, Csi, Csy, Ct, Et, Lt, Macp, Mbs, Mia, Mid, Mni, Mt, Mtv, Pi, Pv, Pvs, Ri, Rn, St, TyAttr, Update, Ty, Ae, Container, ContentInstance, CseBase, Group, RemoteCse, Data, Entry, elements_of, list, number, text, AreSorted, member_of, RequestParts, Row, is_attr, value_of, ResourceData, id_of, is_ty, added_rows, base_rows, common_rows, container_rows, expiry_rows, shown_group_rows, parent_id, shown_count, shown_moment, shown_ty, wrapped, at, instances_of, sizes_of, are_admitted, is_named, edit_in, edited, may_name, Updating, evicted, limits_of, Limits, update_bit, is_attr_in, listed_in, NewValue, changed, do_judge, does_judge, with_changes, fills, has_bit, may_use, seen, seen_list, EntityData, next_state, MembershipData, group_rows, membership_edited, link_row, listed, policy_ids, expiry_for, named_by, may_do, expiry_after, is_told_at, own_rows, pushed_by, pushed_out, state_row, told_rows, updated_content, updated_resource, IsUpdatable}
+use Rattle.sight_laws.proofs.Facts.{and_from, both_ways, cases_Bool, eqb-true, false_from_ne_true, not-true, or_cases, or_from, or_left, or_parts, or_right, cond_both, map-append, list_any-append, same_type, is_attr-same, id_attrs_hold, both_chosen, seen_shows}
 use Rattle.primitive_json.specs.Kinds.{nothing_wanted}
-use Rattle.primitive_json.specs.declared.request.RequestParts.{RequestParts}
-use Rattle.resource_model.specs.Attributes.{Row, is_attr, value_of}
-use Rattle.resource_model.specs.Resource.{ResourceData, id_of, is_ty}
-use Rattle.resource_model.proofs.AttributeLemmas.{is_attr-same}
-use Rattle.tree_model.specs.Shown.{added_rows, base_rows, common_rows, container_rows, expiry_rows, group_rows as shown_group_rows, parent_id, shown_count, shown_moment, shown_ty, wrapped}
-use Rattle.tree_model.specs.Tree.{at, instances_of, sizes_of}
-use Rattle.attribute_rules.specs.Admission.{are_admitted, is_named}
-use Rattle.attribute_rules.specs.Contents.{edit_in, edited}
-use Rattle.attribute_rules.specs.Laws.{may_name}
-use Rattle.attribute_rules.specs.declared.table.Writing.TheVariants.{Update as Updating}
-use Rattle.container_limits.specs.Limits.{evicted, limits_of}
-use Rattle.container_limits.specs.declared.limits.Limits.{Limits}
-use Rattle.policy_eval.specs.Rights.{update_bit}
-use Rattle.policy_eval.specs.Rules.{is_attr_in, listed_in}
 use Rattle.policy_laws.specs.Alike.{id_attrs}
-use Rattle.policy_laws.specs.Changes.{NewValue, changed, do_judge, does_judge, with_changes}
-use Rattle.policy_laws.specs.Seen.{fills, has_bit, may_use, seen, seen_list}
-use Rattle.policy_laws.proofs.SeenLemmas.{seen_shows}
-use Rattle.entity_model.specs.Entity.{EntityData}
-use Rattle.request_rules.specs.Creation.{next_state}
-use Rattle.request_rules.specs.Groups.{MembershipData, group_rows, membership_edited}
-use Rattle.request_rules.specs.Policies.{link_row, listed, policy_ids}
-use Rattle.request_rules.specs.Requests.{expiry_for, named_by}
-use Rattle.request_rules.specs.Rights.{may_do}
-use Rattle.create_delete.specs.Changing.{expiry_after, is_told_at, own_rows, pushed_by, pushed_out, state_row, told_rows, updated_content, updated_resource}
-use Rattle.create_delete.specs.Updating.{IsUpdatable}
 use Rattle.sight_laws.specs.Laws.{names_rules}
 use Rattle.sight_laws.specs.Sight.{sight}
 use Rattle.sight_laws.proofs.ChangeRowsLemmas.{is_touched, rows_of, same_told, told_changes, told_of, touched_told, value_after}
@@ -90,13 +50,7 @@ judges_none a none ty =
     or_from _ _ one.0 (or_from _ _ two.0 (or_from _ _ three.0 (ids four.0 five.0)))
   where
     ids : is_attr a Aei ≡ false → is_attr a Csi ≡ false → is_attr_in (id_attrs ty) a ≡ false
-    ids aei csi = elim (cases_Bool (is_ty ty Ae)) [
-      | inl t ↦ rw t (or_from _ _ aei refl)
-      | inr f ↦ elim (cases_Bool (is_ty ty RemoteCse)) [
-        | inl t ↦ rw (f, t) (or_from _ _ csi refl)
-        | inr g ↦ rw (f, g) refl
-      ]
-    ]
+    ids aei csi = id_attrs_hold (λ (attrs : List Attr). is_attr_in attrs a ≡ false) ty (λ t. or_from _ _ aei refl) (λ t. or_from _ _ csi refl) refl
 
 abbrev judged : Ty → List Row → Bool
 judged ty rows = list_any (λ (row : Row). does_judge ty row.0) rows
@@ -121,10 +75,9 @@ rows_judge_none ty e es r calm =
     one a d none = or_from _ _ none refl
 
     states : judged ty (state_row r) ≡ false
-    states = elim (cases_Bool (is_ty r.ty Container)) [
-      | inl t ↦ rw t (one St (number (pos (next_state r))) (judges_none St refl ty))
-      | inr f ↦ rw f refl
-    ]
+    states =
+        cond_both (is_ty r.ty Container) ((St, number (pos (next_state r))) ∷ []) [] (λ (rows : List Row). judged ty rows ≡ false)
+        (λ t. one St (number (pos (next_state r))) (judges_none St refl ty)) (λ f. refl)
 
     members : (m : Option MembershipData) → judged ty (group_rows e m) ≡ false
     members None = refl
@@ -140,10 +93,9 @@ rows_judge_none ty e es r calm =
         by (Some d) none = absurd (both_ways _ none refl)
 
     fans : judged ty (link_row e es Macp) ≡ false
-    fans = elim (cases_Bool (length (listed Macp es) == 0)) [
-      | inl t ↦ rw t refl
-      | inr f ↦ rw f (one Macp (list (elements_of (policy_ids e (listed Macp es)))) (judges_none Macp refl ty))
-    ]
+    fans =
+        cond_both (length (listed Macp es) == 0) [] ((Macp, list (elements_of (policy_ids e (listed Macp es)))) ∷ []) (λ (rows : List Row). judged ty rows ≡ false)
+        (λ t. refl) (λ f. one Macp (list (elements_of (policy_ids e (listed Macp es)))) (judges_none Macp refl ty))
 
 -- what an update by which everyone is judged as before doesn't name
 record IsCalmly (es : List Entry) : Type 0 where
@@ -169,18 +121,13 @@ named_judges_none ty es sorted admitted calm a named =
     other : (b : Attr) → is_named b es ≡ false → is_attr a b ≡ false
     other b none = false_from_ne_true _ (λ t. both_ways _ none (is_it es a b named t))
 
+    -- what a type may not name isn't named
+    fixed : (k : Ty) (b : Attr) → may_name k b ≡ false → is_attr b Et ≡ false → is_ty ty k ≡ true → is_attr_in (b ∷ []) a ≡ false
+    fixed k b never apart is =
+        or_from _ _ (other b (unnamed ty es b sorted admitted (ap (λ (x : Ty). may_name x b) (same_type ty k (eqb-true _ _ is)) ∙ never) apart)) refl
+
     ids : is_attr_in (id_attrs ty) a ≡ false
-    ids = elim (cases_Bool (is_ty ty Ae)) [
-      | inl t ↦
-          let fixed : may_name ty Aei ≡ false = ap (λ (k : Ty). may_name k Aei) (same_type ty Ae (eqb-true _ _ t)) in
-          rw t (or_from _ _ (other Aei (unnamed ty es Aei sorted admitted fixed refl)) refl)
-      | inr f ↦ elim (cases_Bool (is_ty ty RemoteCse)) [
-        | inl t ↦
-            let fixed : may_name ty Csi ≡ false = ap (λ (k : Ty). may_name k Csi) (same_type ty RemoteCse (eqb-true _ _ t)) in
-            rw (f, t) (or_from _ _ (other Csi (unnamed ty es Csi sorted admitted fixed refl)) refl)
-        | inr g ↦ rw (f, g) refl
-      ]
-    ]
+    ids = id_attrs_hold (λ (attrs : List Attr). is_attr_in attrs a ≡ false) ty (fixed Ae Aei refl refl) (fixed RemoteCse Csi refl refl) refl
 
 pub changes_judge_none : (e : EntityData) (es : List Entry) (r : ResourceData) → AreSorted es → IsUpdatable e es r → names_rules es ≡ false → do_judge r.ty (changes_of e es r) ≡ false
 changes_judge_none e es r sorted may calm =
@@ -224,12 +171,9 @@ module _ (e : EntityData) (o : List ℕ) (request : RequestParts) (r : ResourceD
   uses group = and_from _ _ group (or_left _ _ bit)
 
   state_seen : state_row (see r) ≡ state_row r
-  state_seen = elim (cases_Bool (is_ty r.ty Container)) [
-    | inl t ↦
-        let same : next_state (see r) ≡ next_state r = rw ((seen_shows e.home e.nodes o r).filled (fill t) St refl) refl in
-        rw t (ap (λ (n : ℕ). (St, number (pos n)) ∷ []) same)
-    | inr f ↦ rw f refl
-  ]
+  state_seen =
+      let same : is_ty r.ty Container ≡ true → next_state (see r) ≡ next_state r = λ t. rw ((seen_shows e.home e.nodes o r).filled (fill t) St refl) refl in
+      both_chosen (λ (xs ys : List Row). xs ≡ ys) (is_ty r.ty Container) _ _ _ _ (λ t. ap (λ (n : ℕ). (St, number (pos n)) ∷ []) (same t)) (λ f. refl)
 
   group_seen : group_rows seeing (membership_edited (see r) es) ≡ group_rows e (membership_edited r es)
   group_seen = ap (group_rows seeing) (edited_seen e o request r there right) ∙ group_rows-seen e o (membership_edited r es)

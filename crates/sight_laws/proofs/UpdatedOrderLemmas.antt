@@ -1,34 +1,7 @@
 -- The attributes of registered CSEs stay in order through an Update.
-use Rattle.std.specs.Prelude.{unwrap_or}
-use Rattle.std.proofs.Common.{◌≡◌, ℕ, List, [], ◌∷◌, true, Option, Some, None, refl, sym, ap, subst, ◌∙◌}
-use Rattle.std.specs.Option.{option_map_or}
-use Rattle.m2m_names.specs.declared.attributes.Attr.{Attr}
-use Rattle.m2m_names.specs.declared.codes.Rsc.{Rsc}
-use Rattle.m2m_names.specs.declared.operations.Op.TheVariants.{Update}
-use Rattle.m2m_value.specs.Data.{Data, Entry}
-use Rattle.primitive_json.specs.declared.request.RequestParts.{RequestParts}
-use Rattle.resource_model.specs.Attributes.{AreInOrder, Row}
-use Rattle.resource_model.specs.Resource.{ResourceData}
-use Rattle.resource_model.proofs.AttributeLemmas.{in_order-with_value, in_order-without_value}
-use Rattle.tree_model.specs.Tree.{at, is_numbered_in, is_tree, replaced}
-use Rattle.tree_model.proofs.GrowthLemmas.{tree_from_well_formed}
-use Rattle.tree_model.proofs.KeptLemmas.{is_tree-replaced}
-use Rattle.policy_laws.specs.Changes.{NewValue, with_change, with_changes}
-use Rattle.subscription_match.specs.Notices.{notes_of_all}
-use Rattle.subscription_match.specs.declared.drafts.DraftParts.{DraftParts}
-use Rattle.entity_model.specs.Entity.{EntityData}
-use Rattle.entity_model.specs.Places.{refused}
-use Rattle.entity_model.specs.Sound.{IsSoundEntity}
-use Rattle.request_rules.specs.Order.{fault_on}
-use Rattle.request_rules.specs.Requests.{content_for, named_by}
-use Rattle.create_delete.specs.Changes.{changes_by}
-use Rattle.create_delete.specs.Changing.{nodes_updated, pushed_by, updated_resource}
-use Rattle.create_delete.specs.NewResource.{IsReplacement}
-use Rattle.create_delete.specs.Telling.{gone_numbers, told_effect_by, told_effect_on}
-use Rattle.create_delete.specs.Updating.{IsUpdatable}
-use Rattle.create_delete.proofs.ReplacementLemmas.{replacement}
-use Rattle.create_delete.proofs.UpdatableLemmas.{updatable, updates_attributes}
-use Rattle.create_delete.proofs.UpdatedLemmas.{sound_updated}
+use Rattle.sight_laws.proofs.Words.{unwrap_or, ◌≡◌, ℕ, List, [], ◌∷◌, true, Option, Some, None, refl, sym, ap, subst, ◌∙◌, option_map_or}
+use Rattle.sight_laws.proofs.Terms.{Attr, Rsc, Update, Data, Entry, RequestParts, AreInOrder, Row, ResourceData, at, is_numbered_in, is_tree, replaced, NewValue, with_change, with_changes, notes_of_all, DraftParts, EntityData, refused, IsSoundEntity, fault_on, content_for, named_by, changes_by, nodes_updated, pushed_by, updated_resource, IsReplacement, gone_numbers, told_effect_by, told_effect_on, IsUpdatable}
+use Rattle.sight_laws.proofs.Facts.{in_order-with_value, in_order-without_value, tree_from_well_formed, is_tree-replaced, replacement, updatable, updates_attributes, sound_updated}
 use Rattle.sight_laws.specs.Sight.{AreCsesInOrder}
 use Rattle.sight_laws.proofs.CseOrderLemmas.{order_left, order_replaced, order_spent}
 use Rattle.sight_laws.proofs.ToldLemmas.{sound_counts}

@@ -4,6 +4,4 @@
 #![tactic(auto)]
 
 #[cfg(test)]
-mod counted_tree;
-#[cfg(test)]
 mod of_requests;

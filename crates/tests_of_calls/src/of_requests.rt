@@ -1,7 +1,7 @@
 //! What requests ask of a tree of 20,000 containers beside each other.
 ghost use Rattle.std.specs.Prelude.{◌≡◌, []};
 
-use crate::counted_tree::CountedTree;
+use counted_tree::CountedTree;
 use cse_machine::{Event, Outcome, step};
 use entity_model::Entity;
 use m2m_value::{read, write};
@@ -40,7 +40,11 @@ const LAST: &str =
 // Creates, the last of which pushes out an instance; the newest and the oldest instance; a group, a
 // fan-out to its members that creates and one that retrieves; a discovery below a container;
 // Updates, the second of which pushes out an instance; a Delete; a Create that is refused since its
-// name is taken; and a Retrieve before which a container expires.
+// name is taken; an access control policy, an Update that names it and a Retrieve that it allows; a
+// subscription, a polling channel, a Create of which it is told, a poll that is given that, an
+// Update of the subscription, a Notify to the application entity and its poll, a poll that is given
+// nothing, and a Delete of the subscription; another CSE, and a Retrieve and a Notify that go on to
+// it; and a Retrieve before which a container expires.
 const ASKED: &str = r#"100 {"op":2,"to":"cse-in/dev/last","fr":"CDev","rqi":"r"}
 100 {"op":2,"to":"cnt5","fr":"CDev","rqi":"r"}
 100 {"op":2,"to":"CDev/last","fr":"CDev","rqi":"r"}
@@ -63,13 +67,29 @@ const ASKED: &str = r#"100 {"op":2,"to":"cse-in/dev/last","fr":"CDev","rqi":"r"}
 100 {"op":4,"to":"cse-in/dev/last/d","fr":"CDev","rqi":"r"}
 100 {"op":1,"to":"cse-in","fr":"COther","rqi":"r","ty":2,"pc":{"m2m:ae":{"api":"N2","rn":"other","rr":true}}}
 100 {"op":1,"to":"cse-in/dev","fr":"CDev","rqi":"r","ty":3,"pc":{"m2m:cnt":{"rn":"c7"}}}
+100 {"op":1,"to":"cse-in/dev","fr":"CDev","rqi":"r","ty":1,"pc":{"m2m:acp":{"rn":"p","pv":{"acr":[{"acor":["CDev"],"acop":63},{"acor":["COther"],"acop":2}]},"pvs":{"acr":[{"acor":["CDev"],"acop":63}]}}}}
+100 {"op":3,"to":"cse-in/dev/last","fr":"CDev","rqi":"r","pc":{"m2m:cnt":{"acpi":["cse-in/dev/p"]}}}
+100 {"op":2,"to":"cse-in/dev/last","fr":"COther","rqi":"r"}
+100 {"op":1,"to":"cse-in/dev/last","fr":"CDev","rqi":"r","ty":23,"pc":{"m2m:sub":{"rn":"t","nu":["CDev"],"enc":{"net":[3]}}}}
+100 {"op":1,"to":"cse-in/dev","fr":"CDev","rqi":"r","ty":15,"pc":{"m2m:pch":{"rn":"q"}}}
+100 {"op":1,"to":"cse-in/dev/last","fr":"CDev","rqi":"r","ty":4,"pc":{"m2m:cin":{"con":"d"}}}
+100 {"op":2,"to":"cse-in/dev/q/pcu","fr":"CDev","rqi":"r"}
+100 {"op":3,"to":"cse-in/dev/last/t","fr":"CDev","rqi":"r","pc":{"m2m:sub":{"enc":{"net":[3,4]}}}}
+100 {"op":5,"to":"cse-in/dev","fr":"CDev","rqi":"r","pc":{"m2m:sgn":{"sur":"cse-in/dev/last/t"}}}
+100 {"op":2,"to":"cse-in/dev/q/pcu","fr":"CDev","rqi":"r"}
+100 {"op":2,"to":"cse-in/dev/q/pcu","fr":"CDev","rqi":"r"}
+100 {"op":4,"to":"cse-in/dev/last/t","fr":"CDev","rqi":"r"}
+100 {"op":1,"to":"cse-in","fr":"CAdmin","rqi":"r","ty":16,"pc":{"m2m:csr":{"rn":"mn","csi":"/id-mn","cb":"/id-mn/cse-mn","poa":["http://127.0.0.1:9"],"rr":true}}}
+100 {"op":2,"to":"/id-mn/cse-mn","fr":"CDev","rqi":"r"}
+100 {"op":5,"to":"/id-mn/x","fr":"CDev","rqi":"r","pc":{"m2m:sgn":{"sur":"s"}}}
 100 {"op":1,"to":"cse-in/dev","fr":"CDev","rqi":"r","ty":3,"pc":{"m2m:cnt":{"rn":"e","et":"19700101T000330"}}}
 300 {"op":2,"to":"cse-in/dev/e","fr":"CDev","rqi":"r"}"#;
 
-fn opened<T: Tree>(alloc: Global, tree: T) -> Result<Entity<T>, OutOfMemory>
-    requires { T.nodes tree ≡ [] }
-{
-    Entity::open(alloc, Home::with_defaults(alloc)?, tree, 100)
+// What a request is told, and how many calls of the tree it makes.
+#[derive(Drop)]
+struct Answer {
+    told: Vec<u8>,
+    calls: u64,
 }
 
 fn request(alloc: Global, text: &str) -> Result<Request, OutOfMemory> {
@@ -77,18 +97,31 @@ fn request(alloc: Global, text: &str) -> Result<Request, OutOfMemory> {
     request_from(alloc, value).map_err(|_| OutOfMemory)
 }
 
-// The text of the reply to a request at a reading.
+// What an outcome tells: the text of the reply, or where the request goes on to.
+fn text_of(alloc: Global, outcome: Outcome) -> Result<Vec<u8>, OutOfMemory> {
+    let mut told = Vec::new(alloc);
+    match outcome {
+        Outcome::Done(reply) => write(&reply_into(alloc, reply)?, &mut told)?,
+        Outcome::Forward {
+            poa,
+            request: _request,
+        } => told.extend_from_slice(poa.entries())?,
+        Outcome::Item(_item) => {}
+        Outcome::Ticked | Outcome::Starved { .. } => {}
+    }
+    Ok(told)
+}
+
+// What a request at a reading is told.
 fn reply<T: Tree>(
     alloc: Global,
     entity: &mut Entity<T>,
     reading: u64,
     text: &str,
 ) -> Result<Vec<u8>, OutOfMemory> {
-    let mut told = Vec::new(alloc);
-    if let Outcome::Done(reply) = step(alloc, entity, reading, &Event::Ask(request(alloc, text)?)) {
-        write(&reply_into(alloc, reply)?, &mut told)?;
-    }
-    Ok(told)
+    let event = Event::Ask(request(alloc, text)?);
+    let outcome = step(alloc, entity, reading, &event);
+    text_of(alloc, outcome)
 }
 
 // The same by a line: the reading, and the request.
@@ -121,6 +154,39 @@ fn grow<T: Tree>(alloc: Global, entity: &mut Entity<T>, count: u64) -> Result<()
     Ok(())
 }
 
+// A CSE over an empty tree, which so many containers and the last one are put into.
+fn grown<T: Tree>(alloc: Global, tree: T, count: u64) -> Result<Entity<CountedTree<T>>, OutOfMemory>
+    requires { T.nodes tree ≡ [] }
+{
+    let tree = CountedTree::of(tree);
+    let mut entity = Entity::open(alloc, Home::with_defaults(alloc)?, tree, 100)?;
+    grow(alloc, &mut entity, count)?;
+    Ok(entity)
+}
+
+fn answer_to<T: Tree>(
+    alloc: Global,
+    entity: &mut Entity<CountedTree<T>>,
+    line: &str,
+) -> Result<Answer, OutOfMemory> {
+    let before = entity.tree.calls();
+    let told = told(alloc, entity, line)?;
+    let calls = entity.tree.calls().saturating_sub(before);
+    Ok(Answer { told, calls })
+}
+
+// What is answered to each line, one behind the other, over a tree with so many containers.
+fn answers<T: Tree>(alloc: Global, tree: T, count: u64) -> Result<Vec<Answer>, OutOfMemory>
+    requires { T.nodes tree ≡ [] }
+{
+    let mut entity = grown(alloc, tree, count)?;
+    let mut answers = Vec::new(alloc);
+    for line in ASKED.lines() {
+        answers.push(answer_to(alloc, &mut entity, line)?)?;
+    }
+    Ok(answers)
+}
+
 // How many calls the request of this line may make.
 fn most_calls(line: &str) -> u64 {
     if line.contains("/fopt") {
@@ -132,12 +198,9 @@ fn most_calls(line: &str) -> u64 {
 
 #[test]
 fn a_request_makes_few_calls(rt: HostRuntime) -> Result<(), Fail> {
-    let mut entity = opened(rt.alloc(), CountedTree::of(IndexTree::new(rt.alloc())))?;
-    grow(rt.alloc(), &mut entity, MANY)?;
-    for line in ASKED.lines() {
-        let before = entity.tree.calls();
-        told(rt.alloc(), &mut entity, line)?;
-        let calls = entity.tree.calls().saturating_sub(before);
+    let found = answers(rt.alloc(), IndexTree::new(rt.alloc()), MANY)?;
+    for (line, answer) in ASKED.lines().zip(found.iter()) {
+        let calls = answer.calls;
         assert!(rt; calls <= most_calls(line), "{line}: {calls} calls");
     }
     Ok(())
@@ -145,14 +208,11 @@ fn a_request_makes_few_calls(rt: HostRuntime) -> Result<(), Fail> {
 
 #[test]
 fn both_trees_give_equal_replies(rt: HostRuntime) -> Result<(), Fail> {
-    let mut indexed = opened(rt.alloc(), IndexTree::new(rt.alloc()))?;
-    let mut plain = opened(rt.alloc(), ListTree::new(rt.alloc()))?;
-    grow(rt.alloc(), &mut indexed, FEW)?;
-    grow(rt.alloc(), &mut plain, FEW)?;
-    for line in ASKED.lines() {
-        let found = told(rt.alloc(), &mut indexed, line)?;
-        assert!(rt; !found.is_empty(), "{line}");
-        assert!(rt; found == told(rt.alloc(), &mut plain, line)?, "{line}");
+    let indexed = answers(rt.alloc(), IndexTree::new(rt.alloc()), FEW)?;
+    let plain = answers(rt.alloc(), ListTree::new(rt.alloc()), FEW)?;
+    for (line, (one, other)) in ASKED.lines().zip(indexed.iter().zip(plain.iter())) {
+        assert!(rt; !one.told.is_empty(), "{line}");
+        assert!(rt; one.told == other.told, "{line}");
     }
     Ok(())
 }

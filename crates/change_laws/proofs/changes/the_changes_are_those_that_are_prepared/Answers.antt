@@ -1,4 +1,4 @@
-use Rattle.create_delete.proofs.ChangesLemmas.{deleted_are}
+use Rattle.change_laws.proofs.Facts.{deleted_are}
 use Rattle.change_laws.proofs.ServedLemmas.{told_created, told_updated}
 use Rattle.change_laws.proofs.changes.the_changes_are_those_that_are_prepared.Goals as goal
 

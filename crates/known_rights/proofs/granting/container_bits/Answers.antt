@@ -1,6 +1,6 @@
-use Rattle.std.specs.Prelude.{nat_eq}
 use Rattle.std.proofs.Common.{ap, sym, ◌∙◌}
-use Rattle.std.specs.HashMap.{get}
+use Rattle.std.specs.BTreeMap.{get}
+use Rattle.std.specs.Ordering.{nat_cmp}
 use Rattle.m2m_names.specs.declared.attributes.Attr.TheVariants.{Pv}
 use Rattle.policy_eval.specs.Rules.{linked_rules}
 use Rattle.known_rights.proofs.KnownLemmas.{bits_noted}
@@ -9,7 +9,7 @@ use Rattle.known_rights.proofs.granting.container_bits.Goals as goal
 pub returns-in-Some-clause-bits : goal.returns-in-Some-clause-bits
 returns-in-Some-clause-bits g c =
     c.requires.known.linked c.args.container.now c.in-Some.bits c.requires.container
-    (ap (λ n. get nat_eq c.args.known.now.linked n) (sym c.number.ensures.value) ∙ sym c.bits_at.ensures ∙ c.in-Some.is)
+    (ap (λ n. get nat_cmp c.args.known.now.linked n) (sym c.number.ensures.value) ∙ sym c.bits_at.ensures ∙ c.in-Some.is)
 
 pub returns-clause-known : goal.returns-clause-known
 returns-clause-known g c =

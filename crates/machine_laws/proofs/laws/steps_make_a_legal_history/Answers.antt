@@ -1,4 +1,4 @@
-use Rattle.std.proofs.Common.{refl}
+use Rattle.machine_laws.proofs.Words.{refl}
 use Rattle.machine_laws.proofs.HistoryLemmas.{one_more, sound_after}
 use Rattle.machine_laws.proofs.laws.steps_make_a_legal_history.Goals as goal
 

@@ -1,5 +1,5 @@
-use Rattle.std.proofs.Common.{ap, ◌∙◌}
-use Rattle.entity_model.specs.Entity.{EntityData, swept}
+use Rattle.machine_laws.proofs.Words.{ap, ◌∙◌}
+use Rattle.machine_laws.proofs.Terms.{EntityData, swept}
 use Rattle.machine_laws.proofs.GuardLemmas.{notified_still, retrieved_still}
 use Rattle.machine_laws.proofs.HistoryLemmas.{done_keeps, onward_leaves, starved_alone, starved_undone}
 use Rattle.machine_laws.proofs.laws.what_is_refused_or_read_changes_nothing.Goals as goal

@@ -1,4 +1,4 @@
-use Rattle.resource_model.specs.Home.{default_home}
+use Rattle.retrieve_laws.proofs.Terms.{default_home}
 use Rattle.retrieve_laws.proofs.NamedLemmas.{one_address}
 use Rattle.retrieve_laws.proofs.OwnLemmas.{own_addresses}
 use Rattle.retrieve_laws.proofs.RightLemmas.{discovered_by_right, retrieved_by_right}

@@ -1,6 +1,5 @@
-use Rattle.std.proofs.Common.{◌∙◌, ap, sym, take}
-use Rattle.retrieve_discover.specs.Contents.{may_retrieve, most_shown}
-use Rattle.retrieve_discover.specs.Descendants.{forest_of}
+use Rattle.retrieve_laws.proofs.Words.{◌∙◌, ap, sym, take}
+use Rattle.retrieve_laws.proofs.Terms.{may_retrieve, most_shown, forest_of}
 use Rattle.retrieve_laws.proofs.CutLemmas.{preorder-cut}
 use Rattle.retrieve_laws.proofs.ReachLemmas.{filtered_is_reached}
 use Rattle.retrieve_laws.proofs.rights.what_is_shown_is_a_filter.Goals as goal

@@ -8,16 +8,17 @@ use std::sync::atomic::{AtomicU64, Ordering};
 use std::sync::ledger::Ledger;
 use tree_model::{Steps, Tree};
 
-/// A tree, and how many calls of it were made.
+/// A tree, and how many calls of it were made. Clauses don't see the number.
 #[derive(Drop)]
-pub(crate) struct CountedTree<T: Tree> {
-    tree: T,
+pub struct CountedTree<T: Tree> {
+    /// The tree.
+    pub tree: T,
     calls: AtomicU64,
 }
 
 impl<T: Tree> CountedTree<T> {
     /// The tree, of which no call was made.
-    pub(crate) fn of(tree: T) -> CountedTree<T>
+    pub fn of(tree: T) -> CountedTree<T>
         ensures { result.tree ≡ tree }
     {
         CountedTree {
@@ -27,7 +28,7 @@ impl<T: Tree> CountedTree<T> {
     }
 
     /// How many calls were made.
-    pub(crate) fn calls(&self) -> u64 {
+    pub fn calls(&self) -> u64 {
         self.calls.load(Ordering::SeqCst)
     }
 
