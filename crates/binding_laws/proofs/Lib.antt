@@ -10,4 +10,11 @@ pub mod LineLemmas
 pub mod PairLemmas
 pub mod TargetLemmas
 pub mod PlainLemmas
+pub mod RootLemmas
+pub mod HeadLemmas
+pub mod LengthLemmas
+pub mod OneMessageLemmas
+pub mod DeepLemmas
+pub mod ToldLemmas
+pub mod AsReadLemmas
 pub mod BoundLemmas

@@ -1,1 +1,4 @@
+pub mod AsRead
 pub mod ReadBack
+pub mod OneMessage
+pub mod Telling

@@ -5,5 +5,7 @@ pub mod LawLemmas
 pub mod GuardedLemmas
 pub mod CarriedLemmas
 pub mod OneWayLemmas
+pub mod RepeatLemmas
 pub mod PeerLemmas
 pub mod OnwardLemmas
+pub mod SentOnLemmas

@@ -1,7 +1,7 @@
 -- What goes on to another CSE says all that was asked.
-use Rattle.service_laws.proofs.Words.{◌≡◌, ℕ, ◌<◌, ◌≤◌, ◌==◌, ◌&&◌, Bool, true, false, cond, nat_eq, nat_lt, List, [], ◌∷◌, ◌++◌, length, drop, codes, Option, Some, None, IfSome, IsTrue, Result, Ok, Err, is_some, inl, inr, refl, sym, ap, subst, ◌∙◌, arith, AllByRecursion, after_first, before_first, list_all, position_or_len, starts_with, option_and_then, option_map_or, result_unwrap_or}
-use Rattle.service_laws.proofs.Terms.{ReplyParts, RequestParts, target_text, has_own_path, path_of_address, Peer, Carried, handed_on, EntityData, swept, Outcome, Done, Forward, Item, Ticked, Starved}
-use Rattle.service_laws.proofs.Facts.{and_from, cases_Bool, false≢true, le-leb, lt-ltb, ltb-false, take_all, same_Some, one_reply, told_is_carried}
+use Rattle.service_laws.proofs.Words.{◌≡◌, ℕ, ◌≤◌, Bool, true, false, cond, nat_eq, nat_lt, List, [], ◌∷◌, ◌++◌, length, drop, codes, Option, Some, None, IfSome, IsTrue, Result, Ok, Err, is_some, inl, inr, refl, sym, ap, subst, ◌∙◌, arith, AllByRecursion, after_first, before_first, list_all, position_or_len, starts_with, option_and_then, option_map_or, result_unwrap_or}
+use Rattle.service_laws.proofs.Terms.{ReplyParts, RequestParts, has_own_path, path_of_address, EntityData, swept, Outcome, Done, Forward, Item, Ticked, Starved}
+use Rattle.service_laws.proofs.Facts.{and_from, cases_Bool, false≢true, le-leb, lt-ltb, ltb-false, take_all, same_Some}
 use Rattle.std.specs.Char.{is_ascii_graphic}
 use Rattle.std.specs.Str.{bytes_eq}
 use Rattle.std.proofs.lemmas.Bool.Decides.{nat_tests}
@@ -23,7 +23,7 @@ use Rattle.resource_model.specs.Resource.{ResourceData}
 use Rattle.resource_model.proofs.HomeLemmas.{home_parts}
 use Rattle.m2m_names.specs.declared.attributes.Attr.TheVariants.{Poa}
 use Rattle.tree_model.specs.Tree.{at}
-use Rattle.addressing.specs.Addresses.{address_of, are_names, between_slashes, by_cse, by_names, by_provider, cut_at, is_slash, joined, of_provider, shaped, under, unless_shapeless}
+use Rattle.addressing.specs.Addresses.{address_of, are_names, between_slashes, by_cse, cut_at, is_slash, joined, of_provider, shaped, under, unless_shapeless}
 use Rattle.addressing.specs.declared.addr.Addr.{Addr}
 use Rattle.addressing.specs.declared.addr.Addr.TheVariants.{Local, Foreign, OtherProvider}
 use Rattle.addressing.specs.declared.addr.AddrFault.{AddrFault}
@@ -33,11 +33,9 @@ use Rattle.addressing.proofs.PartLemmas.{joined-between_slashes, names_parts, pa
 use Rattle.subscription_match.specs.Destinations.{cse_named, first_url, is_url}
 use Rattle.http_uri.specs.ByteClasses.{split_once_back}
 use Rattle.http_target.specs.Targets.{has_provider, has_segment}
-use Rattle.http_client_binding.specs.Laws.{IsSendable}
 use Rattle.http_client_binding.specs.QueryWriting.{query_pairs, query_part, query_text}
 use Rattle.http_frames.specs.Text.{IsTarget}
 use Rattle.retarget.specs.Routes.{comes_from_cse, forwarded, routed_to}
-use Rattle.retarget.specs.declared.routing.Route.{Route}
 use Rattle.retarget.specs.declared.routing.Route.TheVariants as to
 use Rattle.entity_model.specs.Places.{refusal}
 use Rattle.entity_model.proofs.TellingLemmas.{sound_swept}
@@ -45,11 +43,14 @@ use Rattle.group_fanout.specs.Rights.{claimed_originator}
 use Rattle.cse_machine.specs.Answer.{EventEffect, address_effect, effect_of, has_originator, onward_effect, point_of, route_effect}
 use Rattle.cse_machine.proofs.PlaceLemmas.{claimed_valid}
 use Rattle.machine_laws.proofs.JudgedLemmas.{heard_effect, is_heard, judged, refused_effect, turned_down}
+use Rattle.binding_laws.specs.AsRead.{IsAsRead, IsText}
 use Rattle.binding_laws.specs.ReadBack.{IsOneWord, IsTellable, SaysAll, is_no_space}
 use Rattle.binding_laws.proofs.PlainLemmas.{is_part_byte, parts_address, parts_target, parts_utf8}
-use Rattle.binding_laws.proofs.TargetLemmas.{all_append, target_with}
-use Rattle.service_laws.specs.Onward.{CanBeSaid, GoesOnSaid, IsAsRead, IsSayable, IsText, WhatGoesOnIsAnsweredThere, WhatGoesOnSaysAll}
-use Rattle.service_laws.proofs.PeerLemmas.{answered_there}
+use Rattle.binding_laws.proofs.TargetLemmas.{all_append}
+use Rattle.service_laws.specs.Onward.{CanBeSaid, IsSayable, WhatGoesOnIsAnsweredThere, WhatGoesOnSaysAll}
+use Rattle.service_laws.specs.Peers.{AnswersOnce}
+use Rattle.service_laws.proofs.PeerLemmas.{answered_there, gives_told}
+use Rattle.service_laws.proofs.RepeatLemmas.{each_repeats, id_of_kind, kind_repeated}
 
 -- ---- addresses
 
@@ -164,9 +165,9 @@ provider_there rest h =
     (ap (λ (o : Option (List ℕ)). option_map_or has_segment o false) (back_cut rest h.behind h.sp h.cut) ∙ names_segment h.behind h.names)
 
 -- an address that leads to another CSE is of names and slashes, and has a path of its own
-record IsPlainAddress (to : List ℕ) : Type 0 where
-  bytes : list_all is_part_byte to ≡ true
-  own : has_own_path to ≡ true
+pub record IsPlainAddress (to : List ℕ) : Type 0 where
+  pub bytes : list_all is_part_byte to ≡ true
+  pub own : has_own_path to ≡ true
 
 foreign_shaped : (home : HomeData) (to text : List ℕ) → shaped home to ≡ Some (Foreign text) → IsPlainAddress to
 foreign_shaped home to text found = elim (cases_Bool (starts_with nat_eq to (codes "//"))) [
@@ -201,7 +202,7 @@ foreign_found : (home : HomeData) (to text : List ℕ) (a : Option Addr) → sha
 foreign_found home to text None is found = cc
 foreign_found home to text (Some addr) is found = foreign_shaped home to text (is ∙ ap Some (found_addr addr (Foreign text) found))
 
-foreign_plain : (home : HomeData) (to text : List ℕ) → address_of home to ≡ Ok (Foreign text) → IsPlainAddress to
+pub foreign_plain : (home : HomeData) (to text : List ℕ) → address_of home to ≡ Ok (Foreign text) → IsPlainAddress to
 foreign_plain home to text found = elim (cases_Bool (nat_lt point_limit (length to))) [
   | inl long ↦ (let none : Err TooLong ≡ Ok (Foreign text) = rw long at found in cc)
   | inr short ↦ foreign_found home to text (shaped home to) refl (rw short at found)
@@ -210,13 +211,13 @@ foreign_plain home to text found = elim (cases_Bool (nat_lt point_limit (length 
 -- ---- what goes on
 
 -- A request goes on to a URL: it has its form, says who asks, and its address leads to a CSE whose first URL this is.
-record WentOn (e : EntityData) (request : RequestParts) (url : List ℕ) (sent : RequestParts) : Type 0 where
-  form : has_form request ≡ true
-  originator : has_originator e.home request ≡ true
-  text : List ℕ
-  address : address_of e.home request.to ≡ Ok (Foreign text)
-  url_is : is_url url ≡ true
-  same : sent ≡ forwarded e.home (claimed_originator e.home request) request
+pub record WentOn (e : EntityData) (request : RequestParts) (url : List ℕ) (sent : RequestParts) : Type 0 where
+  pub form : has_form request ≡ true
+  pub originator : has_originator e.home request ≡ true
+  pub text : List ℕ
+  pub address : address_of e.home request.to ≡ Ok (Foreign text)
+  pub url_is : is_url url ≡ true
+  pub same : sent ≡ forwarded e.home (claimed_originator e.home request) request
 
 -- the URL and the request of what goes on
 abbrev url_of : Outcome → List ℕ
@@ -275,7 +276,7 @@ module _ (e : EntityData) (request : RequestParts) (url : List ℕ) (sent : Requ
   by_address (Ok OtherProvider) form by is goes = absurd (no_reply _ url sent goes)
   by_address (Err fault) form by is goes = absurd (no_reply _ url sent goes)
 
-  went_on : Goes (effect_of e request).outcome → WentOn e request url sent
+  pub went_on : Goes (effect_of e request).outcome → WentOn e request url sent
   went_on is = elim (judged e request) [
     | turned_down fault other at ↦ absurd (no_reply (refusal request fault) url sent (is ∙ ap (λ (x : EventEffect). x.outcome) (refused_effect e request fault at)))
     | is_heard none facts ↦ by_address (address_of e.home request.to) facts.form facts.originator refl (is ∙ ap (λ (x : EventEffect). x.outcome) (heard_effect e request none))
@@ -283,28 +284,31 @@ module _ (e : EntityData) (request : RequestParts) (url : List ℕ) (sent : Requ
 
 -- ---- its originator
 
+-- what stands behind the own CSE-ID is printable where it was
+pub lead_graphic : (home : HomeData) (o : List ℕ) → IsHome home → list_all is_ascii_graphic o ≡ true → list_all is_ascii_graphic (codes "/" ++ (own_lead home ++ o)) ≡ true
+lead_graphic home o is graphic =
+    let csi = name_parts home.csi (free_name_parts home.csi (home_parts home is).csi).name in
+    all_append is_ascii_graphic (own_lead home) o
+    (all_append is_ascii_graphic home.csi (codes "/") (all_weaker is_unreserved is_ascii_graphic unreserved_graphic home.csi csi.unreserved) refl)
+    graphic
+  where
+    unreserved_graphic : (b : ℕ) → is_unreserved b ≡ true → is_ascii_graphic b ≡ true
+    unreserved_graphic b h = grind (arith, nat_tests)
+
 -- a full form that isn't too long is that of an originator
 full_originator : (home : HomeData) (o : List ℕ) → IsHome home → is_originator o ≡ true → length (full_form home o) ≤ originator_limit → is_originator (full_form home o) ≡ true
 full_originator home o is valid short = elim (cases_Bool (starts_with nat_eq o (codes "/"))) [
   | inl t ↦ rw t valid
   | inr f ↦
-      let parts = printable_parts originator_limit o valid in
-      let csi = name_parts home.csi (free_name_parts home.csi (home_parts home is).csi).name in
       let text = codes "/" ++ (own_lead home ++ o) in
       let fits : length text ≤ originator_limit = rw f at short in
-      let graphic : list_all is_ascii_graphic text ≡ true =
-      all_append is_ascii_graphic (own_lead home) o
-      (all_append is_ascii_graphic home.csi (codes "/") (all_weaker is_unreserved is_ascii_graphic unreserved_graphic home.csi csi.unreserved) refl)
-      parts.graphic in
-      rw f (and_from _ _ (and_from _ _ (lt-ltb 0 (length text) (omega arith)) (le-leb (length text) originator_limit fits)) graphic)
+      rw f (and_from _ _ (and_from _ _ (lt-ltb 0 (length text) (omega arith)) (le-leb (length text) originator_limit fits))
+      (lead_graphic home o is (printable_parts originator_limit o valid).graphic))
 ]
-  where
-    unreserved_graphic : (b : ℕ) → is_unreserved b ≡ true → is_ascii_graphic b ≡ true
-    unreserved_graphic b h = grind (arith, nat_tests)
 
 -- ---- together
 
-url_some : (url : List ℕ) (place : Option ℕ) → host_end_at url ≡ place → is_some place ≡ true → IsSomeUrl url
+pub url_some : (url : List ℕ) (place : Option ℕ) → host_end_at url ≡ place → is_some place ≡ true → IsSomeUrl url
 url_some url None is some = absurd (false≢true some)
 url_some url (Some n) is some = (n, url_found url n is)
 
@@ -365,12 +369,13 @@ goes_on_said reading request before after url sent goes =
 pub goes_on_answered : WhatGoesOnIsAnsweredThere
 goes_on_answered reading request before after url sent goes there left given now answer talks =
     let says = goes_on_said reading request before after url sent goes in
-    let one = answered_there sent url there left given now answer says talks in (
+    let one = answered_there sent url there left given now answer says talks in
+    let once : AnswersOnce there left given now (record sent { fc = one.0 }) one.2 = one.3 in
+    let repeats = each_repeats once.reading (record sent { fc = one.0 }) there left once.outcome one.2 once.carried once.step once.gives in
+    let kind = kind_repeated (record sent { fc = one.0 }) one.2 repeats (id_of_kind sent says.sendable.kinds.form) in (
       one.0,
       one.1,
       one.2,
       one.3,
-      λ reply kinds sound carried.
-          one_reply (Some answer) sent.rqi reply (handed_on sent.rqi one.2) carried
-          (subst (λ (v : List ℕ). Carried (Some v) sent.rqi (handed_on sent.rqi one.2)) (sym one.4) (told_is_carried one.2 true sent.rqi kinds sound)),
+      λ reply sound carried. gives_told answer sent.rqi one.2 reply one.4 kind sound carried,
     )

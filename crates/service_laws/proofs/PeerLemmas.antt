@@ -1,25 +1,33 @@
 -- The answer of another CSE to one request.
-use Rattle.service_laws.proofs.Words.{◌≡◌, ◌≢◌, ℕ, true, false, List, [], ◌∷◌, ◌++◌, length, map, if◌then◌else◌, Option, Some, None, Result, Ok, Err, IfSome, IsTrue, ◌⊎◌, inl, inr, refl, sym, ap, subst, ◌∙◌, append-nil, arith, cons_option, list_any, result_ok}
+use Rattle.service_laws.proofs.Words.{◌≡◌, ◌≢◌, ◌≤◌, ℕ, true, false, List, [], ◌∷◌, ◌++◌, length, map, if◌then◌else◌, Option, Some, None, Result, Ok, Err, IfSome, IsTrue, ◌⊎◌, inl, inr, refl, sym, ap, subst, ◌∙◌, append-nil, arith, cons_option, list_any, result_ok}
 use Rattle.service_laws.proofs.Terms.{Carrying, ReplyParts, RequestParts, Runs, readings_of, events_of, outcomes_of, Frame, Request, BeginsWithFrame, BeginsWithFrames, HasNoFrame, reply_text, close_lines, content_lines, id_lines, request_frame, request_text, caller_lines, expiry_lines, host_field, origin_lines, host_of, Peer, Carried, handed_on, EntityData, History, Event, Ask, Outcome, Step, Ended, Closed, NoFrame, asks_by, asks_to_close, closes, Says, SinkTold, sink_told, GivesReply, GivesReplies, malformed, reply_for, request_in, requests_in, talk}
 use Rattle.service_laws.proofs.Facts.{cases_Bool, cond-true, cond-false, false≢true, true≢false, Grew-runs, one_reply, told_is_carried, none_some, same_first}
 use Rattle.std.specs.Fmt.{decimal}
-use Rattle.m2m_value.specs.Data.{Data}
+use Rattle.m2m_value.specs.Data.{Data, depth}
+use Rattle.m2m_value.specs.Reading.{reading_depth}
+use Rattle.m2m_value.specs.Sound.{IsSound}
 use Rattle.m2m_names.specs.declared.operations.Op.{Op}
 use Rattle.m2m_names.specs.declared.operations.Op.TheVariants.{Create, Retrieve, Update, Notify, Delete as Removal}
 use Rattle.m2m_io.specs.Told.{Tells}
 use Rattle.primitive_json.specs.Bounds.{is_request_id}
+use Rattle.primitive_json.specs.Laws.{IsReplyOfKinds}
 use Rattle.primitive_json.specs.declared.request.When.{When}
 use Rattle.http_frames.specs.declared.frame.Start.{Start}
+use Rattle.http_frames.specs.Frame.{IsFrame}
 use Rattle.http_frames.specs.Lines.{Line, is_same_name}
+use Rattle.http_frames.specs.declared.frame.Side.TheVariants.{Reply}
 use Rattle.http_target.specs.declared.fault.BindFault.{BindFault}
 use Rattle.http_binding.specs.Binding.{binding, echo_of, created_type}
 use Rattle.http_binding.specs.Headers.{length_field}
 use Rattle.http_binding.proofs.BackLemmas.{reply_sound}
+use Rattle.http_binding.proofs.LawLemmas.{binds_to_kinds}
 use Rattle.http_client_binding.proofs.AskLemmas.{request_back}
 use Rattle.binding_laws.proofs.BoundLemmas.{bound_back}
+use Rattle.binding_laws.proofs.ToldLemmas.{none_told}
 use Rattle.peer_link.specs.PeerTalk.{PeerTalks}
 use Rattle.service_laws.specs.Laws.{IsFaultless}
-use Rattle.service_laws.specs.Peers.{AnAnswerIsThePeers, AnswersBound, AnswersOnce, IsPeersAnswer, IsRefusedThere, TheRequestIsAnsweredThere, WhatBindsToNothingIsRefusedThere, WhatIsNoMessageIsRefusedThere}
+use Rattle.service_laws.specs.Peers.{AnAnswerIsThePeers, AnswersBound, AnswersOnce, GivesTold, IsPeersAnswer, IsRefusedThere, TheRequestIsAnsweredThere, WhatBindsToNothingIsRefusedThere, WhatIsNoMessageIsRefusedThere}
+use Rattle.service_laws.proofs.RepeatLemmas.{of_kinds}
 use Rattle.service_laws.proofs.OneWayLemmas.{Settles, heard_one_way, said_whole, settles}
 
 -- ---- it closes the connection
@@ -102,6 +110,35 @@ echo_kind sent url =
     subst IsOfItsKind
     (sym (echo_is frame.start frame.body (host_of url) sent.fr sent.rqi sent.rqet (created_type sent.op sent.ty) sent.pc (decimal (length frame.body))))
     (id_kind sent.rqi)
+
+-- So is that of a reply which an entity gives what a frame is bound to.
+told_kind : (frame : Frame) (bound : Result RequestParts BindFault) (before after : EntityData) (given now : Option (List ℕ)) (told : ReplyParts)
+    → binding frame ≡ bound → IsOfItsKind (echo_of frame) → AnswersBound before after given now bound (echo_of frame) told → IsReplyOfKinds told
+told_kind frame (Ok asked) before after given now told is echo answers =
+    of_kinds answers.reading asked before after answers.outcome told answers.carried answers.step answers.gives (binds_to_kinds frame asked is).0.form
+told_kind frame (Err fault) before after given now told is echo answers = subst IsReplyOfKinds (sym answers.0) echo
+
+-- content that is sound, and no deeper than a text is read
+both : (pc : Option Data) → IfSome pc IsSound → IfSome pc (λ d. depth d ≤ reading_depth) → IfSome pc (λ d. IsSound d × (depth d ≤ reading_depth))
+both None sound shallow = tt
+both (Some d) sound shallow = (sound, shallow)
+
+-- a reply that an answer is the text of is known, whatever it holds
+pub gives_told : (answer rqi : List ℕ) (told reply : ReplyParts) → answer ≡ reply_text told true → IsReplyOfKinds told → IfSome told.pc IsSound
+    → Carried (Some answer) rqi reply → GivesTold rqi told reply
+gives_told answer rqi told reply text kind sound carried = record {
+  handed = λ can.
+      one_reply (Some answer) rqi reply (handed_on rqi told) carried
+      (subst (λ (v : List ℕ). Carried (Some v) rqi (handed_on rqi told)) (sym text)
+      (told_is_carried told true rqi (record { rqi = kind; pc = both told.pc sound can.depth })
+      (reply_sound told true (record { rqi = kind; body = can.body }))));
+  unread = λ untold. elim carried [
+    | inl said ↦
+        absurd (none_told told said.0 true said.1.frame (record { rqi = kind; pc = sound }) untold
+        (subst (λ (t : List ℕ). IsFrame Reply t said.1.frame) text said.1.is_frame) said.1.says)
+    | inr none ↦ none.1
+  ];
+}
 
 -- one outcome of one request gives one reply
 one_given : (asked : RequestParts) (outcome : Outcome) (replies : List ReplyParts) (carried : List Carrying)
@@ -192,17 +229,18 @@ module _ (sent : RequestParts) (url : List ℕ) (before after : EntityData) (giv
       let said : answer ≡ told =
       said_there
       ∙ (λ i. talk 1 (heard.0 i) (heard.1 i) asks.replies) ∙ lone_talk frame asks.replies here in
+      let reply : ReplyParts = reply_for frame (request_in frame) asks.replies in
+      let answers : AnswersBound before after given now (binding frame) (echo_of frame) reply =
+      answers_by frame (binding frame) before after given now mine asks.readings asks.outcomes asks.replies asks.carried
+      (asks.asked.events_are ∙ ap (map Ask) requests) (Grew-runs Step asks.asked.grew) asks.asked.readings_are asks.asked.outcomes_are
+      (subst (λ (r : Option (List ℕ)). Tells (λ list. list ++ asks.readings) given r) talks.clock asks.clock)
+      (subst (λ (rs : List RequestParts). GivesReplies rs asks.outcomes asks.replies asks.carried) requests asks.gives) in
+      let kind : IsReplyOfKinds reply = told_kind frame (binding frame) before after given now reply refl (echo_kind sent url) answers in
       record {
-        reply = reply_for frame (request_in frame) asks.replies;
-        answers = answers_by frame (binding frame) before after given now mine asks.readings asks.outcomes asks.replies asks.carried
-            (asks.asked.events_are ∙ ap (map Ask) requests) (Grew-runs Step asks.asked.grew) asks.asked.readings_are asks.asked.outcomes_are
-            (subst (λ (r : Option (List ℕ)). Tells (λ list. list ++ asks.readings) given r) talks.clock asks.clock)
-            (subst (λ (rs : List RequestParts). GivesReplies rs asks.outcomes asks.replies asks.carried) requests asks.gives);
+        reply = reply;
+        answers = answers;
         text = said;
-        gives = λ other kinds sound carried.
-            one_reply (Some answer) sent.rqi other _ carried
-            (subst (λ (v : List ℕ). Carried (Some v) sent.rqi (handed_on sent.rqi (reply_for frame (request_in frame) asks.replies))) (sym said)
-            (told_is_carried (reply_for frame (request_in frame) asks.replies) true sent.rqi kinds sound));
+        gives = λ other sound carried. gives_told answer sent.rqi reply other said kind sound carried;
       }
 
   -- ---- where it is refused

@@ -14,7 +14,7 @@ pub use Rattle.cse_server.specs.declared.connection.Ended.{Ended}
 pub use Rattle.cse_server.specs.declared.connection.Ended.TheVariants.{Closed, Memory, NoFrame, ReadFault, WriteFault}
 pub use Rattle.entity_model.specs.Entity.{EntityData, swept}
 pub use Rattle.http_binding.specs.Replying.{close_lines, content_lines, id_lines, reply_text}
-pub use Rattle.http_client_binding.specs.Asking.{caller_lines, expiry_lines, host_field, origin_lines, request_frame, request_text, target_text}
+pub use Rattle.http_client_binding.specs.Asking.{caller_lines, expiry_lines, host_field, origin_lines, request_frame, request_text}
 pub use Rattle.http_client_binding.specs.TargetWriting.{has_own_path, host_of, path_of_address}
 pub use Rattle.http_client_binding.specs.declared.target.Aim.TheVariants.{Peer}
 pub use Rattle.http_frames.specs.Stream.{BeginsWithFrame, BeginsWithFrames, HasNoFrame}

@@ -1,3 +1,5 @@
 pub mod Laws
 pub mod Onward
 pub mod Peers
+pub mod Repeating
+pub mod SentOn

@@ -1,10 +1,8 @@
 -- That a request which goes on to another CSE is answered there (TS-0001, 10.2.2).
 use Rattle.std.specs.Prelude.{◌≡◌, ◌≤◌, ◌<◌, ◌^◌, ℕ, List, [], length, Option, Some, IfSome}
-use Rattle.std.specs.Prelude.{IsTrue, IsUtf8, true}
+use Rattle.std.specs.Prelude.{IsTrue}
 use Rattle.std.specs.List.{AllByRecursion, list_all}
 use Rattle.m2m_names.specs.Name.{originator_limit}
-use Rattle.m2m_value.specs.Data.{depth}
-use Rattle.m2m_value.specs.Reading.{reading_depth}
 use Rattle.m2m_value.specs.Sound.{IsSound}
 use Rattle.filter_criteria.specs.Conditions.{OfEachCondition, ValueOf}
 use Rattle.filter_criteria.specs.declared.condition.Sort.{Sort}
@@ -12,38 +10,26 @@ use Rattle.filter_criteria.specs.declared.condition.Sort.TheVariants.{Moment, Co
 use Rattle.filter_criteria.specs.declared.condition.Sort.TheVariants.{Use}
 use Rattle.filter_criteria.specs.declared.filter.FilterParts.{FilterParts}
 use Rattle.primitive_json.specs.Kinds.{numeral_limit}
-use Rattle.primitive_json.specs.Laws.{HasShortExpiry, IsOfKinds}
+use Rattle.primitive_json.specs.Laws.{HasShortExpiry}
 use Rattle.primitive_json.specs.declared.reply.ReplyParts.{ReplyParts}
 use Rattle.primitive_json.specs.declared.request.RequestParts.{RequestParts}
 use Rattle.http_frames.specs.Frame.{body_limit, head_limit}
-use Rattle.http_frames.specs.Text.{IsSoundFrame, head_text}
-use Rattle.http_frames.specs.declared.frame.Side.TheVariants.{Reply, Request}
-use Rattle.http_binding.specs.Replying.{body_of, reply_frame}
+use Rattle.http_frames.specs.Text.{head_text}
+use Rattle.http_frames.specs.declared.frame.Side.TheVariants.{Request}
+use Rattle.http_binding.specs.Replying.{body_of}
 use Rattle.http_client_binding.specs.Asking.{request_frame, request_text}
-use Rattle.http_client_binding.specs.Laws.{IsTold}
 use Rattle.http_client_binding.specs.TargetWriting.{root_path}
 use Rattle.http_client_binding.specs.declared.target.Aim.TheVariants.{Peer}
-use Rattle.retarget.specs.Answers.{Carried, handed_on}
+use Rattle.retarget.specs.Answers.{Carried}
 use Rattle.entity_model.specs.Entity.{EntityData}
 use Rattle.entity_model.specs.Sound.{IsSoundEntity}
 use Rattle.cse_machine.specs.declared.event.Event.TheVariants.{Ask}
 use Rattle.cse_machine.specs.declared.event.Outcome.TheVariants.{Forward}
 use Rattle.cse_machine.specs.Step.{Step}
+use Rattle.binding_laws.specs.AsRead.{IsAsRead}
 use Rattle.binding_laws.specs.ReadBack.{AreAlike, SaysAll, is_no_space}
 use Rattle.peer_link.specs.PeerTalk.{PeerTalks}
-use Rattle.service_laws.specs.Peers.{AnswersOnce}
-
--- a text of bytes that are UTF-8, as each is that a request keeps
-pub record IsText (text : List ℕ) : Type 0 where
-  pub bytes : AllByRecursion (λ (b : ℕ). b < 256) text
-  pub utf8 : IsUtf8 text
-
--- A request as each is that is read, from a message or from a line: its parameters are of their
--- kinds, its labels are texts, and its content is a value, no deeper than a text is read.
-pub record IsAsRead (request : RequestParts) : Type 0 where
-  pub kinds : IsOfKinds request
-  pub labels : IfSome request.fc (λ filter. AllByRecursion IsText filter.lbl)
-  pub pc : IfSome request.pc (λ content. IsSound content × (depth content ≤ reading_depth))
+use Rattle.service_laws.specs.Peers.{AnswersOnce, GivesTold}
 
 -- what a filter has of a condition of each sort can be said in a query: numbers have at most 18
 -- digits, and labels have no space
@@ -82,8 +68,9 @@ WhatGoesOnSaysAll =
     (sent : RequestParts) → GoesOnSaid reading request before after url sent → SaysAll sent url
 
 -- Where the answer of the link is the talk of another CSE with its bytes, the reply is the one that
--- the machine of that CSE gives the request that goes on, where that reply is of its kinds and its
--- message within the limits; but for a filter without conditions, which is none.
+-- the machine of that CSE gives the request that goes on, but for a filter without conditions,
+-- which is none; and the caller gets it so, where its content is sound, as each value is that is
+-- kept.
 abbrev pub WhatGoesOnIsAnsweredThere : Type 0
 WhatGoesOnIsAnsweredThere =
     (reading : ℕ) (request : RequestParts) (before after : EntityData) (url : List ℕ)
@@ -92,5 +79,5 @@ WhatGoesOnIsAnsweredThere =
     → PeerTalks there left given now (request_text sent url Peer) answer
     → (read : Option FilterParts) × AreAlike sent.fc read × (told : ReplyParts)
     × AnswersOnce there left given now (record sent { fc = read }) told
-    × ((reply : ReplyParts) → IsTold told → IsSoundFrame Reply (reply_frame told true)
-    → Carried (Some answer) sent.rqi reply → reply ≡ handed_on sent.rqi told)
+    × ((reply : ReplyParts) → IfSome told.pc IsSound → Carried (Some answer) sent.rqi reply
+    → GivesTold sent.rqi told reply)

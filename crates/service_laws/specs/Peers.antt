@@ -1,20 +1,20 @@
 -- What another CSE answers to a request that goes on to it (TS-0001, 10.2.2).
-use Rattle.std.specs.Prelude.{◌≡◌, ℕ, List, [], ◌∷◌, ◌++◌, true, Option, Some, Result, Ok, Err}
+use Rattle.std.specs.Prelude.{◌≡◌, ℕ, List, [], ◌∷◌, ◌++◌, Option, Some, Result, Ok, Err}
+use Rattle.std.specs.Prelude.{IfSome, true}
 use Rattle.m2m_io.specs.Link.{Carrying}
 use Rattle.m2m_io.specs.Told.{Tells}
+use Rattle.m2m_value.specs.Sound.{IsSound}
 use Rattle.primitive_json.specs.declared.reply.ReplyParts.{ReplyParts}
 use Rattle.primitive_json.specs.declared.request.RequestParts.{RequestParts}
 use Rattle.http_frames.specs.declared.frame.Frame.{Frame}
-use Rattle.http_frames.specs.declared.frame.Side.TheVariants.{Reply as OfReply, Request}
+use Rattle.http_frames.specs.declared.frame.Side.TheVariants.{Request}
 use Rattle.http_frames.specs.Stream.{BeginsWithFrame, HasNoFrame}
-use Rattle.http_frames.specs.Text.{IsSoundFrame}
 use Rattle.http_target.specs.declared.fault.BindFault.{BindFault}
 use Rattle.http_binding.specs.Binding.{binding, echo_of}
-use Rattle.http_binding.specs.Replying.{reply_frame, reply_text}
+use Rattle.http_binding.specs.Replying.{reply_text}
 use Rattle.http_client_binding.specs.Asking.{request_frame, request_text}
-use Rattle.http_client_binding.specs.Laws.{IsTold}
 use Rattle.http_client_binding.specs.declared.target.Aim.TheVariants.{Peer}
-use Rattle.retarget.specs.Answers.{Carried, handed_on}
+use Rattle.retarget.specs.Answers.{Carried, handed_on, unreached}
 use Rattle.entity_model.specs.Entity.{EntityData}
 use Rattle.cse_machine.specs.declared.event.Event.TheVariants.{Ask}
 use Rattle.cse_machine.specs.declared.event.Outcome.{Outcome}
@@ -24,6 +24,7 @@ use Rattle.cse_server.specs.Talk.{malformed}
 use Rattle.peer_link.specs.PeerTalk.{PeerTalks}
 use Rattle.filter_criteria.specs.declared.filter.FilterParts.{FilterParts}
 use Rattle.binding_laws.specs.ReadBack.{AreAlike, SaysAll}
+use Rattle.binding_laws.specs.Telling.{CanBeTold}
 
 -- The entity before was asked a request by one event, at a reading that its clock gave, and is then
 -- the one after; the outcome gave this reply.
@@ -45,16 +46,23 @@ AnswersBound before after given now (Ok asked) id reply =
 AnswersBound before after given now (Err fault) id reply =
     (reply ≡ malformed id) × (after ≡ before)
 
+-- What the caller gets of a reply that another CSE wrote: the reply, with the identifier of the
+-- caller's request, where it can be told; and else that the CSE isn't reachable.
+pub record GivesTold (rqi : List ℕ) (told reply : ReplyParts) : Type 0 where
+  pub handed : CanBeTold told → reply ≡ handed_on rqi told
+  pub unread : ¬ (CanBeTold told) → reply ≡ unreached rqi
+
 -- The answer is one reply, which the entity gives what the frame is bound to, and which closes the
--- connection. Where the reply is of its kinds and its message within the limits, it is what the
--- answer gives the caller, with the identifier of the caller's request.
+-- connection; and the caller gets it so, where its content is sound. Each value that the code keeps
+-- is sound by its type. The definitions don't say so of an entity's values, so it isn't shown of a
+-- reply.
 pub record IsPeersAnswer (before after : EntityData) (given now : Option (List ℕ))
     (frame : Frame) (rqi answer : List ℕ) : Type 0 where
   pub reply : ReplyParts
   pub answers : AnswersBound before after given now (binding frame) (echo_of frame) reply
   pub text : answer ≡ reply_text reply true
-  pub gives : (other : ReplyParts) → IsTold reply → IsSoundFrame OfReply (reply_frame reply true)
-      → Carried (Some answer) rqi other → other ≡ handed_on rqi reply
+  pub gives : (other : ReplyParts) → IfSome reply.pc IsSound → Carried (Some answer) rqi other
+      → GivesTold rqi reply other
 
 -- Where the answer of a link is the talk of another CSE with the bytes that were sent for a
 -- request, and the frame of the request stands at the front of these, it is what the machine of

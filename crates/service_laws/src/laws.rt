@@ -5,6 +5,10 @@ ghost use Rattle.service_laws.specs.Onward.{WhatGoesOnIsAnsweredThere, WhatGoesO
 ghost use Rattle.service_laws.specs.Peers.{AnAnswerIsThePeers, TheRequestIsAnsweredThere};
 ghost use Rattle.service_laws.specs.Peers.{WhatBindsToNothingIsRefusedThere};
 ghost use Rattle.service_laws.specs.Peers.{WhatIsNoMessageIsRefusedThere};
+ghost use Rattle.service_laws.specs.Repeating.{EachReplyRepeatsTheIdentifier};
+ghost use Rattle.service_laws.specs.Repeating.{RepliesToFormsAreOfKinds};
+ghost use Rattle.service_laws.specs.SentOn.{WhatIsSentOnCanStandInHead};
+ghost use Rattle.service_laws.specs.SentOn.{WhatIsSentOnIsAnsweredOrRefused};
 ghost use Rattle.cse_server.specs.Replies.{WhatIsAnsweredHereIsNotCarried};
 
 /// Once a frame closes the connection, what is behind it is not answered.
@@ -22,6 +26,13 @@ pub fn what_is_answered_here_is_not_carried()
 /// the request.
 pub fn a_connection_shows_and_changes_by_grant_alone()
     ensures { ServesGuarded }
+{}
+
+/// Each reply repeats the identifier of its request, whatever comes of it; so this is of its kind
+/// where the request has its form.
+pub fn each_reply_repeats_the_identifier()
+    ensures repeats { EachReplyRepeatsTheIdentifier }
+    ensures kinds { RepliesToFormsAreOfKinds }
 {}
 
 /// The answer of a link that is the talk of another CSE with the bytes of a request is what the
@@ -52,6 +63,19 @@ pub fn what_goes_on_says_all()
 /// the one that its machine gives to that request.
 pub fn what_goes_on_is_answered_there()
     ensures { WhatGoesOnIsAnsweredThere }
+{}
+
+/// The texts of each request that goes on can stand in a head, so that the bytes for it are one
+/// message, or begin with none.
+pub fn what_is_sent_on_can_stand_in_a_head()
+    ensures { WhatIsSentOnCanStandInHead }
+{}
+
+/// Whatever a request holds that goes on: where the answer of the link is the talk of another CSE,
+/// the reply is the one that its machine gives to the request that the bytes bind to; and it is the
+/// refusal BAD_REQUEST where they bind to none.
+pub fn what_is_sent_on_is_answered_or_refused()
+    ensures { WhatIsSentOnIsAnsweredOrRefused }
 {}
 
 /// The replies to a stream are settled by the entity, the stream and the readings.

@@ -1,0 +1,33 @@
+-- That each reply repeats the identifier of its request (TS-0001, 8.1.3).
+use Rattle.std.specs.Prelude.{◌≡◌, ℕ, List, Some, IsTrue}
+use Rattle.m2m_io.specs.Link.{Carrying}
+use Rattle.primitive_json.specs.Form.{has_form}
+use Rattle.primitive_json.specs.Laws.{IsReplyOfKinds}
+use Rattle.primitive_json.specs.declared.reply.ReplyParts.{ReplyParts}
+use Rattle.primitive_json.specs.declared.request.RequestParts.{RequestParts}
+use Rattle.entity_model.specs.Entity.{EntityData}
+use Rattle.cse_machine.specs.declared.event.Event.TheVariants.{Ask}
+use Rattle.cse_machine.specs.declared.event.Outcome.{Outcome}
+use Rattle.cse_machine.specs.Step.{Step}
+use Rattle.cse_server.specs.Replies.{GivesReply}
+
+-- The reply repeats the identifier of the request.
+abbrev pub Repeats : RequestParts → ReplyParts → Type 0
+Repeats request reply = reply.rqi ≡ Some request.rqi
+
+-- Whatever comes of a request, its reply repeats its identifier: where the request is refused,
+-- served, fanned out, or polls; where it goes on to another CSE, whatever that answers; and where
+-- memory runs out.
+abbrev pub EachReplyRepeatsTheIdentifier : Type 0
+EachReplyRepeatsTheIdentifier =
+    (reading : ℕ) (request : RequestParts) (before after : EntityData) (outcome : Outcome)
+    (reply : ReplyParts) (carried : List Carrying) → Step reading (Ask request) before outcome after
+    → GivesReply request outcome reply carried → Repeats request reply
+
+-- So the reply to a request of its form has an identifier of its kind. A request without its form
+-- is refused with the identifier that it has.
+abbrev pub RepliesToFormsAreOfKinds : Type 0
+RepliesToFormsAreOfKinds =
+    (reading : ℕ) (request : RequestParts) (before after : EntityData) (outcome : Outcome)
+    (reply : ReplyParts) (carried : List Carrying) → Step reading (Ask request) before outcome after
+    → GivesReply request outcome reply carried → IsTrue (has_form request) → IsReplyOfKinds reply
