@@ -4,10 +4,13 @@
 ghost use Rattle.std.specs.Prelude.{◌≤◌, IfOk, vec_len};
 
 use command_words::{Logged, Task, read_command};
-use cse_cli::run;
+use cse_cli::{run, seed};
 use cse_server::Bench;
 use devices::{Log, LogLevel, StdIn, StdOut, SystemClock, TcpDoor, words};
-use m2m_io::Status;
+use disk_file::{DiskFile, OpenFault};
+use journal_opening::first_text;
+use journaled_cli::{JournalWords, journal_words, run_journaled};
+use m2m_io::{Clock as Reads, Sink, Status};
 use std::alloc::{AllocError, Global};
 use std::io::Eprint;
 use std::net::{Net, TcpListener, TcpStream};
@@ -119,6 +122,66 @@ where
     Ok(benches)
 }
 
+/// What words say of a journal. Where they say nothing that can be, no file is named, and the words
+/// stay as they are.
+fn parted<'a>(alloc: Global, words: &[&'a str]) -> Result<JournalWords<'a>, AllocError> {
+    match journal_words(alloc, words)? {
+        Some(said) => Ok(said),
+        None => Ok(JournalWords {
+            file: None,
+            words: Vec::from_slice(alloc, words)?,
+        }),
+    }
+}
+
+/// What a new journal has in it for the command that words name; None where no command of theirs
+/// has a journal.
+fn first_of(
+    rt: &HostRuntime,
+    alloc: Global,
+    words: &[&str],
+) -> Result<Option<Vec<u8>>, AllocError> {
+    let Some(command) = read_command(alloc, words)? else {
+        return Ok(None);
+    };
+    if let Task::Replay | Task::Generate(_) = command.task {
+        return Ok(None);
+    }
+    let Some(home) = command.home.home(alloc)? else {
+        return Ok(None);
+    };
+    let mut clock = SystemClock::new(*rt);
+    let first = first_text(alloc, &home, clock.now())?;
+    Ok(Some(first))
+}
+
+/// Says why the file of this name isn't opened, and gives the status of that.
+fn say_shut(rt: &HostRuntime, alloc: Global, name: &str, fault: OpenFault) -> Status {
+    let mut err = StdOut::new(rt.stderr());
+    if let Ok(why) = format!(in alloc; "cannot open {name}: {fault}\n") {
+        let _ = err.put(why.as_str().as_bytes());
+    }
+    Status::ReadFault
+}
+
+/// The journal of this name, for the command that words name. It is made where there is none.
+fn journal_of(
+    rt: &HostRuntime,
+    alloc: Global,
+    words: &[&str],
+    name: &str,
+) -> Result<DiskFile, Status> {
+    match first_of(rt, alloc, words) {
+        Ok(Some(first)) => match DiskFile::open(rt, name, &first) {
+            Ok(file) => Ok(file),
+            Err(OpenFault::OutOfMemory) => Err(Status::Memory),
+            Err(fault) => Err(say_shut(rt, alloc, name, fault)),
+        },
+        Ok(None) => Err(Status::Usage),
+        Err(_) => Err(Status::Memory),
+    }
+}
+
 fn main(rt: HostRuntime) -> ExitCode {
     let alloc = rt.alloc();
     let starved = || {
@@ -135,7 +198,10 @@ fn main(rt: HostRuntime) -> ExitCode {
     else {
         return starved();
     };
-    let Ok(settings) = settings_by(alloc, &texts) else {
+    let Ok(said) = parted(alloc, &texts) else {
+        return starved();
+    };
+    let Ok(settings) = settings_by(alloc, &said.words) else {
         return starved();
     };
     let Ok(log) = Log::new(rt, alloc, settings.log) else {
@@ -147,16 +213,43 @@ fn main(rt: HostRuntime) -> ExitCode {
     let Ok(mut first) = bench(rt, &log) else {
         return starved();
     };
-    let (status, _) = run(
+    let door = TcpDoor::new(log, settings.whom);
+    let mut input = StdIn::new(rt.stdin());
+    let mut out = StdOut::new(rt.stdout());
+    let mut err = StdOut::new(rt.stderr());
+    let Some(name) = said.file else {
+        let (status, _) = run(
+            &rt,
+            alloc,
+            &said.words,
+            &mut input,
+            &mut out,
+            &mut err,
+            door,
+            &mut first,
+            benches,
+        );
+        return ExitCode::from(status);
+    };
+    let file = match journal_of(&rt, alloc, &said.words, name) {
+        Ok(file) => file,
+        Err(status) => {
+            let _ = status.put_line(&mut err);
+            return ExitCode::from(status);
+        }
+    };
+    ExitCode::from(run_journaled(
         &rt,
         alloc,
-        &texts,
-        &mut StdIn::new(rt.stdin()),
-        &mut StdOut::new(rt.stdout()),
-        &mut StdOut::new(rt.stderr()),
-        TcpDoor::new(log, settings.whom),
+        &said.words,
+        name,
+        file,
+        seed(&rt),
+        &mut input,
+        &mut out,
+        &mut err,
+        door,
         &mut first,
         benches,
-    );
-    ExitCode::from(status)
+    ))
 }

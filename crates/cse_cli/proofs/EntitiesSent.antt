@@ -19,7 +19,7 @@ module _ (T : RattleType) (g : Ghosts T.Denot) (t : IsSend T) where
   entity_inside_send = declared_send (entity_inside.the_type T g)
       (home_send, (search (sendable, crosses) depth 20, (search (sendable, crosses) depth 20, (search (sendable, crosses) depth 20, (outbox_send, tt)))))
 
-  entity_send : IsSend (entity.the_row T g)
+  pub entity_send : IsSend (entity.the_row T g)
   entity_send = record { owned = λ d vs x. (entity_inside_send.owned x.0 vs, tt); leaving = λ k d w. tt }
 
   served_inside_send : IsSend (served_inside.the_row T g)

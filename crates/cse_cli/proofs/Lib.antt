@@ -1,7 +1,7 @@
-mod HttpLemmas
-mod WordsLemmas
-mod ServeLemmas
-mod RunningLemmas
-mod TreesSent
-mod OutboxSent
+pub mod HttpLemmas
+pub mod WordsLemmas
+pub mod ServeLemmas
+pub mod RunningLemmas
+pub mod TreesSent
+pub mod OutboxSent
 pub mod EntitiesSent

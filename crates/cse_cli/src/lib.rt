@@ -3,7 +3,7 @@
 //! and the output as one connection of an entity, `replay`, which answers the lines of the input,
 //! `serve`, which serves the connections of the door, and `gen`, which makes requests of its own
 //! and writes one line on what they are answered. Callers see of each what `RunsCommand` says
-//! (specs/Running).
+//! (specs/Running). `seed` gives what clients don't know, for tables of theirs.
 //!
 //! ```text
 //! let words = ["serve", "--listen", "127.0.0.1:8080"];
@@ -18,3 +18,4 @@ mod replay;
 mod serve;
 
 pub use command::run;
+pub use serve::seed;

@@ -92,8 +92,9 @@ fn nanos_of(time: io::Result<Duration>) -> u64 {
     }
 }
 
-// What clients don't know: how long the machine has run, and the moment, in nanoseconds.
-fn seed<R: time::Clock>(rt: &R) -> u64 {
+/// What clients don't know, for the tables of an entity: how long the machine has run, and the
+/// moment, in nanoseconds.
+pub fn seed<R: time::Clock>(rt: &R) -> u64 {
     nanos_of(rt.monotonic()) ^ nanos_of(rt.since_1970())
 }
 

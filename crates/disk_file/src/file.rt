@@ -4,29 +4,36 @@ ghost use Rattle.m2m_io.specs.Counts.{CountsFaults};
 
 use crate::OpenFault;
 use crate::opening::{is_absent, make, open_there};
+use crate::operator::Operator;
 use kept_file::{Failed, FileFault, KeptFile};
-use std::alloc::Global;
+use std::alloc::{AllocError, Global};
 use std::fs::File;
 use std::io;
 use std::os::unix::fs::FileExt;
 
-/// A file of the system, with a lock against other programs for as long as it is open. Each error of
-/// the system is a fault.
+/// A file of the system, with a lock against other programs for as long as it is open. Each error
+/// of the system is a fault, and is told on standard error.
 #[derive(Drop)]
 pub struct DiskFile {
     file: File,
     faults: u64,
+    operator: Operator,
 }
 
 impl DiskFile {
     /// Opens the file of a name. Where nothing has it, the file is made with these bytes.
     pub fn open(rt: &HostRuntime, path: &str, first: &[u8]) -> Result<DiskFile, OpenFault> {
+        let operator = Operator::new(rt, path)?;
         let file = if is_absent(rt, path)? {
             make(rt, path, first)?
         } else {
             open_there(rt, path)?
         };
-        Ok(DiskFile { file, faults: 0 })
+        Ok(DiskFile {
+            file,
+            faults: 0,
+            operator,
+        })
     }
 
     /// Puts a file with these bytes in the place of the one that has the name, which `self` is. A
@@ -37,20 +44,23 @@ impl DiskFile {
         path: &str,
         bytes: &[u8],
     ) -> Result<DiskFile, OpenFault> {
+        let operator = Operator::new(rt, path)?;
         let file = make(rt, path, bytes)?;
         Ok(DiskFile {
             file,
             faults: self.faults,
+            operator,
         })
     }
 
-    /// What a call of the system did; an error counts as a fault.
-    fn counted(&mut self, done: io::Result<()>) -> Result<(), Failed>
+    /// What a call of the system did; an error counts as a fault, and is told.
+    fn counted<T>(&mut self, done: io::Result<T>) -> Result<T, Failed>
         ensures { CountsFaults result self.old.faults self.new.faults }
     {
         match done {
-            Ok(()) => Ok(()),
-            Err(_) => {
+            Ok(done) => Ok(done),
+            Err(error) => {
+                self.operator.tell(error);
                 self.faults = self.faults.saturating_add(1);
                 Err(Failed)
             }
@@ -58,15 +68,14 @@ impl DiskFile {
     }
 }
 
-fn read_whole(file: &File, alloc: Global) -> Result<Vec<u8>, FileFault> {
-    let Ok(metadata) = file.metadata() else {
-        return Err(FileFault::Failed);
+/// The bytes of a file, where there is memory for them.
+fn read_whole(file: &File, alloc: Global) -> io::Result<Result<Vec<u8>, AllocError>> {
+    let len = file.metadata()?.len() as usize;
+    let Ok(mut bytes) = vec![in alloc; 0u8; len] else {
+        return Ok(Err(AllocError));
     };
-    let mut bytes = vec![in alloc; 0u8; metadata.len() as usize]?;
-    match file.read_exact_at(&mut bytes, 0) {
-        Ok(()) => Ok(bytes),
-        Err(_) => Err(FileFault::Failed),
-    }
+    file.read_exact_at(&mut bytes, 0)?;
+    Ok(Ok(bytes))
 }
 
 impl KeptFile for DiskFile {
@@ -87,11 +96,12 @@ impl KeptFile for DiskFile {
     ghost only_now = { λ none. absurd none };
 
     fn read(&mut self, alloc: Global) -> Result<Vec<u8>, FileFault> {
-        let read = read_whole(&self.file, alloc);
-        if let Err(FileFault::Failed) = read {
-            self.faults = self.faults.saturating_add(1);
+        let done = read_whole(&self.file, alloc);
+        match self.counted(done) {
+            Ok(Ok(bytes)) => Ok(bytes),
+            Ok(Err(_)) => Err(FileFault::OutOfMemory),
+            Err(_) => Err(FileFault::Failed),
         }
-        read
     }
 
     fn write_at(&mut self, at: usize, bytes: &[u8]) -> Result<(), Failed> {

@@ -2,9 +2,12 @@
 //!
 //! `DiskFile::open` takes a lock on the file, so that no second program has it, and sees to it that
 //! what is read of it is what stands on the disk: it syncs the file and its folder, and has the
-//! system drop the pages that it holds of it. Where there is no file of that name, it makes one with
-//! the bytes that it is given, under another name first, so that a crash leaves none or a whole one.
-//! `DiskFile::replace` puts such a file in the place of one that is there.
+//! system drop the pages that it holds of it. Where there is no file of that name, it makes one
+//! with the bytes that it is given, under another name first, so that a crash leaves none or a
+//! whole one. `DiskFile::replace` puts such a file in the place of one that is there.
+//!
+//! Where the system gives an error, it is told on standard error what the error is, as contracts
+//! have no more of it than that the file failed.
 //!
 //! A file of the system tells nothing: what is said of crashes in kept_file is supposed of it and
 //! not proved. It is supposed that a crash leaves each byte outside of the places that were written
@@ -21,6 +24,7 @@
 mod fault;
 mod file;
 mod opening;
+mod operator;
 
 pub use fault::OpenFault;
 pub use file::DiskFile;

@@ -31,36 +31,10 @@ use Rattle.journal_lines.specs.Lines.{IsReadBack, behind_line, deed_at, deed_in,
 use Rattle.journal_lines.specs.declared.deed.Deed.{Deed}
 use Rattle.journal_lines.specs.declared.deed.Deed.TheVariants.{Ask, Take, Tick}
 use Rattle.journal_lines.specs.declared.deed.Dated.{Dated}
+use Rattle.journal_lines.specs.Spelled.{SpellsDeed}
+use Rattle.journal_lines.proofs.EndLemmas.{inner_whole}
 use Rattle.journal_lines.proofs.InnerLemmas.{inner_append, inner_decimal, inner_text}
-
--- ---- lines
-
-no_end : (b : ℕ) → is_inner b ≡ true → b == 10 ≡ false
-no_end b inner = let big : 32 ≤ b = leb-true 32 b inner in grind (arith, nat_tests)
-
--- the first line of a line with its end, whatever stands behind it
-line_then : (line behind : List ℕ) → list_all is_inner line ≡ true → line_len (line ++ 10 ∷ behind) ≡ length line
-line_then [] behind inner = refl
-line_then (b ∷ line) behind inner =
-    let parts = and_parts (is_inner b) _ inner in
-    rw (no_end b parts.0) (omega (arith, line_then line behind parts.1))
-
-module _ (line behind : List ℕ) (inner : list_all is_inner line ≡ true) where
-  abbrev text : List ℕ
-  text = line ++ 10 ∷ behind
-
-  pub first_then : first_line text ≡ line
-  first_then = ap (λ n. take n text) (line_then line behind inner) ∙ take_at line (10 ∷ behind) (length line) refl
-
-  pub behind_then : behind_line text ≡ behind
-  behind_then =
-      let size : length (line ++ 10 ∷ []) ≡ length line + 1 = length-append line (10 ∷ []) in
-      ap (λ n. drop (n + 1) text) (line_then line behind inner)
-      ∙ ap (λ (l : List ℕ). drop (length line + 1) l) (sym (append_assoc line (10 ∷ []) behind))
-      ∙ drop_at (line ++ 10 ∷ []) behind (length line + 1) size
-
-  pub has_then : has_line text ≡ true
-  has_then = lt-ltb _ _ (omega (arith, line_then line behind inner, length-append line (10 ∷ behind)))
+use Rattle.journal_lines.proofs.SpelledLemmas.{deed_read}
 
 -- ---- words
 
@@ -100,48 +74,19 @@ deed_back moment deed short back =
     ap (λ m. option_and_then (λ n. option_map (deed_at n) (deed_of (word_of deed))) m) (moment_back moment short)
     ∙ ap (option_map (deed_at moment)) back
 
-module _ (moment : ℕ) (deed : Deed) (behind : List ℕ) (short : moment < moment_bound) (back : IsReadBack deed) where
-  abbrev whole : List ℕ
-  whole = lines_of moment deed ++ behind
+pub deeds_spelled : (moment : ℕ) (deed : Deed) → moment < moment_bound → IsReadBack deed → SpellsDeed (deed_at moment deed) (lines_of moment deed)
+deeds_spelled moment deed short back = record {
+  stamp = moment_line moment;
+  word = word_of deed;
+  split = refl;
+  stamp_whole = inner_whole (moment_line moment) (inner_moment moment);
+  word_whole = inner_whole (word_of deed) (inner_word deed);
+  means = deed_back moment deed short back;
+}
 
-  abbrev second : List ℕ
-  second = word_of deed ++ 10 ∷ behind
-
-  apart : whole ≡ moment_line moment ++ 10 ∷ second
-  apart =
-      append_assoc (ended (moment_line moment)) (ended (word_of deed)) behind
-      ∙ append_assoc (moment_line moment) (10 ∷ []) (ended (word_of deed) ++ behind)
-      ∙ ap (λ (l : List ℕ). moment_line moment ++ 10 ∷ l) (append_assoc (word_of deed) (10 ∷ []) behind)
-
-  of_apart : first_deed (moment_line moment ++ 10 ∷ second) ≡ Some (deed_at moment deed)
-  of_apart =
-      rw (
-        has_then (moment_line moment) second (inner_moment moment),
-        behind_then (moment_line moment) second (inner_moment moment),
-        has_then (word_of deed) behind (inner_word deed),
-        first_then (moment_line moment) second (inner_moment moment),
-        first_then (word_of deed) behind (inner_word deed),
-      )
-      (deed_back moment deed short back)
-
-  len_apart : deed_len (moment_line moment ++ 10 ∷ second) ≡ length (moment_line moment) + 1 + (length (word_of deed) + 1)
-  len_apart =
-      rw (
-        behind_then (moment_line moment) second (inner_moment moment),
-        line_then (moment_line moment) second (inner_moment moment),
-        line_then (word_of deed) behind (inner_word deed),
-      ) refl
-
-  len_whole : length (lines_of moment deed) ≡ length (moment_line moment) + 1 + (length (word_of deed) + 1)
-  len_whole = omega (
-    arith,
-    length-append (ended (moment_line moment)) (ended (word_of deed)),
-    length-append (moment_line moment) (10 ∷ []),
-    length-append (word_of deed) (10 ∷ []),
-  )
-
-  pub deeds_back : (first_deed whole ≡ Some (deed_at moment deed)) × (deed_len whole ≡ length (lines_of moment deed))
-  deeds_back = (ap first_deed apart ∙ of_apart, ap deed_len apart ∙ len_apart ∙ sym len_whole)
+pub deeds_back : (moment : ℕ) (deed : Deed) (behind : List ℕ) → moment < moment_bound → IsReadBack deed
+    → (first_deed (lines_of moment deed ++ behind) ≡ Some (deed_at moment deed)) × (deed_len (lines_of moment deed ++ behind) ≡ length (lines_of moment deed))
+deeds_back moment deed behind short back = deed_read (deed_at moment deed) (lines_of moment deed) behind (deeds_spelled moment deed short back)
 
 -- ---- requests that can be kept
 

@@ -1,3 +1,5 @@
+pub mod Header
 pub mod Keeping
 pub mod Laws
 pub mod Lines
+pub mod Spelled

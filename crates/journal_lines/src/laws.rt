@@ -1,5 +1,7 @@
 //! The laws of the lines.
-ghost use Rattle.journal_lines.specs.Laws.{DeedsAreReadBack, LinesHaveOneEnd};
+ghost use Rattle.journal_lines.specs.Laws.{DeedsAreReadBack, HeadersAreReadBack, LinesHaveOneEnd};
+ghost use Rattle.journal_lines.specs.Laws.{DeedsAreReadAsSpelled, DeedsAreSpelled, OtherHomesAreTold};
+ghost use Rattle.journal_lines.specs.Laws.{HeadersAreReadAsSpelled, HeadersAreSpelled};
 
 /// No byte below 32 stands inside the lines of a deed.
 pub fn lines_have_one_end()
@@ -9,4 +11,20 @@ pub fn lines_have_one_end()
 /// The lines of a deed that is read from its word are read as it, at its moment.
 pub fn deeds_are_read_back()
     ensures { DeedsAreReadBack }
+{}
+
+/// The line of a header is read as it by who asks for its home, and who asks for another home is
+/// told so.
+pub fn headers_are_read_back()
+    ensures back { HeadersAreReadBack }
+    ensures other { OtherHomesAreTold }
+{}
+
+/// A text is read as a header or as a deed exactly where it spells one at its front, whoever wrote
+/// it; and what is written spells it.
+pub fn what_is_read_is_spelled()
+    ensures headers { HeadersAreReadAsSpelled }
+    ensures deeds { DeedsAreReadAsSpelled }
+    ensures header_lines { HeadersAreSpelled }
+    ensures deed_lines { DeedsAreSpelled }
 {}

@@ -1,5 +1,9 @@
 //! The lines of a journal: what was done at a CSE, each at its moment, as text.
 //!
+//! The first line is the header: the number of the format, the home of the CSE, and the reading at
+//! which its entity opened (specs/Header). `first_header` tells why a text isn't a journal of a
+//! home.
+//!
 //! A deed is a request, the taking of an item from the outbox, or an expiry. It has two lines: `@`
 //! and its moment, and a word: the request as a primitive (TS-0004, 8.2), `take` or `tick`
 //! (specs/Lines). No byte below 32 stands inside a line, and what is written of a deed is read back
@@ -10,6 +14,7 @@
 //! gives none where they are no such lines; callers then name the line.
 //!
 //! ```text
+//! push_header(alloc, &mut text, &home, 1_700_000_000)?; // {"format":1,"home":{..},"opened":1700000000}
 //! push_request(alloc, &mut text, 1_700_000_000, &request)?; // @1700000000 and the primitive
 //! push_take(alloc, &mut text, 1_700_000_001)?; // @1700000001 and `take`
 //! let (dated, len) = first_deed(alloc, &mut scratch, &text)?;
@@ -17,6 +22,7 @@
 #![tactic(auto)]
 
 mod deed;
+mod header;
 mod keeping;
 mod laws;
 mod reading;
@@ -24,8 +30,12 @@ mod shallow;
 mod writing;
 
 pub use deed::{Dated, Deed};
+pub use header::{HeaderFault, first_header, home_value, is_of_home, push_header};
 pub use keeping::can_be_kept;
-pub use laws::{deeds_are_read_back, lines_have_one_end};
-pub use reading::first_deed;
+pub use laws::{
+    deeds_are_read_back, headers_are_read_back, lines_have_one_end, what_is_read_is_spelled,
+};
+pub use reading::{first_deed, line_len};
+pub use shallow::is_within;
 pub use std::alloc::AllocError as OutOfMemory;
-pub use writing::{LineFault, push_request, push_take, push_tick};
+pub use writing::{LineFault, push_request, push_take, push_tick, push_value};

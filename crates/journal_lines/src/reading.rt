@@ -11,7 +11,7 @@ use primitive_json::{PrimFault, Request, request_from};
 use std::alloc::{AllocError as OutOfMemory, Global};
 
 /// How many bytes the first line has, without its end, or how many there are where no line ends.
-fn line_len(text: &[u8]) -> usize
+pub fn line_len(text: &[u8]) -> usize
     ensures value { result ≡ spec.line_len text.now }
     ensures bound { result ≤ length text.now }
 {

@@ -7,7 +7,7 @@ use m2m_value::{MemberKey, Node, Val};
 /// Whether lists and objects nest no deeper than this.
 #[cycle(shallow)]
 #[tactic(auto, using(crate::proofs::DepthLemmas::depth_rules))]
-pub(crate) fn is_within(value: &Val, most: u64) -> bool
+pub fn is_within(value: &Val, most: u64) -> bool
     ensures { result ≡ nat_le (depth value.now) most }
 {
     match value.node() {

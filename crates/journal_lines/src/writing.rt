@@ -63,7 +63,7 @@ fn push_word(text: &mut Vec<u8>, word: &[u8]) -> Result<(), OutOfMemory>
 }
 
 /// The line of a value, which is read back as the value where it is no deeper than a text is read.
-fn push_value(text: &mut Vec<u8>, value: &Val) -> Result<(), OutOfMemory>
+pub fn push_value(text: &mut Vec<u8>, value: &Val) -> Result<(), OutOfMemory>
     ensures written { OnOk result
         (text.new.items ≡ text.old.items ++ spec.ended (text_of value.now)) }
     ensures reads_back { OnOk result (depth value.now ≤ reading_depth

@@ -11,6 +11,12 @@ pub struct KeptDesk<'a, D> {
     desk: &'a D,
 }
 
+impl<D> Drop for KeptDesk<'_, D> {
+    fn drop(self) {
+        let KeptDesk { desk: _ } = self;
+    }
+}
+
 impl<'a, D> KeptDesk<'a, D> {
     /// Over this desk.
     pub fn new(desk: &'a D) -> KeptDesk<'a, D>

@@ -199,3 +199,13 @@ module _ (old new : FileData) (images : new.images ≡ old.images ++ old.seen �
         keeps = λ t c before past. subst (λ zs. Contains (drop t zs) c) (sym images)
             (keeps_left old.images (old.seen ∷ []) t c (omega (arith, le, before)) past);
       }
+
+-- ---- a file that is new
+
+only_one : {X : Type 0} (y x : X) → Contains (y ∷ []) x → x ≡ y
+only_one y x (zero, within, is) = sym is
+only_one y x (suc k, within, is) = absurd (omega (arith, within))
+
+-- of one content a crash leaves that
+pub fresh_leaves : (images : List (List ℕ)) (bytes c : List ℕ) → images ≡ bytes ∷ [] → Contains (drop 0 images) c → c ≡ bytes
+fresh_leaves images bytes c is left = only_one bytes c (subst (λ l. Contains (drop 0 l) c) is left)

@@ -1,7 +1,7 @@
 //! A file in memory.
 ghost use Rattle.std.specs.Prelude.{◌≡◌, ◌≤◌, ◌++◌, ◌∷◌, [], length, take, drop, map, OnOk, OnErr};
 ghost use Rattle.std.specs.Prelude.{IfOk, IsOk, IsErr, ⊤, false};
-ghost use Rattle.kept_file.specs.Crashes.{Overwrites, TornCut, TornWrite};
+ghost use Rattle.kept_file.specs.Crashes.{LeavesThis, Overwrites, TornCut, TornWrite};
 ghost use Rattle.kept_file.specs.Memory.{Adds, FileData, MayLeave, StaysButCalls, contents};
 ghost use Rattle.m2m_io.specs.Counts.{CountsFaults, after_call, fails_next, no_calls};
 
@@ -60,12 +60,13 @@ impl MemFile {
     /// A file of these bytes, all of them on the disk. What a crash tears has `filler` in it. The
     /// calls whose numbers, from 1, are in `fails` fail.
     pub fn new(alloc: Global, bytes: &[u8], filler: u8, fails: Vec<u64>) -> Result<Self, AllocError>
-        ensures { IfOk result (λ file. file ≡ record {
+        ensures file { IfOk result (λ file. file ≡ record {
           seen = bytes.now;
           images = bytes.now ∷ [];
           synced = 0;
           calls = no_calls fails.items;
         }) }
+        ensures kept { IfOk result (λ file. LeavesThis file.seen (MayLeave file)) }
     {
         let image = bytes.to_vec(alloc)?;
         let mut images = Vec::new(alloc);

@@ -1,0 +1,6 @@
+pub mod CountLemmas
+pub mod FileLemmas
+pub mod FirstLemmas
+pub mod JournalLemmas
+pub mod PlayLemmas
+pub mod ReadingLemmas

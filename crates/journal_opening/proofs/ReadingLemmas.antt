@@ -1,0 +1,197 @@
+-- Bytes are read as one journal alone.
+use Rattle.std.proofs.Common.{◌≡◌, ℕ, ◌+◌, ◌==◌, ◌≤◌, List, [], ◌∷◌, ◌++◌, length, take, drop, Bool, true, false, not, Option, Some, None, option_and_then, option_map, Result, Ok, Err, if◌then◌else◌, inl, inr, refl, sym, ap, ◌∙◌, subst, arith, append_assoc, length-append, take-append-drop, true≢false}
+use Rattle.std.proofs.lemmas.Bool.{cases_Bool}
+use Rattle.std.proofs.lemmas.List.{drop_at, length-take-le, take_at}
+use Rattle.resource_model.specs.Home.{HomeData}
+use Rattle.entity_model.specs.Entity.{EntityData}
+use Rattle.entity_model.specs.Opening.{opening}
+use Rattle.journal_file.specs.Gates.{KeepsText, is_shut}
+use Rattle.journal_lines.proofs.SpelledLemmas.{deed_read, header_read}
+use Rattle.journal_lines.specs.Header.{first_header}
+use Rattle.journal_lines.specs.Lines.{deed_at, deed_in, deed_len, deed_of, ended, first_deed, line_len}
+use Rattle.primitive_json.specs.Kinds.{number_spelled}
+use Rattle.journal_lines.specs.Spelled.{SpellsDeed, SpellsDeeds}
+use Rattle.journal_lines.specs.declared.deed.Dated.{Dated}
+use Rattle.journal_lines.specs.declared.header.HeaderFault.{HeaderFault}
+use Rattle.journal_lines.specs.declared.header.HeaderFault.TheVariants as header
+use Rattle.journal_opening.specs.Journals.{IsJournalOf, Makes, SpellsOpening, made_of}
+use Rattle.journal_opening.specs.Laws.{JournalsOpenAsTheirDeeds}
+use Rattle.journal_opening.specs.Opening.{IsOfMachine, IsRefused, OpensAs, StopsAt}
+use Rattle.journal_opening.specs.declared.fault.OpeningFault.{OpeningFault}
+use Rattle.journal_opening.specs.declared.fault.OpeningFault.TheVariants.{NoHeader, OtherFormat, OtherHome, BadLine, Failed, OutOfMemory}
+
+-- ---- a deed stands behind an open gate
+
+none_some : {A B : Type 0} (x : A) → None ≡ Some x → B
+none_some x e = absurd cc
+
+open_at : (b : ℕ) (digits word back : List ℕ) → b == 64 ≡ true → is_shut ((ended (b ∷ digits) ++ ended word) ++ back) ≡ false
+open_at b [] word back is = ap not is
+open_at b (c ∷ digits) word back is = ap not is
+
+open_stamp : (stamp word back : List ℕ) (dated : Dated) → deed_in stamp word ≡ Some dated → is_shut ((ended stamp ++ ended word) ++ back) ≡ false
+open_stamp [] word back dated means = none_some dated means
+open_stamp (b ∷ digits) word back dated means = elim (cases_Bool (b == 64)) [
+  | inl is ↦ open_at b digits word back is
+  | inr other ↦
+      none_some dated (sym (ap (λ t. option_and_then (λ moment. option_map (deed_at moment) (deed_of word)) (if t then number_spelled digits else None)) other) ∙ means)
+]
+
+open_front : (dated : Dated) (front back : List ℕ) → SpellsDeed dated front → is_shut (front ++ back) ≡ false
+open_front dated front back spells =
+    ap (λ (l : List ℕ). is_shut (l ++ back)) spells.split ∙ open_stamp spells.stamp spells.word back dated spells.means
+
+not_shut : {B : Type 0} (dated : Dated) (front back bytes : List ℕ) → SpellsDeed dated front → bytes ≡ front ++ back → is_shut bytes ≡ true → B
+not_shut dated front back bytes spells is shut = absurd (true≢false (sym shut ∙ ap is_shut is ∙ open_front dated front back spells))
+
+-- ---- one deed
+
+some_same : {A : Type 0} (x y : A) → Some x ≡ Some y → x ≡ y
+some_same x y e = cc
+
+-- fronts of one length
+module _ (front front1 rest rest1 : List ℕ) (whole : front ++ rest ≡ front1 ++ rest1) (size : length front1 ≡ length front) where
+  pub fronts_same : front1 ≡ front
+  fronts_same =
+      sym (take_at front1 rest1 (length front) size) ∙ ap (λ (l : List ℕ). take (length front) l) (sym whole) ∙ take_at front rest (length front) refl
+
+  pub rests_same : rest1 ≡ rest
+  rests_same =
+      sym (drop_at front1 rest1 (length front) size) ∙ ap (λ (l : List ℕ). drop (length front) l) (sym whole) ∙ drop_at front rest (length front) refl
+
+record SameFront (dated other : Dated) (front front1 rest rest1 : List ℕ) : Type 0 where
+  deed : other ≡ dated
+  fronts : front1 ≡ front
+  rests : rest1 ≡ rest
+
+same_front : (dated other : Dated) (front front1 rest rest1 : List ℕ) → SpellsDeed dated front → SpellsDeed other front1
+    → front ++ rest ≡ front1 ++ rest1 → SameFront dated other front front1 rest rest1
+same_front dated other front front1 rest rest1 spells spells1 whole =
+    let one = deed_read dated front rest spells in
+    let two = deed_read other front1 rest1 spells1 in
+    let size : length front1 ≡ length front = sym two.1 ∙ ap deed_len (sym whole) ∙ one.1 in
+    record {
+      deed = some_same other dated (sym two.0 ∙ ap first_deed (sym whole) ∙ one.0);
+      fronts = fronts_same front front1 rest rest1 whole size;
+      rests = rests_same front front1 rest rest1 whole size;
+    }
+
+-- ---- all deeds
+
+-- the bytes of a list of lines that begins with those of a deed
+joined : (lines front back behind : List ℕ) → lines ≡ front ++ back → lines ++ behind ≡ front ++ (back ++ behind)
+joined lines front back behind split = ap (λ (l : List ℕ). l ++ behind) split ∙ append_assoc front back behind
+
+same_deeds : (deeds others : List Dated) (lines more behind rest : List ℕ) → SpellsDeeds deeds lines → SpellsDeeds others more
+    → lines ++ behind ≡ more ++ rest → is_shut behind ≡ true → is_shut rest ≡ true → (others ≡ deeds) × (more ≡ lines)
+same_deeds [] [] lines more behind rest none none1 whole shut shut1 = (refl, none1 ∙ sym none)
+same_deeds [] (e ∷ others) lines more behind rest none (front, back, split, one, left) whole shut shut1 =
+    not_shut e front (back ++ rest) behind one (ap (λ (l : List ℕ). l ++ behind) (sym none) ∙ whole ∙ joined more front back rest split) shut
+same_deeds (d ∷ deeds) [] lines more behind rest (front, back, split, one, left) none whole shut shut1 =
+    not_shut d front (back ++ behind) rest one (ap (λ (l : List ℕ). l ++ rest) (sym none) ∙ sym whole ∙ joined lines front back behind split) shut1
+same_deeds (d ∷ deeds) (e ∷ others) lines more behind rest (front, back, split, one, left) (front1, back1, split1, one1, left1) whole shut shut1 =
+    let same = same_front d e front front1 (back ++ behind) (back1 ++ rest) one one1 (sym (joined lines front back behind split) ∙ whole ∙ joined more front1 back1 rest split1) in
+    let on = same_deeds deeds others back back1 behind rest left left1 (sym same.rests) shut shut1 in (
+      ap (λ x. x ∷ others) same.deed ∙ ap (λ (l : List Dated). d ∷ l) on.0,
+      split1 ∙ ap (λ (l : List ℕ). l ++ back1) same.fronts ∙ ap (λ (l : List ℕ). front ++ l) on.1 ∙ sym split,
+    )
+
+-- deeds up to what counts for nothing have no place among them at which no deed begins
+never_stuck : (deeds others : List Dated) (lines more behind rest : List ℕ) → SpellsDeeds deeds lines → SpellsDeeds others more
+    → lines ++ behind ≡ more ++ rest → is_shut behind ≡ true → is_shut rest ≡ false → first_deed rest ≡ None → ⊥
+never_stuck [] [] lines more behind rest none none1 whole shut counts never =
+    let same : behind ≡ rest = ap (λ (l : List ℕ). l ++ behind) (sym none) ∙ whole ∙ ap (λ (l : List ℕ). l ++ rest) none1 in
+    true≢false (sym shut ∙ ap is_shut same ∙ counts)
+never_stuck [] (e ∷ others) lines more behind rest none (front, back, split, one, left) whole shut counts never =
+    not_shut e front (back ++ rest) behind one (ap (λ (l : List ℕ). l ++ behind) (sym none) ∙ whole ∙ joined more front back rest split) shut
+never_stuck (d ∷ deeds) [] lines more behind rest (front, back, split, one, left) none whole shut counts never =
+    let is : rest ≡ front ++ (back ++ behind) = ap (λ (l : List ℕ). l ++ rest) (sym none) ∙ sym whole ∙ joined lines front back behind split in
+    none_some d (sym never ∙ ap first_deed is ∙ (deed_read d front (back ++ behind) one).0)
+never_stuck (d ∷ deeds) (e ∷ others) lines more behind rest (front, back, split, one, left) (front1, back1, split1, one1, left1) whole shut counts never =
+    let same = same_front d e front front1 (back ++ behind) (back1 ++ rest) one one1 (sym (joined lines front back behind split) ∙ whole ∙ joined more front1 back1 rest split1) in
+    never_stuck deeds others back back1 behind rest left left1 (sym same.rests) shut counts never
+
+-- ---- the first line
+
+ok_same : {A : Type 0} {E : Type 0} (x y : A) → (r : Result A E) → r ≡ Ok x → r ≡ Ok y → y ≡ x
+ok_same x y r one two = cc
+
+record SameOpening (base other : EntityData) (front front1 rest rest1 : List ℕ) : Type 0 where
+  bases : other ≡ base
+  fronts : front1 ≡ front
+  rests : rest1 ≡ rest
+
+same_opening : (home : HomeData) (base other : EntityData) (front front1 rest rest1 : List ℕ) → SpellsOpening home base front → SpellsOpening home other front1
+    → front ++ rest ≡ front1 ++ rest1 → SameOpening base other front front1 rest rest1
+same_opening home base other front front1 rest rest1 opens opens1 whole =
+    let one = header_read home opens.opened front rest opens.header in
+    let two = header_read home opens1.opened front1 rest1 opens1.header in
+    let size : length front1 ≡ length front = sym two.1 ∙ ap (λ (l : List ℕ). line_len l + 1) (sym whole) ∙ one.1 in
+    let at : opens1.opened ≡ opens.opened = ok_same opens.opened opens1.opened (first_header home (front ++ rest)) one.0 (ap (first_header home) whole ∙ two.0) in
+    record {
+      bases = opens1.opens ∙ ap (opening home) at ∙ sym opens.opens;
+      fronts = fronts_same front front1 rest rest1 whole size;
+      rests = rests_same front front1 rest rest1 whole size;
+    }
+
+-- ---- a file that keeps a journal
+
+module _ (home : HomeData) (base : EntityData) (deeds : List Dated) (text bytes : List ℕ) (journal : IsJournalOf home base deeds text) (keeps : KeepsText text bytes) where
+  -- the bytes, behind the first line
+  apart : bytes ≡ journal.front ++ (journal.lines ++ keeps.behind)
+  apart = keeps.split ∙ joined text journal.front journal.lines keeps.behind journal.split
+
+  -- the same of a journal that is read from them, up to a place
+  module _ (other : EntityData) (others : List Dated) (place : ℕ) (read : IsJournalOf home other others (take place bytes)) where
+    abbrev left : List ℕ
+    left = drop place bytes
+
+    apart_at : bytes ≡ read.front ++ (read.lines ++ left)
+    apart_at = sym (take-append-drop place bytes) ∙ joined (take place bytes) read.front read.lines left read.split
+
+    first_same : SameOpening base other journal.front read.front (journal.lines ++ keeps.behind) (read.lines ++ left)
+    first_same = same_opening home base other journal.front read.front (journal.lines ++ keeps.behind) (read.lines ++ left) journal.opens read.opens (sym apart ∙ apart_at)
+
+    all_same : is_shut left ≡ true → (others ≡ deeds) × (read.lines ≡ journal.lines)
+    all_same shut = same_deeds deeds others journal.lines read.lines keeps.behind left journal.spells read.spells (sym first_same.rests) keeps.shut shut
+
+    text_same : is_shut left ≡ true → take place bytes ≡ text
+    text_same shut =
+        read.split
+        ∙ ap (λ (l : List ℕ). l ++ read.lines) first_same.fronts
+        ∙ ap (λ (l : List ℕ). journal.front ++ l) (all_same shut).1
+        ∙ sym journal.split
+
+    made_same : is_shut left ≡ true → made_of others other ≡ made_of deeds base
+    made_same shut = ap (λ ds. made_of ds other) (all_same shut).0 ∙ ap (made_of deeds) first_same.bases
+
+    none_stuck : is_shut left ≡ false → first_deed left ≡ None → ⊥
+    none_stuck counts never = never_stuck deeds others journal.lines read.lines keeps.behind left journal.spells read.spells (sym first_same.rests) keeps.shut counts never
+
+  header_there : (fault : HeaderFault) → first_header home bytes ≡ Err fault → ⊥
+  header_there fault err =
+      let opens = journal.opens in
+      let found = header_read home opens.opened journal.front (journal.lines ++ keeps.behind) opens.header in
+      let is : Ok opens.opened ≡ Err fault = sym found.0 ∙ ap (first_header home) (sym apart) ∙ err in
+      cc
+
+  -- what is opened is the text
+  pub text_opened : (len : ℕ) (e : EntityData) → OpensAs home bytes len e → take len bytes ≡ text
+  text_opened len e read = text_same read.makes.base read.makes.deeds len read.makes.journal read.shut
+
+  opened : (len : ℕ) (e : EntityData) → OpensAs home bytes len e → (len ≡ length text) × (e ≡ made_of deeds base)
+  opened len e read = (
+    sym (length-take-le len bytes read.within) ∙ ap length (text_opened len e read),
+    read.makes.made ∙ made_same read.makes.base read.makes.deeds len read.makes.journal read.shut,
+  )
+
+  refused : (fault : OpeningFault) → IsRefused home bytes fault → IsOfMachine fault
+  refused NoHeader err = header_there header.NoHeader err
+  refused OtherFormat err = header_there header.OtherFormat err
+  refused OtherHome err = header_there header.OtherHome err
+  refused (BadLine number) (place, stops, is) = none_stuck stops.base stops.deeds place stops.journal stops.counts stops.none
+  refused Failed said = tt
+  refused OutOfMemory said = tt
+
+  pub journal_opens : JournalsOpenAsTheirDeeds home base deeds text bytes
+  journal_opens = record { opens = opened; refuses = refused }

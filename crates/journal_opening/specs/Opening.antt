@@ -1,0 +1,86 @@
+-- What comes of opening the bytes of a journal's file.
+use Rattle.std.specs.Prelude.{◌≡◌, ℕ, ◌+◌, ◌<◌, ◌≤◌, ◌==◌, false, true, List, [], length, take, drop, count_by}
+use Rattle.std.specs.Prelude.{Err, None, ⊤}
+use Rattle.std.specs.declared.result.Result.{Result}
+use Rattle.resource_model.specs.Home.{HomeData}
+use Rattle.entity_model.specs.Entity.{EntityData}
+use Rattle.kept_file.specs.Crashes.{LeavesOnly, LeavesThis}
+use Rattle.journal_file.specs.Gates.{is_shut}
+use Rattle.journal_lines.specs.Header.{first_header}
+use Rattle.journal_lines.specs.Lines.{first_deed}
+use Rattle.journal_lines.specs.declared.deed.Dated.{Dated}
+use Rattle.journal_lines.specs.declared.header.HeaderFault.TheVariants as header
+use Rattle.journal_lines.specs.declared.header.HeaderFault.{HeaderFault}
+use Rattle.journal_opening.specs.Journals.{IsJournalOf, Makes, SpellsOpening}
+use Rattle.journal_opening.specs.declared.fault.OpeningFault.{OpeningFault}
+use Rattle.journal_opening.specs.declared.fault.OpeningFault.TheVariants.{NoHeader, OtherFormat}
+use Rattle.journal_opening.specs.declared.fault.OpeningFault.TheVariants.{OtherHome, BadLine}
+use Rattle.journal_opening.specs.declared.fault.OpeningFault.TheVariants.{Failed, OutOfMemory}
+
+-- the number of the line that begins at a place, from 1
+abbrev pub line_number : List ℕ → ℕ → ℕ
+line_number bytes place = count_by (λ b. b == 10) (take place bytes) + 1
+
+-- The bytes are those of a file that keeps a text of so many bytes, which makes this entity.
+pub record OpensAs (home : HomeData) (bytes : List ℕ) (len : ℕ) (e : EntityData) : Type 0 where
+  pub makes : Makes home (take len bytes) e
+  pub within : len ≤ length bytes
+  pub shut : is_shut (drop len bytes) ≡ true
+
+-- A journal stands at the front of the bytes, and what stands behind it at a place counts, but is
+-- no deed.
+pub record StopsAt (home : HomeData) (bytes : List ℕ) (place : ℕ) : Type 0 where
+  pub base : EntityData
+  pub deeds : List Dated
+  pub journal : IsJournalOf home base deeds (take place bytes)
+  pub within : place ≤ length bytes
+  pub counts : is_shut (drop place bytes) ≡ false
+  pub none : first_deed (drop place bytes) ≡ None
+
+-- The bytes are refused for this reason: by their first line, or at the line of this number. That
+-- the file fails or memory runs out says nothing of them.
+abbrev pub IsRefused : HomeData → List ℕ → OpeningFault → Type 0
+IsRefused home bytes NoHeader = first_header home bytes ≡ Err header.NoHeader
+IsRefused home bytes OtherFormat = first_header home bytes ≡ Err header.OtherFormat
+IsRefused home bytes OtherHome = first_header home bytes ≡ Err header.OtherHome
+IsRefused home bytes (BadLine number) =
+    (place : ℕ) × StopsAt home bytes place × (number ≡ line_number bytes place)
+IsRefused home bytes Failed = ⊤
+IsRefused home bytes OutOfMemory = ⊤
+
+-- the fault isn't one of the bytes
+abbrev pub IsOfMachine : OpeningFault → Type 0
+IsOfMachine NoHeader = ⊥
+IsOfMachine OtherFormat = ⊥
+IsOfMachine OtherHome = ⊥
+IsOfMachine (BadLine number) = ⊥
+IsOfMachine Failed = ⊤
+IsOfMachine OutOfMemory = ⊤
+
+-- the fault of a header as that of an opening
+abbrev pub opening_fault : HeaderFault → OpeningFault
+opening_fault header.NoHeader = NoHeader
+opening_fault header.OtherFormat = OtherFormat
+opening_fault header.OtherHome = OtherHome
+opening_fault header.OutOfMemory = OutOfMemory
+
+-- So many bytes at the front say with which entity a journal of this home begins.
+pub record BeginsAs (home : HomeData) (bytes : List ℕ) (len : ℕ) (base : EntityData) : Type 0 where
+  pub opens : SpellsOpening home base (take len bytes)
+  pub within : len ≤ length bytes
+
+-- why a journal isn't begun
+abbrev pub HaltsBeginning : HomeData → List ℕ → OpeningFault → Type 0
+HaltsBeginning home bytes NoHeader = first_header home bytes ≡ Err header.NoHeader
+HaltsBeginning home bytes OtherFormat = first_header home bytes ≡ Err header.OtherFormat
+HaltsBeginning home bytes OtherHome = first_header home bytes ≡ Err header.OtherHome
+HaltsBeginning home bytes (BadLine number) = ⊥
+HaltsBeginning home bytes Failed = ⊥
+HaltsBeginning home bytes OutOfMemory = ⊤
+
+-- A call leaves a file as it was, at each moment.
+pub record StaysAsItWas {F : Type 0} (seen : F → List ℕ) (may_leave : F → List ℕ → Type 0)
+    (moment : F → ℕ) (left_since : F → ℕ → List ℕ → Type 0) (old new : F) : Type 0 where
+  pub same : seen new ≡ seen old
+  pub kept : LeavesThis (seen new) (may_leave new)
+  pub any_moment : LeavesOnly moment left_since old new (λ c. c ≡ seen old)

@@ -1,0 +1,42 @@
+//! Why a journal isn't opened.
+ghost use Rattle.std.specs.Prelude.{◌≡◌};
+
+use kept_file::Failed;
+use std::alloc::AllocError;
+
+/// Why a journal isn't opened.
+#[derive(Clone, Copy, Debug, PartialEq, Eq)]
+pub enum OpeningFault {
+    /// The first line is none of a journal.
+    NoHeader,
+    /// It is a journal of another format.
+    OtherFormat,
+    /// It is the journal of another home.
+    OtherHome,
+    /// At the line of this number, from 1, no deed begins, but the journal goes on.
+    BadLine(usize),
+    /// The file failed: its count of faults rose in the call.
+    Failed,
+    /// Memory ran out.
+    OutOfMemory,
+}
+
+impl From<AllocError> for OpeningFault {
+    ghost use Rattle.journal_opening.specs.declared.fault.OpeningFault.{OpeningFault};
+
+    ghost from_gives = { λ _ e. e ≡ OpeningFault.OutOfMemory };
+
+    fn from(_: AllocError) -> Self {
+        OpeningFault::OutOfMemory
+    }
+}
+
+impl From<Failed> for OpeningFault {
+    ghost use Rattle.journal_opening.specs.declared.fault.OpeningFault.{OpeningFault};
+
+    ghost from_gives = { λ _ e. e ≡ OpeningFault.Failed };
+
+    fn from(_: Failed) -> Self {
+        OpeningFault::Failed
+    }
+}

@@ -1,0 +1,29 @@
+//! A CSE is opened at the journal of what was done at it.
+//!
+//! `play_back` reads a file of which contracts see what a crash may leave, and does again what its
+//! lines say, each deed by the machine's step at its own moment. Callers get the entity that the
+//! deeds make, and the file ready for what is done next (specs/Journals). A journal of another home
+//! or of another format, and one with a line that is no deed, is refused; its file then has each
+//! byte that it had. Opening may be cut off at any moment: the file keeps the same journal.
+//!
+//! `first_text` gives what a new journal's file has in it. Who appends the lines of a deed to a
+//! journal has a journal of one deed more; the laws of this crate say so.
+//!
+//! ```text
+//! let first = first_text(alloc, &home, clock.now())?;
+//! let mut file = DiskFile::open(rt, "journal", &first)?;
+//! let played = play_back(alloc, &mut file, home, IndexTree::new(alloc))?; // or why not
+//! let journal = Journal::new(file, played.len);
+//! ```
+#![tactic(auto)]
+
+mod fault;
+mod first;
+mod laws;
+mod opening;
+mod playing;
+
+pub use fault::OpeningFault;
+pub use first::first_text;
+pub use laws::{a_journal_opens_as_its_deeds, deeds_make_an_entity, journals_grow};
+pub use opening::{Played, play_back};

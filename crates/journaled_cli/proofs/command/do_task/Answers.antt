@@ -1,0 +1,28 @@
+use Rattle.std.proofs.Common.{refl, inl, inr, ⊎_elim}
+use Rattle.cse_server.specs.Outside.{link_told, outside, sink_told}
+use Rattle.cse_server.specs.declared.bench.Bench.{Bench}
+use Rattle.journaled_cli.proofs.RunLemmas.{shut_outside}
+use Rattle.journaled_cli.proofs.command.do_task.Goals as goal
+
+-- the streams were served as one connection
+pub returns-in-Http : goal.returns-in-Http
+returns-in-Http g c = rw c.in-Http.is c.serve_streams.ensures
+
+-- the connections of the door were served
+pub returns-in-Serve : goal.returns-in-Serve
+returns-in-Serve g c =
+    rw c.in-Serve.is (record {
+      left = refl;
+      out = refl;
+      serves = ⊎_elim (λ served. inl served)
+          (λ shut. inr (shut_outside (λ (b : Bench g.row.C.Denot g.row.L.Denot). outside (g.S.Source.left c.args.input.now)
+          (sink_told (g.O.Sink.written c.args.out.now) (g.O.Sink.puts c.args.out.now)) (g.C.Clock.readings b.clock)
+          (link_told (g.L.Link.exchanges b.link) (g.L.Link.faults b.link))) c.args.first.now c.serve_door.new.first c.serve_door.result shut)) c.serve_door.ensures;
+    })
+
+-- nothing else is done so
+pub returns-in-Replay : goal.returns-in-Replay
+returns-in-Replay g c = rw c.in-Replay.is (refl, refl)
+
+pub returns-in-Generate : goal.returns-in-Generate
+returns-in-Generate g c = rw c.in-Generate.is (refl, refl)

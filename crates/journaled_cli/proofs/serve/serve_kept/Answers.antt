@@ -1,0 +1,27 @@
+use Rattle.std.proofs.Common.{refl, inl, inr}
+use denote.Exit.{yes}
+use denote.Param.{param}
+use denote.Param.Send.{arg_send, param_send}
+use Rattle.resource_tree.specs.contracts.index_tree.IndexTree as index_tree
+use Rattle.resource_tree.specs.contracts.index_tree.IndexTreeTree.TheImpl as index_tree_impl
+use Rattle.journaled_entity.specs.contracts.recording.Journaled as journaled
+use Rattle.kept_object.specs.contracts.object.KeptObject as kept
+use Rattle.journaled_cli.proofs.KeptSent.{kept_send}
+use Rattle.journaled_cli.proofs.ServedLemmas.{kept_status}
+use Rattle.journaled_cli.proofs.serve.serve_kept.Goals as goal
+
+-- its connections were served
+pub returns-in-Some : goal.returns-in-Some
+returns-in-Some g c =
+    let served = c.in-Some.ensures.served in
+    inl (served.0.served, kept_status served.0.served.left c.in-Some.left c.in-Some.status c.status_of.result served.0.left_is c.status_of.ensures served.1)
+
+-- memory ran out before
+pub returns-in-None : goal.returns-in-None
+returns-in-None g c = inr (record { status_is = inl refl; same = c.serve_at_desk.ensures.starved c.in-None.is })
+
+-- the object goes from thread to thread, as an argument that stands for a parameter
+pub serve_at_desk-requires-send-O : goal.serve_at_desk-requires-send-O
+serve_at_desk-requires-send-O g c κs within =
+    param_send _ _ (arg_send _ yes (kept.the_row (journaled.the_row index_tree.the_row index_tree_impl.ghosts) (param 1 g.row.F) g.F.KeptFile)
+    (kept_send (param 1 g.row.F) g.F.KeptFile c.type_bounds.send-F))

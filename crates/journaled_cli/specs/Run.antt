@@ -1,0 +1,184 @@
+-- What the commands `http` and `serve` do over a journal.
+use Rattle.std.specs.Prelude.{◌≡◌, ◌⊎◌, ℕ, ◌+◌, max, take, Bool, List, Option, Some, None}
+use Rattle.std.specs.Prelude.{if◌then◌else◌}
+use Rattle.std.specs.declared.alloc.AllocError.{AllocError}
+use Rattle.std.specs.declared.result.Result.{Result}
+use Rattle.m2m_io.specs.declared.status.Status.{Status}
+use Rattle.m2m_io.specs.declared.status.Status.TheVariants.{BadStream, Done, Memory, ReadFault}
+use Rattle.m2m_io.specs.declared.status.Status.TheVariants.{Usage, WriteFault}
+use Rattle.turn_desk.specs.Entries.{Marked}
+use Rattle.turn_desk.specs.Growth.{IsOwnRun}
+use Rattle.kept_desk.specs.declared.turn.Turn.{Turn}
+use Rattle.kept_desk.specs.declared.turn.Report.{Report}
+use Rattle.kept_object.specs.State.{KeptData}
+use Rattle.kept_object.specs.Steps.{KeptStep}
+use Rattle.resource_model.specs.Home.{HomeData}
+use Rattle.entity_model.specs.Entity.{EntityData}
+use Rattle.cse_machine.specs.Step.{Step}
+use Rattle.cse_machine.specs.declared.event.Event.{Event}
+use Rattle.cse_machine.specs.declared.event.Outcome.{Outcome}
+use Rattle.cse_server.specs.Connection.{Serves}
+use Rattle.cse_server.specs.Outside.{Outside}
+use Rattle.cse_server.specs.Sending.{SendsItems}
+use Rattle.cse_server.specs.declared.connection.Ended.{Ended}
+use Rattle.cse_server.specs.declared.connection.Ended.TheVariants.{Closed, NoFrame}
+use Rattle.cse_server.specs.declared.connection.Ended.TheVariants.{ReadFault as EndedReading}
+use Rattle.cse_server.specs.declared.connection.Ended.TheVariants.{WriteFault as EndedWriting}
+use Rattle.cse_server.specs.declared.connection.Ended.TheVariants.{Memory as EndedStarved}
+use Rattle.command_words.specs.Command.{Command, Serving, Task, http, replay, serve, generate}
+use Rattle.cse_cli.specs.Run.{status_behind}
+use Rattle.cse_cli.specs.Serve.{ServesObject}
+use Rattle.turn_desk.specs.declared.shared.DeskSeat.{DeskSeat}
+use Rattle.journal_opening.specs.Opening.{IsRefused}
+use Rattle.journal_opening.specs.declared.fault.OpeningFault.{OpeningFault}
+use Rattle.journal_opening.specs.declared.fault.OpeningFault.TheVariants.{NoHeader, OtherFormat}
+use Rattle.journal_opening.specs.declared.fault.OpeningFault.TheVariants.{OtherHome, BadLine}
+use Rattle.journal_opening.specs.declared.fault.OpeningFault.TheVariants.{Failed, OutOfMemory}
+use Rattle.journaled_entity.specs.Keeping.{KeepsEntity}
+use Rattle.journaled_entity.specs.Opened.{OpensAt}
+use Rattle.journaled_server.specs.Serving.{AnswersGrown}
+
+-- the turns of an entity that is kept in a file
+abbrev pub KeptTurns : {F : Type 0} → Type 0 → (F → List ℕ) → (F → List ℕ → Type 0) → (F → ℕ)
+    → (F → ℕ → List ℕ → Type 0) → ℕ → Turn Event → KeptData EntityData F → Report Outcome
+    → KeptData EntityData F → Type 0
+KeptTurns tells seen may_leave moment left_since =
+    KeptStep Step KeepsEntity tells seen may_leave moment left_since
+
+-- the status, or that writing failed, where the journal has
+abbrev pub status_of : Bool → Status → Status
+status_of failed status = if failed then WriteFault else status
+
+module _ {S : Type 0} (grown : S → List (Marked Event Outcome) → S → Type 0) where
+  -- The items that a connection left in an outbox were sent. Nothing was read or written.
+  pub record SendsBehind (before after : S) (old new : Outside) (whole status : Status) : Type 0 where
+    pub result : Result ℕ AllocError
+    pub sends : SendsItems grown before after old.readings new.readings old.link new.link result
+    pub left : new.left ≡ old.left
+    pub out : new.out ≡ old.out
+    pub status_is : status ≡ status_behind whole result
+
+  -- What is done behind a connection that ended so: where it was closed, or what was left of it was
+  -- no message, the items are sent; and else nothing.
+  abbrev pub EndsBehind : Ended → S → S → Outside → Outside → Status → Type 0
+  EndsBehind Closed before after old new status = SendsBehind before after old new Done status
+  EndsBehind NoFrame before after old new status =
+      SendsBehind before after old new BadStream status
+  EndsBehind EndedReading before after old new status =
+      (status ≡ ReadFault) × (after ≡ before) × (new ≡ old)
+  EndsBehind EndedWriting before after old new status =
+      (status ≡ WriteFault) × (after ≡ before) × (new ≡ old)
+  EndsBehind EndedStarved before after old new status =
+      (status ≡ Memory) × (after ≡ before) × (new ≡ old)
+
+-- Input and output were served as one connection of an object that is kept, and then what it left
+-- in the outbox was sent. The turns were taken by that object, one after another, and by nobody
+-- else.
+pub record ServesStreams {F : Type 0} (turns : ℕ → Turn Event → KeptData EntityData F
+    → Report Outcome → KeptData EntityData F → Type 0) (opened : KeptData EntityData F)
+    (old new : Outside) (status : Status) : Type 0 where
+  pub between : KeptData EntityData F
+  pub after : KeptData EntityData F
+  pub served : Outside
+  pub ended : Ended
+  pub sent : Status
+  pub serves : Serves (AnswersGrown (IsOwnRun turns)) opened between old served ended
+  pub behind : EndsBehind (AnswersGrown (IsOwnRun turns)) ended between after served new sent
+  pub status_is : status ≡ status_of after.journal.is_failed sent
+
+-- the status where a file isn't opened for this fault
+abbrev pub refusal : OpeningFault → Status
+refusal NoHeader = BadStream
+refusal OtherFormat = BadStream
+refusal OtherHome = BadStream
+refusal (BadLine number) = BadStream
+refusal Failed = ReadFault
+refusal OutOfMemory = Memory
+
+-- Nobody was served: for this fault a file with these bytes isn't opened by a home. They are
+-- refused by what stands in them, unless the file failed or memory ran out.
+pub record ServesNone {F : Type 0} (tells : Type 0) (seen : F → List ℕ) (home : HomeData) (file : F)
+    (old new : Outside) (status : Status) : Type 0 where
+  pub fault : OpeningFault
+  pub refused : tells → IsRefused home (seen file) fault
+  pub status_is : status ≡ refusal fault
+  pub same : new ≡ old
+
+-- At a desk of this object connections were attended to, and it has become this one.
+pub record LeavesServed {X E R C B A : Type 0} (step : ℕ → E → X → R → X → Type 0)
+    (attends : DeskSeat X E R → C → B → DeskSeat X E R → A → B → Type 0)
+    (does : DeskSeat X E R → B → DeskSeat X E R → B → Type 0)
+    (benches : List B) (object : X) (old new : B) (left : X) : Type 0 where
+  pub served : ServesObject step attends does benches object old new
+  pub left_is : served.left ≡ left
+
+-- The door failed to open, or memory ran out before: nothing changed.
+pub record StaysShut {B : Type 0} (old new : B) (status : Status) : Type 0 where
+  pub status_is : (status ≡ Memory) ⊎ (status ≡ ReadFault)
+  pub same : new ≡ old
+
+module _ {F : Type 0} (tells : Type 0) (seen : F → List ℕ) (may_leave : F → List ℕ → Type 0)
+    (moment : F → ℕ) (left_since : F → ℕ → List ℕ → Type 0) where
+  -- Connections were attended to at a desk of an object that is kept, as at one of any object; and
+  -- the status says that all is well or that the door failed, or that writing failed where the
+  -- journal has.
+  abbrev pub ServesKept : {C B A : Type 0} → (DeskSeat (KeptData EntityData F) (Turn Event)
+      (Report Outcome) → C → B → DeskSeat (KeptData EntityData F) (Turn Event) (Report Outcome)
+      → A → B → Type 0)
+      → (DeskSeat (KeptData EntityData F) (Turn Event) (Report Outcome) → B
+      → DeskSeat (KeptData EntityData F) (Turn Event) (Report Outcome) → B → Type 0)
+      → List B → B → B → KeptData EntityData F → Status → Type 0
+  ServesKept attends does benches old new opened status =
+      (served : ServesObject (KeptTurns tells seen may_leave moment left_since) attends does benches
+      opened old new)
+      × ((status ≡ status_of served.left.journal.is_failed Done)
+      ⊎ (status ≡ status_of served.left.journal.is_failed ReadFault))
+
+  -- That by as many workers as the words say, where there are benches for so many, beside an
+  -- errand.
+  abbrev pub ServesByWords : {C B A : Type 0} → (DeskSeat (KeptData EntityData F) (Turn Event)
+      (Report Outcome) → C → B → DeskSeat (KeptData EntityData F) (Turn Event) (Report Outcome)
+      → A → B → Type 0)
+      → (DeskSeat (KeptData EntityData F) (Turn Event) (Report Outcome) → B
+      → DeskSeat (KeptData EntityData F) (Turn Event) (Report Outcome) → B → Type 0)
+      → List B → B → B → Serving → KeptData EntityData F → Status → Type 0
+  ServesByWords attends does benches old new serving opened status =
+      ServesKept attends does (take (max 1 serving.workers + 1) benches) old new opened status
+
+  -- The command `serve` with an entity that was opened: connections were `served` by it, or nobody
+  -- was. Nothing was read of the input or written to the output.
+  pub record ServesDoor (served : KeptData EntityData F → Status → Type 0)
+      (opened : KeptData EntityData F) (old new : Outside) (status : Status) : Type 0 where
+    pub left : new.left ≡ old.left
+    pub out : new.out ≡ old.out
+    pub serves : served opened status ⊎ StaysShut old new status
+
+  -- What is done for a task with an entity that was opened at its journal. With `http` input and
+  -- output were served as one connection of it, and with `serve` connections of the door. Nothing
+  -- else is done so.
+  abbrev pub DoesTask : (Serving → KeptData EntityData F → Status → Type 0) → Task
+      → KeptData EntityData F → Outside → Outside → Status → Type 0
+  DoesTask served http opened old new status =
+      ServesStreams (KeptTurns tells seen may_leave moment left_since) opened old new status
+  DoesTask served replay opened old new status = (status ≡ Usage) × (new ≡ old)
+  DoesTask served (serve serving) opened old new status =
+      ServesDoor (served serving) opened old new status
+  DoesTask served (generate requests) opened old new status = (status ≡ Usage) × (new ≡ old)
+
+  -- A task over a journal: the entity of this home was opened at the file, and this was done with
+  -- it; or nobody was served.
+  abbrev pub RunsTask : (Serving → KeptData EntityData F → Status → Type 0) → Task → HomeData → F
+      → Outside → Outside → Status → Type 0
+  RunsTask served task home file old new status =
+      ((opened : KeptData EntityData F) × OpensAt tells seen may_leave home file opened
+      × DoesTask served task opened old new status)
+      ⊎ ServesNone tells seen home file old new status
+
+  -- What is done for words over a journal: for those that are no command, which are usage unless
+  -- memory runs out for reading them, nothing.
+  abbrev pub RunsWords : (Serving → KeptData EntityData F → Status → Type 0) → Option Command → F
+      → Outside → Outside → Status → Type 0
+  RunsWords served None file old new status =
+      ((status ≡ Usage) ⊎ (status ≡ Memory)) × (new ≡ old)
+  RunsWords served (Some command) file old new status =
+      RunsTask served command.task command.home file old new status

@@ -1,0 +1,163 @@
+//! The command `http` over a journal.
+ghost use Rattle.std.specs.Prelude.{◌≡◌, List, Option, ℕ};
+ghost use Rattle.cse_server.specs.Connection.{Serves};
+ghost use Rattle.cse_server.specs.Outside.{SinkTold, link_told, outside, sink_told};
+ghost use Rattle.cse_server.specs.Sending.{SendsItems};
+ghost use Rattle.turn_desk.specs.Growth.{IsOwnRun};
+ghost use Rattle.journaled_cli.specs.Run as spec;
+ghost use Rattle.journaled_cli.specs.Run.{KeptTurns, SendsBehind, ServesStreams, EndsBehind};
+ghost use Rattle.journaled_server.specs.Serving.{AnswersGrown};
+
+use crate::kept::KeptEntity;
+use cse_machine::{Event, Outcome};
+use cse_server::{Bench, Ended, Wire, send_notes, serve_connection};
+use journaled_server::{LossSignal, PlainDesk};
+use kept_desk::{KeptDesk, Report, Turn};
+use kept_file::KeptFile;
+use kept_object::KeptObject;
+use m2m_io::{Clock, Connection, Link, Sink, Source, Status};
+use std::alloc::{AllocError as OutOfMemory, Global};
+use turn_desk::{Object, OwnDesk, OwnSeat};
+
+/// Serves one connection at a seat that holds an object which is kept.
+fn serve_alone<O, X, C, L>(
+    alloc: Global,
+    seat: &mut OwnSeat<O>,
+    conn: &mut X,
+    clock: &mut C,
+    link: &mut L,
+) -> Ended
+where
+    O: Object<Event = Turn<Event>, Outcome = Report<Outcome>>,
+    X: Connection,
+    C: Clock,
+    L: Link,
+    ensures serves { let old = outside (X.left conn.old)
+        (sink_told (X.written conn.old) (X.puts conn.old)) (C.readings clock.old)
+        (link_told (L.exchanges link.old) (L.faults link.old)) in
+        let new = outside (X.left conn.new)
+        (sink_told (X.written conn.new) (X.puts conn.new)) (C.readings clock.new)
+        (link_told (L.exchanges link.new) (L.faults link.new)) in
+        Serves (AnswersGrown (IsOwnRun O.step)) seat.old seat.new old new result }
+    ensures holds { (X.kept_by_read conn.new).holds ≡ (X.kept_by_read conn.old).holds }
+{
+    let signal = LossSignal::new();
+    let desk = OwnDesk::new();
+    let kept = KeptDesk::new(&desk);
+    let plain = PlainDesk::new(&kept, &signal);
+    serve_connection(alloc, &plain, seat, conn, clock, link)
+}
+
+/// Sends the items of the outbox of an object that is kept, at a seat that holds it.
+fn send_alone<O, C, L>(
+    alloc: Global,
+    seat: &mut OwnSeat<O>,
+    clock: &mut C,
+    link: &mut L,
+) -> Result<u64, OutOfMemory>
+where
+    O: Object<Event = Turn<Event>, Outcome = Report<Outcome>>,
+    C: Clock,
+    L: Link,
+    ensures { SendsItems (AnswersGrown (IsOwnRun O.step)) seat.old seat.new
+        (C.readings clock.old) (C.readings clock.new)
+        (link_told (L.exchanges link.old) (L.faults link.old))
+        (link_told (L.exchanges link.new) (L.faults link.new)) result }
+{
+    let signal = LossSignal::new();
+    let desk = OwnDesk::new();
+    let kept = KeptDesk::new(&desk);
+    let plain = PlainDesk::new(&kept, &signal);
+    send_notes(alloc, &plain, seat, clock, link)
+}
+
+/// Sends the items of the outbox of the entity at a seat. The status is this one, unless memory
+/// runs out.
+fn send_behind<F: KeptFile, C: Clock, L: Link>(
+    alloc: Global,
+    seat: &mut OwnSeat<KeptEntity<F>>,
+    bench: &mut Bench<C, L>,
+    whole: Status,
+) -> Status
+    ensures { (left : Option (List ℕ)) → (out : SinkTold)
+        → SendsBehind (AnswersGrown (IsOwnRun (KeptTurns F.tells F.seen F.may_leave F.moment
+        F.left_since))) seat.old seat.new (outside left out (C.readings bench.old.clock)
+        (link_told (L.exchanges bench.old.link) (L.faults bench.old.link)))
+        (outside left out (C.readings bench.new.clock)
+        (link_told (L.exchanges bench.new.link) (L.faults bench.new.link))) whole result }
+{
+    let Bench { clock, link } = bench;
+    match send_alone(alloc, seat, clock, link) {
+        Ok(_) => whole,
+        Err(_) => Status::Memory,
+    }
+}
+
+/// What is done behind a connection that ended so: where it was closed, or what was left of it was
+/// no message, the items of the outbox are sent.
+fn finish<F: KeptFile, C: Clock, L: Link>(
+    alloc: Global,
+    seat: &mut OwnSeat<KeptEntity<F>>,
+    bench: &mut Bench<C, L>,
+    ended: Ended,
+) -> Status
+    ensures { (left : Option (List ℕ)) → (out : SinkTold)
+        → EndsBehind (AnswersGrown (IsOwnRun (KeptTurns F.tells F.seen F.may_leave F.moment
+        F.left_since))) ended seat.old seat.new (outside left out (C.readings bench.old.clock)
+        (link_told (L.exchanges bench.old.link) (L.faults bench.old.link)))
+        (outside left out (C.readings bench.new.clock)
+        (link_told (L.exchanges bench.new.link) (L.faults bench.new.link))) result }
+{
+    match ended {
+        Ended::Closed => send_behind(alloc, seat, bench, Status::Done),
+        Ended::NoFrame => send_behind(alloc, seat, bench, Status::BadStream),
+        Ended::ReadFault => Status::ReadFault,
+        Ended::WriteFault => Status::WriteFault,
+        Ended::Memory => Status::Memory,
+    }
+}
+
+/// The status, or that writing failed, where the journal of this object has.
+pub(crate) fn status_of<O: Drop, F: KeptFile + Drop>(
+    object: KeptObject<O, F>,
+    status: Status,
+) -> Status
+    ensures { result ≡ spec.status_of object.journal.is_failed status }
+{
+    if object.is_failed() {
+        Status::WriteFault
+    } else {
+        status
+    }
+}
+
+/// Serves input and output as one connection of an entity that is kept, and sends the items that
+/// this leaves in the outbox.
+pub(crate) fn serve_streams<F: KeptFile + Drop, S: Source, O: Sink, C: Clock, L: Link>(
+    alloc: Global,
+    object: KeptEntity<F>,
+    input: &mut S,
+    out: &mut O,
+    bench: &mut Bench<C, L>,
+) -> Status
+    ensures { let old = outside (S.left input.old)
+        (sink_told (O.written out.old) (O.puts out.old)) (C.readings bench.old.clock)
+        (link_told (L.exchanges bench.old.link) (L.faults bench.old.link)) in
+        let new = outside (S.left input.new)
+        (sink_told (O.written out.new) (O.puts out.new)) (C.readings bench.new.clock)
+        (link_told (L.exchanges bench.new.link) (L.faults bench.new.link)) in
+        ServesStreams (KeptTurns F.tells F.seen F.may_leave F.moment F.left_since)
+        object old new result }
+{
+    let mut seat = OwnSeat::new(object);
+    let mut wire = Wire::new(input, out);
+    let ended = serve_alone(
+        alloc,
+        &mut seat,
+        &mut wire,
+        &mut bench.clock,
+        &mut bench.link,
+    );
+    let status = finish(alloc, &mut seat, bench, ended);
+    status_of(seat.into_object(), status)
+}

@@ -1,0 +1,162 @@
+//! The command `serve` over a journal.
+ghost use Rattle.std.specs.Prelude.{◌≡◌, ◌⊎◌, ◌≤◌, ◌+◌, IfSome, max, take, vec_len};
+ghost use Rattle.command_words.specs.Command.{serving_by};
+ghost use Rattle.cse_server.specs.Attending.{conn_tells, link_tells};
+ghost use Rattle.journaled_cli.specs.Run.{LeavesServed, ServesByWords, ServesKept, StaysShut};
+ghost use Rattle.journaled_server.specs.Serving.{AttendsKept, SendsKept, TurnsGrow};
+
+use crate::http::status_of;
+use crate::kept::KeptEntity;
+use command_words::Serving;
+use cse_machine::{Event, Outcome};
+use cse_server::{Bench, ServeFault};
+use journaled_server::{LossDoor, LossSignal, serve_journaled};
+use kept_desk::{Report, Turn};
+use kept_file::KeptFile;
+use m2m_io::{Clock, Door, Link, Status};
+use std::alloc::Global;
+use std::sync::{Arc, Wait};
+use std::thread::Threads;
+use turn_desk::{Object, TurnDesk};
+
+/// Serves the connections of an open door, of which so many are accepted at most, at a desk of this
+/// object, and sends what waits in its outbox. What the object has become comes back, with the
+/// status; None where memory ran out before.
+#[tactic(auto, using(crate::proofs::ServedLemmas::left_served))]
+fn serve_at_desk<R, O, D, C, L>(
+    rt: &R,
+    own_rt: R,
+    alloc: Global,
+    object: O,
+    door: D,
+    accept: Option<u64>,
+    first: &mut Bench<C, L>,
+    benches: Vec<Bench<C, L>>,
+) -> Option<(O, Status)>
+where
+    R: Wait + Threads + Drop + Sync,
+    O: Object<Event = Turn<Event>, Outcome = Report<Outcome>> + Send + Drop,
+    D: Door + Send + Drop,
+    C: Clock + Send + Drop,
+    L: Link + Send + Drop,
+    requires benches { 2 ≤ vec_len benches }
+    ensures served { let attends = AttendsKept TurnsGrow
+        (conn_tells D.Conn.left D.Conn.written D.Conn.puts D.Conn.Source.faults
+        D.Conn.Sink.faults) C.readings (link_tells L.exchanges L.faults) in
+        let sends = SendsKept TurnsGrow C.readings (link_tells L.exchanges L.faults) in
+        IfSome result (λ r. LeavesServed O.step attends sends benches.items object first.old
+        first.new r.0 × ((r.1 ≡ Status.Done) ⊎ (r.1 ≡ Status.ReadFault))) }
+    ensures starved { result ≡ None → first.new ≡ first.old }
+{
+    let Ok(losses) = Arc::new(alloc, LossSignal::new()) else {
+        return None;
+    };
+    let Ok(raised) = Arc::try_clone(&losses) else {
+        return None;
+    };
+    let Ok((desk, seat)) = TurnDesk::new(own_rt, alloc, object) else {
+        return None;
+    };
+    let door = LossDoor::new(door, raised);
+    match serve_journaled(
+        rt, alloc, &desk, seat, door, accept, &losses, first, benches,
+    ) {
+        Ok((seat, _)) => Some((desk.close(seat), Status::Done)),
+        Err((seat, _, ServeFault::DoorFault)) => Some((desk.close(seat), Status::ReadFault)),
+        Err((seat, _, ServeFault::OutOfMemory)) => {
+            drop(desk.close(seat));
+            None
+        }
+    }
+}
+
+/// Serves the connections of an open door by an entity that is kept, of which so many are accepted
+/// at most, and sends what waits in its outbox.
+fn serve_kept<R, F, D, C, L>(
+    rt: &R,
+    own_rt: R,
+    alloc: Global,
+    object: KeptEntity<F>,
+    door: D,
+    accept: Option<u64>,
+    first: &mut Bench<C, L>,
+    benches: Vec<Bench<C, L>>,
+) -> Status
+where
+    R: Wait + Threads + Drop + Sync,
+    F: KeptFile + Send + Drop,
+    D: Door + Send + Drop,
+    C: Clock + Send + Drop,
+    L: Link + Send + Drop,
+    requires { 2 ≤ vec_len benches }
+    ensures { let attends = AttendsKept TurnsGrow
+        (conn_tells D.Conn.left D.Conn.written D.Conn.puts D.Conn.Source.faults
+        D.Conn.Sink.faults) C.readings (link_tells L.exchanges L.faults) in
+        let sends = SendsKept TurnsGrow C.readings (link_tells L.exchanges L.faults) in
+        ServesKept F.tells F.seen F.may_leave F.moment F.left_since attends sends benches.items
+        first.old first.new object result ⊎ StaysShut first.old first.new result }
+{
+    match serve_at_desk(rt, own_rt, alloc, object, door, accept, first, benches) {
+        Some((left, status)) => status_of(left, status),
+        None => Status::Memory,
+    }
+}
+
+/// The benches of as many workers as the words say, and one more; fewer where there are no more.
+fn benches_for<C: Clock + Drop, L: Link + Drop>(
+    serving: Serving<'_>,
+    mut benches: Vec<Bench<C, L>>,
+) -> Vec<Bench<C, L>>
+    requires { 2 ≤ vec_len benches }
+    ensures some { 2 ≤ vec_len result }
+    ensures front { result.items
+        ≡ take (max 1 serving.entry.workers + 1) benches.items }
+{
+    let workers = serving.workers.max(1) as usize;
+    benches.truncate(workers.saturating_add(1));
+    benches
+}
+
+/// Opens the door where the words say, and serves its connections by an entity that is kept, by as
+/// many workers as they say, beside a sender of what waits in its outbox.
+pub(crate) fn serve_door<R, F, D, C, L>(
+    rt: &R,
+    alloc: Global,
+    object: KeptEntity<F>,
+    serving: Serving<'_>,
+    mut door: D,
+    first: &mut Bench<C, L>,
+    benches: Vec<Bench<C, L>>,
+) -> Status
+where
+    R: Wait + Threads + Clone + Drop + Sync,
+    F: KeptFile + Send + Drop,
+    D: Door + Send + Drop,
+    C: Clock + Send + Drop,
+    L: Link + Send + Drop,
+    requires benches { 2 ≤ vec_len benches }
+    ensures { let attends = AttendsKept TurnsGrow
+        (conn_tells D.Conn.left D.Conn.written D.Conn.puts D.Conn.Source.faults
+        D.Conn.Sink.faults) C.readings (link_tells L.exchanges L.faults) in
+        let sends = SendsKept TurnsGrow C.readings (link_tells L.exchanges L.faults) in
+        ServesByWords F.tells F.seen F.may_leave F.moment F.left_since attends sends benches.items
+        first.old first.new (serving_by serving.entry) object result
+        ⊎ StaysShut first.old first.new result }
+{
+    let Ok(own_rt) = rt.clone() else {
+        return Status::Memory;
+    };
+    if let Err(_) = door.open(serving.listen.as_bytes()) {
+        return Status::ReadFault;
+    }
+    serve_kept(
+        rt,
+        own_rt,
+        alloc,
+        object,
+        door,
+        serving.accept,
+        first,
+        benches_for(serving, benches),
+    )
+}

@@ -1,0 +1,4 @@
+pub mod ChangeLemmas
+pub mod KeepLemmas
+pub mod OpenLemmas
+pub mod CrashLemmas

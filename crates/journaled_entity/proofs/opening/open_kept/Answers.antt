@@ -1,0 +1,28 @@
+use Rattle.std.proofs.Common.{◌∙◌}
+use Rattle.journaled_entity.proofs.OpenLemmas.{leaves_opened, opens_at, settles}
+use Rattle.journaled_entity.proofs.opening.open_kept.Goals as goal
+
+-- its journal is ready
+pub new-object-requires : goal.new-object-requires
+new-object-requires g c =
+    let K = g.F.KeptFile in
+    let played = c.in-Ok in
+    record {
+      ready = λ told fresh.
+          settles K.seen K.may_leave c.args.home (K.seen c.args.file) c.play_back.new.file played.played.len played.played.entity c.new-journal.result
+          c.new-journal.ensures.file c.new-journal.ensures.len (played.ensures.opens told) (played.ensures.ready told) (played.ensures.kept told);
+    }
+
+pub returns-in-Ok-clause-opens : goal.returns-in-Ok-clause-opens
+returns-in-Ok-clause-opens g c =
+    let K = g.F.KeptFile in
+    let played = c.in-Ok in
+    opens_at K.tells K.seen K.may_leave c.args.home c.args.file c.play_back.new.file played.played.len played.played.entity c.new-journal.result c.new-object.result
+    c.new-journal.ensures.file c.new-journal.ensures.len c.new-journal.ensures.fresh (c.new-object.ensures.object ∙ c.new-entity.ensures) c.new-object.ensures.journal c.new-object.ensures.pending
+    played.ensures.opens played.ensures.ready played.ensures.kept
+
+pub returns-in-Ok-clause-any_moment : goal.returns-in-Ok-clause-any_moment
+returns-in-Ok-clause-any_moment g c = λ told base deeds text journal keeps.
+    let K = g.F.KeptFile in
+    leaves_opened K.moment K.left_since text c.args.file c.play_back.new.file c.new-journal.result c.new-object.result
+    c.new-journal.ensures.file c.new-object.ensures.journal (c.play_back.ensures.any_moment told base deeds text journal keeps)

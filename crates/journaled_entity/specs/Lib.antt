@@ -1,0 +1,5 @@
+pub mod Changes
+pub mod Keeping
+pub mod Opened
+pub mod Crashes
+pub mod Written

@@ -1,0 +1,31 @@
+//! A CSE whose journal makes it again: what is written down of each event.
+//!
+//! `Journaled` is an entity that takes one event at a time by the machine's step, as the object of
+//! the crate cse_server does, and writes down the deed that has to be done again for it. A text
+//! keeps an entity where it is the journal of a home, as the crate journal_opening has it, and what
+//! the journal makes is that entity at the same moment or an earlier one (specs/Keeping).
+//!
+//! What may have changed something more than an expiry does is written down as itself, at the moment
+//! that the entity has after it: what was served and is no Retrieve, a poll that was given an item,
+//! and the taking of an item (specs/Changes). An expiry by which resources or items came or went is
+//! written down as such. Nothing else is written. A request that wouldn't be read back as it is isn't
+//! done, and is answered as one for which memory ran out. `open_kept` opens an entity at its journal, as
+//! an object that is kept in it.
+//!
+//! ```text
+//! let object = open_kept(alloc, home, IndexTree::new(alloc), file)?; // or why not
+//! let (desk, mut seat) = (OwnDesk::new(), OwnSeat::new(object));
+//! KeptDesk::new(&desk).ask(&mut seat, reading, event) // no answer before it is kept
+//! ```
+#![tactic(auto)]
+
+mod changes;
+mod laws;
+mod lines;
+mod opening;
+mod recording;
+
+pub use changes::may_change;
+pub use laws::{what_may_not_change_is_an_expiry, what_was_answered_is_opened_again};
+pub use opening::open_kept;
+pub use recording::Journaled;

@@ -1,0 +1,3 @@
+pub mod Plain
+pub mod Joins
+pub mod Serving

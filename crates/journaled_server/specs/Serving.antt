@@ -1,0 +1,55 @@
+-- How a worker attends to a connection at a desk of a kept object, and how items are sent beside it.
+use Rattle.std.specs.Prelude.{ℕ, List, Option}
+use Rattle.turn_desk.specs.Entries.{Marked}
+use Rattle.turn_desk.specs.Seats.{known_to}
+use Rattle.turn_desk.specs.Shared.{Grows}
+use Rattle.turn_desk.specs.declared.shared.DeskSeat.{DeskSeat}
+use Rattle.kept_desk.specs.Kept.{KeptGrown}
+use Rattle.kept_desk.specs.declared.turn.Turn.{Turn}
+use Rattle.kept_desk.specs.declared.turn.Report.{Report}
+use Rattle.cse_machine.specs.declared.event.Event.{Event}
+use Rattle.cse_machine.specs.declared.event.Outcome.{Outcome}
+use Rattle.cse_server.specs.Attending.{ConnTold, SendsFrom}
+use Rattle.cse_server.specs.Connection.{Serves}
+use Rattle.cse_server.specs.Outside.{EndsByFault, LinkTold, outside}
+use Rattle.cse_server.specs.declared.bench.Bench.{Bench}
+use Rattle.cse_server.specs.declared.connection.Ended.TheVariants.{ReadFault, WriteFault}
+use Rattle.journaled_server.specs.Plain.{PlainGrown}
+use Rattle.journaled_server.specs.declared.serving.Attended.{Attended}
+
+-- a seat of a shared desk of a kept object grew by these turns
+abbrev pub TurnsGrow : {X : Type 0} → DeskSeat X (Turn Event) (Report Outcome)
+    → List (Marked (Turn Event) (Report Outcome)) → DeskSeat X (Turn Event) (Report Outcome)
+    → Type 0
+TurnsGrow before more after = Grows (known_to before) more (known_to after)
+
+-- The seat grew by turns of a kept object, and these are the events among them, each with what may
+-- be answered: its outcome, where a report says that it is kept, and else that memory ran out.
+abbrev pub AnswersGrown : {S : Type 0}
+    → (S → List (Marked (Turn Event) (Report Outcome)) → S → Type 0)
+    → S → List (Marked Event Outcome) → S → Type 0
+AnswersGrown grown = PlainGrown (KeptGrown grown)
+
+-- A connection came and was attended to at a seat, with what lies at a bench: it was served by what
+-- may be answered, and ended so. A fault that ended it is one of the connection.
+pub record AttendsKept {S X C L : Type 0}
+    (grown : S → List (Marked (Turn Event) (Report Outcome)) → S → Type 0)
+    (conn : X → ConnTold) (clock : C → Option (List ℕ)) (link : L → LinkTold)
+    (before : S) (came : X) (bench : Bench C L) (after : S) (attended : Attended X)
+    (left : Bench C L) : Type 0 where
+  pub serves : Serves (AnswersGrown grown) before after
+      (outside (conn came).left (conn came).out (clock bench.clock) (link bench.link))
+      (outside (conn attended.conn).left (conn attended.conn).out (clock left.clock)
+      (link left.link)) attended.ended
+  pub reads : EndsByFault ReadFault attended.ended
+      (conn came).read_faults (conn attended.conn).read_faults
+  pub writes : EndsByFault WriteFault attended.ended
+      (conn came).write_faults (conn attended.conn).write_faults
+
+-- By one call of `send_notes` the items that waited in an outbox were taken at a seat, and sent where
+-- it was kept that they were taken.
+abbrev pub SendsKept : {S C L : Type 0}
+    → (S → List (Marked (Turn Event) (Report Outcome)) → S → Type 0) → (C → Option (List ℕ))
+    → (L → LinkTold) → S → Bench C L → S → Bench C L → Type 0
+SendsKept grown clock link before bench after left =
+    SendsFrom (AnswersGrown grown) clock link before bench after left
