@@ -16,9 +16,6 @@ use tree_model::Tree;
 
 const MANY: u64 = 20_000;
 
-// For the plain tree, which walks.
-const FEW: u64 = 200;
-
 // The most calls of the tree that a request may make. One that goes over the containers makes as
 // many as there are.
 const MOST_CALLS: u64 = 40;
@@ -208,8 +205,8 @@ fn a_request_makes_few_calls(rt: HostRuntime) -> Result<(), Fail> {
 
 #[test]
 fn both_trees_give_equal_replies(rt: HostRuntime) -> Result<(), Fail> {
-    let indexed = answers(rt.alloc(), IndexTree::new(rt.alloc()), FEW)?;
-    let plain = answers(rt.alloc(), ListTree::new(rt.alloc()), FEW)?;
+    let indexed = answers(rt.alloc(), IndexTree::new(rt.alloc()), MANY)?;
+    let plain = answers(rt.alloc(), ListTree::new(rt.alloc()), MANY)?;
     for (line, (one, other)) in ASKED.lines().zip(indexed.iter().zip(plain.iter())) {
         assert!(rt; !one.told.is_empty(), "{line}");
         assert!(rt; one.told == other.told, "{line}");
