@@ -3,7 +3,8 @@
 //!
 //! An event is kept with the moment that the entity has after it, and not with the reading of the
 //! clock, which may lie before an earlier one. An event is left out only where it changed nothing but
-//! the moment (specs/Kept). No program stands on these laws yet.
+//! the moment (specs/Kept). No program calls these laws; the proofs of journaled_entity stand on
+//! them.
 //!
 //! ```text
 //! what_is_kept_makes_the_entity(); // has the law as its contract

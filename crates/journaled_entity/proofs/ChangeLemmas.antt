@@ -23,10 +23,10 @@ use Rattle.cse_machine.specs.declared.event.Outcome.{Outcome}
 use Rattle.cse_machine.specs.declared.event.Outcome.TheVariants.{Done, Forward, Item as Given, Ticked, Starved}
 use Rattle.group_fanout.specs.Fan.{after_members, member_effect, requests_to, sent_to}
 use Rattle.group_fanout.specs.Operations.{operation_effect}
-use Rattle.machine_laws.proofs.GuardLemmas.{Came, comes}
-use Rattle.machine_laws.proofs.HistoryLemmas.{done_holds, done_keeps, onward_leaves, starved_alone}
-use Rattle.machine_laws.proofs.MemberLemmas.{of_member}
-use Rattle.machine_laws.proofs.WayLemmas.{member_addresses}
+use Rattle.guard_laws.proofs.GuardLemmas.{Came, comes}
+use Rattle.guard_laws.proofs.HistoryLemmas.{done_holds, done_keeps, onward_leaves, starved_alone}
+use Rattle.guard_laws.proofs.MemberLemmas.{of_member}
+use Rattle.guard_laws.proofs.WayLemmas.{member_addresses}
 use Rattle.journaled_entity.specs.Changes.{hands_on, is_cut_short, may_change, may_change_by}
 
 -- ---- a Retrieve

@@ -4,8 +4,8 @@ use Rattle.std.proofs.lemmas.List.{length-take-le, take_at}
 use Rattle.resource_model.specs.Home.{HomeData}
 use Rattle.primitive_json.specs.declared.request.RequestParts.{RequestParts}
 use Rattle.entity_model.specs.Entity.{EntityData, swept}
-use Rattle.machine_laws.proofs.ChangingLemmas.{IsKept}
-use Rattle.machine_laws.proofs.GuardLemmas.{Came, replied, went_on, kept, left_by}
+use Rattle.guard_laws.proofs.ChangingLemmas.{IsKept}
+use Rattle.guard_laws.proofs.GuardLemmas.{Came, replied, went_on, kept, left_by}
 use Rattle.kept_file.specs.Crashes.{LeavesOnly, LeavesThis}
 use Rattle.journal_file.specs.Gates.{IsSettled, KeepsText, at_rest, text_of}
 use Rattle.journal_file.specs.declared.journal.Journal.{Journal}

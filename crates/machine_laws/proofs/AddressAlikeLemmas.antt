@@ -3,13 +3,13 @@
 use Rattle.machine_laws.proofs.Words.{◌≡◌, ℕ, List, [], ◌∷◌, map, Bool, true, false, cond, ◌&&◌, Option, Some, None, is_some, option_map, Result, Ok, Err, refl, sym, ap, ap₂, subst, ◌∙◌, option_and_then, option_map_or}
 use Rattle.machine_laws.proofs.Terms.{op_row, Rsc, BadRequest, NoPrivilege, NotAllowed, NotFound, Op, Create, Retrieve, Update, Delete, Notify, Group, RequestParts, HomeData, ResourceData, is_ty, at, has, is_well_formed, address_of, is_at, spot_of, Addr, Local, Foreign, OtherProvider, AddrFault, Spot, Resource, Fan, Poll, delete_bit, do_give, fan_grants, grants, notify_bit, relinks, update_bit, fan_rules, seen, seen_list, cse_named, first_url, EntityData, Effect, first_fault, on_found, refused, unless, create_bits, is_relink, may_do, retrieve_bits, comes_from_cse, routed_to, Done, EventEffect, address_effect, as_done, effect_of, first_places, has_answer, onward_effect, point_of, poll_effect, route_effect, spot_effect, fan_effect, fan_effect_at, fanned, is_fanned, listed_members, may_fan, member_effect, member_effect_at, member_effect_by, member_requests, requests_to, rest_of, sent_to, with_rest, resource_effect, claimed_originator, has_right}
 use Rattle.machine_laws.proofs.Facts.{false≢true, none-some, same_Some, tree_from_well_formed, at_number, has-map, fan_grants-seen, grants-seen, relinks-seen, AreSeenAlike, FoundAlike, by_fault, found_alike, found_both, not_found, same_home, seen_same}
-use Rattle.retrieve_laws.proofs.SpotLemmas.{spot_of-seen}
+use Rattle.sight_laws.proofs.SpotLemmas.{spot_of-seen}
 use Rattle.retarget.specs.declared.routing.Route.TheVariants as to
 use Rattle.machine_laws.specs.Sight.{AreCsesInOrder, does_poll, leads_away, names_poll, sight}
 use Rattle.machine_laws.proofs.FanSightLemmas.{fan_alike, fan_named, group_there, members_seen}
 use Rattle.machine_laws.proofs.PollSightLemmas.{first_false, poll_named}
 use Rattle.machine_laws.proofs.RouteSightLemmas.{comes-seen, cse_named-seen, cse_there, url-seen}
-use Rattle.machine_laws.proofs.WayLemmas.{taken_answer}
+use Rattle.guard_laws.proofs.WayLemmas.{taken_answer}
 
 -- two effects of events that the originator sees alike
 pub record AreAnsweredAlike (o : List ℕ) (x y : EventEffect) : Type 0 where

@@ -4,7 +4,7 @@ use Rattle.machine_laws.proofs.Terms.{readings_of, events_of, outcomes_of, Reque
 use Rattle.machine_laws.proofs.Facts.{or_left, or_right, All-head, All-tail, sound_swept, sound_counts}
 use Rattle.machine_laws.specs.Sight.{AreCsesInOrder, FindsUrls, IsBy, IsRequestBy, goes_away, sight}
 use Rattle.machine_laws.proofs.CseOrderLemmas.{effect_ordered}
-use Rattle.machine_laws.proofs.HistoryLemmas.{none_some, same_entity, same_first, same_rest, sound_step}
+use Rattle.guard_laws.proofs.HistoryLemmas.{none_some, same_entity, same_first, same_rest, sound_step}
 use Rattle.machine_laws.proofs.RouteSightLemmas.{order_swept}
 use Rattle.machine_laws.proofs.SightLemmas.{left-alike, outcomes-alike, passed-alike}
 

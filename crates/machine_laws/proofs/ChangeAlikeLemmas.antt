@@ -8,7 +8,7 @@ use Rattle.sight_laws.proofs.CreatedLemmas.{created-alike}
 use Rattle.sight_laws.proofs.UpdateAlikeLemmas.{updated-alike}
 use Rattle.machine_laws.specs.Sight.{AreCsesInOrder, IsCalm, is_polling, leads_away, sight}
 use Rattle.machine_laws.proofs.AddressAlikeLemmas.{AreAnsweredAlike, effect_alike}
-use Rattle.machine_laws.proofs.MemberLemmas.{IsSoundAt, MaySend, member_sound}
+use Rattle.guard_laws.proofs.MemberLemmas.{IsSoundAt, MaySend, member_sound}
 
 -- where the operation on a resource of both gives what is seen alike
 module _ (home : HomeData) (o : List ℕ) (request : RequestParts) (op : Op) (is : request.op ≡ op) (claims : claimed_originator home request ≡ o) (may : MaySend home request) (on : (one other : EntityData) (address : List ℕ) (p q : ResourceData) → IsSoundAt home one → IsSoundAt home other → sight o one ≡ sight o other → at p.number one.nodes ≡ Some p → at q.number other.nodes ≡ Some q → q.number ≡ p.number → AreSeenAlike o (operation_effect op one (sent_to request address) p) (operation_effect op other (sent_to request address) q)) where

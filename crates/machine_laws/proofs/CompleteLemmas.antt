@@ -7,10 +7,11 @@ use Rattle.request_rules.specs.Groups.{membership_edited, membership_new}
 use Rattle.group_fanout.specs.Operations.{change_effect}
 use Rattle.retarget.specs.declared.routing.Route.{Route}
 use Rattle.retarget.specs.declared.routing.Route.TheVariants as to
-use Rattle.machine_laws.specs.Complete.{IsStarved, IsSuccess, MayBeDone, MayBeHeard, WhatIsAnsweredIsTaken, WhatMayBeFannedOutIsFannedOut, WhatMayBeServedIsServed, WhatMayGoOnGoesOn, WhatWaitsIsGiven}
-use Rattle.machine_laws.specs.Guard.{spot_asked}
-use Rattle.machine_laws.proofs.RelayLemmas.{relay_unrefused}
-use Rattle.machine_laws.proofs.WayLemmas.{fanned_by, given_note, heard, taken_answer}
+use Rattle.machine_laws.specs.Complete.{IsStarved, IsSuccess, MayBeDone, WhatIsAnsweredIsTaken, WhatMayBeFannedOutIsFannedOut, WhatMayBeServedIsServed, WhatMayGoOnGoesOn, WhatWaitsIsGiven}
+use Rattle.guard_laws.specs.Guard.{spot_asked}
+use Rattle.guard_laws.specs.Heard.{MayBeHeard}
+use Rattle.guard_laws.proofs.RelayLemmas.{relay_unrefused}
+use Rattle.guard_laws.proofs.WayLemmas.{fanned_by, given_note, heard, taken_answer}
 
 -- ---- what no place refuses
 

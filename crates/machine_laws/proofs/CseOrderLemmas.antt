@@ -6,11 +6,11 @@ use Rattle.group_fanout.specs.Operations.{change_effect}
 use Rattle.sight_laws.proofs.CreatedOrderLemmas.{created_order}
 use Rattle.sight_laws.proofs.UpdatedOrderLemmas.{updated_order}
 use Rattle.machine_laws.specs.Sight.{AreCsesInOrder}
-use Rattle.machine_laws.proofs.GuardLemmas.{comes, left_by, may_send}
-use Rattle.machine_laws.proofs.MemberLemmas.{IsSoundAt, MaySend, member_sound, members_leave, of_member}
-use Rattle.machine_laws.proofs.RelayLemmas.{relay_nodes}
+use Rattle.guard_laws.proofs.GuardLemmas.{comes, left_by, may_send}
+use Rattle.guard_laws.proofs.MemberLemmas.{IsSoundAt, MaySend, member_sound, members_leave, of_member}
+use Rattle.guard_laws.proofs.RelayLemmas.{relay_nodes}
 use Rattle.machine_laws.proofs.SightLemmas.{notes_taken}
-use Rattle.machine_laws.proofs.WayLemmas.{member_addresses}
+use Rattle.guard_laws.proofs.WayLemmas.{member_addresses}
 
 module _ (e : EntityData) (sound : IsSoundEntity e) (request : RequestParts) (r : ResourceData) (there : at r.number e.nodes ≡ Some r) (order : AreCsesInOrder e.nodes) where
   delete_order : AreCsesInOrder (change_effect Delete e request r).after.nodes

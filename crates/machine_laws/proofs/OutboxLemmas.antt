@@ -1,16 +1,15 @@
 -- The outbox holds what was appended, less what was given away or dropped.
 use Rattle.machine_laws.proofs.Words.{◌≡◌, ℕ, ◌≤◌, List, [], ◌∷◌, ◌++◌, append_assoc, map, find, take, Bool, true, false, cond, not, ◌&&◌, Option, Some, None, is_some, option_map, Result, Ok, Err, inl, inr, refl, sym, ap, subst, ◌∙◌, arith, list_all, option_and_then, option_map_or}
-use Rattle.machine_laws.proofs.Terms.{Rsc, BadChild, BadRequest, NoPrivilege, NotFound, RequestTimeout, Op, Create, Retrieve, Update, Delete, Notify, Ty, NoteParts, RequestParts, HomeData, ResourceData, address_of, named_here, spot_of, Addr, Local, Foreign, OtherProvider, AddrFault, Spot, Resource, Fan, Poll, grants, retrieve_bit, at, has, is_to_send, still_waits, waits_for, EntityData, event_moment, items_from, still_waiting, swept, first_fault, on_found, refused, unless, creation_by, fault_on, child_ty, changes_by, create_effect, effect_by, gone_numbers, told_effect_by, told_effect_on, Event, Ask, Take, Tick, Outcome, Done, Forward, Given, Ticked, Starved, address_effect, addressed, as_done, effect_of, first_places, has_answer, onward_effect, point_of, poll_effect, resource_at, route_effect, spot_effect, after_members, fan_effect, fan_places, fanned, fanned_requests, member_effect, member_effect_at, member_effect_by, member_requests, rest_of, cse_named, first_url, comes_from_cse, routed_to, found_effect, operation_effect, History, HistoryLeaves, claimed_originator, has_right, IsCutShort, IsUnswept, Step, heard_members}
+use Rattle.machine_laws.proofs.Terms.{Rsc, BadChild, BadRequest, NoPrivilege, NotFound, RequestTimeout, Op, Create, Retrieve, Update, Delete, Notify, Ty, NoteParts, RequestParts, HomeData, ResourceData, address_of, named_here, spot_of, Addr, Local, Foreign, OtherProvider, AddrFault, Spot, Resource, Fan, Poll, grants, retrieve_bit, at, has, is_to_send, still_waits, waits_for, EntityData, event_moment, items_from, still_waiting, swept, first_fault, on_found, refused, unless, creation_by, fault_on, child_ty, notify_effect, relayed, changes_by, create_effect, effect_by, gone_numbers, told_effect_by, told_effect_on, Event, Ask, Take, Tick, Outcome, Done, Forward, Given, Ticked, Starved, address_effect, addressed, as_done, effect_of, first_places, has_answer, onward_effect, point_of, poll_effect, resource_at, route_effect, spot_effect, after_members, fan_effect, fan_places, fanned, fanned_requests, member_effect, member_effect_at, member_effect_by, member_requests, rest_of, cse_named, first_url, comes_from_cse, routed_to, found_effect, operation_effect, History, HistoryLeaves, claimed_originator, has_right, IsCutShort, IsUnswept, Step, heard_members}
 use Rattle.machine_laws.proofs.Facts.{and_from, and_parts, cases_Bool, or_cases, or_left, or_right, nat_tests, append-nil}
 use Rattle.notify_outbox.specs.Outbox.{without_first}
 use Rattle.notify_outbox.specs.declared.item.Item.{Item}
 use Rattle.retarget.specs.declared.routing.Route.TheVariants as to
-use Rattle.group_fanout.specs.Operations.{change_effect}
-use Rattle.machine_laws.specs.Outbox.{Account, AccountStep, Accounted, Accounts, OutboxesAreAccounted, Waits, aged, aged_line, change_notes, channel_at, channel_polled, does_wait, done_notes, expired_account, expiry_items, found_items, given, is_dropped, is_justly_dropped, is_too_old, member_items, noted, notes_told, operation_notes, polled_by, request_items, requested_account, short_account, spot_items, waiting_of}
-use Rattle.machine_laws.proofs.CutLemmas.{short_last}
-use Rattle.machine_laws.proofs.HistoryLemmas.{done_keeps, onward_leaves}
-use Rattle.machine_laws.proofs.RelayLemmas.{relay_items}
-use Rattle.machine_laws.proofs.WayLemmas.{given_note, taken_answer}
+use Rattle.group_fanout.specs.Operations.{change_effect, relay_effect}
+use Rattle.machine_laws.specs.Outbox.{Account, AccountStep, Accounted, Accounts, OutboxesAreAccounted, Waits, aged, aged_line, change_notes, channel_at, channel_polled, does_wait, done_notes, expired_account, expiry_items, found_items, given, is_dropped, is_justly_dropped, is_too_old, member_items, noted, notes_told, operation_notes, polled_by, relay_notes, request_items, requested_account, short_account, spot_items, waiting_of}
+use Rattle.guard_laws.proofs.CutLemmas.{short_last}
+use Rattle.guard_laws.proofs.HistoryLemmas.{done_keeps, onward_leaves}
+use Rattle.guard_laws.proofs.WayLemmas.{given_note, taken_answer}
 
 -- ---- what waits
 
@@ -175,13 +174,22 @@ module _ (e : EntityData) (request : RequestParts) where
     unfolding change_effect
     changed_items op = told_items op
 
+    -- a Notify appends what is handed on
+    relayed_items : (f : Option Rsc) → (option_map_or (refused e request) f (notify_effect e o request)).after.items ≡ e.items ++ items_from e.numbered e.last (option_map_or (λ (fault : Rsc). []) f (relayed e o request ∷ []))
+    relayed_items None = refl
+    relayed_items (Some fault) = sym (append-nil e.items)
+
+    relay_items : (relay_effect e request r).after.items ≡ e.items ++ items_from e.numbered e.last (relay_notes e request r)
+    unfolding relay_effect
+    relay_items = relayed_items (fault_on Notify e o request r)
+
     operated_items : (op : Op) → (operation_effect op e request r).after.items ≡ e.items ++ items_from e.numbered e.last (operation_notes op e request r)
     operated_items Create = changed_items Create
     operated_items Retrieve =
         sym (append-nil e.items) ∙ ap (λ (notes : List NoteParts). e.items ++ items_from e.numbered e.last notes) (sym read_none)
     operated_items Update = changed_items Update
     operated_items Delete = changed_items Delete
-    operated_items Notify = relay_items e request r
+    operated_items Notify = relay_items
 
   abbrev Appends : List Item → EntityData → Type 0
   Appends items after = after.items ≡ e.items ++ items

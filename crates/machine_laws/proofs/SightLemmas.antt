@@ -6,14 +6,14 @@ use Rattle.std.specs.Prelude.{not}
 use Rattle.tree_model.proofs.LiveLemmas.{without_none}
 use Rattle.policy_laws.proofs.ShapeLemmas.{sight_shape}
 use Rattle.policy_laws.proofs.TwiceLemmas.{left-seen, live-same, seen_list-twice}
-use Rattle.retrieve_laws.proofs.AnswerLemmas.{retrieved-seen}
-use Rattle.retrieve_laws.proofs.SightLemmas.{discovered-seen}
+use Rattle.sight_laws.proofs.AnswerLemmas.{retrieved-seen}
+use Rattle.sight_laws.proofs.SightLemmas.{discovered-seen}
 use Rattle.group_fanout.specs.Operations.{change_effect, relay_effect}
-use Rattle.machine_laws.proofs.MemberLemmas.{MaySend, member_kept, of_member, served_sent}
-use Rattle.machine_laws.proofs.RelayLemmas.{relay_nodes}
+use Rattle.guard_laws.proofs.MemberLemmas.{MaySend, member_kept, of_member, served_sent}
+use Rattle.guard_laws.proofs.RelayLemmas.{relay_nodes}
 use Rattle.machine_laws.proofs.AddressAlikeLemmas.{AreAnsweredAlike, effect_alike}
 use Rattle.machine_laws.proofs.ChangeAlikeLemmas.{create_alike, update_alike}
-use Rattle.machine_laws.proofs.JudgedLemmas.{heard_facts, refused_effect}
+use Rattle.guard_laws.proofs.JudgedLemmas.{heard_facts, refused_effect}
 use Rattle.retarget.specs.declared.routing.Route.TheVariants as to
 use Rattle.machine_laws.proofs.RouteSightLemmas.{order_seen, order_swept}
 use Rattle.machine_laws.specs.Sight.{sight, shape, asks_sight_alone, is_polling, leads_away, AreCsesInOrder, FindsUrls, IsRequestBy, SightHasItsShape, EqualSightsHaveOneShape}

@@ -1,12 +1,11 @@
 -- What a request that is served changes (TS-0001, 10.2).
-use Rattle.std.specs.Prelude.{◌≡◌, ℕ, ◌+◌, false, [], ◌∷◌, ◌++◌, length, Some, None, IsTrue}
+use Rattle.std.specs.Prelude.{◌≡◌, ℕ, ◌+◌, false, length, Some, None, IsTrue}
 use Rattle.m2m_names.specs.declared.codes.Rsc.TheVariants.{Deleted}
 use Rattle.m2m_names.specs.declared.operations.Op.{Op}
 use Rattle.m2m_names.specs.declared.operations.Op.TheVariants.{Create, Update, Delete}
 use Rattle.primitive_json.specs.declared.reply.ReplyParts.{ReplyParts}
 use Rattle.primitive_json.specs.declared.request.RequestParts.{RequestParts}
 use Rattle.resource_model.specs.Resource.{ResourceData}
-use Rattle.turn_desk.specs.Entries.{entry_of}
 use Rattle.entity_model.specs.Entity.{EntityData, swept, telling}
 use Rattle.entity_model.specs.Places.{reply_to}
 use Rattle.entity_model.specs.Sound.{IsSoundEntity}
@@ -14,13 +13,10 @@ use Rattle.create_delete.specs.Changes.{changes_by, only_in}
 use Rattle.create_delete.specs.Changing.{delete_effect}
 use Rattle.create_delete.specs.Telling.{gone_numbers}
 use Rattle.change_laws.specs.Served.{AddsOne, ChangesOne}
-use Rattle.cse_machine.specs.declared.event.Event.{Event}
 use Rattle.cse_machine.specs.declared.event.Event.TheVariants.{Ask}
-use Rattle.cse_machine.specs.declared.event.Outcome.{Outcome}
 use Rattle.cse_machine.specs.declared.event.Outcome.TheVariants.{Done}
 use Rattle.cse_machine.specs.Answer.{addressed}
-use Rattle.machine_laws.specs.Guard.{is_fan_point, is_success, spot_asked}
-use Rattle.cse_machine.specs.History.{History, HistoryLeaves}
+use Rattle.guard_laws.specs.Guard.{is_fan_point, is_success, spot_asked}
 use Rattle.cse_machine.specs.Step.{Step}
 
 -- The request was served at a step: its reply is a success, and its address names this resource of
@@ -77,16 +73,3 @@ NumbersRiseByWhatIsNew =
     → IsSoundEntity before → Step reading (Ask request) before (Done reply) after
     → is_fan_point (spot_asked (swept reading before) request) ≡ false
     → after.next ≡ before.next + length (only_in after.nodes (swept reading before).nodes)
-
--- An entry of a legal history is a step of the sound entity that the entries before it left. So
--- what holds of each step of a sound entity holds of each entry.
-abbrev pub EntriesAreSteps : Type 0
-EntriesAreSteps =
-    (opening e : EntityData) (earlier later : History)
-    (reading : ℕ) (event : Event) (outcome : Outcome)
-    → IsSoundEntity opening
-    → HistoryLeaves opening (earlier ++ entry_of reading event outcome ∷ later) e
-    → (before : EntityData) × (after : EntityData)
-    × HistoryLeaves opening earlier before × IsSoundEntity before
-    × Step reading event before outcome after
-    × HistoryLeaves opening (earlier ++ entry_of reading event outcome ∷ []) after

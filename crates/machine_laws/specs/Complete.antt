@@ -11,7 +11,6 @@ use Rattle.m2m_names.specs.declared.operations.Op.TheVariants.{Notify}
 use Rattle.m2m_names.specs.declared.types.Ty.{Ty}
 use Rattle.m2m_value.specs.Data.{Data}
 use Rattle.policy_eval.specs.Rules.{listed_in, texts_of}
-use Rattle.primitive_json.specs.Form.{has_form}
 use Rattle.primitive_json.specs.declared.note.NoteParts.{NoteParts}
 use Rattle.primitive_json.specs.declared.request.RequestParts.{RequestParts}
 use Rattle.resource_model.specs.Attributes.{value_of}
@@ -40,14 +39,13 @@ use Rattle.cse_machine.specs.declared.event.Event.TheVariants.{Ask}
 use Rattle.cse_machine.specs.declared.event.Outcome.{Outcome}
 use Rattle.cse_machine.specs.declared.event.Outcome.TheVariants.{Done, Forward, Item, Ticked}
 use Rattle.cse_machine.specs.declared.event.Outcome.TheVariants.{Starved}
-use Rattle.cse_machine.specs.Answer.{addressed, has_address, has_answer, has_originator}
-use Rattle.cse_machine.specs.Answer.{is_blocking}
-use Rattle.cse_machine.specs.Answer.{is_in_time, is_served}
+use Rattle.cse_machine.specs.Answer.{addressed, has_answer}
 use Rattle.group_fanout.specs.Fan.{gathered, is_fanned, may_fan, member_requests, rest_of}
 use Rattle.group_fanout.specs.Fan.{singles_of}
 use Rattle.group_fanout.specs.Rights.{claimed_originator, has_right}
 use Rattle.cse_machine.specs.Step.{Step}
-use Rattle.machine_laws.specs.Guard.{spot_asked}
+use Rattle.guard_laws.specs.Guard.{spot_asked}
+use Rattle.guard_laws.specs.Heard.{MayBeHeard}
 use Rattle.machine_laws.specs.Outbox.{may_poll}
 
 -- ---- what speaks against a request
@@ -79,16 +77,6 @@ MeetsConditions Retrieve e request target =
 MeetsConditions Update e request target = Unit {0}
 MeetsConditions Delete e request target = Unit {0}
 MeetsConditions Notify e request target = Unit {0}
-
--- nothing speaks against the request, whatever its address names: it is one that is served, has its
--- form, says who asks, has an address, isn't too late, and waits for its answer
-pub record MayBeHeard (e : EntityData) (request : RequestParts) : Type 0 where
-  pub served : IsTrue (is_served request)
-  pub form : IsTrue (has_form request)
-  pub originator : IsTrue (has_originator e.home request)
-  pub address : IsTrue (has_address e.home request)
-  pub time : IsTrue (is_in_time e request)
-  pub blocking : IsTrue (is_blocking request)
 
 -- nothing speaks against the operation on the resource: its originator has the right; the operation
 -- is for that type, takes the child and the content, which expires later and names policies that

@@ -1,6 +1,4 @@
 pub mod Order
-pub mod Guard
-pub mod Legal
 pub mod Sight
 pub mod Asked
 pub mod Complete

@@ -1,15 +1,10 @@
 pub mod Words
 pub mod Terms
 pub mod Facts
-pub mod SpotLemmas
 pub mod FoundLemmas
 pub mod CutLemmas
-pub mod MapLemmas
-pub mod ConditionLemmas
 pub mod ReachLemmas
 pub mod ToldLemmas
-pub mod SightLemmas
-pub mod AnswerLemmas
 pub mod GuardLemmas
 pub mod NamedLemmas
 pub mod RightLemmas

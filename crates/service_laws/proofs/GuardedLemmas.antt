@@ -3,7 +3,7 @@ use Rattle.service_laws.proofs.Words.{◌≡◌, ℕ, List, [], ◌∷◌, ◌++
 use Rattle.service_laws.proofs.Terms.{ReplyParts, RequestParts, readings_of, events_of, outcomes_of, EntityData, swept, Event, Ask, Outcome, Done, History, HistoryLeaves, Step}
 use Rattle.service_laws.proofs.Facts.{Grew-runs, none_some, same_first, same_rest, sound_step, step_guarded}
 use Rattle.entity_model.specs.Sound.{IsSoundEntity}
-use Rattle.machine_laws.specs.Guard.{IsGuarded}
+use Rattle.guard_laws.specs.Guard.{IsGuarded}
 use Rattle.service_laws.specs.Laws.{ServesGuarded}
 
 no_request : (o : Outcome) (before : List Outcome) → length {A = RequestParts} [] ≡ length (o ∷ before) → ⊥

@@ -14,7 +14,7 @@ use Rattle.entity_model.specs.Sound.{IsSoundEntity}
 use Rattle.cse_machine.specs.declared.event.Event.TheVariants.{Ask}
 use Rattle.cse_machine.specs.declared.event.Outcome.{Outcome}
 use Rattle.cse_machine.specs.declared.event.Outcome.TheVariants.{Done}
-use Rattle.machine_laws.specs.Guard.{IsGuarded}
+use Rattle.guard_laws.specs.Guard.{IsGuarded}
 use Rattle.cse_machine.specs.History.{History, HistoryLeaves, IsDone}
 use Rattle.machine_laws.specs.Sight.{sight, AreCsesInOrder, IsRequestBy, goes_away}
 use Rattle.cse_machine.specs.Step.{Step}

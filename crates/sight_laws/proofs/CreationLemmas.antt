@@ -2,7 +2,7 @@
 use Rattle.sight_laws.proofs.Words.{ℤ, ◌≡◌, ℕ, pos, ◌<◌, List, [], ◌∷◌, ◌++◌, map, true, false, cond, not, Option, Some, None, option_map, inl, inr, refl, sym, ap, ap₂, ◌∙◌, arith, list_all, option_map_or}
 use Rattle.sight_laws.proofs.Terms.{Acpi, Cs, Macp, St, Rsc, BadChild, Created, Create, Ty, ContentInstance, CseBase, Group, Entry, number, text, RequestParts, Row, ResourceData, has_number, id_of, is_ty, parent_id, shown_rows, are_below, at, instances_of, is_instance, is_tree, structured_of, evicted, limits_of, fills, seen, seen_list, EntityData, refused, reply_to, wanted_content, IsSoundEntity, creation_of, given_rows, new_resource, new_rows, new_size, next_state, membership_new, creation_by, fault_on, child_ty, named_for, address_last, container_update_of, create_effect, created_content, pushed_out, told_effect_by, told_effect_on}
 use Rattle.sight_laws.proofs.Facts.{cases_Bool, cond_both, eq-eqb, ne_eqb, map-append, below_parts, tree_from_well_formed, filter_image, at-seen, seen_shows, places_parts}
-use Rattle.retrieve_laws.proofs.SightLemmas.{structured_of-map}
+use Rattle.sight_laws.proofs.SightLemmas.{structured_of-map}
 use Rattle.create_delete.proofs.GrownLemmas.{IsOlder, all_turned, nothing_picked}
 use Rattle.sight_laws.specs.Sight.{sight}
 use Rattle.sight_laws.proofs.EvictionLemmas.{evicted-seen}

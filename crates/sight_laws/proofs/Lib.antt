@@ -1,6 +1,11 @@
 pub mod Words
 pub mod Terms
 pub mod Facts
+pub mod ConditionLemmas
+pub mod MapLemmas
+pub mod SpotLemmas
+pub mod SightLemmas
+pub mod AnswerLemmas
 pub mod ToldLemmas
 pub mod SeenAlikeLemmas
 pub mod CseOrderLemmas

@@ -8,7 +8,7 @@ use Rattle.addressing.specs.declared.addr.Addr.{Addr}
 use Rattle.addressing.specs.declared.addr.Addr.TheVariants.{Local, Foreign, OtherProvider}
 use Rattle.addressing.specs.declared.addr.AddrFault.{AddrFault}
 use Rattle.addressing.specs.declared.spot.Spot.{Spot}
-use Rattle.retrieve_laws.proofs.SpotLemmas.{spot_of-seen}
+use Rattle.sight_laws.proofs.SpotLemmas.{spot_of-seen}
 use Rattle.sight_laws.specs.Sight.{sight}
 
 module _ (e : EntityData) (o : List ℕ) where

@@ -4,7 +4,7 @@ use Rattle.sight_laws.proofs.Terms.{Csy, Csi, Mbs, Mia, Mid, Mni, Mnm, Mt, Rsc, 
 use Rattle.sight_laws.proofs.Facts.{and_from, and_parts, both_ways, cases_Bool, eqb-true, or_left, length-map, same_type, KeepsStanding, has_ae_id-map, has_child-map, has_cse_id-map, list_any-map, ae_id-seen, cse_id-seen, grants-seen, relinks-seen, seen_shows, names_link}
 use Rattle.std.specs.Prelude.{bytes_eq}
 use Rattle.m2m_names.specs.Types.{does_take, ty_of_number, ty_row}
-use Rattle.retrieve_laws.proofs.MapLemmas.{line-map}
+use Rattle.sight_laws.proofs.MapLemmas.{line-map}
 use Rattle.sight_laws.specs.Sight.{sight}
 use Rattle.sight_laws.proofs.NamedLemmas.{links-seen, member_places-seen}
 

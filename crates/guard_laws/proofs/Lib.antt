@@ -1,0 +1,13 @@
+pub mod Words
+pub mod Terms
+pub mod Facts
+pub mod OwnLemmas
+pub mod JudgedLemmas
+pub mod WayLemmas
+pub mod ChangingLemmas
+pub mod RelayLemmas
+pub mod OperatedLemmas
+pub mod MemberLemmas
+pub mod CutLemmas
+pub mod GuardLemmas
+pub mod HistoryLemmas

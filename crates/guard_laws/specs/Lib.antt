@@ -1,0 +1,3 @@
+pub mod Guard
+pub mod Heard
+pub mod Legal

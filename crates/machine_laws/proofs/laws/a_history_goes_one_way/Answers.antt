@@ -1,5 +1,0 @@
-use Rattle.machine_laws.proofs.HistoryLemmas.{one_way}
-use Rattle.machine_laws.proofs.laws.a_history_goes_one_way.Goals as goal
-
-pub returns : goal.returns
-returns c = λ opening e other history twin. one_way history twin opening e other

@@ -1,5 +1,0 @@
-use Rattle.retrieve_laws.proofs.SpotLemmas.{spot_of-seen}
-use Rattle.retrieve_laws.proofs.sight.sight_keeps_what_is_named.Goals as goal
-
-pub returns : goal.returns
-returns c = spot_of-seen
